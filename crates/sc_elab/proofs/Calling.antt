@@ -3,10 +3,11 @@ use Rattle.sc_elab.proofs.Common.{Bool, Callees, CallsIn, FunctionTree, HeadTree
 use Rattle.sc_elab.proofs.Common.{Option, SectionTree, Some, [], ap, bytes_eq, called, called_head, callees_of}
 use Rattle.sc_elab.proofs.Common.{calling_heads, cond, false, function_named, function_names, head_name, head_named}
 use Rattle.sc_elab.proofs.Common.{head_of, if◌then◌else◌, import_line_name, import_named, import_of, import_target}
-use Rattle.sc_elab.proofs.Common.{imported, imported_target, map, map_twice, nat_list_eq_equiv, option_and_then}
-use Rattle.sc_elab.proofs.Common.{option_map, or_first, or_first_own, position-cons, refl, signature_by, slice_get}
-use Rattle.sc_elab.proofs.Common.{struct_names, suc, sym, target_or, true, ℕ, ◌++◌, ◌==◌, ◌∙◌, ◌∷◌, ◌≡◌}
+use Rattle.sc_elab.proofs.Common.{imported, imported_target, map, map_twice, option_and_then, option_map, or_first}
+use Rattle.sc_elab.proofs.Common.{or_first_own, position-cons, refl, signature_by, slice_get, struct_names, suc, sym}
+use Rattle.sc_elab.proofs.Common.{target_or, true, ℕ, ◌++◌, ◌==◌, ◌∙◌, ◌∷◌, ◌≡◌}
 use Rattle.sc_base.specs.Prelude.{number_of}
+use Rattle.std.proofs.lemmas.Cmp.{nat_list_eq_equiv}
 use Rattle.std.specs.Cmp.Lexicographic.{pointwise}
 
 abbrev same : List ℕ → List ℕ → Bool

@@ -4,10 +4,7 @@ pub use Rattle.std.proofs.Common.{append-nil, append_assoc, arith, bytes_eq, cod
 pub use Rattle.std.proofs.Common.{get_or, if◌then◌else◌, is_some, length, map, ne_eqb, option_copied, option_map}
 pub use Rattle.std.proofs.Common.{position, refl, slice_get, subst, suc, sym, take, true, true≢false, zero, ℕ, ◌&&◌}
 pub use Rattle.std.proofs.Common.{◌++◌, ◌+◌, ◌<◌, ◌==◌, ◌||◌, ◌∙◌, ◌∷◌, ◌≡◌, ◌≤◌}
-pub use Rattle.std.proofs.Math.Seq.{drop-cons, take-suc}
-pub use Rattle.std.proofs.lemmas.Cmp.{nat_list_eq_equiv}
 pub use Rattle.std.proofs.lemmas.List.{drop_all, map-append}
-pub use Rattle.std.proofs.lemmas.List.Elements.{filter_map-append}
 pub use Rattle.std.proofs.lemmas.Option.{get_or_from_slice_get, same_Some, slice_get-get_or, slice_get-map}
 pub use Rattle.std.proofs.lemmas.Option.{slice_get_within}
 pub use Rattle.std.specs.List.{concat, cons_option, list_any}

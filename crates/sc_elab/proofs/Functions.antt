@@ -94,7 +94,8 @@ module _ (scope : SectionScope) (section : SectionTree) (stands : Stands scope s
         step = ap (typed_locals section tree i)
             (drop-step tree.locals i local h e) ∙ locals-cons i local (drop (i + 1) tree.locals) ∙
             ap (λ x. x ∷ typed_locals section tree (suc i) (drop (i + 1) tree.locals))
-            (sym (b ∙ local_kept i _ at local)) ∙ ap (λ n. built ∷ typed_locals section tree n (drop (i + 1) tree.locals)) (sym (add-one i))
+            (sym (b ∙ local_kept i _ at local)) ∙
+            ap (λ n. built ∷ typed_locals section tree n (drop (i + 1) tree.locals)) (sym (add-one i))
 
   -- all are built
   pub all_built : (i : ℕ) (done whole : List TypedLocal) → drop i tree.locals ≡ [] →

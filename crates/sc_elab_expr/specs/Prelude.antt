@@ -5,7 +5,7 @@ pub use Rattle.sc_elab_expr.specs.Expressions.{beside, binary_ty, binary_typed, 
 pub use Rattle.sc_elab_expr.specs.Expressions.{member_offset, member_ty, moved_ty, no_ty, or_int, step, typed, unary_ty}
 pub use Rattle.sc_elab_expr.specs.Expressions.{variable_typed, zero_step}
 pub use Rattle.sc_elab_expr.specs.Judging.{Suits}
-pub use Rattle.sc_elab_expr.specs.Placed.{member_names, names_of, placed, variable_names}
+pub use Rattle.sc_elab_expr.specs.Placed.{member_names, names_of, placed}
 pub use Rattle.sc_elab_expr.specs.Scopes.{Found, Visible, found, found_in, member_named, or_else, struct_of}
 pub use Rattle.sc_elab_expr.specs.Seen.{visible}
 unfoldable pub use Rattle.sc_elab_expr.specs.Seen.{expr_in}

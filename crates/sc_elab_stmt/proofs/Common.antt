@@ -2,9 +2,9 @@
 pub use Rattle.std.proofs.Common.{Bool, Err, IfOk, IsTrue, List, None, Ok, OnOk, Option, Result, Some, [], add-one, ap}
 pub use Rattle.std.proofs.Common.{append-nil, append_assoc, drop, false, get_or, length, map, refl, rules, subst, suc}
 pub use Rattle.std.proofs.Common.{sym, true, ℕ, ◌&&◌, ◌++◌, ◌+◌, ◌<◌, ◌∙◌, ◌∷◌, ◌≡◌, ◌≢◌, ◌≤◌}
-pub use Rattle.std.proofs.Math.Seq.{drop-cons}
 pub use Rattle.std.proofs.lemmas.List.{drop_all}
 pub use Rattle.std.specs.List.{concat}
+pub use Rattle.sc_base.proofs.Lists.{drop-step}
 pub use Rattle.sc_scope.specs.Prelude.{unless, with_lines}
 pub use Rattle.sc_core.specs.Prelude.{Judged, Scope, Signature, all_go_into, args_fit, assign_fits, goes_into}
 pub use Rattle.sc_core.specs.Prelude.{is_scalar, is_target, judged, result_goes}

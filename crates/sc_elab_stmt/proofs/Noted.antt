@@ -1,9 +1,8 @@
 -- What the lines of a statement's parts are.
-use Rattle.sc_base.proofs.Lists.{drop-step}
 use Rattle.sc_elab_stmt.proofs.Common.{Bool, CallTree, Callees, Err, ExprTree, List, Ok, OnOk, Option, Result, Scope}
 use Rattle.sc_elab_stmt.proofs.Common.{SimpleTree, StmtKind, StmtTree, Ty, Visible, [], ap, assign_call_holds}
-use Rattle.sc_elab_stmt.proofs.Common.{assign_holds, call_holds, concat, cond_holds, drop, drop_all, get_or, length}
-use Rattle.sc_elab_stmt.proofs.Common.{lines_at, map, part_lines, return_call_holds, return_value_holds, rules}
+use Rattle.sc_elab_stmt.proofs.Common.{assign_holds, call_holds, concat, cond_holds, drop, drop-step, drop_all, get_or}
+use Rattle.sc_elab_stmt.proofs.Common.{length, lines_at, map, part_lines, return_call_holds, return_value_holds, rules}
 use Rattle.sc_elab_stmt.proofs.Common.{stmt_lines, sym, unless, with_lines, ℕ, ◌++◌, ◌+◌, ◌<◌, ◌∙◌, ◌≡◌, ◌≤◌}
 use Rattle.sc_scope.specs.declared.broken.BrokenLines.{BrokenLines}
 use Rattle.sc_scope.proofs.Noting.{with_lines-append, with_lines-nil}

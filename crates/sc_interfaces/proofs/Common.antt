@@ -1,8 +1,8 @@
 -- The names that several proofs of this crate cite, passed on from one place. Declares nothing.
-pub use Rattle.std.proofs.Common.{All, Bool, IfNone, List, None, Option, Some, [], ap, ap₂, arith, bytes_eq, codes}
-pub use Rattle.std.proofs.Common.{cond, drop, drop-cons, eqb-true, false, get_or, if◌then◌else◌, inl, inr, is_some}
-pub use Rattle.std.proofs.Common.{length, length-take-le, map, min, nat_eq, not, refl, slice_get, subst, suc, sym, take}
-pub use Rattle.std.proofs.Common.{true, ℕ, ◌&&◌, ◌++◌, ◌+◌, ◌<◌, ◌==◌, ◌||◌, ◌∙◌, ◌∷◌, ◌≡◌, ◌≤◌, ◌⊎◌}
+pub use Rattle.std.proofs.Common.{All, Bool, IfNone, List, None, Option, Some, [], add-one, ap, ap₂, arith, bytes_eq}
+pub use Rattle.std.proofs.Common.{codes, cond, drop, eqb-true, false, get_or, if◌then◌else◌, inl, inr, is_some, length}
+pub use Rattle.std.proofs.Common.{length-take-le, map, min, nat_eq, not, refl, slice_get, subst, suc, sym, take, true}
+pub use Rattle.std.proofs.Common.{ℕ, ◌&&◌, ◌++◌, ◌+◌, ◌<◌, ◌==◌, ◌||◌, ◌∙◌, ◌∷◌, ◌≡◌, ◌≤◌, ◌⊎◌}
 pub use Rattle.std.proofs.Math.Bool.{and-false, and-true, and_assoc, or-false, or_assoc}
 pub use Rattle.std.proofs.lemmas.Bool.{and_parts, and_right}
 pub use Rattle.std.proofs.lemmas.Cmp.{nat_eq_equiv, nat_list_eq_equiv}

@@ -1,7 +1,7 @@
 -- The rules by tables are the rules.
 use Rattle.sc_interfaces.proofs.Common.{Agreements, Bool, Decl, ExportLine, Function, Global, HeadTree, ImportLine}
 use Rattle.sc_interfaces.proofs.Common.{List, None, Option, ParamTree, Proto, SectionTable, SectionTree, Some, Struct}
-use Rattle.sc_interfaces.proofs.Common.{Text, TypeName, [], added, agree, agrees_first, agrees_with, all_added}
+use Rattle.sc_interfaces.proofs.Common.{Text, TypeName, [], add-one, added, agree, agrees_first, agrees_with, all_added}
 use Rattle.sc_interfaces.proofs.Common.{all_numbered, allowed, among, and-false, and-true, and_assoc, ap, ap₂, arith}
 use Rattle.sc_interfaces.proofs.Common.{bytes_eq, decl_told, decls_told, defines_main, drop, drop-step, environment}
 use Rattle.sc_interfaces.proofs.Common.{environment_added, export_names, exports_told, false, filter_map-append}
@@ -22,7 +22,6 @@ use Rattle.sc_interfaces.specs.Faces
 use Rattle.sc_interfaces.proofs.Agreeing.{type_symm}
 use Rattle.sc_interfaces.proofs.Allowing.{is_numbered-numbered, all_numbered_same, allowed_forbidden, allowed_added}
 use Rattle.sc_interfaces.proofs.Allowing.{allowed_same}
-use Rattle.std.proofs.Common.{add-one}
 use Rattle.sc_interfaces.proofs.Steps.{drop_past}
 use Rattle.sc_scope.proofs.Noted.{noted-none}
 

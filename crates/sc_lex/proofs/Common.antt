@@ -1,14 +1,15 @@
 -- The names that several proofs of this crate cite, passed on from one place. Declares nothing.
-pub use Rattle.std.proofs.Common.{All, AllPairs, Bool, IfNone, IfSome, IsTrue, List, None, Option, Some, [], ap}
-pub use Rattle.std.proofs.Common.{append-nil, ap₂, arith, bytes_eq, codes, cond, drop, drop-drop, eq-eqb, eqb, eqb-true}
-pub use Rattle.std.proofs.Common.{false, flat_map, fold, get_or, get_or-drop, get_or-take, is_some, le-leb, le-ltb}
-pub use Rattle.std.proofs.Common.{leb-true, length, length-drop, length-take, length-take-le, ltb-true, min, nat_eq}
-pub use Rattle.std.proofs.Common.{nat_le, nat_lt, ne_eqb, not, one-add, refl, slice_index, slice_range, subst, suc, sym}
-pub use Rattle.std.proofs.Common.{take, take-append-drop, take_all, true, zero, ℕ, ⊎_elim, ◌&&◌, ◌*◌, ◌++◌, ◌+◌, ◌-◌}
-pub use Rattle.std.proofs.Common.{◌<◌, ◌==◌, ◌||◌, ◌∙◌, ◌∷◌, ◌≡◌, ◌≤◌}
-pub use Rattle.std.proofs.lemmas.Bool.{and_from, and_left, and_parts, and_right, cases_lt, false_from_ne_true}
-pub use Rattle.std.proofs.lemmas.Bool.{false≢true, lt-leb, not-false, not-true, not_from_false, not_from_true, or_cases}
-pub use Rattle.std.proofs.lemmas.Bool.{or_left, or_right}
+pub use Rattle.std.proofs.Common.{All, Bool, IfNone, IfSome, IsTrue, List, None, Option, Some, [], ap, append-nil, ap₂}
+pub use Rattle.std.proofs.Common.{arith, bytes_eq, codes, cond, drop, drop-drop, eq-eqb, eqb, eqb-true, false, flat_map}
+pub use Rattle.std.proofs.Common.{fold, get_or, get_or-drop, get_or-take, is_some, le-leb, le-ltb, leb-true, length}
+pub use Rattle.std.proofs.Common.{length-drop, length-take, length-take-le, ltb-true, min, nat_eq, nat_le, nat_lt}
+pub use Rattle.std.proofs.Common.{ne_eqb, not, one-add, refl, slice_index, slice_range, subst, suc, sym, take}
+pub use Rattle.std.proofs.Common.{take-append-drop, take_all, true, zero, ℕ, ⊎_elim, ◌&&◌, ◌*◌, ◌++◌, ◌+◌, ◌-◌, ◌<◌}
+pub use Rattle.std.proofs.Common.{◌==◌, ◌||◌, ◌∙◌, ◌∷◌, ◌≡◌, ◌≤◌}
+pub use Rattle.std.proofs.Math.Bool.{and-false, and-true, not-not}
+pub use Rattle.std.proofs.lemmas.Bool.{and_from, and_left, and_parts, and_right, cases_lt, cond_both}
+pub use Rattle.std.proofs.lemmas.Bool.{false_from_ne_true, false≢true, lt-leb, not-false, not-true, not_from_false}
+pub use Rattle.std.proofs.lemmas.Bool.{not_from_true, or_cases, or_left, or_right}
 pub use Rattle.std.proofs.lemmas.List.{drop_all, drop_more, take_rest}
 pub use Rattle.std.proofs.lemmas.List.Folds.{list_all-append, list_all_at}
 pub use Rattle.std.proofs.lemmas.List.Sums.{fold-append, fold_more, prefix_len-le-length, prefix_len_passes}

@@ -1,7 +1,7 @@
 -- What the words of a directive are, one by one.
-use Rattle.sc_lex.proofs.Common.{List, [], arith, bytes_eq, codes, false, get_or, is_empty, is_export, is_import}
-use Rattle.sc_lex.proofs.Common.{is_name, length, ne_eqb, refl, sym, words, ℕ, ◌&&◌, ◌<◌, ◌∷◌, ◌≡◌}
-use Rattle.std.proofs.Math.Bool.{and-false, and-true}
+use Rattle.sc_lex.proofs.Common.{List, [], and-false, and-true, arith, bytes_eq, codes, false, get_or, is_empty}
+use Rattle.sc_lex.proofs.Common.{is_export, is_import, is_name, length, ne_eqb, refl, sym, words, ℕ, ◌&&◌, ◌<◌, ◌∷◌}
+use Rattle.sc_lex.proofs.Common.{◌≡◌}
 use Rattle.sc_lex.proofs.Wording.{words_full}
 
 not_empty : (word : List ℕ) → 0 < length word → is_empty word ≡ false

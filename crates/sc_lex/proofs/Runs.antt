@@ -1,11 +1,10 @@
 -- Tokens that end where the bytes of a class end.
-use Rattle.std.proofs.lemmas.Bool.{cond_both}
 use Rattle.sc_lex.proofs.Common.{Bool, IsToken, IsTrue, List, None, Some, TokenKind, [], ap, arith}
-use Rattle.sc_lex.proofs.Common.{begins_block_comment, begins_line_comment, cases_lt, false, false≢true, get_or}
-use Rattle.sc_lex.proofs.Common.{get_or-take, is_directive, kind_of, length, length-take-le, list_all, list_all_at}
-use Rattle.sc_lex.proofs.Common.{none-some, not_from_false, not_from_true, one-add, prefix_len, prefix_len-le-length}
-use Rattle.sc_lex.proofs.Common.{prefix_len_passes, prefix_len_stops, refl, suc, sym, take, true, zero, ℕ, ⊎_elim, ◌<◌}
-use Rattle.sc_lex.proofs.Common.{◌∙◌, ◌∷◌, ◌≡◌, ◌≤◌}
+use Rattle.sc_lex.proofs.Common.{begins_block_comment, begins_line_comment, cases_lt, cond_both, false, false≢true}
+use Rattle.sc_lex.proofs.Common.{get_or, get_or-take, is_directive, kind_of, length, length-take-le, list_all}
+use Rattle.sc_lex.proofs.Common.{list_all_at, none-some, not_from_false, not_from_true, one-add, prefix_len}
+use Rattle.sc_lex.proofs.Common.{prefix_len-le-length, prefix_len_passes, prefix_len_stops, refl, suc, sym, take, true}
+use Rattle.sc_lex.proofs.Common.{zero, ℕ, ⊎_elim, ◌<◌, ◌∙◌, ◌∷◌, ◌≡◌, ◌≤◌}
 use Rattle.sc_lex.proofs.Texts.{IsRun, kind_of-nil, none_from}
 
 -- numbers of which none is below the other are one

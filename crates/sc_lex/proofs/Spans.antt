@@ -1,8 +1,8 @@
 -- Tokens that cut bytes are slices of them, one behind another.
-use Rattle.std.proofs.lemmas.List.Elements.{All-cons}
-use Rattle.std.proofs.lemmas.List.Kept.{AllPairs-cons}
 use Rattle.sc_lex.proofs.Common.{All, AreSpans, Bool, Cuts, IsCut, IsSpan, IsToken, List, Token, TokenKind, arith, drop}
 use Rattle.sc_lex.proofs.Common.{gap, length-drop, nothing, refl, token, token_at, ℕ, ◌+◌, ◌-◌, ◌≡◌, ◌≤◌}
+use Rattle.std.proofs.lemmas.List.Elements.{All-cons}
+use Rattle.std.proofs.lemmas.List.Kept.{AllPairs-cons}
 use Rattle.sc_lex.proofs.Runs.{token_positive}
 
 module _ (bytes : List ℕ) where

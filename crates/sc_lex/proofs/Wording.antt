@@ -1,12 +1,11 @@
 -- The first word of a line, and the words behind it.
-use Rattle.std.proofs.lemmas.Bool.{cond_both}
-use Rattle.sc_lex.proofs.Common.{List, None, [], ap, arith, begins_heading, cases_lt, codes, cond, drop, drop_all}
-use Rattle.sc_lex.proofs.Common.{drop_more, eqb, false, filter, get_or, get_or-drop, get_or-take, is_blank, is_empty}
-use Rattle.sc_lex.proofs.Common.{is_name, length, length-take, length-take-le, name_of, nat_eq, ne_eqb, not, not-false}
-use Rattle.sc_lex.proofs.Common.{not-true, one-add, only_name, position_or_len, prefix_len, prefix_len-le-length}
-use Rattle.sc_lex.proofs.Common.{prefix_len_passes, prefix_len_stops, refl, slice_eq-Decides, slice_split, starts_with}
-use Rattle.sc_lex.proofs.Common.{suc, sym, take, take_all, take_rest, true, words, zero, ℕ, ⊎_elim, ◌+◌, ◌<◌, ◌∙◌, ◌∷◌}
-use Rattle.sc_lex.proofs.Common.{◌≡◌, ◌≤◌}
+use Rattle.sc_lex.proofs.Common.{List, None, [], ap, arith, begins_heading, cases_lt, codes, cond, cond_both, drop}
+use Rattle.sc_lex.proofs.Common.{drop_all, drop_more, eqb, false, filter, get_or, get_or-drop, get_or-take, is_blank}
+use Rattle.sc_lex.proofs.Common.{is_empty, is_name, length, length-take, length-take-le, name_of, nat_eq, ne_eqb, not}
+use Rattle.sc_lex.proofs.Common.{not-false, not-true, one-add, only_name, position_or_len, prefix_len}
+use Rattle.sc_lex.proofs.Common.{prefix_len-le-length, prefix_len_passes, prefix_len_stops, refl, slice_eq-Decides}
+use Rattle.sc_lex.proofs.Common.{slice_split, starts_with, suc, sym, take, take_all, take_rest, true, words, zero, ℕ}
+use Rattle.sc_lex.proofs.Common.{⊎_elim, ◌+◌, ◌<◌, ◌∙◌, ◌∷◌, ◌≡◌, ◌≤◌}
 use Rattle.std.proofs.lemmas.List.Splits.{slice_split-cons_yes, slice_split_first, slice_split_none}
 use Rattle.std.proofs.lemmas.Bool.Decides.{Decides-eqb}
 

@@ -41,6 +41,7 @@ pub use Rattle.sc_print.proofs.Reading.{Alike, AllAlike, Reading, fixed, line_sy
 pub use Rattle.sc_print.proofs.Spacing.{at_level, gap, line_end, next, none, tidy_append, tidy_at}
 pub use Rattle.sc_print.proofs.StmtSpacing.{Free, expr_tidy, simple_tidy, stmt_holds, stmts_tidy}
 pub use Rattle.sc_print.proofs.Stmts.{Lines, Part, everywhere, for_with, same_line}
+pub use Rattle.sc_print.proofs.Whole.{decl_symbols, dense_tidy, exports_lined, imports_lined, section_with}
 pub use Rattle.sc_print.specs.Prelude.{are_kept, dense_decl, is_kept, is_kept_decl, is_kept_stmt, kept_export}
 pub use Rattle.sc_print.specs.Prelude.{kept_head, kept_import, kept_local, kept_option, kept_param}
 pub use Rattle.sc_scope.specs.Prelude.{Known, Text, among, body_lines, call_known, declared, defines_main, export_names}

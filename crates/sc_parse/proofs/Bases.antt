@@ -2,18 +2,18 @@
 use Rattle.sc_parse.proofs.Common.{BaseTree, Declarator, IsIdent, IsInteger, IsKeyword, IsMark, Keyword, Lexeme, List}
 use Rattle.sc_parse.proofs.Common.{Mark, None, Number, Option, Some, SpellsBase, SpellsDeclarator, SpellsStars}
 use Rattle.sc_parse.proofs.Common.{SpellsTypeName, Symbol, TypeName, [], ap, append_assoc, arith, array, array_length}
-use Rattle.sc_parse.proofs.Common.{base_at, base_by, begins_with, behind, behind_mark, bound, declarator, declarator_at}
-use Rattle.sc_parse.proofs.Common.{drop, elements_at, false, false≢true, first_line, glued, int, integer_by, is_base}
-use Rattle.sc_parse.proofs.Common.{is_int, is_mark, is_void, keyword_at, keyword_by, length, length_at, line_at}
-use Rattle.sc_parse.proofs.Common.{name_ahead, name_at, no_base, none-some, one-add, past_int, refl, same_some, signed}
-use Rattle.sc_parse.proofs.Common.{signed_int, star, star_count, struct, subst, suc, sym, true, type_name, type_name_at}
-use Rattle.sc_parse.proofs.Common.{type_of, unsigned, unsigned_int, ℕ, ◌++◌, ◌+◌, ◌<◌, ◌>>=◌, ◌∙◌, ◌∷◌, ◌≡◌}
-use Rattle.std.proofs.lemmas.Bool.{false_from_ne_true, cond_both}
+use Rattle.sc_parse.proofs.Common.{base_at, base_by, begins_with, behind, behind_mark, bound, cond_both, declarator}
+use Rattle.sc_parse.proofs.Common.{declarator_at, drop, elements_at, false, false_from_ne_true, false≢true, first_line}
+use Rattle.sc_parse.proofs.Common.{glued, int, integer_by, is_base, is_int, is_mark, is_void, keyword_at, keyword_by}
+use Rattle.sc_parse.proofs.Common.{length, length_at, line_at, name_ahead, name_at, no_base, none-some, one-add}
+use Rattle.sc_parse.proofs.Common.{past_int, plain, refl, same_some, signed, signed_int, star, star_count, subst, suc}
+use Rattle.sc_parse.proofs.Common.{sym, true, type_name, type_name_at, type_of, unsigned, unsigned_int, ℕ, ◌++◌, ◌+◌}
+use Rattle.sc_parse.proofs.Common.{◌<◌, ◌>>=◌, ◌∙◌, ◌∷◌, ◌≡◌}
+use Rattle.sc_parse.specs.Types.{struct, none}
 use Rattle.sc_ast.specs.declared.types.BaseTree.TheVariants as base
 use Rattle.sc_expr.specs.declared.mark.Keyword.TheVariants as word
 use Rattle.sc_expr.specs.declared.mark.Mark.TheVariants as mark
 use Rattle.sc_expr.specs.declared.lexeme.Symbol.TheVariants as symbol
-use Rattle.sc_parse.specs.Types.{none, plain}
 use Rattle.sc_parse.proofs.Exact.{Taken, Exact, Any, took, given, same_pair}
 
 pub keyword_is : (s : Symbol) (word : Keyword) → keyword_by s ≡ Some word →

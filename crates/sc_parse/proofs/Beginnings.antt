@@ -1,18 +1,17 @@
 -- What declarations begin with.
-use Rattle.sc_parse.proofs.Bases.{base_front, NoInt, stars_no_int, stars_count}
 use Rattle.sc_parse.proofs.Common.{BaseTree, Declares, GlobalTree, HeadTree, InitTree, IsGlobal, Lexeme, List, None}
 use Rattle.sc_parse.proofs.Common.{Option, Separated, SpellsBase, SpellsDeclarator, SpellsHead, SpellsInit}
 use Rattle.sc_parse.proofs.Common.{SpellsResult, SpellsStars, SpellsStruct, StructTree, TypeName, TypeTree, []}
 use Rattle.sc_parse.proofs.Common.{a_result, absent, ap, append_assoc, arith, array, begins_call, begins_head}
 use Rattle.sc_parse.proofs.Common.{begins_struct, begins_with, declares, drop, false, global, head, int, length}
-use Rattle.sc_parse.proofs.Common.{line_at, many, many_comma, more, no_result, past_base, past_stars, signed}
-use Rattle.sc_parse.proofs.Common.{signed_int, star, subst, sym, true, type_name, unsigned, unsigned_int, ℕ, ◌++◌, ◌<◌}
-use Rattle.sc_parse.proofs.Common.{◌∙◌, ◌∷◌, ◌≡◌}
+use Rattle.sc_parse.proofs.Common.{line_at, many, many_comma, more, no_result, past_base, past_stars, plain, signed}
+use Rattle.sc_parse.proofs.Common.{signed_int, star, struct, subst, sym, true, type_name, unsigned, unsigned_int, ℕ}
+use Rattle.sc_parse.proofs.Common.{◌++◌, ◌<◌, ◌∙◌, ◌∷◌, ◌≡◌}
+use Rattle.sc_parse.proofs.Bases.{base_front, NoInt, stars_no_int, stars_count}
 use Rattle.sc_expr.specs.declared.mark.Mark.TheVariants as mark
 use Rattle.sc_parse.specs.Lists as lists
 use Rattle.sc_parse.specs.Types as types
-use Rattle.sc_parse.specs.Types.{plain}
-use Rattle.sc_parse.specs.Declarations.{struct, one}
+use Rattle.sc_parse.specs.Declarations.{one}
 use Rattle.sc_parse.proofs.Declared.{declarator_no_int}
 
 -- no `{` stands at the front

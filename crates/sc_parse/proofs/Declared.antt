@@ -3,12 +3,11 @@ use Rattle.sc_parse.proofs.Common.{BaseTree, Declarator, Declares, IsMark, IsMem
 use Rattle.sc_parse.proofs.Common.{Option, Reader, Separated, Some, SpellsDeclarator, TypeTree, [], adds, all_separated}
 use Rattle.sc_parse.proofs.Common.{ap, append_assoc, array, behind, behind_mark, bound, declaration_at, declarator}
 use Rattle.sc_parse.proofs.Common.{declarator_at, declares, first_line, glued, int, member_at, members_behind, more}
-use Rattle.sc_parse.proofs.Common.{one, refl, subst, sym, type_of, ℕ, ◌++◌, ◌∙◌, ◌∷◌, ◌≡◌}
+use Rattle.sc_parse.proofs.Common.{one, plain, refl, subst, sym, type_of, ℕ, ◌++◌, ◌∙◌, ◌∷◌, ◌≡◌}
 use Rattle.sc_parse.proofs.Bases.{base_front, NoInt, NoBracket, base_exact, no_length, in_brackets, declarator_sound}
 use Rattle.sc_parse.proofs.Bases.{declarator_reads, stars_no_int}
 use Rattle.sc_parse.proofs.Exact.{same_pair, Taken, Added, Exact, ExactAdder, Any, took, separated_exact}
 use Rattle.sc_expr.specs.declared.mark.Mark.TheVariants as mark
-use Rattle.sc_parse.specs.Types.{plain}
 
 abbrev pub Comma : List Lexeme → Option (List Lexeme)
 Comma = behind mark.Comma

@@ -4,10 +4,11 @@ use Rattle.sc_parse.proofs.Common.{StmtKind, StmtTree, [], alone, ap, append_ass
 use Rattle.sc_parse.proofs.Common.{break_height, call_at, choice, continue_height, drop, empty, empty_height, ended_at}
 use Rattle.sc_parse.proofs.Common.{expr_at, false, false≢true, first_line, for_loop, is_base, is_else, is_if}
 use Rattle.sc_parse.proofs.Common.{keyword_at, kind_height, kind_of, length, length-append, no_base, not, otherwise}
-use Rattle.sc_parse.proofs.Common.{otherwise_if, plain, plain_at, plain_height, refl, return_call, return_call_height}
+use Rattle.sc_parse.proofs.Common.{otherwise_if, plain_at, plain_height, refl, return_call, return_call_height}
 use Rattle.sc_parse.proofs.Common.{return_height, return_nothing, return_value, returned, simple_at, simple_or_none}
 use Rattle.sc_parse.proofs.Common.{stmt_tree, sym, true, value_height, value_returned, while_loop, ℕ, ◌++◌, ◌<◌, ◌∙◌}
 use Rattle.sc_parse.proofs.Common.{◌∷◌, ◌≡◌, ◌≤◌}
+use Rattle.sc_parse.specs.Statements.{plain}
 use Rattle.sc_parse.proofs.Exact.{chosen, made, ended, Taken, took}
 use Rattle.sc_parse.proofs.Expressions.{expr_exact, call_exact}
 use Rattle.sc_parse.proofs.Simples.{simple_exact}

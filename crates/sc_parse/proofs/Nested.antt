@@ -7,12 +7,13 @@ use Rattle.sc_parse.proofs.Common.{block, block_at, bound, choice, cond, drop, e
 use Rattle.sc_parse.proofs.Common.{expr_height, false, false≢true, first_line, first_part, for_behind, for_head}
 use Rattle.sc_parse.proofs.Common.{for_height, for_loop, for_parts, glued, grouped, if_behind, if_height, is_else}
 use Rattle.sc_parse.proofs.Common.{is_if, keyword_at, kind_by, kind_height, kind_of, last_part, length, loop_of}
-use Rattle.sc_parse.proofs.Common.{middle_part, none-some, option_height, otherwise, otherwise_if, part_at, plain}
-use Rattle.sc_parse.proofs.Common.{plain_at, plain_height, refl, return_call, return_call_height, return_nothing}
-use Rattle.sc_parse.proofs.Common.{return_value, returned, same_some, simple_at, stmt_at, stmt_tree, stmt_within}
-use Rattle.sc_parse.proofs.Common.{stmts_at, stmts_height, subst, suc, sym, test_at, tree_height, true, value_height}
+use Rattle.sc_parse.proofs.Common.{middle_part, none-some, option_height, otherwise, otherwise_if, part_at, plain_at}
+use Rattle.sc_parse.proofs.Common.{plain_height, refl, return_call, return_call_height, return_nothing, return_value}
+use Rattle.sc_parse.proofs.Common.{returned, same_some, simple_at, stmt_at, stmt_tree, stmt_within, stmts_at}
+use Rattle.sc_parse.proofs.Common.{stmts_height, subst, suc, sym, test_at, tree_height, true, value_height}
 use Rattle.sc_parse.proofs.Common.{while_behind, while_height, while_loop, zero, ℕ, ◌++◌, ◌+◌, ◌<◌, ◌>>=◌, ◌∙◌, ◌∷◌}
 use Rattle.sc_parse.proofs.Common.{◌≡◌, ◌≤◌}
+use Rattle.sc_parse.specs.Statements.{plain}
 use Rattle.sc_ast.specs.declared.stmt.StmtKind.TheVariants as stmt
 use Rattle.sc_expr.specs.declared.mark.Keyword.TheVariants as word
 use Rattle.sc_expr.specs.declared.mark.Mark.TheVariants as mark

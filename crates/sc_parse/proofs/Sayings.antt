@@ -2,11 +2,12 @@
 use Rattle.sc_parse.proofs.Common.{Bool, IsSpan, List, Mark, None, Option, Some, Symbol, Token, [], ap, arith, bytes_eq}
 use Rattle.sc_parse.proofs.Common.{codes, cond, directive_kind, false, false≢true, get_or, heading_name, ident_in}
 use Rattle.sc_parse.proofs.Common.{import_of, integer_of, is_export, is_import, is_integer, is_name, is_reserved}
-use Rattle.sc_parse.proofs.Common.{is_some, le-leb, leb-false, line_kind, list_any, look_up, map, mark_kind, mark_of}
-use Rattle.sc_parse.proofs.Common.{mark_texts, name_of, nat_le, nat_lt, none-some, number_in, option_map, option_or}
-use Rattle.sc_parse.proofs.Common.{or_unused, refl, same_some, says, slice_range, subst, sym, symbol_of, third_word}
-use Rattle.sc_parse.proofs.Common.{true, word_kind, words, ℕ, ◌&&◌, ◌||◌, ◌∙◌, ◌∷◌, ◌≡◌}
+use Rattle.sc_parse.proofs.Common.{is_some, le-leb, leb-false, line_kind, look_up, map, mark_kind, mark_of, mark_texts}
+use Rattle.sc_parse.proofs.Common.{name_of, nat_le, nat_lt, none-some, number_in, option_map, option_or, or_unused}
+use Rattle.sc_parse.proofs.Common.{refl, same_some, says, slice_range, subst, sym, symbol_of, third_word, true}
+use Rattle.sc_parse.proofs.Common.{word_kind, words, ℕ, ◌&&◌, ◌||◌, ◌∙◌, ◌∷◌, ◌≡◌}
 use Rattle.sc_lex.specs.Prelude.{is_mark, kind_of}
+use Rattle.std.specs.List.{list_any}
 use Rattle.std.proofs.lemmas.Slice.Eq.{bytes_eq-Decides}
 use Rattle.sc_base.proofs.Bools.{and_first, and_rest}
 use Rattle.sc_lex.specs.declared.token.TokenKind.{TokenKind}

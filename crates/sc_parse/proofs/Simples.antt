@@ -350,7 +350,8 @@ simple_complete free room (compound {ts = ts} {us = us} {place = place} {operand
     let made = updates_height op place operand in
     let short : expr_height place < room = omega arith in
     let less : expr_height operand ≤ room - 1 = omega arith in
-    let read = (expr_exact free (room - 1)).complete us rest operand (record { spelled = v; low = less }) inner ends.0 in
+    let read =
+    (expr_exact free (room - 1)).complete us rest operand (record { spelled = v; low = less }) inner ends.0 in
     assigned free room d m t us (change.By op) _ rest p (compound_change m op q) (omega arith) few
     (rw (lt-ltb _ room short, read))
 simple_complete free room (step_behind {ts = ts} {place = place} t m op p q d) rest low few ends =

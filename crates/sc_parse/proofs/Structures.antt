@@ -5,8 +5,8 @@ use Rattle.sc_parse.proofs.Common.{SpellsStruct, StructTree, [], adds, ap, appen
 use Rattle.sc_parse.proofs.Common.{behind_inner_comma, behind_mark, bound, const_at, const_tree, declaration_at}
 use Rattle.sc_parse.proofs.Common.{declares, drop, false, first_line, glued, grouped, keyword_at, length, length-append}
 use Rattle.sc_parse.proofs.Common.{literal_at, members_at, members_behind, members_in_braces, more, name_ahead, name_at}
-use Rattle.sc_parse.proofs.Common.{negated, next, non_empty, none, none-some, refl, same_some, separated, struct_at}
-use Rattle.sc_parse.proofs.Common.{struct_tree, subst, sym, true, ℕ, ◌++◌, ◌+◌, ◌<◌, ◌>>=◌, ◌∙◌, ◌∷◌, ◌≡◌}
+use Rattle.sc_parse.proofs.Common.{negated, next, non_empty, none, none-some, refl, same_some, separated, struct}
+use Rattle.sc_parse.proofs.Common.{struct_at, struct_tree, subst, sym, true, ℕ, ◌++◌, ◌+◌, ◌<◌, ◌>>=◌, ◌∙◌, ◌∷◌, ◌≡◌}
 use Rattle.sc_parse.proofs.Bases.{base_front, word_ahead, integer_is}
 use Rattle.sc_parse.proofs.Exact.{same_pair, given, chosen, enclosed, Taken, Exact, ExactAdder, Any, took}
 use Rattle.sc_parse.proofs.Exact.{separated_exact, grouped_exact}
@@ -14,7 +14,7 @@ use Rattle.sc_expr.specs.declared.mark.Keyword.TheVariants as word
 use Rattle.sc_expr.specs.declared.mark.Mark.TheVariants as mark
 use Rattle.sc_parse.specs.Types as types
 use Rattle.sc_parse.specs.Lists as lists
-use Rattle.sc_parse.specs.Declarations.{struct, plain}
+use Rattle.sc_parse.specs.Declarations.{plain}
 use Rattle.sc_parse.proofs.Declared.{member_line_exact}
 
 module _ {A : Type 0} (Item : BaseTree → ℕ → List Lexeme → A → Type 0) where

@@ -1,11 +1,10 @@
 -- What a section with its lexemes is parsed to.
-use Rattle.sc_parse.proofs.Exact.{chosen}
 use Rattle.sc_parse.proofs.Common.{Any, Err, IfOk, IsErrOf, IsExcess, IsParsed, Lexeme, List, None, Ok, Option, Parses}
 use Rattle.sc_parse.proofs.Common.{Result, SectionTree, Some, Token, [], ap, arith, cond, cond_is, le-leb, leb}
-use Rattle.sc_parse.proofs.Common.{leb-true, length, length-map, lexeme_of, lexemes_of, line_after, map, most_open}
-use Rattle.sc_parse.proofs.Common.{none-some, open_after, option_map, refl, same_some, section_at, subst, suc, sym}
-use Rattle.sc_parse.proofs.Common.{take, tree_of, whole_line, zero, ℕ, ◌+◌, ◌-◌, ◌<◌, ◌∙◌, ◌∷◌, ◌≡◌, ◌≤◌}
-use Rattle.std.proofs.lemmas.Bool.{lt-leb}
+use Rattle.sc_parse.proofs.Common.{leb-true, length, length-map, lexeme_of, lexemes_of, line_after, lt-leb, map}
+use Rattle.sc_parse.proofs.Common.{most_open, none-some, open_after, option_map, refl, same_some, section_at, subst}
+use Rattle.sc_parse.proofs.Common.{suc, sym, take, tree_of, whole_line, zero, ℕ, ◌+◌, ◌-◌, ◌<◌, ◌∙◌, ◌∷◌, ◌≡◌, ◌≤◌}
+use Rattle.sc_parse.proofs.Exact.{chosen}
 use Rattle.sc_lex.specs.declared.refusal.Refusal.{Refusal}
 use Rattle.sc_lex.specs.declared.fault.TextFault.{TextFault}
 use Rattle.sc_lex.specs.declared.fault.TextFault.TheVariants as fault

@@ -9,7 +9,7 @@ pub use Rattle.sc_parse.specs.Declarations.{SpellsFunction, SpellsHead, SpellsIn
 pub use Rattle.sc_parse.specs.Declarations.{SpellsResult, SpellsStruct, SpellsValue, a_function, a_result, a_struct}
 pub use Rattle.sc_parse.specs.Declarations.{a_value, absent, declares, function, global, globals, head, local, many}
 pub use Rattle.sc_parse.specs.Declarations.{many_comma, named, nameless, negated, no_params, no_result, no_value}
-pub use Rattle.sc_parse.specs.Declarations.{prototype, some_params}
+pub use Rattle.sc_parse.specs.Declarations.{prototype, some_params, struct}
 pub use Rattle.sc_parse.specs.Fronts.{Reader, begins_call, begins_with, behind_inner_comma, ended_by, integer_by}
 pub use Rattle.sc_parse.specs.Fronts.{is_base, is_else, is_int, is_void, keyword_at, keyword_by, past_int}
 unfoldable pub use Rattle.sc_parse.specs.Fronts.{star_count}
@@ -36,7 +36,7 @@ pub use Rattle.sc_parse.specs.Statements.{SpellsArgs, SpellsBlock, SpellsCall, S
 pub use Rattle.sc_parse.specs.Statements.{SpellsPart, SpellsPlace, SpellsStmtKind, SpellsStmts, SpellsTest, a_part}
 pub use Rattle.sc_parse.specs.Statements.{a_test, alone, assign, assign_call, block, call, choice, compound}
 pub use Rattle.sc_parse.specs.Statements.{compound_of, condition, empty, for_loop, no_args, no_part, no_test, otherwise}
-pub use Rattle.sc_parse.specs.Statements.{otherwise_if, plain, return_call, return_nothing, return_value, some_args}
+pub use Rattle.sc_parse.specs.Statements.{otherwise_if, return_call, return_nothing, return_value, some_args}
 pub use Rattle.sc_parse.specs.Statements.{step_before, step_behind, step_of, updates, while_loop}
 pub use Rattle.sc_parse.specs.StmtReaders.{always, args_behind, args_in_parens, before_mark, begins_value, call_alone}
 pub use Rattle.sc_parse.specs.StmtReaders.{change_at, change_of, changed, for_parts, is_if, kind_by, loop_of}
@@ -47,5 +47,5 @@ unfoldable pub use Rattle.sc_parse.specs.StmtReaders.{else_behind, ended_at, exp
 unfoldable pub use Rattle.sc_parse.specs.StmtReaders.{if_behind, last_part, middle_part, operand_behind, part_at}
 unfoldable pub use Rattle.sc_parse.specs.StmtReaders.{place_at, plain_at, returned, simple_at, stepped, stmt_at}
 unfoldable pub use Rattle.sc_parse.specs.StmtReaders.{stmt_within, test_at, value_behind, while_behind}
-pub use Rattle.sc_parse.specs.Types.{SpellsBase, SpellsDeclarator, SpellsStars, SpellsTypeName, array, int, signed}
-pub use Rattle.sc_parse.specs.Types.{signed_int, star, struct, type_name, unsigned, unsigned_int}
+pub use Rattle.sc_parse.specs.Types.{SpellsBase, SpellsDeclarator, SpellsStars, SpellsTypeName, array, int, plain}
+pub use Rattle.sc_parse.specs.Types.{signed, signed_int, star, type_name, unsigned, unsigned_int}

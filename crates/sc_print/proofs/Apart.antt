@@ -76,7 +76,9 @@ one_word c rest is name line block comment two three =
     let some : 0 < length (c ∷ rest) = omega arith in
     record {
       kind = kind.Mark;
-      token = λ here. mark_one _ some name (λ e. false≢true (sym line ∙ eq-eqb c 35 e)) (one_three c rest three) (one_two c rest two)
+      token = λ here.
+          mark_one _ some name (λ e. false≢true (sym line ∙ eq-eqb c 35 e)) (one_three c rest three)
+          (one_two c rest two)
           (and_from _ _ (le-leb 1 _ (omega arith)) is)
           (λ b. false≢true (sym block ∙ b)) (λ b. false≢true (sym comment ∙ b)) here;
     }
@@ -89,7 +91,8 @@ two_word c e rest is name line block comment three =
     let some : 0 < length (c ∷ e ∷ rest) = omega arith in
     record {
       kind = kind.Mark;
-      token = λ here. mark_two _ some name (λ e. false≢true (sym line ∙ eq-eqb c 35 e)) (two_three c e rest three) (and_from _ _
+      token = λ here.
+          mark_two _ some name (λ e. false≢true (sym line ∙ eq-eqb c 35 e)) (two_three c e rest three) (and_from _ _
           (le-leb 2 _ (omega arith)) is) (λ b. false≢true (sym block ∙ b)) (λ b. false≢true (sym comment ∙ b)) here;
     }
 

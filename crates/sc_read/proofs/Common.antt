@@ -1,9 +1,9 @@
 -- The names that several proofs of this crate cite, passed on from one place. Declares nothing.
 pub use Rattle.std.proofs.Common.{Any, Bool, Err, IfOk, IsTrue, List, None, Ok, Option, Result, Some, [], ap, ap₂}
 pub use Rattle.std.proofs.Common.{arith, codes, drop, false, get_or, get_or-take, inl, inr, is_some, length}
-pub use Rattle.std.proofs.Common.{length-drop, length-take-le, map, refl, slice_get, slice_index, slice_range}
-pub use Rattle.std.proofs.Common.{slice_set, subst, suc, sym, take, take-append-drop, true, zero, ℕ, ⊎_elim, ◌++◌, ◌+◌}
-pub use Rattle.std.proofs.Common.{◌-◌, ◌<◌, ◌∙◌, ◌∷◌, ◌≡◌, ◌≤◌, ◌⊎◌}
+pub use Rattle.std.proofs.Common.{length-drop, length-take-le, lt-ltb, ltb, ltb-true, map, refl, slice_get, slice_index}
+pub use Rattle.std.proofs.Common.{slice_range, slice_set, subst, suc, sym, take, take-append-drop, true, zero, ℕ}
+pub use Rattle.std.proofs.Common.{⊎_elim, ◌++◌, ◌+◌, ◌-◌, ◌<◌, ◌∙◌, ◌∷◌, ◌≡◌, ◌≤◌, ◌⊎◌}
 pub use Rattle.std.proofs.lemmas.Bool.{and_parts, cases_lt, false≢true}
 pub use Rattle.std.proofs.lemmas.Option.{none-some}
 pub use Rattle.std.proofs.lemmas.Result.{err_from_is_err_and}

@@ -52,9 +52,9 @@ pub use Rattle.sc_core.specs.declared.stmt.TypedStmt.{TypedStmt}
 pub use Rattle.sc_core.specs.declared.value.Value.{Value}
 pub use Rattle.sc_core.specs.declared.value.Value.TheVariants.{Word}
 pub use Rattle.sc_laws.proofs.Growing.{BodyGoes, back_goes, calls_go, run_goes, within_goes}
-pub use Rattle.sc_laws.proofs.Twins.{CallsTwins, FunctionTwins, LibraryTwins, function_twins}
 pub use Rattle.sc_laws.proofs.Matching.{library_twins, run_goes_on, scripted_goes_on}
 pub use Rattle.sc_laws.proofs.Rows.{counts_its_own}
+pub use Rattle.sc_laws.proofs.Twins.{CallsTwins, FunctionTwins, Kept, KeptAt, LibraryTwins, function_twins}
 pub use Rattle.sc_laws.specs.Prelude.{Goes, Gone, Grown, IsFixed, Meets, Never, Obedient, now}
 pub use Rattle.sc_replay.specs.Replay.{HasReplaced, HasWords, IsCounter, IsRecomposed, IsReplaced, IsReplay, IsWord}
 pub use Rattle.sc_replay.specs.Replay.{Performs, TextsPerform, main_proto, proto_of}

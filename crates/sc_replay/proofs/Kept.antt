@@ -1,10 +1,9 @@
 -- Functions of the compartments that keep their sections do the same in both runs.
-use Rattle.sc_replay.proofs.Common.{Blamed, Cause, Err, Goes, Gone, Grown, Here, Library, LibraryTwins, Never, Obedient}
-use Rattle.sc_replay.proofs.Common.{Ok, Piece, Result, Roles, State, TurnsOut, and_then, ap, arith, both_ways, computed}
-use Rattle.sc_replay.proofs.Common.{false, if◌then◌else◌, library_twins, ne_eqb, refl, subst, suc, sym, turn, turn_of}
-use Rattle.sc_replay.proofs.Common.{zero, ℕ, ◌<◌, ◌==◌, ◌∙◌, ◌≡◌}
+use Rattle.sc_replay.proofs.Common.{Blamed, Cause, Err, Goes, Gone, Grown, Here, Kept, KeptAt, Library, LibraryTwins}
+use Rattle.sc_replay.proofs.Common.{Never, Obedient, Ok, Piece, Result, Roles, State, TurnsOut, and_then, ap, arith}
+use Rattle.sc_replay.proofs.Common.{both_ways, computed, false, if◌then◌else◌, library_twins, ne_eqb, refl, subst, suc}
+use Rattle.sc_replay.proofs.Common.{sym, turn, turn_of, zero, ℕ, ◌<◌, ◌==◌, ◌∙◌, ◌≡◌}
 use Rattle.sc_laws.proofs.Expressions.{Keeps, alike, blamed}
-use Rattle.sc_laws.proofs.Twins.{Kept, KeptAt}
 use Rattle.sc_replay.proofs.Near.{Both, Near, NearBy, Reaches, counts, near_turns, reached, stopped}
 
 module _ (roles : Roles) (most : ℕ) where

@@ -1,14 +1,12 @@
 -- A text of words that spell a section is read as its tree, and so is the text of one that performs.
-use Rattle.sc_reread.proofs.Common.{IsParsedAs, IsReadAs, Lexeme, Lined, List, PerformingTextsAreRead, Piece, Reading}
-use Rattle.sc_reread.proofs.Common.{SameButLines, SectionTree, SpellsSection, Token, [], ap, append-nil, arith}
-use Rattle.sc_reread.proofs.Common.{back_text, back_tree, begins_heading, codes, export_text, flat_map, found_lines}
-use Rattle.sc_reread.proofs.Common.{functions_text, heading_begins, import_text, lexemes_of, main_text, map, most_open}
-use Rattle.sc_reread.proofs.Common.{proto_text, refl, section_height, section_reads, section_text, subst, sym}
-use Rattle.sc_reread.proofs.Common.{symbol_of, symbols, text_of, true, ℕ, ◌++◌, ◌∙◌, ◌∷◌, ◌≡◌, ◌≤◌}
+use Rattle.sc_reread.proofs.Common.{Found, IsParsedAs, IsReadAs, Lexeme, Lined, List, PerformingTextsAreRead, Piece}
+use Rattle.sc_reread.proofs.Common.{Reading, SameButLines, Say, SectionTree, SpellsSection, Token, [], ap, append-nil}
+use Rattle.sc_reread.proofs.Common.{arith, back_text, back_tree, begins_heading, codes, export_text, flat_map}
+use Rattle.sc_reread.proofs.Common.{found_lines, functions_text, heading_begins, import_text, lexemes_of, main_text}
+use Rattle.sc_reread.proofs.Common.{map, most_open, proto_text, refl, section_height, section_reads, section_text}
+use Rattle.sc_reread.proofs.Common.{subst, sym, symbol_of, symbols, text_of, true, ℕ, ◌++◌, ◌∙◌, ◌∷◌, ◌≡◌, ◌≤◌}
 use Rattle.sc_parse.specs.Sections as spell
-use Rattle.sc_print.proofs.Lined.{Found}
 use Rattle.sc_print.proofs.Heights.{sections_same}
-use Rattle.sc_print.proofs.Reading.{Say}
 use Rattle.sc_reread.proofs.Nesting.{AtMost, Nested, nested_more, none_more, opens, opens_lexemes}
 use Rattle.sc_reread.proofs.Performing.{IsPerforming, section_is}
 

@@ -1,4 +1,4 @@
--- Blocks whose ended variables hold no cells are loaded from and stored to as the others, and expressions give the same.
+-- Blocks whose ended variables hold no cells are loaded from and stored to as the others; expressions give the same.
 use Rattle.sc_run.proofs.Common.{BadPointer, BadType, Blocks, Bool, Cause, Cell, Dangling, Err, Here, List, Meant}
 use Rattle.sc_run.proofs.Common.{Memory, Ok, Option, OutOfBounds, Ptr, Result, Some, TypedExpr, TypedStruct, Value}
 use Rattle.sc_run.proofs.Common.{Ways, Word, [], ap, applied, applied_one, at_place, at_pointer, between, binary, bind}

@@ -61,7 +61,9 @@ module _ (program : ProgramTree) (before : Seen) (work : List Work) (f : Frame) 
       Steps program before work f (calling target args) (Stop end) before work f
   refused target args end same is =
       subst (λ e. Steps program before work f (calling target args) (Stop e) before work f) (sym same)
-      (steps_as program before work f _ (λ n s. and_then (stops_here s) rg) _ before work f (λ n s. ap (λ b. tried b target args n s) is) (step_stops program before before work f refusal _ (λ n. rg) halts))
+      (steps_as program before work f _ (λ n s. and_then (stops_here s) rg) _ before work f
+      (λ n s. ap (λ b. tried b target args n s) is)
+      (step_stops program before before work f refusal _ (λ n. rg) halts))
 
   allowed : (target : CallTarget) (args : List Value) (step : Step) (after : Seen) (later : List Work) (g : Frame) →
       may_call (library program) f.scope.comp.now target args ≡ true →

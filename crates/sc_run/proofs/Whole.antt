@@ -197,12 +197,13 @@ module _ (program : ProgramTree) (inputs : List ℕ) (turns events : ℕ) where
 
   -- what is seen at the start
   pub seen_at_first : (memory : Memory) (trace : List Event) → memory ≡ globals_of program.sections → trace ≡ [] →
-      ◌≡◌ {A = Seen} (record { memory = memory; trace = trace; turns = turns; inputs = inputs }) (seen_first program inputs turns)
+      ◌≡◌ {A = Seen} (record { memory = memory; trace = trace; turns = turns; inputs = inputs })
+      (seen_first program inputs turns)
   seen_at_first memory trace is none = λ i. record { memory = is i; trace = none i; turns = turns; inputs = inputs }
 
   module _ (run : SourceRun) (callee : Callee) (before after started : Seen) (f : Frame)
-      (at_first : before ≡ seen_first program inputs turns) (at : EntryAt program program.interfaces.main Main (Some callee))
-      (begun : Begun callee [] before after f) where
+      (at_first : before ≡ seen_first program inputs turns)
+      (at : EntryAt program program.interfaces.main Main (Some callee)) (begun : Begun callee [] before after f) where
     stands_first : Standing program whole_run after [] f (λ n s. body_acts program n f tt s)
     stands_first = begins program inputs turns callee _ after f at.0 at.1.0 refl at.1.2
         (subst (λ x. Begun callee [] x after f) at_first begun)

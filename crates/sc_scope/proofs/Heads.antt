@@ -1,7 +1,7 @@
 -- The parameters of a function's head as those of a prototype.
-use Rattle.sc_scope.proofs.Common.{FunctionParam, List, ParamTree, Text, [], ap, base_known, map, refl, ◌&&◌, ◌∷◌, ◌≡◌}
+use Rattle.sc_scope.proofs.Common.{FunctionParam, List, ParamTree, Text, [], ap, base_known, list_all, map, refl, ◌&&◌}
+use Rattle.sc_scope.proofs.Common.{◌∷◌, ◌≡◌}
 use Rattle.sc_ast.specs.Prelude.{param_of}
-use Rattle.std.specs.List.{list_all}
 
 pub params-known : (tags : List Text) (params : List FunctionParam) →
     list_all {X = ParamTree} (λ param. base_known tags param.ty.base) (map param_of params) ≡

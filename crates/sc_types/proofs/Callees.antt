@@ -6,16 +6,14 @@ use Rattle.sc_types.proofs.Common.{declared, export_at, false, false≢true, fun
 use Rattle.sc_types.proofs.Common.{head_named, head_of, heads_in, if◌then◌else◌, implied, import_named, import_names}
 use Rattle.sc_types.proofs.Common.{import_of, import_target, imported_target, input_name, interface_of, interfaces_of}
 use Rattle.sc_types.proofs.Common.{is_callable, is_environment, is_input, is_numbered, is_offered, is_output, is_some}
-use Rattle.sc_types.proofs.Common.{known_in, list_any, map, not, number_or_zero, offered, offering, option_map}
-use Rattle.sc_types.proofs.Common.{option_signature, or_first, or_right, output_name, promised, proto_names}
-use Rattle.sc_types.proofs.Common.{proto_signature, refl, same_import, same_text, signature_by, slice_get, subst, sym}
-use Rattle.sc_types.proofs.Common.{tags, target_or, target_signature, true, typed_section, ℕ, ◌&&◌, ◌++◌, ◌==◌, ◌||◌}
-use Rattle.sc_types.proofs.Common.{◌∙◌, ◌∷◌, ◌≡◌}
+use Rattle.sc_types.proofs.Common.{known_in, list_any, list_any-append, map, not, number_or_zero, offered, offering}
+use Rattle.sc_types.proofs.Common.{option_map, option_signature, or_first, or_right, output_name, promised, proto_names}
+use Rattle.sc_types.proofs.Common.{proto_signature, refl, same_import, same_text, signature_by, slice_get}
+use Rattle.sc_types.proofs.Common.{slice_get-map, subst, sym, tags, target_or, target_signature, true, typed_section, ℕ}
+use Rattle.sc_types.proofs.Common.{◌&&◌, ◌++◌, ◌==◌, ◌||◌, ◌∙◌, ◌∷◌, ◌≡◌}
 use Rattle.sc_event.specs.declared.interface.Import.{Import}
 use Rattle.sc_event.specs.declared.interface.Import.TheVariants as import
 use Rattle.sc_core.specs.declared.ty.Ty.TheVariants as ty
-use Rattle.std.proofs.lemmas.List.Folds.{list_any-append}
-use Rattle.std.proofs.lemmas.Option.{slice_get-map}
 use Rattle.sc_types.proofs.Basics.{or_not, each_passes}
 use Rattle.sc_types.proofs.Places.{Text, same_refl, eq_refl}
 use Rattle.sc_types.proofs.Lookups.{each_at, FoundFunction, find_function, no_function, no_place, heads_of_functions}

@@ -2,17 +2,18 @@
 use Rattle.sc_types.proofs.Common.{BaseTree, Bool, Callees, Decides-eqb, ExportLine, FunctionParam, FunctionTree}
 use Rattle.sc_types.proofs.Common.{HeadTree, ImportLine, List, None, Option, ParamTree, SectionTree, Some, TypeName}
 use Rattle.sc_types.proofs.Common.{TypedParam, [], agree, and_first, and_rest, ap, arith, base_of, base_scalar}
-use Rattle.sc_types.proofs.Common.{bytes_eq, comp_at, crosses, export_at, false, false≢true, functions_in, gives_int}
+use Rattle.sc_types.proofs.Common.{bytes_eq, crosses, export_at, false, false≢true, functions_in, gives_int}
 use Rattle.sc_types.proofs.Common.{head_crosses, head_of, if◌then◌else◌, import_named, interface_of, interfaces_of}
 use Rattle.sc_types.proofs.Common.{is_input, is_int, is_numbered, is_output, is_some, length, list_all, list_any, map}
 use Rattle.sc_types.proofs.Common.{nat_eq, not, number_of, offering, offers, option_and_then, option_map, param_of}
 use Rattle.sc_types.proofs.Common.{param_ty, promised, proto_of, proto_signature, refl, result_crosses, result_of}
 use Rattle.sc_types.proofs.Common.{result_ty, same_params, same_result, same_type, scalar_of, scalar_ty, signature_by}
-use Rattle.sc_types.proofs.Common.{signature_of, slice_get, starred, suc, sym, tags, takes_int, takes_nothing, true}
-use Rattle.sc_types.proofs.Common.{type_of_name, typed_function, typed_param, ℕ, ◌++◌, ◌+◌, ◌||◌, ◌∙◌, ◌∷◌, ◌≡◌}
-use Rattle.std.proofs.lemmas.Option.{slice_get-map}
-use Rattle.sc_elab.proofs.Programs.{comp_at as elab_comp_at}
+use Rattle.sc_types.proofs.Common.{signature_of, slice_get, slice_get-map, starred, suc, sym, tags, takes_int}
+use Rattle.sc_types.proofs.Common.{takes_nothing, true, type_of_name, typed_function, typed_param, ℕ, ◌++◌, ◌+◌, ◌||◌}
+use Rattle.sc_types.proofs.Common.{◌∙◌, ◌∷◌, ◌≡◌}
+use Rattle.sc_event.specs.Prelude.{comp_at}
 use Rattle.sc_interfaces.specs.Prelude.{same_base}
+use Rattle.sc_elab.proofs.Programs.{comp_at as elab_comp_at}
 use Rattle.sc_ast.specs.declared.types.BaseTree.TheVariants as base_tree
 use Rattle.sc_core.specs.declared.ty.Ty.TheVariants as ty
 use Rattle.sc_types.proofs.Basics.{Each}

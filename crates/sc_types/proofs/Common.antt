@@ -5,14 +5,14 @@ pub use Rattle.std.proofs.Common.{flat_map, get_or, if◌then◌else◌, inl, in
 pub use Rattle.std.proofs.Common.{ltb-true, map, max, nat_eq, nat_le, nat_lt, not, position, refl, replicate, rules}
 pub use Rattle.std.proofs.Common.{slice_get, slice_range, subst, suc, sym, take, true, zero, ℕ, ◌%◌, ◌&&◌, ◌*◌, ◌++◌}
 pub use Rattle.std.proofs.Common.{◌+◌, ◌-◌, ◌<◌, ◌==◌, ◌^◌, ◌||◌, ◌∙◌, ◌∷◌, ◌≡◌, ◌≤◌, ◌⊎◌}
-pub use Rattle.std.proofs.lemmas.Bool.{and_from, false≢true, not-true, or_left, or_parts, or_right}
+pub use Rattle.std.proofs.lemmas.Bool.{and_from, false≢true, not-true, or_from, or_left, or_parts, or_right}
 pub use Rattle.std.proofs.lemmas.Bool.Decides.{Decides-eqb, nat_tests}
 pub use Rattle.std.proofs.lemmas.List.{drop_all, length-map, map-append, take_more}
 pub use Rattle.std.proofs.lemmas.List.Elements.{filter_map-append}
+pub use Rattle.std.proofs.lemmas.List.Folds.{concat-append, list_any-append}
 pub use Rattle.std.proofs.lemmas.Map.Keys.{any_passes_from_place}
-pub use Rattle.std.proofs.lemmas.Option.{same_Some}
+pub use Rattle.std.proofs.lemmas.Option.{same_Some, slice_get-map}
 pub use Rattle.std.proofs.lemmas.Result.{err_from_is_err_and}
-pub use Rattle.std.proofs.lemmas.Slice.Eq.{bytes_eq-Decides}
 pub use Rattle.std.specs.List.{All, AllZip, concat, filter_map, list_all, list_any, position_from}
 pub use Rattle.std.specs.Option.{option_and_then, option_map, option_map_or}
 pub use Rattle.sc_base.proofs.Bools.{and_first, and_rest, implied}
@@ -20,7 +20,7 @@ pub use Rattle.sc_base.proofs.Lists.{drop-step, get_behind, get_front, map_twice
 pub use Rattle.sc_base.proofs.Texts.{same_text}
 pub use Rattle.sc_base.specs.Prelude.{is_numbered, number_of}
 pub use Rattle.sc_base.specs.declared.op.BinaryOp.{BinaryOp}
-pub use Rattle.sc_event.specs.Prelude.{comp_at, export_at}
+pub use Rattle.sc_event.specs.Prelude.{export_at}
 pub use Rattle.sc_event.specs.declared.interface.Interface.{Interface}
 pub use Rattle.sc_lex.specs.declared.fault.TextFault.TheVariants.{Refused}
 pub use Rattle.sc_lex.specs.declared.refusal.Phase.{Phase}
@@ -74,11 +74,11 @@ pub use Rattle.sc_core.specs.Prelude.{is_well_typed, judged, kind_fits, kind_hei
 pub use Rattle.sc_core.specs.Prelude.{members_fit, most_cells, most_compartments, most_exports, most_height, most_nodes}
 pub use Rattle.sc_core.specs.Prelude.{most_params, nodes, option_signature, part_fits, part_height, passed_fits}
 pub use Rattle.sc_core.specs.Prelude.{proto_signature, result_fits, result_goes, result_ty, returned_call_fits}
-pub use Rattle.sc_core.specs.Prelude.{same_base, same_import, same_results, same_signature, same_ty, same_types}
-pub use Rattle.sc_core.specs.Prelude.{scalar_ty, scope_of, section_fits, sections_fit, signature_of, simple_fits}
-pub use Rattle.sc_core.specs.Prelude.{simple_height, starred, starred_cells, starred_within, stmt_fits, stmt_height}
-pub use Rattle.sc_core.specs.Prelude.{struct_cells, struct_fits, structs_fit, target_signature, term_height, total}
-pub use Rattle.sc_core.specs.Prelude.{truth, type_within, variable_fits, words_fit}
+pub use Rattle.sc_core.specs.Prelude.{same_base, same_import, same_results, same_signature, same_types, scalar_ty}
+pub use Rattle.sc_core.specs.Prelude.{scope_of, section_fits, sections_fit, signature_of, simple_fits, simple_height}
+pub use Rattle.sc_core.specs.Prelude.{starred, starred_cells, starred_within, stmt_fits, stmt_height, struct_cells}
+pub use Rattle.sc_core.specs.Prelude.{struct_fits, structs_fit, target_signature, term_height, total, truth}
+pub use Rattle.sc_core.specs.Prelude.{type_within, variable_fits, words_fit}
 pub use Rattle.sc_core.specs.declared.expr.TypedExpr.{TypedExpr, fold-roll-TypedExpr}
 pub use Rattle.sc_core.specs.declared.expr.TypedKind.{TypedKind, TypedKind-F, the_lemmas}
 unfoldable pub use Rattle.sc_core.specs.declared.expr.TypedKind.{roll-TypedKind}

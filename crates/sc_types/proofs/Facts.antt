@@ -3,11 +3,10 @@ use Rattle.sc_types.proofs.Common.{Bool, Callees, Decl, ExportLine, Function, Im
 use Rattle.sc_types.proofs.Common.{agrees_with, among, and_first, and_from, and_rest, ap, bytes_eq, concat, decls_from}
 use Rattle.sc_types.proofs.Common.{export_names, exports_from, false, false≢true, function_names, functions_in}
 use Rattle.sc_types.proofs.Common.{globals_in, head_fits, head_holds, head_of, heads_in, import_names, imported_agrees}
-use Rattle.sc_types.proofs.Common.{imports_from, is_numbered, is_offered, is_plain, length, main_holds, main_name, map}
-use Rattle.sc_types.proofs.Common.{most_exports, most_nodes, name_holds, nat_le, not, not-true, or_right, proto_names}
-use Rattle.sc_types.proofs.Common.{refl, same_text, section_lines, structs_in, sym, true, unless, ℕ, ◌&&◌, ◌++◌, ◌||◌}
-use Rattle.sc_types.proofs.Common.{◌∙◌, ◌∷◌, ◌≡◌}
-use Rattle.std.proofs.lemmas.List.Folds.{list_any-append}
+use Rattle.sc_types.proofs.Common.{imports_from, is_numbered, is_offered, is_plain, length, list_any-append, main_holds}
+use Rattle.sc_types.proofs.Common.{main_name, map, most_exports, most_nodes, name_holds, nat_le, not, not-true}
+use Rattle.sc_types.proofs.Common.{or_right, proto_names, refl, same_text, section_lines, structs_in, sym, true, unless}
+use Rattle.sc_types.proofs.Common.{ℕ, ◌&&◌, ◌++◌, ◌||◌, ◌∙◌, ◌∷◌, ◌≡◌}
 use Rattle.sc_scope.specs.Prelude.{are_distinct}
 use Rattle.sc_types.specs.Counts as counts
 use Rattle.sc_types.proofs.Basics.{rule_holds, front_empty, back_empty, Each}

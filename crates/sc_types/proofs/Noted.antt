@@ -1,13 +1,13 @@
 -- The loops over declarations, locals and sections, one step further.
-use Rattle.std.proofs.lemmas.List.Folds.{concat-append}
 use Rattle.sc_types.proofs.Common.{Bool, BrokenLines, Decl, Function, FunctionParam, FunctionTree, Global, GlobalTree}
 use Rattle.sc_types.proofs.Common.{HeadTree, List, LocalTree, None, Option, Proto, SectionTree, Some, Struct}
-use Rattle.sc_types.proofs.Common.{StructTree, [], ap, append_assoc, arith, concat, done, drop, drop-step, drop_all}
-use Rattle.sc_types.proofs.Common.{filter_map, filter_map-append, function_in, function_lines, functions_in, get_or}
-use Rattle.sc_types.proofs.Common.{global_in, global_lines, globals_in, head_in, head_lines, heads_in, is_small, length}
-use Rattle.sc_types.proofs.Common.{line_beyond, line_of_some, list_all, local_lines, map, map-append, nothing}
-use Rattle.sc_types.proofs.Common.{param_small, refl, slice_get, struct_in, structs_from, structs_in, suc, sym, then}
-use Rattle.sc_types.proofs.Common.{type_in, unless, with_lines, ℕ, ◌++◌, ◌+◌, ◌<◌, ◌∙◌, ◌∷◌, ◌≡◌, ◌≤◌}
+use Rattle.sc_types.proofs.Common.{StructTree, [], ap, append_assoc, arith, concat, concat-append, done, drop}
+use Rattle.sc_types.proofs.Common.{drop-step, drop_all, filter_map, filter_map-append, function_in, function_lines}
+use Rattle.sc_types.proofs.Common.{functions_in, get_or, global_in, global_lines, globals_in, head_in, head_lines}
+use Rattle.sc_types.proofs.Common.{heads_in, is_small, length, line_beyond, line_of_some, list_all, local_lines, map}
+use Rattle.sc_types.proofs.Common.{map-append, nothing, param_small, refl, slice_get, struct_in, structs_from}
+use Rattle.sc_types.proofs.Common.{structs_in, suc, sym, then, type_in, unless, with_lines, ℕ, ◌++◌, ◌+◌, ◌<◌, ◌∙◌, ◌∷◌}
+use Rattle.sc_types.proofs.Common.{◌≡◌, ◌≤◌}
 use Rattle.sc_core.specs.declared.ty.Ty.TheVariants as ty
 use Rattle.sc_types.proofs.Measures.{no-struct}
 use Rattle.sc_scope.proofs.Lines.{step}

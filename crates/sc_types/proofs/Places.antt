@@ -1,10 +1,10 @@
 -- The places of names in lists of names.
-use Rattle.sc_types.proofs.Common.{Bool, Decides-eqb, List, None, Option, Some, [], ap, arith, bytes_eq}
-use Rattle.sc_types.proofs.Common.{bytes_eq-Decides, false, false≢true, if◌then◌else◌, is_numbered, le-leb, leb-true}
-use Rattle.sc_types.proofs.Common.{length, list_any, lt-ltb, nat_le, nat_lt, number_of, number_or_zero, option_map}
+use Rattle.sc_types.proofs.Common.{Bool, Decides-eqb, List, None, Option, Some, [], ap, arith, bytes_eq, false}
+use Rattle.sc_types.proofs.Common.{false≢true, if◌then◌else◌, is_numbered, le-leb, leb-true, length, list_any}
+use Rattle.sc_types.proofs.Common.{list_any-append, lt-ltb, nat_le, nat_lt, number_of, number_or_zero, option_map}
 use Rattle.sc_types.proofs.Common.{or_left, or_parts, refl, slice_get, subst, suc, sym, true, ℕ, ◌++◌, ◌<◌, ◌==◌, ◌||◌}
 use Rattle.sc_types.proofs.Common.{◌∙◌, ◌∷◌, ◌≡◌, ◌≤◌}
-use Rattle.std.proofs.lemmas.List.Folds.{list_any-append}
+use Rattle.std.proofs.lemmas.Slice.Eq.{bytes_eq-Decides}
 use Rattle.sc_types.proofs.Basics.{find, position_is}
 
 abbrev pub Text : Type 0

@@ -8,15 +8,13 @@ use Rattle.sc_types.proofs.Common.{false≢true, filter_map-append, function_nam
 use Rattle.sc_types.proofs.Common.{get_behind, head_crosses, head_fits, head_of, if◌then◌else◌, import_fits}
 use Rattle.sc_types.proofs.Common.{import_name, import_names, import_of, input_name, interface_fits, interface_of}
 use Rattle.sc_types.proofs.Common.{interfaces_of, is_numbered, is_plain_name, is_some, length, length-map, list_all}
-use Rattle.sc_types.proofs.Common.{list_any, main_name, map, map-append, map_twice, most_exports, nat_le, not, not-true}
-use Rattle.sc_types.proofs.Common.{number_or_zero, offered, offering, option_map, or_left, output_name, promised}
-use Rattle.sc_types.proofs.Common.{proto_of, proto_signature, refl, same_base, same_results, same_signature, same_text}
-use Rattle.sc_types.proofs.Common.{same_type, same_types, signature_of, slice_get, subst, suc, sym, true}
-use Rattle.sc_types.proofs.Common.{typed_function, typed_section, zero, ℕ, ◌&&◌, ◌++◌, ◌==◌, ◌||◌, ◌∙◌, ◌∷◌, ◌≡◌, ◌≤◌}
-use Rattle.std.proofs.lemmas.Bool.{or_from}
+use Rattle.sc_types.proofs.Common.{list_any, list_any-append, main_name, map, map-append, map_twice, most_exports}
+use Rattle.sc_types.proofs.Common.{nat_le, not, not-true, number_or_zero, offered, offering, option_map, or_from}
+use Rattle.sc_types.proofs.Common.{or_left, output_name, promised, proto_of, proto_signature, refl, same_base}
+use Rattle.sc_types.proofs.Common.{same_results, same_signature, same_text, same_type, same_types, signature_of}
+use Rattle.sc_types.proofs.Common.{slice_get, slice_get-map, subst, suc, sym, true, typed_function, typed_section, zero}
+use Rattle.sc_types.proofs.Common.{ℕ, ◌&&◌, ◌++◌, ◌==◌, ◌||◌, ◌∙◌, ◌∷◌, ◌≡◌, ◌≤◌}
 use Rattle.sc_elab_expr.proofs.Parts.{same_ty-refl}
-use Rattle.std.proofs.lemmas.Option.{slice_get-map}
-use Rattle.std.proofs.lemmas.List.Folds.{list_any-append}
 use Rattle.sc_core.specs.declared.section.TypedFunction.{TypedFunction}
 use Rattle.sc_event.specs.declared.interface.Import.TheVariants as import
 use Rattle.sc_event.specs.declared.interface.Proto as event

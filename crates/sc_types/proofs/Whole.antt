@@ -6,12 +6,13 @@ use Rattle.sc_types.proofs.Common.{bytes_eq, callees_of, codes, counts_broken, d
 use Rattle.sc_types.proofs.Common.{false, false≢true, functions_in, get_behind, globals_in, head_of, if◌then◌else◌}
 use Rattle.sc_types.proofs.Common.{interface_broken, interface_fits, interface_of, interfaces_from, interfaces_of}
 use Rattle.sc_types.proofs.Common.{is_main, is_numbered, is_well_typed, length, length-map, line_of_text, list_any}
-use Rattle.sc_types.proofs.Common.{main_fits, main_from, main_name, mains_in, map, map-append, most_compartments}
-use Rattle.sc_types.proofs.Common.{most_nodes, names_broken, nat_le, not, not-true, option_map, option_map_or}
-use Rattle.sc_types.proofs.Common.{program_of, refl, same_Some, same_signature, section_fits, section_height}
-use Rattle.sc_types.proofs.Common.{sections_fit, sections_from, signature_of, slice_get, structs, structs_in, subst}
-use Rattle.sc_types.proofs.Common.{suc, sym, tags, true, truth, typed_function, typed_global, typed_section}
-use Rattle.sc_types.proofs.Common.{types_broken, zero, ℕ, ◌&&◌, ◌++◌, ◌+◌, ◌==◌, ◌||◌, ◌∙◌, ◌∷◌, ◌≡◌, ◌≤◌}
+use Rattle.sc_types.proofs.Common.{list_any-append, main_fits, main_from, main_name, mains_in, map, map-append}
+use Rattle.sc_types.proofs.Common.{most_compartments, most_nodes, names_broken, nat_le, not, not-true, option_map}
+use Rattle.sc_types.proofs.Common.{option_map_or, program_of, refl, same_Some, same_signature, section_fits}
+use Rattle.sc_types.proofs.Common.{section_height, sections_fit, sections_from, signature_of, slice_get, slice_get-map}
+use Rattle.sc_types.proofs.Common.{structs, structs_in, subst, suc, sym, tags, true, truth, typed_function}
+use Rattle.sc_types.proofs.Common.{typed_global, typed_section, types_broken, zero, ℕ, ◌&&◌, ◌++◌, ◌+◌, ◌==◌, ◌||◌, ◌∙◌}
+use Rattle.sc_types.proofs.Common.{◌∷◌, ◌≡◌, ◌≤◌}
 use Rattle.sc_core.specs.declared.ty.Ty.TheVariants as ty
 use Rattle.sc_scope.specs.Names as names
 use Rattle.sc_elab.specs.Sections as elab
@@ -29,8 +30,6 @@ use Rattle.sc_types.proofs.Callees as called
 use Rattle.sc_types.proofs.Functions.{small_from, Behind, functions_are, globals_are, structs_known}
 use Rattle.sc_types.proofs.Sections.{none_beyond, interface_is}
 use Rattle.std.proofs.Math.Bool.{or-false}
-use Rattle.std.proofs.lemmas.List.Folds.{list_any-append}
-use Rattle.std.proofs.lemmas.Option.{slice_get-map}
 
 -- The structs, globals and functions among declarations are no more than these.
 
