@@ -4,18 +4,20 @@ use sc_types::{SourceText, TextFault};
 use std::alloc::Global;
 use std::test::Fail;
 
-/// A text. The line at which it must be refused has an `@` in it, the text's first, which isn't part of it; a text with
-/// none is a program.
+/// A text, or several with `@@` between them. The line at which a text must be refused has an `@` in it, the text's first,
+/// or is that of a token between backquotes, which stands in a line of its own; neither mark is part of the text. A text
+/// with no mark is a program if it is the first, and else is refused in its first line.
 pub type Row = &'static [u8];
 
-/// A row that gives something else than it must.
+/// A text of a row that gives something else than it must.
 #[derive(Clone, Copy, Debug, Drop, PartialEq, Eq)]
 pub struct Wrong {
     pub row: usize,
+    pub text: usize,
     pub answer: Option<Refusal>,
 }
 
-/// What stands before and behind each row of a table.
+// What stands before and behind each row of a table.
 #[derive(Clone, Copy)]
 pub struct Frame {
     pub before: &'static [u8],
@@ -69,22 +71,67 @@ fn line_at_end(text: &[u8]) -> u32 {
     line
 }
 
-/// The whole text of a row, and the line that is marked in it.
-fn marked(alloc: Global, frame: Frame, row: Row) -> Result<(Vec<u8>, Option<u32>), Fail> {
-    let mut text = frame.before.to_vec(alloc)?;
-    let mut line = None;
+/// The texts of a row.
+fn texts(alloc: Global, row: Row) -> Result<Vec<Vec<u8>>, Fail> {
+    let mut texts = Vec::new(alloc);
+    let mut text = Vec::new(alloc);
     for &byte in row {
-        if byte == b'@' && line.is_none() {
-            line = Some(line_at_end(text.as_slice()));
+        if byte == b'@' && text.last() == Some(&b'@') {
+            text.pop();
+            texts.push(text)?;
+            text = Vec::new(alloc);
         } else {
             text.push(byte)?;
         }
     }
-    text.extend_from_slice(frame.after)?;
-    Ok((text, line))
+    texts.push(text)?;
+    Ok(texts)
 }
 
-/// The rows that aren't refused in this phase at their line, or are no program where they have none.
+/// A text in its frame, and the line that is marked in it.
+fn marked(alloc: Global, frame: Frame, text: &[u8]) -> Result<(Vec<u8>, Option<u32>), Fail> {
+    let mut whole = frame.before.to_vec(alloc)?;
+    let mut line = None;
+    let mut apart = false;
+    for &byte in text {
+        let first = line.is_none();
+        apart |= byte == b'`' && first;
+        match byte {
+            b'@' if first => line = Some(line_at_end(whole.as_slice())),
+            b'`' if apart => {
+                whole.push(b'\n')?;
+                line = line.or(Some(line_at_end(whole.as_slice())));
+            }
+            _ => whole.push(byte)?,
+        }
+    }
+    whole.extend_from_slice(frame.after)?;
+    Ok((whole, line))
+}
+
+/// The first text of a row that isn't refused in this phase at its line, or is no program where it must be one.
+fn wrong_text(alloc: Global, frame: Frame, phase: Phase, row: Row) -> Result<Option<Wrong>, Fail> {
+    let first_line = line_at_end(frame.before);
+    for (text, bytes) in texts(alloc, row)?.iter().enumerate() {
+        let (whole, line) = marked(alloc, frame, bytes.as_slice())?;
+        let line = if text == 0 {
+            line
+        } else {
+            line.or(Some(first_line))
+        };
+        let answer = judge(alloc, whole.as_slice())?;
+        if answer != line.map(|line| Refusal { phase, line }) {
+            return Ok(Some(Wrong {
+                row: 0,
+                text,
+                answer,
+            }));
+        }
+    }
+    Ok(None)
+}
+
+/// The rows with a text that gives something else than it must, each with its first.
 pub fn wrong_rows(
     alloc: Global,
     frame: Frame,
@@ -92,12 +139,9 @@ pub fn wrong_rows(
     rows: &[Row],
 ) -> Result<Vec<Wrong>, Fail> {
     let mut wrong = Vec::new(alloc);
-    for (row, text) in rows.iter().enumerate() {
-        let (text, line) = marked(alloc, frame, text)?;
-        let want = line.map(|line| Refusal { phase, line });
-        let answer = judge(alloc, text.as_slice())?;
-        if answer != want {
-            wrong.push(Wrong { row, answer })?;
+    for (row, texts) in rows.iter().enumerate() {
+        if let Some(found) = wrong_text(alloc, frame, phase, texts)? {
+            wrong.push(Wrong { row, ..found })?;
         }
     }
     Ok(wrong)

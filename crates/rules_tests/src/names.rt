@@ -4,7 +4,7 @@ use sc_lex::Phase;
 use std::test::Fail;
 
 // Each stands behind a compartment line, and before `main`.
-const IN_A_SECTION: [Row; 114] = [
+const IN_A_SECTION: [Row; 113] = [
     // A name has at most one definition as a function or a global.
     b"int x;\n@int x;\n",
     b"int x;\n\n@int y,\n  x;\n",
@@ -30,8 +30,7 @@ void output(int v);
     // Tags of structs are distinct, and so are the members of one struct.
     b"struct S { int a; };\n@struct S { int a; };\n",
     b"struct S { int a; };\nstruct T { int a; };\n@struct S { int b; };\n",
-    b"@struct S { int a; int a; };\n",
-    b"@struct S { int a, b, *a; };\n",
+    b"@struct S { int a; int a; }; @@struct S { int a, b, *a; };",
     b"@struct S {\n  int a;\n  int b;\n  unsigned int a;\n};\n",
     b"struct S { int a; };\nstruct T { int b, a; struct S S; };\n",
     // Tags, members and other names don't meet.
