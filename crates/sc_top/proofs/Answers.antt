@@ -306,55 +306,39 @@ module _
 
   -- bytes have one answer
   pub one_answer : (c : Command) (text : List ℕ) (s t : Status) → IsAnswer c text s → IsAnswer c text t → SameAnswer s t
+  one_answer c text status.Usage t a b = absurd a
+  one_answer c text status.ReadFault t a b = absurd a
+  one_answer c text status.WriteFault t a b = absurd a
+  one_answer c text status.OutOfMemory t a b = absurd a
+  one_answer c text s status.Usage a b = absurd b
+  one_answer c text s status.ReadFault a b = absurd b
+  one_answer c text s status.WriteFault a b = absurd b
+  one_answer c text s status.OutOfMemory a b = absurd b
   one_answer c text status.Done status.Done a b = refl
   one_answer c text status.Done (status.Refused r) a b = absurd ((sound_output c text a.1.0 a.1.1).refused r b.1)
   one_answer c text status.Done (status.TooLarge f) a b = absurd ((sound_output c text a.1.0 a.1.1).unfit f b.1)
   one_answer c text status.Done (status.TooLong l) a b = absurd (not_both _ text l a.0 b)
   one_answer c text status.Done (status.BadImage n) a b = absurd ((sound_output c text a.1.0 a.1.1).bad n b.1)
-  one_answer c text status.Done status.Usage a b = absurd b
-  one_answer c text status.Done status.ReadFault a b = absurd b
-  one_answer c text status.Done status.WriteFault a b = absurd b
-  one_answer c text status.Done status.OutOfMemory a b = absurd b
   one_answer c text (status.Refused r) status.Done a b = absurd ((sound_output c text b.1.0 b.1.1).refused r a.1)
   one_answer c text (status.Refused r) (status.Refused q) a b = one_refusal c text r q a.1 b.1
   one_answer c text (status.Refused r) (status.TooLarge f) a b = absurd (refused_unfit c text r f a.1 b.1)
   one_answer c text (status.Refused r) (status.TooLong l) a b = absurd (not_both _ text l a.0 b)
   one_answer c text (status.Refused r) (status.BadImage n) a b = absurd (refused_bad c text r n a.1 b.1)
-  one_answer c text (status.Refused r) status.Usage a b = absurd b
-  one_answer c text (status.Refused r) status.ReadFault a b = absurd b
-  one_answer c text (status.Refused r) status.WriteFault a b = absurd b
-  one_answer c text (status.Refused r) status.OutOfMemory a b = absurd b
   one_answer c text (status.TooLarge f) status.Done a b = absurd ((sound_output c text b.1.0 b.1.1).unfit f a.1)
   one_answer c text (status.TooLarge f) (status.Refused r) a b = absurd (refused_unfit c text r f b.1 a.1)
   one_answer c text (status.TooLarge f) (status.TooLarge g) a b = ap status.TooLarge (one_unfit c text f g a.1 b.1)
   one_answer c text (status.TooLarge f) (status.TooLong l) a b = absurd (not_both _ text l a.0 b)
   one_answer c text (status.TooLarge f) (status.BadImage n) a b = absurd (unfit_bad c text f n a.1 b.1)
-  one_answer c text (status.TooLarge f) status.Usage a b = absurd b
-  one_answer c text (status.TooLarge f) status.ReadFault a b = absurd b
-  one_answer c text (status.TooLarge f) status.WriteFault a b = absurd b
-  one_answer c text (status.TooLarge f) status.OutOfMemory a b = absurd b
   one_answer c text (status.TooLong l) status.Done a b = absurd (not_both _ text l b.0 a)
   one_answer c text (status.TooLong l) (status.Refused r) a b = absurd (not_both _ text l b.0 a)
   one_answer c text (status.TooLong l) (status.TooLarge f) a b = absurd (not_both _ text l b.0 a)
   one_answer c text (status.TooLong l) (status.TooLong m) a b = ap status.TooLong (same_some _ l m a.0 b.0)
   one_answer c text (status.TooLong l) (status.BadImage n) a b = absurd (not_both _ text l b.0 a)
-  one_answer c text (status.TooLong l) status.Usage a b = absurd b
-  one_answer c text (status.TooLong l) status.ReadFault a b = absurd b
-  one_answer c text (status.TooLong l) status.WriteFault a b = absurd b
-  one_answer c text (status.TooLong l) status.OutOfMemory a b = absurd b
   one_answer c text (status.BadImage n) status.Done a b = absurd ((sound_output c text b.1.0 b.1.1).bad n a.1)
   one_answer c text (status.BadImage n) (status.Refused r) a b = absurd (refused_bad c text r n b.1 a.1)
   one_answer c text (status.BadImage n) (status.TooLarge f) a b = absurd (unfit_bad c text f n b.1 a.1)
   one_answer c text (status.BadImage n) (status.TooLong l) a b = absurd (not_both _ text l a.0 b)
   one_answer c text (status.BadImage n) (status.BadImage m) a b = ap status.BadImage (one_cause c text n m a.1 b.1)
-  one_answer c text (status.BadImage n) status.Usage a b = absurd b
-  one_answer c text (status.BadImage n) status.ReadFault a b = absurd b
-  one_answer c text (status.BadImage n) status.WriteFault a b = absurd b
-  one_answer c text (status.BadImage n) status.OutOfMemory a b = absurd b
-  one_answer c text status.Usage t a b = absurd a
-  one_answer c text status.ReadFault t a b = absurd a
-  one_answer c text status.WriteFault t a b = absurd a
-  one_answer c text status.OutOfMemory t a b = absurd a
 
   -- good input has no answer but `Done`
   good_is_sound : (c : Command) (text : List ℕ) → IsGood c text → Sound c text
