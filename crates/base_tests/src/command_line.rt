@@ -1,4 +1,4 @@
-use sc_words::{Command, WordsFault, read_command, usage};
+use sc_words::{WordsFault, read_command, usage};
 use std::alloc::{AllocError, Global};
 use std::test::Fail;
 
@@ -11,213 +11,72 @@ fn split(alloc: Global, line: &str) -> Result<Vec<String>, AllocError> {
     Ok(words)
 }
 
-// The command in one line.
-fn told(alloc: Global, read: &Result<Command, WordsFault>) -> Result<String, AllocError> {
-    match read {
-        Ok(Command::Check) => String::from_str(alloc, "check"),
-        Ok(Command::Compile) => String::from_str(alloc, "compile"),
-        Ok(Command::Meaning(options)) => {
-            format!(in alloc;
-                "meaning {} {} {:?}",
-                options.turns,
-                options.events,
-                options.inputs.as_slice()
-            )
-        }
-        Ok(Command::Run(options)) => {
-            format!(in alloc;
-                "run {} {} {:?}",
-                options.steps,
-                options.events,
-                options.inputs.as_slice()
-            )
-        }
-        Ok(Command::Exec(options)) => {
-            format!(in alloc;
-                "exec {} {} {:?}",
-                options.steps,
-                options.events,
-                options.inputs.as_slice()
-            )
-        }
-        Ok(Command::Explain(options, show)) => {
-            format!(in alloc;
-                "explain {} {} {:?} {:?}",
-                options.steps,
-                options.events,
-                options.inputs.as_slice(),
-                show
-            )
-        }
-        Ok(Command::Make(options)) => {
-            format!(in alloc;
-                "make {} {} {}",
-                options.size, options.seed, options.summary
-            )
-        }
-        Err(WordsFault::Usage) => String::from_str(alloc, "usage"),
-        Err(WordsFault::OutOfMemory) => Err(AllocError),
-    }
-}
-
 // What the words of the line are read as.
 fn read(alloc: Global, line: &str) -> Result<String, AllocError> {
     let words = split(alloc, line)?;
-    told(alloc, &read_command(alloc, words.as_slice()))
+    format!(in alloc; "{:?}", read_command(alloc, words.as_slice()))
 }
 
-static NO_COMMANDS: &[&str] = &[
-    "",
-    "-",
-    "--",
-    "--=",
-    "-5",
-    "-h",
-    "-V",
-    "--help",
-    "help",
-    "--version",
-    "version",
-    "help run",
-    "Check",
-    "ru",
-    "checks",
-    "--check",
-    "check check",
-    "check ",
-    "check --steps 1",
-    "check -",
-    "check --",
-    "check --help",
-    "--steps=1 run",
-    "-- run",
-    "compile --in 1",
-];
+// What is no command: lines with `|` between them.
+const NO_COMMANDS: &str = "\
+    |-|--|--=|-5|-h|-V|--help|help|--version|version|help run|Check|ru|checks|--check|check check|check |\
+    check --steps 1|check -|check --|check --help|--steps=1 run|-- run|compile --in 1";
 
-static NO_LIMITS: &[&str] = &[
-    "run --steps 16777217",
-    "run --steps 99999999999999999999999999",
-    "meaning --steps 5",
-    "run --events 4097",
-    "run --events 4294967296",
-    "run --events 4294968320",
-    "run --steps",
-    "run --steps=",
-    "run --steps ",
-    "run --steps -1",
-    "run --steps +1",
-    "run --steps=+1",
-    "run --steps=-0",
-    "run --steps 1e3",
-    "run --steps 0x10",
-    "run --steps==1",
-    "run --steps 1 2",
-    "run --steps --events 1",
-    "run --steps 1 --steps 1",
-    "run --steps=1 --steps 2",
-    "run --stepss 1",
-    "run --steps \u{661}",
-];
+const NO_LIMITS: &str = "\
+    run --steps 16777217|run --steps 99999999999999999999999999|meaning --steps 5|run --events 4097|\
+    run --events 4294967296|run --events 4294968320|run --steps|run --steps=|run --steps |run --steps -1|\
+    run --steps +1|run --steps=+1|run --steps=-0|run --steps 1e3|run --steps 0x10|run --steps==1|run --steps 1 2|\
+    run --steps --events 1|run --steps 1 --steps 1|run --steps=1 --steps 2|run --stepss 1|run --steps \u{661}";
 
-static NO_OPTIONS: &[&str] = &[
-    "run help",
-    "run -- --steps 1",
-    "run --turns 5",
-    "run --step 1",
-    "run -steps 1",
-    "run --Steps 1",
-    "run --=1",
-    "run \u{e9}",
-    "run -\u{e9}",
-    "run --\u{e9}=1",
-    "explain --show 33",
-    "explain --show",
-    "run --show 1",
-    "explain --show 1 --show 1",
-];
+const NO_OPTIONS: &str = "\
+    run help|run -- --steps 1|run --turns 5|run --step 1|run -steps 1|run --Steps 1|run --=1|run \u{e9}|run -\u{e9}|\
+    run --\u{e9}=1|explain --show 33|explain --show|run --show 1|explain --show 1 --show 1";
 
-static NO_LISTS: &[&str] = &[
-    "run --in -5,3",
-    "run --in -5",
-    "run --in 2147483648",
-    "run --in 1,-2147483649",
-    "run --in --in",
-    "run --in",
-    "run --in=",
-    "run --in ",
-    "run --in 1,,2",
-    "run --in 1,",
-    "run --in ,1",
-    "run --in ,",
-    "run --in 1;2",
-    "run --in 1,+2",
-    "run --in 1,-",
-    "run --in 1,--2",
-    "run --in 1 2",
-    "run --in 1 --in 2",
-    "run --in=1=2",
-    "run --in 4294967296",
-];
+const NO_LISTS: &str = "\
+    run --in -5,3|run --in -5|run --in 2147483648|run --in 1,-2147483649|run --in --in|run --in|run --in=|run --in |\
+    run --in 1,,2|run --in 1,|run --in ,1|run --in ,|run --in 1;2|run --in 1,+2|run --in 1,-|run --in 1,--2|\
+    run --in 1 2|run --in 1 --in 2|run --in=1=2|run --in 4294967296";
 
-static NO_PROGRAMS: &[&str] = &[
-    "make",
-    "make --size 1",
-    "make --seed 1",
-    "make --summary",
-    "make --size 0 --seed 1",
-    "make --size 1001 --seed 1",
-    "make --size 1 --seed 4294967296",
-    "make --size 1 --seed",
-    "make --size 1 --seed 1 --summary=1",
-    "make --size 1 --seed 1 --summary=",
-    "make --size 1 --seed 1 --summary 1",
-    "make --size 1 --seed 1 --summary --summary",
-    "make --size 1 --seed 1 --summary true",
-    "make --size --summary 1 --seed 1",
-    "make --size 1 --seed 1 --sum",
-    "make --size 1 --size 1 --seed 1",
-];
+const NO_PROGRAMS: &str = "\
+    make|make --size 1|make --seed 1|make --summary|make --size 0 --seed 1|make --size 1001 --seed 1|\
+    make --size 1 --seed 4294967296|make --size 1 --seed|make --size 1 --seed 1 --summary=1|\
+    make --size 1 --seed 1 --summary=|make --size 1 --seed 1 --summary 1|make --size 1 --seed 1 --summary --summary|\
+    make --size 1 --seed 1 --summary true|make --size --summary 1 --seed 1|make --size 1 --seed 1 --sum|\
+    make --size 1 --size 1 --seed 1";
 
-static COMMANDS: [(&str, &str); 23] = [
-    ("check", "check"),
-    ("compile", "compile"),
-    ("meaning", "meaning 1000000 1024 []"),
-    ("run", "run 1000000 1024 []"),
-    ("exec", "exec 1000000 1024 []"),
-    ("explain", "explain 1000000 1024 [] None"),
-    ("run --steps 0", "run 0 1024 []"),
-    ("run --steps=16777216", "run 16777216 1024 []"),
-    (
-        "run --steps 00000000000000000000000000000000000000007",
-        "run 7 1024 []",
-    ),
-    ("meaning --turns 5", "meaning 5 1024 []"),
-    ("run --events 4096", "run 1000000 4096 []"),
-    ("run --events=0", "run 1000000 0 []"),
-    ("exec --in 5 --events=4 --steps 3", "exec 3 4 [5]"),
-    ("run --in 1,2,3", "run 1000000 1024 [1, 2, 3]"),
-    ("run --in=-5,3", "run 1000000 1024 [-5, 3]"),
-    ("run --in 5,-3", "run 1000000 1024 [5, -3]"),
-    ("run --in=-0,-000", "run 1000000 1024 [0, 0]"),
-    (
-        "run --in 2147483647,-2147483648",
-        "run 1000000 1024 [2147483647, -2147483648]",
-    ),
-    ("explain --show 32", "explain 1000000 1024 [] Some(32)"),
-    ("explain --show=0 --steps 2", "explain 2 1024 [] Some(0)"),
-    (
-        "make --size 1000 --seed 4294967295",
-        "make 1000 4294967295 false",
-    ),
-    ("make --summary --seed=0 --size=1", "make 1 0 true"),
-    ("make --size 1 --summary --seed 0", "make 1 0 true"),
-];
+// A command, and what it is read as.
+const COMMANDS: &str = "\
+check -> Ok(Check)
+compile -> Ok(Compile)
+meaning -> Ok(Meaning(MeaningOptions { turns: 1000000, events: 1024, inputs: Items { items: [] } }))
+run -> Ok(Run(RunOptions { steps: 1000000, events: 1024, inputs: Items { items: [] } }))
+exec -> Ok(Exec(RunOptions { steps: 1000000, events: 1024, inputs: Items { items: [] } }))
+explain -> Ok(Explain(RunOptions { steps: 1000000, events: 1024, inputs: Items { items: [] } }, None))
+run --steps 0 -> Ok(Run(RunOptions { steps: 0, events: 1024, inputs: Items { items: [] } }))
+run --steps=16777216 -> Ok(Run(RunOptions { steps: 16777216, events: 1024, inputs: Items { items: [] } }))
+run --steps 00000000000000000000000000000000000000007 -> \
+Ok(Run(RunOptions { steps: 7, events: 1024, inputs: Items { items: [] } }))
+meaning --turns 5 -> Ok(Meaning(MeaningOptions { turns: 5, events: 1024, inputs: Items { items: [] } }))
+run --events 4096 -> Ok(Run(RunOptions { steps: 1000000, events: 4096, inputs: Items { items: [] } }))
+run --events=0 -> Ok(Run(RunOptions { steps: 1000000, events: 0, inputs: Items { items: [] } }))
+exec --in 5 --events=4 --steps 3 -> Ok(Exec(RunOptions { steps: 3, events: 4, inputs: Items { items: [5] } }))
+run --in 1,2,3 -> Ok(Run(RunOptions { steps: 1000000, events: 1024, inputs: Items { items: [1, 2, 3] } }))
+run --in=-5,3 -> Ok(Run(RunOptions { steps: 1000000, events: 1024, inputs: Items { items: [-5, 3] } }))
+run --in 5,-3 -> Ok(Run(RunOptions { steps: 1000000, events: 1024, inputs: Items { items: [5, -3] } }))
+run --in=-0,-000 -> Ok(Run(RunOptions { steps: 1000000, events: 1024, inputs: Items { items: [0, 0] } }))
+run --in 2147483647,-2147483648 -> \
+Ok(Run(RunOptions { steps: 1000000, events: 1024, inputs: Items { items: [2147483647, -2147483648] } }))
+explain --show 32 -> Ok(Explain(RunOptions { steps: 1000000, events: 1024, inputs: Items { items: [] } }, Some(32)))
+explain --show=0 --steps 2 -> Ok(Explain(RunOptions { steps: 2, events: 1024, inputs: Items { items: [] } }, Some(0)))
+make --size 1000 --seed 4294967295 -> Ok(Make(MakeOptions { size: 1000, seed: 4294967295, summary: false }))
+make --summary --seed=0 --size=1 -> Ok(Make(MakeOptions { size: 1, seed: 0, summary: true }))
+make --size 1 --summary --seed 0 -> Ok(Make(MakeOptions { size: 1, seed: 0, summary: true }))";
 
 #[test]
 fn refusals(rt: HostRuntime) -> Result<(), Fail> {
     for lines in [NO_COMMANDS, NO_LIMITS, NO_OPTIONS, NO_LISTS, NO_PROGRAMS] {
-        for line in lines {
-            assert!(rt; read(rt.alloc(), line)?.as_str() == "usage", "{line}");
+        for line in lines.split('|') {
+            assert!(rt; read(rt.alloc(), line)?.as_str() == "Err(Usage)", "{line}");
         }
     }
     Ok(())
@@ -225,7 +84,10 @@ fn refusals(rt: HostRuntime) -> Result<(), Fail> {
 
 #[test]
 fn commands(rt: HostRuntime) -> Result<(), Fail> {
-    for (line, want) in COMMANDS {
+    for row in COMMANDS.lines() {
+        let (line, want) = row
+            .split_once(" -> ")
+            .ok_or("a command, and what it is read as")?;
         assert!(rt; read(rt.alloc(), line)?.as_str() == want, "{line}");
     }
     Ok(())
