@@ -1,56 +1,15 @@
-use sc_base::{Name, OutOfMemory, Text, Words};
-use sc_event::CompId;
-use sc_image::{
-    CompPart, CompParts, ExportParts, Image, ImageFault, ImageParts, ImportParts, image_interfaces,
-    read_image, write_image,
-};
+use sc_image::{ImageFault, image_interfaces, read_image, write_image};
 use std::alloc::Global;
 
-// The image of `seven`.
+// The image of `seven`: a compartment `M` that outputs 7 and returns 0.
 const SEVEN: &[u8] = b"SCIM\x01\x00\x01\x00\x00\x00\x00\x01\
 \x01M\x02\x00\x00\x00\x00\
 \x14\x00\x00\x00\
 \x13\x05\x70\x00\x93\x08\x20\x00\x73\x00\x00\x00\x13\x05\x00\x00\x67\x80\x00\x00\
 \x00\x00\x00\x00";
 
-// A compartment `M` that outputs 7 and returns 0.
-#[tactic(auto, unfolding(sc_base::specs::Identifier::is_name))]
-fn seven(alloc: Global) -> Result<Image, OutOfMemory> {
-    let code = [
-        0x0070_0513,
-        0x0020_0893,
-        0x0000_0073,
-        0x0000_0513,
-        0x0000_8067,
-    ];
-    let comp = CompPart {
-        name: Name::new(b"M").unwrap(),
-        input: false,
-        output: true,
-        exports: ExportParts::new(alloc),
-        imports: ImportParts::new(alloc),
-        code: Words::from_slice(alloc, &code)?,
-        globals: Text::new(alloc),
-    };
-    let mut comps = CompParts::new(alloc);
-    comps.push(comp)?;
-    Ok(Image::new(ImageParts {
-        main: CompId::first(),
-        entry: 0x0100_0000,
-        comps,
-    }))
-}
-
 #[test]
-fn writes_an_image(rt: HostRuntime) -> Result<(), OutOfMemory> {
-    let image = seven(rt.alloc())?;
-    let text = write_image(rt.alloc(), &image)?;
-    assert_eq!(rt; text.as_bytes(), SEVEN);
-    Ok(())
-}
-
-#[test]
-fn reads_an_image(rt: HostRuntime) -> Result<(), ImageFault> {
+fn reads_and_writes_an_image(rt: HostRuntime) -> Result<(), ImageFault> {
     let image = read_image(rt.alloc(), SEVEN)?;
     let text = write_image(rt.alloc(), &image)?;
     assert_eq!(rt; text.as_bytes(), SEVEN);

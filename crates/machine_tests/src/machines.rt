@@ -1,51 +1,52 @@
-ghost use Rattle.sc_image.specs.Prelude.{most_globals, stretch};
-ghost use Rattle.std.specs.Prelude.{◌≡◌, ◌*◌, ◌<◌, ◌≤◌, false, [], ◌∷◌, codes, if◌then◌else◌, length, IfOk};
+ghost use Rattle.std.specs.Prelude.{◌≡◌, ◌<◌, length, IfOk};
 
 use sc_base::Stop::{self, Ended, EventsOut, StepsOut, Trap};
-use sc_base::{Name, OutOfMemory, Text, TrapReason, Words};
+use sc_base::{OutOfMemory, Text, TrapReason};
 use sc_event::{Args, CompId, Event};
-use sc_image::{
-    CompPart, CompParts, ExportPart, ExportParts, Image, ImageParts, ImportPart, ImportParts,
-};
+use sc_image::{Image, read_image};
 use sc_machine::Machine;
 use sc_store::FlatStore;
 use std::alloc::Global;
+use std::test::Fail;
 
 const START: u32 = 0x0100_0000;
 
 const STACK_TOP: u32 = 0x1001_0000;
 
-#[tactic(auto, unfolding(sc_base::specs::Identifier::is_name))]
-fn a_name() -> Name
-    ensures { result ≡ codes "A" }
-{
-    Name::new(b"A").unwrap()
+// An image's compartment: its name with what it offers and may call, and its code and globals.
+type Part<'a> = (&'a [u8], &'a [u32], &'a [u8]);
+
+fn append_part(file: &mut Text, part: Part<'_>) -> Result<(), OutOfMemory> {
+    let (interface, code, globals) = part;
+    file.append(interface)?;
+    file.append(&(code.len() as u32).saturating_mul(4).to_le_bytes())?;
+    for word in code {
+        file.append(&word.to_le_bytes())?;
+    }
+    file.append(&(globals.len() as u32).to_le_bytes())?;
+    file.append(globals)
+}
+
+// The image of these compartments, the first of which is the main one.
+fn image(alloc: Global, parts: &[Part<'_>]) -> Result<Image, Fail> {
+    let mut file = Text::new(alloc);
+    file.append(b"SCIM\x01\0")?;
+    file.append(&[parts.len() as u8, 0])?;
+    file.append(&START.to_le_bytes())?;
+    for part in parts {
+        append_part(&mut file, *part)?;
+    }
+    Ok(read_image(alloc, file.as_bytes())?)
 }
 
 // One compartment with this code and these globals, which may read inputs and may output or not.
-fn alone(alloc: Global, output: bool, code: &[u32], globals: &[u8]) -> Result<Image, OutOfMemory>
-    requires some { 0 < length code.now }
-    requires short { 4 * length code.now ≤ stretch }
-    requires few { length globals.now ≤ most_globals }
-{
-    let mut bytes = Text::new(alloc);
-    bytes.append(globals)?;
-    let comp = CompPart {
-        name: a_name(),
-        input: true,
-        output,
-        exports: ExportParts::new(alloc),
-        imports: ImportParts::new(alloc),
-        code: Words::from_slice(alloc, code)?,
-        globals: bytes,
+fn alone(alloc: Global, output: bool, code: &[u32], globals: &[u8]) -> Result<Image, Fail> {
+    let interface: &[u8] = if output {
+        b"\x01A\x03\0\0\0\0"
+    } else {
+        b"\x01A\x01\0\0\0\0"
     };
-    let mut comps = CompParts::new(alloc);
-    comps.push(comp)?;
-    Ok(Image::new(ImageParts {
-        main: CompId::first(),
-        entry: START,
-        comps,
-    }))
+    image(alloc, &[(interface, code, globals)])
 }
 
 fn loaded(
@@ -69,7 +70,7 @@ const SEVEN: [u32; 5] = [
 ];
 
 #[test]
-fn outputs_and_ends(rt: HostRuntime) -> Result<(), OutOfMemory> {
+fn outputs_and_ends(rt: HostRuntime) -> Result<(), Fail> {
     let comp = CompId::first();
     let all = [Event::Out { comp, value: 7 }, Event::End { comp, value: 0 }];
     let no_import = trap(TrapReason::NoImport, 8);
@@ -117,7 +118,7 @@ fn trap(reason: TrapReason, offset: u32) -> Stop
 
 // A half word is all that the compartment owns behind its stack, so the load of a word there traps.
 #[test]
-fn owns_a_half_word(rt: HostRuntime) -> Result<(), OutOfMemory> {
+fn owns_a_half_word(rt: HostRuntime) -> Result<(), Fail> {
     // lhu a0,0(sp); lw a0,0(sp)
     let image = alone(rt.alloc(), true, &[0x0001_5503, 0x0001_2503], &[0x34, 0x12])?;
     let mut machine = loaded(rt.alloc(), image, &[], 9)?;
@@ -139,7 +140,7 @@ fn owns_a_half_word(rt: HostRuntime) -> Result<(), OutOfMemory> {
 
 // Loads, stores, a branch and a product.
 #[test]
-fn loads_and_stores(rt: HostRuntime) -> Result<(), OutOfMemory> {
+fn loads_and_stores(rt: HostRuntime) -> Result<(), Fail> {
     // addi a0,x0,-128; sw a0,-4(sp); lb a1,-4(sp); lbu a2,-4(sp); bltu a2,a1,8; ebreak;
     // mul a0,a1,a2; sh a2,-6(sp); lh a3,-6(sp); jal x0,8; ebreak; lw a4,-8(sp); lw a5,2(sp)
     let code = [
@@ -176,7 +177,7 @@ fn loads_and_stores(rt: HostRuntime) -> Result<(), OutOfMemory> {
 }
 
 #[test]
-fn reads_inputs(rt: HostRuntime) -> Result<(), OutOfMemory> {
+fn reads_inputs(rt: HostRuntime) -> Result<(), Fail> {
     let comp = CompId::first();
     // addi a7,x0,1; ecall; ecall; ecall; ebreak
     let code = [
@@ -206,7 +207,7 @@ fn reads_inputs(rt: HostRuntime) -> Result<(), OutOfMemory> {
 
 // One instruction that can't be executed leaves everything as it was.
 #[test]
-fn traps_change_nothing(rt: HostRuntime) -> Result<(), OutOfMemory> {
+fn traps_change_nothing(rt: HostRuntime) -> Result<(), Fail> {
     for (word, reason) in [
         (0, TrapReason::Illegal),
         // jalr x1,0(x1), which is no call; jalr x0,2(x1)
@@ -246,101 +247,28 @@ fn second() -> CompId
     CompId::new(1).unwrap()
 }
 
-// What `A` takes of `B`: its function, or nothing.
-fn taken(alloc: Global, imported: bool) -> Result<ImportParts, OutOfMemory>
-    ensures { IfOk result (λ imports. imports ≡ (if imported then record { comp = 1; index = 0 } ∷ [] else [])) }
-{
-    let mut imports = ImportParts::new(alloc);
-    if !imported {
-        return Ok(imports);
-    }
-    imports.push(ImportPart {
-        comp: second(),
-        index: 0,
-    })?;
-    Ok(imports)
-}
-
-#[tactic(auto, unfolding(sc_base::specs::Identifier::is_name))]
-fn b_name() -> Name
-    ensures { result ≡ codes "B" }
-{
-    Name::new(b"B").unwrap()
-}
-
-#[tactic(auto, unfolding(sc_base::specs::Identifier::is_name))]
-fn f_name() -> Name
-    ensures { result ≡ codes "f" }
-{
-    Name::new(b"f").unwrap()
-}
-
-// `A`, which may call the function of `B` or not.
-fn caller(alloc: Global, imported: bool, code: &[u32]) -> Result<CompPart, OutOfMemory>
-    ensures { IfOk result (λ comp. comp ≡ record {
-      name = codes "A";
-      input = false;
-      output = false;
-      exports = [];
-      imports = (if imported then record { comp = 1; index = 0 } ∷ [] else []);
-      code = code.now;
-      globals = [];
-    }) }
-{
-    Ok(CompPart {
-        name: a_name(),
-        input: false,
-        output: false,
-        exports: ExportParts::new(alloc),
-        imports: taken(alloc, imported)?,
-        code: Words::from_slice(alloc, code)?,
-        globals: Text::new(alloc),
-    })
-}
-
-// `B`, whose function `f` takes nothing, gives nothing and returns at once.
-fn callee(alloc: Global) -> Result<CompPart, OutOfMemory>
-    ensures { IfOk result (λ comp. comp ≡ record {
-      name = codes "B";
-      input = false;
-      output = false;
-      exports = record { name = codes "f"; params = 0; result = false; entry = 0x01100000 } ∷ [];
-      imports = [];
-      code = 0x00008067 ∷ 0x00008067 ∷ [];
-      globals = [];
-    }) }
-{
-    let mut exports = ExportParts::new(alloc);
-    exports.push(ExportPart {
-        name: f_name(),
-        params: 0,
-        result: false,
-        entry: 0x0110_0000,
-    })?;
-    Ok(CompPart {
-        name: b_name(),
-        input: false,
-        output: false,
-        exports,
-        imports: ImportParts::new(alloc),
-        code: Words::from_slice(alloc, &[0x0000_8067, 0x0000_8067])?,
-        globals: Text::new(alloc),
-    })
-}
-
-fn pair(alloc: Global, imported: bool, code: &[u32]) -> Result<Image, OutOfMemory>
-    requires some { 0 < length code.now }
-    requires short { 4 * length code.now ≤ stretch }
+// `A`, which may call the function of `B` or not, and `B`, whose function `f` takes nothing and returns at once.
+fn pair(alloc: Global, imported: bool, code: &[u32]) -> Result<Image, Fail>
     ensures { IfOk result (λ image. length image.comps ≡ 2) }
 {
-    let mut comps = CompParts::new(alloc);
-    comps.push(caller(alloc, imported, code)?)?;
-    comps.push(callee(alloc)?)?;
-    Ok(Image::new(ImageParts {
-        main: CompId::first(),
-        entry: START,
-        comps,
-    }))
+    let first: &[u8] = if imported {
+        b"\x01A\0\0\0\x01\0\x01\0\0"
+    } else {
+        b"\x01A\0\0\0\0\0"
+    };
+    let second = b"\x01B\0\x01\0\x01f\0\0\0\0\x10\x01\0\0";
+    let image = image(
+        alloc,
+        &[
+            (first, code, &[]),
+            (second, &[0x0000_8067, 0x0000_8067], &[]),
+        ],
+    )?;
+    if image.parts().comps.len() == 2 {
+        Ok(image)
+    } else {
+        Err("two compartments")?
+    }
 }
 
 // lui x5,0x01100; jalr x1,4(x5): a jump past the entry of `f`
@@ -350,7 +278,7 @@ const PAST_ENTRY: [u32; 2] = [0x0110_02b7, 0x0042_80e7];
 const CALL: [u32; 3] = [0x0110_02b7, 0x0002_80e7, 0x0000_0073];
 
 #[test]
-fn refuses_other_jumps(rt: HostRuntime) -> Result<(), OutOfMemory> {
+fn refuses_other_jumps(rt: HostRuntime) -> Result<(), Fail> {
     for (imported, called, reason) in [
         (false, false, TrapReason::BadJump),
         (true, false, TrapReason::BadJump),
@@ -367,7 +295,7 @@ fn refuses_other_jumps(rt: HostRuntime) -> Result<(), OutOfMemory> {
 }
 
 #[test]
-fn calls_and_returns(rt: HostRuntime) -> Result<(), OutOfMemory> {
+fn calls_and_returns(rt: HostRuntime) -> Result<(), Fail> {
     let (a, b) = (CompId::first(), second());
     let image = pair(rt.alloc(), true, &CALL)?;
     let mut machine = loaded(rt.alloc(), image, &[], 9)?;
@@ -401,7 +329,7 @@ fn calls_and_returns(rt: HostRuntime) -> Result<(), OutOfMemory> {
 
 // Each compartment owns its own stack alone.
 #[test]
-fn owns_its_part(rt: HostRuntime) -> Result<(), OutOfMemory> {
+fn owns_its_part(rt: HostRuntime) -> Result<(), Fail> {
     let image = pair(rt.alloc(), true, &CALL)?;
     let mut machine = loaded(rt.alloc(), image, &[], 9)?;
     assert_eq!(rt; machine.run(2), StepsOut);
