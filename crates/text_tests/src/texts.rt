@@ -21,87 +21,6 @@ int x;
     ),
 ];
 
-// A text, the first phase that it fails, and the line.
-const REFUSED: [(&[u8], Phase, u32); 8] = [
-    // A compartment line stands inside the comment, so the comment has no end.
-    (
-        b"/*
-#pragma compartment Main
-*/
-",
-        Phase::Lex,
-        1,
-    ),
-    // A bad compartment line comes before an earlier bad byte.
-    (
-        b"@
-#pragma compartment 1
-",
-        Phase::Lex,
-        2,
-    ),
-    (
-        b"
-#pragma compartment A
-
-#
-@
-",
-        Phase::Lex,
-        4,
-    ),
-    // A bad byte of a later section comes before a token that can't go on.
-    (
-        b"#pragma compartment A
-int;
-#pragma compartment B
-@
-",
-        Phase::Lex,
-        4,
-    ),
-    // The preamble has no token.
-    (
-        b"
-int x;
-#pragma compartment A
-int;
-",
-        Phase::Syntax,
-        2,
-    ),
-    // The first bad section decides.
-    (
-        b"#pragma compartment A
-#pragma compartment B
-int;
-#pragma compartment C
-x;
-",
-        Phase::Syntax,
-        3,
-    ),
-    // Where a section ends early, its last token decides.
-    (
-        b"
-#pragma compartment A
-int f(void) {
-  return 0;
-
-",
-        Phase::Syntax,
-        4,
-    ),
-    (
-        b"
-
-#pragma compartment A
-)",
-        Phase::Syntax,
-        4,
-    ),
-];
-
 #[test]
 fn sections_have_their_lines(rt: HostRuntime) -> Result<(), Fail> {
     for (text, lines) in READ {
@@ -113,14 +32,6 @@ fn sections_have_their_lines(rt: HostRuntime) -> Result<(), Fail> {
         assert!(rt; found.as_slice() == lines);
     }
     Ok(())
-}
-
-#[test]
-fn the_first_phase_that_a_text_fails(rt: HostRuntime) {
-    for (text, phase, line) in REFUSED {
-        let fault = read_trees(rt.alloc(), text).err();
-        assert!(rt; fault == Some(TextFault::Refused(Refusal { phase, line })));
-    }
 }
 
 // A section with a declaration, and its height.
