@@ -20,22 +20,23 @@ fn read(alloc: Global, line: &str) -> Result<String, AllocError> {
 // What is no command: lines with `|` between them.
 const NO_COMMANDS: &str = "\
     |-|--|--=|-5|-h|-V|--help|help|--version|version|help run|Check|ru|checks|--check|check check|check |\
-    check --steps 1|check -|check --|check --help|--steps=1 run|-- run|compile --in 1";
+    check --steps 1|check -|check --|check --help|--steps=1 run|-- run|compile --in 1|build|Run|run -h|run --";
 
 const NO_LIMITS: &str = "\
     run --steps 16777217|run --steps 99999999999999999999999999|meaning --steps 5|run --events 4097|\
     run --events 4294967296|run --events 4294968320|run --steps|run --steps=|run --steps |run --steps -1|\
     run --steps +1|run --steps=+1|run --steps=-0|run --steps 1e3|run --steps 0x10|run --steps==1|run --steps 1 2|\
-    run --steps --events 1|run --steps 1 --steps 1|run --steps=1 --steps 2|run --stepss 1|run --steps \u{661}";
+    run --steps --events 1|run --steps 1 --steps 1|run --steps=1 --steps 2|run --stepss 1|run --steps \u{661}|\
+    run --steps=1 --steps 1|run --steps --events=1|run --steps 1a";
 
 const NO_OPTIONS: &str = "\
     run help|run -- --steps 1|run --turns 5|run --step 1|run -steps 1|run --Steps 1|run --=1|run \u{e9}|run -\u{e9}|\
-    run --\u{e9}=1|explain --show 33|explain --show|run --show 1|explain --show 1 --show 1";
+    run --\u{e9}=1|explain --show 33|explain --show|run --show 1|explain --show 1 --show 1|run --speed 1";
 
 const NO_LISTS: &str = "\
     run --in -5,3|run --in -5|run --in 2147483648|run --in 1,-2147483649|run --in --in|run --in|run --in=|run --in |\
     run --in 1,,2|run --in 1,|run --in ,1|run --in ,|run --in 1;2|run --in 1,+2|run --in 1,-|run --in 1,--2|\
-    run --in 1 2|run --in 1 --in 2|run --in=1=2|run --in 4294967296";
+    run --in 1 2|run --in 1 --in 2|run --in=1=2|run --in 4294967296|run --in -|run --in=-2147483649";
 
 const NO_PROGRAMS: &str = "\
     make|make --size 1|make --seed 1|make --summary|make --size 0 --seed 1|make --size 1001 --seed 1|\
@@ -59,6 +60,8 @@ Ok(Run(RunOptions { steps: 7, events: 1024, inputs: Items { items: [] } }))
 meaning --turns 5 -> Ok(Meaning(MeaningOptions { turns: 5, events: 1024, inputs: Items { items: [] } }))
 run --events 4096 -> Ok(Run(RunOptions { steps: 1000000, events: 4096, inputs: Items { items: [] } }))
 run --events=0 -> Ok(Run(RunOptions { steps: 1000000, events: 0, inputs: Items { items: [] } }))
+exec --steps 0 -> Ok(Exec(RunOptions { steps: 0, events: 1024, inputs: Items { items: [] } }))
+run --in 0,00,007 --steps=0016 -> Ok(Run(RunOptions { steps: 16, events: 1024, inputs: Items { items: [0, 0, 7] } }))
 exec --in 5 --events=4 --steps 3 -> Ok(Exec(RunOptions { steps: 3, events: 4, inputs: Items { items: [5] } }))
 run --in 1,2,3 -> Ok(Run(RunOptions { steps: 1000000, events: 1024, inputs: Items { items: [1, 2, 3] } }))
 run --in=-5,3 -> Ok(Run(RunOptions { steps: 1000000, events: 1024, inputs: Items { items: [-5, 3] } }))
