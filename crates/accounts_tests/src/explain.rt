@@ -4,12 +4,10 @@ use memory_runs::Run;
 use std::alloc::Global;
 use std::test::Fail;
 
-const ACCOUNTS_INPUTS: &str = "3,1,2,500,3,2,2,200,5,1,3,40,7,99,3,2,5,10,0";
-
 // A run, and what it must write.
 #[derive(Clone, Copy)]
 struct Case<'a> {
-    words: &'a [&'a str],
+    words: &'a str,
     program: &'a [u8],
     want: &'a [u8],
 }
@@ -23,7 +21,7 @@ fn told(alloc: Global, case: Case) -> Result<bool, Fail> {
 fn a_blamed_compartment_is_replaced(rt: HostRuntime) -> Result<(), Fail> {
     let cases: [Case; 4] = [
         Case {
-            words: &["explain"],
+            words: "explain",
             program: STORE,
             want: b"call Main Net put 4 9
 ret Net Main 9
@@ -35,7 +33,7 @@ replace Net after 1 OutOfBounds line 6
 ",
         },
         Case {
-            words: &["explain"],
+            words: "explain",
             program: REENTRY_BLAMED,
             want: b"call Main A f 2
 call A B g 5
@@ -51,7 +49,7 @@ replace A after 1 OutOfBounds line 10
 ",
         },
         Case {
-            words: &["explain"],
+            words: "explain",
             program: EXTREME_ARGUMENTS,
             want: b"call Main A f -2147483648 -1
 call A B g -2147483648 -1
@@ -65,7 +63,7 @@ replace A after 1 OutOfBounds line 9
 ",
         },
         Case {
-            words: &["explain", "--in", ACCOUNTS_INPUTS],
+            words: "explain --in 3,1,2,500,3,2,2,200,5,1,3,40,7,99,3,2,5,10,0",
             program: ACCOUNTS,
             want: b"in Reader 3
 in Reader 1
@@ -126,22 +124,22 @@ replace Reader after 24 OutOfBounds line 16
 fn the_first_text_is_the_program(rt: HostRuntime) -> Result<(), Fail> {
     let cases: [Case; 4] = [
         Case {
-            words: &["explain", "--show", "0"],
+            words: "explain --show 0",
             program: STORE,
             want: STORE,
         },
         Case {
-            words: &["explain", "--show", "0"],
+            words: "explain --show 0",
             program: REENTRY_BLAMED,
             want: REENTRY_BLAMED,
         },
         Case {
-            words: &["explain", "--show", "0"],
+            words: "explain --show 0",
             program: EXTREME_ARGUMENTS,
             want: EXTREME_ARGUMENTS,
         },
         Case {
-            words: &["explain", "--show", "0", "--in", ACCOUNTS_INPUTS],
+            words: "explain --show 0 --in 3,1,2,500,3,2,2,200,5,1,3,40,7,99,3,2,5,10,0",
             program: ACCOUNTS,
             want: ACCOUNTS,
         },
@@ -156,7 +154,7 @@ fn the_first_text_is_the_program(rt: HostRuntime) -> Result<(), Fail> {
 fn a_later_text_performs(rt: HostRuntime) -> Result<(), Fail> {
     let cases: [Case; 3] = [
         Case {
-            words: &["explain", "--show", "1"],
+            words: "explain --show 1",
             program: STORE,
             want: b"#pragma compartment Main
 #pragma import Net put
@@ -179,7 +177,7 @@ int put(int bt_0, int bt_1) {
 ",
         },
         Case {
-            words: &["explain", "--show", "1"],
+            words: "explain --show 1",
             program: REENTRY_BLAMED,
             want: b"#pragma compartment Main
 #pragma import A f
@@ -219,7 +217,7 @@ int g(int v) {
 ",
         },
         Case {
-            words: &["explain", "--show", "1"],
+            words: "explain --show 1",
             program: EXTREME_ARGUMENTS,
             want: b"#pragma compartment Main
 #pragma import A f

@@ -39,17 +39,10 @@ enum Verdict {
 
 // What the program tells of a text.
 fn is_told(alloc: Global, matter: &Matter, text: &[u8], want: &[u8]) -> Result<bool, Fail> {
-    let events = behind(matter.trace).to_string(alloc)?;
-    let turns = turns(matter.trace).to_string(alloc)?;
-    let words = [
-        "meaning",
-        matter.inputs.word,
-        "--turns",
-        turns.as_str(),
-        "--events",
-        events.as_str(),
-    ];
-    let ran = Run::new(&words, text).run(alloc)?;
+    let (events, turns) = (behind(matter.trace), turns(matter.trace));
+    let word = matter.inputs.word;
+    let words = format!(in alloc; "meaning {word} --turns {turns} --events {events}")?;
+    let ran = Run::new(words.as_str(), text).run(alloc)?;
     Ok(ran.status == 0 && ran.out.as_slice() == want)
 }
 

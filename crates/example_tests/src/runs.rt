@@ -14,11 +14,7 @@ pub(crate) struct Session<'a> {
 
 // Whether the program writes what the session shows.
 fn is_as_shown(alloc: Global, session: Session) -> Result<bool, Fail> {
-    let mut words = Vec::new(alloc);
-    for word in session.words.split(' ') {
-        words.push(word)?;
-    }
-    let ran = Run::new(&words, session.input.text()).run(alloc)?;
+    let ran = Run::new(session.words, session.input.text()).run(alloc)?;
     let (shown, silent) = if ran.status == 0 {
         (&ran.out, &ran.err)
     } else {

@@ -41,17 +41,16 @@ main Main
 
 #[test]
 fn a_program_is_made(rt: HostRuntime) -> Result<(), Fail> {
-    let ran = Run::new(&["make", "--size", "1", "--seed", "0"], b"").run(rt.alloc())?;
-    assert_eq!(rt; ran.status, 0);
-    assert!(rt; ran.out.as_slice() == ONE_FUNCTION);
+    let ran = Run::new("make --size 1 --seed 0", b"").run(rt.alloc())?;
+    assert!(rt; ran.wrote(0, ONE_FUNCTION, b""));
     Ok(())
 }
 
 #[test]
 fn a_made_program_has_a_compartment_for_each_worker(rt: HostRuntime) -> Result<(), Fail> {
-    let made = Run::new(&["make", "--size", "2", "--seed", "1"], b"").run(rt.alloc())?;
+    let made = Run::new("make --size 2 --seed 1", b"").run(rt.alloc())?;
     assert_eq!(rt; made.status, 0);
-    let checked = Run::new(&["check"], &made.out).run(rt.alloc())?;
+    let checked = Run::new("check", &made.out).run(rt.alloc())?;
     assert_eq!(rt; checked.status, 0);
     assert!(rt; checked.out.as_slice() == TWO_FACES);
     Ok(())
@@ -59,45 +58,35 @@ fn a_made_program_has_a_compartment_for_each_worker(rt: HostRuntime) -> Result<(
 
 #[test]
 fn a_program_is_summed_up(rt: HostRuntime) -> Result<(), Fail> {
-    let cases: [(&[&str], &[u8]); 2] = [
+    let cases: [(&str, &[u8]); 2] = [
         (
-            &["make", "--size", "2", "--seed=1", "--summary"],
+            "make --size 2 --seed=1 --summary",
             b"functions 2\ncompartments 3\nevents 7\nsum 3181115\nstop ended\nchain 0\n",
         ),
         (
-            &["make", "--size", "1", "--seed", "0", "--summary"],
+            "make --size 1 --seed 0 --summary",
             b"functions 1\ncompartments 2\nevents 4\nsum 1010352\nstop ended\nchain 0\n",
         ),
     ];
     for (words, want) in cases {
         let ran = Run::new(words, b"").run(rt.alloc())?;
-        assert_eq!(rt; ran.status, 0);
-        assert!(rt; ran.out.as_slice() == want);
+        assert!(rt; ran.wrote(0, want, b""));
     }
     Ok(())
 }
 
 #[test]
 fn a_summary_is_the_same_again(rt: HostRuntime) -> Result<(), Fail> {
-    let words = ["make", "--size", "200", "--seed", "7", "--summary"];
-    let ran = Run::new(&words, b"").run(rt.alloc())?;
-    let again = Run::new(&words, b"").run(rt.alloc())?;
-    assert_eq!(rt; ran.status, 0);
-    assert!(rt;
-        ran.out
-            .starts_with(b"functions 200\ncompartments 32\nevents 601\n")
-    );
-    assert!(rt; ran.out.ends_with(b"stop ended\nchain 0\n"));
-    assert!(rt; ran.out.as_slice() == again.out.as_slice());
+    let words = "make --size 200 --seed 7 --summary";
+    let ran = Run::new(words, b"").run(rt.alloc())?;
+    let again = Run::new(words, b"").run(rt.alloc())?;
+    assert!(rt; ran.wrote(0, again.out.as_slice(), b""));
     Ok(())
 }
 
 #[test]
 fn nothing_is_read(rt: HostRuntime) -> Result<(), Fail> {
-    let cases: [&[&str]; 2] = [
-        &["make", "--size", "3", "--seed", "5"],
-        &["make", "--size", "3", "--seed", "5", "--summary"],
-    ];
+    let cases: [&str; 2] = ["make --size 3 --seed 5", "make --size 3 --seed 5 --summary"];
     for words in cases {
         let ran = Run::new(words, b"left").run(rt.alloc())?;
         assert_eq!(rt; ran.status, 0);

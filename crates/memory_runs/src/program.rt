@@ -10,8 +10,8 @@ const ROOM: u32 = 1 << 20;
 /// A run, and where it fails.
 #[derive(Clone, Copy)]
 pub struct Run<'a> {
-    /// The words of the command line.
-    pub words: &'a [&'a str],
+    /// The words of the command line, with blanks between them.
+    pub words: &'a str,
     /// What is read.
     pub input: &'a [u8],
     /// The numbers of the reads that fail.
@@ -24,7 +24,7 @@ pub struct Run<'a> {
 
 impl<'a> Run<'a> {
     /// A run in which nothing fails.
-    pub fn new(words: &'a [&'a str], input: &'a [u8]) -> Run<'a> {
+    pub fn new(words: &'a str, input: &'a [u8]) -> Run<'a> {
         Run {
             words,
             input,
@@ -37,7 +37,7 @@ impl<'a> Run<'a> {
     /// Runs the program.
     pub fn run(self, alloc: Global) -> Result<Ran, OutOfMemory> {
         let mut words = Vec::new(alloc);
-        for word in self.words {
+        for word in self.words.split_ascii_whitespace() {
             words.push(word.to_string(alloc)?)?;
         }
         let mut source = MemSource::new(alloc, self.input, self.failing_reads)?;
@@ -64,4 +64,12 @@ pub struct Ran {
     pub err: Vec<u8>,
     /// How many bytes of the input were left.
     pub unread: usize,
+}
+
+impl Ran {
+    /// Whether all was read, and this status answered and this written.
+    pub fn wrote(&self, status: u8, out: &[u8], err: &[u8]) -> bool {
+        let same = self.status == status && self.out.as_slice() == out;
+        same && self.err.as_slice() == err && self.unread == 0
+    }
 }

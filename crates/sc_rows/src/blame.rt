@@ -114,7 +114,7 @@ fn told_otherwise(alloc: Global, cases: &[Blamed]) -> Result<Vec<usize>, Fail> {
         let mut want = b"stop blamed M".to_vec(alloc)?;
         want.extend_from_slice(last_comment(section))?;
         want.push(b'\n')?;
-        let ran = Run::new(&["meaning"], &text).run(alloc)?;
+        let ran = Run::new("meaning", &text).run(alloc)?;
         if ran.status != 0 || ran.out.as_slice() != want.as_slice() {
             wrong.push(place)?;
         }

@@ -40,11 +40,8 @@ int main(void) {}
         ),
     ];
     for (text, want) in cases {
-        let ran = Run::new(&["check"], text).run(rt.alloc())?;
-        assert_eq!(rt; ran.status, 0);
-        assert!(rt; ran.out.as_slice() == want);
-        assert_eq!(rt; ran.err.len(), 0);
-        assert_eq!(rt; ran.unread, 0);
+        let ran = Run::new("check", text).run(rt.alloc())?;
+        assert!(rt; ran.wrote(0, want, b""));
     }
     Ok(())
 }
@@ -90,11 +87,8 @@ int main(void) { return 0; }
     ];
     for (text, err) in cases {
         for word in ["check", "meaning", "run"] {
-            let ran = Run::new(&[word], text).run(rt.alloc())?;
-            assert_eq!(rt; ran.status, 3);
-            assert_eq!(rt; ran.out.len(), 0);
-            assert!(rt; ran.err.as_slice() == err);
-            assert_eq!(rt; ran.unread, 0);
+            let ran = Run::new(word, text).run(rt.alloc())?;
+            assert!(rt; ran.wrote(3, b"", err));
         }
     }
     Ok(())

@@ -33,16 +33,16 @@ int main(void) {
 }
 ";
 
-const RUNS: &[(&[&str], &[u8], &[u8])] = &[
-    (&["run"], STORE, STORE_TOLD),
-    (&["run"], TWO_STORES, TWO_STORES_TOLD),
+const RUNS: &[(&str, &[u8], &[u8])] = &[
+    ("run", STORE, STORE_TOLD),
+    ("run", TWO_STORES, TWO_STORES_TOLD),
     (
-        &["run"],
+        "run",
         MIN_BY_MINUS_ONE,
         b"out Main -2147483648\nend Main 0\nstop ended\n",
     ),
     (
-        &["run", "--in=-5,3"],
+        "run --in=-5,3",
         INPUTS,
         b"in Main -5\nin Main 3\nin Main 0\nout Main -2\nend Main 0\nstop ended\n",
     ),
@@ -52,16 +52,14 @@ const RUNS: &[(&[&str], &[u8], &[u8])] = &[
 fn undefined_accesses_and_arithmetic_go_on_in_the_machine(rt: HostRuntime) -> Result<(), Fail> {
     for (words, text, want) in RUNS {
         let ran = Run::new(words, text).run(rt.alloc())?;
-        assert_eq!(rt; ran.status, 0);
-        assert!(rt; ran.out.as_slice() == *want);
-        assert_eq!(rt; ran.unread, 0);
+        assert!(rt; ran.wrote(0, *want, b""));
     }
     Ok(())
 }
 
 #[test]
 fn a_full_stack_traps(rt: HostRuntime) -> Result<(), Fail> {
-    let ran = Run::new(&["run", "--steps", "16777216"], ENDLESS_RECURSION).run(rt.alloc())?;
+    let ran = Run::new("run --steps 16777216", ENDLESS_RECURSION).run(rt.alloc())?;
     assert_eq!(rt; ran.status, 0);
     assert!(rt; ran.out.starts_with(b"stop trap owner 0x010000"));
     Ok(())
@@ -69,11 +67,10 @@ fn a_full_stack_traps(rt: HostRuntime) -> Result<(), Fail> {
 
 #[test]
 fn a_written_image_runs_as_its_text_does(rt: HostRuntime) -> Result<(), Fail> {
-    let image = Run::new(&["compile"], STORE).run(rt.alloc())?;
+    let image = Run::new("compile", STORE).run(rt.alloc())?;
     assert_eq!(rt; image.status, 0);
-    let ran = Run::new(&["exec"], image.out.as_slice()).run(rt.alloc())?;
-    assert_eq!(rt; ran.status, 0);
-    assert!(rt; ran.out.as_slice() == STORE_TOLD);
+    let ran = Run::new("exec", image.out.as_slice()).run(rt.alloc())?;
+    assert!(rt; ran.wrote(0, STORE_TOLD, b""));
     Ok(())
 }
 
@@ -101,10 +98,8 @@ fn what_is_too_large_is_told_with_its_bytes(rt: HostRuntime) -> Result<(), Fail>
         (code.as_slice(), b"secomp: too large code of Main 1075584\n"),
     ];
     for (text, want) in cases {
-        let ran = Run::new(&["compile"], text).run(rt.alloc())?;
-        assert_eq!(rt; ran.status, 4);
-        assert_eq!(rt; ran.out.len(), 0);
-        assert!(rt; ran.err.as_slice() == want);
+        let ran = Run::new("compile", text).run(rt.alloc())?;
+        assert!(rt; ran.wrote(4, b"", want));
     }
     Ok(())
 }
@@ -128,11 +123,11 @@ fn is_full(shown: &Ran) -> bool {
 fn a_defined_program_runs_as_it_means(rt: HostRuntime) -> Result<(), Fail> {
     let mut same: usize = 0;
     for text in PROGRAMS {
-        let words = ["meaning", "--turns=20000", "--in=1,-2,3"];
-        let meant = Run::new(&words, text).run(rt.alloc())?;
+        let words = "meaning --turns=20000 --in=1,-2,3";
+        let meant = Run::new(words, text).run(rt.alloc())?;
         if is_defined(&meant) {
-            let words = ["run", "--steps=2000000", "--in=1,-2,3"];
-            let shown = Run::new(&words, text).run(rt.alloc())?;
+            let words = "run --steps=2000000 --in=1,-2,3";
+            let shown = Run::new(words, text).run(rt.alloc())?;
             if !is_full(&shown) {
                 assert!(rt; shown.out.as_slice() == meant.out.as_slice());
                 same = same.wrapping_add(1);

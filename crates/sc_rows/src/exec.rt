@@ -54,11 +54,8 @@ const RUNS: [(&[u8], &[u8]); 5] = [
 #[test]
 fn an_image_is_run(rt: HostRuntime) -> Result<(), Fail> {
     for (image, want) in RUNS {
-        let ran = Run::new(&["exec"], image).run(rt.alloc())?;
-        assert_eq!(rt; ran.status, 0);
-        assert!(rt; ran.out.as_slice() == want);
-        assert_eq!(rt; ran.err.len(), 0);
-        assert_eq!(rt; ran.unread, 0);
+        let ran = Run::new("exec", image).run(rt.alloc())?;
+        assert!(rt; ran.wrote(0, want, b""));
     }
     Ok(())
 }
@@ -67,11 +64,8 @@ fn an_image_is_run(rt: HostRuntime) -> Result<(), Fail> {
 fn the_front_of_an_image_is_told_by_its_first_missing_field(rt: HostRuntime) -> Result<(), Fail> {
     for (length, cause) in CAUSES.iter().enumerate() {
         let want = format!(in rt.alloc(); "secomp: bad image {cause}\n")?;
-        let ran = Run::new(&["exec"], &SEVEN[..length]).run(rt.alloc())?;
-        assert_eq!(rt; ran.status, 6);
-        assert_eq!(rt; ran.out.len(), 0);
-        assert!(rt; ran.err.as_slice() == want.as_bytes());
-        assert_eq!(rt; ran.unread, 0);
+        let ran = Run::new("exec", &SEVEN[..length]).run(rt.alloc())?;
+        assert!(rt; ran.wrote(6, b"", want.as_bytes()));
     }
     Ok(())
 }
@@ -80,10 +74,8 @@ fn the_front_of_an_image_is_told_by_its_first_missing_field(rt: HostRuntime) -> 
 fn a_byte_behind_an_image_is_bad(rt: HostRuntime) -> Result<(), Fail> {
     let mut longer = SEVEN.to_vec(rt.alloc())?;
     longer.push(0)?;
-    let ran = Run::new(&["exec"], &longer).run(rt.alloc())?;
-    assert_eq!(rt; ran.status, 6);
-    assert_eq!(rt; ran.out.len(), 0);
-    assert!(rt; ran.err.as_slice() == b"secomp: bad image 9\n".as_slice());
+    let ran = Run::new("exec", &longer).run(rt.alloc())?;
+    assert!(rt; ran.wrote(6, b"", b"secomp: bad image 9\n"));
     Ok(())
 }
 
@@ -92,7 +84,7 @@ fn a_changed_byte_is_run_or_bad(rt: HostRuntime) -> Result<(), Fail> {
     for place in 0..SEVEN.len() {
         let mut changed = SEVEN;
         changed[place] = 0xff;
-        let ran = Run::new(&["exec"], &changed).run(rt.alloc())?;
+        let ran = Run::new("exec", &changed).run(rt.alloc())?;
         assert!(rt; ran.status == 0 || ran.status == 6 && ran.out.is_empty());
         assert_eq!(rt; ran.unread, 0);
     }

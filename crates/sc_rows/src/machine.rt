@@ -19,11 +19,8 @@ fn a_compiled_program_is_run_and_explained(rt: HostRuntime) -> Result<(), Fail> 
         ),
     ];
     for (word, text, want) in cases {
-        let ran = Run::new(&[word], text).run(rt.alloc())?;
-        assert_eq!(rt; ran.status, 0);
-        assert!(rt; ran.out.as_slice() == want);
-        assert_eq!(rt; ran.err.len(), 0);
-        assert_eq!(rt; ran.unread, 0);
+        let ran = Run::new(word, text).run(rt.alloc())?;
+        assert!(rt; ran.wrote(0, want, b""));
     }
     Ok(())
 }
@@ -57,8 +54,7 @@ fn an_image_is_written_field_by_field(rt: HostRuntime) -> Result<(), Fail> {
     for field in fields {
         want.extend_from_slice(field)?;
     }
-    let ran = Run::new(&["compile"], SEVEN).run(rt.alloc())?;
-    assert_eq!(rt; ran.status, 0);
-    assert!(rt; ran.out.as_slice() == want.as_slice());
+    let ran = Run::new("compile", SEVEN).run(rt.alloc())?;
+    assert!(rt; ran.wrote(0, want.as_slice(), b""));
     Ok(())
 }

@@ -32,11 +32,8 @@ fn repeated(alloc: Global, times: usize, part: &[u8]) -> Result<Vec<u8>, AllocEr
 
 #[test]
 fn a_program_is_told_by_its_events(rt: HostRuntime) -> Result<(), Fail> {
-    let ran = Run::new(&["meaning"], SEVEN).run(rt.alloc())?;
-    assert_eq!(rt; ran.status, 0);
-    assert!(rt; ran.out.as_slice() == TOLD);
-    assert_eq!(rt; ran.err.len(), 0);
-    assert_eq!(rt; ran.unread, 0);
+    let ran = Run::new("meaning", SEVEN).run(rt.alloc())?;
+    assert!(rt; ran.wrote(0, TOLD, b""));
     Ok(())
 }
 
@@ -47,11 +44,13 @@ fn numbers_are_told_up_to_the_greatest(rt: HostRuntime) -> Result<(), Fail> {
         b"  return 10;\n}\n",
     ];
     let text = text(rt.alloc(), &statements)?;
-    let ran = Run::new(&["meaning"], &text).run(rt.alloc())?;
-    assert_eq!(rt; ran.status, 0);
+    let ran = Run::new("meaning", &text).run(rt.alloc())?;
     assert!(rt;
-        ran.out.as_slice()
-            == b"out Main 0\nout Main 2147483647\nend Main 10\nstop ended\n".as_slice()
+        ran.wrote(
+            0,
+            b"out Main 0\nout Main 2147483647\nend Main 10\nstop ended\n",
+            b""
+        )
     );
     Ok(())
 }
@@ -67,9 +66,8 @@ fn a_run_stops_after_1024_events(rt: HostRuntime) -> Result<(), Fail> {
         let text = text(rt.alloc(), &[&lines, b"  return 0;\n}\n"])?;
         let mut want = repeated(rt.alloc(), outputs, b"out Main 1\n")?;
         want.extend_from_slice(end)?;
-        let ran = Run::new(&["meaning"], &text).run(rt.alloc())?;
-        assert_eq!(rt; ran.status, 0);
-        assert!(rt; ran.out.as_slice() == want.as_slice());
+        let ran = Run::new("meaning", &text).run(rt.alloc())?;
+        assert!(rt; ran.wrote(0, want.as_slice(), b""));
     }
     Ok(())
 }
@@ -78,44 +76,21 @@ fn a_run_stops_after_1024_events(rt: HostRuntime) -> Result<(), Fail> {
 fn a_failing_source_or_sink_is_told(rt: HostRuntime) -> Result<(), Fail> {
     let lines = repeated(rt.alloc(), 1000, b"  output(1);\n")?;
     let long = text(rt.alloc(), &[&lines, b"  return 0;\n}\n"])?;
-    let seven = Run::new(&["meaning"], SEVEN);
-    let cases: [(Run, u8, &[u8]); 5] = [
-        (
-            Run {
-                failing_reads: &[0],
-                ..seven
-            },
-            7,
-            b"",
-        ),
-        (
-            Run {
-                failing_reads: &[1],
-                ..seven
-            },
-            7,
-            b"",
-        ),
-        (
-            Run {
-                failing_reads: &[2],
-                input: &long,
-                ..seven
-            },
-            7,
-            b"",
-        ),
-        (
-            Run {
-                failing_writes: &[0],
-                ..seven
-            },
-            8,
-            b"",
-        ),
-        (Run { room: 9, ..seven }, 8, b"out Main "),
+    // The reads and the writes that fail, the room, and what is read; then the status, and what is written.
+    let cases: [(&[u32], &[u32], u32, &[u8], u8, &[u8]); 5] = [
+        (&[0], &[], 999, SEVEN, 7, b""),
+        (&[1], &[], 999, SEVEN, 7, b""),
+        (&[2], &[], 999, &long, 7, b""),
+        (&[], &[0], 999, SEVEN, 8, b""),
+        (&[], &[], 9, SEVEN, 8, b"out Main "),
     ];
-    for (run, status, out) in cases {
+    for (failing_reads, failing_writes, room, input, status, out) in cases {
+        let run = Run {
+            failing_reads,
+            failing_writes,
+            room,
+            ..Run::new("meaning", input)
+        };
         let ran = run.run(rt.alloc())?;
         assert_eq!(rt; ran.status, status);
         assert!(rt; ran.out.as_slice() == out);

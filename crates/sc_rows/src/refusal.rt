@@ -37,11 +37,8 @@ fn a_text_is_refused_at_the_first_phase_that_it_fails(rt: HostRuntime) -> Result
     ];
     for (text, err) in cases {
         for word in ["meaning", "explain"] {
-            let ran = Run::new(&[word], text).run(rt.alloc())?;
-            assert_eq!(rt; ran.status, 3);
-            assert_eq!(rt; ran.out.len(), 0);
-            assert!(rt; ran.err.as_slice() == err);
-            assert_eq!(rt; ran.unread, 0);
+            let ran = Run::new(word, text).run(rt.alloc())?;
+            assert!(rt; ran.wrote(3, b"", err));
         }
     }
     Ok(())
@@ -50,11 +47,9 @@ fn a_text_is_refused_at_the_first_phase_that_it_fails(rt: HostRuntime) -> Result
 #[test]
 fn a_text_is_too_long_above_its_limit(rt: HostRuntime) -> Result<(), Fail> {
     let text = vec![in rt.alloc(); b' '; 1_048_577]?;
-    let ran = Run::new(&["run"], &text).run(rt.alloc())?;
-    assert_eq!(rt; ran.status, 5);
-    assert_eq!(rt; ran.out.len(), 0);
-    assert!(rt; ran.err.as_slice() == b"secomp: too long 1048576\n".as_slice());
-    let ran = Run::new(&["run"], &text[1..]).run(rt.alloc())?;
+    let ran = Run::new("run", &text).run(rt.alloc())?;
+    assert!(rt; ran.wrote(5, b"", b"secomp: too long 1048576\n"));
+    let ran = Run::new("run", &text[1..]).run(rt.alloc())?;
     assert!(rt; ran.err.as_slice() == b"secomp: refused interface line 0\n".as_slice());
     Ok(())
 }
