@@ -1,5 +1,5 @@
-// Traces that follow from a seed: each is legal for its interfaces, whatever the functions do. Calls have arguments that
-// nobody computes, functions return early or never, and the environment gives other numbers.
+// Traces that follow from a seed: each is legal for its interfaces, whatever the functions do. Calls have arguments
+// that nobody computes, functions return early or never, and the environment gives other numbers.
 use sc_base::OutOfMemory;
 use sc_event::{Args, CompId, Event, Import, Interfaces, Trace};
 use std::alloc::Global;

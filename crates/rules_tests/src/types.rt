@@ -9,24 +9,28 @@ const VALUES: [Row; 29] = [
     b"u = i * j / u % 3 + u - i & j ^ u | 1u << i >> u;",
     b"@p = i + u; @@p = i << i;",
     // A pointer and an integer are added, and an integer is taken from a pointer.
-    b"p = p + i; p = p + u; p = 1 + p; p = u + p; p = p - i; p = p - 1u; p = a + 1; p = 1 + a; p = a - i; t = t + 1; pp = pp - 1;",
+    b"p = p + i; p = p + u; p = 1 + p; p = u + p; p = p - i; p = p - 1u; \
+      p = a + 1; p = 1 + a; p = a - i; t = t + 1; pp = pp - 1;",
     b"r = b + 1; r = r - u; t = ss + i; t = 2 + ss; p = s.list + 1; p = 1 + t->list;",
     b"@i = p + 1; @@i = 1 + p; @@r = p + u; @@p = 1 - p;",
     // A difference of pointers is an `int`, in elements.
     b"i = p - q; u = p - q; i = p - a; i = a - a; i = t - ss; i = pp - &p; i = &a[1] - p; i = p - q + 1;",
     b"@p = p - q; @@i = p - r; @@i = t - w; @@i = pp - p;",
     // Comparisons and `&& || !` give an `int`.
-    b"i = p < q; i = p >= a; i = t <= ss; i = p == q; i = p != a; i = !p; i = !a; i = p && t; i = a || i; i = u > i; i = p == 0; i = 0 != t; i = a == 0;",
+    b"i = p < q; i = p >= a; i = t <= ss; i = p == q; i = p != a; i = !p; i = !a; \
+      i = p && t; i = a || i; i = u > i; i = p == 0; i = 0 != t; i = a == 0;",
     b"@p = p == q; @@p = p < q; @@p = !p; @@p = p && q; @@p = p || q; @@i = t == w; @@i = p == pp;",
     // `- + ~` give the type of their operand.
     b"i = -u; u = +i; i = ~u; i = - - -i;",
     b"@p = -i; @@p = +p;",
     // `*p`, `p[i]` and `a[i]` are the elements.
-    b"i = *p; u = *r; p = *pp; i = **pp; i = *a; i = p[0]; i = p[-1]; i = a[u]; i = pp[0][1]; p = *&p; i = *(a + 1); i = *s.list; t = &*ss; t = &ss[1];",
+    b"i = *p; u = *r; p = *pp; i = **pp; i = *a; i = p[0]; i = p[-1]; i = a[u]; \
+      i = pp[0][1]; p = *&p; i = *(a + 1); i = *s.list; t = &*ss; t = &ss[1];",
     b"@i = *i; @@i = *5; @@i = *0; @@i = **p; @@p = *p; @@i = *pp; @@i = *s; @@i = i[0]; @@i = s[0]; @@i = a[0][0];",
     b"@i = 1[a]; @@i = i[a]; @@i = a[p]; @@i = a[s]; @@5[a] = 1;",
     // `s.m` is of a struct place, and `p->m` of a pointer to a struct.
-    b"i = s.n; u = s.m; p = s.q; t = s.next; i = s.next->next->n; i = v.inner.n; i = w->inner.list[1]; i = ss[1].n; i = ss->n; i = (ss + 1)->n; i = (*t).n; i = (&s)->n;",
+    b"i = s.n; u = s.m; p = s.q; t = s.next; i = s.next->next->n; i = v.inner.n; \
+      i = w->inner.list[1]; i = ss[1].n; i = ss->n; i = (ss + 1)->n; i = (*t).n; i = (&s)->n;",
     b"p = s.list; i = s.list[2]; t = &v.inner; p = &s.n; r = &t->m; pp = &s.q; p = &s.list[1]; i = *s.list; i = (s).n;",
     b"@i = s.zero; @@i = t->zero; @@i = v.m; @@i = t.n; @@i = s->n; @@i = ss.n; @@i = i.n; @@i = p->n; @@i = 5 .n;",
     b"@i = (i + u).n; @@i = (t + 1).n; @@i = *t.n; @@i = s.next.n; @@i = s.n.n; @@i = s.list->n; @@r = s.list;",
@@ -38,8 +42,10 @@ const VALUES: [Row; 29] = [
     // Structs are no operands.
     b"@i = s + 1; @@i = s == s; @@i = s && 1; @@i = !s; @@i = *t == *t; @@i = v.inner || 0;",
     // Operators group as their levels say, those of one level from the left.
-    b"i = p < q < i; i = p == q == i; i = p < q == i; i = i == p < q; i = p == q & i; i = i & p == q; i = i ^ p != q; i = p - q - i;",
-    b"i = i << p - q; i = p - q << i; i = p + i < q; p = p - i * j; p = p + i - j; i = i + p - q; i = -p[0]; i = !p == i; p = p + *p * i; i = p && i | i;",
+    b"i = p < q < i; i = p == q == i; i = p < q == i; i = i == p < q; \
+      i = p == q & i; i = i & p == q; i = i ^ p != q; i = p - q - i;",
+    b"i = i << p - q; i = p - q << i; i = p + i < q; p = p - i * j; p = p + i - j; \
+      i = i + p - q; i = -p[0]; i = !p == i; p = p + *p * i; i = p && i | i;",
     b"i = &a[1] - p; i = *pp[0]; t = &s.next[0]; p = &*p + 1;",
     b"@i = i == p == q; @@i = p == q < i; @@p = p - q - q; @@p = p + i << i; @@i = p & i == q;",
     b"@i = p == p & p == 0 ^ p; @@i = p && p | i; @@i = p * i + p; @@i = *p[0]; @@i = !p + p; @@i = - p - q;",
@@ -62,14 +68,16 @@ const MOVES: [Row; 31] = [
     b"@i = p == -0; @@i = p == 1; @@i = 1 != p; @@i = p == i; @@i = p < 0; @@i = 0 >= p; @@i = p - 0;",
     b"@i = p == (p == p);",
     // `L op= E` and `L++` are `L = L op (E)` and `L = L + 1`.
-    b"p += 1; p -= u; t += i; p++; --p; ++t; pp--; s.q++; i += u; u <<= 1; *p += 2; i -= p - q; i &= p == q; i += p == 0;",
+    b"p += 1; p -= u; t += i; p++; --p; ++t; pp--; s.q++; i += u; \
+      u <<= 1; *p += 2; i -= p - q; i &= p == q; i += p == 0;",
     b"@i += p; @@i -= p; @@p -= p; @@p += p; @@p *= 2; @@p &= 1; @@p <<= 1; @@s++; @@s += 1; @@a++; @@--a; @@a += 1;",
     b"@s.list++; @@s.list -= 1;",
     // `*p++` is `(*p)++`.
     b"*p++; *pp++; ++*p; ++**pp;",
     b"@*i++; @@*t++;",
     // Conditions are integers or pointers.
-    b"if (i) { } if (u) { } if (p) { } if (0) { } if (a) { } if (!t) { } while (t) { break; } while (s.list) { break; } for (; a; ) { } for (; pp; ) { } for (; ; ) { }",
+    b"if (i) { } if (u) { } if (p) { } if (0) { } if (a) { } if (!t) { } while (t) { break; } \
+      while (s.list) { break; } for (; a; ) { } for (; pp; ) { } for (; ; ) { }",
     b"@if (s) { } @@while (*t) { } @@for (; v.inner; ) { } @@if (i) { } else if (s) { } @@for (p = 1; ; ) { }",
     b"@for (; ; p = 1) { } @@for (; ; ) { p = 1; } @@while (1) { p = 1; } @@if (1) { } else { p = 1; }",
     b"@if (0) { p = 1; }",
@@ -79,11 +87,13 @@ const MOVES: [Row; 31] = [
     b"@number(1, -0); @@number(1, i); @@number(1, r); @@number(1, b); @@number(s, p); @@number(1, p + r);",
     // A call statement may drop a result, also a struct.
     b"nothing(); number(1, p); place(); build();",
-    b"i = number(1, p); u = number(1, p); p = place(); *p = number(1, 0); *pp = place(); s.q = place(); s.m = number(1, 0); for (p = place(); ; i = number(1, p)) { break; }",
+    b"i = number(1, p); u = number(1, p); p = place(); *p = number(1, 0); *pp = place(); \
+      s.q = place(); s.m = number(1, 0); for (p = place(); ; i = number(1, p)) { break; }",
     b"@i = nothing(); @@p = nothing(); @@i = place(); @@p = number(0, 0); @@r = place(); @@a = place();",
     b"@v = build(); @@i = build(); @@w = build(); @@i = number(1); @@for (p = number(1, p); ; ) { }",
     // Initialisers of locals stand at integers and pointers.
-    b"int k = 1, *l = p, m = k, *n = &m, *o = a, *x = 0, *y = 0u, **z = &n; unsigned int c = -1, *d = b; struct S *e = &s, *f = ss, *g = e;",
+    b"int k = 1, *l = p, m = k, *n = &m, *o = a, *x = 0, *y = 0u, **z = &n; \
+      unsigned int c = -1, *d = b; struct S *e = &s, *f = ss, *g = e;",
     b"@int k = p; @@int *k = 1; @@int *k = -0; @@int *k = r; @@int *k = &u; @@int **k = p; @@int k[2] = 1;",
     b"@int k[2] = a; @@int *k[2] = 0; @@struct S k = s; @@struct S k = 0; @@struct S *k = s; @@struct S *k = w;",
     b"@int k = s; @@int k = 1, l = 2, *m = 3;",

@@ -4,8 +4,8 @@ use memory_runs::Run;
 use std::alloc::Global;
 use std::test::Fail;
 
-// What stands behind the compartment line. The last line, a comment, says what the run is blamed for. None of these runs
-// has an event.
+// What stands behind the compartment line. The last line, a comment, says what the run is blamed for. None of these
+// runs has an event.
 type Blamed = &'static [u8];
 
 const ARITHMETIC: [Blamed; 18] = [
@@ -46,7 +46,16 @@ int main(void) {
   return *p;
 }
 // Dangling 9",
-    b"int *keep(int x) {\n  return &x;\n}\nint main(void) {\n  int *p;\n  p = keep(1);\n  if (p) {\n  }\n}\n// Dangling 8",
+    b"int *keep(int x) {
+  return &x;
+}
+int main(void) {
+  int *p;
+  p = keep(1);
+  if (p) {
+  }
+}
+// Dangling 8",
     b"int *p;\nint main(void) {\n  return *p;\n}\n// NullUse 4",
     b"int *p;\nint main(void) {\n  *p = 1;\n}\n// NullUse 4",
     b"int *p;\nint main(void) {\n  p = p + 0;\n}\n// NullUse 4",
