@@ -3,7 +3,6 @@ pub mod Filled
 pub mod FirstByName
 pub mod Identifier
 pub mod Levels
-pub mod Limits
 pub mod Numbering
 pub mod Places
 pub mod Reserved

@@ -2,7 +2,6 @@ pub mod Common
 pub mod Agreeing
 pub mod Allowing
 pub mod Bare
-mod Examples
 pub mod Offered
 pub mod Placing
 pub mod Steps

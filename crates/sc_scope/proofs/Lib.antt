@@ -1,5 +1,4 @@
 pub mod Common
-pub mod Examples
 pub mod Heads
 pub mod Lines
 pub mod Noted

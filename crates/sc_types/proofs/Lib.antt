@@ -3,7 +3,6 @@ pub mod Basics
 mod Bodies
 mod Callees
 pub mod Calls
-pub mod Examples
 pub mod Facts
 pub mod Functions
 mod Heights

@@ -2,7 +2,6 @@ pub mod Common
 mod Bare
 mod Basics
 mod Digits
-mod Examples
 mod Level
 mod Lookup
 mod Reading
