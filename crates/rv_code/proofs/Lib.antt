@@ -1,5 +1,4 @@
 pub mod Common
-mod Known
 pub mod Numbers
 pub mod Fields
 pub mod Ops

@@ -3,6 +3,5 @@ pub mod Bools
 pub mod Filled
 mod Firsts
 pub mod Lists
-mod Names
 pub mod Numbers
 pub mod Texts

@@ -1,5 +1,4 @@
 pub mod Common
-pub mod Computed
 pub mod Examples
 pub mod Parts
 pub mod Scopes

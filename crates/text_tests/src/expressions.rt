@@ -89,6 +89,26 @@ fn groups_as_the_grammar_does(rt: HostRuntime) -> Result<(), Fail> {
     Ok(())
 }
 
+// Expressions that are printed as they stand here.
+const PRINTED: &str = "\
+    7; 4294967295u; a; a[7]; a.m; a->m; 2147483647; - -a; -+a; + +a; !!a; ~-a; **a; *&a; & &a; &*a; - -7; -a[7]; \
+    (-a)[7]; (*a).m; (&a)->m; *a->m; -(a - a); (a + a)[a + a]; a - a - a; a - (a - a); a + a * a; (a + a) * a; \
+    a * (a / a); a * a / a; a || a && a; (a || a) && a; a << a + a; (a << a) + a; a == a < a; (a & a) == a; \
+    a | a ^ a; a >= a >> a; a != (a != a); a % -a; a || 7; a && 7; a | 7; a ^ 7; a & 7; a == 7; a != 7; a < 7; \
+    a > 7; a <= 7; a >= 7; a << 7; a >> 7; a + 7; a - 7; a * 7; a / 7; a % 7";
+
+#[test]
+fn parentheses_and_blanks_are_those_that_the_tree_needs(rt: HostRuntime) -> Result<(), Fail> {
+    for expression in PRINTED.split("; ") {
+        let text = printed(rt.alloc(), expression.as_bytes())?;
+        let want = format!(in rt.alloc();
+            "#pragma compartment Main\n\nvoid f(void) {{\n  x = {expression};\n}}\n"
+        )?;
+        assert_eq!(rt; text.as_bytes(), want.as_bytes());
+    }
+    Ok(())
+}
+
 #[test]
 fn other_groups_are_other_trees(rt: HostRuntime) -> Result<(), Fail> {
     let left = printed(rt.alloc(), b"a - b - c")?;

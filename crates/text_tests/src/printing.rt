@@ -3,8 +3,65 @@ use sc_ast::print_section;
 use sc_read::read_trees;
 use std::test::Fail;
 
+// It is printed as it stands.
+const AS_PRINTED: &[u8] = b"#pragma compartment Main
+#pragma export h
+#pragma import Env output
+struct S {
+  int *m;
+  struct S *x[3000000000u];
+};
+int a = -7;
+int b[2] = {-7, 7u};
+unsigned int **f(int, int *, struct S *a);
+void g(void);
+
+void h(void) {
+  int a = 7;
+  int b[2];
+  ;
+  a = 7;
+  *a = f();
+  f(a, 7);
+  f();
+  if (a) {
+  }
+  if (a) {
+  } else {
+    break;
+  }
+  if (a) {
+    if (a) {
+    }
+  } else {
+    continue;
+  }
+  if (a) {
+  } else if (a) {
+  } else {
+    return;
+  }
+  if (a) {
+  } else {
+    if (a) {
+    }
+    return a + a;
+  }
+  for (a = 7; a; *a = f()) {
+  }
+  for (a = 7; a;) {
+  }
+  while (a) {
+    for (; a;) {
+    }
+  }
+  return f(a, 7);
+}
+";
+
 // A section, and its text.
-const PRINTED: [(&[u8], &[u8]); 4] = [
+const PRINTED: [(&[u8], &[u8]); 5] = [
+    (AS_PRINTED, AS_PRINTED),
     // Parentheses and blanks are those that the tree needs.
     (
         b"#pragma compartment Main
