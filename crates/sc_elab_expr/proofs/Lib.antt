@@ -1,4 +1,3 @@
 pub mod Common
-pub mod Examples
 pub mod Parts
 pub mod Scopes

@@ -17,7 +17,6 @@ pub mod Beginnings
 pub mod Decls
 pub mod Directing
 pub mod Sections
-pub mod Examples
 pub mod Naming
 pub mod Excess
 pub mod Trees
