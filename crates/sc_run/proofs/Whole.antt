@@ -147,14 +147,14 @@ module _ (program : ProgramTree) (inputs : List ℕ) (turns : ℕ) where
           open_calls = turns;
           state = begun callee.comp.now (function_of c_arith program.interfaces.main callee.structs.now
               callee.function.now) [] at_start;
-          shows = begun_seen program f callee [] Nowhere at_start seen_first first_seen_is ∙ sym b.seen;
+          shows = begun_seen program f callee [] Nowhere at_start first_seen_is ∙ sym b.seen;
           enough = omega arith;
           rest = ap (λ p. (run_to program.interfaces.main p).behaviour)
               (sym (enter_is program f callee [] Nowhere there back_own turns at_start)) ∙
               ap (λ p. (run_to program.interfaces.main p).behaviour) called_is;
         }) where
           same : f ≡ frame_at program f callee [] Nowhere (length (at_start.memory callee.comp.now))
-          same = frame_is program f callee [] Nowhere at_start seen_first after f first_seen_is b
+          same = frame_is program f callee [] Nowhere at_start first_seen_is b
 
           called_is : run_in (library program) (bodies program
               (suc turns)) callee.comp.now callee.number [] back_own at_start ≡ main_does at_start
@@ -174,13 +174,13 @@ module _ (program : ProgramTree) (first : Now) (begun : Seen) (f : Frame) (now :
   module _ (step : Step) (later : Seen) (last : List Work) (h : Frame)
       (steps : Steps program seen work g (does_now program g now) step later last h) where
     -- one more step
-    pub since_step : (next : Now) → step ≡ Go next → Since program first begun f next later last h
-    since_step next is whole start = subst (λ x. Stands program whole x later last h) is
+    pub since_step : {next : Now} → step ≡ Go next → Since program first begun f next later last h
+    since_step is whole start = subst (λ x. Stands program whole x later last h) is
         (steps.stands whole (stands_so whole start))
 
     -- the run is over
-    pub since_stop : (events : ℕ) (end : RunEnd) → step ≡ Stop end → EndsAs program first begun f events later.trace end
-    since_stop events end is whole start = ap (stopped_at events)
+    pub since_stop : (events : ℕ) {end : RunEnd} → step ≡ Stop end → EndsAs program first begun f events later.trace end
+    since_stop events is whole start = ap (stopped_at events)
         (subst (λ x. Stands program whole x later last h) is (steps.stands whole (stands_so whole start)))
 
   -- there are as many events as were allowed
@@ -196,10 +196,8 @@ module _ (program : ProgramTree) (inputs : List ℕ) (turns events : ℕ) where
   whole_run = (run_of c_arith program inputs turns).behaviour
 
   -- what is seen at the start
-  pub seen_at_first : (memory : Memory) (trace : List Event) → memory ≡ globals_of program.sections → trace ≡ [] →
-      ◌≡◌ {A = Seen} (record { memory = memory; trace = trace; turns = turns; inputs = inputs })
-      (seen_first program inputs turns)
-  seen_at_first memory trace is none = λ i. record { memory = is i; trace = none i; turns = turns; inputs = inputs }
+  pub seen_at_first : {memory : Memory} {trace : List Event} → memory ≡ globals_of program.sections → trace ≡ [] → ◌≡◌ {A = Seen} (record { memory = memory; trace = trace; turns = turns; inputs = inputs }) (seen_first program inputs turns)
+  seen_at_first {memory} {trace} is none = λ i. record { memory = is i; trace = none i; turns = turns; inputs = inputs }
 
   module _ (run : SourceRun) (callee : Callee) (before after started : Seen) (f : Frame)
       (at_first : before ≡ seen_first program inputs turns)
@@ -211,15 +209,11 @@ module _ (program : ProgramTree) (inputs : List ℕ) (turns events : ℕ) where
     module _ (step : Step) (steps : Steps program after [] f
         (λ n s. body_acts program n f tt s) step started [] f) where
       -- a run that ends before the first statement
-      pub over_at_once : (end : RunEnd) → step ≡ Stop end →
-          run ≡ stopped_at events (record { trace = started.trace; end = end }) →
-          run ≡ meaning program inputs turns events
-      over_at_once end stops is = is ∙ sym (ap (stopped_at events)
+      pub over_at_once : {end : RunEnd} → step ≡ Stop end → run ≡ stopped_at events (record { trace = started.trace; end = end }) → run ≡ meaning program inputs turns events
+      over_at_once stops is = is ∙ sym (ap (stopped_at events)
           (subst (λ x. Stands program whole_run x started [] f) stops (steps.stands _ stands_first)))
 
       -- a run that was gone through to its end
-      pub gone_through : (now : Now) (trace : List Event) (end : RunEnd) → step ≡ Go now →
-          EndsAs program now started f events trace end →
-          run ≡ stopped_at events (record { trace = trace; end = end }) → run ≡ meaning program inputs turns events
-      gone_through now trace end goes ends is =
+      pub gone_through : {now : Now} (trace : List Event) (end : RunEnd) → step ≡ Go now → EndsAs program now started f events trace end → run ≡ stopped_at events (record { trace = trace; end = end }) → run ≡ meaning program inputs turns events
+      gone_through trace end goes ends is =
           is ∙ sym (ends _ (subst (λ x. Stands program whole_run x started [] f) goes (steps.stands _ stands_first)))

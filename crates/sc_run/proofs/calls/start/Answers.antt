@@ -7,8 +7,7 @@ pub returns-in-Err : goal.returns-in-Err
 returns-in-Err c =
     let f = c.args.frame.now in
     let program = c.args.program.now in
-    step_stops program (kept_by c.args.machine.now) (kept_by c.init_all.new.machine) c.args.work.now.items f
-    c.in-Err.end (all_do (inits_do c_arith f.scope.structs.now
-    (here_of f.scope) f.scope.params 0 f.function.now.locals) tt)
+    step_stops
+    
     (λ n left s. take (in_order left.exit) (block_acts program n f f.function.now.body) left.carried s)
     c.in-Err.ensures

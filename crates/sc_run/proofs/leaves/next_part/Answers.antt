@@ -5,13 +5,12 @@ use Rattle.sc_run.proofs.leaves.next_part.Goals as goal
 pub returns-then-is_next_done : goal.returns-then-is_next_done
 returns-then-is_next_done c =
     IfOk-weaker c.round.result _ _ (λ step h. next_behind c.args.program.now c.args.run.now.frame c.args.whole.now
-    (kept_by c.args.run.now.machine) (kept_by c.is_next_done.new.machine) c.args.run.now.work.items step _ _ _
+    
     c.if-is_next_done.ensures h) c.round.ensures
 
 pub returns : goal.returns
 returns c =
     let f = c.args.run.now.frame in
     IfOk-weaker c.begin_next.result _ _ (λ step h. steps_unchanged c.args.program.now c.args.run.now.work.items f step
-    _ _ _ (kept_by c.args.run.now.machine) (kept_by c.is_next_done.new.machine)
-    (λ n s. follow in_loop (next_acts c.args.program.now n f c.args.whole.now tt s)
-    (loop_acts c.args.program.now n f c.args.whole.now)) c.if-is_next_done.ensures h) c.begin_next.ensures
+    _ _ _
+     c.if-is_next_done.ensures h) c.begin_next.ensures

@@ -11,11 +11,11 @@ returns-in-Ok c =
     let f = c.args.frame.now in
     let local = c.args.local.now in
     let place = variable_at (here_of f.scope) f.scope.params (Local c.args.number) in
-    init_is f.scope.structs.now (here_of f.scope) f.scope.params c.args.number local c.in-Some.expr
-    (kept_by c.args.machine.now) (kept_by c.stored.new.machine) (with_exit Next c.stored.result) c.in-Some.is
-    (then_goes (kept_by c.args.machine.now) (kept_by c.args.machine.now)
-    (kept_by c.stored.new.machine) c.in-Ok.value (with_exit Next c.stored.result)
-    (evaluated (here_of f.scope) want.Value (way_in f c.in-Some.expr) local.line)
+    init_is f.scope.structs.now (here_of f.scope) f.scope.params c.args.number local
+     c.in-Some.is
+    (then_goes
+    
+    
     (λ v s. stored (here_of f.scope) place v local.line tt s) c.in-Ok.ensures
     (subst (λ q. Comes (kept_by c.args.machine.now) (kept_by c.stored.new.machine) (with_exit Next c.stored.result)
     (stored (here_of f.scope) q c.in-Ok.value local.line tt)) c.variable_at-place.ensures c.stored.ensures))

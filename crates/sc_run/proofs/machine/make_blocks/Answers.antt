@@ -10,9 +10,9 @@ loop-at-preserved c =
     one_more {A = TypedParam} (λ p. cells_of structs p.ty) params c.loop-at.at c.index-params-at.result
     (subst (λ ps. c.loop-at.at < length ps) c.as_slice-params.ensures c.loop-at-test.true)
     (subst (λ ps. c.index-params-at.result ≡ get_or ps c.loop-at.at c.index-params-at.result)
-    c.as_slice-params.ensures c.index-params-at.is) c.args.callee.now.comp.now [] c.args.args.now c.loop-at.at
-    c.cells_of-count.result c.value_at.result (memory_of c.args.blocks.now) (memory_of c.loop-at.blocks)
-    (memory_of c.make_block.new.blocks) (omega arith)
+    c.as_slice-params.ensures c.index-params-at.is) c.args.callee.now.comp.now [] c.args.args.now
+     (memory_of c.args.blocks.now)
+     (omega arith)
     (c.cells_of-count.ensures ∙ ap (λ (p : TypedParam). cells_of structs p.ty)
     (sym c.index-params-at.is)) c.value_at.ensures c.loop-at.invariant c.in_ok-make_block.ensures
 
@@ -25,9 +25,9 @@ loop-at-2-preserved c =
     (subst (λ ps. c.index-locals-at.result ≡ get_or ps c.loop-at-2.at c.index-locals-at.result)
     c.as_slice-locals.ensures c.index-locals-at.is) c.args.callee.now.comp.now
     (param_sizes structs c.args.callee.now.function.now) c.args.args.now
-    (length c.as_slice-params.result.now + c.loop-at-2.at) c.cells_of-count-in-loop-at-2.result
-    c.value_at-arg.result (memory_of c.args.blocks.now) (memory_of c.loop-at-2.blocks)
-    (memory_of c.make_block-in-loop-at-2.new.blocks)
+    
+     (memory_of c.args.blocks.now)
+    
     (ap (λ n. n + c.loop-at-2.at) (ap (length {A = TypedParam}) c.as_slice-params.ensures ∙
     sym (length-map c.args.callee.now.function.now.params (λ (p : TypedParam). cells_of structs p.ty))))
     (c.cells_of-count-in-loop-at-2.ensures ∙ ap (λ (l : TypedLocal). cells_of structs l.ty)

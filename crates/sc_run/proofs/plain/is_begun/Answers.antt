@@ -11,7 +11,7 @@ returns-then-not-holds c = record { passes = refl; taken = λ is. absurd (false�
 pub returns : goal.returns
 returns c =
     record {
-      passes = round_begins c.args.program.now c.args.frame.now c.args.whole.now (kept_by c.args.machine.now)
-          (c.args.machine.now.turns - 1) c.if-not-holds.ensures (omega arith);
+      passes = round_begins c.args.program.now c.args.frame.now c.args.whole.now
+           c.if-not-holds.ensures (omega arith);
       taken = λ is. omega arith;
     }

@@ -10,11 +10,11 @@ returns-in-Stop c =
     let frame = c.in_ok-frame.frame in
     over_at_once tree inputs c.args.turns c.args.events c.behaviour-in-Stop.result c.in-Some.callee _
     (kept_by c.begin.new.machine) (kept_by c.start.new.machine) frame
-    (seen_at_first tree inputs c.args.turns c.args.events (memory_of c.in_ok-globals.globals) c.new.result
+    (seen_at_first tree inputs c.args.turns c.args.events
     (c.in_ok-globals.ensures ∙ ap globals_of c.as_slice.ensures) c.new.ensures) c.in-Some.ensures
     c.in_ok-frame.ensures c.start.result (subst (λ ws.
     Steps tree (kept_by c.begin.new.machine) ws frame (λ n s. body_acts tree n frame tt s) c.start.result
-    (kept_by c.start.new.machine) ws frame) c.new-work.ensures.items c.start.ensures) c.in-Stop.end c.in-Stop.is
+    (kept_by c.start.new.machine) ws frame) c.new-work.ensures.items c.start.ensures) c.in-Stop.is
     c.behaviour-in-Stop.ensures
     ∙ ap (λ p. meaning p inputs c.args.turns c.args.events) c.tree-tree.ensures.tree
 
@@ -25,11 +25,11 @@ returns-in_ok-end-in-Go c =
     let frame = c.in_ok-frame.frame in
     gone_through tree inputs c.args.turns c.args.events c.behaviour-in-Go.result c.in-Some.callee _
     (kept_by c.begin.new.machine) (kept_by c.start.new.machine) frame
-    (seen_at_first tree inputs c.args.turns c.args.events (memory_of c.in_ok-globals.globals) c.new.result
+    (seen_at_first tree inputs c.args.turns c.args.events
     (c.in_ok-globals.ensures ∙ ap globals_of c.as_slice.ensures) c.new.ensures) c.in-Some.ensures
     c.in_ok-frame.ensures c.start.result (subst (λ ws.
     Steps tree (kept_by c.begin.new.machine) ws frame (λ n s. body_acts tree n frame tt s) c.start.result
-    (kept_by c.start.new.machine) ws frame) c.new-work.ensures.items c.start.ensures) c.in-Go.now
+    (kept_by c.start.new.machine) ws frame) c.new-work.ensures.items c.start.ensures)
     c.run_on.new.run.machine.trace c.in_ok-end-in-Go.end c.in-Go.is c.in_ok-end-in-Go.ensures
     c.behaviour-in-Go.ensures
     ∙ ap (λ p. meaning p inputs c.args.turns c.args.events) c.tree-tree.ensures.tree
