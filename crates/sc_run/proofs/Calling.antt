@@ -14,11 +14,14 @@ use Rattle.sc_run.proofs.Coming.{with_memory, seen_with, blocks_seen}
 use Rattle.sc_run.proofs.Looping.{resume_stopped, newest_first, step_stops, step_ends, steps_as}
 
 -- a result that can't be stored
-pub unstored : {program : ProgramTree} {before after : Seen} {work : List Work} {f : Frame} {to : To} {result : Option Value} (place : Bor TypedExpr) (line : ℕ) {v : Value} {end : RunEnd} → to ≡ Place place line → result ≡ Some v → Comes before after (Err end) (store_at (here_of f.scope) (way_in f place.now) v line tt) → Steps program before work f (λ n s. result_goes program f to result s) (Stop end) after work f
+pub unstored : {program : ProgramTree} {before after : Seen} {work : List Work} {f : Frame} {to : To}
+    {result : Option Value} (place : Bor TypedExpr) (line : ℕ) {v : Value} {end : RunEnd} → to ≡ Place place line →
+    result ≡ Some v → Comes before after (Err end) (store_at (here_of f.scope) (way_in f place.now) v line tt) →
+    Steps program before work f (λ n s. result_goes program f to result s) (Stop end) after work f
 unstored {program} {before} {after} {work} {f} {result} place line {end} is has c =
     subst (λ x. Steps program before work f (λ n s. result_goes program f x result s) (Stop end) after work f) (sym is)
-    (subst (λ x. Steps program before work f (λ n s. result_goes program f (Place place line) x s)
-    (Stop end) after work f) (sym has) (step_ends c))
+    (subst (λ x. Steps program before work f (λ n s. result_goes program f (Place place line) x s) (Stop end) after work
+    f) (sym has) (step_ends c))
 
 module _ (program : ProgramTree) (caller : Frame) (callee : Callee) (args : List Value) (to : To) where
   abbrev pub called_function : Function
@@ -44,32 +47,33 @@ module _ (program : ProgramTree) (caller : Frame) (callee : Callee) (args : List
   abbrev pub entering : (Option Value → State → Piece (Option Value)) → ℕ → State → Piece (Option Value)
   entering back n s = run_in (library program) (bodies program n) callee.comp.now callee.number args back s
 
-  pub enter_is : Found → (back : Option Value → State → Piece (Option Value)) (m : ℕ) (t : State) → entering back
-      (suc m) t ≡ returned program (frame_at (length (t.memory callee.comp.now))) back (body_acts program m
-      (frame_at (length (t.memory callee.comp.now))) tt (begun callee.comp.now called_function args t))
-  enter_is there back m t =
-      ap (λ o. and_then (found o t) (λ f s. and_then (bodies program (suc m) callee.number
+  pub enter_is : Found → (back : Option Value → State → Piece (Option Value)) (m : ℕ) (t : State) → entering back (suc
+      m) t ≡ returned program (frame_at (length (t.memory callee.comp.now))) back (body_acts program m (frame_at (length
+      (t.memory callee.comp.now))) tt (begun callee.comp.now called_function args t))
+  enter_is there back m t = ap (λ o. and_then (found o t) (λ f s. and_then (bodies program (suc m) callee.number
       (record { comp = callee.comp.now; first = length (s.memory callee.comp.now) })
       (begun callee.comp.now f args s)) (λ v u. back v
-      (done callee.comp.now f (length (s.memory callee.comp.now)) u)))) there
-      ∙ ap (λ o. and_then (and_then (found o (begun callee.comp.now called_function args t))
+      (done callee.comp.now f (length (s.memory callee.comp.now)) u)))) there ∙ ap
+      (λ o. and_then (and_then (found o (begun callee.comp.now called_function args t))
       (λ f s. f.does (calls_in program m) (record {
         comp = callee.comp.now;
         first = length (t.memory callee.comp.now);
-      }) s))
-      (λ v u. back v (done callee.comp.now called_function (length (t.memory callee.comp.now)) u))) there
+      }) s)) (λ v u. back v (done callee.comp.now called_function (length (t.memory callee.comp.now)) u))) there
 
-  pub begun_seen : (t : State) {mid : Seen} → seen_of t ≡ mid → seen_of (begun callee.comp.now called_function args t) ≡ with_memory mid (with_variables callee args mid.memory)
+  pub begun_seen : (t : State) {mid : Seen} → seen_of t ≡ mid →
+      seen_of (begun callee.comp.now called_function args t) ≡ with_memory mid (with_variables callee args mid.memory)
   begun_seen t {mid} shows =
       seen_with t _ _ shows ∙ ap (λ bs. with_memory mid (with_blocks callee.comp.now bs mid.memory))
       (blank_more (t.memory _) (blocks_for (variables callee.structs.now callee.function.now) args) ∙
-      (λ i. blocks_seen t callee.comp.now shows i ++
-      blank_new (variables callee.structs.now callee.function.now) args i))
+      (λ i. blocks_seen t callee.comp.now shows i ++ blank_new (variables callee.structs.now callee.function.now) args
+      i))
 
-  first_seen : (t : State) {mid : Seen} → seen_of t ≡ mid → length (mid.memory callee.comp.now) ≡ length (t.memory callee.comp.now)
+  first_seen : (t : State) {mid : Seen} → seen_of t ≡ mid →
+      length (mid.memory callee.comp.now) ≡ length (t.memory callee.comp.now)
   first_seen t shows = ap length (sym (blocks_seen t _ shows)) ∙ length_same _
 
-  pub frame_is : (t : State) {mid after : Seen} {g : Frame} → seen_of t ≡ mid → Begun callee args mid after g → g ≡ frame_at (length (t.memory callee.comp.now))
+  pub frame_is : (t : State) {mid after : Seen} {g : Frame} → seen_of t ≡ mid → Begun callee args mid after g →
+      g ≡ frame_at (length (t.memory callee.comp.now))
   frame_is t shows b = λ i.
       record {
         scope = record {
@@ -81,10 +85,10 @@ module _ (program : ProgramTree) (caller : Frame) (callee : Callee) (args : List
         function = b.function i;
       }
 
-  entry_seen : (crossing : Option ℕ) (s : State) {seen : Seen} → seen_of s ≡ seen → seen_of (entry_from caller callee args crossing s) ≡ told_call caller callee args crossing seen
+  entry_seen : (crossing : Option ℕ) (s : State) {seen : Seen} → seen_of s ≡ seen →
+      seen_of (entry_from caller callee args crossing s) ≡ told_call caller callee args crossing seen
   entry_seen None s shows = shows
-  entry_seen (Some index) s shows =
-      ap {A = Seen} (λ x. record x {
+  entry_seen (Some index) s shows = ap {A = Seen} (λ x. record x {
         trace = x.trace ++ Call caller.scope.comp.now callee.comp.now index (map word_in args) ∷ [];
       }) shows
 
@@ -106,15 +110,12 @@ module _ (program : ProgramTree) (caller : Frame) (callee : Callee) (args : List
     Entered = Standing program whole begun_to later g (λ n s. body_acts program n g tt s)
 
     enter_at : (m : ℕ) (t : State) → later ≡ work ++ Caller caller to crossing ∷ [] →
-        seen_of t ≡ told_call caller callee args crossing mid →
-        ((n : ℕ) (p : Piece (Left (Unit {0}))) (f : Frame) → f ≡ frame_at (length (t.memory callee.comp.now)) →
-        resume program n (Caller caller to crossing ∷ reverse work) f p ≡
-        resume program (suc n) (reverse work) caller
-        (and_then (returned program f (back_from program caller callee crossing) p)
-        (result_goes program caller to))) → t.turns ≤ m →
-        (resume program (suc m) (reverse work) caller
-        (and_then (entering (back_from program caller callee crossing) (suc m) t)
-        (result_goes program caller to))).behaviour ≡ whole → Entered
+        seen_of t ≡ told_call caller callee args crossing mid → ((n : ℕ) (p : Piece (Left (Unit {0}))) (f : Frame) → f ≡
+        frame_at (length (t.memory callee.comp.now)) → resume program n (Caller caller to crossing ∷ reverse work) f p ≡
+        resume program (suc n) (reverse work) caller (and_then (returned program f (back_from program caller callee
+        crossing) p) (result_goes program caller to))) → t.turns ≤ m → (resume program (suc m) (reverse work) caller
+        (and_then (entering (back_from program caller callee crossing) (suc m) t) (result_goes program caller
+        to))).behaviour ≡ whole → Entered
     enter_at m t pushed shows waits enough rest =
         let same : g ≡ frame_at (length (t.memory callee.comp.now)) =
         frame_is t shows b in
@@ -133,25 +134,26 @@ module _ (program : ProgramTree) (caller : Frame) (callee : Callee) (args : List
           entered_piece = body_acts program m (frame_at (length (t.memory callee.comp.now))) tt
               (begun callee.comp.now called_function args t)
 
-    waits_at : (cross : Option ℕ) (first n : ℕ) (p : Piece (Left (Unit {0}))) {f : Frame} → f ≡ frame_at first → resume program n (Caller caller to cross ∷ reverse work) f p ≡ resume program (suc n) (reverse work) caller (and_then (returned program f (back_from program caller callee cross) p) (result_goes program caller to))
+    waits_at : (cross : Option ℕ) (first n : ℕ) (p : Piece (Left (Unit {0}))) {f : Frame} → f ≡ frame_at first → resume
+        program n (Caller caller to cross ∷ reverse work) f p ≡ resume program (suc n) (reverse work) caller (and_then
+        (returned program f (back_from program caller callee cross) p) (result_goes program caller to))
     waits_at None first n p is = refl
     waits_at (Some index) first n p {f} is =
-        subst (λ f. resume program n (Caller caller to (Some index) ∷ reverse work) f p ≡
-        resume program (suc n) (reverse work) caller
-        (and_then (returned program f (back_from program caller callee (Some index)) p)
+        subst (λ f. resume program n (Caller caller to (Some index) ∷ reverse work) f p ≡ resume program (suc n)
+        (reverse work) caller (and_then (returned program f (back_from program caller callee (Some index)) p)
         (result_goes program caller to))) (sym is) refl
 
-    entered_from : {before : Seen} → later ≡ work ++ Caller caller to crossing ∷ [] → before.turns ≡ suc mid.turns → Comes before mid (Ok tt) turn → Standing program whole before work caller (tries crossing) → Entered
+    entered_from : {before : Seen} → later ≡ work ++ Caller caller to crossing ∷ [] → before.turns ≡ suc mid.turns →
+        Comes before mid (Ok tt) turn → Standing program whole before work caller (tries crossing) → Entered
     entered_from {before} pushed taken c h = by_turn h.open_calls (turn h.state) (c.comes h.state h.shows)
         (more (ap (λ x. x.turns) h.shows) taken h.enough) h.rest where
           more : h.state.turns ≡ before.turns → before.turns ≡ suc mid.turns → h.state.turns ≤ h.open_calls →
               suc mid.turns ≤ h.open_calls
           more x y z = omega (arith, x, y, z)
 
-          by_turn : (n : ℕ) (x : Piece (Unit {0})) → CameTo (Ok tt) mid x → suc mid.turns ≤ n →
-              (resume program n (reverse work) caller
-              (and_then (and_then x (λ _ s. from_call crossing n s)) (result_goes program caller to))).behaviour ≡
-              whole → Entered
+          by_turn : (n : ℕ) (x : Piece (Unit {0})) → CameTo (Ok tt) mid x → suc mid.turns ≤ n → (resume program n
+              (reverse work) caller (and_then (and_then x (λ _ s. from_call crossing n s)) (result_goes program caller
+              to))).behaviour ≡ whole → Entered
           by_turn zero x e le rest = absurd (none mid.turns le) where
             none : (k : ℕ) → suc k ≤ 0 → ⊥
             none k z = omega (arith, z)
@@ -164,20 +166,23 @@ module _ (program : ProgramTree) (caller : Frame) (callee : Callee) (args : List
                 less x y z = omega (arith, x, y, z)
           by_turn (suc m) (Stopped end t) e le rest = elim e [ ]
 
-  pub enter_steps : (crossing : Option ℕ) {work later : List Work} {before mid told begun_to : Seen} {g : Frame} {step : Step} {last : Seen} {last_work : List Work} {last_frame : Frame} → Found → Comes before mid (Ok tt) turn → before.turns ≡ suc mid.turns → told ≡ told_call caller callee args crossing mid → Begun callee args told begun_to g → later ≡ work ++ Caller caller to crossing ∷ [] → Steps program begun_to later g (λ n s. body_acts program n g tt s) step last last_work last_frame → Steps program before work caller (tries crossing) step last last_work last_frame
-  enter_steps crossing {work} {later} {mid} {begun_to} {g} there c taken tells b pushed
-      h =
+  pub enter_steps : (crossing : Option ℕ) {work later last_work : List Work} {before mid told begun_to last : Seen}
+      {g last_frame : Frame} {step : Step} → Found → Comes before mid (Ok tt) turn → before.turns ≡ suc mid.turns →
+      told ≡ told_call caller callee args crossing mid → Begun callee args told begun_to g →
+      later ≡ work ++ Caller caller to crossing ∷ [] →
+      Steps program begun_to later g (λ n s. body_acts program n g tt s) step last last_work last_frame →
+      Steps program before work caller (tries crossing) step last last_work last_frame
+  enter_steps crossing {work} {later} {mid} {begun_to} {g} there c taken tells b pushed h =
       record {
         stands = λ whole standing. h.stands whole (entered_from whole work later _ mid _ g there
             (subst (λ x. Begun callee args x begun_to g) tells b) pushed taken c standing);
       }
 
   -- a call that has no turn left
-  pub enter_stops : (crossing : Option ℕ) {work : List Work} {before after : Seen} {end : RunEnd} → Comes before after (Err end) turn → Steps program before work caller (tries crossing) (Stop end) after work caller
-  enter_stops crossing c = steps_as
-      
-      (λ n s. then_then (turn s) (λ _ s. from_call _ n s) (result_goes program caller to)) (step_stops
-       (λ n u s. and_then (from_call _ n s) (result_goes program caller to)) c)
+  pub enter_stops : (crossing : Option ℕ) {work : List Work} {before after : Seen} {end : RunEnd} →
+      Comes before after (Err end) turn → Steps program before work caller (tries crossing) (Stop end) after work caller
+  enter_stops crossing c = steps_as (λ n s. then_then (turn s) (λ _ s. from_call _ n s) (result_goes program caller to))
+      (step_stops (λ n u s. and_then (from_call _ n s) (result_goes program caller to)) c)
 
 -- how a call ends, once control left the body in this way
 abbrev pub ClosedBy : ProgramTree → Frame → Exit → Result (Option Value) RunEnd → Type 0
@@ -194,7 +199,8 @@ module _ (program : ProgramTree) (f : Frame) (exit : Exit) where
       ClosedBy program f exit (Ok v) → returned program f back (leaving s) ≡ back v (over s)
   returned_ok v back s is = ap (λ p. and_then p (λ v t. back v (over t))) (is s)
 
-  returned_err : {end : RunEnd} (back : Option Value → State → Piece (Option Value)) {s : State} → ClosedBy program f exit (Err end) → returned program f back (leaving s) ≡ Stopped end s
+  returned_err : {end : RunEnd} (back : Option Value → State → Piece (Option Value)) {s : State} →
+      ClosedBy program f exit (Err end) → returned program f back (leaving s) ≡ Stopped end s
   returned_err back {s} is = ap (λ p. and_then p (λ v t. back v (over t))) (is s)
 
   over_seen : (s : State) {before : Seen} → seen_of s ≡ before → seen_of (over s) ≡ left_by f before
@@ -207,9 +213,9 @@ module _ (program : ProgramTree) (f : Frame) (exit : Exit) where
     abbrev waiting : List Work
     waiting = work ++ Caller caller to crossing ∷ []
 
-    resumed : (n : ℕ) (s : State) → resume program n (reverse waiting) f (leaving s) ≡ resume program (suc n)
-        (reverse work) caller
-        (and_then (returned program f (back_to program caller f crossing) (leaving s)) (result_goes program caller to))
+    resumed : (n : ℕ) (s : State) → resume program n (reverse waiting) f (leaving s) ≡ resume program (suc n) (reverse
+        work) caller (and_then (returned program f (back_to program caller f crossing) (leaving s)) (result_goes program
+        caller to))
     resumed n s = ap (λ ws. resume program n ws f (leaving s)) (newest_first work _)
 
     pub call_ends : (end : RunEnd) → ClosedBy program f exit (Err end) →
@@ -219,12 +225,10 @@ module _ (program : ProgramTree) (f : Frame) (exit : Exit) where
         (returned_err (back_to program caller f crossing) is)) ∙ resume_stopped program (suc h.open_calls)
         (reverse work) caller end h.state ∙ (λ i. record { trace = (h.shows i).trace; end = end })
 
-    back_at : (cross : Option ℕ) (v : Option Value) (n : ℕ) (s : State)
-        (rest : (resume program n (reverse work) caller
+    back_at : (cross : Option ℕ) (v : Option Value) (n : ℕ) (s : State) (rest : (resume program n (reverse work) caller
         (and_then (back_to program caller f cross v (over s)) (result_goes program caller to))).behaviour ≡ whole) →
-        seen_of s ≡ before → s.turns ≤ n → Standing program whole
-        (told_back program caller f cross v (left_by f before)) work caller
-        (λ n s. result_goes program caller to (back_value program f cross v) s)
+        seen_of s ≡ before → s.turns ≤ n → Standing program whole (told_back program caller f cross v (left_by f
+        before)) work caller (λ n s. result_goes program caller to (back_value program f cross v) s)
     back_at None v n s rest shows enough =
         record { open_calls = n; state = over s; shows = over_seen s shows; enough = enough; rest = rest }
     back_at (Some index) v n s rest shows enough =
@@ -239,22 +243,28 @@ module _ (program : ProgramTree) (f : Frame) (exit : Exit) where
         }
 
     pub call_returns : (v : Option Value) → ClosedBy program f exit (Ok v) →
-        Standing program whole before waiting f (λ n s. leaving s) →
-        Standing program whole (told_back program caller f crossing v (left_by f before)) work caller
-        (λ n s. result_goes program caller to (back_value program f crossing v) s)
-    call_returns v is h =
-        back_at _ v (suc h.open_calls) h.state (ap (λ r. r.behaviour) (sym (resumed _ h.state ∙
-        ap (λ p. resume program (suc h.open_calls) (reverse work) caller (and_then p (result_goes program caller to)))
+        Standing program whole before waiting f (λ n s. leaving s) → Standing program whole (told_back program caller f
+        crossing v (left_by f before)) work caller (λ n s. result_goes program caller to (back_value program f crossing
+        v) s)
+    call_returns v is h = back_at _ v (suc h.open_calls) h.state (ap (λ r. r.behaviour) (sym (resumed _ h.state ∙ ap
+        (λ p. resume program (suc h.open_calls) (reverse work) caller (and_then p (result_goes program caller to)))
         (returned_ok v (back_to program caller f _) h.state is))) ∙ h.rest) h.shows (more _ _ h.enough) where
           more : (a b : ℕ) → a ≤ b → a ≤ suc b
           more a b z = omega (arith, z)
 
   module _ (before : Seen) where
-    pub return_stops : {work : List Work} (caller : Frame) (to : To) (crossing : Option ℕ) {end : RunEnd} → ClosedBy program f exit (Err end) → Steps program before (work ++ Caller caller to crossing ∷ []) f (λ n s. leaving s) (Stop end) before work f
+    pub return_stops : {work : List Work} (caller : Frame) (to : To) (crossing : Option ℕ) {end : RunEnd} →
+        ClosedBy program f exit (Err end) →
+        Steps program before (work ++ Caller caller to crossing ∷ []) f (λ n s. leaving s) (Stop end) before work f
     return_stops {work} caller to crossing {end} is =
         record { stands = λ whole h. call_ends whole before work caller to _ end is h }
 
-    pub return_steps : {work : List Work} {caller : Frame} (to : To) (crossing : Option ℕ) (v : Option Value) {back : Option Value} {ended told after : Seen} {step : Step} → ClosedBy program f exit (Ok v) → ended ≡ left_by f before → back ≡ back_value program f crossing v → told ≡ told_back program caller f crossing v ended → Steps program told work caller (λ n s. result_goes program caller to back s) step after work caller → Steps program before (work ++ Caller caller to crossing ∷ []) f (λ n s. leaving s) step after work caller
+    pub return_steps : {work : List Work} {caller : Frame} (to : To) (crossing : Option ℕ) (v : Option Value)
+        {back : Option Value} {ended told after : Seen} {step : Step} → ClosedBy program f exit (Ok v) →
+        ended ≡ left_by f before → back ≡ back_value program f crossing v →
+        told ≡ told_back program caller f crossing v ended →
+        Steps program told work caller (λ n s. result_goes program caller to back s) step after work caller →
+        Steps program before (work ++ Caller caller to crossing ∷ []) f (λ n s. leaving s) step after work caller
     return_steps {work} {caller} to crossing v {back} is ends gives tells h =
         record {
           stands = λ whole standing. h.stands whole

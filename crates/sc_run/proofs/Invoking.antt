@@ -53,21 +53,25 @@ module _ (program : ProgramTree) (before : Seen) (work : List Work) (f : Frame) 
   calling target args n s = and_then (calls_in program n f.scope.comp.now target args s) rg
 
   abbrev tried : Bool → CallTarget → List Value → Doing
-  tried b target args n s = and_then (if b then called (library program) (bodies program n) f.scope.comp.now target
-      args s else Stopped refusal s) rg
+  tried b target args n s = and_then (if b then called (library program) (bodies program n) f.scope.comp.now target args
+      s else Stopped refusal s) rg
 
-  pub refused : (target : CallTarget) (args : List Value) {end : RunEnd} → end ≡ refusal → may_call (library program) f.scope.comp.now target args ≡ false → Steps program before work f (calling target args) (Stop end) before work f
+  pub refused : (target : CallTarget) (args : List Value) {end : RunEnd} → end ≡ refusal →
+      may_call (library program) f.scope.comp.now target args ≡ false →
+      Steps program before work f (calling target args) (Stop end) before work f
   refused target args same is =
-      subst (λ e. Steps program before work f (calling target args) (Stop e) before work f) (sym same)
-      (steps_as
-      (λ n s. ap (λ b. tried b target args n s) is)
-      (step_stops (λ n. rg) halts))
+      subst (λ e. Steps program before work f (calling target args) (Stop e) before work f) (sym same) (steps_as
+      (λ n s. ap (λ b. tried b target args n s) is) (step_stops (λ n. rg) halts))
 
-  allowed : (target : CallTarget) (args : List Value) {step : Step} {after : Seen} {later : List Work} {g : Frame} → may_call (library program) f.scope.comp.now target args ≡ true → Steps program before work f (tried true target args) step after later g → Steps program before work f (calling target args) step after later g
-  allowed target args is h = steps_as
-      (λ n s. ap (λ b. tried b target args n s) is) h
+  allowed : (target : CallTarget) (args : List Value) {step : Step} {after : Seen} {later : List Work} {g : Frame} →
+      may_call (library program) f.scope.comp.now target args ≡ true →
+      Steps program before work f (tried true target args) step after later g →
+      Steps program before work f (calling target args) step after later g
+  allowed target args is h = steps_as (λ n s. ap (λ b. tried b target args n s) is) h
 
-  pub own_missing : (number : ℕ) (args : List Value) {end : RunEnd} → end ≡ refusal → function (library program) f.scope.comp.now number ≡ None → Steps program before work f (calling (Own number) args) (Stop end) before work f
+  pub own_missing : (number : ℕ) (args : List Value) {end : RunEnd} → end ≡ refusal →
+      function (library program) f.scope.comp.now number ≡ None →
+      Steps program before work f (calling (Own number) args) (Stop end) before work f
   own_missing number args same is = refused (Own number) args same (ap is_some is)
 
   -- a function that is entered, as a call sees it
@@ -76,15 +80,19 @@ module _ (program : ProgramTree) (before : Seen) (work : List Work) (f : Frame) 
       and_then (and_then (turn s) (λ _ s. run_in (library program) (bodies program n) callee.comp.now callee.number args
       (back_from program f callee crossing) (entry_from f callee args crossing s))) rg
 
-  is_there : (callee : Callee) {comp number : ℕ} → callee.comp.now ≡ comp → callee.number ≡ number → {g : Function} → function (library program) callee.comp.now callee.number ≡ Some g → is_some (function (library program) comp number) ≡ true
-  is_there callee here place there = (λ i.
-      is_some (function (library program) (sym here i) (sym place i))) ∙ ap is_some there
+  is_there : (callee : Callee) {comp number : ℕ} → callee.comp.now ≡ comp → callee.number ≡ number → {g : Function} →
+      function (library program) callee.comp.now callee.number ≡ Some g →
+      is_some (function (library program) comp number) ≡ true
+  is_there callee here place there = (λ i. is_some
+      (function (library program) (sym here i) (sym place i))) ∙ ap is_some there
 
-  pub own_enters : (callee : Callee) (number : ℕ) (args : List Value) {step : Step} {after : Seen} {later : List Work} {g : Frame} → FoundAt program f.scope.comp.now number (Some callee) → Steps program before work f (entering callee args None) step after later g → Steps program before work f (calling (Own number) args) step after later g
-  own_enters callee number args found h =
-      allowed (Own number) args (is_there callee found.0 found.1 found.2)
-      (steps_as (λ n s i. and_then (and_then (turn s) (λ _ s.
-      run_in (library program) (bodies program n) (sym found.0 i) (sym found.1 i) args back_own s)) rg) h)
+  pub own_enters : (callee : Callee) (number : ℕ) (args : List Value) {step : Step} {after : Seen} {later : List Work}
+      {g : Frame} → FoundAt program f.scope.comp.now number (Some callee) →
+      Steps program before work f (entering callee args None) step after later g →
+      Steps program before work f (calling (Own number) args) step after later g
+  own_enters callee number args found h = allowed (Own number) args (is_there callee found.0 found.1 found.2)
+      (steps_as (λ n s i. and_then (and_then (turn s) (λ _ s. run_in (library program) (bodies program n)
+      (sym found.0 i) (sym found.1 i) args back_own s)) rg) h)
 
   module _ (comp index : ℕ) (args : List Value) where
     abbrev imported : Bool
@@ -106,7 +114,8 @@ module _ (program : ProgramTree) (before : Seen) (work : List Work) (f : Frame) 
     abbrev pub MayCross : Bool → Type 0
     MayCross may = may ≡ (imported && (taken && words))
 
-    pub cross_refused : {end : RunEnd} → end ≡ refusal → MayCross false → Steps program before work f (calling (Cross comp index) args) (Stop end) before work f
+    pub cross_refused : {end : RunEnd} → end ≡ refusal → MayCross false →
+        Steps program before work f (calling (Cross comp index) args) (Stop end) before work f
     cross_refused same may = refused (Cross comp index) args same (first_fails _ taken words _ (sym may))
 
     no_lead : (o : Option ℕ) → entry_in program comp (Export index) ≡ o → EntryAt program comp (Export index) None →
@@ -114,54 +123,56 @@ module _ (program : ProgramTree) (before : Seen) (work : List Work) (f : Frame) 
     no_lead None is h = refl
     no_lead (Some number) is h = ap is_some (h number is)
 
-    pub cross_missing : {end : RunEnd} → end ≡ refusal → EntryAt program comp (Export index) None → Steps program before work f (calling (Cross comp index) args) (Stop end) before work f
-    cross_missing same none = refused (Cross comp index) args same
-        (last_fails _ taken words (no_lead _ refl none))
+    pub cross_missing : {end : RunEnd} → end ≡ refusal → EntryAt program comp (Export index) None →
+        Steps program before work f (calling (Cross comp index) args) (Stop end) before work f
+    cross_missing same none = refused (Cross comp index) args same (last_fails _ taken words (no_lead _ refl none))
 
-    pub cross_enters : (callee : Callee) {step : Step} {after : Seen} {later : List Work} {g : Frame} → MayCross true → EntryAt program comp (Export index) (Some callee) → Steps program before work f (entering callee args (Some index)) step after later g → Steps program before work f (calling (Cross comp index) args) step after later g
-    cross_enters callee may entry h = allowed (Cross comp index) args (all_hold
-        imported taken words (sym may)
-        (ap leads_there entry.0 ∙ is_there callee entry.1.0 refl entry.1.2))
-        (steps_as
-         same h) where
+    pub cross_enters : (callee : Callee) {step : Step} {after : Seen} {later : List Work} {g : Frame} → MayCross true →
+        EntryAt program comp (Export index) (Some callee) →
+        Steps program before work f (entering callee args (Some index)) step after later g →
+        Steps program before work f (calling (Cross comp index) args) step after later g
+    cross_enters callee may entry h = allowed (Cross comp index) args (all_hold imported taken words (sym may)
+        (ap leads_there entry.0 ∙ is_there callee entry.1.0 refl entry.1.2)) (steps_as same h) where
           as_words : crossed args ≡ args
           as_words = words_cross args (and_rest taken words (and_rest imported (taken && words) (sym may)))
 
           same : (n : ℕ) (s : State) → tried true (Cross comp index) args n s ≡ entering callee args (Some index) n s
-          same n s =
-              (λ i. and_then (and_then (turn s) (λ _ s.
-              and_then (found (entry.0 i) s) (λ number s.
-              run_in (library program) (bodies program n) comp number (as_words i)
+          same n s = (λ i. and_then (and_then (turn s) (λ _ s. and_then (found (entry.0 i) s) (λ number s. run_in
+              (library program) (bodies program n) comp number (as_words i)
               (back_cross program.interfaces f.scope.comp.now comp index)
-              (tell (Call f.scope.comp.now comp index (map word_in args)) s)))) rg)
-              ∙ (λ i. and_then (and_then (turn s) (λ _ s.
-              run_in (library program) (bodies program n) (sym entry.1.0 i) callee.number args
-              (back_cross program.interfaces f.scope.comp.now (sym entry.1.0 i) index)
+              (tell (Call f.scope.comp.now comp index (map word_in args)) s)))) rg) ∙
+              (λ i. and_then (and_then (turn s) (λ _ s. run_in (library program) (bodies program n) (sym entry.1.0 i)
+              callee.number args (back_cross program.interfaces f.scope.comp.now (sym entry.1.0 i) index)
               (tell (Call f.scope.comp.now (sym entry.1.0 i) index (map word_in args)) s))) rg)
 
   -- the next input
-  pub input_steps : (args : List Value) {word : ℕ} {middle told after : Seen} {step : Step} → may_call (library program) f.scope.comp.now Input args ≡ true → word ≡ next_input before.inputs → middle ≡ record before { inputs = drop 1 before.inputs } → told ≡ record middle { trace = middle.trace ++ In f.scope.comp.now word ∷ [] } → Steps program told work f (λ n s. rg (Some (Word word)) s) step after work f → Steps program before work f (calling Input args) step after work f
-  input_steps args {word} {told} may is rest tells h =
-      allowed Input args may (steps_on
+  pub input_steps : (args : List Value) {word : ℕ} {middle told after : Seen} {step : Step} →
+      may_call (library program) f.scope.comp.now Input args ≡ true → word ≡ next_input before.inputs →
+      middle ≡ record before { inputs = drop 1 before.inputs } →
+      told ≡ record middle { trace = middle.trace ++ In f.scope.comp.now word ∷ [] } →
+      Steps program told work f (λ n s. rg (Some (Word word)) s) step after work f →
+      Steps program before work f (calling Input args) step after work f
+  input_steps args {word} {told} may is rest tells h = allowed Input args may (steps_on
       {p = λ s. Reached (Some (Word _)) (read_input f.scope.comp.now s)} (λ n. rg) (record {
         comes = λ s shows. (ap (λ w. Some (Word w)) (ap (λ x. next_input x.inputs) shows ∙ sym is), seen s shows);
         fewer = omega (arith, ap (λ x. x.turns) tells, ap (λ x. x.turns) rest);
       }) h) where
         seen : (s : State) → seen_of s ≡ before → seen_of (read_input f.scope.comp.now s) ≡ told
-        seen s shows =
-            ap {A = Seen} (λ x. record x {
+        seen s shows = ap {A = Seen} (λ x. record x {
               trace = x.trace ++ In f.scope.comp.now (next_input x.inputs) ∷ [];
               inputs = drop 1 x.inputs;
             }) shows ∙ (λ i. record before {
               trace = before.trace ++ In f.scope.comp.now (sym is i) ∷ [];
               inputs = drop 1 before.inputs;
-            })
-            ∙ ap {A = Seen} (λ x. record x { trace = x.trace ++ In f.scope.comp.now word ∷ [] }) (sym rest) ∙ sym tells
+            }) ∙ ap {A = Seen} (λ x. record x { trace = x.trace ++ In f.scope.comp.now word ∷ [] }) (sym rest) ∙ sym
+            tells
 
-  pub output_steps : (args : List Value) {word : ℕ} {told after : Seen} {step : Step} → may_call (library program) f.scope.comp.now Output args ≡ true → word ≡ first_word args → told ≡ record before { trace = before.trace ++ Out f.scope.comp.now word ∷ [] } → Steps program told work f (λ n s. rg None s) step after work f → Steps program before work f (calling Output args) step after work f
-  output_steps args may is tells h =
-      allowed Output args may (steps_on
-      {p = λ s. Reached None _} (λ n. rg) (record {
+  pub output_steps : (args : List Value) {word : ℕ} {told after : Seen} {step : Step} →
+      may_call (library program) f.scope.comp.now Output args ≡ true → word ≡ first_word args →
+      told ≡ record before { trace = before.trace ++ Out f.scope.comp.now word ∷ [] } →
+      Steps program told work f (λ n s. rg None s) step after work f →
+      Steps program before work f (calling Output args) step after work f
+  output_steps args may is tells h = allowed Output args may (steps_on {p = λ s. Reached None _} (λ n. rg) (record {
         comes = λ s shows. (
           refl,
           ap {A = Seen} (λ x.
@@ -184,36 +195,48 @@ module _ (program : ProgramTree) (before : Seen) (work : List Work) (f : Frame) 
     by_assoc : (n : ℕ) (s : State) → whole_call n s ≡ stepwise n s
     by_assoc n s = then_then (given_args s) (λ vs s. calls_in program n _ target vs s) rg
 
-  pub as_called : {target t : CallTarget} (args : List Value) {step : Step} {after : Seen} {later : List Work} {g : Frame} → target ≡ t → Steps program before work f (calling t args) step after later g → Steps program before work f (calling target args) step after later g
+  pub as_called : {target t : CallTarget} (args : List Value) {step : Step} {after : Seen} {later : List Work}
+      {g : Frame} → target ≡ t → Steps program before work f (calling t args) step after later g →
+      Steps program before work f (calling target args) step after later g
   as_called args {step} {after} {later} {g} is h =
       subst (λ x. Steps program before work f (calling x args) step after later g) (sym is) h
 
-  pub call_steps_by : (target : CallTarget) {es given_es : List TypedExpr} (line : ℕ) {r : Result (List Value) RunEnd} {vs given_vs : List Value} {step : Step} {after : Seen} {later : List Work} {g : Frame} → given_es ≡ es → r ≡ Ok vs → given_vs ≡ vs → Comes before before r (given_args target given_es line) → Steps program before work f (calling target given_vs) step after later g → Steps program before work f (whole_call target es line) step after later g
-  call_steps_by target {es} {given_es} line {vs} {step} {after} {later} {g} same is values_is c h =
-      steps_as
-      (by_assoc target es line) (steps_on
-      (λ n vs. calling target vs n)
+  pub call_steps_by : (target : CallTarget) {es given_es : List TypedExpr} (line : ℕ) {r : Result (List Value) RunEnd}
+      {vs given_vs : List Value} {step : Step} {after : Seen} {later : List Work} {g : Frame} → given_es ≡ es →
+      r ≡ Ok vs → given_vs ≡ vs → Comes before before r (given_args target given_es line) →
+      Steps program before work f (calling target given_vs) step after later g →
+      Steps program before work f (whole_call target es line) step after later g
+  call_steps_by target {es} {given_es} line {vs} {step} {after} {later} {g} same is values_is c h = steps_as
+      (by_assoc target es line) (steps_on (λ n vs. calling target vs n)
       (subst (λ x. Comes before before (Ok vs) (given_args target x line)) same
       (subst (λ x. Comes before before x (given_args target given_es line)) is c))
-      (subst (λ x. Steps program before work f (calling target x) step after later g) values_is
-      h))
+      (subst (λ x. Steps program before work f (calling target x) step after later g) values_is h))
 
-  pub call_blamed_by : (target : CallTarget) {es given_es : List TypedExpr} (line : ℕ) {r : Result (List Value) RunEnd} {end : RunEnd} → given_es ≡ es → r ≡ Err end → Comes before before r (given_args target given_es line) → Steps program before work f (whole_call target es line) (Stop end) before work f
-  call_blamed_by target {es} {given_es} line {end} same is c =
-      steps_as
-      (by_assoc target es line) (step_stops
+  pub call_blamed_by : (target : CallTarget) {es given_es : List TypedExpr} (line : ℕ) {r : Result (List Value) RunEnd}
+      {end : RunEnd} → given_es ≡ es → r ≡ Err end → Comes before before r (given_args target given_es line) →
+      Steps program before work f (whole_call target es line) (Stop end) before work f
+  call_blamed_by target {es} {given_es} line {end} same is c = steps_as (by_assoc target es line) (step_stops
       (λ n vs. calling target vs n) (subst (λ x. Comes before before (Err end) (given_args target x line)) same
       (subst (λ x. Comes before before x (given_args target given_es line)) is c)))
 
 -- a statement in the head of a `for`, by its kind
-pub simple_as : {program : ProgramTree} {before : Seen} {work : List Work} {f : Frame} {kind k : TypedSimpleKind} (line : ℕ) {step : Step} {after : Seen} {later : List Work} {g : Frame} → kind ≡ k → Steps program before work f (λ n. simple_does c_arith f.scope.structs.now (here_of f.scope) f.scope.params (calls_in program n) k line tt) step after later g → Steps program before work f (λ n. simple_does c_arith f.scope.structs.now (here_of f.scope) f.scope.params (calls_in program n) kind line tt) step after later g
-simple_as {program} {before} {work} {f} line {step} {after} {later} {g} is h =
-    subst (λ x. Steps program before work f (λ n. simple_does c_arith f.scope.structs.now
-    (here_of f.scope) f.scope.params (calls_in program n) x line tt) step after later g) (sym is) h
+pub simple_as : {program : ProgramTree} {before after : Seen} {work later : List Work} {f g : Frame}
+    {kind k : TypedSimpleKind} (line : ℕ) {step : Step} → kind ≡ k → Steps program before work f (λ n. simple_does
+    c_arith f.scope.structs.now (here_of f.scope) f.scope.params (calls_in program n) k line tt) step after later g →
+    Steps program before work f (λ n. simple_does c_arith f.scope.structs.now (here_of f.scope) f.scope.params (calls_in
+    program n) kind line tt) step after later g
+simple_as {program} {before} {after} {work} {later} {f} {g} line {step} is h =
+    subst (λ x. Steps program before work f (λ n. simple_does c_arith f.scope.structs.now (here_of f.scope)
+    f.scope.params (calls_in program n) x line tt) step after later g) (sym is) h
 
 -- a call whose result is stored
-pub stored_call : {program : ProgramTree} {before : Seen} {work : List Work} {f : Frame} (ref : Bor TypedExpr) {place : TypedExpr} (made : TypedCall) (line : ℕ) {step : Step} {after : Seen} {later : List Work} {g : Frame} → ref.now ≡ place → Steps program before work f (λ n s. and_then (call (here_of f.scope) (calls_in program n) made.target (map (way_in f) made.args) line s) (result_goes program f (Place ref line))) step after later g → Steps program before work f (λ n s. assign_call (here_of f.scope) (calls_in program n) (way_in f place) made.target (map (way_in f) made.args) line tt s) step after later g
-stored_call {program} {before} {work} {f} ref made line {step} {after} {later} {g} same h =
+pub stored_call : {program : ProgramTree} {before after : Seen} {work later : List Work} {f g : Frame}
+    (ref : Bor TypedExpr) {place : TypedExpr} (made : TypedCall) (line : ℕ) {step : Step} → ref.now ≡ place → Steps
+    program before work f (λ n s. and_then (call (here_of f.scope) (calls_in program n) made.target (map (way_in f)
+    made.args) line s) (result_goes program f (Place ref line))) step after later g → Steps program before work f (λ n
+    s. assign_call (here_of f.scope) (calls_in program n) (way_in f place) made.target (map (way_in f) made.args) line
+    tt s) step after later g
+stored_call {program} {before} {after} {work} {later} {f} {g} ref made line {step} same h =
     subst (λ x. Steps program before work f (λ n s. and_then
     (call (here_of f.scope) (calls_in program n) made.target (map (way_in f) made.args) line s)
     (λ result s. store_result (here_of f.scope) (way_in f x) result line tt s)) step after later g) same h

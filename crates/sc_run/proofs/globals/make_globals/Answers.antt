@@ -11,8 +11,8 @@ loop-global-preserved c =
     let global = c.global-item.result in
     let zeros : c.as_slice-in-loop-global.result.now ≡ struct_zeros [] c.args.section.now.structs =
     c.as_slice-in-loop-global.ensures.value ∙ c.in_ok-zeros.ensures ∙ ap (struct_zeros []) c.as_slice.ensures in
-    global_more (struct_zeros [] c.args.section.now.structs) c.args.section.now.globals c.loop-global.global-index
-     comp (memory_of c.args.blocks.now)
+    global_more (struct_zeros [] c.args.section.now.structs) c.args.section.now.globals c.loop-global.global-index comp
+    (memory_of c.args.blocks.now)
     (subst (λ gs. c.loop-global.global-index < length gs) c.as_slice-global-items.ensures c.loop-global-test.true)
     (subst (λ gs. global ≡ get_or gs c.loop-global.global-index global) c.as_slice-global-items.ensures
     c.global-item.is) c.loop-global.invariant (subst

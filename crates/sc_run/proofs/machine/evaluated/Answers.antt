@@ -14,5 +14,5 @@ pub returns-in-Err : goal.returns-in-Err
 returns-in-Err c =
     let f = c.args.frame.now in
     given_err (here_of f.scope) c.args.line (λ bs. way_in f c.args.expr.now c.args.want bs)
-    (way_same f.scope.structs.now (here_of f.scope) f.scope.params c.args.expr.now c.args.want)
-     c.blamed.ensures c.in-Err.ensures
+    (way_same f.scope.structs.now (here_of f.scope) f.scope.params c.args.expr.now c.args.want) c.blamed.ensures
+    c.in-Err.ensures

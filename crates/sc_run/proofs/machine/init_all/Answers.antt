@@ -6,24 +6,20 @@ pub loop-at-preserved : goal.loop-at-preserved
 loop-at-preserved c =
     let f = c.args.frame.now in
     started_more f.scope.structs.now (here_of f.scope) f.scope.params f.function.now.locals c.loop-at.at
-     (kept_by c.args.machine.now)
-    (subst (λ ls. c.loop-at.at < length ls) c.as_slice-locals.ensures c.loop-at-test.true)
-    (subst (λ ls. c.index-locals-at.result ≡ get_or ls c.loop-at.at c.index-locals-at.result)
-    c.as_slice-locals.ensures c.index-locals-at.is) c.loop-at.invariant c.in-Ok.ensures
+    (kept_by c.args.machine.now) (subst (λ ls. c.loop-at.at < length ls) c.as_slice-locals.ensures c.loop-at-test.true)
+    (subst (λ ls. c.index-locals-at.result ≡ get_or ls c.loop-at.at c.index-locals-at.result) c.as_slice-locals.ensures
+    c.index-locals-at.is) c.loop-at.invariant c.in-Ok.ensures
 
 pub returns : goal.returns
 returns c =
     let f = c.args.frame.now in
     started_all f.scope.structs.now (here_of f.scope) f.scope.params f.function.now.locals c.loop-at.at
-    
     (subst (λ ls. length ls ≤ c.loop-at.at) c.as_slice-locals.ensures c.loop-at-test.false) c.loop-at.invariant
 
 pub returns-in-Err : goal.returns-in-Err
 returns-in-Err c =
     let f = c.args.frame.now in
-    started_blamed f.scope.structs.now (here_of f.scope) f.scope.params f.function.now.locals c.loop-at.at
-    
-     (subst
+    started_blamed f.scope.structs.now (here_of f.scope) f.scope.params f.function.now.locals c.loop-at.at (subst
     (λ ls. c.loop-at.at < length ls) c.as_slice-locals.ensures c.loop-at-test.true)
-    (subst (λ ls. c.index-locals-at.result ≡ get_or ls c.loop-at.at c.index-locals-at.result)
-    c.as_slice-locals.ensures c.index-locals-at.is) c.loop-at.invariant c.in-Err.ensures
+    (subst (λ ls. c.index-locals-at.result ≡ get_or ls c.loop-at.at c.index-locals-at.result) c.as_slice-locals.ensures
+    c.index-locals-at.is) c.loop-at.invariant c.in-Err.ensures

@@ -9,10 +9,8 @@ loop-at-preserved c =
     let params = c.args.callee.now.function.now.params in
     one_more {A = TypedParam} (λ p. cells_of structs p.ty) params c.loop-at.at c.index-params-at.result
     (subst (λ ps. c.loop-at.at < length ps) c.as_slice-params.ensures c.loop-at-test.true)
-    (subst (λ ps. c.index-params-at.result ≡ get_or ps c.loop-at.at c.index-params-at.result)
-    c.as_slice-params.ensures c.index-params-at.is) c.args.callee.now.comp.now [] c.args.args.now
-     (memory_of c.args.blocks.now)
-     (omega arith)
+    (subst (λ ps. c.index-params-at.result ≡ get_or ps c.loop-at.at c.index-params-at.result) c.as_slice-params.ensures
+    c.index-params-at.is) c.args.callee.now.comp.now [] c.args.args.now (memory_of c.args.blocks.now) (omega arith)
     (c.cells_of-count.ensures ∙ ap (λ (p : TypedParam). cells_of structs p.ty)
     (sym c.index-params-at.is)) c.value_at.ensures c.loop-at.invariant c.in_ok-make_block.ensures
 
@@ -24,11 +22,8 @@ loop-at-2-preserved c =
     (subst (λ ps. c.loop-at-2.at < length ps) c.as_slice-locals.ensures c.loop-at-2-test.true)
     (subst (λ ps. c.index-locals-at.result ≡ get_or ps c.loop-at-2.at c.index-locals-at.result)
     c.as_slice-locals.ensures c.index-locals-at.is) c.args.callee.now.comp.now
-    (param_sizes structs c.args.callee.now.function.now) c.args.args.now
-    
-     (memory_of c.args.blocks.now)
-    
-    (ap (λ n. n + c.loop-at-2.at) (ap (length {A = TypedParam}) c.as_slice-params.ensures ∙
-    sym (length-map c.args.callee.now.function.now.params (λ (p : TypedParam). cells_of structs p.ty))))
+    (param_sizes structs c.args.callee.now.function.now) c.args.args.now (memory_of c.args.blocks.now)
+    (ap (λ n. n + c.loop-at-2.at) (ap (length {A = TypedParam}) c.as_slice-params.ensures ∙ sym
+    (length-map c.args.callee.now.function.now.params (λ (p : TypedParam). cells_of structs p.ty))))
     (c.cells_of-count-in-loop-at-2.ensures ∙ ap (λ (l : TypedLocal). cells_of structs l.ty)
     (sym c.index-locals-at.is)) c.value_at-arg.ensures c.loop-at-2.invariant c.in_ok-make_block-2.ensures

@@ -1,4 +1,4 @@
-use Rattle.sc_run.proofs.Common.{arith, kept_by, ◌-◌}
+use Rattle.sc_run.proofs.Common.{arith}
 use Rattle.sc_run.proofs.Coming.{turn_comes, turn_stops}
 use Rattle.sc_run.proofs.machine.take_turn.Goals as goal
 

@@ -23,6 +23,6 @@ loop-step-preserved c =
     c.in-Ok-Go.ensures c.in-Ok-Go.field-0-is
 
 pub loop-step-init : goal.loop-step-init
-loop-step-init c = λ whole h.
-    subst (λ ws. Standing c.args.program.now whole (kept_by c.args.run.now.machine) ws c.args.run.now.frame
+loop-step-init c = λ whole h. subst
+    (λ ws. Standing c.args.program.now whole (kept_by c.args.run.now.machine) ws c.args.run.now.frame
     (does_now c.args.program.now c.args.run.now.frame c.args.first)) (sym c.requires) h

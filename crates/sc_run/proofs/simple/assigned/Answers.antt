@@ -1,9 +1,5 @@
-use Rattle.sc_run.proofs.Common.{assign, here_of, kept_by, way_in}
 use Rattle.sc_run.proofs.Looping.{step_ends}
 use Rattle.sc_run.proofs.simple.assigned.Goals as goal
 
 pub returns-in-Err : goal.returns-in-Err
-returns-in-Err c =
-    step_ends
-    
-     c.in-Err.ensures
+returns-in-Err c = step_ends c.in-Err.ensures

@@ -8,9 +8,6 @@ returns-then-not-imports_input c =
     c.args.args.now c.refusal.ensures (sym c.if-not-imports_input.ensures)
 
 pub returns : goal.returns
-returns c =
-    input_steps c.args.program.now (kept_by c.args.machine.now) c.args.work.now.items c.args.frame.now c.args.to
-    c.args.args.now
-    
-    (sym c.if-not-imports_input.ensures) c.next_input-value.ensures.word c.next_input-value.ensures.rest
+returns c = input_steps c.args.program.now (kept_by c.args.machine.now) c.args.work.now.items c.args.frame.now c.args.to
+    c.args.args.now (sym c.if-not-imports_input.ensures) c.next_input-value.ensures.word c.next_input-value.ensures.rest
     c.in_ok-tell.ensures c.hand_back.ensures

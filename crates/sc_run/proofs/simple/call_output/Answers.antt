@@ -10,6 +10,5 @@ returns-then-not-may_output c =
 pub returns : goal.returns
 returns c =
     output_steps c.args.program.now (kept_by c.args.machine.now) c.args.work.now.items c.args.frame.now c.args.to
-    c.args.args.now
-    
-    (sym c.if-not-may_output.ensures) c.first_word-value.ensures c.in_ok-tell.ensures c.hand_back.ensures
+    c.args.args.now (sym c.if-not-may_output.ensures) c.first_word-value.ensures c.in_ok-tell.ensures
+    c.hand_back.ensures

@@ -8,7 +8,6 @@ returns-in-None c =
     c.args.to c.args.number c.args.args.now c.refusal.ensures c.in-None.ensures
 
 pub returns-in-Some : goal.returns-in-Some
-returns-in-Some c =
-    IfOk-weaker c.enter.result _ _ (λ step h. own_enters c.args.program.now
+returns-in-Some c = IfOk-weaker c.enter.result _ _ (λ step h. own_enters c.args.program.now
     (kept_by c.args.run.now.machine) c.args.run.now.work.items c.args.run.now.frame c.args.to c.in-Some.callee
     c.args.number c.args.args.now c.in-Some.ensures h) c.enter.ensures

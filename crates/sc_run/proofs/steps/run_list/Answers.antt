@@ -1,29 +1,19 @@
-use Rattle.sc_run.proofs.Common.{Go, IfOk-weaker, Leave, None, Some, kept_by, left_at, refl}
-use Rattle.sc_run.specs.declared.work.Leaving.TheVariants as leaving
+use Rattle.sc_run.proofs.Common.{IfOk-weaker, None, Some, refl}
 use Rattle.sc_run.proofs.Ahead.{at_behind, none_in, rest_behind}
 use Rattle.sc_run.proofs.Looping.{steps_later}
 use Rattle.sc_run.proofs.steps.run_list.Goals as goal
 
 pub returns-in-None : goal.returns-in-None
 returns-in-None c =
-    let seen = kept_by c.done_first.new.machine in
     let f = c.args.run.now.frame in
-    let work = c.args.run.now.work.items in
-    at_behind c.args.program.now f None
-     refl c.in-None.ensures.passes
-    (steps_later
-     (λ n s. refl))
+    at_behind c.args.program.now f None refl c.in-None.ensures.passes (steps_later (λ n s. refl))
 
 pub returns-then-is_empty : goal.returns-then-is_empty
 returns-then-is_empty c =
-    IfOk-weaker c.run_first.result _ _ (λ step h. rest_behind c.args.program.now c.args.run.now.frame
-    
-     c.in-Some.at refl
-    (none_in c.in-Some.at.part.now c.is_empty.ensures c.if-is_empty.true)
-    c.in-Some.ensures.passes h) c.run_first.ensures
+    IfOk-weaker c.run_first.result _ _ (λ step h. rest_behind c.args.program.now c.args.run.now.frame c.in-Some.at refl
+    (none_in c.in-Some.at.part.now c.is_empty.ensures c.if-is_empty.true) c.in-Some.ensures.passes
+    h) c.run_first.ensures
 
 pub returns-else-is_empty : goal.returns-else-is_empty
-returns-else-is_empty c =
-    IfOk-weaker c.go_on.result _ _ (λ step h. at_behind c.args.program.now c.args.run.now.frame
-    
-     (Some c.in-Some.at) refl c.in-Some.ensures.passes h) c.go_on.ensures
+returns-else-is_empty c = IfOk-weaker c.go_on.result _ _ (λ step h. at_behind c.args.program.now c.args.run.now.frame
+    (Some c.in-Some.at) refl c.in-Some.ensures.passes h) c.go_on.ensures
