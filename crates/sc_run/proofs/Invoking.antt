@@ -1,19 +1,17 @@
 -- Calls in statements: refused, looked up, and of the environment.
-use Rattle.sc_run.proofs.Common.{BadType, Blamed, Bool, Bor, Call, Callee, Comes, Cross, Doing, EntryAt, Err, Export}
+use Rattle.sc_run.proofs.Common.{BadType, Blamed, Bool, Call, Callee, Comes, Cross, Doing, EntryAt, Err, Export}
 use Rattle.sc_run.proofs.Common.{FoundAt, Frame, Function, In, Input, Left, List, None, Ok, Option, Out, Output, Own}
-use Rattle.sc_run.proofs.Common.{Piece, Place, ProgramTree, Reached, Result, RunEnd, Seen, Some, State, Step, Steps}
-use Rattle.sc_run.proofs.Common.{Stop, Stopped, To, TypedExpr, TypedSimpleKind, Value, Word, Work, [], and_then, ap}
-use Rattle.sc_run.proofs.Common.{arith, assign_call, back_cross, back_from, back_own, bodies, c_arith, call, called}
-use Rattle.sc_run.proofs.Common.{calls_in, computed, crossed, drop, entry_from, entry_in, false, false≢true, first_word}
-use Rattle.sc_run.proofs.Common.{found, function, here_of, if◌then◌else◌, is_some, is_word, leads, length, library, map}
-use Rattle.sc_run.proofs.Common.{may_call, next_input, read_input, refl, result_goes, run_in, seen_of, simple_does}
-use Rattle.sc_run.proofs.Common.{store_result, subst, sym, tell, then_then, true, true≢false, turn, values, way_in}
-use Rattle.sc_run.proofs.Common.{word_in, ℕ, ◌&&◌, ◌++◌, ◌∙◌, ◌∷◌, ◌≡◌}
+use Rattle.sc_run.proofs.Common.{Piece, ProgramTree, Reached, Result, RunEnd, Seen, Some, State, Step, Steps, Stop}
+use Rattle.sc_run.proofs.Common.{Stopped, To, TypedExpr, Value, Word, Work, [], and_then, ap, arith, back_cross}
+use Rattle.sc_run.proofs.Common.{back_from, back_own, bodies, call, called, calls_in, computed, crossed, drop}
+use Rattle.sc_run.proofs.Common.{entry_from, entry_in, false, false≢true, first_word, found, function, here_of}
+use Rattle.sc_run.proofs.Common.{if◌then◌else◌, is_some, is_word, leads, length, library, map, may_call, next_input}
+use Rattle.sc_run.proofs.Common.{read_input, refl, result_goes, run_in, seen_of, subst, sym, tell, then_then, true}
+use Rattle.sc_run.proofs.Common.{true≢false, turn, values, way_in, word_in, ℕ, ◌&&◌, ◌++◌, ◌∙◌, ◌∷◌, ◌≡◌}
 use Rattle.sc_event.specs.Prelude.{imports, is_function, takes}
 use Rattle.std.specs.List.{list_all}
 use Rattle.sc_base.proofs.Bools.{and_rest}
 use Rattle.sc_core.specs.declared.expr.CallTarget.{CallTarget}
-use Rattle.sc_core.specs.declared.expr.TypedCall.{TypedCall}
 use Rattle.sc_run.proofs.Looping.{step_stops, steps_as, steps_on}
 
 -- words cross as they are
@@ -195,12 +193,6 @@ module _ (program : ProgramTree) (before : Seen) (work : List Work) (f : Frame) 
     by_assoc : (n : ℕ) (s : State) → whole_call n s ≡ stepwise n s
     by_assoc n s = then_then (given_args s) (λ vs s. calls_in program n _ target vs s) rg
 
-  pub as_called : {target t : CallTarget} (args : List Value) {step : Step} {after : Seen} {later : List Work}
-      {g : Frame} → target ≡ t → Steps program before work f (calling t args) step after later g →
-      Steps program before work f (calling target args) step after later g
-  as_called args {step} {after} {later} {g} is h =
-      subst (λ x. Steps program before work f (calling x args) step after later g) (sym is) h
-
   pub call_steps_by : (target : CallTarget) {es given_es : List TypedExpr} (line : ℕ) {r : Result (List Value) RunEnd}
       {vs given_vs : List Value} {step : Step} {after : Seen} {later : List Work} {g : Frame} → given_es ≡ es →
       r ≡ Ok vs → given_vs ≡ vs → Comes before before r (given_args target given_es line) →
@@ -218,25 +210,3 @@ module _ (program : ProgramTree) (before : Seen) (work : List Work) (f : Frame) 
   call_blamed_by target {es} {given_es} line {end} same is c = steps_as (by_assoc target es line) (step_stops
       (λ n vs. calling target vs n) (subst (λ x. Comes before before (Err end) (given_args target x line)) same
       (subst (λ x. Comes before before x (given_args target given_es line)) is c)))
-
--- a statement in the head of a `for`, by its kind
-pub simple_as : {program : ProgramTree} {before after : Seen} {work later : List Work} {f g : Frame}
-    {kind k : TypedSimpleKind} (line : ℕ) {step : Step} → kind ≡ k → Steps program before work f (λ n. simple_does
-    c_arith f.scope.structs.now (here_of f.scope) f.scope.params (calls_in program n) k line tt) step after later g →
-    Steps program before work f (λ n. simple_does c_arith f.scope.structs.now (here_of f.scope) f.scope.params (calls_in
-    program n) kind line tt) step after later g
-simple_as {program} {before} {after} {work} {later} {f} {g} line {step} is h =
-    subst (λ x. Steps program before work f (λ n. simple_does c_arith f.scope.structs.now (here_of f.scope)
-    f.scope.params (calls_in program n) x line tt) step after later g) (sym is) h
-
--- a call whose result is stored
-pub stored_call : {program : ProgramTree} {before after : Seen} {work later : List Work} {f g : Frame}
-    (ref : Bor TypedExpr) {place : TypedExpr} (made : TypedCall) (line : ℕ) {step : Step} → ref.now ≡ place → Steps
-    program before work f (λ n s. and_then (call (here_of f.scope) (calls_in program n) made.target (map (way_in f)
-    made.args) line s) (result_goes program f (Place ref line))) step after later g → Steps program before work f (λ n
-    s. assign_call (here_of f.scope) (calls_in program n) (way_in f place) made.target (map (way_in f) made.args) line
-    tt s) step after later g
-stored_call {program} {before} {after} {work} {later} {f} {g} ref made line {step} same h =
-    subst (λ x. Steps program before work f (λ n s. and_then
-    (call (here_of f.scope) (calls_in program n) made.target (map (way_in f) made.args) line s)
-    (λ result s. store_result (here_of f.scope) (way_in f x) result line tt s)) step after later g) same h

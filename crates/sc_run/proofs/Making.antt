@@ -1,14 +1,13 @@
 -- The variables of a call and their initialisers, and globals, one after the other.
 use Rattle.sc_run.proofs.Common.{Acts, Blocks, Bool, CameTo, Cell, Comes, Err, Here, Left, List, Memory, None, Null}
-use Rattle.sc_run.proofs.Common.{Option, Piece, Reached, Result, RunEnd, Seen, Some, State, Stopped, TypedExpr}
-use Rattle.sc_run.proofs.Common.{TypedGlobal, TypedLocal, TypedParam, TypedSection, TypedStruct, Undef, Value, []}
-use Rattle.sc_run.proofs.Common.{add-one, all_do, ap, append-nil, append_assoc, arith, block_for, blocks_for, c_arith}
-use Rattle.sc_run.proofs.Common.{cell_with, cells_of, drop, drop-cons, drop-step, drop_all, drop_next, eq-eqb, false}
-use Rattle.sc_run.proofs.Common.{first_blocks, follow, get_or, global_block, globals_of, if◌then◌else◌, in_order}
-use Rattle.sc_run.proofs.Common.{init_does, inits_do, length, length-append, length-map, length-take, map, map-append}
-use Rattle.sc_run.proofs.Common.{member_zeros, refl, repeated, seen_of, slice_get, subst, suc, sym, take, take-map}
-use Rattle.sc_run.proofs.Common.{take_more, true, with_blocks, with_words, zero, zeros_of, ℕ, ◌++◌, ◌+◌, ◌<◌, ◌==◌, ◌∙◌}
-use Rattle.sc_run.proofs.Common.{◌∷◌, ◌≡◌, ◌≤◌}
+use Rattle.sc_run.proofs.Common.{Option, Piece, Reached, Result, RunEnd, Seen, Some, State, Stopped, TypedGlobal}
+use Rattle.sc_run.proofs.Common.{TypedLocal, TypedParam, TypedSection, TypedStruct, Undef, Value, [], add-one, all_do}
+use Rattle.sc_run.proofs.Common.{ap, append-nil, append_assoc, arith, block_for, blocks_for, c_arith, cell_with}
+use Rattle.sc_run.proofs.Common.{cells_of, drop, drop-cons, drop-step, drop_all, drop_next, eq-eqb, false, first_blocks}
+use Rattle.sc_run.proofs.Common.{follow, get_or, global_block, globals_of, if◌then◌else◌, in_order, init_does, inits_do}
+use Rattle.sc_run.proofs.Common.{length, length-append, length-map, length-take, map, map-append, member_zeros, refl}
+use Rattle.sc_run.proofs.Common.{repeated, seen_of, slice_get, subst, suc, sym, take, take-map, take_more, true}
+use Rattle.sc_run.proofs.Common.{with_blocks, with_words, zero, zeros_of, ℕ, ◌++◌, ◌+◌, ◌<◌, ◌==◌, ◌∙◌, ◌∷◌, ◌≡◌, ◌≤◌}
 use Rattle.std.proofs.Math.Dec.{eqb-suc-zero, eqb-zero-suc, eqb-suc-suc}
 use Rattle.sc_core.specs.declared.section.TypedMember.{TypedMember}
 use Rattle.sc_core.specs.declared.section.TypedFunction.{TypedFunction}
@@ -50,13 +49,6 @@ with_more comp sizes args n memory {now} place is so_far gives =
     (blocks_for sizes args) (block_for n _ ∷ []) ∙ ap (λ bs. memory comp ++ bs) (sym (blocks_more sizes args n)))
 
 module _ (structs : List TypedStruct) (here : Here) (params : ℕ) where
-  pub init_is : (k : ℕ) (local : TypedLocal) {e : TypedExpr} {before after : Seen}
-      {r : Result (Left (Unit {0})) RunEnd} → local.init ≡ Some e →
-      Comes before after r (init_does c_arith structs here params k local (Some e) tt) →
-      Comes before after r (init_does c_arith structs here params k local local.init tt)
-  init_is k local {before} {after} {r} is c =
-      subst (λ i. Comes before after r (init_does c_arith structs here params k local i tt)) (sym is) c
-
   -- the initialisers, from a local on
   abbrev pub inits_from : List TypedLocal → ℕ → Acts
   inits_from locals k = all_do (inits_do c_arith structs here params k (drop k locals))

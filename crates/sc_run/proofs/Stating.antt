@@ -1,13 +1,10 @@
 -- Statements, by their layers.
-use Rattle.sc_run.proofs.Common.{Acts, Bor, Doing, Exit, Frame, Left, List, Loop, Next, Option, Piece, ProgramTree}
-use Rattle.sc_run.proofs.Common.{Reached, Rest, Route, Seen, Some, State, Step, Steps, Stopped, TypedExpr, TypedSimple}
-use Rattle.sc_run.proofs.Common.{TypedStmt, TypedStmtKind, TypedStmtKind-F, Work, [], and_then, ap, arith, assign}
-use Rattle.sc_run.proofs.Common.{block_acts, c_arith, calls_in, choose, drop, drop_all, evaluated, follow, get_or}
-use Rattle.sc_run.proofs.Common.{here_of, in_order, kind_step, layer_of, leave, length, length-drop, loop, loop_acts}
-use Rattle.sc_run.proofs.Common.{part_acts, refl, resume, roll-TypedStmtKind, stmt_acts, stmt_at, stmt_step, subst, sym}
-use Rattle.sc_run.proofs.Common.{take, take_all, test, way_in, ℕ, ◌++◌, ◌-◌, ◌∙◌, ◌∷◌, ◌≡◌, ◌≤◌}
-use Rattle.sc_core.specs.declared.stmt.TypedStmtKind.TheOpen as layer
-use Rattle.sc_core.specs.declared.value.Want.TheVariants as want
+use Rattle.sc_run.proofs.Common.{Bor, Doing, Exit, Frame, Left, List, Loop, Next, Option, Piece, ProgramTree, Reached}
+use Rattle.sc_run.proofs.Common.{Rest, Route, Seen, Some, State, Step, Steps, Stopped, TypedSimple, TypedStmt}
+use Rattle.sc_run.proofs.Common.{TypedStmtKind, TypedStmtKind-F, Work, [], ap, arith, block_acts, c_arith, calls_in}
+use Rattle.sc_run.proofs.Common.{drop, drop_all, follow, get_or, here_of, in_order, kind_step, layer_of, leave, length}
+use Rattle.sc_run.proofs.Common.{length-drop, loop_acts, part_acts, refl, resume, roll-TypedStmtKind, stmt_acts}
+use Rattle.sc_run.proofs.Common.{stmt_at, stmt_step, subst, sym, take, take_all, ℕ, ◌++◌, ◌-◌, ◌∙◌, ◌∷◌, ◌≡◌, ◌≤◌}
 use Rattle.sc_run.proofs.Looping.{steps_as, steps_wait}
 
 abbrev pub layer_acts : ProgramTree → ℕ → Frame → TypedStmtKind-F TypedStmtKind TypedStmt → Doing
@@ -73,48 +70,3 @@ part_steps {program} {before} {after} {work} {last} {f} {g} route waiting l {ste
     subst (λ o. Steps program before work f
     (λ n s. follow route (part_acts program n f o tt s) (loop_acts program n f l)) step after last g) (sym is)
     (steps_wait waiting pushed (λ n s. waits n _ _) h)
-
-module _ (program : ProgramTree) (before : Seen) (work : List Work) (f : Frame) (line : ℕ) (step : Step) (after : Seen)
-    (later : List Work) (g : Frame) where
-  abbrev StepsBy : Doing → Type 0
-  StepsBy p = Steps program before work f p step after later g
-
-  pub assign_layer : {ref place : TypedExpr} (e : TypedExpr) → ref ≡ place →
-      StepsBy (λ n. assign (here_of f.scope) (way_in f ref) (way_in f e) line tt) →
-      StepsBy (λ n. layer_acts program n f (layer.Assign place e) line)
-  assign_layer e same h = subst (λ x. StepsBy (λ n. assign (here_of f.scope) (way_in f x) (way_in f e) line tt)) same h
-
-  pub if_layer : (cond : TypedExpr) {x x' y y' : List TypedStmt} → x' ≡ x → y' ≡ y → StepsBy (λ n s. and_then (evaluated
-      (here_of f.scope) want.Value (way_in f cond) line s) (λ v s. choose v (block_acts program n f x' tt s) (block_acts
-      program n f y' tt s))) → StepsBy (λ n. layer_acts program n f (layer.If cond x y) line)
-  if_layer cond {x} {y'} first second h =
-      subst (λ b. StepsBy (λ n s. and_then (evaluated (here_of f.scope) want.Value (way_in f cond) line s)
-      (λ v s. choose v (block_acts program n f x tt s) (block_acts program n f b tt s)))) second
-      (subst (λ b. StepsBy (λ n s. and_then (evaluated (here_of f.scope) want.Value (way_in f cond) line s)
-      (λ v s. choose v (block_acts program n f b tt s) (block_acts program n f y' tt s)))) first h)
-
-  -- the loop that a statement is
-  abbrev looped : TypedExpr → List TypedStmt → Option TypedSimple → ℕ → Acts
-  looped cond body next n =
-      loop (test (here_of f.scope) (way_in f cond) line) (block_acts program n f body) (part_acts program n f next)
-
-  pub while_layer : (cond : TypedExpr) {body given_body : List TypedStmt} → given_body ≡ body → StepsBy (λ n. loop (test
-      (here_of f.scope) (way_in f cond) line) (block_acts program n f given_body) (leave Next) tt) →
-      StepsBy (λ n. layer_acts program n f (layer.While cond body) line)
-  while_layer cond same h = subst (λ b. StepsBy
-      (λ n. loop (test (here_of f.scope) (way_in f cond) line) (block_acts program n f b) (leave Next) tt)) same h
-
-  pub for_layer : (first : Option TypedSimple) (cond : TypedExpr) (next : Option TypedSimple)
-      {body given_body : List TypedStmt} → given_body ≡ body →
-      StepsBy (λ n s. follow in_order (part_acts program n f first tt s) (looped cond given_body next n)) →
-      StepsBy (λ n. layer_acts program n f (layer.For first cond next body) line)
-  for_layer first cond next same h =
-      subst (λ b. StepsBy (λ n s. follow in_order (part_acts program n f first tt s) (looped cond b next n))) same h
-
-  -- the part before the next round, by reference
-  pub next_as : (first : Option TypedSimple) (cond : TypedExpr) {next given_next : Option TypedSimple}
-      (body : List TypedStmt) → given_next ≡ next →
-      StepsBy (λ n s. follow in_order (part_acts program n f first tt s) (looped cond body given_next n)) →
-      StepsBy (λ n s. follow in_order (part_acts program n f first tt s) (looped cond body next n))
-  next_as first cond body same h =
-      subst (λ o. StepsBy (λ n s. follow in_order (part_acts program n f first tt s) (looped cond body o n))) same h

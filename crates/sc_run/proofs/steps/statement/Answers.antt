@@ -1,10 +1,9 @@
-use Rattle.sc_run.proofs.Common.{IfOk-weaker, kept_by, refl, rolls-Assign, rolls-AssignCall, rolls-Break, rolls-Call}
-use Rattle.sc_run.proofs.Common.{rolls-Continue, rolls-Empty, rolls-For, rolls-If, rolls-Return, rolls-ReturnCall}
-use Rattle.sc_run.proofs.Common.{rolls-ReturnValue, rolls-While, sym, ◌∙◌}
+use Rattle.sc_run.proofs.Common.{IfOk-weaker, option_copied, refl, rolls-Assign, rolls-AssignCall, rolls-Break}
+use Rattle.sc_run.proofs.Common.{rolls-Call, rolls-Continue, rolls-Empty, rolls-For, rolls-If, rolls-Return}
+use Rattle.sc_run.proofs.Common.{rolls-ReturnCall, rolls-ReturnValue, rolls-While, sym, ◌∙◌}
 use Rattle.sc_core.specs.declared.stmt.TypedStmtKind.TheOpen as layer
-use Rattle.sc_run.proofs.Invoking.{stored_call}
 use Rattle.sc_run.proofs.Looping.{steps_later}
-use Rattle.sc_run.proofs.Stating.{stmt_as, assign_layer, if_layer, while_layer, for_layer, next_as}
+use Rattle.sc_run.proofs.Stating.{stmt_as}
 use Rattle.sc_run.proofs.steps.statement.Goals as goal
 
 pub returns-in-Empty : goal.returns-in-Empty
@@ -22,16 +21,13 @@ returns-in-Return c =
     stmt_as c.args.stmt.now layer.Return (c.in-Return.is ∙ sym rolls-Return) (steps_later (λ n s. refl))
 
 pub returns-in-Assign : goal.returns-in-Assign
-returns-in-Assign c = stmt_as c.args.stmt.now (layer.Assign c.in-Assign.place c.in-Assign.value)
-    (c.in-Assign.is ∙ sym (rolls-Assign _ _)) (assign_layer c.args.program.now (kept_by c.args.run.now.machine)
-    c.args.run.now.work.items c.args.run.now.frame c.args.stmt.now.line c.assigned.result _ _ _ c.in-Assign.value
-    c.get.ensures.value c.assigned.ensures)
+returns-in-Assign c = stmt_as c.args.stmt.now (layer.Assign c.get.result.now c.in-Assign.value)
+    (rw c.get.ensures.value (c.in-Assign.is ∙ sym (rolls-Assign _ _))) c.assigned.ensures
 
 pub returns-in-AssignCall : goal.returns-in-AssignCall
 returns-in-AssignCall c = IfOk-weaker c.call.result _ _ (λ step h. stmt_as c.args.stmt.now
-    (layer.AssignCall c.in-AssignCall.place c.in-AssignCall.made) (c.in-AssignCall.is ∙ sym (rolls-AssignCall _ _))
-    (stored_call c.get-in-AssignCall.result c.in-AssignCall.made c.args.stmt.now.line c.get-in-AssignCall.ensures.value
-    h)) c.call.ensures
+    (layer.AssignCall c.get-in-AssignCall.result.now c.in-AssignCall.made)
+    (rw c.get-in-AssignCall.ensures.value (c.in-AssignCall.is ∙ sym (rolls-AssignCall _ _))) h) c.call.ensures
 
 pub returns-in-Call : goal.returns-in-Call
 returns-in-Call c = IfOk-weaker c.call-in-Call.result _ _ (λ step h. stmt_as c.args.stmt.now (layer.Call c.in-Call.made)
@@ -47,22 +43,17 @@ returns-in-ReturnValue c = stmt_as c.args.stmt.now (layer.ReturnValue c.in-Retur
     (c.in-ReturnValue.is ∙ sym (rolls-ReturnValue _)) c.returned_value.ensures
 
 pub returns-in-If : goal.returns-in-If
-returns-in-If c = stmt_as c.args.stmt.now (layer.If c.in-If.cond c.in-If.then_part c.in-If.else_part)
-    (c.in-If.is ∙ sym (rolls-If _ _ _)) (if_layer c.args.program.now (kept_by c.args.run.now.machine)
-    c.args.run.now.work.items c.args.run.now.frame c.args.stmt.now.line c.branch-program.result _ _ _ c.in-If.cond
-    c.as_slice.ensures c.as_slice-in-If.ensures c.branch-program.ensures)
+returns-in-If c = stmt_as c.args.stmt.now
+    (layer.If c.in-If.cond c.as_slice.result.now c.as_slice-in-If.result.now)
+    (rw (c.as_slice.ensures, c.as_slice-in-If.ensures) (c.in-If.is ∙ sym (rolls-If _ _ _))) c.branch-program.ensures
 
 pub returns-in-While : goal.returns-in-While
 returns-in-While c = IfOk-weaker c.while_loop.result _ _ (λ step h. stmt_as c.args.stmt.now
-    (layer.While c.in-While.cond c.in-While.body) (c.in-While.is ∙ sym (rolls-While _ _))
-    (while_layer c.args.program.now (kept_by c.args.run.now.machine) c.args.run.now.work.items c.args.run.now.frame
-    c.args.stmt.now.line step _ _ _ c.in-While.cond c.as_slice-body.ensures h)) c.while_loop.ensures
+    (layer.While c.in-While.cond c.as_slice-body.result.now)
+    (rw c.as_slice-body.ensures (c.in-While.is ∙ sym (rolls-While _ _))) h) c.while_loop.ensures
 
 pub returns-in-For : goal.returns-in-For
 returns-in-For c = IfOk-weaker c.first_part.result _ _ (λ step h. stmt_as c.args.stmt.now
-    (layer.For c.in-For.first c.in-For.cond c.in-For.next c.in-For.body) (c.in-For.is ∙ sym (rolls-For _ _ _ _))
-    (for_layer c.args.program.now (kept_by c.args.run.now.machine) c.args.run.now.work.items c.args.run.now.frame
-    c.args.stmt.now.line step _ _ _ c.in-For.first c.in-For.cond c.in-For.next c.as_slice-in-For.ensures
-    (next_as c.args.program.now (kept_by c.args.run.now.machine) c.args.run.now.work.items c.args.run.now.frame
-    c.args.stmt.now.line step _ _ _ c.in-For.first c.in-For.cond c.as_slice-in-For.result.now c.as_ref.ensures.value
-    h))) c.first_part.ensures
+    (layer.For c.in-For.first c.in-For.cond (option_copied c.as_ref.result) c.as_slice-in-For.result.now)
+    (rw (c.as_ref.ensures.value, c.as_slice-in-For.ensures) (c.in-For.is ∙ sym (rolls-For _ _ _ _))) h)
+    c.first_part.ensures
