@@ -1,21 +1,19 @@
 -- What is done at once, and leaves nothing that waits.
-use Rattle.sc_run.proofs.Common.{Acts, Body as Body', Bool, Bor, CameTo, Comes, Doing, Exit, Frame, Go, Left, List}
-use Rattle.sc_run.proofs.Common.{Loop, Memory, Next, None, Ok, Option, Passes, PassesIf, Piece, ProgramTree, Reached}
-use Rattle.sc_run.proofs.Common.{Return, Route, Run as Run', RunEnd, Seen, Some, SourceRun, Standing, State, Step}
-use Rattle.sc_run.proofs.Common.{Steps, Stop, Stopped, TypedExpr, TypedSimple, TypedSimpleKind, TypedStmt, Value, Work}
-use Rattle.sc_run.proofs.Common.{[], and_then, ap, arith, assign, block_acts, c_arith, calls_in, choose, drop}
-use Rattle.sc_run.proofs.Common.{drop-step, drop_all, ended_so, false, follow, get_or, here_of, if◌then◌else◌, in_body}
-use Rattle.sc_run.proofs.Common.{in_loop, in_order, in_round, is_true, leave, left_at, length, length-drop, loop_acts}
-use Rattle.sc_run.proofs.Common.{next_acts, option_copied, part_acts, refl, resume, reverse, roll-TypedStmtKind}
-use Rattle.sc_run.proofs.Common.{seen_of, simple_does, stmt_acts, store_at, stored, subst, suc, sym, take, take_all}
-use Rattle.sc_run.proofs.Common.{true, way_in, ℕ, ◌++◌, ◌+◌, ◌-◌, ◌<◌, ◌==◌, ◌∙◌, ◌∷◌, ◌≡◌, ◌≤◌}
+use Rattle.sc_run.proofs.Common.{Acts, Bool, Bor, CameTo, Comes, Doing, Exit, Frame, Go, Left, List, Loop, Memory, Next}
+use Rattle.sc_run.proofs.Common.{None, Ok, Option, Passes, PassesIf, Piece, ProgramTree, Reached, Return, Route}
+use Rattle.sc_run.proofs.Common.{Run as Run', RunEnd, Seen, Some, SourceRun, Standing, State, Step, Steps, Stop}
+use Rattle.sc_run.proofs.Common.{Stopped, TypedExpr, TypedStmt, Value, Work, [], and_then, ap, arith, assign}
+use Rattle.sc_run.proofs.Common.{block_acts, choose, drop, drop-step, drop_all, ended_so, false, follow, get_or}
+use Rattle.sc_run.proofs.Common.{here_of, if◌then◌else◌, in_body, in_loop, in_order, in_round, is_true, leave, left_at}
+use Rattle.sc_run.proofs.Common.{length, length-drop, loop_acts, next_acts, refl, resume, reverse, roll-TypedStmtKind}
+use Rattle.sc_run.proofs.Common.{seen_of, stmt_acts, store_at, stored, subst, suc, sym, take, take_all, true, way_in, ℕ}
+use Rattle.sc_run.proofs.Common.{◌+◌, ◌-◌, ◌<◌, ◌==◌, ◌∙◌, ◌∷◌, ◌≡◌, ◌≤◌}
 use Rattle.sc_run.specs.declared.work.Position.{Position}
 use Rattle.sc_core.specs.declared.stmt.TypedStmtKind.TheOpen as layer
-use Rattle.sc_core.specs.declared.stmt.TypedSimpleKind.TheVariants as simple
 use Rattle.sc_core.specs.declared.value.Want.TheVariants as want
 use Rattle.sc_value.specs.Assigning.{AssignedIf, Holding}
 use Rattle.sc_run.proofs.Coming.{computed_comes, stored_ok, then_goes, turn_comes, usual, with_memory}
-use Rattle.sc_run.proofs.Looping.{round_is, steps_as, steps_later, steps_wait, tested, Follows}
+use Rattle.sc_run.proofs.Looping.{round_is, steps_as, steps_later, tested, Follows}
 use Rattle.sc_run.proofs.Stating.{alone, first_and_rest, stmt_is}
 use Rattle.sc_run.proofs.Blank.{way_same}
 
@@ -33,7 +31,7 @@ pub stays_so : {seen : Seen} {p : Doing} → Passes seen seen p p
 stays_so = record { passes = λ n s shows. (s, shows, refl); fewer = omega arith }
 
 pub unchanged : {before after : Seen} {p : Doing} → after ≡ before → Passes before after p p
-unchanged {before} {p} is = subst (λ x. Passes before x p p) (sym is) (stays_so)
+unchanged {before} {p} is = subst (λ x. Passes before x p p) (sym is) stays_so
 
 -- one after the other
 pub then_passes : {before middle after : Seen} {p q r : Doing} → Passes before middle p q → Passes middle after q r →
@@ -92,9 +90,8 @@ passes_follow route go h =
       fewer = h.fewer;
     }
 
-module _ (program : ProgramTree) (work : List Work) (f : Frame) (step : Step) (after : Seen) (later : List Work)
-    (g : Frame) where
-  passed : {whole : SourceRun} {before middle : Seen} {p q : Doing} → Passes before middle p q →
+module _ {program : ProgramTree} {before middle : Seen} {work : List Work} {f : Frame} {p q : Doing} where
+  passed : {whole : SourceRun} → Passes before middle p q →
       Standing program whole before work f p → Standing program whole middle work f q
   passed h st =
       let a = h.passes st.open_calls st.state st.shows in
@@ -107,15 +104,9 @@ module _ (program : ProgramTree) (work : List Work) (f : Frame) (step : Step) (a
       }
 
   -- a step from where the run got to
-  pub steps_behind : {before middle : Seen} {p q : Doing} → Passes before middle p q →
+  pub steps_behind : {step : Step} {after : Seen} {later : List Work} {g : Frame} → Passes before middle p q →
       Steps program middle work f q step after later g → Steps program before work f p step after later g
-  steps_behind h k =
-      record { stands = λ whole st. k.stands whole (passed h st) }
-
-  -- a step from where nothing was done
-  pub steps_unchanged : {before middle : Seen} {p : Doing} → middle ≡ before →
-      Steps program middle work f p step after later g → Steps program before work f p step after later g
-  steps_unchanged {p} is k = subst (λ x. Steps program x work f p step after later g) is k
+  steps_behind h k = record { stands = λ whole st. k.stands whole (passed h st) }
 
 -- an assignment
 module _ (f : Frame) (place value : TypedExpr) (line : ℕ) (seen : Seen) (memory : Memory) where
@@ -158,23 +149,19 @@ module _ (program : ProgramTree) (f : Frame) where
 
   pub empty_done : (stmt : TypedStmt) {seen : Seen} → stmt.kind ≡ roll-TypedStmtKind layer.Empty →
       Passes seen seen (stmt_by stmt) ended_so
-  empty_done stmt is = passes_as (stmt_is program f stmt _ is) (stays_so)
+  empty_done stmt is = passes_as (stmt_is program f stmt _ is) stays_so
 
-  pub assign_done : (stmt : TypedStmt) {ref place : TypedExpr} (e : TypedExpr) (b : Bool) (before after : Seen) →
-      stmt.kind ≡ roll-TypedStmtKind (layer.Assign place e) → ref ≡ place →
-      PassesIf b before after (assigned_by ref e stmt.line) ended_so → PassesIf b before after (stmt_by stmt) ended_so
-  assign_done stmt e b before after is same h = passes_if_as b before after _ _ _
-      (λ n s. stmt_is program f stmt _ is n s ∙ ap (λ x. assigned_by x e stmt.line n s) (sym same)) h
+  pub assign_done : (stmt : TypedStmt) (place e : TypedExpr) (b : Bool) (before after : Seen) →
+      stmt.kind ≡ roll-TypedStmtKind (layer.Assign place e) →
+      PassesIf b before after (assigned_by place e stmt.line) ended_so → PassesIf b before after (stmt_by stmt) ended_so
+  assign_done stmt place e b before after is h = passes_if_as b before after _ _ _ (stmt_is program f stmt _ is) h
 
   -- one more statement
   pub one_more : (stmts : List TypedStmt) (at : ℕ) {stmt : TypedStmt} (before : Seen) {middle after : Seen} →
       at < length stmts → stmt ≡ get_or stmts at stmt → DoneTo stmts at before middle →
       Passes middle after (stmt_by stmt) ended_so → DoneTo stmts (at + 1) before after
-  one_more stmts at {stmt} before {middle} {after} there item h k = then_passes h (passes_as
-      (λ n s. ap (λ xs. block_by xs n s) (drop-step stmts at stmt there item)) (next_one k)) where
-        next_one : Passes middle after (stmt_by stmt) ended_so →
-            Passes middle after (block_by (stmt ∷ drop (at + 1) stmts)) (block_by (drop (at + 1) stmts))
-        next_one k = passes_follow in_order _ k
+  one_more stmts at {stmt} before there item h k = then_passes h (passes_as
+      (λ n s. ap (λ xs. block_by xs n s) (drop-step stmts at stmt there item)) (passes_follow in_order _ k))
 
   pub all_done : (stmts : List TypedStmt) (at : ℕ) (before after : Seen) → length stmts ≤ at →
       DoneTo stmts at before after → DoneTo stmts (length stmts) before after
@@ -182,30 +169,14 @@ module _ (program : ProgramTree) (f : Frame) where
       (drop_all at stmts le ∙ sym (drop_all _ stmts (omega arith))) h
 
   -- the statements that a condition chooses
-  choosing : (stmt : TypedStmt) (cond : TypedExpr) (x y : List TypedStmt) {v : Value} {seen : Seen} →
+  pub chosen_part : (stmt : TypedStmt) (cond : TypedExpr) (x y : List TypedStmt) {v : Value} {seen : Seen} {b : Bool} →
       stmt.kind ≡ roll-TypedStmtKind (layer.If cond x y) →
-      Ok v ≡ way_in f cond want.Value (seen.memory f.scope.comp.now) →
-      Passes seen seen (stmt_by stmt) (λ n s. choose v (block_by x n s) (block_by y n s))
-  choosing stmt cond x y {v} {seen} is gives = passes_as (stmt_is program f stmt _ is) (passes_by
-      (λ n v s. choose v (block_by x n s) (block_by y n s))
-      (computed_comes (here_of f.scope) stmt.line (λ bs. way_in f cond _ bs) (way_same _ (here_of f.scope) _ cond _)
-      seen gives))
-
-  pub first_chosen : (stmt : TypedStmt) (cond : TypedExpr) {x part : List TypedStmt} (y : List TypedStmt) {v : Value}
-      {seen : Seen} → stmt.kind ≡ roll-TypedStmtKind (layer.If cond x y) →
-      Ok v ≡ way_in f cond want.Value (seen.memory f.scope.comp.now) → is_true v ≡ true → part ≡ x →
-      Passes seen seen (stmt_by stmt) (block_by part)
-  first_chosen stmt cond {x} y is gives holds same = then_passes (choosing stmt cond x y is gives) (passes_as
-      (λ n s. ap (λ b. if b then block_by x n s else block_by y n s) holds ∙ ap (λ xs. block_by xs n s) (sym same))
-      (stays_so))
-
-  pub second_chosen : (stmt : TypedStmt) (cond : TypedExpr) (x : List TypedStmt) {y part : List TypedStmt} {v : Value}
-      {seen : Seen} → stmt.kind ≡ roll-TypedStmtKind (layer.If cond x y) →
-      Ok v ≡ way_in f cond want.Value (seen.memory f.scope.comp.now) → is_true v ≡ false → part ≡ y →
-      Passes seen seen (stmt_by stmt) (block_by part)
-  second_chosen stmt cond x {y} is gives fails same = then_passes (choosing stmt cond x y is gives) (passes_as
-      (λ n s. ap (λ b. if b then block_by x n s else block_by y n s) fails ∙ ap (λ xs. block_by xs n s) (sym same))
-      (stays_so))
+      Ok v ≡ way_in f cond want.Value (seen.memory f.scope.comp.now) → is_true v ≡ b →
+      Passes seen seen (stmt_by stmt) (λ n s. if b then block_by x n s else block_by y n s)
+  chosen_part stmt cond x y {seen} is gives holds = passes_as (stmt_is program f stmt _ is) (then_passes (passes_by
+      (λ n v s. choose v (block_by x n s) (block_by y n s)) (computed_comes (here_of f.scope) stmt.line
+      (λ bs. way_in f cond _ bs) (way_same _ (here_of f.scope) _ cond _) seen gives))
+      (passes_as (λ n s. ap (λ b. if b then block_by x n s else block_by y n s) holds) stays_so))
 
   -- what is left of the part that was chosen
   pub part_left : {before middle after : Seen} (stmt : TypedStmt) (part : List TypedStmt) (count : ℕ) →
@@ -224,28 +195,21 @@ module _ (program : ProgramTree) (f : Frame) where
       then_passes h (passes_as (λ n s. ap (λ xs. block_by xs n s) (drop-step stmts at stmt there item))
       (passes_follow in_order (λ n. block_acts program n f _) k))
 
-  pub one_over : (stmts : List TypedStmt) {part : List TypedStmt} (at : ℕ) {stmt : TypedStmt} (before : Seen)
-      {middle after : Seen} → part ≡ [] → at < length stmts → stmt ≡ get_or stmts at stmt →
-      DoneTo stmts at before middle → Passes middle after (stmt_by stmt) (block_by part) →
-      DoneTo stmts (at + 1) before after
-  one_over stmts at {stmt} before {middle} {after} empty there item h k = within_one stmts [] at there item h
-      (subst (λ xs. Passes middle after (stmt_by stmt) (block_by xs)) empty k)
-
   pub none_behind : (stmts : List TypedStmt) (at : ℕ) {before after : Seen} → length stmts ≤ at →
       DoneTo stmts at before after → Passes before after (block_by stmts) ended_so
   none_behind stmts at le h =
-      then_passes h (passes_as (λ n s. ap (λ xs. block_by xs n s) (drop_all at stmts le)) (stays_so))
+      then_passes h (passes_as (λ n s. ap (λ xs. block_by xs n s) (drop_all at stmts le)) stays_so)
 
   -- control leaves a function
-  pub value_leaves : (stmt : TypedStmt) {ref e : TypedExpr} {v : Value} {seen : Seen} →
-      stmt.kind ≡ roll-TypedStmtKind (layer.ReturnValue e) → ref ≡ e →
-      Ok v ≡ way_in f ref want.Value (seen.memory f.scope.comp.now) → (rest : List TypedStmt) →
+  pub value_leaves : (stmt : TypedStmt) (e : TypedExpr) {v : Value} {seen : Seen} →
+      stmt.kind ≡ roll-TypedStmtKind (layer.ReturnValue e) →
+      Ok v ≡ way_in f e want.Value (seen.memory f.scope.comp.now) → (rest : List TypedStmt) →
       Passes seen seen (block_by (stmt ∷ rest)) (left_by (Return (Some v)))
-  value_leaves stmt {e} {v} {seen} is same gives rest =
+  value_leaves stmt e {seen} is gives rest =
       passes_as (λ n s. ap (λ p. follow in_order p (block_acts program n f rest)) (stmt_is program f stmt _ is n s))
       (passes_follow in_order (λ n. block_acts program n f rest) (passes_by (λ n v s. leave (Return _) tt s)
       (computed_comes (here_of f.scope) stmt.line (λ bs. way_in f e _ bs) (way_same _ (here_of f.scope) _ e _) seen
-      (subst (λ x. Ok v ≡ way_in f x want.Value (seen.memory f.scope.comp.now)) same gives))))
+      gives)))
 
   pub first_leaves : (stmts : List TypedStmt) {stmt : TypedStmt} (exit : Exit) {seen : Seen} → 1 ≤ length stmts →
       stmt ≡ get_or stmts 0 stmt →
@@ -254,31 +218,12 @@ module _ (program : ProgramTree) (f : Frame) where
   first_leaves stmts exit le item h =
       passes_as (λ n s. ap (λ xs. block_by xs n s) (first_and_rest stmts le item)) (h (drop 1 stmts))
 
-  -- a part in the head of a `for`
-  abbrev simple_by : TypedSimpleKind → ℕ → Doing
-  simple_by kind line n s = simple_does c_arith f.scope.structs.now (here_of f.scope) f.scope.params
-      (calls_in program n) kind line tt s
-
-  pub part_assigned : (part : TypedSimple) {ref place : TypedExpr} (e : TypedExpr) (b : Bool) (before after : Seen) →
-      part.kind ≡ simple.Assign place e → ref ≡ place → PassesIf b before after (assigned_by ref e part.line) ended_so →
-      PassesIf b before after (simple_by part.kind part.line) ended_so
-  part_assigned part e b before after is same h = passes_if_as b before after _ _ ended_so
-      (λ n s. ap (λ k. simple_by k part.line n s) is ∙ ap (λ x. assigned_by x e part.line n s) (sym same)) h
-
   module _ (l : Loop) where
     abbrev next_by : Doing
     next_by n s = next_acts program n f l tt s
 
     abbrev loop_by : Doing
     loop_by n s = loop_acts program n f l tt s
-
-    pub no_next : {seen : Seen} → option_copied l.next ≡ None → Passes seen seen next_by ended_so
-    no_next is = passes_as (λ n s. ap (λ o. part_acts program n f o tt s) is) (stays_so)
-
-    pub next_is_done : {part : TypedSimple} (b : Bool) (before after : Seen) → option_copied l.next ≡ Some part →
-        PassesIf b before after (simple_by part.kind part.line) ended_so → PassesIf b before after next_by ended_so
-    next_is_done b before after is h =
-        passes_if_as b before after next_by _ _ (λ n s. ap (λ o. part_acts program n f o tt s) is) h
 
     -- a round begins: its test holds, and there is a turn
     pub round_begins : {seen : Seen} {k : ℕ} → Holding (way_in f l.cond.now) (seen.memory f.scope.comp.now) →
@@ -305,29 +250,13 @@ module _ (program : ProgramTree) (f : Frame) where
     behind_body none h k empty = then_passes (body_done None h k) (passes_as
         (λ n s. λ i. follow in_loop (follow in_order (block_by (sym empty i) n s)
         (block_acts program n f (sym (drop_all (length l.body.now) l.body.now (omega arith)) i)))
-        (λ a s. follow in_loop (next_acts program n f l a s) (loop_acts program n f l))) (stays_so))
+        (λ a s. follow in_loop (next_acts program n f l a s) (loop_acts program n f l))) stays_so)
 
     -- the loop stands before a round again
     pub round_done : {before middle done after : Seen} → Passes before middle loop_by (in_body program f l l.body.now) →
         Passes middle done (block_by l.body.now) (left_at program f l.body.now None) →
         Passes done after next_by ended_so → Passes before after loop_by loop_by
     round_done h k m = then_passes (body_done None h k) (passes_follow in_loop _ m)
-
-    -- what comes before the next round, and the loop again
-    pub next_behind : {before middle after : Seen} {work later : List Work} {step : Step} {g : Frame} →
-        Passes before middle next_by ended_so → Steps program middle work f loop_by step after later g → Steps program
-        before work f (λ n s. follow in_loop (next_acts program n f l tt s) (loop_acts program n f l)) step after later
-        g
-    next_behind {after} {work} {later} {step} {g} h k =
-        steps_behind program work f step after later g (passes_follow in_loop _ h) k
-
-    -- a round that is left in its body
-    pub left_in_body : {before middle after : Seen} {work later last : List Work} (at : Position) {step : Step}
-        {g : Frame} → Passes before middle loop_by (in_round program f l (Some at)) → later ≡ work ++ Body' l ∷ [] →
-        Steps program middle later f (left_at program f l.body.now (Some at)) step after last g →
-        Steps program before work f loop_by step after last g
-    left_in_body {after} {work} {last} at {step} {g} h is k = steps_behind program work f step after last g h
-        (steps_wait _ is (λ n s. refl) k)
 
   no_part : (stmts : List TypedStmt) (at : Position) → at.part.now ≡ [] → (n : ℕ) (s : State) →
       left_at program f stmts (Some at) n s ≡ block_by (drop at.count stmts) n s
@@ -342,42 +271,29 @@ module _ (program : ProgramTree) (f : Frame) where
       (λ xs. follow in_order (block_by at.part.now n s) (block_acts program n f xs))
       (sym (same ∙ rest_at _ stmts) ∙ none_in rest none empty) ∙ alone _)
 
-  -- a step behind what was done of statements
-  pub at_behind : {before middle after : Seen} {work later : List Work} {stmts body : List TypedStmt}
-      (at : Option Position) {step : Step} {g : Frame} → stmts ≡ body →
-      Passes before middle (block_by stmts) (left_at program f stmts at) →
-      Steps program middle work f (left_at program f stmts at) step after later g →
+  -- the statements, told otherwise
+  pub block_as : {before after : Seen} {work later : List Work} {step : Step} {g : Frame}
+      (stmts body : List TypedStmt) → stmts ≡ body →
+      Steps program before work f (block_by stmts) step after later g →
       Steps program before work f (block_by body) step after later g
-  at_behind {before} {after} {work} {later} at {step} {g} same h k =
-      subst (λ xs. Steps program before work f (block_by xs) step after later g) same
-      (steps_behind program work f step after later g h k)
+  block_as stmts body same h = steps_as (λ n s. ap (λ xs. block_by xs n s) (sym same)) h
 
-  -- something more waits for the statements
-  pub caller_behind : {before middle after : Seen} {work pushed later : List Work} {stmts body : List TypedStmt}
-      (at : Position) {step : Step} {g : Frame} → stmts ≡ body → pushed ≡ work →
-      Passes before middle (block_by stmts) (left_at program f stmts (Some at)) →
-      Steps program middle pushed f (left_at program f stmts (Some at)) step after later g →
-      Steps program before work f (block_by body) step after later g
-  caller_behind {middle} {after} {later} {stmts} at {step} {g} same is h k = at_behind (Some at) same h
-      (subst (λ ws. Steps program middle ws f (left_at program f stmts (Some at)) step after later g) is k)
-
-  pub rest_behind : {before middle after : Seen} {work later : List Work} {stmts body : List TypedStmt} (at : Position)
-      {step : Step} {g : Frame} → stmts ≡ body → at.part.now ≡ [] →
+  pub rest_behind : {before middle after : Seen} {work later : List Work} (stmts : List TypedStmt) (at : Position)
+      {step : Step} {g : Frame} → at.part.now ≡ [] →
       Passes before middle (block_by stmts) (left_at program f stmts (Some at)) →
       Steps program middle work f (block_by (take (length stmts - at.count) (drop at.count stmts))) step after later g →
-      Steps program before work f (block_by body) step after later g
-  rest_behind {stmts} at same empty h k = at_behind (Some at) same h (steps_as
+      Steps program before work f (block_by stmts) step after later g
+  rest_behind stmts at empty h k = steps_behind h (steps_as
       (λ n s. no_part stmts at empty n s ∙ ap (λ xs. block_by xs n s) (sym (rest_at _ stmts))) k)
 
   -- control leaves the function behind the statements that were done
-  pub left_behind : {before middle after : Seen} {work later : List Work} {stmts body : List TypedStmt} (at : Position)
-      (exit : Exit) {step : Step} {g : Frame} → stmts ≡ body → at.part.now ≡ [] →
+  pub left_behind : {before middle after : Seen} {work later : List Work} (stmts : List TypedStmt) (at : Position)
+      (exit : Exit) {step : Step} {g : Frame} → at.part.now ≡ [] →
       Passes before middle (block_by stmts) (left_at program f stmts (Some at)) →
       Passes middle middle (block_by (take (length stmts - at.count) (drop at.count stmts))) (left_by exit) →
       Steps program middle work f (left_by exit) step after later g →
-      Steps program before work f (block_by body) step after later g
-  left_behind {after} {work} {later} at exit {step} {g} same empty h left k = rest_behind at same empty h
-      (steps_behind program work f step after later g left k)
+      Steps program before work f (block_by stmts) step after later g
+  left_behind stmts at exit empty h left k = rest_behind stmts at empty h (steps_behind left k)
 
 -- the end of a run, whatever waits
 pub stops_anywhere : {program : ProgramTree} {before after : Seen} {work later last : List Work} {f g h : Frame}

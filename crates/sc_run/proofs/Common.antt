@@ -27,8 +27,8 @@ pub use Rattle.sc_core.specs.Prelude.{is_true, is_unsigned, is_unsigned_op, is_w
 pub use Rattle.sc_core.specs.Prelude.{live_cells, load, loaded, loop, may_call, meaning, meant, meant_step}
 pub use Rattle.sc_core.specs.Prelude.{member_zeros, moved, moved_back, moved_on, next_input, of_bool, on_words}
 pub use Rattle.sc_core.specs.Prelude.{part_does, place_at, read_input, repeated, run_in, run_of, run_step, run_to}
-pub use Rattle.sc_core.specs.Prelude.{same_place, simple_does, stmt_step, stopped_at, store, store_at, store_result}
-pub use Rattle.sc_core.specs.Prelude.{stored, struct_zeros, target_cells, tell, term_step, test, turn, turn_of, values}
+pub use Rattle.sc_core.specs.Prelude.{same_place, stmt_step, stopped_at, store, store_at, store_result, stored}
+pub use Rattle.sc_core.specs.Prelude.{struct_zeros, target_cells, tell, term_step, test, turn, turn_of, values}
 pub use Rattle.sc_core.specs.Prelude.{variable_at, variables, wanted, ways, with_blocks, with_cell, with_words, within}
 pub use Rattle.sc_core.specs.Prelude.{word_in, zeros_of}
 pub use Rattle.sc_core.specs.declared.cause.Cause.{Cause}
@@ -43,7 +43,6 @@ pub use Rattle.sc_core.specs.declared.section.TypedParam.{TypedParam}
 pub use Rattle.sc_core.specs.declared.section.TypedSection.{TypedSection}
 pub use Rattle.sc_core.specs.declared.section.TypedStruct.{TypedStruct}
 pub use Rattle.sc_core.specs.declared.stmt.TypedSimple.{TypedSimple}
-pub use Rattle.sc_core.specs.declared.stmt.TypedSimpleKind.{TypedSimpleKind}
 pub use Rattle.sc_core.specs.declared.stmt.TypedStmtKind.{TypedStmtKind, TypedStmtKind-F, roll-TypedStmtKind}
 pub use Rattle.sc_core.specs.declared.stmt.TypedStmtKind.TheVariants.{rolls-Assign, rolls-AssignCall, rolls-Break}
 pub use Rattle.sc_core.specs.declared.stmt.TypedStmtKind.TheVariants.{rolls-Call, rolls-Continue, rolls-Empty}

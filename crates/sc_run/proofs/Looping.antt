@@ -213,7 +213,9 @@ module _ {program : ProgramTree} {before after : Seen} {work later : List Work} 
       Steps program before work f (λ n s. leave exit tt s) step after later g
   taken {earlier} exit popped is h same = steps_resume x (popped ∙ ap (λ y. earlier ++ y ∷ []) is) same h
 
-  pub caller_taken : (earlier : List Work) → work ≡ earlier ++ w ∷ [] → w ≡ x →
-      Steps program before (earlier ++ x ∷ []) f p step after later g → Steps program before work f p step after later g
-  caller_taken earlier popped is h =
-      subst (λ ws. Steps program before ws f p step after later g) (sym (popped ∙ ap (λ y. earlier ++ y ∷ []) is)) h
+-- the same, as what waits is told otherwise
+pub work_as : {program : ProgramTree} {before after : Seen} {work other later : List Work} {f g : Frame} {p : Doing}
+    {step : Step} → work ≡ other → Steps program before work f p step after later g →
+    Steps program before other f p step after later g
+work_as {program} {before} {after} {later} {f} {g} {p} {step} is h =
+    subst (λ ws. Steps program before ws f p step after later g) is h

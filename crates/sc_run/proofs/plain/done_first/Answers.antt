@@ -1,5 +1,5 @@
-use Rattle.sc_run.proofs.Common.{kept_by}
-use Rattle.sc_run.proofs.Ahead.{none_behind, none_in, one_over, within_one, stays_so, then_passes, unchanged}
+use Rattle.sc_run.proofs.Common.{[]}
+use Rattle.sc_run.proofs.Ahead.{none_behind, none_in, within_one, stays_so, then_passes, unchanged}
 use Rattle.sc_run.proofs.plain.done_first.Goals as goal
 
 pub loop-at-init : goal.loop-at-init
@@ -18,6 +18,6 @@ returns-then-not-is_empty-clause-passes c =
     c.index-stmts-at.is c.loop-at.invariant c.in-Some.ensures
 
 pub loop-at-preserved : goal.loop-at-preserved
-loop-at-preserved c = one_over c.args.program.now c.args.frame.now c.args.stmts.now c.loop-at.at
-    (kept_by c.args.machine.now) (none_in c.in-Some.part.now c.is_empty.ensures c.if-not-is_empty.false)
-    c.loop-at-test.true c.index-stmts-at.is c.loop-at.invariant c.in-Some.ensures
+loop-at-preserved c = within_one c.args.program.now c.args.frame.now c.args.stmts.now [] c.loop-at.at
+    c.loop-at-test.true c.index-stmts-at.is c.loop-at.invariant
+    (rw (none_in c.in-Some.part.now c.is_empty.ensures c.if-not-is_empty.false) at c.in-Some.ensures)
