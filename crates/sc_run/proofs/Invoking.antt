@@ -6,8 +6,8 @@ use Rattle.sc_run.proofs.Common.{Stopped, To, TypedExpr, Value, Word, Work, [], 
 use Rattle.sc_run.proofs.Common.{back_from, back_own, bodies, call, called, calls_in, computed, crossed, drop}
 use Rattle.sc_run.proofs.Common.{entry_from, entry_in, false, false≢true, first_word, found, function, here_of}
 use Rattle.sc_run.proofs.Common.{if◌then◌else◌, is_some, is_word, leads, length, library, map, may_call, next_input}
-use Rattle.sc_run.proofs.Common.{read_input, refl, result_goes, run_in, seen_of, subst, sym, tell, then_then, true}
-use Rattle.sc_run.proofs.Common.{true≢false, turn, values, way_in, word_in, ℕ, ◌&&◌, ◌++◌, ◌∙◌, ◌∷◌, ◌≡◌}
+use Rattle.sc_run.proofs.Common.{read_input, refl, result_goes, run_in, seen_of, sym, tell, then_then, true, true≢false}
+use Rattle.sc_run.proofs.Common.{turn, values, way_in, word_in, ℕ, ◌&&◌, ◌++◌, ◌∙◌, ◌∷◌, ◌≡◌}
 use Rattle.sc_event.specs.Prelude.{imports, is_function, takes}
 use Rattle.std.specs.List.{list_all}
 use Rattle.sc_base.proofs.Bools.{and_rest}
@@ -32,7 +32,7 @@ all_hold : (a b c : Bool) {d : Bool} → (a && (b && c)) ≡ true → d ≡ true
 all_hold true true true is last = last
 all_hold _ _ _ is last = absurd (false≢true is)
 
-module _ (program : ProgramTree) (before : Seen) (work : List Work) (f : Frame) (to : To) where
+module _ (program : ProgramTree) (f : Frame) (to : To) where
   abbrev rg : Option Value → State → Piece (Left (Unit {0}))
   rg = result_goes program f to
 
@@ -43,7 +43,7 @@ module _ (program : ProgramTree) (before : Seen) (work : List Work) (f : Frame) 
   abbrev stops_here : {V : Type 0} → State → Piece V
   stops_here s = Stopped refusal s
 
-  halts : {V : Type 0} → Comes before before (Err refusal) (stops_here {V = V})
+  halts : {V : Type 0} {before : Seen} → Comes before before (Err refusal) (stops_here {V = V})
   halts = record { comes = λ s shows. (refl, shows); fewer = omega arith }
 
   -- a call that is refused, or made
@@ -54,20 +54,19 @@ module _ (program : ProgramTree) (before : Seen) (work : List Work) (f : Frame) 
   tried b target args n s = and_then (if b then called (library program) (bodies program n) f.scope.comp.now target args
       s else Stopped refusal s) rg
 
-  pub refused : (target : CallTarget) (args : List Value) {end : RunEnd} → end ≡ refusal →
-      may_call (library program) f.scope.comp.now target args ≡ false →
+  pub refused : {before : Seen} {work : List Work} (target : CallTarget) (args : List Value) {end : RunEnd} →
+      end ≡ refusal → may_call (library program) f.scope.comp.now target args ≡ false →
       Steps program before work f (calling target args) (Stop end) before work f
-  refused target args same is =
-      subst (λ e. Steps program before work f (calling target args) (Stop e) before work f) (sym same) (steps_as
-      (λ n s. ap (λ b. tried b target args n s) is) (step_stops (λ n. rg) halts))
+  refused target args same is = rw same (steps_as (λ n s. ap (λ b. tried b target args n s) is)
+      (step_stops (λ n. rg) halts))
 
-  allowed : (target : CallTarget) (args : List Value) {step : Step} {after : Seen} {later : List Work} {g : Frame} →
-      may_call (library program) f.scope.comp.now target args ≡ true →
+  allowed : {before after : Seen} {work later : List Work} (target : CallTarget) (args : List Value) {step : Step}
+      {g : Frame} → may_call (library program) f.scope.comp.now target args ≡ true →
       Steps program before work f (tried true target args) step after later g →
       Steps program before work f (calling target args) step after later g
   allowed target args is h = steps_as (λ n s. ap (λ b. tried b target args n s) is) h
 
-  pub own_missing : (number : ℕ) (args : List Value) {end : RunEnd} → end ≡ refusal →
+  pub own_missing : {before : Seen} {work : List Work} (number : ℕ) (args : List Value) {end : RunEnd} → end ≡ refusal →
       function (library program) f.scope.comp.now number ≡ None →
       Steps program before work f (calling (Own number) args) (Stop end) before work f
   own_missing number args same is = refused (Own number) args same (ap is_some is)
@@ -84,8 +83,8 @@ module _ (program : ProgramTree) (before : Seen) (work : List Work) (f : Frame) 
   is_there callee here place there = (λ i. is_some
       (function (library program) (sym here i) (sym place i))) ∙ ap is_some there
 
-  pub own_enters : (callee : Callee) (number : ℕ) (args : List Value) {step : Step} {after : Seen} {later : List Work}
-      {g : Frame} → FoundAt program f.scope.comp.now number (Some callee) →
+  pub own_enters : {before after : Seen} {work later : List Work} (callee : Callee) (number : ℕ) (args : List Value)
+      {step : Step} {g : Frame} → FoundAt program f.scope.comp.now number (Some callee) →
       Steps program before work f (entering callee args None) step after later g →
       Steps program before work f (calling (Own number) args) step after later g
   own_enters callee number args found h = allowed (Own number) args (is_there callee found.0 found.1 found.2)
@@ -112,7 +111,7 @@ module _ (program : ProgramTree) (before : Seen) (work : List Work) (f : Frame) 
     abbrev pub MayCross : Bool → Type 0
     MayCross may = may ≡ (imported && (taken && words))
 
-    pub cross_refused : {end : RunEnd} → end ≡ refusal → MayCross false →
+    pub cross_refused : {before : Seen} {work : List Work} {end : RunEnd} → end ≡ refusal → MayCross false →
         Steps program before work f (calling (Cross comp index) args) (Stop end) before work f
     cross_refused same may = refused (Cross comp index) args same (first_fails _ taken words _ (sym may))
 
@@ -121,12 +120,13 @@ module _ (program : ProgramTree) (before : Seen) (work : List Work) (f : Frame) 
     no_lead None is h = refl
     no_lead (Some number) is h = ap is_some (h number is)
 
-    pub cross_missing : {end : RunEnd} → end ≡ refusal → EntryAt program comp (Export index) None →
+    pub cross_missing : {before : Seen} {work : List Work} {end : RunEnd} → end ≡ refusal →
+        EntryAt program comp (Export index) None →
         Steps program before work f (calling (Cross comp index) args) (Stop end) before work f
     cross_missing same none = refused (Cross comp index) args same (last_fails _ taken words (no_lead _ refl none))
 
-    pub cross_enters : (callee : Callee) {step : Step} {after : Seen} {later : List Work} {g : Frame} → MayCross true →
-        EntryAt program comp (Export index) (Some callee) →
+    pub cross_enters : {before after : Seen} {work later : List Work} (callee : Callee) {step : Step} {g : Frame} →
+        MayCross true → EntryAt program comp (Export index) (Some callee) →
         Steps program before work f (entering callee args (Some index)) step after later g →
         Steps program before work f (calling (Cross comp index) args) step after later g
     cross_enters callee may entry h = allowed (Cross comp index) args (all_hold imported taken words (sym may)
@@ -144,13 +144,13 @@ module _ (program : ProgramTree) (before : Seen) (work : List Work) (f : Frame) 
               (tell (Call f.scope.comp.now (sym entry.1.0 i) index (map word_in args)) s))) rg)
 
   -- the next input
-  pub input_steps : (args : List Value) {word : ℕ} {middle told after : Seen} {step : Step} →
+  pub input_steps : {before middle told after : Seen} {work : List Work} (args : List Value) {word : ℕ} {step : Step} →
       may_call (library program) f.scope.comp.now Input args ≡ true → word ≡ next_input before.inputs →
       middle ≡ record before { inputs = drop 1 before.inputs } →
       told ≡ record middle { trace = middle.trace ++ In f.scope.comp.now word ∷ [] } →
       Steps program told work f (λ n s. rg (Some (Word word)) s) step after work f →
       Steps program before work f (calling Input args) step after work f
-  input_steps args {word} {told} may is rest tells h = allowed Input args may (steps_on
+  input_steps {before} {told} args {word} may is rest tells h = allowed Input args may (steps_on
       {p = λ s. Reached (Some (Word _)) (read_input f.scope.comp.now s)} (λ n. rg) (record {
         comes = λ s shows. (ap (λ w. Some (Word w)) (ap (λ x. next_input x.inputs) shows ∙ sym is), seen s shows);
         fewer = omega (arith, ap (λ x. x.turns) tells, ap (λ x. x.turns) rest);
@@ -165,12 +165,13 @@ module _ (program : ProgramTree) (before : Seen) (work : List Work) (f : Frame) 
             }) ∙ ap {A = Seen} (λ x. record x { trace = x.trace ++ In f.scope.comp.now word ∷ [] }) (sym rest) ∙ sym
             tells
 
-  pub output_steps : (args : List Value) {word : ℕ} {told after : Seen} {step : Step} →
+  pub output_steps : {before told after : Seen} {work : List Work} (args : List Value) {word : ℕ} {step : Step} →
       may_call (library program) f.scope.comp.now Output args ≡ true → word ≡ first_word args →
       told ≡ record before { trace = before.trace ++ Out f.scope.comp.now word ∷ [] } →
       Steps program told work f (λ n s. rg None s) step after work f →
       Steps program before work f (calling Output args) step after work f
-  output_steps args may is tells h = allowed Output args may (steps_on {p = λ s. Reached None _} (λ n. rg) (record {
+  output_steps {before} args may is tells h = allowed Output args may (steps_on
+      {p = λ s. Reached None _} (λ n. rg) (record {
         comes = λ s shows. (
           refl,
           ap {A = Seen} (λ x.
@@ -193,20 +194,18 @@ module _ (program : ProgramTree) (before : Seen) (work : List Work) (f : Frame) 
     by_assoc : (n : ℕ) (s : State) → whole_call n s ≡ stepwise n s
     by_assoc n s = then_then (given_args s) (λ vs s. calls_in program n _ target vs s) rg
 
-  pub call_steps_by : (target : CallTarget) {es given_es : List TypedExpr} (line : ℕ) {r : Result (List Value) RunEnd}
-      {vs given_vs : List Value} {step : Step} {after : Seen} {later : List Work} {g : Frame} → given_es ≡ es →
-      r ≡ Ok vs → given_vs ≡ vs → Comes before before r (given_args target given_es line) →
+  pub call_steps_by : {before after : Seen} {work later : List Work} (target : CallTarget)
+      {es given_es : List TypedExpr} (line : ℕ) {r : Result (List Value) RunEnd} {vs given_vs : List Value}
+      {step : Step} {g : Frame} → given_es ≡ es → r ≡ Ok vs → given_vs ≡ vs →
+      Comes before before r (given_args target given_es line) →
       Steps program before work f (calling target given_vs) step after later g →
       Steps program before work f (whole_call target es line) step after later g
-  call_steps_by target {es} {given_es} line {vs} {step} {after} {later} {g} same is values_is c h = steps_as
-      (by_assoc target es line) (steps_on (λ n vs. calling target vs n)
-      (subst (λ x. Comes before before (Ok vs) (given_args target x line)) same
-      (subst (λ x. Comes before before x (given_args target given_es line)) is c))
-      (subst (λ x. Steps program before work f (calling target x) step after later g) values_is h))
+  call_steps_by target line same is values_is c h = steps_as (by_assoc target _ line)
+      (steps_on (λ n vs. calling target vs n) (rw (same, is) at c) (rw values_is at h))
 
-  pub call_blamed_by : (target : CallTarget) {es given_es : List TypedExpr} (line : ℕ) {r : Result (List Value) RunEnd}
-      {end : RunEnd} → given_es ≡ es → r ≡ Err end → Comes before before r (given_args target given_es line) →
+  pub call_blamed_by : {before : Seen} {work : List Work} (target : CallTarget) {es given_es : List TypedExpr}
+      (line : ℕ) {r : Result (List Value) RunEnd} {end : RunEnd} → given_es ≡ es → r ≡ Err end →
+      Comes before before r (given_args target given_es line) →
       Steps program before work f (whole_call target es line) (Stop end) before work f
-  call_blamed_by target {es} {given_es} line {end} same is c = steps_as (by_assoc target es line) (step_stops
-      (λ n vs. calling target vs n) (subst (λ x. Comes before before (Err end) (given_args target x line)) same
-      (subst (λ x. Comes before before x (given_args target given_es line)) is c)))
+  call_blamed_by target line same is c = steps_as (by_assoc target _ line)
+      (step_stops (λ n vs. calling target vs n) (rw (same, is) at c))
