@@ -104,9 +104,6 @@ module _ (program : ProgramTree) (f : Frame) (to : To) where
     abbrev leads_there : Option ℕ → Bool
     leads_there o = leads (library program) comp o
 
-    abbrev leads_on : Bool
-    leads_on = leads_there (entry_in program comp (Export index))
-
     -- what of a call across is tested before its function is looked up
     abbrev pub MayCross : Bool → Type 0
     MayCross may = may ≡ (imported && (taken && words))

@@ -197,15 +197,14 @@ module _ (program : ProgramTree) (inputs : List ℕ) (turns events : ℕ) where
       turns)
   seen_at_first {memory} {trace} is none = λ i. record { memory = is i; trace = none i; turns = turns; inputs = inputs }
 
-  module _ (run : SourceRun) (callee : Callee) (before after started : Seen) (f : Frame)
-      (at_first : before ≡ seen_first program inputs turns)
+  module _ {callee : Callee} {before after : Seen} {f : Frame} (at_first : before ≡ seen_first program inputs turns)
       (at : EntryAt program program.interfaces.main Main (Some callee)) (begun : Begun callee [] before after f) where
     stands_first : Standing program whole_run after [] f (λ n s. body_acts program n f tt s)
     stands_first = begins program inputs turns callee _ after f at.0 at.1.0 refl at.1.2
         (subst (λ x. Begun callee [] x after f) at_first begun)
 
-    module _ (step : Step) (steps : Steps program after [] f
-        (λ n s. body_acts program n f tt s) step started [] f) where
+    module _ {run : SourceRun} {started : Seen} {step : Step}
+        (steps : Steps program after [] f (λ n s. body_acts program n f tt s) step started [] f) where
       -- a run that ends before the first statement
       pub over_at_once : {end : RunEnd} → step ≡ Stop end →
           run ≡ stopped_at events (record { trace = started.trace; end = end }) →
