@@ -14,14 +14,14 @@ use Rattle.sc_run.proofs.Coming.{with_memory, seen_with, blocks_seen}
 use Rattle.sc_run.proofs.Looping.{resume_stopped, newest_first, step_stops, step_ends, steps_as}
 
 -- a result that can't be stored
-pub unstored : (program : ProgramTree) (before after : Seen) (work : List Work) (f : Frame) (to : To)
-    (result : Option Value) (place : Bor TypedExpr) (line : ℕ) (v : Value) (end : RunEnd) → to ≡ Place place line →
+pub unstored : {program : ProgramTree} {before after : Seen} {work : List Work} {f : Frame} {to : To}
+    {result : Option Value} (place : Bor TypedExpr) (line : ℕ) {v : Value} {end : RunEnd} → to ≡ Place place line →
     result ≡ Some v → Comes before after (Err end) (store_at (here_of f.scope) (way_in f place.now) v line tt) →
     Steps program before work f (λ n s. result_goes program f to result s) (Stop end) after work f
-unstored program before after work f to result place line v end is has c =
+unstored {program} {before} {after} {work} {f} {result} place line {end} is has c =
     subst (λ x. Steps program before work f (λ n s. result_goes program f x result s) (Stop end) after work f) (sym is)
-    (subst (λ x. Steps program before work f (λ n s. result_goes program f (Place place line) x s)
-    (Stop end) after work f) (sym has) (step_ends program before after work f end _ c))
+    (subst (λ x. Steps program before work f (λ n s. result_goes program f (Place place line) x s) (Stop end) after work
+    f) (sym has) (step_ends c))
 
 module _ (program : ProgramTree) (caller : Frame) (callee : Callee) (args : List Value) (to : To) where
   abbrev pub called_function : Function
@@ -47,51 +47,48 @@ module _ (program : ProgramTree) (caller : Frame) (callee : Callee) (args : List
   abbrev pub entering : (Option Value → State → Piece (Option Value)) → ℕ → State → Piece (Option Value)
   entering back n s = run_in (library program) (bodies program n) callee.comp.now callee.number args back s
 
-  pub enter_is : Found → (back : Option Value → State → Piece (Option Value)) (m : ℕ) (t : State) → entering back
-      (suc m) t ≡ returned program (frame_at (length (t.memory callee.comp.now))) back (body_acts program m
-      (frame_at (length (t.memory callee.comp.now))) tt (begun callee.comp.now called_function args t))
-  enter_is there back m t =
-      ap (λ o. and_then (found o t) (λ f s. and_then (bodies program (suc m) callee.number
+  pub enter_is : Found → (back : Option Value → State → Piece (Option Value)) (m : ℕ) (t : State) → entering back (suc
+      m) t ≡ returned program (frame_at (length (t.memory callee.comp.now))) back (body_acts program m (frame_at (length
+      (t.memory callee.comp.now))) tt (begun callee.comp.now called_function args t))
+  enter_is there back m t = ap (λ o. and_then (found o t) (λ f s. and_then (bodies program (suc m) callee.number
       (record { comp = callee.comp.now; first = length (s.memory callee.comp.now) })
       (begun callee.comp.now f args s)) (λ v u. back v
-      (done callee.comp.now f (length (s.memory callee.comp.now)) u)))) there
-      ∙ ap (λ o. and_then (and_then (found o (begun callee.comp.now called_function args t))
+      (done callee.comp.now f (length (s.memory callee.comp.now)) u)))) there ∙ ap
+      (λ o. and_then (and_then (found o (begun callee.comp.now called_function args t))
       (λ f s. f.does (calls_in program m) (record {
         comp = callee.comp.now;
         first = length (t.memory callee.comp.now);
-      }) s))
-      (λ v u. back v (done callee.comp.now called_function (length (t.memory callee.comp.now)) u))) there
+      }) s)) (λ v u. back v (done callee.comp.now called_function (length (t.memory callee.comp.now)) u))) there
 
-  pub begun_seen : (t : State) (mid : Seen) → seen_of t ≡ mid →
+  pub begun_seen : (t : State) {mid : Seen} → seen_of t ≡ mid →
       seen_of (begun callee.comp.now called_function args t) ≡ with_memory mid (with_variables callee args mid.memory)
-  begun_seen t mid shows =
-      seen_with t mid _ _ shows ∙ ap (λ bs. with_memory mid (with_blocks callee.comp.now bs mid.memory))
+  begun_seen t {mid} shows =
+      seen_with t _ _ shows ∙ ap (λ bs. with_memory mid (with_blocks callee.comp.now bs mid.memory))
       (blank_more (t.memory _) (blocks_for (variables callee.structs.now callee.function.now) args) ∙
-      (λ i. blocks_seen t mid callee.comp.now shows i ++
-      blank_new (variables callee.structs.now callee.function.now) args i))
+      (λ i. blocks_seen t callee.comp.now shows i ++ blank_new (variables callee.structs.now callee.function.now) args
+      i))
 
-  first_seen : (t : State) (mid : Seen) → seen_of t ≡ mid →
+  first_seen : (t : State) {mid : Seen} → seen_of t ≡ mid →
       length (mid.memory callee.comp.now) ≡ length (t.memory callee.comp.now)
-  first_seen t mid shows = ap length (sym (blocks_seen t mid _ shows)) ∙ length_same _
+  first_seen t shows = ap length (sym (blocks_seen t _ shows)) ∙ length_same _
 
-  pub frame_is : (t : State) (mid after : Seen) (g : Frame) → seen_of t ≡ mid → Begun callee args mid after g →
+  pub frame_is : (t : State) {mid after : Seen} {g : Frame} → seen_of t ≡ mid → Begun callee args mid after g →
       g ≡ frame_at (length (t.memory callee.comp.now))
-  frame_is t mid after g shows b = λ i.
+  frame_is t shows b = λ i.
       record {
         scope = record {
           structs = b.structs i;
           comp = b.comp i;
-          first = (b.first ∙ first_seen t mid shows) i;
+          first = (b.first ∙ first_seen t shows) i;
           params = b.params i;
         };
         function = b.function i;
       }
 
-  entry_seen : (crossing : Option ℕ) (s : State) (seen : Seen) → seen_of s ≡ seen →
+  entry_seen : (crossing : Option ℕ) (s : State) {seen : Seen} → seen_of s ≡ seen →
       seen_of (entry_from caller callee args crossing s) ≡ told_call caller callee args crossing seen
-  entry_seen None s seen shows = shows
-  entry_seen (Some index) s seen shows =
-      ap {A = Seen} (λ x. record x {
+  entry_seen None s shows = shows
+  entry_seen (Some index) s shows = ap {A = Seen} (λ x. record x {
         trace = x.trace ++ Call caller.scope.comp.now callee.comp.now index (map word_in args) ∷ [];
       }) shows
 
@@ -113,22 +110,19 @@ module _ (program : ProgramTree) (caller : Frame) (callee : Callee) (args : List
     Entered = Standing program whole begun_to later g (λ n s. body_acts program n g tt s)
 
     enter_at : (m : ℕ) (t : State) → later ≡ work ++ Caller caller to crossing ∷ [] →
-        seen_of t ≡ told_call caller callee args crossing mid →
-        ((n : ℕ) (p : Piece (Left (Unit {0}))) (f : Frame) → f ≡ frame_at (length (t.memory callee.comp.now)) →
-        resume program n (Caller caller to crossing ∷ reverse work) f p ≡
-        resume program (suc n) (reverse work) caller
-        (and_then (returned program f (back_from program caller callee crossing) p)
-        (result_goes program caller to))) → t.turns ≤ m →
-        (resume program (suc m) (reverse work) caller
-        (and_then (entering (back_from program caller callee crossing) (suc m) t)
-        (result_goes program caller to))).behaviour ≡ whole → Entered
+        seen_of t ≡ told_call caller callee args crossing mid → ((n : ℕ) (p : Piece (Left (Unit {0}))) (f : Frame) → f ≡
+        frame_at (length (t.memory callee.comp.now)) → resume program n (Caller caller to crossing ∷ reverse work) f p ≡
+        resume program (suc n) (reverse work) caller (and_then (returned program f (back_from program caller callee
+        crossing) p) (result_goes program caller to))) → t.turns ≤ m → (resume program (suc m) (reverse work) caller
+        (and_then (entering (back_from program caller callee crossing) (suc m) t) (result_goes program caller
+        to))).behaviour ≡ whole → Entered
     enter_at m t pushed shows waits enough rest =
         let same : g ≡ frame_at (length (t.memory callee.comp.now)) =
-        frame_is t (told_call caller callee args crossing mid) begun_to g shows b in
+        frame_is t shows b in
         subst (λ f. Standing program whole begun_to later f (λ n s. body_acts program n f tt s)) (sym same) (record {
           open_calls = m;
           state = begun callee.comp.now called_function args t;
-          shows = begun_seen t (told_call caller callee args crossing mid) shows ∙ sym b.seen;
+          shows = begun_seen t shows ∙ sym b.seen;
           enough = enough;
           rest = ap (λ ws. (resume program m ws (frame_at (length (t.memory callee.comp.now))) entered_piece).behaviour)
               (ap reverse pushed ∙ newest_first work (Caller caller to _)) ∙ ap (λ x. x.behaviour)
@@ -140,60 +134,55 @@ module _ (program : ProgramTree) (caller : Frame) (callee : Callee) (args : List
           entered_piece = body_acts program m (frame_at (length (t.memory callee.comp.now))) tt
               (begun callee.comp.now called_function args t)
 
-    waits_at : (cross : Option ℕ) (first : ℕ) (n : ℕ) (p : Piece (Left (Unit {0}))) (f : Frame) → f ≡ frame_at first →
-        resume program n (Caller caller to cross ∷ reverse work) f p ≡ resume program (suc n) (reverse work) caller
-        (and_then (returned program f (back_from program caller callee cross) p) (result_goes program caller to))
-    waits_at None first n p f is = refl
-    waits_at (Some index) first n p f is =
-        subst (λ f. resume program n (Caller caller to (Some index) ∷ reverse work) f p ≡
-        resume program (suc n) (reverse work) caller
-        (and_then (returned program f (back_from program caller callee (Some index)) p)
+    waits_at : (cross : Option ℕ) (first n : ℕ) (p : Piece (Left (Unit {0}))) {f : Frame} → f ≡ frame_at first → resume
+        program n (Caller caller to cross ∷ reverse work) f p ≡ resume program (suc n) (reverse work) caller (and_then
+        (returned program f (back_from program caller callee cross) p) (result_goes program caller to))
+    waits_at None first n p is = refl
+    waits_at (Some index) first n p {f} is =
+        subst (λ f. resume program n (Caller caller to (Some index) ∷ reverse work) f p ≡ resume program (suc n)
+        (reverse work) caller (and_then (returned program f (back_from program caller callee (Some index)) p)
         (result_goes program caller to))) (sym is) refl
 
-    entered_from : (before : Seen) → later ≡ work ++ Caller caller to crossing ∷ [] → before.turns ≡ suc mid.turns →
+    entered_from : {before : Seen} → later ≡ work ++ Caller caller to crossing ∷ [] → before.turns ≡ suc mid.turns →
         Comes before mid (Ok tt) turn → Standing program whole before work caller (tries crossing) → Entered
-    entered_from before pushed taken c h = by_turn h.open_calls (turn h.state) (c.comes h.state h.shows)
+    entered_from {before} pushed taken c h = by_turn h.open_calls (turn h.state) (c.comes h.state h.shows)
         (more (ap (λ x. x.turns) h.shows) taken h.enough) h.rest where
           more : h.state.turns ≡ before.turns → before.turns ≡ suc mid.turns → h.state.turns ≤ h.open_calls →
               suc mid.turns ≤ h.open_calls
           more x y z = omega (arith, x, y, z)
 
-          by_turn : (n : ℕ) (x : Piece (Unit {0})) → CameTo (Ok tt) mid x → suc mid.turns ≤ n →
-              (resume program n (reverse work) caller
-              (and_then (and_then x (λ _ s. from_call crossing n s)) (result_goes program caller to))).behaviour ≡
-              whole → Entered
+          by_turn : (n : ℕ) (x : Piece (Unit {0})) → CameTo (Ok tt) mid x → suc mid.turns ≤ n → (resume program n
+              (reverse work) caller (and_then (and_then x (λ _ s. from_call crossing n s)) (result_goes program caller
+              to))).behaviour ≡ whole → Entered
           by_turn zero x e le rest = absurd (none mid.turns le) where
             none : (k : ℕ) → suc k ≤ 0 → ⊥
             none k z = omega (arith, z)
           by_turn (suc m) (Reached u t) e le rest = enter_at m (entry_from caller callee args crossing t) pushed
-              (entry_seen crossing t mid e.1) (λ n p f is. waits_at crossing
-              (length ((entry_from caller callee args _ t).memory callee.comp.now)) n p f is)
+              (entry_seen crossing t e.1) (λ n p f is. waits_at crossing
+              (length ((entry_from caller callee args _ t).memory callee.comp.now)) n p is)
               (less (entry_turns crossing t) (ap (λ x. x.turns) e.1) le) rest where
                 less : (entry_from caller callee args crossing t).turns ≡ t.turns → t.turns ≡ mid.turns →
                     suc mid.turns ≤ suc m → (entry_from caller callee args crossing t).turns ≤ m
                 less x y z = omega (arith, x, y, z)
           by_turn (suc m) (Stopped end t) e le rest = elim e [ ]
 
-  pub enter_steps : (crossing : Option ℕ) (work later : List Work) (before mid told begun_to : Seen) (g : Frame)
-      (step : Step) (last : Seen) (last_work : List Work) (last_frame : Frame) → Found → Comes before mid (Ok tt) turn →
-      before.turns ≡ suc mid.turns → told ≡ told_call caller callee args crossing mid →
-      Begun callee args told begun_to g → later ≡ work ++ Caller caller to crossing ∷ [] →
+  pub enter_steps : (crossing : Option ℕ) {work later last_work : List Work} {before mid told begun_to last : Seen}
+      {g last_frame : Frame} {step : Step} → Found → Comes before mid (Ok tt) turn → before.turns ≡ suc mid.turns →
+      told ≡ told_call caller callee args crossing mid → Begun callee args told begun_to g →
+      later ≡ work ++ Caller caller to crossing ∷ [] →
       Steps program begun_to later g (λ n s. body_acts program n g tt s) step last last_work last_frame →
       Steps program before work caller (tries crossing) step last last_work last_frame
-  enter_steps crossing work later before mid told begun_to g step last last_work last_frame there c taken tells b pushed
-      h =
+  enter_steps crossing {work} {later} {mid} {begun_to} {g} there c taken tells b pushed h =
       record {
         stands = λ whole standing. h.stands whole (entered_from whole work later _ mid _ g there
-            (subst (λ x. Begun callee args x begun_to g) tells b) before pushed taken c standing);
+            (subst (λ x. Begun callee args x begun_to g) tells b) pushed taken c standing);
       }
 
   -- a call that has no turn left
-  pub enter_stops : (crossing : Option ℕ) (work : List Work) (before after : Seen) (end : RunEnd) →
+  pub enter_stops : (crossing : Option ℕ) {work : List Work} {before after : Seen} {end : RunEnd} →
       Comes before after (Err end) turn → Steps program before work caller (tries crossing) (Stop end) after work caller
-  enter_stops crossing work before after end c = steps_as program before work caller (tries crossing)
-      (λ n s. and_then (turn s) (λ _ s. and_then _ (result_goes program caller to))) (Stop end) after work caller
-      (λ n s. then_then (turn s) (λ _ s. from_call _ n s) (result_goes program caller to)) (step_stops program before
-      after work caller end turn (λ n u s. and_then (from_call _ n s) (result_goes program caller to)) c)
+  enter_stops crossing c = steps_as (λ n s. then_then (turn s) (λ _ s. from_call _ n s) (result_goes program caller to))
+      (step_stops (λ n u s. and_then (from_call _ n s) (result_goes program caller to)) c)
 
 -- how a call ends, once control left the body in this way
 abbrev pub ClosedBy : ProgramTree → Frame → Exit → Result (Option Value) RunEnd → Type 0
@@ -210,75 +199,73 @@ module _ (program : ProgramTree) (f : Frame) (exit : Exit) where
       ClosedBy program f exit (Ok v) → returned program f back (leaving s) ≡ back v (over s)
   returned_ok v back s is = ap (λ p. and_then p (λ v t. back v (over t))) (is s)
 
-  returned_err : (end : RunEnd) (back : Option Value → State → Piece (Option Value)) (s : State) →
+  returned_err : {end : RunEnd} (back : Option Value → State → Piece (Option Value)) {s : State} →
       ClosedBy program f exit (Err end) → returned program f back (leaving s) ≡ Stopped end s
-  returned_err end back s is = ap (λ p. and_then p (λ v t. back v (over t))) (is s)
+  returned_err back {s} is = ap (λ p. and_then p (λ v t. back v (over t))) (is s)
 
-  over_seen : (s : State) (before : Seen) → seen_of s ≡ before → seen_of (over s) ≡ left_by f before
-  over_seen s before shows = seen_with s before _ (ended f.scope.first (variable_count f) (s.memory _)) shows ∙ ap
+  over_seen : (s : State) {before : Seen} → seen_of s ≡ before → seen_of (over s) ≡ left_by f before
+  over_seen s {before} shows = seen_with s _ (ended f.scope.first (variable_count f) (s.memory _)) shows ∙ ap
       (λ bs. with_memory before (with_blocks f.scope.comp.now bs before.memory)) (sym
       (left_same f.scope.first (variable_count f) (s.memory _)) ∙ ap (λ bs. cleared f.scope.first (variable_count f) bs)
-      (blocks_seen s before f.scope.comp.now shows))
+      (blocks_seen s f.scope.comp.now shows))
 
   module _ (whole : SourceRun) (before : Seen) (work : List Work) (caller : Frame) (to : To) (crossing : Option ℕ) where
     abbrev waiting : List Work
     waiting = work ++ Caller caller to crossing ∷ []
 
-    resumed : (n : ℕ) (s : State) → resume program n (reverse waiting) f (leaving s) ≡ resume program (suc n)
-        (reverse work) caller
-        (and_then (returned program f (back_to program caller f crossing) (leaving s)) (result_goes program caller to))
+    resumed : (n : ℕ) (s : State) → resume program n (reverse waiting) f (leaving s) ≡ resume program (suc n) (reverse
+        work) caller (and_then (returned program f (back_to program caller f crossing) (leaving s)) (result_goes program
+        caller to))
     resumed n s = ap (λ ws. resume program n ws f (leaving s)) (newest_first work _)
 
     pub call_ends : (end : RunEnd) → ClosedBy program f exit (Err end) →
         Standing program whole before waiting f (λ n s. leaving s) → whole ≡ record { trace = before.trace; end = end }
     call_ends end is h = sym h.rest ∙ ap (λ r. r.behaviour) (resumed h.open_calls h.state ∙ ap
         (λ p. resume program (suc h.open_calls) (reverse work) caller (and_then p (result_goes program caller to)))
-        (returned_err end (back_to program caller f crossing) h.state is)) ∙ resume_stopped program (suc h.open_calls)
+        (returned_err (back_to program caller f crossing) is)) ∙ resume_stopped program (suc h.open_calls)
         (reverse work) caller end h.state ∙ (λ i. record { trace = (h.shows i).trace; end = end })
 
-    back_at : (cross : Option ℕ) (v : Option Value) (n : ℕ) (s : State)
-        (rest : (resume program n (reverse work) caller
+    back_at : (cross : Option ℕ) (v : Option Value) (n : ℕ) (s : State) (rest : (resume program n (reverse work) caller
         (and_then (back_to program caller f cross v (over s)) (result_goes program caller to))).behaviour ≡ whole) →
-        seen_of s ≡ before → s.turns ≤ n → Standing program whole
-        (told_back program caller f cross v (left_by f before)) work caller
-        (λ n s. result_goes program caller to (back_value program f cross v) s)
+        seen_of s ≡ before → s.turns ≤ n → Standing program whole (told_back program caller f cross v (left_by f
+        before)) work caller (λ n s. result_goes program caller to (back_value program f cross v) s)
     back_at None v n s rest shows enough =
-        record { open_calls = n; state = over s; shows = over_seen s before shows; enough = enough; rest = rest }
+        record { open_calls = n; state = over s; shows = over_seen s shows; enough = enough; rest = rest }
     back_at (Some index) v n s rest shows enough =
         record {
           open_calls = n;
           state = tell _ (over s);
           shows = ap {A = Seen} (λ x. record x {
             trace = x.trace ++ Ret f.scope.comp.now caller.scope.comp.now (word_crossing program f index v) ∷ [];
-          }) (over_seen s before shows);
+          }) (over_seen s shows);
           enough = enough;
           rest = rest;
         }
 
     pub call_returns : (v : Option Value) → ClosedBy program f exit (Ok v) →
-        Standing program whole before waiting f (λ n s. leaving s) →
-        Standing program whole (told_back program caller f crossing v (left_by f before)) work caller
-        (λ n s. result_goes program caller to (back_value program f crossing v) s)
-    call_returns v is h =
-        back_at _ v (suc h.open_calls) h.state (ap (λ r. r.behaviour) (sym (resumed _ h.state ∙
-        ap (λ p. resume program (suc h.open_calls) (reverse work) caller (and_then p (result_goes program caller to)))
+        Standing program whole before waiting f (λ n s. leaving s) → Standing program whole (told_back program caller f
+        crossing v (left_by f before)) work caller (λ n s. result_goes program caller to (back_value program f crossing
+        v) s)
+    call_returns v is h = back_at _ v (suc h.open_calls) h.state (ap (λ r. r.behaviour) (sym (resumed _ h.state ∙ ap
+        (λ p. resume program (suc h.open_calls) (reverse work) caller (and_then p (result_goes program caller to)))
         (returned_ok v (back_to program caller f _) h.state is))) ∙ h.rest) h.shows (more _ _ h.enough) where
           more : (a b : ℕ) → a ≤ b → a ≤ suc b
           more a b z = omega (arith, z)
 
   module _ (before : Seen) where
-    pub return_stops : (work : List Work) (caller : Frame) (to : To) (crossing : Option ℕ) (end : RunEnd) →
-        ClosedBy program f exit (Err end) → Steps program before (work ++ Caller caller to crossing ∷ []) f
-        (λ n s. leaving s) (Stop end) before work f
-    return_stops work caller to crossing end is =
+    pub return_stops : {work : List Work} (caller : Frame) (to : To) (crossing : Option ℕ) {end : RunEnd} →
+        ClosedBy program f exit (Err end) →
+        Steps program before (work ++ Caller caller to crossing ∷ []) f (λ n s. leaving s) (Stop end) before work f
+    return_stops {work} caller to crossing {end} is =
         record { stands = λ whole h. call_ends whole before work caller to _ end is h }
 
-    pub return_steps : (work : List Work) (caller : Frame) (to : To) (crossing : Option ℕ) (v back : Option Value)
-        (ended told after : Seen) (step : Step) → ClosedBy program f exit (Ok v) → ended ≡ left_by f before →
-        back ≡ back_value program f crossing v → told ≡ told_back program caller f crossing v ended →
+    pub return_steps : {work : List Work} {caller : Frame} (to : To) (crossing : Option ℕ) (v : Option Value)
+        {back : Option Value} {ended told after : Seen} {step : Step} → ClosedBy program f exit (Ok v) →
+        ended ≡ left_by f before → back ≡ back_value program f crossing v →
+        told ≡ told_back program caller f crossing v ended →
         Steps program told work caller (λ n s. result_goes program caller to back s) step after work caller →
         Steps program before (work ++ Caller caller to crossing ∷ []) f (λ n s. leaving s) step after work caller
-    return_steps work caller to crossing v back ended told after step is ends gives tells h =
+    return_steps {work} {caller} to crossing v {back} is ends gives tells h =
         record {
           stands = λ whole standing. h.stands whole
               (subst (λ x. Standing program whole x work caller (λ n s. result_goes program caller to back s))

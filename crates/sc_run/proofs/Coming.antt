@@ -13,51 +13,48 @@ abbrev pub with_memory : Seen → Memory → Seen
 with_memory seen memory = record seen { memory = memory }
 
 -- what is seen of a state with other blocks in a compartment
-pub seen_with : (s : State) (seen : Seen) (comp : ℕ) (bs : Blocks) → seen_of s ≡ seen →
-    seen_of (record s { memory = with_blocks comp bs s.memory }) ≡
-    record seen { memory = with_blocks comp (blank bs) seen.memory }
-seen_with s seen comp bs shows = ap (λ memory. with_memory (seen_of s) memory) (memory_with comp bs _) ∙
-    ap {A = Seen} (λ x. record x { memory = with_blocks comp (blank bs) x.memory }) shows
+pub seen_with : (s : State) {seen : Seen} (comp : ℕ) (bs : Blocks) → seen_of s ≡ seen → seen_of (record s { memory =
+    with_blocks comp bs s.memory }) ≡ record seen { memory = with_blocks comp (blank bs) seen.memory }
+seen_with s comp bs shows = ap (λ memory. with_memory (seen_of s) memory) (memory_with comp bs _) ∙ ap {A = Seen}
+    (λ x. record x { memory = with_blocks comp (blank bs) x.memory }) shows
 
 -- the blocks of a compartment, as they are seen
-pub blocks_seen : (s : State) (seen : Seen) (comp : ℕ) → seen_of s ≡ seen → blank (s.memory comp) ≡ seen.memory comp
-blocks_seen s seen comp shows = ap (λ x. x.memory comp) shows
+pub blocks_seen : (s : State) {seen : Seen} (comp : ℕ) → seen_of s ≡ seen → blank (s.memory comp) ≡ seen.memory comp
+blocks_seen s comp shows = ap (λ x. x.memory comp) shows
 
-computed_ok : {V : Type 0} (here : Here) (line : ℕ) (r : Result V Cause) (v : V) (s : State) (seen : Seen) →
+computed_ok : {V : Type 0} (here : Here) (line : ℕ) {r : Result V Cause} {v : V} (s : State) {seen : Seen} →
     seen_of s ≡ seen → r ≡ Ok v → CameTo (Ok v) seen (computed here line r s)
-computed_ok here line r v s seen shows is = subst (λ x. CameTo (Ok v) seen (computed here line x s)) (sym is)
+computed_ok here line {v} s {seen} shows is = subst (λ x. CameTo (Ok v) seen (computed here line x s)) (sym is)
     (refl, shows)
 
-computed_err : {V : Type 0} (here : Here) (line : ℕ) (r : Result V Cause) (cause : Cause) (s : State) (seen : Seen) →
+computed_err : {V : Type 0} (here : Here) (line : ℕ) {r : Result V Cause} {cause : Cause} (s : State) {seen : Seen} →
     seen_of s ≡ seen → r ≡ Err cause → CameTo (Err (Blamed here.comp cause line)) seen (computed here line r s)
-computed_err here line r cause s seen shows is =
+computed_err here line {cause} s {seen} shows is =
     subst (λ x. CameTo (Err (Blamed here.comp cause line)) seen (computed here line x s)) (sym is) (refl, shows)
 
 -- what is computed from the blocks, where it does not depend on what is unseen
 module _ {V : Type 0} (here : Here) (line : ℕ) (f : Blocks → Result V Cause)
     (same : (bs : Blocks) → f (blank bs) ≡ f bs) (seen : Seen) where
-  pub computed_comes : (v : V) → Ok v ≡ f (seen.memory here.comp) →
+  pub computed_comes : {v : V} → Ok v ≡ f (seen.memory here.comp) →
       Comes seen seen (Ok v) (λ s. computed here line (f (s.memory here.comp)) s)
-  computed_comes v is =
+  computed_comes is =
       record {
-        comes = λ s shows. computed_ok here line _ v s seen shows
-            (sym (same _) ∙ ap f (blocks_seen s seen _ shows) ∙ sym is);
+        comes = λ s shows. computed_ok here line s shows (sym (same _) ∙ ap f (blocks_seen s _ shows) ∙ sym is);
         fewer = omega arith;
       }
 
-  pub computed_blamed : (cause : Cause) → Err cause ≡ f (seen.memory here.comp) →
+  pub computed_blamed : {cause : Cause} → Err cause ≡ f (seen.memory here.comp) →
       Comes seen seen (Err (Blamed here.comp cause line)) (λ s. computed here line (f (s.memory here.comp)) s)
-  computed_blamed cause is =
+  computed_blamed is =
       record {
-        comes = λ s shows. computed_err here line _ cause s seen shows
-            (sym (same _) ∙ ap f (blocks_seen s seen _ shows) ∙ sym is);
+        comes = λ s shows. computed_err here line s shows (sym (same _) ∙ ap f (blocks_seen s _ shows) ∙ sym is);
         fewer = omega arith;
       }
 
 -- nothing follows the end of the run
-pub then_stops : {V W : Type 0} (before after : Seen) (end : RunEnd) (p : State → Piece V) (go : V → State → Piece W) →
+pub then_stops : {V W : Type 0} {before after : Seen} {end : RunEnd} {p : State → Piece V} (go : V → State → Piece W) →
     Comes before after (Err end) p → Comes before after (Err end) (λ s. and_then (p s) go)
-then_stops before after end p go h = record {
+then_stops {after} {end} {p} go h = record {
   comes = λ s shows. by_piece (p s) (h.comes s shows);
   fewer = h.fewer;
 } where
@@ -66,10 +63,10 @@ then_stops before after end p go h = record {
   by_piece (Stopped e s) c = c
 
 -- a piece, and what follows it
-pub then_goes : {V W : Type 0} (before middle after : Seen) (v : V) (r : Result W RunEnd) (p : State → Piece V)
+pub then_goes : {V W : Type 0} {before middle after : Seen} {v : V} {r : Result W RunEnd} {p : State → Piece V}
     (go : V → State → Piece W) → Comes before middle (Ok v) p → Comes middle after r (go v) →
     Comes before after r (λ s. and_then (p s) go)
-then_goes before middle after v r p go h k =
+then_goes {middle} {after} {v} {r} {p} go h k =
     record { comes = λ s shows. by_piece (p s) (h.comes s shows); fewer = omega (arith, h.fewer, k.fewer) } where
       by_piece : (q : Piece _) → CameTo (Ok v) middle q → CameTo r after (and_then q go)
       by_piece (Reached w s) c = subst (λ x. CameTo r after (go x s)) (sym c.0) (k.comes s c.1)
@@ -77,12 +74,12 @@ then_goes before middle after v r p go h k =
 
 -- a store
 module _ (here : Here) (q v : Value) (line : ℕ) (seen : Seen) (after : Blocks) where
-  stored_at : (s : State) (r : Result Blocks Cause) → seen_of s ≡ seen → blanked r ≡ Ok after → CameTo usual
-      (record seen { memory = with_blocks here.comp after seen.memory }) (and_then (computed here line r s) (λ blocks s.
-      leave {A = Unit {0}} Next tt (record s { memory = with_blocks here.comp blocks s.memory })))
+  stored_at : (s : State) (r : Result Blocks Cause) → seen_of s ≡ seen → blanked r ≡ Ok after → CameTo usual (record
+      seen { memory = with_blocks here.comp after seen.memory }) (and_then (computed here line r s) (λ blocks s. leave
+      {A = Unit {0}} Next tt (record s { memory = with_blocks here.comp blocks s.memory })))
   stored_at s (Ok blocks) shows is = (
     refl,
-    seen_with s seen here.comp blocks shows ∙ ap (λ bs. record seen { memory = with_blocks here.comp bs seen.memory })
+    seen_with s here.comp blocks shows ∙ ap (λ bs. record seen { memory = with_blocks here.comp bs seen.memory })
         (unwrap (blank blocks) after is),
   ) where
     unwrap : (a b : Blocks) → ◌≡◌ {A = Result Blocks Cause} (Ok a) (Ok b) → a ≡ b
@@ -94,14 +91,14 @@ module _ (here : Here) (q v : Value) (line : ℕ) (seen : Seen) (after : Blocks)
   stored_comes is =
       record {
         comes = λ s shows. stored_at s _ shows
-            (sym (store_same _ q v) ∙ ap (λ bs. store bs q v) (blocks_seen s seen _ shows) ∙ is);
+            (sym (store_same _ q v) ∙ ap (λ bs. store bs q v) (blocks_seen s _ shows) ∙ is);
         fewer = omega arith;
       }
 
 module _ (here : Here) (q v : Value) (line : ℕ) (seen : Seen) (cause : Cause) where
-  blamed_at : (s : State) (r : Result Blocks Cause) → seen_of s ≡ seen → blanked r ≡ Err cause →
-      CameTo (Err (Blamed here.comp cause line)) seen (and_then (computed here line r s) (λ blocks s.
-      leave {A = Unit {0}} Next tt (record s { memory = with_blocks here.comp blocks s.memory })))
+  blamed_at : (s : State) (r : Result Blocks Cause) → seen_of s ≡ seen → blanked r ≡ Err cause → CameTo (Err (Blamed
+      here.comp cause line)) seen (and_then (computed here line r s) (λ blocks s. leave {A = Unit {0}} Next tt (record s
+      { memory = with_blocks here.comp blocks s.memory })))
   blamed_at s (Ok blocks) shows is = cc is
   blamed_at s (Err other) shows is = (ap (λ x. Blamed here.comp x line) (unwrap other cause is), shows) where
     unwrap : (a b : Cause) → ◌≡◌ {A = Result Blocks Cause} (Err a) (Err b) → a ≡ b
@@ -112,48 +109,47 @@ module _ (here : Here) (q v : Value) (line : ℕ) (seen : Seen) (cause : Cause) 
   stored_blamed is =
       record {
         comes = λ s shows. blamed_at s _ shows
-            (sym (store_same _ q v) ∙ ap (λ bs. store bs q v) (blocks_seen s seen _ shows) ∙ is);
+            (sym (store_same _ q v) ∙ ap (λ bs. store bs q v) (blocks_seen s _ shows) ∙ is);
         fewer = omega arith;
       }
 
 -- a turn, if there is one
-turned_at : (n : ℕ) (s : State) (seen : Seen) → seen_of s ≡ seen → s.turns ≡ suc n →
+turned_at : {n : ℕ} (s : State) {seen : Seen} → seen_of s ≡ seen → s.turns ≡ suc n →
     CameTo (Ok tt) (record seen { turns = n }) (turn_of s.turns s)
-turned_at n s seen shows is = subst (λ k. CameTo (Ok tt) (record seen { turns = n }) (turn_of k s)) (sym is)
+turned_at {n} s {seen} shows is = subst (λ k. CameTo (Ok tt) (record seen { turns = n }) (turn_of k s)) (sym is)
     (refl, ap {A = Seen} (λ x. record x { turns = n }) shows)
 
-pub turn_comes : (n : ℕ) (seen : Seen) → seen.turns ≡ suc n → Comes seen (record seen { turns = n }) (Ok tt) turn
-turn_comes n seen is =
-    record { comes = λ s shows. turned_at n s seen shows (ap (λ x. x.turns) shows ∙ is); fewer = omega (arith, is) }
+pub turn_comes : {n : ℕ} {seen : Seen} → seen.turns ≡ suc n → Comes seen (record seen { turns = n }) (Ok tt) turn
+turn_comes is =
+    record { comes = λ s shows. turned_at s shows (ap (λ x. x.turns) shows ∙ is); fewer = omega (arith, is) }
 
-out_at : (s : State) (seen : Seen) → seen_of s ≡ seen → s.turns ≡ zero → CameTo (Err TurnsOut) seen (turn_of s.turns s)
-out_at s seen shows is = subst (λ k. CameTo (Err TurnsOut) seen (turn_of k s)) (sym is) (refl, shows)
+out_at : (s : State) {seen : Seen} → seen_of s ≡ seen → s.turns ≡ zero → CameTo (Err TurnsOut) seen (turn_of s.turns s)
+out_at s {seen} shows is = subst (λ k. CameTo (Err TurnsOut) seen (turn_of k s)) (sym is) (refl, shows)
 
-pub turn_stops : (seen : Seen) → seen.turns ≡ zero → Comes seen seen (Err TurnsOut) turn
-turn_stops seen is =
-    record { comes = λ s shows. out_at s seen shows (ap (λ x. x.turns) shows ∙ is); fewer = omega arith }
+pub turn_stops : {seen : Seen} → seen.turns ≡ zero → Comes seen seen (Err TurnsOut) turn
+turn_stops is =
+    record { comes = λ s shows. out_at s shows (ap (λ x. x.turns) shows ∙ is); fewer = omega arith }
 
-pub stored_ok : (here : Here) (q v : Value) (line : ℕ) (seen : Seen) (memory : Memory) →
+pub stored_ok : (here : Here) (q v : Value) (line : ℕ) {seen : Seen} {memory : Memory} →
     store (seen.memory here.comp) q v ≡ Ok (memory here.comp) →
     memory ≡ with_blocks here.comp (memory here.comp) seen.memory →
     Comes seen (with_memory seen memory) usual (stored here q v line tt)
-stored_ok here q v line seen memory is others =
-    subst (λ m. Comes seen (with_memory seen m) usual (stored here q v line tt))
+stored_ok here q v line {seen} is others = subst (λ m. Comes seen (with_memory seen m) usual (stored here q v line tt))
     (sym others) (stored_comes here q v line seen _ is)
 
-pub stored_err : (here : Here) (q v : Value) (line : ℕ) (seen : Seen) (memory : Memory) (cause : Cause) (end : RunEnd) →
+pub stored_err : (here : Here) (q v : Value) (line : ℕ) {seen : Seen} {memory : Memory} {cause : Cause} {end : RunEnd} →
     end ≡ Blamed here.comp cause line → store (seen.memory here.comp) q v ≡ Err cause → memory ≡ seen.memory →
     Comes seen (with_memory seen memory) (with_exit {V = Unit {0}} Next (Err end)) (stored here q v line tt)
-stored_err here q v line seen memory cause end blame is same =
+stored_err here q v line {seen} {memory} {cause} blame is same =
     subst (λ e. Comes seen (with_memory seen memory) (with_exit {V = Unit {0}} Next (Err e)) (stored here q v line tt))
     (sym blame) (subst (λ m. Comes seen (with_memory seen m)
     (with_exit {V = Unit {0}} Next (Err (Blamed here.comp cause line))) (stored here q v line tt)) (sym same)
     (stored_blamed here q v line seen cause is))
 
 pub given_err : {V : Type 0} (here : Here) (line : ℕ) (f : Blocks → Result V Cause)
-    (same : (bs : Blocks) → f (blank bs) ≡ f bs) (seen : Seen) (cause : Cause) (end : RunEnd) →
+    (same : (bs : Blocks) → f (blank bs) ≡ f bs) {seen : Seen} {cause : Cause} {end : RunEnd} →
     end ≡ Blamed here.comp cause line → Err cause ≡ f (seen.memory here.comp) →
     Comes seen seen (Err end) (λ s. computed here line (f (s.memory here.comp)) s)
-given_err here line f same seen cause end blame is =
+given_err here line f same {seen} blame is =
     subst (λ e. Comes seen seen (Err e) (λ s. computed here line (f (s.memory here.comp)) s)) (sym blame)
-    (computed_blamed here line f same seen cause is)
+    (computed_blamed here line f same seen is)

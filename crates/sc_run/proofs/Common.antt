@@ -17,18 +17,18 @@ pub use Rattle.sc_event.specs.declared.row.Entry.TheVariants.{Export, Main}
 pub use Rattle.sc_core.proofs.Layers.{expr_at, layer_of, stmt_at, term_of, typed}
 pub use Rattle.sc_core.specs.Prelude.{Acts, Blocks, Break, Calls, Exit, Front, Function, Here, IsStop, Left, Meant}
 pub use Rattle.sc_core.specs.Prelude.{Memory, Next, Piece, Reached, Return, Route, State, Stopped, Ways, all_do}
-pub use Rattle.sc_core.specs.Prelude.{and_then, applied, applied_one, assign, assign_call, at_place, at_pointer}
-pub use Rattle.sc_core.specs.Prelude.{back_cross, back_own, begun, between, binary, bind, block_does, blocks_for}
-pub use Rattle.sc_core.specs.Prelude.{c_arith, call, call_own, called, cell_of, cells_at, cells_of, choose, computed}
-pub use Rattle.sc_core.specs.Prelude.{crossed, done, ended, entry_in, evaluated, exit_word, first_blocks, first_state}
-pub use Rattle.sc_core.specs.Prelude.{first_word, follow, found, function, function_of, functions_in, global_block}
-pub use Rattle.sc_core.specs.Prelude.{globals_of, in_loop, in_order, init_does, inits_do, is_array, is_inside, is_live}
-pub use Rattle.sc_core.specs.Prelude.{is_pointer, is_true, is_unsigned, is_unsigned_op, is_word, kind_step, leads}
-pub use Rattle.sc_core.specs.Prelude.{leave, live_cells, load, loaded, loop, may_call, meaning, meant, meant_step}
+pub use Rattle.sc_core.specs.Prelude.{and_then, applied, applied_one, assign, at_place, at_pointer, back_cross}
+pub use Rattle.sc_core.specs.Prelude.{back_own, begun, between, binary, bind, block_does, blocks_for, c_arith, call}
+pub use Rattle.sc_core.specs.Prelude.{call_own, called, cell_of, cells_at, cells_of, choose, computed, crossed, done}
+pub use Rattle.sc_core.specs.Prelude.{ended, entry_in, evaluated, exit_word, first_blocks, first_state, first_word}
+pub use Rattle.sc_core.specs.Prelude.{follow, found, function, function_of, functions_in, global_block, globals_of}
+pub use Rattle.sc_core.specs.Prelude.{in_loop, in_order, init_does, inits_do, is_array, is_inside, is_live, is_pointer}
+pub use Rattle.sc_core.specs.Prelude.{is_true, is_unsigned, is_unsigned_op, is_word, kind_step, leads, leave}
+pub use Rattle.sc_core.specs.Prelude.{live_cells, load, loaded, loop, may_call, meaning, meant, meant_step}
 pub use Rattle.sc_core.specs.Prelude.{member_zeros, moved, moved_back, moved_on, next_input, of_bool, on_words}
 pub use Rattle.sc_core.specs.Prelude.{part_does, place_at, read_input, repeated, run_in, run_of, run_step, run_to}
-pub use Rattle.sc_core.specs.Prelude.{same_place, simple_does, stmt_step, stopped_at, store, store_at, store_result}
-pub use Rattle.sc_core.specs.Prelude.{stored, struct_zeros, target_cells, tell, term_step, test, turn, turn_of, values}
+pub use Rattle.sc_core.specs.Prelude.{same_place, stmt_step, stopped_at, store, store_at, store_result, stored}
+pub use Rattle.sc_core.specs.Prelude.{struct_zeros, target_cells, tell, term_step, test, turn, turn_of, values}
 pub use Rattle.sc_core.specs.Prelude.{variable_at, variables, wanted, ways, with_blocks, with_cell, with_words, within}
 pub use Rattle.sc_core.specs.Prelude.{word_in, zeros_of}
 pub use Rattle.sc_core.specs.declared.cause.Cause.{Cause}
@@ -43,7 +43,6 @@ pub use Rattle.sc_core.specs.declared.section.TypedParam.{TypedParam}
 pub use Rattle.sc_core.specs.declared.section.TypedSection.{TypedSection}
 pub use Rattle.sc_core.specs.declared.section.TypedStruct.{TypedStruct}
 pub use Rattle.sc_core.specs.declared.stmt.TypedSimple.{TypedSimple}
-pub use Rattle.sc_core.specs.declared.stmt.TypedSimpleKind.{TypedSimpleKind}
 pub use Rattle.sc_core.specs.declared.stmt.TypedStmtKind.{TypedStmtKind, TypedStmtKind-F, roll-TypedStmtKind}
 pub use Rattle.sc_core.specs.declared.stmt.TypedStmtKind.TheVariants.{rolls-Assign, rolls-AssignCall, rolls-Break}
 pub use Rattle.sc_core.specs.declared.stmt.TypedStmtKind.TheVariants.{rolls-Call, rolls-Continue, rolls-Empty}

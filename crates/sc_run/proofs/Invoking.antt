@@ -1,19 +1,17 @@
 -- Calls in statements: refused, looked up, and of the environment.
-use Rattle.sc_run.proofs.Common.{BadType, Blamed, Bool, Bor, Call, Callee, Comes, Cross, Doing, EntryAt, Err, Export}
+use Rattle.sc_run.proofs.Common.{BadType, Blamed, Bool, Call, Callee, Comes, Cross, Doing, EntryAt, Err, Export}
 use Rattle.sc_run.proofs.Common.{FoundAt, Frame, Function, In, Input, Left, List, None, Ok, Option, Out, Output, Own}
-use Rattle.sc_run.proofs.Common.{Piece, Place, ProgramTree, Reached, Result, RunEnd, Seen, Some, State, Step, Steps}
-use Rattle.sc_run.proofs.Common.{Stop, Stopped, To, TypedExpr, TypedSimpleKind, Value, Word, Work, [], and_then, ap}
-use Rattle.sc_run.proofs.Common.{arith, assign_call, back_cross, back_from, back_own, bodies, c_arith, call, called}
-use Rattle.sc_run.proofs.Common.{calls_in, computed, crossed, drop, entry_from, entry_in, false, false≢true, first_word}
-use Rattle.sc_run.proofs.Common.{found, function, here_of, if◌then◌else◌, is_some, is_word, leads, length, library, map}
-use Rattle.sc_run.proofs.Common.{may_call, next_input, read_input, refl, result_goes, run_in, seen_of, simple_does}
-use Rattle.sc_run.proofs.Common.{store_result, subst, sym, tell, then_then, true, true≢false, turn, values, way_in}
-use Rattle.sc_run.proofs.Common.{word_in, ℕ, ◌&&◌, ◌++◌, ◌∙◌, ◌∷◌, ◌≡◌}
+use Rattle.sc_run.proofs.Common.{Piece, ProgramTree, Reached, Result, RunEnd, Seen, Some, State, Step, Steps, Stop}
+use Rattle.sc_run.proofs.Common.{Stopped, To, TypedExpr, Value, Word, Work, [], and_then, ap, arith, back_cross}
+use Rattle.sc_run.proofs.Common.{back_from, back_own, bodies, call, called, calls_in, computed, crossed, drop}
+use Rattle.sc_run.proofs.Common.{entry_from, entry_in, false, false≢true, first_word, found, function, here_of}
+use Rattle.sc_run.proofs.Common.{if◌then◌else◌, is_some, is_word, leads, length, library, map, may_call, next_input}
+use Rattle.sc_run.proofs.Common.{read_input, refl, result_goes, run_in, seen_of, sym, tell, then_then, true, true≢false}
+use Rattle.sc_run.proofs.Common.{turn, values, way_in, word_in, ℕ, ◌&&◌, ◌++◌, ◌∙◌, ◌∷◌, ◌≡◌}
 use Rattle.sc_event.specs.Prelude.{imports, is_function, takes}
 use Rattle.std.specs.List.{list_all}
 use Rattle.sc_base.proofs.Bools.{and_rest}
 use Rattle.sc_core.specs.declared.expr.CallTarget.{CallTarget}
-use Rattle.sc_core.specs.declared.expr.TypedCall.{TypedCall}
 use Rattle.sc_run.proofs.Looping.{step_stops, steps_as, steps_on}
 
 -- words cross as they are
@@ -26,15 +24,15 @@ first_fails : (a b c d : Bool) → (a && (b && c)) ≡ false → (a && (b && (c 
 first_fails true true true d is = absurd (true≢false is)
 first_fails _ _ _ _ is = refl
 
-last_fails : (a b c d : Bool) → d ≡ false → (a && (b && (c && d))) ≡ false
-last_fails true true true d is = is
-last_fails _ _ _ _ is = refl
+last_fails : (a b c : Bool) {d : Bool} → d ≡ false → (a && (b && (c && d))) ≡ false
+last_fails true true true is = is
+last_fails _ _ _ is = refl
 
-all_hold : (a b c d : Bool) → (a && (b && c)) ≡ true → d ≡ true → (a && (b && (c && d))) ≡ true
-all_hold true true true d is last = last
-all_hold _ _ _ _ is last = absurd (false≢true is)
+all_hold : (a b c : Bool) {d : Bool} → (a && (b && c)) ≡ true → d ≡ true → (a && (b && (c && d))) ≡ true
+all_hold true true true is last = last
+all_hold _ _ _ is last = absurd (false≢true is)
 
-module _ (program : ProgramTree) (before : Seen) (work : List Work) (f : Frame) (to : To) where
+module _ (program : ProgramTree) (f : Frame) (to : To) where
   abbrev rg : Option Value → State → Piece (Left (Unit {0}))
   rg = result_goes program f to
 
@@ -45,7 +43,7 @@ module _ (program : ProgramTree) (before : Seen) (work : List Work) (f : Frame) 
   abbrev stops_here : {V : Type 0} → State → Piece V
   stops_here s = Stopped refusal s
 
-  halts : {V : Type 0} → Comes before before (Err refusal) (stops_here {V = V})
+  halts : {V : Type 0} {before : Seen} → Comes before before (Err refusal) (stops_here {V = V})
   halts = record { comes = λ s shows. (refl, shows); fewer = omega arith }
 
   -- a call that is refused, or made
@@ -53,29 +51,25 @@ module _ (program : ProgramTree) (before : Seen) (work : List Work) (f : Frame) 
   calling target args n s = and_then (calls_in program n f.scope.comp.now target args s) rg
 
   abbrev tried : Bool → CallTarget → List Value → Doing
-  tried b target args n s = and_then (if b then called (library program) (bodies program n) f.scope.comp.now target
-      args s else Stopped refusal s) rg
+  tried b target args n s = and_then (if b then called (library program) (bodies program n) f.scope.comp.now target args
+      s else Stopped refusal s) rg
 
-  pub refused : (target : CallTarget) (args : List Value) (end : RunEnd) → end ≡ refusal →
-      may_call (library program) f.scope.comp.now target args ≡ false →
+  pub refused : {before : Seen} {work : List Work} (target : CallTarget) (args : List Value) {end : RunEnd} →
+      end ≡ refusal → may_call (library program) f.scope.comp.now target args ≡ false →
       Steps program before work f (calling target args) (Stop end) before work f
-  refused target args end same is =
-      subst (λ e. Steps program before work f (calling target args) (Stop e) before work f) (sym same)
-      (steps_as program before work f _ (λ n s. and_then (stops_here s) rg) _ before work f
-      (λ n s. ap (λ b. tried b target args n s) is)
-      (step_stops program before before work f refusal _ (λ n. rg) halts))
+  refused target args same is = rw same (steps_as (λ n s. ap (λ b. tried b target args n s) is)
+      (step_stops (λ n. rg) halts))
 
-  allowed : (target : CallTarget) (args : List Value) (step : Step) (after : Seen) (later : List Work) (g : Frame) →
-      may_call (library program) f.scope.comp.now target args ≡ true →
+  allowed : {before after : Seen} {work later : List Work} (target : CallTarget) (args : List Value) {step : Step}
+      {g : Frame} → may_call (library program) f.scope.comp.now target args ≡ true →
       Steps program before work f (tried true target args) step after later g →
       Steps program before work f (calling target args) step after later g
-  allowed target args step after later g is h = steps_as program before work f _ _ step after later g
-      (λ n s. ap (λ b. tried b target args n s) is) h
+  allowed target args is h = steps_as (λ n s. ap (λ b. tried b target args n s) is) h
 
-  pub own_missing : (number : ℕ) (args : List Value) (end : RunEnd) → end ≡ refusal →
+  pub own_missing : {before : Seen} {work : List Work} (number : ℕ) (args : List Value) {end : RunEnd} → end ≡ refusal →
       function (library program) f.scope.comp.now number ≡ None →
       Steps program before work f (calling (Own number) args) (Stop end) before work f
-  own_missing number args end same is = refused (Own number) args end same (ap is_some is)
+  own_missing number args same is = refused (Own number) args same (ap is_some is)
 
   -- a function that is entered, as a call sees it
   abbrev entering : Callee → List Value → Option ℕ → Doing
@@ -83,20 +77,19 @@ module _ (program : ProgramTree) (before : Seen) (work : List Work) (f : Frame) 
       and_then (and_then (turn s) (λ _ s. run_in (library program) (bodies program n) callee.comp.now callee.number args
       (back_from program f callee crossing) (entry_from f callee args crossing s))) rg
 
-  is_there : (callee : Callee) (comp number : ℕ) → callee.comp.now ≡ comp → callee.number ≡ number → {g : Function} →
+  is_there : (callee : Callee) {comp number : ℕ} → callee.comp.now ≡ comp → callee.number ≡ number → {g : Function} →
       function (library program) callee.comp.now callee.number ≡ Some g →
       is_some (function (library program) comp number) ≡ true
-  is_there callee comp number here place there = (λ i.
-      is_some (function (library program) (sym here i) (sym place i))) ∙ ap is_some there
+  is_there callee here place there = (λ i. is_some
+      (function (library program) (sym here i) (sym place i))) ∙ ap is_some there
 
-  pub own_enters : (callee : Callee) (number : ℕ) (args : List Value) (step : Step) (after : Seen) (later : List Work)
-      (g : Frame) → FoundAt program f.scope.comp.now number (Some callee) →
+  pub own_enters : {before after : Seen} {work later : List Work} (callee : Callee) (number : ℕ) (args : List Value)
+      {step : Step} {g : Frame} → FoundAt program f.scope.comp.now number (Some callee) →
       Steps program before work f (entering callee args None) step after later g →
       Steps program before work f (calling (Own number) args) step after later g
-  own_enters callee number args step after later g found h =
-      allowed (Own number) args step after later g (is_there callee _ number found.0 found.1 found.2)
-      (steps_as program before work f _ _ step after later g (λ n s i. and_then (and_then (turn s) (λ _ s.
-      run_in (library program) (bodies program n) (sym found.0 i) (sym found.1 i) args back_own s)) rg) h)
+  own_enters callee number args found h = allowed (Own number) args (is_there callee found.0 found.1 found.2)
+      (steps_as (λ n s i. and_then (and_then (turn s) (λ _ s. run_in (library program) (bodies program n)
+      (sym found.0 i) (sym found.1 i) args back_own s)) rg) h)
 
   module _ (comp index : ℕ) (args : List Value) where
     abbrev imported : Bool
@@ -111,83 +104,71 @@ module _ (program : ProgramTree) (before : Seen) (work : List Work) (f : Frame) 
     abbrev leads_there : Option ℕ → Bool
     leads_there o = leads (library program) comp o
 
-    abbrev leads_on : Bool
-    leads_on = leads_there (entry_in program comp (Export index))
-
     -- what of a call across is tested before its function is looked up
     abbrev pub MayCross : Bool → Type 0
     MayCross may = may ≡ (imported && (taken && words))
 
-    pub cross_refused : (end : RunEnd) → end ≡ refusal → MayCross false →
+    pub cross_refused : {before : Seen} {work : List Work} {end : RunEnd} → end ≡ refusal → MayCross false →
         Steps program before work f (calling (Cross comp index) args) (Stop end) before work f
-    cross_refused end same may = refused (Cross comp index) args end same (first_fails _ taken words _ (sym may))
+    cross_refused same may = refused (Cross comp index) args same (first_fails _ taken words _ (sym may))
 
     no_lead : (o : Option ℕ) → entry_in program comp (Export index) ≡ o → EntryAt program comp (Export index) None →
         leads_there o ≡ false
     no_lead None is h = refl
     no_lead (Some number) is h = ap is_some (h number is)
 
-    pub cross_missing : (end : RunEnd) → end ≡ refusal → EntryAt program comp (Export index) None →
+    pub cross_missing : {before : Seen} {work : List Work} {end : RunEnd} → end ≡ refusal →
+        EntryAt program comp (Export index) None →
         Steps program before work f (calling (Cross comp index) args) (Stop end) before work f
-    cross_missing end same none = refused (Cross comp index) args end same
-        (last_fails _ taken words _ (no_lead _ refl none))
+    cross_missing same none = refused (Cross comp index) args same (last_fails _ taken words (no_lead _ refl none))
 
-    pub cross_enters : (callee : Callee) (step : Step) (after : Seen) (later : List Work) (g : Frame) → MayCross true →
-        EntryAt program comp (Export index) (Some callee) →
+    pub cross_enters : {before after : Seen} {work later : List Work} (callee : Callee) {step : Step} {g : Frame} →
+        MayCross true → EntryAt program comp (Export index) (Some callee) →
         Steps program before work f (entering callee args (Some index)) step after later g →
         Steps program before work f (calling (Cross comp index) args) step after later g
-    cross_enters callee step after later g may entry h = allowed (Cross comp index) args step after later g (all_hold
-        imported taken words leads_on (sym may)
-        (ap leads_there entry.0 ∙ is_there callee comp callee.number entry.1.0 refl entry.1.2))
-        (steps_as program before work f (tried true (Cross comp index) args)
-        (entering callee args (Some index)) step after later g same h) where
+    cross_enters callee may entry h = allowed (Cross comp index) args (all_hold imported taken words (sym may)
+        (ap leads_there entry.0 ∙ is_there callee entry.1.0 refl entry.1.2)) (steps_as same h) where
           as_words : crossed args ≡ args
           as_words = words_cross args (and_rest taken words (and_rest imported (taken && words) (sym may)))
 
           same : (n : ℕ) (s : State) → tried true (Cross comp index) args n s ≡ entering callee args (Some index) n s
-          same n s =
-              (λ i. and_then (and_then (turn s) (λ _ s.
-              and_then (found (entry.0 i) s) (λ number s.
-              run_in (library program) (bodies program n) comp number (as_words i)
+          same n s = (λ i. and_then (and_then (turn s) (λ _ s. and_then (found (entry.0 i) s) (λ number s. run_in
+              (library program) (bodies program n) comp number (as_words i)
               (back_cross program.interfaces f.scope.comp.now comp index)
-              (tell (Call f.scope.comp.now comp index (map word_in args)) s)))) rg)
-              ∙ (λ i. and_then (and_then (turn s) (λ _ s.
-              run_in (library program) (bodies program n) (sym entry.1.0 i) callee.number args
-              (back_cross program.interfaces f.scope.comp.now (sym entry.1.0 i) index)
+              (tell (Call f.scope.comp.now comp index (map word_in args)) s)))) rg) ∙
+              (λ i. and_then (and_then (turn s) (λ _ s. run_in (library program) (bodies program n) (sym entry.1.0 i)
+              callee.number args (back_cross program.interfaces f.scope.comp.now (sym entry.1.0 i) index)
               (tell (Call f.scope.comp.now (sym entry.1.0 i) index (map word_in args)) s))) rg)
 
   -- the next input
-  pub input_steps : (args : List Value) (word : ℕ) (middle told after : Seen) (step : Step) →
+  pub input_steps : {before middle told after : Seen} {work : List Work} (args : List Value) {word : ℕ} {step : Step} →
       may_call (library program) f.scope.comp.now Input args ≡ true → word ≡ next_input before.inputs →
       middle ≡ record before { inputs = drop 1 before.inputs } →
       told ≡ record middle { trace = middle.trace ++ In f.scope.comp.now word ∷ [] } →
       Steps program told work f (λ n s. rg (Some (Word word)) s) step after work f →
       Steps program before work f (calling Input args) step after work f
-  input_steps args word middle told after step may is rest tells h =
-      allowed Input args step after work f may (steps_on program before work f told after (Some (Word word))
-      (λ s. Reached (Some (Word _)) (read_input f.scope.comp.now s)) (λ n. rg) step work f (record {
+  input_steps {before} {told} args {word} may is rest tells h = allowed Input args may (steps_on
+      {p = λ s. Reached (Some (Word _)) (read_input f.scope.comp.now s)} (λ n. rg) (record {
         comes = λ s shows. (ap (λ w. Some (Word w)) (ap (λ x. next_input x.inputs) shows ∙ sym is), seen s shows);
         fewer = omega (arith, ap (λ x. x.turns) tells, ap (λ x. x.turns) rest);
       }) h) where
         seen : (s : State) → seen_of s ≡ before → seen_of (read_input f.scope.comp.now s) ≡ told
-        seen s shows =
-            ap {A = Seen} (λ x. record x {
+        seen s shows = ap {A = Seen} (λ x. record x {
               trace = x.trace ++ In f.scope.comp.now (next_input x.inputs) ∷ [];
               inputs = drop 1 x.inputs;
             }) shows ∙ (λ i. record before {
               trace = before.trace ++ In f.scope.comp.now (sym is i) ∷ [];
               inputs = drop 1 before.inputs;
-            })
-            ∙ ap {A = Seen} (λ x. record x { trace = x.trace ++ In f.scope.comp.now word ∷ [] }) (sym rest) ∙ sym tells
+            }) ∙ ap {A = Seen} (λ x. record x { trace = x.trace ++ In f.scope.comp.now word ∷ [] }) (sym rest) ∙ sym
+            tells
 
-  pub output_steps : (args : List Value) (word : ℕ) (told after : Seen) (step : Step) →
+  pub output_steps : {before told after : Seen} {work : List Work} (args : List Value) {word : ℕ} {step : Step} →
       may_call (library program) f.scope.comp.now Output args ≡ true → word ≡ first_word args →
       told ≡ record before { trace = before.trace ++ Out f.scope.comp.now word ∷ [] } →
       Steps program told work f (λ n s. rg None s) step after work f →
       Steps program before work f (calling Output args) step after work f
-  output_steps args word told after step may is tells h =
-      allowed Output args step after work f may (steps_on program before work f told after None (λ s.
-      Reached None _) (λ n. rg) step work f (record {
+  output_steps {before} args may is tells h = allowed Output args may (steps_on
+      {p = λ s. Reached None _} (λ n. rg) (record {
         comes = λ s shows. (
           refl,
           ap {A = Seen} (λ x.
@@ -210,55 +191,18 @@ module _ (program : ProgramTree) (before : Seen) (work : List Work) (f : Frame) 
     by_assoc : (n : ℕ) (s : State) → whole_call n s ≡ stepwise n s
     by_assoc n s = then_then (given_args s) (λ vs s. calls_in program n _ target vs s) rg
 
-  pub as_called : (target t : CallTarget) (args : List Value) (step : Step) (after : Seen) (later : List Work)
-      (g : Frame) → target ≡ t → Steps program before work f (calling t args) step after later g →
-      Steps program before work f (calling target args) step after later g
-  as_called target t args step after later g is h =
-      subst (λ x. Steps program before work f (calling x args) step after later g) (sym is) h
+  pub call_steps_by : {before after : Seen} {work later : List Work} (target : CallTarget)
+      {es given_es : List TypedExpr} (line : ℕ) {r : Result (List Value) RunEnd} {vs given_vs : List Value}
+      {step : Step} {g : Frame} → given_es ≡ es → r ≡ Ok vs → given_vs ≡ vs →
+      Comes before before r (given_args target given_es line) →
+      Steps program before work f (calling target given_vs) step after later g →
+      Steps program before work f (whole_call target es line) step after later g
+  call_steps_by target line same is values_is c h = steps_as (by_assoc target _ line)
+      (steps_on (λ n vs. calling target vs n) (rw (same, is) at c) (rw values_is at h))
 
-  pub call_steps_by : (target : CallTarget) (es given_es : List TypedExpr) (line : ℕ) (r : Result (List Value) RunEnd)
-      (vs given_vs : List Value) (step : Step) (after : Seen) (later : List Work) (g : Frame) → given_es ≡ es →
-      r ≡ Ok vs → given_vs ≡ vs → Comes before before r (given_args target given_es line) →
-      Steps program before work f (calling target given_vs) step
-      after later g → Steps program before work f (whole_call target es line) step after later g
-  call_steps_by target es given_es line r vs given_vs step after later g same is values_is c h =
-      steps_as program before work f _ (stepwise target es line) step after later g
-      (by_assoc target es line) (steps_on program before work f before after vs (given_args target es line)
-      (λ n vs. calling target vs n) step later g
-      (subst (λ x. Comes before before (Ok vs) (given_args target x line)) same
-      (subst (λ x. Comes before before x (given_args target given_es line)) is c))
-      (subst (λ x. Steps program before work f (calling target x) step after later g) values_is
-      h))
-
-  pub call_blamed_by : (target : CallTarget) (es given_es : List TypedExpr) (line : ℕ) (r : Result (List Value) RunEnd)
-      (end : RunEnd) → given_es ≡ es → r ≡ Err end → Comes before before r (given_args target given_es line) →
+  pub call_blamed_by : {before : Seen} {work : List Work} (target : CallTarget) {es given_es : List TypedExpr}
+      (line : ℕ) {r : Result (List Value) RunEnd} {end : RunEnd} → given_es ≡ es → r ≡ Err end →
+      Comes before before r (given_args target given_es line) →
       Steps program before work f (whole_call target es line) (Stop end) before work f
-  call_blamed_by target es given_es line r end same is c =
-      steps_as program before work f _ (stepwise target es line) _ before work f
-      (by_assoc target es line) (step_stops program before before work f end (given_args target es line)
-      (λ n vs. calling target vs n) (subst (λ x. Comes before before (Err end) (given_args target x line)) same
-      (subst (λ x. Comes before before x (given_args target given_es line)) is c)))
-
--- a statement in the head of a `for`, by its kind
-pub simple_as : (program : ProgramTree) (before : Seen) (work : List Work) (f : Frame) (kind k : TypedSimpleKind)
-    (line : ℕ) (step : Step) (after : Seen) (later : List Work) (g : Frame) → kind ≡ k →
-    Steps program before work f (λ n. simple_does c_arith f.scope.structs.now (here_of f.scope) f.scope.params
-    (calls_in program n) k line tt) step after later g →
-    Steps program before work f (λ n. simple_does c_arith f.scope.structs.now (here_of f.scope) f.scope.params
-    (calls_in program n) kind line tt) step after later g
-simple_as program before work f kind k line step after later g is h =
-    subst (λ x. Steps program before work f (λ n. simple_does c_arith f.scope.structs.now
-    (here_of f.scope) f.scope.params (calls_in program n) x line tt) step after later g) (sym is) h
-
--- a call whose result is stored
-pub stored_call : (program : ProgramTree) (before : Seen) (work : List Work) (f : Frame) (ref : Bor TypedExpr)
-    (place : TypedExpr) (made : TypedCall) (line : ℕ) (step : Step) (after : Seen) (later : List Work) (g : Frame) →
-    ref.now ≡ place → Steps program before work f (λ n s.
-    and_then (call (here_of f.scope) (calls_in program n) made.target (map (way_in f) made.args) line s)
-    (result_goes program f (Place ref line))) step after later g →
-    Steps program before work f (λ n s. assign_call (here_of f.scope) (calls_in program n) (way_in f place) made.target
-    (map (way_in f) made.args) line tt s) step after later g
-stored_call program before work f ref place made line step after later g same h =
-    subst (λ x. Steps program before work f (λ n s. and_then
-    (call (here_of f.scope) (calls_in program n) made.target (map (way_in f) made.args) line s)
-    (λ result s. store_result (here_of f.scope) (way_in f x) result line tt s)) step after later g) same h
+  call_blamed_by target line same is c = steps_as (by_assoc target _ line)
+      (step_stops (λ n vs. calling target vs n) (rw (same, is) at c))

@@ -2,10 +2,10 @@
 use Rattle.sc_run.proofs.Common.{Acts, Body as Body', Bool, Break, Caller, CameTo, Comes, Doing, Err, Exit, Frame, Go}
 use Rattle.sc_run.proofs.Common.{Left, List, Loop, Next, Now, Ok, Piece, ProgramTree, Reached, Run as Run', RunEnd}
 use Rattle.sc_run.proofs.Common.{Seen, SourceRun, Standing, State, Step, Steps, Stop, Stopped, Value, Work, []}
-use Rattle.sc_run.proofs.Common.{and_then, ap, arith, block_acts, choose, does_now, evaluated, false, follow, here_of}
-use Rattle.sc_run.proofs.Common.{if◌then◌else◌, in_loop, is_true, leave, length, loop_acts, next_acts, refl, resume}
-use Rattle.sc_run.proofs.Common.{reverse, reverse-append, subst, suc, sym, then_then, true, turn, way_in, ℕ, ◌++◌, ◌∙◌}
-use Rattle.sc_run.proofs.Common.{◌∷◌, ◌≡◌, ◌≤◌}
+use Rattle.sc_run.proofs.Common.{and_then, ap, arith, block_acts, choose, does_now, evaluated, false, follow, in_body}
+use Rattle.sc_run.proofs.Common.{here_of, if◌then◌else◌, in_loop, is_true, leave, length, loop_acts, next_acts, refl}
+use Rattle.sc_run.proofs.Common.{resume, reverse, reverse-append, subst, suc, sym, then_then, true, turn, way_in, ℕ}
+use Rattle.sc_run.proofs.Common.{◌++◌, ◌∙◌, ◌∷◌, ◌≡◌, ◌≤◌}
 use Rattle.sc_core.specs.Prelude.{take}
 use Rattle.sc_run.proofs.Coming.{then_stops}
 use Rattle.sc_core.specs.declared.value.Want.TheVariants as want
@@ -25,9 +25,9 @@ module _ (program : ProgramTree) where
 
   module _ (whole : SourceRun) (work : List Work) (f : Frame) where
     -- the same, as the piece is told otherwise
-    pub told_as : (seen : Seen) (p q : Doing) → ((n : ℕ) (s : State) → p n s ≡ q n s) →
+    pub told_as : {seen : Seen} {p q : Doing} → ((n : ℕ) (s : State) → p n s ≡ q n s) →
         Standing program whole seen work f p → Standing program whole seen work f q
-    told_as seen p q same h =
+    told_as same h =
         record {
           open_calls = h.open_calls;
           state = h.state;
@@ -36,10 +36,10 @@ module _ (program : ProgramTree) where
           rest = ap (λ x. (resume program h.open_calls (reverse work) f x).behaviour) (sym (same _ h.state)) ∙ h.rest;
         }
 
-    goes_at : {V : Type 0} (after : Seen) (v : V) (n : ℕ) (x : Piece V) (go : Follows V) →
-        CameTo (Ok v) after x → after.turns ≤ n → (resume program n (reverse work) f (and_then x (go n))).behaviour ≡
-        whole → Standing program whole after work f (λ n s. go n v s)
-    goes_at after v n (Reached w t) go c enough rest =
+    goes_at : {V : Type 0} {after : Seen} (v : V) (n : ℕ) (x : Piece V) (go : Follows V) → CameTo (Ok v) after x →
+        after.turns ≤ n → (resume program n (reverse work) f (and_then x (go n))).behaviour ≡ whole →
+        Standing program whole after work f (λ n s. go n v s)
+    goes_at {after} v n (Reached w t) go c enough rest =
         record {
           open_calls = n;
           state = t;
@@ -49,23 +49,23 @@ module _ (program : ProgramTree) where
         } where
           le : t.turns ≡ after.turns → after.turns ≤ n → t.turns ≤ n
           le a b = omega (arith, a, b)
-    goes_at after v n (Stopped end t) go c enough rest = elim c [ ]
+    goes_at v n (Stopped end t) go c enough rest = elim c [ ]
 
     -- a piece that came to a value: what follows it is done
-    pub goes_on : {V : Type 0} (before after : Seen) (v : V) (p : State → Piece V) (go : Follows V) →
+    pub goes_on : {V : Type 0} {before after : Seen} {v : V} {p : State → Piece V} (go : Follows V) →
         Comes before after (Ok v) p → Standing program whole before work f (λ n s. and_then (p s) (go n)) →
         Standing program whole after work f (λ n s. go n v s)
-    goes_on before after v p go c h = goes_at after v _ _ go (c.comes h.state h.shows)
+    goes_on {before} {after} {v} go c h = goes_at v _ _ go (c.comes h.state h.shows)
         (fewer (ap (λ x. x.turns) h.shows) c.fewer h.enough) h.rest where
           fewer : h.state.turns ≡ before.turns → after.turns ≤ before.turns → h.state.turns ≤ h.open_calls →
               after.turns ≤ h.open_calls
           fewer a b d = omega (arith, a, b, d)
 
   -- the same with something that waits
-  pub moved : (whole : SourceRun) (seen : Seen) (work later : List Work) (f : Frame) (p q : Doing) →
+  pub moved : {whole : SourceRun} {seen : Seen} {work later : List Work} {f : Frame} {p q : Doing} →
       ((n : ℕ) (s : State) → resume program n (reverse work) f (p n s) ≡ resume program n (reverse later) f (q n s)) →
       Standing program whole seen work f p → Standing program whole seen later f q
-  moved whole seen work later f p q same h =
+  moved same h =
       record {
         open_calls = h.open_calls;
         state = h.state;
@@ -78,24 +78,23 @@ module _ (program : ProgramTree) where
 pub newest_first : (work : List Work) (w : Work) → reverse (work ++ w ∷ []) ≡ w ∷ reverse work
 newest_first work w = reverse-append work _
 
-module _ (program : ProgramTree) (before after : Seen) (work : List Work) (f : Frame) where
-  ended_at : (whole : SourceRun) (end : RunEnd) (n : ℕ) (x : Piece (Left (Unit {0}))) → CameTo (Err end) after x →
+module _ (program : ProgramTree) (after : Seen) (work : List Work) (f : Frame) where
+  ended_at : {whole : SourceRun} {end : RunEnd} (n : ℕ) (x : Piece (Left (Unit {0}))) → CameTo (Err end) after x →
       (resume program n (reverse work) f x).behaviour ≡ whole → whole ≡ record { trace = after.trace; end = end }
-  ended_at whole end n (Reached w t) c rest = elim c [ ]
-  ended_at whole end n (Stopped e t) c rest =
+  ended_at n (Reached w t) c rest = elim c [ ]
+  ended_at n (Stopped e t) c rest =
       sym rest ∙ resume_stopped program n (reverse work) f e t ∙ (λ i. record { trace = (c.1 i).trace; end = c.0 i })
 
+module _ {program : ProgramTree} {before after : Seen} {work : List Work} {f : Frame} where
   -- a step that ends the run
-  pub step_stops : {V : Type 0} (end : RunEnd) (p : State → Piece V) (go : Follows V) → Comes before after (Err end) p →
+  pub step_stops : {V : Type 0} {end : RunEnd} {p : State → Piece V} (go : Follows V) → Comes before after (Err end) p →
       Steps program before work f (λ n s. and_then (p s) (go n)) (Stop end) after work f
-  step_stops end p go c = record {
-    stands = λ whole h. ended_at whole end _ _ ((then_stops before after end p _ c).comes h.state h.shows) h.rest;
-  }
+  step_stops go c =
+      record { stands = λ whole h. ended_at program after work f _ _ ((then_stops _ c).comes h.state h.shows) h.rest }
 
-  pub step_ends : (end : RunEnd) (p : State → Piece (Left (Unit {0}))) → Comes before after (Err end) p →
+  pub step_ends : {end : RunEnd} {p : State → Piece (Left (Unit {0}))} → Comes before after (Err end) p →
       Steps program before work f (λ n s. p s) (Stop end) after work f
-  step_ends end p c =
-      record { stands = λ whole h. ended_at whole end _ _ (c.comes h.state h.shows) h.rest }
+  step_ends c = record { stands = λ whole h. ended_at program after work f _ _ (c.comes h.state h.shows) h.rest }
 
 module _ (program : ProgramTree) (f : Frame) where
   module _ (l : Loop) where
@@ -105,9 +104,9 @@ module _ (program : ProgramTree) (f : Frame) where
         (λ a s. follow in_loop (next_acts program n f l a s) (loop_acts program n f l)))
     tested n false s = leave Next tt s
 
-    by_truth : (n : ℕ) (b : Bool) (s : State) → follow in_loop (if b then leave Next tt s else leave Break tt s)
-        (λ a s. and_then (turn s) (λ _ s. follow in_loop (block_acts program n f l.body.now a s)
-        (λ a s. follow in_loop (next_acts program n f l a s) (loop_acts program n f l)))) ≡ tested n b s
+    by_truth : (n : ℕ) (b : Bool) (s : State) → follow in_loop (if b then leave Next tt s else leave Break tt s) (λ a s.
+        and_then (turn s) (λ _ s. follow in_loop (block_acts program n f l.body.now a s) (λ a s. follow in_loop
+        (next_acts program n f l a s) (loop_acts program n f l)))) ≡ tested n b s
     by_truth n true s = refl
     by_truth n false s = refl
 
@@ -119,117 +118,104 @@ module _ (program : ProgramTree) (f : Frame) where
         (λ a s. follow in_loop (next_acts program n f l a s) (loop_acts program n f l)))
 
     -- a loop: its condition, a turn, its body, and the loop again
-    pub round_is : (n : ℕ) (s : State) → loop_acts program n f l tt s ≡
-        and_then (cond_evaluated s) (λ v s. tested n (is_true v) s)
+    pub round_is : (n : ℕ) (s : State) →
+        loop_acts program n f l tt s ≡ and_then (cond_evaluated s) (λ v s. tested n (is_true v) s)
     round_is n s = loop_is program n f l s ∙ then_then (cond_evaluated s) (λ v s. choose v _ _)
         (λ left s. take (in_loop _) (rest_of_round n) _ s) ∙
         (λ i. and_then (cond_evaluated s) (λ v s. by_truth n (is_true v) s i))
 
-module _ (program : ProgramTree) (before : Seen) (work : List Work) (f : Frame) where
-  pub steps_as : (p q : Doing) (step : Step) (after : Seen) (later : List Work) (g : Frame) →
+module _ {program : ProgramTree} {before : Seen} {work : List Work} {f : Frame} where
+  pub steps_as : {p q : Doing} {step : Step} {after : Seen} {later : List Work} {g : Frame} →
       ((n : ℕ) (s : State) → p n s ≡ q n s) → Steps program before work f q step after later g →
       Steps program before work f p step after later g
-  steps_as p q step after later g same h =
-      record { stands = λ whole standing. h.stands whole (told_as program whole work f before p q same standing) }
+  steps_as same h =
+      record { stands = λ whole standing. h.stands whole (told_as program whole work f same standing) }
 
   -- a piece that came to a value, before the rest of a step
-  pub steps_on : {V : Type 0} (middle after : Seen) (v : V) (p : State → Piece V)
-      (go : Follows V) (step : Step) (later : List Work) (g : Frame) →
-      Comes before middle (Ok v) p → Steps program middle work f (λ n s. go n v s) step after later g →
+  pub steps_on : {V : Type 0} {middle after : Seen} {v : V} {p : State → Piece V} (go : Follows V) {step : Step}
+      {later : List Work} {g : Frame} → Comes before middle (Ok v) p →
+      Steps program middle work f (λ n s. go n v s) step after later g →
       Steps program before work f (λ n s. and_then (p s) (go n)) step after later g
-  steps_on middle after v p go step later g c h =
+  steps_on go c h =
       record {
-        stands = λ whole standing. h.stands whole (goes_on program whole work f before middle v p go c standing);
+        stands = λ whole standing. h.stands whole (goes_on program whole work f go c standing);
       }
 
   -- something more that waits
-  pub steps_wait : (w : Work) (later : List Work) (p q : Doing) (step : Step) (after : Seen) (last : List Work)
-      (g : Frame) → later ≡ work ++ w ∷ [] → ((n : ℕ) (s : State) →
-      resume program n (reverse work) f (p n s) ≡ resume program n (w ∷ reverse work) f (q n s)) →
-      Steps program before later f q step after last g → Steps program before work f p step after last g
-  steps_wait w later p q step after last g is same h =
+  pub steps_wait : (w : Work) {later last : List Work} {p q : Doing} {step : Step} {after : Seen} {g : Frame} →
+      later ≡ work ++ w ∷ [] → ((n : ℕ) (s : State) → resume program n (reverse work) f (p n s) ≡ resume program n (w ∷
+      reverse work) f (q n s)) → Steps program before later f q step after last g →
+      Steps program before work f p step after last g
+  steps_wait w {q} is same h =
       record {
-        stands = λ whole standing. h.stands whole (moved program whole before work later f p q
+        stands = λ whole standing. h.stands whole (moved program
             (λ n s. same n s ∙ ap (λ ws. resume program n ws f (q n s)) (sym (ap reverse is ∙ newest_first work w)))
             standing);
       }
 
   -- something that waited is taken up
-  pub steps_resume : (w : Work) (earlier : List Work) (p q : Doing) (step : Step) (after : Seen) (last : List Work)
-      (g : Frame) → work ≡ earlier ++ w ∷ [] → ((n : ℕ) (s : State) →
-      resume program n (w ∷ reverse earlier) f (p n s) ≡ resume program n (reverse earlier) f (q n s)) →
-      Steps program before earlier f q step after last g → Steps program before work f p step after last g
-  steps_resume w earlier p q step after last g is same h =
+  pub steps_resume : (w : Work) {earlier last : List Work} {p q : Doing} {step : Step} {after : Seen} {g : Frame} →
+      work ≡ earlier ++ w ∷ [] → ((n : ℕ) (s : State) → resume program n (w ∷ reverse earlier) f (p n s) ≡ resume
+      program n (reverse earlier) f (q n s)) → Steps program before earlier f q step after last g →
+      Steps program before work f p step after last g
+  steps_resume w {earlier} {p} is same h =
       record {
-        stands = λ whole standing. h.stands whole (moved program whole before work earlier f p q
+        stands = λ whole standing. h.stands whole (moved program
             (λ n s. ap (λ ws. resume program n ws f (p n s)) (ap reverse is ∙ newest_first earlier w) ∙ same n s)
             standing);
       }
 
   -- what is left to do is done by a later step
-  pub steps_later : (now : Now) (p : Doing) → ((n : ℕ) (s : State) → p n s ≡ does_now program f now n s) →
+  pub steps_later : {now : Now} {p : Doing} → ((n : ℕ) (s : State) → p n s ≡ does_now program f now n s) →
       Steps program before work f p (Go now) before work f
-  steps_later now p same = record { stands = λ whole standing. told_as program whole work f before p _ same standing }
+  steps_later same = record { stands = λ whole standing. told_as program whole work f same standing }
 
   module _ (l : Loop) where
-    pub round_err : (end : RunEnd) → Comes before before (Err end) (cond_evaluated program f l) →
+    pub round_err : {end : RunEnd} → Comes before before (Err end) (cond_evaluated program f l) →
         Steps program before work f (λ n. loop_acts program n f l tt) (Stop end) before work f
-    round_err end c = steps_as _ (λ n s. and_then (cond_evaluated program f l s) (λ v s. tested program f l n _ s)) _
-        before work f (round_is program f l)
-        (step_stops program before before work f end _ (λ n v s. tested program f l n _ s) c)
+    round_err c = steps_as (round_is program f l) (step_stops (λ n v s. tested program f l n _ s) c)
 
-    pub round_goes : (v : Value) (after : Seen) (step : Step) (later : List Work) →
+    pub round_goes : {v : Value} {after : Seen} {step : Step} {later : List Work} →
         Comes before before (Ok v) (cond_evaluated program f l) → is_true v ≡ true →
         Steps program before work f (λ n s. tested program f l n true s) step after later f →
         Steps program before work f (λ n. loop_acts program n f l tt) step after later f
-    round_goes v after step later c true_is h = steps_as _
-        (λ n s. and_then (cond_evaluated program f l s) (λ v s. tested program f l n _ s)) step after later f
-        (round_is program f l) (steps_on before after v _ (λ n v s. tested program f l n _ s) step later f c
-        (steps_as _ _ step after later f (λ n s. ap (λ b. tested program f l n b s) true_is) h))
+    round_goes {v} c true_is h = steps_as (round_is program f l) (steps_on (λ n v s. tested program f l n _ s) c
+        (steps_as (λ n s. ap (λ b. tested program f l n b s) true_is) h))
 
-    abbrev in_body : ℕ → Unit {0} → State → Piece (Left (Unit {0}))
-    in_body n u s = follow in_loop (block_acts program n f l.body.now tt s)
-        (λ a s. follow in_loop (next_acts program n f l a s) (loop_acts program n f l))
-
-    pub round_out : (v : Value) (after : Seen) (end : RunEnd) →
+    pub round_out : {v : Value} {after : Seen} {end : RunEnd} →
         Comes before before (Ok v) (cond_evaluated program f l) → is_true v ≡ true → Comes before after (Err end) turn →
         Steps program before work f (λ n. loop_acts program n f l tt) (Stop end) after work f
-    round_out v after end c true_is t =
-        round_goes v after _ work c true_is (step_stops program before after work f end turn in_body t)
+    round_out c true_is t = round_goes c true_is (step_stops (λ n u s. in_body program f l l.body.now n s) t)
 
-module _ (program : ProgramTree) (before after : Seen) (work later : List Work) (f : Frame) (l : Loop) where
-  pub round_in : (v : Value) → Comes before before (Ok v) (cond_evaluated program f l) → is_true v ≡ true →
+module _ {program : ProgramTree} {before after : Seen} {work later : List Work} {f : Frame} (l : Loop) where
+  pub round_in : {v : Value} → Comes before before (Ok v) (cond_evaluated program f l) → is_true v ≡ true →
       Comes before after (Ok tt) turn → later ≡ work ++ Body' l ∷ [] →
       Steps program before work f (λ n. loop_acts program n f l tt) (Go (Run' l.body)) after later f
-  round_in v c true_is t is =
-      round_goes program before work f l v after _ later c true_is
-      (steps_on program before work f after after tt turn _ _ later f t (steps_wait program after work f _ later
-      _ (λ n s. block_acts program n f _ tt s) _ after later f is (λ n s. refl) (steps_later program after later f _ _
+  round_in c true_is t is = round_goes l c true_is (steps_on _ t (steps_wait _ is (λ n s. refl) (steps_later
       (λ n s. refl))))
 
-not_none : (n : ℕ) → suc n ≡ 0 → ⊥
-not_none n e = omega (arith, e)
+not_none : {n : ℕ} → suc n ≡ 0 → ⊥
+not_none e = omega (arith, e)
 
 -- nothing waits
-pub nothing_waits : (program : ProgramTree) (before : Seen) (work later : List Work) (f : Frame) (p : Doing)
-    (step : Step) (after : Seen) (g : Frame) → length work ≡ 0 → length later ≡ 0 →
-    Steps program before [] f p step after [] g → Steps program before work f p step after later g
-nothing_waits program before [] [] f p step after g a b h = h
-nothing_waits program before [] (w ∷ later) f p step after g a b h = absurd (not_none _ b)
-nothing_waits program before (w ∷ work) later f p step after g a b h = absurd (not_none _ a)
+pub nothing_waits : {program : ProgramTree} {before after : Seen} (work later : List Work) {f g : Frame} {p : Doing}
+    {step : Step} → length work ≡ 0 → length later ≡ 0 → Steps program before [] f p step after [] g →
+    Steps program before work f p step after later g
+nothing_waits [] [] a b h = h
+nothing_waits [] (w ∷ later) a b h = absurd (not_none b)
+nothing_waits (w ∷ work) later a b h = absurd (not_none a)
 
-module _ (program : ProgramTree) (before : Seen) (work earlier : List Work) (f : Frame) (w : Work) (step : Step)
-    (after : Seen) (later : List Work) (g : Frame) (popped : work ≡ earlier ++ w ∷ []) where
-  abbrev leaving : Exit → Doing
-  leaving exit n s = leave exit tt s
+module _ {program : ProgramTree} {before after : Seen} {work later : List Work} {f g : Frame} {w x : Work} {p : Doing}
+    {step : Step} where
+  pub taken : {earlier : List Work} (exit : Exit) → work ≡ earlier ++ w ∷ [] → w ≡ x →
+      Steps program before earlier f p step after later g → ((n : ℕ) (s : State) → resume program n (x ∷ reverse
+      earlier) f (leave exit tt s) ≡ resume program n (reverse earlier) f (p n s)) →
+      Steps program before work f (λ n s. leave exit tt s) step after later g
+  taken {earlier} exit popped is h same = steps_resume x (popped ∙ ap (λ y. earlier ++ y ∷ []) is) same h
 
-  pub taken : (exit : Exit) (x : Work) (p : Doing) → w ≡ x → Steps program before earlier f p step after later g →
-      ((n : ℕ) (s : State) → resume program n (x ∷ reverse earlier) f (leave exit tt s) ≡
-      resume program n (reverse earlier) f (p n s)) → Steps program before work f (leaving exit) step after later g
-  taken exit x p is h same = steps_resume program before work f x earlier _ p step after later g
-      (popped ∙ ap (λ y. earlier ++ y ∷ []) is) same h
-
-  pub caller_taken : (p : Doing) (x : Work) → w ≡ x → Steps program before (earlier ++ x ∷ []) f p step after later g →
-      Steps program before work f p step after later g
-  caller_taken p x is h =
-      subst (λ ws. Steps program before ws f p step after later g) (sym (popped ∙ ap (λ y. earlier ++ y ∷ []) is)) h
+-- the same, as what waits is told otherwise
+pub work_as : {program : ProgramTree} {before after : Seen} {work other later : List Work} {f g : Frame} {p : Doing}
+    {step : Step} → work ≡ other → Steps program before work f p step after later g →
+    Steps program before other f p step after later g
+work_as {program} {before} {after} {later} {f} {g} {p} {step} is h =
+    subst (λ ws. Steps program before ws f p step after later g) is h

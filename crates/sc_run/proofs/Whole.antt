@@ -32,8 +32,8 @@ back_to_goes program caller f (Some index) v =
 
 module _ (program : ProgramTree) (s : State) where
   returned_goes : (f : Frame) (back : Option Value → State → Piece (Option Value)) →
-      ((v : Option Value) → Goes (back v)) →
-      (p : Piece (Left (Unit {0}))) → Gone s p → Gone s (returned program f back p)
+      ((v : Option Value) → Goes (back v)) → (p : Piece (Left (Unit {0}))) → Gone s p →
+      Gone s (returned program f back p)
   returned_goes f back b p h = then_goes s (and_then p _) _ (then_goes s p _ h (closes_goes program 0 f)) (λ v t.
       let end = done f.scope.comp.now (function_in program f) f.scope.first t in
       earlier t end _ (done_goes _ (function_in program f) _ t) (b v end))
@@ -62,10 +62,8 @@ module _ (program : ProgramTree) (s : State) where
       resume_goes n work f _ (follow_goes in_order s p _ h (λ a. loop_goes program n f l))
   resume_goes n (Again l ∷ work) f p h =
       resume_goes n work f _ (follow_goes in_loop s p _ h (λ a. loop_goes program n f l))
-  resume_goes n (Body' l ∷ work) f p h =
-      resume_goes n work f _ (follow_goes in_loop s p _ h (λ a t.
-      follow_goes in_loop t (next_acts program n f l a t) _ (next_goes program n f l t)
-      (λ a. loop_goes program n f l)))
+  resume_goes n (Body' l ∷ work) f p h = resume_goes n work f _ (follow_goes in_loop s p _ h (λ a t. follow_goes in_loop
+      t (next_acts program n f l a t) _ (next_goes program n f l t) (λ a. loop_goes program n f l)))
   resume_goes n (Caller caller to crossing ∷ work) f p h =
       resume_goes (suc n) work caller _ (then_goes s (returned program f (back_to program caller f crossing) p) _
       (returned_goes f (back_to program caller f crossing) (back_to_goes program caller f crossing) p h)
@@ -77,8 +75,7 @@ now_goes program n f (Leave exit) = stays _
 
 module _ (program : ProgramTree) (whole : SourceRun) (seen : Seen) (work : List Work) (f : Frame) (now : Now) where
   onward : Standing program whole seen work f (does_now program f now) → Onward seen.trace whole
-  onward h =
-      subst (λ t. Onward t whole) (ap (λ x. x.trace) h.shows) (subst (Onward _) h.rest
+  onward h = subst (λ t. Onward t whole) (ap (λ x. x.trace) h.shows) (subst (Onward _) h.rest
       (resume_goes program h.state h.open_calls (reverse work) f (does_now program f now _ h.state)
       (now_goes program _ f now h.state)))
 
@@ -147,22 +144,21 @@ module _ (program : ProgramTree) (inputs : List ℕ) (turns : ℕ) where
           open_calls = turns;
           state = begun callee.comp.now (function_of c_arith program.interfaces.main callee.structs.now
               callee.function.now) [] at_start;
-          shows = begun_seen program f callee [] Nowhere at_start seen_first first_seen_is ∙ sym b.seen;
+          shows = begun_seen program f callee [] Nowhere at_start first_seen_is ∙ sym b.seen;
           enough = omega arith;
           rest = ap (λ p. (run_to program.interfaces.main p).behaviour)
               (sym (enter_is program f callee [] Nowhere there back_own turns at_start)) ∙
               ap (λ p. (run_to program.interfaces.main p).behaviour) called_is;
         }) where
           same : f ≡ frame_at program f callee [] Nowhere (length (at_start.memory callee.comp.now))
-          same = frame_is program f callee [] Nowhere at_start seen_first after f first_seen_is b
+          same = frame_is program f callee [] Nowhere at_start first_seen_is b
 
-          called_is : run_in (library program) (bodies program
-              (suc turns)) callee.comp.now callee.number [] back_own at_start ≡ main_does at_start
+          called_is : run_in (library program) (bodies program (suc turns)) callee.comp.now callee.number [] back_own
+              at_start ≡ main_does at_start
           called_is =
-              (λ i. run_in (library program) (bodies program (suc turns)) (here i) (place i) [] back_own at_start)
-              ∙ ap (λ o. and_then (found o at_start) (λ number s.
-              call_own (library program) (within (run_step (library program))
-              (suc turns)) program.interfaces.main number [] s)) (sym at)
+              (λ i. run_in (library program) (bodies program (suc turns)) (here i) (place i) [] back_own at_start) ∙ ap
+              (λ o. and_then (found o at_start) (λ number s. call_own (library program)
+              (within (run_step (library program)) (suc turns)) program.interfaces.main number [] s)) (sym at)
 
 -- whatever the whole run is, it stands here after it stood there
 abbrev pub Since : ProgramTree → Now → Seen → Frame → Now → Seen → List Work → Frame → Type 0
@@ -174,21 +170,21 @@ module _ (program : ProgramTree) (first : Now) (begun : Seen) (f : Frame) (now :
   module _ (step : Step) (later : Seen) (last : List Work) (h : Frame)
       (steps : Steps program seen work g (does_now program g now) step later last h) where
     -- one more step
-    pub since_step : (next : Now) → step ≡ Go next → Since program first begun f next later last h
-    since_step next is whole start = subst (λ x. Stands program whole x later last h) is
+    pub since_step : {next : Now} → step ≡ Go next → Since program first begun f next later last h
+    since_step is whole start = subst (λ x. Stands program whole x later last h) is
         (steps.stands whole (stands_so whole start))
 
     -- the run is over
-    pub since_stop : (events : ℕ) (end : RunEnd) → step ≡ Stop end → EndsAs program first begun f events later.trace end
-    since_stop events end is whole start = ap (stopped_at events)
+    pub since_stop : (events : ℕ) {end : RunEnd} → step ≡ Stop end → EndsAs program first begun f events later.trace end
+    since_stop events is whole start = ap (stopped_at events)
         (subst (λ x. Stands program whole x later last h) is (steps.stands whole (stands_so whole start)))
 
   -- there are as many events as were allowed
   pub since_events : (events : ℕ) → events ≤ length seen.trace →
       EndsAs program first begun f events seen.trace EventsOut
   since_events events enough whole start =
-      stopped_here program whole seen work g now events enough (stands_so whole start)
-      ∙ sym (ap (λ b. if b then (record { trace = take events seen.trace; end = EventsOut }) else
+      stopped_here program whole seen work g now events enough (stands_so whole start) ∙ sym
+      (ap (λ b. if b then (record { trace = take events seen.trace; end = EventsOut }) else
       (record { trace = seen.trace; end = EventsOut })) (le-leb events _ enough))
 
 module _ (program : ProgramTree) (inputs : List ℕ) (turns events : ℕ) where
@@ -196,30 +192,29 @@ module _ (program : ProgramTree) (inputs : List ℕ) (turns events : ℕ) where
   whole_run = (run_of c_arith program inputs turns).behaviour
 
   -- what is seen at the start
-  pub seen_at_first : (memory : Memory) (trace : List Event) → memory ≡ globals_of program.sections → trace ≡ [] →
-      ◌≡◌ {A = Seen} (record { memory = memory; trace = trace; turns = turns; inputs = inputs })
-      (seen_first program inputs turns)
-  seen_at_first memory trace is none = λ i. record { memory = is i; trace = none i; turns = turns; inputs = inputs }
+  pub seen_at_first : {memory : Memory} {trace : List Event} → memory ≡ globals_of program.sections → trace ≡ [] → ◌≡◌
+      {A = Seen} (record { memory = memory; trace = trace; turns = turns; inputs = inputs }) (seen_first program inputs
+      turns)
+  seen_at_first {memory} {trace} is none = λ i. record { memory = is i; trace = none i; turns = turns; inputs = inputs }
 
-  module _ (run : SourceRun) (callee : Callee) (before after started : Seen) (f : Frame)
-      (at_first : before ≡ seen_first program inputs turns)
+  module _ {callee : Callee} {before after : Seen} {f : Frame} (at_first : before ≡ seen_first program inputs turns)
       (at : EntryAt program program.interfaces.main Main (Some callee)) (begun : Begun callee [] before after f) where
     stands_first : Standing program whole_run after [] f (λ n s. body_acts program n f tt s)
     stands_first = begins program inputs turns callee _ after f at.0 at.1.0 refl at.1.2
         (subst (λ x. Begun callee [] x after f) at_first begun)
 
-    module _ (step : Step) (steps : Steps program after [] f
-        (λ n s. body_acts program n f tt s) step started [] f) where
+    module _ {run : SourceRun} {started : Seen} {step : Step}
+        (steps : Steps program after [] f (λ n s. body_acts program n f tt s) step started [] f) where
       -- a run that ends before the first statement
-      pub over_at_once : (end : RunEnd) → step ≡ Stop end →
+      pub over_at_once : {end : RunEnd} → step ≡ Stop end →
           run ≡ stopped_at events (record { trace = started.trace; end = end }) →
           run ≡ meaning program inputs turns events
-      over_at_once end stops is = is ∙ sym (ap (stopped_at events)
+      over_at_once stops is = is ∙ sym (ap (stopped_at events)
           (subst (λ x. Stands program whole_run x started [] f) stops (steps.stands _ stands_first)))
 
       -- a run that was gone through to its end
-      pub gone_through : (now : Now) (trace : List Event) (end : RunEnd) → step ≡ Go now →
+      pub gone_through : {now : Now} (trace : List Event) (end : RunEnd) → step ≡ Go now →
           EndsAs program now started f events trace end →
           run ≡ stopped_at events (record { trace = trace; end = end }) → run ≡ meaning program inputs turns events
-      gone_through now trace end goes ends is =
+      gone_through trace end goes ends is =
           is ∙ sym (ends _ (subst (λ x. Stands program whole_run x started [] f) goes (steps.stands _ stands_first)))

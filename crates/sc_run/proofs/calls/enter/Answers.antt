@@ -1,17 +1,14 @@
-use Rattle.sc_run.proofs.Common.{IfOk-weaker, kept_by, refl}
+use Rattle.sc_run.proofs.Common.{IfOk-weaker, refl}
 use Rattle.sc_run.proofs.Calling.{enter_steps, enter_stops}
 use Rattle.sc_run.proofs.calls.enter.Goals as goal
 
 pub returns-in-Err : goal.returns-in-Err
 returns-in-Err c =
     enter_stops c.args.program.now c.args.run.now.frame c.args.callee.now c.args.args.now c.args.to c.args.crossing
-    c.args.run.now.work.items (kept_by c.args.run.now.machine)
-    (kept_by c.take_turn.new.machine) c.in-Err.end c.in-Err.ensures.comes
+    c.in-Err.ensures.comes
 
 pub returns-in_ok-next-in-Ok : goal.returns-in_ok-next-in-Ok
 returns-in_ok-next-in-Ok c =
-    IfOk-weaker c.run_called.result _ _ (λ step h. enter_steps c.args.program.now c.args.run.now.frame
-    c.args.callee.now c.args.args.now c.args.to c.args.crossing c.args.run.now.work.items _
-    (kept_by c.args.run.now.machine) (kept_by c.take_turn.new.machine) (kept_by c.tell_call.new.machine)
-    (kept_by c.begin.new.machine) c.in_ok-next-in-Ok.next step _ _ _ c.requires c.in-Ok.ensures.comes
-    c.in-Ok.ensures.taken c.in_ok-tell_call-in-Ok.ensures c.in_ok-next-in-Ok.ensures refl h) c.run_called.ensures
+    IfOk-weaker c.run_called.result _ _ (λ step h. enter_steps c.args.program.now c.args.run.now.frame c.args.callee.now
+    c.args.args.now c.args.to c.args.crossing c.requires c.in-Ok.ensures.comes c.in-Ok.ensures.taken
+    c.in_ok-tell_call-in-Ok.ensures c.in_ok-next-in-Ok.ensures refl h) c.run_called.ensures

@@ -1,26 +1,21 @@
-use Rattle.sc_run.proofs.Common.{IfOk-weaker, None, exit_of, kept_by}
-use Rattle.sc_run.proofs.Ahead.{at_behind, caller_behind, left_behind, none_in}
+use Rattle.sc_run.proofs.Common.{IfOk-weaker, exit_of}
+use Rattle.sc_run.proofs.Ahead.{block_as, steps_behind, left_behind, none_in}
+use Rattle.sc_run.proofs.Looping.{work_as}
 use Rattle.sc_run.proofs.calls.run_body.Goals as goal
 
 pub returns-in-None : goal.returns-in-None
-returns-in-None c =
-    IfOk-weaker c.return_to.result _ _ (λ step h. at_behind c.args.program.now c.args.next.now
-    (kept_by c.args.run.now.machine) (kept_by c.done_first.new.machine) _
-    c.as_slice-stmts.result.now c.args.next.now.function.now.body None step _ _ _ c.as_slice-stmts.ensures
-    c.in-None.ensures.passes h) c.return_to.ensures
+returns-in-None c = IfOk-weaker c.return_to.result _ _
+    (λ step h. block_as c.args.program.now c.args.next.now _ _ c.as_slice-stmts.ensures
+    (steps_behind c.in-None.ensures.passes h)) c.return_to.ensures
 
 pub returns-in-Some-exit_at_once : goal.returns-in-Some-exit_at_once
-returns-in-Some-exit_at_once c =
-    IfOk-weaker c.return_to-in-Some-exit_at_once.result _ _ (λ step h. left_behind c.args.program.now c.args.next.now
-    (kept_by c.args.run.now.machine) (kept_by c.done_first.new.machine) _
-    c.as_slice-stmts.result.now c.args.next.now.function.now.body c.in-Some.at (exit_of c.in-Some-exit_at_once.exit)
-    step _ _ _ c.as_slice-stmts.ensures
-    (none_in c.in-Some.at.part.now c.is_empty.result c.is_empty.ensures c.if-is_empty.true)
-    c.in-Some.ensures.passes c.in-Some-exit_at_once.ensures h) c.return_to-in-Some-exit_at_once.ensures
+returns-in-Some-exit_at_once c = IfOk-weaker c.return_to-in-Some-exit_at_once.result _ _
+    (λ step h. block_as c.args.program.now c.args.next.now _ _ c.as_slice-stmts.ensures (left_behind c.args.program.now
+    c.args.next.now _ c.in-Some.at (exit_of c.in-Some-exit_at_once.exit)
+    (none_in c.in-Some.at.part.now c.is_empty.ensures c.if-is_empty.true) c.in-Some.ensures.passes
+    c.in-Some-exit_at_once.ensures h)) c.return_to-in-Some-exit_at_once.ensures
 
 pub returns-in_ok-push-in-Some : goal.returns-in_ok-push-in-Some
-returns-in_ok-push-in-Some c =
-    IfOk-weaker c.go_on.result _ _ (λ step h. caller_behind c.args.program.now c.args.next.now
-    (kept_by c.args.run.now.machine) (kept_by c.done_first.new.machine) _ c.push.new.self.items
-    c.as_slice-stmts.result.now c.args.next.now.function.now.body c.in-Some.at step _ _ _ c.as_slice-stmts.ensures
-    c.in_ok-push-in-Some.ensures.items c.in-Some.ensures.passes h) c.go_on.ensures
+returns-in_ok-push-in-Some c = IfOk-weaker c.go_on.result _ _
+    (λ step h. block_as c.args.program.now c.args.next.now _ _ c.as_slice-stmts.ensures
+    (steps_behind c.in-Some.ensures.passes (work_as c.in_ok-push-in-Some.ensures.items h))) c.go_on.ensures

@@ -1,9 +1,6 @@
-use Rattle.sc_run.proofs.Common.{memory_of}
 use Rattle.sc_run.proofs.Making.{section_more}
 use Rattle.sc_run.proofs.globals.first_blocks.Goals as goal
 
 pub loop-at-preserved : goal.loop-at-preserved
-loop-at-preserved c =
-    section_more c.args.sections.now c.loop-at.at c.in_ok-comp.comp c.index-sections-at.result
-    (memory_of c.loop-at.blocks) (memory_of c.make_globals.new.blocks) c.loop-at-test.true c.index-sections-at.is
-    c.in_ok-comp.ensures c.loop-at.invariant c.in_ok-make_globals.ensures
+loop-at-preserved c = section_more c.args.sections.now c.loop-at-test.true c.index-sections-at.is c.in_ok-comp.ensures
+    c.loop-at.invariant c.in_ok-make_globals.ensures

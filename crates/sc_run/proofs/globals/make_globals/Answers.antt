@@ -1,5 +1,4 @@
-use Rattle.sc_run.proofs.Common.{[], ap, get_or, global_block, length, memory_of, struct_zeros, subst, with_blocks}
-use Rattle.sc_run.proofs.Common.{◌++◌, ◌<◌, ◌∙◌, ◌∷◌, ◌≡◌}
+use Rattle.sc_run.proofs.Common.{[], ap, global_block, memory_of, struct_zeros, subst, with_blocks, ◌++◌, ◌∙◌, ◌∷◌, ◌≡◌}
 use Rattle.sc_run.proofs.Making.{global_more}
 use Rattle.sc_run.proofs.globals.make_globals.Goals as goal
 
@@ -11,9 +10,8 @@ loop-global-preserved c =
     let global = c.global-item.result in
     let zeros : c.as_slice-in-loop-global.result.now ≡ struct_zeros [] c.args.section.now.structs =
     c.as_slice-in-loop-global.ensures.value ∙ c.in_ok-zeros.ensures ∙ ap (struct_zeros []) c.as_slice.ensures in
-    global_more (struct_zeros [] c.args.section.now.structs) c.args.section.now.globals c.loop-global.global-index
-    global comp (memory_of c.args.blocks.now) now later
-    (subst (λ gs. c.loop-global.global-index < length gs) c.as_slice-global-items.ensures c.loop-global-test.true)
-    (subst (λ gs. global ≡ get_or gs c.loop-global.global-index global) c.as_slice-global-items.ensures
-    c.global-item.is) c.loop-global.invariant (subst
+    global_more (struct_zeros [] c.args.section.now.structs) c.args.section.now.globals c.loop-global.global-index comp
+    (memory_of c.args.blocks.now)
+    (rw c.as_slice-global-items.ensures at c.loop-global-test.true)
+    (rw c.as_slice-global-items.ensures at c.global-item.is) c.loop-global.invariant (subst
     (λ z. later ≡ with_blocks comp (now comp ++ global_block z global ∷ []) now) zeros c.in_ok-make_global.ensures)

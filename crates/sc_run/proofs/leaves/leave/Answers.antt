@@ -1,46 +1,34 @@
-use Rattle.sc_run.proofs.Common.{Again, Body, Caller, First, IfOk-weaker, Rest, arith, exit_of, kept_by, leave, length}
-use Rattle.sc_run.proofs.Common.{refl, rules, ◌≡◌}
-use Rattle.sc_run.proofs.Looping.{nothing_waits, taken, caller_taken}
+use Rattle.sc_run.proofs.Common.{[], ap, sym, ◌++◌, ◌∙◌, ◌∷◌, IfOk-weaker, arith, exit_of, length, refl, rules, ◌≡◌}
+use Rattle.sc_run.proofs.Looping.{nothing_waits, taken, work_as}
 use Rattle.sc_run.proofs.leaves.leave.Goals as goal
 
 pub returns-in-None : goal.returns-in-None
 returns-in-None c =
     let none : length c.args.run.now.work.items ≡ 0 = search (rules, arith) in
     let left : length c.pop.new.self.items ≡ 0 = search (rules, arith) in
-    IfOk-weaker c.finish.result _ _ (λ step h. nothing_waits c.args.program.now
-    (kept_by c.args.run.now.machine) c.args.run.now.work.items c.pop.new.self.items c.args.run.now.frame
-    (λ n s. leave (exit_of c.args.exit) tt s) step _ _ none left h) c.finish.ensures
+    IfOk-weaker c.finish.result _ _ (λ step h. nothing_waits c.args.run.now.work.items c.pop.new.self.items none left
+    h) c.finish.ensures
 
 pub returns-in-Some-Rest : goal.returns-in-Some-Rest
-returns-in-Some-Rest c =
-    taken c.args.program.now (kept_by c.args.run.now.machine) c.args.run.now.work.items c.pop.new.self.items
-    c.args.run.now.frame _ _ _ _ _ c.in-Some-Rest.ensures.items (exit_of c.args.exit) (Rest c.in-Some-Rest.rest) _
-    c.in-Some-Rest.field-0-is c.leave_before_rest.ensures (λ n s. refl)
+returns-in-Some-Rest c = taken (exit_of c.args.exit) c.in-Some-Rest.ensures.items c.in-Some-Rest.field-0-is
+    c.leave_before_rest.ensures (λ n s. refl)
 
 pub returns-in-Some-First : goal.returns-in-Some-First
-returns-in-Some-First c =
-    IfOk-weaker c.leave_first.result _ _ (λ step h. taken c.args.program.now (kept_by c.args.run.now.machine)
-    c.args.run.now.work.items c.pop.new.self.items c.args.run.now.frame _ step _ _ _ c.in-Some-First.ensures.items
-    (exit_of c.args.exit) (First c.in-Some-First.whole) _ c.in-Some-First.field-0-is h (λ n s. refl))
+returns-in-Some-First c = IfOk-weaker c.leave_first.result _ _
+    (λ step h. taken (exit_of c.args.exit) c.in-Some-First.ensures.items c.in-Some-First.field-0-is h (λ n s. refl))
     c.leave_first.ensures
 
 pub returns-in-Some-Again : goal.returns-in-Some-Again
-returns-in-Some-Again c =
-    IfOk-weaker c.leave_before_round.result _ _ (λ step h. taken c.args.program.now (kept_by c.args.run.now.machine)
-    c.args.run.now.work.items c.pop.new.self.items c.args.run.now.frame _ step _ _ _ c.in-Some-Again.ensures.items
-    (exit_of c.args.exit) (Again c.in-Some-Again.whole) _ c.in-Some-Again.field-0-is h (λ n s. refl))
+returns-in-Some-Again c = IfOk-weaker c.leave_before_round.result _ _
+    (λ step h. taken (exit_of c.args.exit) c.in-Some-Again.ensures.items c.in-Some-Again.field-0-is h (λ n s. refl))
     c.leave_before_round.ensures
 
 pub returns-in-Some-Body : goal.returns-in-Some-Body
-returns-in-Some-Body c =
-    IfOk-weaker c.leave_body.result _ _ (λ step h. taken c.args.program.now (kept_by c.args.run.now.machine)
-    c.args.run.now.work.items c.pop.new.self.items c.args.run.now.frame _ step _ _ _ c.in-Some-Body.ensures.items
-    (exit_of c.args.exit) (Body c.in-Some-Body.whole) _ c.in-Some-Body.field-0-is h (λ n s. refl)) c.leave_body.ensures
+returns-in-Some-Body c = IfOk-weaker c.leave_body.result _ _
+    (λ step h. taken (exit_of c.args.exit) c.in-Some-Body.ensures.items c.in-Some-Body.field-0-is h (λ n s. refl))
+    c.leave_body.ensures
 
 pub returns-in-Some-Caller : goal.returns-in-Some-Caller
-returns-in-Some-Caller c =
-    IfOk-weaker c.return_to.result _ _ (λ step h. caller_taken c.args.program.now
-    (kept_by c.args.run.now.machine) c.args.run.now.work.items c.pop.new.self.items c.args.run.now.frame _ step _ _
-    _ c.in-Some-Caller.ensures.items (λ n s. leave (exit_of c.args.exit) tt s)
-    (Caller c.in-Some-Caller.caller c.in-Some-Caller.to c.in-Some-Caller.crossed) c.in-Some-Caller.field-0-is h)
+returns-in-Some-Caller c = IfOk-weaker c.return_to.result _ _ (λ step h. work_as
+    (sym (c.in-Some-Caller.ensures.items ∙ ap (λ w. c.pop.new.self.items ++ w ∷ []) c.in-Some-Caller.field-0-is)) h)
     c.return_to.ensures

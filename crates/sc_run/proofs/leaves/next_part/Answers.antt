@@ -1,17 +1,10 @@
-use Rattle.sc_run.proofs.Common.{IfOk-weaker, follow, in_loop, kept_by, loop_acts, next_acts}
-use Rattle.sc_run.proofs.Ahead.{next_behind, steps_unchanged}
+use Rattle.sc_run.proofs.Common.{in_loop, IfOk-weaker}
+use Rattle.sc_run.proofs.Ahead.{passes_follow, steps_behind}
 use Rattle.sc_run.proofs.leaves.next_part.Goals as goal
 
 pub returns-then-is_next_done : goal.returns-then-is_next_done
-returns-then-is_next_done c =
-    IfOk-weaker c.round.result _ _ (λ step h. next_behind c.args.program.now c.args.run.now.frame c.args.whole.now
-    (kept_by c.args.run.now.machine) (kept_by c.is_next_done.new.machine) c.args.run.now.work.items step _ _ _
-    c.if-is_next_done.ensures h) c.round.ensures
+returns-then-is_next_done c = IfOk-weaker c.round.result _ _
+    (λ step h. steps_behind (passes_follow in_loop _ c.if-is_next_done.ensures) h) c.round.ensures
 
 pub returns : goal.returns
-returns c =
-    let f = c.args.run.now.frame in
-    IfOk-weaker c.begin_next.result _ _ (λ step h. steps_unchanged c.args.program.now c.args.run.now.work.items f step
-    _ _ _ (kept_by c.args.run.now.machine) (kept_by c.is_next_done.new.machine)
-    (λ n s. follow in_loop (next_acts c.args.program.now n f c.args.whole.now tt s)
-    (loop_acts c.args.program.now n f c.args.whole.now)) c.if-is_next_done.ensures h) c.begin_next.ensures
+returns c = rw (← c.if-is_next_done.ensures) c.begin_next.ensures

@@ -3,6 +3,5 @@ use Rattle.sc_run.proofs.Finding.{none_at}
 use Rattle.sc_run.proofs.lookups.callee_at.Goals as goal
 
 pub returns-in-None : goal.returns-in-None
-returns-in-None c =
-    none_at c.args.program.now c.args.comp.now c.args.number
+returns-in-None c = none_at c.args.program.now c.args.comp.now c.args.number
     (ap (slice_get c.args.program.now.sections) (sym c.number.ensures.number) ∙ sym c.in-None.ensures.value)

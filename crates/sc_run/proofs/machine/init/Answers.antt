@@ -1,21 +1,11 @@
-use Rattle.sc_run.proofs.Common.{Comes, Next, evaluated, here_of, kept_by, stored, subst, variable_at, way_in}
-use Rattle.sc_run.proofs.Common.{with_exit}
+use Rattle.sc_run.proofs.Common.{here_of, stored, variable_at}
 use Rattle.sc_core.specs.declared.expr.VarRef.TheVariants.{Local}
-use Rattle.sc_core.specs.declared.value.Want.TheVariants as want
 use Rattle.sc_run.proofs.Coming.{then_goes}
-use Rattle.sc_run.proofs.Making.{init_is}
 use Rattle.sc_run.proofs.machine.init.Goals as goal
 
 pub returns-in-Ok : goal.returns-in-Ok
 returns-in-Ok c =
     let f = c.args.frame.now in
-    let local = c.args.local.now in
     let place = variable_at (here_of f.scope) f.scope.params (Local c.args.number) in
-    init_is f.scope.structs.now (here_of f.scope) f.scope.params c.args.number local c.in-Some.expr
-    (kept_by c.args.machine.now) (kept_by c.stored.new.machine) (with_exit Next c.stored.result) c.in-Some.is
-    (then_goes (kept_by c.args.machine.now) (kept_by c.args.machine.now)
-    (kept_by c.stored.new.machine) c.in-Ok.value (with_exit Next c.stored.result)
-    (evaluated (here_of f.scope) want.Value (way_in f c.in-Some.expr) local.line)
-    (λ v s. stored (here_of f.scope) place v local.line tt s) c.in-Ok.ensures
-    (subst (λ q. Comes (kept_by c.args.machine.now) (kept_by c.stored.new.machine) (with_exit Next c.stored.result)
-    (stored (here_of f.scope) q c.in-Ok.value local.line tt)) c.variable_at-place.ensures c.stored.ensures))
+    rw c.in-Some.is (then_goes (λ v s. stored (here_of f.scope) place v c.args.local.now.line tt s) c.in-Ok.ensures
+    (rw c.variable_at-place.ensures at c.stored.ensures))

@@ -1,4 +1,4 @@
-use Rattle.sc_run.proofs.Common.{get_or, here_of, kept_by, length, subst, ◌<◌, ◌≡◌, ◌≤◌}
+use Rattle.sc_run.proofs.Common.{here_of, kept_by}
 use Rattle.sc_run.proofs.Making.{started_more, started_blamed, started_all}
 use Rattle.sc_run.proofs.machine.init_all.Goals as goal
 
@@ -6,24 +6,18 @@ pub loop-at-preserved : goal.loop-at-preserved
 loop-at-preserved c =
     let f = c.args.frame.now in
     started_more f.scope.structs.now (here_of f.scope) f.scope.params f.function.now.locals c.loop-at.at
-    c.index-locals-at.result (kept_by c.args.machine.now) (kept_by c.loop-at.machine) (kept_by c.init.new.machine)
-    (subst (λ ls. c.loop-at.at < length ls) c.as_slice-locals.ensures c.loop-at-test.true)
-    (subst (λ ls. c.index-locals-at.result ≡ get_or ls c.loop-at.at c.index-locals-at.result)
-    c.as_slice-locals.ensures c.index-locals-at.is) c.loop-at.invariant c.in-Ok.ensures
+    (kept_by c.args.machine.now) (rw c.as_slice-locals.ensures at c.loop-at-test.true)
+    (rw c.as_slice-locals.ensures at c.index-locals-at.is) c.loop-at.invariant c.in-Ok.ensures
 
 pub returns : goal.returns
 returns c =
     let f = c.args.frame.now in
     started_all f.scope.structs.now (here_of f.scope) f.scope.params f.function.now.locals c.loop-at.at
-    (kept_by c.args.machine.now) (kept_by c.loop-at.machine)
-    (subst (λ ls. length ls ≤ c.loop-at.at) c.as_slice-locals.ensures c.loop-at-test.false) c.loop-at.invariant
+    (rw c.as_slice-locals.ensures at c.loop-at-test.false) c.loop-at.invariant
 
 pub returns-in-Err : goal.returns-in-Err
 returns-in-Err c =
     let f = c.args.frame.now in
     started_blamed f.scope.structs.now (here_of f.scope) f.scope.params f.function.now.locals c.loop-at.at
-    c.index-locals-at.result (kept_by c.args.machine.now) (kept_by c.loop-at.machine)
-    (kept_by c.init.new.machine) c.in-Err.end (subst
-    (λ ls. c.loop-at.at < length ls) c.as_slice-locals.ensures c.loop-at-test.true)
-    (subst (λ ls. c.index-locals-at.result ≡ get_or ls c.loop-at.at c.index-locals-at.result)
-    c.as_slice-locals.ensures c.index-locals-at.is) c.loop-at.invariant c.in-Err.ensures
+    (rw c.as_slice-locals.ensures at c.loop-at-test.true) (rw c.as_slice-locals.ensures at c.index-locals-at.is)
+    c.loop-at.invariant c.in-Err.ensures

@@ -1,5 +1,5 @@
-use Rattle.sc_run.proofs.Common.{TypedLocal, TypedParam, [], ap, arith, cells_of, get_or, length, length-map, memory_of}
-use Rattle.sc_run.proofs.Common.{subst, sym, ◌+◌, ◌<◌, ◌∙◌, ◌≡◌}
+use Rattle.sc_run.proofs.Common.{TypedLocal, TypedParam, [], ap, arith, cells_of, length, length-map, memory_of, sym}
+use Rattle.sc_run.proofs.Common.{◌+◌, ◌∙◌}
 use Rattle.sc_run.proofs.Making.{one_more, param_sizes}
 use Rattle.sc_run.proofs.machine.make_blocks.Goals as goal
 
@@ -8,11 +8,8 @@ loop-at-preserved c =
     let structs = c.args.callee.now.structs.now in
     let params = c.args.callee.now.function.now.params in
     one_more {A = TypedParam} (λ p. cells_of structs p.ty) params c.loop-at.at c.index-params-at.result
-    (subst (λ ps. c.loop-at.at < length ps) c.as_slice-params.ensures c.loop-at-test.true)
-    (subst (λ ps. c.index-params-at.result ≡ get_or ps c.loop-at.at c.index-params-at.result)
-    c.as_slice-params.ensures c.index-params-at.is) c.args.callee.now.comp.now [] c.args.args.now c.loop-at.at
-    c.cells_of-count.result c.value_at.result (memory_of c.args.blocks.now) (memory_of c.loop-at.blocks)
-    (memory_of c.make_block.new.blocks) (omega arith)
+    (rw c.as_slice-params.ensures at c.loop-at-test.true) (rw c.as_slice-params.ensures at c.index-params-at.is)
+    c.args.callee.now.comp.now [] c.args.args.now (memory_of c.args.blocks.now) (omega arith)
     (c.cells_of-count.ensures ∙ ap (λ (p : TypedParam). cells_of structs p.ty)
     (sym c.index-params-at.is)) c.value_at.ensures c.loop-at.invariant c.in_ok-make_block.ensures
 
@@ -21,14 +18,10 @@ loop-at-2-preserved c =
     let structs = c.args.callee.now.structs.now in
     let locals = c.args.callee.now.function.now.locals in
     one_more {A = TypedLocal} (λ l. cells_of structs l.ty) locals c.loop-at-2.at c.index-locals-at.result
-    (subst (λ ps. c.loop-at-2.at < length ps) c.as_slice-locals.ensures c.loop-at-2-test.true)
-    (subst (λ ps. c.index-locals-at.result ≡ get_or ps c.loop-at-2.at c.index-locals-at.result)
-    c.as_slice-locals.ensures c.index-locals-at.is) c.args.callee.now.comp.now
-    (param_sizes structs c.args.callee.now.function.now) c.args.args.now
-    (length c.as_slice-params.result.now + c.loop-at-2.at) c.cells_of-count-in-loop-at-2.result
-    c.value_at-arg.result (memory_of c.args.blocks.now) (memory_of c.loop-at-2.blocks)
-    (memory_of c.make_block-in-loop-at-2.new.blocks)
-    (ap (λ n. n + c.loop-at-2.at) (ap (length {A = TypedParam}) c.as_slice-params.ensures ∙
-    sym (length-map c.args.callee.now.function.now.params (λ (p : TypedParam). cells_of structs p.ty))))
+    (rw c.as_slice-locals.ensures at c.loop-at-2-test.true) (rw c.as_slice-locals.ensures at c.index-locals-at.is)
+    c.args.callee.now.comp.now (param_sizes structs c.args.callee.now.function.now) c.args.args.now
+    (memory_of c.args.blocks.now)
+    (ap (λ n. n + c.loop-at-2.at) (ap (length {A = TypedParam}) c.as_slice-params.ensures ∙ sym
+    (length-map c.args.callee.now.function.now.params (λ (p : TypedParam). cells_of structs p.ty))))
     (c.cells_of-count-in-loop-at-2.ensures ∙ ap (λ (l : TypedLocal). cells_of structs l.ty)
     (sym c.index-locals-at.is)) c.value_at-arg.ensures c.loop-at-2.invariant c.in_ok-make_block-2.ensures

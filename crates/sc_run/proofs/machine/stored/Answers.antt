@@ -1,14 +1,11 @@
-use Rattle.sc_run.proofs.Common.{here_of, kept_by, memory_of}
+use Rattle.sc_run.proofs.Common.{here_of}
 use Rattle.sc_run.proofs.Coming.{stored_ok, stored_err}
 use Rattle.sc_run.proofs.machine.stored.Goals as goal
 
 pub returns-in-Ok : goal.returns-in-Ok
-returns-in-Ok c =
-    stored_ok (here_of c.args.frame.now.scope) c.args.place c.args.value c.args.line (kept_by c.args.machine.now)
-    (memory_of c.store.new.blocks) c.in-Ok.ensures.value c.store.ensures.others
+returns-in-Ok c = stored_ok (here_of c.args.frame.now.scope) c.args.place c.args.value c.args.line c.in-Ok.ensures.value
+    c.store.ensures.others
 
 pub returns-in-Err : goal.returns-in-Err
-returns-in-Err c =
-    stored_err (here_of c.args.frame.now.scope) c.args.place c.args.value c.args.line (kept_by c.args.machine.now)
-    (memory_of c.store.new.blocks) c.in-Err.cause c.blamed.result c.blamed.ensures c.in-Err.ensures.value
-    c.in-Err.ensures.err
+returns-in-Err c = stored_err (here_of c.args.frame.now.scope) c.args.place c.args.value c.args.line c.blamed.ensures
+    c.in-Err.ensures.value c.in-Err.ensures.err

@@ -1,13 +1,13 @@
-use Rattle.sc_run.proofs.Common.{arith, kept_by, ◌-◌}
+use Rattle.sc_run.proofs.Common.{arith}
 use Rattle.sc_run.proofs.Coming.{turn_comes, turn_stops}
 use Rattle.sc_run.proofs.machine.take_turn.Goals as goal
 
 pub returns-then-machine-eq0 : goal.returns-then-machine-eq0
-returns-then-machine-eq0 c = record { comes = turn_stops (kept_by c.args.machine.now) (omega arith); taken = tt }
+returns-then-machine-eq0 c = record { comes = turn_stops (omega arith); taken = tt }
 
 pub returns : goal.returns
 returns c =
     record {
-      comes = turn_comes (c.args.machine.now.turns - 1) (kept_by c.args.machine.now) (omega arith);
+      comes = turn_comes (omega arith);
       taken = omega arith;
     }

@@ -1,32 +1,23 @@
-use Rattle.sc_run.proofs.Common.{block_acts, drop, kept_by}
-use Rattle.sc_run.proofs.Ahead.{none_behind, none_in, one_over, within_one, stays_so, then_passes, unchanged}
+use Rattle.sc_run.proofs.Common.{[]}
+use Rattle.sc_run.proofs.Ahead.{none_behind, none_in, within_one, stays_so, then_passes, unchanged}
 use Rattle.sc_run.proofs.plain.done_first.Goals as goal
 
 pub loop-at-init : goal.loop-at-init
-loop-at-init c =
-    stays_so (kept_by c.args.machine.now)
-    (λ n s. block_acts c.args.program.now n c.args.frame.now c.args.stmts.now tt s)
+loop-at-init c = stays_so
 
 pub returns-in-None-clause-passes : goal.returns-in-None-clause-passes
-returns-in-None-clause-passes c =
-    then_passes c.loop-at.invariant (unchanged (kept_by c.loop-at.machine) (kept_by c.left_of.new.machine)
-    (λ n s. block_acts c.args.program.now n c.args.frame.now (drop c.loop-at.at c.args.stmts.now) tt s)
-    c.in-None.ensures)
+returns-in-None-clause-passes c = then_passes c.loop-at.invariant (unchanged c.in-None.ensures)
 
 pub returns-clause-passes : goal.returns-clause-passes
-returns-clause-passes c =
-    none_behind c.args.program.now c.args.frame.now c.args.stmts.now c.loop-at.at (kept_by c.args.machine.now)
-    (kept_by c.loop-at.machine) c.loop-at-test.false c.loop-at.invariant
+returns-clause-passes c = none_behind c.args.program.now c.args.frame.now c.args.stmts.now c.loop-at.at
+    c.loop-at-test.false c.loop-at.invariant
 
 pub returns-then-not-is_empty-clause-passes : goal.returns-then-not-is_empty-clause-passes
 returns-then-not-is_empty-clause-passes c =
-    within_one c.args.program.now c.args.frame.now c.args.stmts.now c.in-Some.part.now c.loop-at.at
-    c.index-stmts-at.result (kept_by c.args.machine.now) (kept_by c.loop-at.machine) (kept_by c.left_of.new.machine)
-    c.loop-at-test.true c.index-stmts-at.is c.loop-at.invariant c.in-Some.ensures
+    within_one c.args.program.now c.args.frame.now c.args.stmts.now c.in-Some.part.now c.loop-at.at c.loop-at-test.true
+    c.index-stmts-at.is c.loop-at.invariant c.in-Some.ensures
 
 pub loop-at-preserved : goal.loop-at-preserved
-loop-at-preserved c =
-    one_over c.args.program.now c.args.frame.now c.args.stmts.now c.in-Some.part.now c.loop-at.at
-    c.index-stmts-at.result (kept_by c.args.machine.now) (kept_by c.loop-at.machine) (kept_by c.left_of.new.machine)
-    (none_in c.in-Some.part.now c.is_empty.result c.is_empty.ensures c.if-not-is_empty.false)
-    c.loop-at-test.true c.index-stmts-at.is c.loop-at.invariant c.in-Some.ensures
+loop-at-preserved c = within_one c.args.program.now c.args.frame.now c.args.stmts.now [] c.loop-at.at
+    c.loop-at-test.true c.index-stmts-at.is c.loop-at.invariant
+    (rw (none_in c.in-Some.part.now c.is_empty.ensures c.if-not-is_empty.false) at c.in-Some.ensures)

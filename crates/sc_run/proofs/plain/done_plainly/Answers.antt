@@ -1,23 +1,16 @@
-use Rattle.sc_run.proofs.Common.{block_acts, drop, kept_by}
+use Rattle.sc_run.proofs.Common.{kept_by}
 use Rattle.sc_run.proofs.Ahead.{all_done, one_more, stays_so, then_passes, unchanged}
 use Rattle.sc_run.proofs.plain.done_plainly.Goals as goal
 
 pub loop-at-init : goal.loop-at-init
-loop-at-init c =
-    stays_so (kept_by c.args.machine.now)
-    (λ n s. block_acts c.args.program.now n c.args.frame.now c.args.stmts.now tt s)
+loop-at-init c = stays_so
 
 pub returns-then-not-is_done-clause-passes : goal.returns-then-not-is_done-clause-passes
-returns-then-not-is_done-clause-passes c =
-    then_passes c.loop-at.invariant (unchanged (kept_by c.loop-at.machine) (kept_by c.is_done.new.machine)
-    (λ n s. block_acts c.args.program.now n c.args.frame.now (drop c.loop-at.at c.args.stmts.now) tt s)
-    c.if-not-is_done.ensures)
+returns-then-not-is_done-clause-passes c = then_passes c.loop-at.invariant (unchanged c.if-not-is_done.ensures)
 
 pub loop-at-preserved : goal.loop-at-preserved
-loop-at-preserved c =
-    one_more c.args.program.now c.args.frame.now c.args.stmts.now c.loop-at.at c.index-stmts-at.result
-    (kept_by c.args.machine.now) (kept_by c.loop-at.machine) (kept_by c.is_done.new.machine) c.loop-at-test.true
-    c.index-stmts-at.is c.loop-at.invariant c.if-not-is_done.ensures
+loop-at-preserved c = one_more c.args.program.now c.args.frame.now c.args.stmts.now c.loop-at.at
+    (kept_by c.args.machine.now) c.loop-at-test.true c.index-stmts-at.is c.loop-at.invariant c.if-not-is_done.ensures
 
 pub returns-clause-passes : goal.returns-clause-passes
 returns-clause-passes c =

@@ -1,44 +1,29 @@
-use Rattle.sc_run.proofs.Common.{Some, [], in_round, kept_by, length, loop_acts, refl}
+use Rattle.sc_run.proofs.Common.{Some, [], refl}
 use Rattle.sc_run.proofs.Ahead.{behind_body, body_done, round_done, stays_so, then_passes, turns_fall, unchanged}
 use Rattle.sc_run.proofs.plain.done_rounds.Goals as goal
 
 pub loop-machine-init : goal.loop-machine-init
-loop-machine-init c =
-    stays_so (kept_by c.args.machine.now)
-    (λ n. loop_acts c.args.program.now n c.args.frame.now c.args.whole.now tt)
+loop-machine-init c = stays_so
 
 pub loop-machine-smaller : goal.loop-machine-smaller
-loop-machine-smaller c =
-    turns_fall c.loop-machine.machine.turns c.is_begun.new.machine.turns c.done_first.new.machine.turns
-    c.is_next_done.new.machine.turns (c.loop-machine-test.ensures.taken refl) c.done_first.ensures.passes.fewer
-    c.if-not-is_next_done.ensures.fewer
+loop-machine-smaller c = turns_fall c.done_first.new.machine.turns c.is_next_done.new.machine.turns
+    (c.loop-machine-test.ensures.taken refl) c.done_first.ensures.passes.fewer c.if-not-is_next_done.ensures.fewer
 
 pub loop-machine-preserved : goal.loop-machine-preserved
-loop-machine-preserved c =
-    round_done c.args.program.now c.args.frame.now c.args.whole.now (kept_by c.args.machine.now)
-    (kept_by c.is_begun.new.machine) (kept_by c.done_first.new.machine) (kept_by c.is_next_done.new.machine)
-    (then_passes c.loop-machine.invariant c.loop-machine-test.ensures.passes)
-    c.in_default.ensures.passes c.if-not-is_next_done.ensures
+loop-machine-preserved c = round_done c.args.program.now c.args.frame.now c.args.whole.now
+    (then_passes c.loop-machine.invariant c.loop-machine-test.ensures.passes) c.in_default.ensures.passes
+    c.if-not-is_next_done.ensures
 
 pub returns-clause-passes : goal.returns-clause-passes
-returns-clause-passes c =
-    then_passes c.loop-machine.invariant (unchanged (kept_by c.loop-machine.machine) (kept_by c.is_begun.new.machine)
-    (λ n. loop_acts c.args.program.now n c.args.frame.now c.args.whole.now tt) c.loop-machine-test.ensures.passes)
+returns-clause-passes c = then_passes c.loop-machine.invariant (unchanged c.loop-machine-test.ensures.passes)
 
 pub returns-in-Some-clause-passes : goal.returns-in-Some-clause-passes
-returns-in-Some-clause-passes c =
-    body_done c.args.program.now c.args.frame.now c.args.whole.now (kept_by c.args.machine.now)
-    (kept_by c.is_begun.new.machine) (kept_by c.done_first.new.machine) (Some c.in-Some.at)
+returns-in-Some-clause-passes c = body_done c.args.program.now c.args.frame.now c.args.whole.now (Some c.in-Some.at)
     (then_passes c.loop-machine.invariant c.loop-machine-test.ensures.passes) c.in-Some.ensures.passes
 
 pub returns-then-not-is_next_done-clause-passes : goal.returns-then-not-is_next_done-clause-passes
 returns-then-not-is_next_done-clause-passes c =
-    then_passes (behind_body c.args.program.now c.args.frame.now c.args.whole.now (kept_by c.args.machine.now)
-    (kept_by c.is_begun.new.machine) (kept_by c.done_first.new.machine)
+    then_passes (behind_body c.args.program.now c.args.frame.now c.args.whole.now
     (record { ref_ptr = c.args.whole.now.body.ref_ptr; now = [] })
     (then_passes c.loop-machine.invariant c.loop-machine-test.ensures.passes) c.in_default.ensures.passes refl)
-    (unchanged (kept_by c.done_first.new.machine) (kept_by c.is_next_done.new.machine)
-    (in_round c.args.program.now c.args.frame.now c.args.whole.now (Some (record {
-      part = record { ref_ptr = c.args.whole.now.body.ref_ptr; now = [] };
-      count = length c.args.whole.now.body.now;
-    }))) c.if-not-is_next_done.ensures)
+    (unchanged c.if-not-is_next_done.ensures)

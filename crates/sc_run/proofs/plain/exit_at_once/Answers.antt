@@ -1,4 +1,4 @@
-use Rattle.sc_run.proofs.Common.{exit_of, kept_by}
+use Rattle.sc_run.proofs.Common.{exit_of}
 use Rattle.std.proofs.lemmas.Option.{IfSome_then}
 use Rattle.sc_run.proofs.Ahead.{first_leaves}
 use Rattle.sc_run.proofs.plain.exit_at_once.Goals as goal
@@ -6,5 +6,4 @@ use Rattle.sc_run.proofs.plain.exit_at_once.Goals as goal
 pub returns-in-len1-up : goal.returns-in-len1-up
 returns-in-len1-up c =
     IfSome_then c.exit_by.result c.exit_by.ensures (λ exit h. first_leaves c.args.program.now c.args.frame.now
-    c.args.stmts.now c.stmt-item.result (exit_of exit) (kept_by c.args.machine.now) c.in-len1-up.len_at_least
-    c.stmt-item.is h)
+    c.args.stmts.now (exit_of exit) c.in-len1-up.len_at_least c.stmt-item.is h)

@@ -1,9 +1,7 @@
-use Rattle.sc_run.proofs.Common.{kept_by, rolls-ReturnValue, sym, ◌∙◌}
+use Rattle.sc_run.proofs.Common.{rolls-ReturnValue, sym, ◌∙◌}
 use Rattle.sc_run.proofs.Ahead.{value_leaves}
 use Rattle.sc_run.proofs.plain.exit_by.Goals as goal
 
 pub returns-in-Ok : goal.returns-in-Ok
-returns-in-Ok c =
-    value_leaves c.args.program.now c.args.frame.now c.args.stmt.now c.in-ReturnValue.value c.in-ReturnValue.value
-    c.in-Ok.value (kept_by c.args.machine.now) (c.in-ReturnValue.is ∙ sym (rolls-ReturnValue _))
-    (λ i. c.in-ReturnValue.value) c.in-Ok.ensures
+returns-in-Ok c = value_leaves c.args.program.now c.args.frame.now c.args.stmt.now _
+    (c.in-ReturnValue.is ∙ sym (rolls-ReturnValue _)) c.in-Ok.ensures

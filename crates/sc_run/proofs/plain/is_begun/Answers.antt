@@ -1,4 +1,4 @@
-use Rattle.sc_run.proofs.Common.{arith, false≢true, kept_by, refl, ◌-◌}
+use Rattle.sc_run.proofs.Common.{arith, false≢true, refl}
 use Rattle.sc_run.proofs.Ahead.{round_begins}
 use Rattle.sc_run.proofs.plain.is_begun.Goals as goal
 
@@ -11,7 +11,6 @@ returns-then-not-holds c = record { passes = refl; taken = λ is. absurd (false�
 pub returns : goal.returns
 returns c =
     record {
-      passes = round_begins c.args.program.now c.args.frame.now c.args.whole.now (kept_by c.args.machine.now)
-          (c.args.machine.now.turns - 1) c.if-not-holds.ensures (omega arith);
+      passes = round_begins c.args.program.now c.args.frame.now c.args.whole.now c.if-not-holds.ensures (omega arith);
       taken = λ is. omega arith;
     }

@@ -13,16 +13,16 @@ returns-in-Ok-Stop c =
     since_stop c.args.program.now c.args.first (kept_by c.args.run.now.machine) c.args.run.now.frame c.loop-step.now
     (kept_by c.loop-step.run.machine) c.loop-step.run.work.items c.loop-step.run.frame c.loop-step.invariant
     c.in-Ok-Stop.field-0 (kept_by c.proceed.new.run.machine) c.proceed.new.run.work.items c.proceed.new.run.frame
-    c.in-Ok-Stop.ensures c.args.events c.in-Ok-Stop.end c.in-Ok-Stop.field-0-is
+    c.in-Ok-Stop.ensures c.args.events c.in-Ok-Stop.field-0-is
 
 pub loop-step-preserved : goal.loop-step-preserved
 loop-step-preserved c =
     since_step c.args.program.now c.args.first (kept_by c.args.run.now.machine) c.args.run.now.frame c.loop-step.now
     (kept_by c.loop-step.run.machine) c.loop-step.run.work.items c.loop-step.run.frame c.loop-step.invariant
     c.in-Ok-Go.field-0 (kept_by c.proceed.new.run.machine) c.proceed.new.run.work.items c.proceed.new.run.frame
-    c.in-Ok-Go.ensures c.in-Ok-Go.next c.in-Ok-Go.field-0-is
+    c.in-Ok-Go.ensures c.in-Ok-Go.field-0-is
 
 pub loop-step-init : goal.loop-step-init
-loop-step-init c = λ whole h.
-    subst (λ ws. Standing c.args.program.now whole (kept_by c.args.run.now.machine) ws c.args.run.now.frame
+loop-step-init c = λ whole h. subst
+    (λ ws. Standing c.args.program.now whole (kept_by c.args.run.now.machine) ws c.args.run.now.frame
     (does_now c.args.program.now c.args.run.now.frame c.args.first)) (sym c.requires) h

@@ -1,22 +1,16 @@
-use Rattle.sc_run.proofs.Common.{IfOk-weaker, kept_by}
+use Rattle.sc_run.proofs.Common.{IfOk-weaker}
 use Rattle.sc_run.proofs.Invoking.{cross_refused, cross_missing, cross_enters}
 use Rattle.sc_run.proofs.simple.call_cross.Goals as goal
 
 pub returns-then-not-may_cross : goal.returns-then-not-may_cross
-returns-then-not-may_cross c =
-    cross_refused c.args.program.now (kept_by c.args.run.now.machine) c.args.run.now.work.items c.args.run.now.frame
-    c.args.to c.args.comp.now c.args.index c.args.args.now c.refusal.result c.refusal.ensures
-    c.if-not-may_cross.ensures
+returns-then-not-may_cross c = cross_refused c.args.program.now c.args.run.now.frame c.args.to c.args.comp.now
+    c.args.index c.args.args.now c.refusal.ensures c.if-not-may_cross.ensures
 
 pub returns-in-None : goal.returns-in-None
-returns-in-None c =
-    cross_missing c.args.program.now (kept_by c.args.run.now.machine) c.args.run.now.work.items c.args.run.now.frame
-    c.args.to c.args.comp.now c.args.index c.args.args.now c.refusal-in-None.result c.refusal-in-None.ensures
-    c.in-None.ensures
+returns-in-None c = cross_missing c.args.program.now c.args.run.now.frame c.args.to c.args.comp.now c.args.index
+    c.args.args.now c.refusal-in-None.ensures c.in-None.ensures
 
 pub returns-in-Some : goal.returns-in-Some
-returns-in-Some c =
-    IfOk-weaker c.enter.result _ _ (λ step h. cross_enters c.args.program.now
-    (kept_by c.args.run.now.machine) c.args.run.now.work.items c.args.run.now.frame c.args.to c.args.comp.now
-    c.args.index c.args.args.now c.in-Some.callee step _ _ _ c.if-not-may_cross.ensures c.in-Some.ensures h)
-    c.enter.ensures
+returns-in-Some c = IfOk-weaker c.enter.result _ _ (λ step h. cross_enters c.args.program.now c.args.run.now.frame
+    c.args.to c.args.comp.now c.args.index c.args.args.now c.in-Some.callee c.if-not-may_cross.ensures
+    c.in-Some.ensures h) c.enter.ensures

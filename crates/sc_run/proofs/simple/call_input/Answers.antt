@@ -1,16 +1,12 @@
-use Rattle.sc_run.proofs.Common.{Input, kept_by, sym}
+use Rattle.sc_run.proofs.Common.{Input, sym}
 use Rattle.sc_run.proofs.Invoking.{refused, input_steps}
 use Rattle.sc_run.proofs.simple.call_input.Goals as goal
 
 pub returns-then-not-imports_input : goal.returns-then-not-imports_input
-returns-then-not-imports_input c =
-    refused c.args.program.now (kept_by c.args.machine.now) c.args.work.now.items c.args.frame.now c.args.to Input
-    c.args.args.now c.refusal.result c.refusal.ensures (sym c.if-not-imports_input.ensures)
+returns-then-not-imports_input c = refused c.args.program.now c.args.frame.now c.args.to Input c.args.args.now
+    c.refusal.ensures (sym c.if-not-imports_input.ensures)
 
 pub returns : goal.returns
-returns c =
-    input_steps c.args.program.now (kept_by c.args.machine.now) c.args.work.now.items c.args.frame.now c.args.to
-    c.args.args.now c.next_input-value.result (kept_by c.next_input-value.new.machine) (kept_by c.tell.new.machine)
-    (kept_by c.hand_back.new.machine) c.hand_back.result
+returns c = input_steps c.args.program.now c.args.frame.now c.args.to c.args.args.now
     (sym c.if-not-imports_input.ensures) c.next_input-value.ensures.word c.next_input-value.ensures.rest
     c.in_ok-tell.ensures c.hand_back.ensures

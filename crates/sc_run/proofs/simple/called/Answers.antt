@@ -1,9 +1,4 @@
-use Rattle.sc_run.proofs.Common.{Cross, IfOk-weaker, kept_by}
-use Rattle.sc_run.proofs.Invoking.{as_called}
 use Rattle.sc_run.proofs.simple.called.Goals as goal
 
 pub returns-in-Cross : goal.returns-in-Cross
-returns-in-Cross c =
-    IfOk-weaker c.call_cross.result _ _ (λ step h. as_called c.args.program.now
-    (kept_by c.args.run.now.machine) c.args.run.now.work.items c.args.run.now.frame c.args.to c.args.target.now
-    (Cross c.in-Cross.comp c.in-Cross.index) c.args.args.now step _ _ _ c.in-Cross.is h) c.call_cross.ensures
+returns-in-Cross c = rw c.in-Cross.is c.call_cross.ensures

@@ -1,31 +1,10 @@
-use Rattle.sc_run.proofs.Common.{IfOk-weaker, Steps, assign, here_of, kept_by, subst, way_in}
-use Rattle.sc_core.specs.declared.stmt.TypedSimpleKind.TheVariants.{Assign, AssignCall, Call}
-use Rattle.sc_run.proofs.Invoking.{simple_as, stored_call}
 use Rattle.sc_run.proofs.simple.simple.Goals as goal
 
 pub returns-in-AssignCall : goal.returns-in-AssignCall
-returns-in-AssignCall c =
-    IfOk-weaker c.call.result _ _ (λ step h. simple_as c.args.program.now
-    (kept_by c.args.run.now.machine) c.args.run.now.work.items c.args.run.now.frame c.args.part.now.kind
-    (AssignCall c.in-AssignCall.place c.in-AssignCall.made) c.args.part.now.line step _ _ _ c.in-AssignCall.is
-    (stored_call c.args.program.now (kept_by c.args.run.now.machine) c.args.run.now.work.items c.args.run.now.frame
-    c.get-in-AssignCall.result c.in-AssignCall.place c.in-AssignCall.made c.args.part.now.line step _ _ _
-    c.get-in-AssignCall.ensures.value h)) c.call.ensures
+returns-in-AssignCall c = rw (c.in-AssignCall.is, ← c.get-in-AssignCall.ensures.value) c.call.ensures
 
 pub returns-in-Call : goal.returns-in-Call
-returns-in-Call c =
-    IfOk-weaker c.call-in-Call.result _ _ (λ step h. simple_as c.args.program.now
-    (kept_by c.args.run.now.machine) c.args.run.now.work.items c.args.run.now.frame c.args.part.now.kind
-    (Call c.in-Call.made) c.args.part.now.line step _ _ _ c.in-Call.is h) c.call-in-Call.ensures
+returns-in-Call c = rw c.in-Call.is c.call-in-Call.ensures
 
 pub returns-in-Assign : goal.returns-in-Assign
-returns-in-Assign c =
-    let run = c.args.run.now in
-    let f = run.frame in
-    let later = c.assigned.new.run in
-    simple_as c.args.program.now (kept_by run.machine) run.work.items f c.args.part.now.kind
-    (Assign c.in-Assign.place c.in-Assign.value) c.args.part.now.line c.assigned.result
-    (kept_by later.machine) later.work.items later.frame c.in-Assign.is
-    (subst (λ p. Steps c.args.program.now (kept_by run.machine) run.work.items f
-    (λ n. assign (here_of f.scope) (way_in f p) (way_in f c.in-Assign.value) c.args.part.now.line tt)
-    c.assigned.result (kept_by later.machine) later.work.items later.frame) c.get.ensures.value c.assigned.ensures)
+returns-in-Assign c = rw (c.in-Assign.is, ← c.get.ensures.value) c.assigned.ensures

@@ -1,21 +1,14 @@
-use Rattle.sc_run.proofs.Common.{kept_by, sym}
+use Rattle.sc_run.proofs.Common.{sym}
 use Rattle.sc_run.proofs.Looping.{round_in, round_out, round_err}
 use Rattle.sc_run.proofs.steps.begin_round.Goals as goal
 
 pub returns-in_ok-push-in-Ok-take_turn : goal.returns-in_ok-push-in-Ok-take_turn
-returns-in_ok-push-in-Ok-take_turn c =
-    round_in c.args.program.now (kept_by c.args.run.now.machine)
-    (kept_by c.take_turn.new.machine) c.args.run.now.work.items c.push.new.self.items c.args.run.now.frame
-    c.args.whole.now c.in-Ok.value c.in-Ok.ensures
-    (sym c.if-not-is_true.ensures) c.in-Ok-take_turn.ensures.comes c.in_ok-push-in-Ok-take_turn.ensures.items
+returns-in_ok-push-in-Ok-take_turn c = round_in c.args.whole.now c.in-Ok.ensures (sym c.if-not-is_true.ensures)
+    c.in-Ok-take_turn.ensures.comes c.in_ok-push-in-Ok-take_turn.ensures.items
 
 pub returns-in-Err-take_turn : goal.returns-in-Err-take_turn
-returns-in-Err-take_turn c =
-    round_out c.args.program.now (kept_by c.args.run.now.machine) c.args.run.now.work.items c.args.run.now.frame
-    c.args.whole.now c.in-Ok.value (kept_by c.take_turn.new.machine) c.in-Err-take_turn.end c.in-Ok.ensures
-    (sym c.if-not-is_true.ensures) c.in-Err-take_turn.ensures.comes
+returns-in-Err-take_turn c = round_out c.args.whole.now c.in-Ok.ensures (sym c.if-not-is_true.ensures)
+    c.in-Err-take_turn.ensures.comes
 
 pub returns-in-Err : goal.returns-in-Err
-returns-in-Err c =
-    round_err c.args.program.now (kept_by c.args.run.now.machine) c.args.run.now.work.items c.args.run.now.frame
-    c.args.whole.now c.in-Err.end c.in-Err.ensures
+returns-in-Err c = round_err c.args.whole.now c.in-Err.ensures

@@ -1,5 +1,4 @@
-use Rattle.sc_run.proofs.Common.{block_acts, choose, evaluated, here_of, kept_by, way_in}
-use Rattle.sc_core.specs.declared.value.Want.TheVariants as want
+use Rattle.sc_run.proofs.Common.{block_acts, choose}
 use Rattle.sc_run.proofs.Looping.{step_stops}
 use Rattle.sc_run.proofs.steps.branch.Goals as goal
 
@@ -7,8 +6,5 @@ pub returns-in-Err : goal.returns-in-Err
 returns-in-Err c =
     let f = c.args.run.now.frame in
     let program = c.args.program.now in
-    step_stops program (kept_by c.args.run.now.machine)
-    (kept_by c.args.run.now.machine) c.args.run.now.work.items f c.in-Err.end
-    (evaluated (here_of f.scope) want.Value (way_in f c.args.cond.now) c.args.line)
-    (λ n v s. choose v (block_acts program n f c.args.first.now tt s)
+    step_stops (λ n v s. choose v (block_acts program n f c.args.first.now tt s)
     (block_acts program n f c.args.second.now tt s)) c.in-Err.ensures

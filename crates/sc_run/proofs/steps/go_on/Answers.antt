@@ -1,8 +1,7 @@
-use Rattle.sc_run.proofs.Common.{kept_by, refl}
+use Rattle.sc_run.proofs.Common.{refl}
 use Rattle.sc_run.proofs.Ahead.{part_last}
 use Rattle.sc_run.proofs.steps.go_on.Goals as goal
 
 pub returns-then-is_empty-2 : goal.returns-then-is_empty-2
-returns-then-is_empty-2 c =
-    part_last c.args.program.now c.args.run.now.frame (kept_by c.args.run.now.machine) c.args.run.now.work.items
-    c.args.stmts.now _ c.args.at c.is_empty-2.result refl c.is_empty-2.ensures c.if-is_empty-2.true
+returns-then-is_empty-2 c = part_last c.args.program.now c.args.run.now.frame c.args.stmts.now c.args.at refl
+    c.is_empty-2.ensures c.if-is_empty-2.true

@@ -1,17 +1,12 @@
-use Rattle.sc_run.proofs.Common.{IfOk-weaker, kept_by, loop_acts}
-use Rattle.sc_run.proofs.Ahead.{left_in_body, steps_behind}
+use Rattle.sc_run.proofs.Common.{refl, Body, IfOk-weaker}
+use Rattle.sc_run.proofs.Ahead.{steps_behind}
+use Rattle.sc_run.proofs.Looping.{steps_wait}
 use Rattle.sc_run.proofs.steps.round.Goals as goal
 
 pub returns-in-None : goal.returns-in-None
-returns-in-None c =
-    let f = c.args.run.now.frame in
-    IfOk-weaker c.begin_round.result _ _ (λ step h. steps_behind c.args.program.now c.args.run.now.work.items f step
-    _ _ _ (kept_by c.args.run.now.machine) (kept_by c.done_rounds.new.machine)
-    (λ n. loop_acts c.args.program.now n f c.args.whole.now tt)
-    (λ n. loop_acts c.args.program.now n f c.args.whole.now tt) c.in-None.ensures.passes h) c.begin_round.ensures
+returns-in-None c = IfOk-weaker c.begin_round.result _ _
+    (λ step h. steps_behind c.in-None.ensures.passes h) c.begin_round.ensures
 
 pub returns-in_ok-push-in-Some : goal.returns-in_ok-push-in-Some
-returns-in_ok-push-in-Some c =
-    IfOk-weaker c.go_on.result _ _ (λ step h. left_in_body c.args.program.now c.args.run.now.frame c.args.whole.now
-    (kept_by c.args.run.now.machine) (kept_by c.done_rounds.new.machine) c.args.run.now.work.items c.push.new.self.items
-    c.in-Some.at step _ _ _ c.in-Some.ensures.passes c.in_ok-push-in-Some.ensures.items h) c.go_on.ensures
+returns-in_ok-push-in-Some c = IfOk-weaker c.go_on.result _ _ (λ step h. steps_behind c.in-Some.ensures.passes
+    (steps_wait (Body c.args.whole.now) c.in_ok-push-in-Some.ensures.items (λ n s. refl) h)) c.go_on.ensures

@@ -1,111 +1,59 @@
-use Rattle.sc_run.proofs.Common.{Go, IfOk-weaker, Leave, None, kept_by, option_copied, refl, rolls-Assign}
-use Rattle.sc_run.proofs.Common.{rolls-AssignCall, rolls-Break, rolls-Call, rolls-Continue, rolls-Empty, rolls-For}
-use Rattle.sc_run.proofs.Common.{rolls-If, rolls-Return, rolls-ReturnCall, rolls-ReturnValue, rolls-While, sym, ◌∙◌}
+use Rattle.sc_run.proofs.Common.{IfOk-weaker, option_copied, refl, rolls-Assign, rolls-AssignCall, rolls-Break}
+use Rattle.sc_run.proofs.Common.{rolls-Call, rolls-Continue, rolls-Empty, rolls-For, rolls-If, rolls-Return}
+use Rattle.sc_run.proofs.Common.{rolls-ReturnCall, rolls-ReturnValue, rolls-While, sym, ◌∙◌}
 use Rattle.sc_core.specs.declared.stmt.TypedStmtKind.TheOpen as layer
-use Rattle.sc_run.specs.declared.work.Leaving.TheVariants as leaving
-use Rattle.sc_run.proofs.Invoking.{stored_call}
 use Rattle.sc_run.proofs.Looping.{steps_later}
-use Rattle.sc_run.proofs.Stating.{layer_acts, stmt_as, assign_layer, if_layer, while_layer, for_layer, next_as}
+use Rattle.sc_run.proofs.Stating.{stmt_as}
 use Rattle.sc_run.proofs.steps.statement.Goals as goal
 
 pub returns-in-Empty : goal.returns-in-Empty
-returns-in-Empty c =
-    let seen = kept_by c.args.run.now.machine in
-    stmt_as c.args.program.now seen c.args.run.now.work.items c.args.run.now.frame c.args.stmt.now layer.Empty
-    (Go (Leave leaving.Next)) seen c.args.run.now.work.items c.args.run.now.frame (c.in-Empty.is ∙ sym rolls-Empty)
-    (steps_later c.args.program.now seen c.args.run.now.work.items c.args.run.now.frame (Leave leaving.Next)
-    (λ n. layer_acts c.args.program.now n c.args.run.now.frame layer.Empty c.args.stmt.now.line) (λ n s. refl))
+returns-in-Empty c = stmt_as c.args.stmt.now layer.Empty (c.in-Empty.is ∙ sym rolls-Empty) (steps_later (λ n s. refl))
 
 pub returns-in-Break : goal.returns-in-Break
-returns-in-Break c =
-    let seen = kept_by c.args.run.now.machine in
-    stmt_as c.args.program.now seen c.args.run.now.work.items c.args.run.now.frame c.args.stmt.now layer.Break
-    (Go (Leave leaving.Break)) seen c.args.run.now.work.items c.args.run.now.frame (c.in-Break.is ∙ sym rolls-Break)
-    (steps_later c.args.program.now seen c.args.run.now.work.items c.args.run.now.frame (Leave leaving.Break)
-    (λ n. layer_acts c.args.program.now n c.args.run.now.frame layer.Break c.args.stmt.now.line) (λ n s. refl))
+returns-in-Break c = stmt_as c.args.stmt.now layer.Break (c.in-Break.is ∙ sym rolls-Break) (steps_later (λ n s. refl))
 
 pub returns-in-Continue : goal.returns-in-Continue
 returns-in-Continue c =
-    let seen = kept_by c.args.run.now.machine in
-    stmt_as c.args.program.now seen c.args.run.now.work.items c.args.run.now.frame c.args.stmt.now layer.Continue
-    (Go (Leave leaving.Continue)) seen c.args.run.now.work.items c.args.run.now.frame
-    (c.in-Continue.is ∙ sym rolls-Continue) (steps_later c.args.program.now seen c.args.run.now.work.items
-    c.args.run.now.frame (Leave leaving.Continue)
-    (λ n. layer_acts c.args.program.now n c.args.run.now.frame layer.Continue c.args.stmt.now.line) (λ n s. refl))
+    stmt_as c.args.stmt.now layer.Continue (c.in-Continue.is ∙ sym rolls-Continue) (steps_later (λ n s. refl))
 
 pub returns-in-Return : goal.returns-in-Return
 returns-in-Return c =
-    let seen = kept_by c.args.run.now.machine in
-    stmt_as c.args.program.now seen c.args.run.now.work.items c.args.run.now.frame c.args.stmt.now layer.Return
-    (Go (Leave (leaving.Return None))) seen c.args.run.now.work.items c.args.run.now.frame
-    (c.in-Return.is ∙ sym rolls-Return) (steps_later c.args.program.now seen c.args.run.now.work.items
-    c.args.run.now.frame (Leave (leaving.Return None))
-    (λ n. layer_acts c.args.program.now n c.args.run.now.frame layer.Return c.args.stmt.now.line) (λ n s. refl))
+    stmt_as c.args.stmt.now layer.Return (c.in-Return.is ∙ sym rolls-Return) (steps_later (λ n s. refl))
 
 pub returns-in-Assign : goal.returns-in-Assign
-returns-in-Assign c =
-    stmt_as c.args.program.now (kept_by c.args.run.now.machine) c.args.run.now.work.items c.args.run.now.frame
-    c.args.stmt.now (layer.Assign c.in-Assign.place c.in-Assign.value) c.assigned.result _ _ _
-    (c.in-Assign.is ∙ sym (rolls-Assign _ _)) (assign_layer c.args.program.now
-    (kept_by c.args.run.now.machine) c.args.run.now.work.items c.args.run.now.frame c.args.stmt.now.line
-    c.assigned.result _ _ _ c.get.result.now c.in-Assign.place c.in-Assign.value c.get.ensures.value
-    c.assigned.ensures)
+returns-in-Assign c = stmt_as c.args.stmt.now (layer.Assign c.get.result.now c.in-Assign.value)
+    (rw c.get.ensures.value (c.in-Assign.is ∙ sym (rolls-Assign _ _))) c.assigned.ensures
 
 pub returns-in-AssignCall : goal.returns-in-AssignCall
-returns-in-AssignCall c =
-    IfOk-weaker c.call.result _ _ (λ step h. stmt_as c.args.program.now
-    (kept_by c.args.run.now.machine) c.args.run.now.work.items c.args.run.now.frame c.args.stmt.now
-    (layer.AssignCall c.in-AssignCall.place c.in-AssignCall.made) step _ _ _
-    (c.in-AssignCall.is ∙ sym (rolls-AssignCall _ _))
-    (stored_call c.args.program.now (kept_by c.args.run.now.machine) c.args.run.now.work.items c.args.run.now.frame
-    c.get-in-AssignCall.result c.in-AssignCall.place c.in-AssignCall.made c.args.stmt.now.line step _ _ _
-    c.get-in-AssignCall.ensures.value h)) c.call.ensures
+returns-in-AssignCall c = IfOk-weaker c.call.result _ _ (λ step h. stmt_as c.args.stmt.now
+    (layer.AssignCall c.get-in-AssignCall.result.now c.in-AssignCall.made)
+    (rw c.get-in-AssignCall.ensures.value (c.in-AssignCall.is ∙ sym (rolls-AssignCall _ _))) h) c.call.ensures
 
 pub returns-in-Call : goal.returns-in-Call
-returns-in-Call c =
-    IfOk-weaker c.call-in-Call.result _ _ (λ step h. stmt_as c.args.program.now
-    (kept_by c.args.run.now.machine) c.args.run.now.work.items c.args.run.now.frame c.args.stmt.now
-    (layer.Call c.in-Call.made) step _ _ _ (c.in-Call.is ∙ sym (rolls-Call _)) h) c.call-in-Call.ensures
+returns-in-Call c = IfOk-weaker c.call-in-Call.result _ _ (λ step h. stmt_as c.args.stmt.now (layer.Call c.in-Call.made)
+    (c.in-Call.is ∙ sym (rolls-Call _)) h) c.call-in-Call.ensures
 
 pub returns-in-ReturnCall : goal.returns-in-ReturnCall
-returns-in-ReturnCall c =
-    IfOk-weaker c.call-in-ReturnCall.result _ _ (λ step h.
-    stmt_as c.args.program.now (kept_by c.args.run.now.machine) c.args.run.now.work.items c.args.run.now.frame
-    c.args.stmt.now (layer.ReturnCall c.in-ReturnCall.made) step _ _ _
-    (c.in-ReturnCall.is ∙ sym (rolls-ReturnCall _)) h) c.call-in-ReturnCall.ensures
+returns-in-ReturnCall c = IfOk-weaker c.call-in-ReturnCall.result _ _ (λ step h. stmt_as c.args.stmt.now
+    (layer.ReturnCall c.in-ReturnCall.made) (c.in-ReturnCall.is ∙ sym (rolls-ReturnCall _))
+    h) c.call-in-ReturnCall.ensures
 
 pub returns-in-ReturnValue : goal.returns-in-ReturnValue
-returns-in-ReturnValue c =
-    stmt_as c.args.program.now (kept_by c.args.run.now.machine) c.args.run.now.work.items c.args.run.now.frame
-    c.args.stmt.now (layer.ReturnValue c.in-ReturnValue.value) c.returned_value.result _ _ _
+returns-in-ReturnValue c = stmt_as c.args.stmt.now (layer.ReturnValue c.in-ReturnValue.value)
     (c.in-ReturnValue.is ∙ sym (rolls-ReturnValue _)) c.returned_value.ensures
 
 pub returns-in-If : goal.returns-in-If
-returns-in-If c =
-    stmt_as c.args.program.now (kept_by c.args.run.now.machine) c.args.run.now.work.items c.args.run.now.frame
-    c.args.stmt.now (layer.If c.in-If.cond c.in-If.then_part c.in-If.else_part) c.branch-program.result _ _ _
-    (c.in-If.is ∙ sym (rolls-If _ _ _)) (if_layer c.args.program.now
-    (kept_by c.args.run.now.machine) c.args.run.now.work.items c.args.run.now.frame c.args.stmt.now.line
-    c.branch-program.result _ _ _ c.in-If.cond c.in-If.then_part c.as_slice.result.now c.in-If.else_part
-    c.as_slice-in-If.result.now c.as_slice.ensures c.as_slice-in-If.ensures c.branch-program.ensures)
+returns-in-If c = stmt_as c.args.stmt.now
+    (layer.If c.in-If.cond c.as_slice.result.now c.as_slice-in-If.result.now)
+    (rw (c.as_slice.ensures, c.as_slice-in-If.ensures) (c.in-If.is ∙ sym (rolls-If _ _ _))) c.branch-program.ensures
 
 pub returns-in-While : goal.returns-in-While
-returns-in-While c =
-    IfOk-weaker c.while_loop.result _ _ (λ step h. stmt_as c.args.program.now
-    (kept_by c.args.run.now.machine) c.args.run.now.work.items c.args.run.now.frame c.args.stmt.now
-    (layer.While c.in-While.cond c.in-While.body) step _ _ _ (c.in-While.is ∙ sym (rolls-While _ _))
-    (while_layer c.args.program.now (kept_by c.args.run.now.machine) c.args.run.now.work.items c.args.run.now.frame
-    c.args.stmt.now.line step _ _ _ c.in-While.cond c.in-While.body c.as_slice-body.result.now
-    c.as_slice-body.ensures h)) c.while_loop.ensures
+returns-in-While c = IfOk-weaker c.while_loop.result _ _ (λ step h. stmt_as c.args.stmt.now
+    (layer.While c.in-While.cond c.as_slice-body.result.now)
+    (rw c.as_slice-body.ensures (c.in-While.is ∙ sym (rolls-While _ _))) h) c.while_loop.ensures
 
 pub returns-in-For : goal.returns-in-For
-returns-in-For c =
-    IfOk-weaker c.first_part.result _ _ (λ step h. stmt_as c.args.program.now
-    (kept_by c.args.run.now.machine) c.args.run.now.work.items c.args.run.now.frame c.args.stmt.now
-    (layer.For c.in-For.first c.in-For.cond c.in-For.next c.in-For.body) step _ _ _
-    (c.in-For.is ∙ sym (rolls-For _ _ _ _)) (for_layer c.args.program.now
-    (kept_by c.args.run.now.machine) c.args.run.now.work.items c.args.run.now.frame c.args.stmt.now.line step _ _ _
-    c.in-For.first c.in-For.cond c.in-For.next c.in-For.body c.as_slice-in-For.result.now c.as_slice-in-For.ensures
-    (next_as c.args.program.now (kept_by c.args.run.now.machine) c.args.run.now.work.items c.args.run.now.frame
-    c.args.stmt.now.line step _ _ _ c.in-For.first c.in-For.cond c.in-For.next
-    (option_copied c.as_ref.result) c.as_slice-in-For.result.now c.as_ref.ensures.value h))) c.first_part.ensures
+returns-in-For c = IfOk-weaker c.first_part.result _ _ (λ step h. stmt_as c.args.stmt.now
+    (layer.For c.in-For.first c.in-For.cond (option_copied c.as_ref.result) c.as_slice-in-For.result.now)
+    (rw (c.as_ref.ensures.value, c.as_slice-in-For.ensures) (c.in-For.is ∙ sym (rolls-For _ _ _ _))) h)
+    c.first_part.ensures
