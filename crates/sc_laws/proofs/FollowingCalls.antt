@@ -106,13 +106,11 @@ module _ (L : Library) (main : ℕ) (t : List Event) (S S' : ℕ → Bool) (larg
     -- what is to be shown of the bodies of the first run
     pub record Bodies (a : Body) : Type 0 where
       pub goes : BodyGoes a
-      -- of a compartment that performs in neither run, in both, and in the second alone
+      -- of a compartment that performs in neither run, and of one that performs in the second
       pub plain : (number : ℕ) (here : Here) (st : Standing) (s s' : State) → S' here.comp ≡ false → N st s s' →
           F st (a number here s) (second number here s')
-      pub enters : (number comp first first' : ℕ) (st : Standing) (s s' : State) → S comp ≡ true → N st s s' →
-          F st (a number (at comp first) s) (second number (at comp first') s')
       pub resumes : (number comp first k first' : ℕ) (st : Standing) (left : Piece (Option Value)) (s : State) →
-          S comp ≡ false → S' comp ≡ true → L.entered comp st.active.entry ≡ Some k → Held st k comp first' left s →
+          S' comp ≡ true → L.entered comp st.active.entry ≡ Some k → Held st k comp first' left s →
           P st k comp first' left (a number (at comp first) s)
 
     performs_now : (k comp first : ℕ) (s : State) → S' comp ≡ true → second k (at comp first) s
@@ -249,72 +247,73 @@ module _ (L : Library) (main : ℕ) (t : List Event) (S S' : ℕ → Bool) (larg
           (front_more t (y'.trace ++ e ∷ []) (last p).trace (past y'.trace e (all ∙ sym n.trace)) front')
       by_next (next_told more all) along = (go (near_tell main t S' st after y y' e more moves all n)).follows along
 
-    module _ (st : Standing) (from to index : ℕ) (f : Function) (first first' : ℕ) where
-      -- what the call does at its end in both runs, and what is told then
+    module _ (st : Standing) (from to index : ℕ) (f : Function) (first : ℕ) where
+      -- what the call does at its end, and what is told then
       abbrev ends : Option Value → State → Piece (Option Value)
       ends = returns to from index f first
-
-      abbrev ends' : Option Value → State → Piece (Option Value)
-      ends' = returns to from index f first'
 
       abbrev told : Option Value → Event
       told v = Ret to from (back to index v)
 
-      ended_near : (u u' : State) (v : Option Value) (more : List Event) → t ≡ u.trace ++ told v ∷ more →
+      ended_near : (first' : ℕ) (u u' : State) (v : Option Value) (more : List Event) → t ≡ u.trace ++ told v ∷ more →
           (S' to ≡ false → ended first' (length f.cells) (u'.memory to) ≡ ended first (length f.cells) (u.memory to)) →
           N (inside st to index) u u' → N st (tell (told v) (done to f first u)) (tell (told v) (done to f first' u'))
-      ended_near u u' v more all same near = near_tell main t S' (inside st to index) st (done to f first u)
+      ended_near first' u u' v more all same near = near_tell main t S' (inside st to index) st (done to f first u)
           (done to f first' u') (told v) more refl all (near_blocks main t S' _ u u' to _ _ _ _ same near)
 
-      both_return : (o p : Piece (Option Value)) → (S' to ≡ false → first' ≡ first) →
-          InLine t (last (and_then o ends)).trace → Up (inside st to index) o p →
-          Up st (and_then o ends) (and_then p ends')
-      both_return o p equal along (follows.done a b) = follows.done
+      both_return : (o p : Piece (Option Value)) → InLine t (last (and_then o ends)).trace →
+          Up (inside st to index) o p → Up st (and_then o ends) (and_then p ends)
+      both_return o p along (follows.done a b) = follows.done
           (then_front t o ends (returns_goes to from index f first) a)
-          (then_front t p ends' (returns_goes to from index f first') b)
-      both_return o p equal along (follows.both v u u' is is' near) =
-          subst (λ y. Up st (and_then y ends) (and_then p ends')) (sym is)
-          (subst (λ y. Up st (ends v u) (and_then y ends')) (sym is') (told_both (next_told_is t u.trace (told v)
+          (then_front t p ends (returns_goes to from index f first) b)
+      both_return o p along (follows.both v u u' is is' near) =
+          subst (λ y. Up st (and_then y ends) (and_then p ends)) (sym is)
+          (subst (λ y. Up st (ends v u) (and_then y ends)) (sym is') (told_both (next_told_is t u.trace (told v)
           near.front (subst (λ y. InLine t (last (and_then y ends)).trace) is along)))) where
-            told_both : NextIs t u.trace (told v) → Up st (ends v u) (ends' v u')
+            told_both : NextIs t u.trace (told v) → Up st (ends v u) (ends v u')
             told_both (over all) =
                 follows.done (past u.trace (told v) all) (past u'.trace (told v) (all ∙ sym near.trace))
-            told_both (next_told more all) = follows.both (option_value (back to index v)) _ _ refl refl (ended_near u
-                u' v more all (λ clear. (λ i. ended (equal clear i) (length f.cells) (near.memory to clear i))) near)
-      both_return o p equal along (follows.stop end x is by) = follows.stop end x (ap (λ y. and_then y ends) is)
-          (beyond_then main t S' (Option Value) (Option Value) end x p ends' (returns_goes to from index f first') by)
+            told_both (next_told more all) = follows.both (option_value (back to index v)) _ _ refl refl (ended_near
+                first u u' v more all (λ clear. ap (ended first (length f.cells)) (near.memory to clear)) near)
+      both_return o p along (follows.stop end x is by) = follows.stop end x (ap (λ y. and_then y ends) is)
+          (beyond_then main t S' (Option Value) (Option Value) end x p ends (returns_goes to from index f first) by)
 
-      -- the value and the event with which a performed return comes
-      performed_return : (v : Option Value) (u' : State) → ends' (option_value (back to index v)) u'
-          ≡ Reached (option_value (back to index v)) (tell (told v) (done to f first' u'))
-      performed_return v u' = ap (λ w. Reached (option_value w) (tell (Ret to from w) (done to f first' u')))
-          (crossing_stays (export_at L.interfaces to index) v)
+      module _ (first' : ℕ) where
+        -- in the second run
+        abbrev ends' : Option Value → State → Piece (Option Value)
+        ends' = returns to from index f first'
 
-      held_return : (k : ℕ) (o left : Piece (Option Value)) → S' to ≡ true → L.entered to (Export index) ≡ Some k →
-          InLine t (last (and_then o ends)).trace → Performs main t S' (inside st to index) left (Onward k to first')
-          (second_goes k (at to first')) (Option Value) o → Up st (and_then o ends) (and_then left ends')
-      held_return k o left set is_k along (performing.done a b) = follows.done
-          (then_front t o ends (returns_goes to from index f first) a)
-          (then_front t left ends' (returns_goes to from index f first') b)
-      held_return k o left set is_k along (performing.here v u is stands) =
-          subst (λ y. Up st (and_then y ends) (and_then left ends')) (sym is) (told_held (next_told_is t u.trace
-          (told v) stands.near.front (subst (λ y. InLine t (last (and_then y ends)).trace) is along))) where
-            told_held : NextIs t u.trace (told v) → Up st (ends v u) (and_then left ends')
-            told_held (over all) =
-                follows.done (past u.trace (told v) all) (whole main t S' u.trace (last (and_then left ends')).trace all
-                (then_front u.trace left ends' (returns_goes to from index f first') (left_goes main t S'
-                (inside st to index) left (Onward k to first') (second_goes k (at to first')) u stands)))
-            told_held (next_told more all) =
-                let now_told : Telling k to first' (told v) stands.other =
-                performs_next k to first' (inside st to index) stands.other (told v) more set is_k refl
-                (all ∙ ap (λ x. x ++ told v ∷ more) (sym stands.near.trace))
-                (ap (stands_behind (at_start main)) stands.near.trace ∙ stands.near.stands) in
-                follows.both (option_value (back to index v)) _ _ refl
-                (ap (λ y. and_then y ends') (stands.is ∙ now_told.is) ∙ performed_return v stands.other)
-                (ended_near u stands.other v more all (λ clear. absurd (both_ways _ clear set)) stands.near)
-      held_return k o left set is_k along (performing.stop end x is by) =
-          follows.stop end x (ap (λ y. and_then y ends) is) (beyond_back main t S' (Option Value) end x left ends'
-          (returns_goes to from index f first') (λ v u. (told v, front_same (u.trace ++ told v ∷ []))) by)
+        -- the value and the event with which a performed return comes
+        performed_return : (v : Option Value) (u' : State) → ends' (option_value (back to index v)) u'
+            ≡ Reached (option_value (back to index v)) (tell (told v) (done to f first' u'))
+        performed_return v u' = ap (λ w. Reached (option_value w) (tell (Ret to from w) (done to f first' u')))
+            (crossing_stays (export_at L.interfaces to index) v)
+
+        held_return : (k : ℕ) (o left : Piece (Option Value)) → S' to ≡ true → L.entered to (Export index) ≡ Some k →
+            InLine t (last (and_then o ends)).trace → Performs main t S' (inside st to index) left (Onward k to first')
+            (second_goes k (at to first')) (Option Value) o → Up st (and_then o ends) (and_then left ends')
+        held_return k o left set is_k along (performing.done a b) = follows.done
+            (then_front t o ends (returns_goes to from index f first) a)
+            (then_front t left ends' (returns_goes to from index f first') b)
+        held_return k o left set is_k along (performing.here v u is stands) =
+            subst (λ y. Up st (and_then y ends) (and_then left ends')) (sym is) (told_held (next_told_is t u.trace
+            (told v) stands.near.front (subst (λ y. InLine t (last (and_then y ends)).trace) is along))) where
+              told_held : NextIs t u.trace (told v) → Up st (ends v u) (and_then left ends')
+              told_held (over all) =
+                  follows.done (past u.trace (told v) all) (whole main t S' u.trace (last (and_then left ends')).trace all
+                  (then_front u.trace left ends' (returns_goes to from index f first') (left_goes main t S'
+                  (inside st to index) left (Onward k to first') (second_goes k (at to first')) u stands)))
+              told_held (next_told more all) =
+                  let now_told : Telling k to first' (told v) stands.other =
+                  performs_next k to first' (inside st to index) stands.other (told v) more set is_k refl
+                  (all ∙ ap (λ x. x ++ told v ∷ more) (sym stands.near.trace))
+                  (ap (stands_behind (at_start main)) stands.near.trace ∙ stands.near.stands) in
+                  follows.both (option_value (back to index v)) _ _ refl
+                  (ap (λ y. and_then y ends') (stands.is ∙ now_told.is) ∙ performed_return v stands.other)
+                  (ended_near first' u stands.other v more all (λ clear. absurd (both_ways _ clear set)) stands.near)
+        held_return k o left set is_k along (performing.stop end x is by) =
+            follows.stop end x (ap (λ y. and_then y ends) is) (beyond_back main t S' (Option Value) end x left ends'
+            (returns_goes to from index f first') (λ v u. (told v, front_same (u.trace ++ told v ∷ []))) by)
 
     module _ (a : Body) (bodies : Bodies a) where
       -- the call once the function is found: its variables and its frame are there, and the call is told
@@ -364,27 +363,23 @@ module _ (L : Library) (main : ℕ) (t : List Event) (S S' : ℕ → Bool) (larg
         along_inside =
             then_along t (a number (at to first) x) (returns to from index f first) (returns_goes to from index f first)
 
-        -- by whether the callee's compartment performs in both runs, in the second, or in neither
-        callee : (b b' : Bool) → S to ≡ b → S' to ≡ b' → N (inside st to index) x x' → InLine t (last run).trace →
-            Up st run run'
-        callee true b' set set' near along = both_return st from to index f first first' (a number (at to first) x)
-            (second number _ x') (λ clear. absurd (both_ways (S' to) clear (larger to set))) along
-            ((bodies.enters number to first first' (inside st to index) x x' set near).follows (along_inside along))
-        callee false true clear set' near along = held_return st from to index f first first' number
-            (a number (at to first) x) (second number (at to first') x') set' is_number along
-            ((bodies.resumes number to first number first' (inside st to index) (second number (at to first') x') x
-            clear set' is_number (record { other = x'; near = near; is = refl })).performs (along_inside along))
-        callee false false clear clear' near along =
+        -- by whether the callee's compartment performs in the second run
+        callee : (b : Bool) → S' to ≡ b → N (inside st to index) x x' → InLine t (last run).trace → Up st run run'
+        callee true set near along = held_return st from to index f first first' number (a number (at to first) x)
+            (second number (at to first') x') set is_number along ((bodies.resumes number to first number first'
+            (inside st to index) (second number (at to first') x') x set is_number
+            (record { other = x'; near = near; is = refl })).performs (along_inside along))
+        callee false clear near along =
             subst (λ k. Up st run (and_then (second number (at to k) x') (returns to from index f k)))
-            (sym (ap length (n.memory to clear'))) (both_return st from to index f first first (a number _ x)
-            (second number (at to first) x') (λ c. refl) along
-            ((bodies.plain number (at to first) (inside st to index) x x' clear' near).follows (along_inside along)))
+            (sym (ap length (n.memory to clear))) (both_return st from to index f first (a number _ x)
+            (second number (at to first) x') along
+            ((bodies.plain number (at to first) (inside st to index) x x' clear near).follows (along_inside along)))
 
         enters_follow : F st run run'
         enters_follow = tells (Option Value) st (inside st to index) s s' event run run' refl n
             (enters_goes a bodies.goes from to index number args f s).grown.events
             (enters_goes second second_goes from to index number args f s').grown.events
-            (λ near. record { follows = callee (S to) _ refl refl (entered_near near) })
+            (λ near. record { follows = callee _ refl (entered_near near) })
 
       -- where nothing is found both runs stop
       nothing_follows : (st : Standing) (s s' : State) → N st s s' → F st (Stopped TurnsOut s) (Stopped TurnsOut s')
@@ -426,26 +421,6 @@ module _ (L : Library) (main : ℕ) (t : List Event) (S S' : ℕ → Bool) (larg
       if_follows true st o o' p p' h k = h
       if_follows false st o o' p p' h k = k
 
-      -- a call that both ask for
-      asked : (from : ℕ) (target : CallTarget) (args : List Value) (st : Standing) (s s' : State) → N st s s' →
-          F st (called L a from target args s) (called L second from target args s') →
-          F st (asks L a from target args s) (asks L second from target args s')
-      asked from target args st s s' n h =
-          subst (λ o. F st o (asks L second from target args s')) (sym (asks_is L a bodies.goes from target args s))
-          (subst (F st _) (sym (asks_is L second second_goes from target args s'))
-          (if_follows (may_call L from target args) st _ _ _ (Stopped TurnsOut s') h (nothing_follows st s s' n)))
-
-      asked_then : (comp : ℕ) (target : CallTarget) (args : List Value) (k l : Option Value → State →
-          Piece (Option Value)) → ((v : Option Value) → Goes (k v)) → ((v : Option Value) → Goes (l v)) → (st :
-          Standing)
-          (s s' : State) → N st s s' → F st (called L a comp target args s) (called L second comp target args s') →
-          ((v : Option Value) (u u' : State) → N st u u' → F st (k v u) (l v u')) →
-          F st (and_then (asks L a comp target args s) k) (and_then (asks L second comp target args s') l)
-      asked_then comp target args k l goes goes' st s s' n h after = (follow_kept main t S' st).after (Option Value) _ s
-          s' (asks L a comp target args s) (asks L second comp target args s') k l n
-          (asks_go L a bodies.goes comp target args s) (asks_go L second second_goes comp target args s') goes goes'
-          (asked comp target args st s s' n h) (λ v u u' up up' near. after v u u' near)
-
       -- with its turn
       turned_follows : (from to index : ℕ) (args : List Value) (st : Standing) (s s' : State) → N st s s' →
           F st (called L a from (Cross to index) args s) (called L second from (Cross to index) args s')
@@ -453,7 +428,7 @@ module _ (L : Library) (main : ℕ) (t : List Event) (S S' : ℕ → Bool) (larg
           (λ _. cross_goes L a bodies.goes from to index args) (λ _. cross_goes L second second_goes from to index args)
           s s' n (λ y y' less less' near. cross_follows from to index args st y y' near)
 
-      -- EVENTS OF THE ENVIRONMENT, AND CALLS WITHIN, WHERE NOBODY PERFORMS OR BOTH DO
+      -- EVENTS OF THE ENVIRONMENT, AND CALLS WITHIN, WHERE NOBODY PERFORMS
       -- the state once an input is taken
       abbrev taken : State → State
       taken s = record s { inputs = drop 1 s.inputs }
@@ -525,39 +500,9 @@ module _ (L : Library) (main : ℕ) (t : List Event) (S S' : ℕ → Bool) (larg
             both = both_calls here clear st target args;
           }
 
-      -- ROWS THAT BOTH PERFORM
-      acts_follow : (action : Action) (next next' : State → Piece (Option Value)) (number comp mine theirs : ℕ) →
-          Goes next → Goes next' → S comp ≡ true → (st : Standing) →
-          ((s s' : State) → N st s s' → F st (next s) (next' s')) → (s s' : State) → N st s s'
-          → F st (acts L a action next (a number (at comp mine)) comp s)
-          (acts L second action next' (second number (at comp theirs)) comp s')
-      acts_follow (act.Call to index words) next next' number comp mine theirs goes goes' set st h s s' n =
-          let args = map (λ w. Word w) words in
-          asked_then comp (Cross to index) args (λ v. a number _) (λ v. second number _) (λ v. bodies.goes number _)
-          (λ v. second_goes number _) st s s' n (turned_follows comp to index args st s s' n)
-          (λ v u u' near. bodies.enters number comp mine theirs st u u' set near)
-      acts_follow (act.Ret v) next next' number comp mine theirs goes goes' set st h s s' n =
-          (follow_kept main t S' st).reached (Option Value) _ s s' n
-      acts_follow (act.Out w) next next' number comp mine theirs goes goes' set st h s s' n =
-          asked_then comp Output (Word w ∷ []) (λ v. next) (λ v. next') (λ v. goes) (λ v. goes') st s s' n
-          (output_follows comp (Word w ∷ []) st s s' n) (λ v. h)
-      acts_follow (act.In w) next next' number comp mine theirs goes goes' set st h s s' n = asked_then comp Input []
-          (λ v. next) (λ v. next') (λ v. goes) (λ v. goes') st s s' n (input_follows comp [] st s s' n) (λ v. h)
-      acts_follow (act.End w) next next' number comp mine theirs goes goes' set st h s s' n =
-          (follow_kept main t S' st).reached (Option Value) _ s s' n
-
-      pub performs_follow : (rows : List Row) (number comp mine theirs : ℕ) → S comp ≡ true →
-          (st : Standing) (s s' : State) → N st s s' →
-          F st (performs L a rows number (at comp mine) s) (performs L second rows number (at comp theirs) s')
-      performs_follow [] number comp mine theirs set st s s' n = nothing_follows st s s' n
-      performs_follow (row ∷ rest) number comp mine theirs set st s s' n =
-          if_follows (is_number number _) st _ _ _ _ (acts_follow _ _ _ number comp mine
-          theirs (performs_go L a bodies.goes rest number _) (performs_go L second second_goes rest number
-          _) set st (performs_follow rest number comp mine theirs set st) s s' n) (nothing_follows st s s' n)
-
-      -- A FUNCTION THAT RUNS IN THE FIRST AND PERFORMS IN THE SECOND
-      module _ (st : Standing) (k comp theirs : ℕ) (left : Piece (Option Value)) (clear : S comp ≡ false) (set : S' comp
-          ≡ true) (is_k : L.entered comp st.active.entry ≡ Some k) where
+      -- A FUNCTION THAT PERFORMS IN THE SECOND, WHATEVER IT DOES IN THE FIRST
+      module _ (st : Standing) (k comp theirs : ℕ) (left : Piece (Option Value)) (set : S' comp ≡ true)
+          (is_k : L.entered comp st.active.entry ≡ Some k) where
         abbrev rest : State → Piece (Option Value)
         rest = Onward k comp theirs
 
@@ -733,24 +678,17 @@ module _ (L : Library) (main : ℕ) (t : List Event) (S S' : ℕ → Bool) (larg
             (perform_kept main t S' st left rest rest_goes).after (Option Value) (Option Value) start start o o ends
             ends (record { same = refl; stands = h_start }) (bodies.goes number (at comp first) start)
             (bodies.goes number (at comp first) start) ends_go ends_go
-            (bodies.resumes number comp first k theirs st left start clear set is_k h_start)
+            (bodies.resumes number comp first k theirs st left start set is_k h_start)
             (λ v u u' up up' one. record {
               performs = λ along. performing.here v (done comp f first u) refl (stands_stored main t S' st left rest
                   rest_goes comp (ended first (length f.cells) (u.memory comp)) _ u set one.stands);
             })
 
-        -- a call that may not be made is blamed, and the second run, in which the compartment performs, passes that
-        -- point
-        with_test : (target : CallTarget) (args : List Value) (s : State) → H s → (may target args ≡ true →
-            InLine t (last (called L a comp target args s)).trace → Done (Option Value) (called L a comp target args s))
-            → InLine t (last (calls L a comp target args s)).trace → Done (Option Value) (calls L a comp target args s)
-        with_test target args s h go along = by_test _ refl along where
-          by_test : (b : Bool) → may target args ≡ b →
-              InLine t (last (if b then called L a comp target args s else Stopped (Blamed comp BadType 0) s)).trace →
-              Done (Option Value) (if b then called L a comp target args s else Stopped (Blamed comp BadType 0) s)
-          by_test true allowed along = go allowed along
-          by_test false barred along = blamed_here main t S' st left rest rest_goes (Option Value) comp BadType 0 s set
-              h (held_passes st k comp theirs left set s h)
+        if_performs : (b : Bool) (o p : Piece (Option Value)) → (b ≡ true → InLine t (last o).trace →
+            Done (Option Value) o) → Done (Option Value) p → InLine t (last (if b then o else p)).trace →
+            Done (Option Value) (if b then o else p)
+        if_performs true o p h k along = h refl along
+        if_performs false o p h k along = k
 
         own_performs : (number : ℕ) (args : List Value) (s s' : State) → One s s' →
             Pieces (Option Value) (called L a comp (Own number) args s) (called L a comp (Own number) args s')
@@ -769,14 +707,60 @@ module _ (L : Library) (main : ℕ) (t : List Event) (S S' : ℕ → Bool) (larg
         allowed_performs Input args s s' one allowed = input_performs args s one.stands allowed
         allowed_performs Output args s s' one allowed = output_performs args s one.stands allowed
 
+        -- a call that may not be made is blamed, and the second run, in which the compartment performs, passes that
+        -- point
+        guarded_performs : (target : CallTarget) (args : List Value) (s s' : State) → One s s' →
+            InLine t (last (calls L a comp target args s)).trace → Done (Option Value) (calls L a comp target args s)
+        guarded_performs target args s s' one = if_performs (may target args) (called L a comp target args s) _
+            (allowed_performs target args s s' one) (blamed_here main t S' st left rest rest_goes (Option Value) comp
+            BadType 0 s set one.stands (held_passes st k comp theirs left set s one.stands))
+
         pub calls_perform : CallsTwins One Pieces (λ h. S' h.comp ≡ true) comp (calls L a) (calls L a)
-        calls_perform target args =
-            record {
-              first = calls_go L a bodies.goes comp target args;
-              second = calls_go L a bodies.goes comp target args;
-              both = λ s s' one.
-                  record { performs = with_test target args s one.stands (allowed_performs target args s s' one) };
-            }
+        calls_perform target args = record {
+          first = calls_go L a bodies.goes comp target args;
+          second = calls_go L a bodies.goes comp target args;
+          both = λ s s' one. record { performs = guarded_performs target args s s' one };
+        }
+
+        -- the rows that it performs in the first
+        stopped : (s : State) → H s → Done (Option Value) (Stopped TurnsOut s)
+        stopped s h = stops_here main t S' st left rest rest_goes (Option Value) s s refl h
+
+        asks_then : (target : CallTarget) (args : List Value) (go : State → Piece (Option Value)) → Goes go →
+            ((u : State) → H u → Pieces (Option Value) (go u) (go u)) → (s : State) → H s → Pieces (Option Value)
+            (and_then (asks L a comp target args s) (λ v. go)) (and_then (asks L a comp target args s) (λ v. go))
+        asks_then target args go goes h s held =
+            (perform_kept main t S' st left rest rest_goes).after (Option Value) (Option Value) s s
+            (asks L a comp target args s) (asks L a comp target args s) (λ v. go) (λ v. go)
+            (record { same = refl; stands = held }) (asks_go L a bodies.goes comp target args s)
+            (asks_go L a bodies.goes comp target args s) (λ v. goes) (λ v. goes) (record {
+              performs = if_performs (may target args) (calls L a comp target args s) _ (λ allowed.
+                  guarded_performs target args s s (record { same = refl; stands = held })) (stopped s held);
+            }) (λ v u u' up up' one. record { performs = (h u one.stands).performs })
+
+        acts_perform : (action : Action) (next : State → Piece (Option Value)) (number mine : ℕ) → Goes next →
+            ((u : State) → H u → Pieces (Option Value) (next u) (next u)) → (s : State) → H s →
+            Pieces (Option Value) (acts L a action next (a number (at comp mine)) comp s)
+            (acts L a action next (a number (at comp mine)) comp s)
+        acts_perform (act.Call to index words) next number mine goes h s held =
+            asks_then (Cross to index) (map (λ w. Word w) words) (a number (at comp mine)) (bodies.goes number _)
+            (λ u. bodies.resumes number comp mine k theirs st left u set is_k) s held
+        acts_perform (act.Ret v) next number mine goes h s held = record { performs = λ along. performing.here _ s refl
+            held }
+        acts_perform (act.Out w) next number mine goes h s held = asks_then Output (Word w ∷ []) next goes h s held
+        acts_perform (act.In w) next number mine goes h s held = asks_then Input [] next goes h s held
+        acts_perform (act.End w) next number mine goes h s held = record { performs = λ along. performing.here _ s refl
+            held }
+
+        pub performs_perform : (rows : List Row) (number mine : ℕ) (s : State) → H s →
+            P st k comp theirs left (performs L a rows number (at comp mine) s)
+        performs_perform [] number mine s held = record { performs = λ along. stopped s held }
+        performs_perform (row ∷ rows) number mine s held = record {
+          performs = if_performs (is_number number _) (acts L a row.action (performs L a rows number (at comp mine))
+              (a number (at comp mine)) comp s) _ (λ is. (acts_perform row.action _ number mine
+              (performs_go L a bodies.goes rows number _) (performs_perform rows number mine) s held).performs)
+              (stopped s held);
+        }
 
       -- ONE STEP
       module _ (library_goes : LibraryGoes L) (follow_twins : TwinsFollow) (perform_twins : TwinsPerform) where
@@ -803,37 +787,30 @@ module _ (L : Library) (main : ℕ) (t : List Event) (S S' : ℕ → Bool) (larg
             (F st _) (sym (fixed number here s' ∙ role_is second S' number here s' false clear)) (runs_follow
             (function L _ number) (function L _ number) st ((follow_twins st).functions _ number) here clear s s' n))
 
-        step_enters : (number comp mine theirs : ℕ) (st : Standing) (s s' : State) → S comp ≡ true → N st s s' →
-            F st (first_step a number (at comp mine) s) (second number (at comp theirs) s')
-        step_enters number comp mine theirs st s s' set n =
-            let rows = rows_left (roles_in main S t) comp s.trace in
-            let same_rows = ap (λ u. drop (count_of comp u) (part main comp t)) n.trace in
-            subst (λ x. F st x (second number (at comp theirs) s')) (sym (role_is a S number _ s true set))
-            (subst (F st _) (sym (performs_now number comp theirs s' (larger comp set)
-            ∙ ap (λ rows. performs L second rows number (at comp theirs) s') same_rows))
-            (performs_follow rows number comp mine theirs set st s s' n))
-
         step_resumes : (number comp mine k theirs : ℕ) (st : Standing) (left : Piece (Option Value)) (s : State) →
-            S comp ≡ false → S' comp ≡ true → L.entered comp st.active.entry ≡ Some k → Held st k comp theirs left s →
+            S' comp ≡ true → L.entered comp st.active.entry ≡ Some k → Held st k comp theirs left s →
             P st k comp theirs left (first_step a number (at comp mine) s)
-        step_resumes number comp mine k theirs st left s clear set is_k h =
-            subst (P st k comp theirs left) (sym (role_is a S number _ s false clear))
-            (by_function_held (function L comp number) (function L comp number)
-            ((perform_twins st left _ _ (held_passes st k comp theirs left set)).functions comp number)) where
-              by_function_held : (f g : Option Function) →
-                  Meets (FunctionTwins (OneSided main t S' st left (Onward k comp theirs)
-                  (second_goes k (at comp theirs))) (Perform main t S' st left (Onward k comp theirs)
-                  (second_goes k (at comp theirs))) (λ h. S' h.comp ≡ true)) f g →
-                  P st k comp theirs left (and_then (found f s) (λ f s. f.does (calls L a) (at comp mine) s))
-              by_function_held None g meets =
-                  record { performs = λ along. stops_here main t S' st left _ (second_goes k _) _ s s refl h }
-              by_function_held (Some f) None meets = absurd meets
-              by_function_held _ (Some g) meets =
-                  record {
-                    performs = ((meets.does _ (calls L a) _ set
-                        (calls_perform st k comp theirs left clear set is_k)).both s s
-                        (record { same = refl; stands = h })).performs;
-                  }
+        step_resumes number comp mine k theirs st left s set is_k h = by_role (S comp) where
+          by_function : (f g : Option Function) →
+              Meets (FunctionTwins (OneSided main t S' st left (Onward k comp theirs)
+              (second_goes k (at comp theirs))) (Perform main t S' st left (Onward k comp theirs)
+              (second_goes k (at comp theirs))) (λ h. S' h.comp ≡ true)) f g →
+              P st k comp theirs left (and_then (found f s) (λ f s. f.does (calls L a) (at comp mine) s))
+          by_function None g meets =
+              record { performs = λ along. stops_here main t S' st left _ (second_goes k _) _ s s refl h }
+          by_function (Some f) None meets = absurd meets
+          by_function _ (Some g) meets = record {
+            performs = ((meets.does _ (calls L a) _ set
+                (calls_perform st k comp theirs left set is_k)).both s s
+                (record { same = refl; stands = h })).performs;
+          }
+
+          by_role : (b : Bool) → P st k comp theirs left (if b then performs L a
+              (rows_left (roles_in main S t) comp s.trace) number (at comp mine) s else
+              run_step L a number (at comp mine) s)
+          by_role true = performs_perform st k comp theirs left set is_k _ number mine s h
+          by_role false = by_function (function L comp number) (function L comp number)
+              ((perform_twins st left _ _ (held_passes st k comp theirs left set)).functions comp number)
 
         pub step_bodies : Bodies (first_step a)
         step_bodies =
@@ -841,7 +818,6 @@ module _ (L : Library) (main : ℕ) (t : List Event) (S S' : ℕ → Bool) (larg
               goes = scripted_goes L (roles_in main S t) (run_step L) (λ body goes. run_step_goes L body goes
                   library_goes) a bodies.goes;
               plain = step_plain;
-              enters = step_enters;
               resumes = step_resumes;
             }
 
@@ -851,8 +827,7 @@ module _ (L : Library) (main : ℕ) (t : List Event) (S S' : ℕ → Bool) (larg
         record {
           goes = λ number here s. no_turn s;
           plain = λ number here st s s' clear n. stops_now number here st s s' n;
-          enters = λ number comp mine theirs st s s' set n. stops_now number (at comp theirs) st s s' n;
-          resumes = λ number comp mine k theirs st left s clear set is_k h. record {
+          resumes = λ number comp mine k theirs st left s set is_k h. record {
             performs = λ along.
                 stops_here main t S' st left (Onward k comp theirs) (second_goes k _) (Option Value) s s refl h;
           };

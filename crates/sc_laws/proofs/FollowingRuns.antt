@@ -185,23 +185,20 @@ module _ (L : Library) (obedient : Obedient L) (t : List Event) (S S' : Set) (la
       resumes_end (performing.stop end u is by) set along =
           stops_by t S' main end u o p _ is stops by (λ x same. passes_in t S' main x u.trace p same)
 
-      -- by whether `main` performs in both runs, in the second, or in neither
-      main_follows : (b b' : Bool) → S main ≡ b → S' main ≡ b' → InLine t (run_to main o).behaviour.trace →
+      -- by whether `main` performs in the second run
+      main_follows : (b : Bool) → S' main ≡ b → InLine t (run_to main o).behaviour.trace →
           RunsFollow t S' (run_to main o).behaviour (run_to main p).behaviour
-      main_follows true b' set set' along = both_end t S' main st o p stops (((bodies (suc turns)).enters number main
-          first first st start start set (begins_near f)).follows (within_run along))
-      main_follows false true clear set' along = resumes_end
-          (((bodies (suc turns)).resumes number main first number first
-          st p start clear set' is_number (record { other = start; near = begins_near f; is = refl })).performs
-          (within_run along)) set' along
-      main_follows false false clear clear' along = both_end t S' main st o p stops (((bodies (suc turns)).plain number
-          (at main first) st start start clear' (begins_near f)).follows (within_run along))
+      main_follows true set along = resumes_end (((bodies (suc turns)).resumes number main first number first st p start
+          set is_number (record { other = start; near = begins_near f; is = refl })).performs (within_run along)) set
+          along
+      main_follows false clear along = both_end t S' main st o p stops (((bodies (suc turns)).plain number
+          (at main first) st start start clear (begins_near f)).follows (within_run along))
 
       main_runs : InLine t (run_to main (and_then o ends)).behaviour.trace →
           RunsFollow t S' (run_to main (and_then o ends)).behaviour (run_to main (and_then p ends)).behaviour
       main_runs along = subst (λ r. RunsFollow t S' r (run_to main (and_then p ends)).behaviour) (sym (ended_shows o))
           (subst (RunsFollow t S' (run_to main o).behaviour) (sym (ended_shows p))
-          (main_follows _ _ refl refl (subst (λ r. InLine t r.trace) (ended_shows o) along)))
+          (main_follows _ refl (subst (λ r. InLine t r.trace) (ended_shows o) along)))
 
     -- the run once the function of `main` is looked up, and once its number is
     abbrev of_function : Step → ℕ → Option Function → SourceRun
