@@ -124,21 +124,33 @@ module _ (L : Library) (main : ℕ) (t : List Event) (S S' : ℕ → Bool) (larg
       pub is : second k (at comp first) s ≡ acts L second (action_of e) (performs L second rest k (at comp first))
           (second k (at comp first)) comp s
 
-    -- a function that performs tells the next event of the trace, where that is its compartment's
-    pub performs_next : (k comp first : ℕ) (st : Standing) (s : State) (e : Event) (more : List Event) →
-        S' comp ≡ true → L.entered comp st.active.entry ≡ Some k → performer e ≡ comp → t ≡ s.trace ++ e ∷ more →
-        stands_behind (at_start main) s.trace ≡ Some st → Telling k comp first e s
-    performs_next k comp first st s e more set is_k own is stands =
-        let next : Next _ st e = row_of_next main comp t s.trace e more st is stands own in
-        let row : Row = record { entry = st.active.entry; number = next.number; action = action_of e } in
-        let doing = acts L second (action_of e) (performs L second next.rest k _) (second k (at comp first)) comp s in
-        record {
-          rest = next.rest;
-          left = rows_behind main comp t s.trace e st own next;
-          is = performs_now k comp first s set ∙ ap (λ rows. performs L second rows k (at comp first) s) next.is
-              ∙ ap (λ n. if is_number k n then doing else Stopped TurnsOut s) is_k
-              ∙ ap (λ b. if b then doing else Stopped TurnsOut s) (eq-eqb k k refl);
-        }
+    -- an event of a compartment that performs: the trace ends, or the second run tells it too
+    pub data Tells (k comp first : ℕ) (s s' : State) (e : Event) : Type 0 where
+      all_told : t ≡ s.trace → Tells k comp first s s' e
+      tells_it : (more : List Event) → t ≡ s.trace ++ e ∷ more → Telling k comp first e s' → Tells k comp first s s' e
+
+    pub tells_next : (k comp first : ℕ) (st : Standing) (s s' : State) (e : Event) → S' comp ≡ true →
+        L.entered comp st.active.entry ≡ Some k → performer e ≡ comp → N st s s' → InLine t (s.trace ++ e ∷ []) →
+        Tells k comp first s s' e
+    tells_next k comp first st s s' e set is_k own n along = by_next (next_told_is t s.trace e n.front along) where
+      performs_next : (more : List Event) → t ≡ s'.trace ++ e ∷ more → Telling k comp first e s'
+      performs_next more is =
+          let stands = ap (stands_behind (at_start main)) n.trace ∙ n.stands in
+          let next : Next _ st e = row_of_next main comp t s'.trace e more st is stands own in
+          let row : Row = record { entry = st.active.entry; number = next.number; action = action_of e } in
+          let doing = acts L second (action_of e) (performs L second next.rest k _) (second k (at comp first)) comp s' in
+          record {
+            rest = next.rest;
+            left = rows_behind main comp t s'.trace e st own next;
+            is = performs_now k comp first s' set ∙ ap (λ rows. performs L second rows k (at comp first) s') next.is
+                ∙ ap (λ n. if is_number k n then doing else Stopped TurnsOut s') is_k
+                ∙ ap (λ b. if b then doing else Stopped TurnsOut s') (eq-eqb k k refl);
+          }
+
+      by_next : NextIs t s.trace e → Tells k comp first s s' e
+      by_next (over all) = all_told all
+      by_next (next_told more all) =
+          tells_it more all (performs_next more (all ∙ ap (λ u. u ++ e ∷ more) (sym n.trace)))
 
     -- a function that performs tells an event more, wants a turn or a row for it, or returns
     abbrev Passes : State → Piece (Option Value) → Type 0
@@ -296,20 +308,16 @@ module _ (L : Library) (main : ℕ) (t : List Event) (S S' : ℕ → Bool) (larg
             (then_front t o ends (returns_goes to from index f first) a)
             (then_front t left ends' (returns_goes to from index f first') b)
         held_return k o left set is_k along (performing.here v u is stands) =
-            subst (λ y. Up st (and_then y ends) (and_then left ends')) (sym is) (told_held (next_told_is t u.trace
-            (told v) stands.near.front (subst (λ y. InLine t (last (and_then y ends)).trace) is along))) where
-              told_held : NextIs t u.trace (told v) → Up st (ends v u) (and_then left ends')
-              told_held (over all) =
+            subst (λ y. Up st (and_then y ends) (and_then left ends')) (sym is) (told_held (tells_next k to first'
+            (inside st to index) u stands.other (told v) set is_k refl stands.near
+            (subst (λ y. InLine t (last (and_then y ends)).trace) is along))) where
+              told_held : Tells k to first' u stands.other (told v) → Up st (ends v u) (and_then left ends')
+              told_held (all_told all) =
                   follows.done (past u.trace (told v) all) (whole main t S' u.trace (last (and_then left ends')).trace all
                   (then_front u.trace left ends' (returns_goes to from index f first') (left_goes main t S'
                   (inside st to index) left (Onward k to first') (second_goes k (at to first')) u stands)))
-              told_held (next_told more all) =
-                  let now_told : Telling k to first' (told v) stands.other =
-                  performs_next k to first' (inside st to index) stands.other (told v) more set is_k refl
-                  (all ∙ ap (λ x. x ++ told v ∷ more) (sym stands.near.trace))
-                  (ap (stands_behind (at_start main)) stands.near.trace ∙ stands.near.stands) in
-                  follows.both (option_value (back to index v)) _ _ refl
-                  (ap (λ y. and_then y ends') (stands.is ∙ now_told.is) ∙ performed_return v stands.other)
+              told_held (tells_it more all now) = follows.both (option_value (back to index v)) _ _ refl
+                  (ap (λ y. and_then y ends') (stands.is ∙ now.is) ∙ performed_return v stands.other)
                   (ended_near first' u stands.other v more all (λ clear. absurd (both_ways _ clear set)) stands.near)
         held_return k o left set is_k along (performing.stop end x is by) =
             follows.stop end x (ap (λ y. and_then y ends) is) (beyond_back main t S' (Option Value) end x left ends'
@@ -381,40 +389,19 @@ module _ (L : Library) (main : ℕ) (t : List Event) (S S' : ℕ → Bool) (larg
             (enters_goes second second_goes from to index number args f s').grown.events
             (λ near. record { follows = callee _ refl (entered_near near) })
 
-      -- where nothing is found both runs stop
-      nothing_follows : (st : Standing) (s s' : State) → N st s s' → F st (Stopped TurnsOut s) (Stopped TurnsOut s')
-      nothing_follows st s s' n = both_stop main t S' st (Option Value) s s' n.trace
-
-      -- a call across, once the number of the function is known
-      abbrev crosses : Body → (from to index : ℕ) → List Value → ℕ → State → Piece (Option Value)
-      crosses body from to index args number s = run_in L body to number (crossed args)
-          (back_cross L.interfaces from to index) (tell (Call from to index (map word_in args)) s)
-
-      -- by whether the function is there
-      abbrev crosses_to : Body → (from to index number : ℕ) → List Value → Option Function → State → Piece
-          (Option Value)
-      crosses_to body from to index number args f s = and_then
-          (found f (tell (Call from to index (map word_in args)) s))
-          (λ f y. and_then (body number (at to (length (y.memory to))) (begun to f (crossed args) y))
-          (returns to from index f (length (y.memory to))))
-
-      by_function : (from to index number : ℕ) (args : List Value) → L.entered to (Export index) ≡ Some number →
-          (f : Option Function) (st : Standing) (s s' : State) → N st s s' →
-          F st (crosses_to a from to index number args f s) (crosses_to second from to index number args f s')
-      by_function from to index number args is None st s s' n = both_stop main t S' st (Option Value) _ _
-          (ap (λ u. u ++ Call from to index (map word_in args) ∷ []) n.trace)
-      by_function from to index number args is (Some f) st s s' n =
-          enters_follow from to index number args f is st s s' n
-
-      by_number : (from to index : ℕ) (args : List Value) (number : Option ℕ) → L.entered to (Export index) ≡ number →
-          (st : Standing) (s s' : State) → N st s s' → F st (and_then (found number s) (crosses a from to index args))
-          (and_then (found number s') (crosses second from to index args))
-      by_number from to index args None is st s s' n = nothing_follows st s s' n
-      by_number from to index args (Some number) is st s s' n = by_function from to index number args is _ st s s' n
+      -- what is looked up is there in both runs, or both stop
+      found_follow : {V : Type 0} (o : Option V) (go go' : V → State → Piece (Option Value)) (st : Standing)
+          (s s' : State) → s'.trace ≡ s.trace → ((v : V) → o ≡ Some v → F st (go v s) (go' v s')) →
+          F st (and_then (found o s) go) (and_then (found o s') go')
+      found_follow None go go' st s s' same h = both_stop main t S' st (Option Value) s s' same
+      found_follow (Some v) go go' st s s' same h = h v refl
 
       pub cross_follows : (from to index : ℕ) (args : List Value) (st : Standing) (s s' : State) → N st s s' →
           F st (call_cross L a from to index args s) (call_cross L second from to index args s')
-      cross_follows from to index args st s s' n = by_number from to index args _ refl st s s' n
+      cross_follows from to index args st s s' n = found_follow (L.entered to _) _ _ st s s' n.trace (λ number is.
+          let event : Event = Call from to index (map word_in args) in
+          found_follow (function L to number) _ _ st (tell event s) (tell event s')
+          (ap (λ u. u ++ event ∷ []) n.trace) (λ f there. enters_follow from to index number args f is st s s' n))
 
       if_follows : (b : Bool) (st : Standing) (o o' p p' : Piece (Option Value)) → F st o o' → F st p p' →
           F st (if b then o else p) (if b then o' else p')
@@ -436,16 +423,9 @@ module _ (L : Library) (main : ℕ) (t : List Event) (S S' : ℕ → Bool) (larg
       taken_near : (st : Standing) (s s' : State) → N st s s' → N st (taken s) (taken s')
       taken_near st s s' n = near_with main t S' st s s' s.turns s'.turns _ _ n.turns (ap (drop 1) n.inputs) n
 
-      -- a call within, once the function is looked up
-      abbrev runs_own : Body → (comp number : ℕ) → List Value → Option Function → State → Piece (Option Value)
-      runs_own body comp number args f s = and_then (found f s) (λ f s. and_then
-          (body number (at comp (length (s.memory comp))) (begun comp f args s))
-          (λ v u. Reached v (done comp f (length (s.memory comp)) u)))
-
-      own_function : (comp number : ℕ) (args : List Value) (f : Option Function) → S' comp ≡ false → (st : Standing)
-          (s s' : State) → N st s s' → F st (runs_own a comp number args f s) (runs_own second comp number args f s')
-      own_function comp number args None clear st s s' n = nothing_follows st s s' n
-      own_function comp number args (Some f) clear st s s' n =
+      own_follows : (comp number : ℕ) (args : List Value) → S' comp ≡ false → (st : Standing)
+          (s s' : State) → N st s s' → F st (call_own L a comp number args s) (call_own L second comp number args s')
+      own_follows comp number args clear st s s' n = found_follow (function L comp number) _ _ st s s' n.trace (λ f there.
           let first : ℕ = length (s.memory comp) in
           let ends : ℕ → Option Value → State → Piece (Option Value) = λ first v u. Reached v (done comp f first u) in
           let near_start : N st (begun comp f args s) (begun comp f args s') = near_blocks main t S' st s s' comp _ _ _
@@ -458,7 +438,7 @@ module _ (L : Library) (main : ℕ) (t : List Event) (S S' : ℕ → Bool) (larg
           (second_goes number (at comp first) _) (λ v u. reached v u _ (done_goes comp f first u))
           (λ v u. reached v u _ (done_goes comp f first u)) (bodies.plain number _ st _ _ clear near_start)
           (λ v u u' up up' near. (follow_kept main t S' st).reached (Option Value) v _ _ (near_blocks main t S' st u u'
-          comp _ _ _ _ (λ c. ap (ended first _) (near.memory comp c)) near)))
+          comp _ _ _ _ (λ c. ap (ended first _) (near.memory comp c)) near))))
 
       -- calls of the environment
       input_follows : (from : ℕ) (args : List Value) (st : Standing) (s s' : State) → N st s s' →
@@ -478,7 +458,7 @@ module _ (L : Library) (main : ℕ) (t : List Event) (S S' : ℕ → Bool) (larg
           F st (called L a here.comp target args s) (called L second here.comp target args s')
       both_called here clear st (Own number) args s s' n = (follow_kept main t S' st).turned (Option Value) _ _
           (λ _. own_goes L a bodies.goes _ number args) (λ _. own_goes L second second_goes _ number args) s s' n
-          (λ y y' less less' near. own_function here.comp number args (function L here.comp number) clear st y y' near)
+          (λ y y' less less' near. own_follows here.comp number args clear st y y' near)
       both_called here clear st (Cross to index) args s s' n = turned_follows _ to index args st s s' n
       both_called here clear st Input args s s' n = input_follows _ args st s s' n
       both_called here clear st Output args s s' n = output_follows _ args st s s' n
@@ -530,18 +510,10 @@ module _ (L : Library) (main : ℕ) (t : List Event) (S S' : ℕ → Bool) (larg
         behind : (s : State) → H s → Front s.trace (last left).trace
         behind s h = left_goes main t S' st left rest _ s h
 
-        -- an event of this compartment: the trace ends, or the second run tells it too
-        data Tells (s : State) (e : Event) (h : H s) : Type 0 where
-          all_told : t ≡ s.trace → Tells s e h
-          tells_it : (more : List Event) → t ≡ s.trace ++ e ∷ more → Telling k comp theirs e h.other → Tells s e h
-
-        tells_now : (s : State) (e : Event) (h : H s) → performer e ≡ comp → InLine t (s.trace ++ e ∷ []) → Tells s e h
-        tells_now s e h own along = by_next (next_told_is t s.trace e h.near.front along) where
-          by_next : NextIs t s.trace e → Tells s e h
-          by_next (over all) = all_told all
-          by_next (next_told more all) = tells_it more all (performs_next k comp theirs st h.other e more set is_k own
-              (all ∙ ap (λ u. u ++ e ∷ more) (sym h.near.trace))
-              (ap (stands_behind (at_start main)) h.near.trace ∙ h.near.stands))
+        -- an event of this compartment
+        tells_now : (s : State) (e : Event) (h : H s) → performer e ≡ comp → InLine t (s.trace ++ e ∷ []) →
+            Tells k comp theirs s h.other e
+        tells_now s e h own along = tells_next k comp theirs st s h.other e set is_k own h.near along
 
         -- what may be called
         abbrev may : (target : CallTarget) → List Value → Bool
@@ -559,7 +531,7 @@ module _ (L : Library) (main : ℕ) (t : List Event) (S S' : ℕ → Bool) (larg
             acts L second (action_of e) next rest comp h.other ≡ next (tell e (record h.other { inputs = inputs' }))) →
             InLine t (s.trace ++ e ∷ []) → Done (Option Value) (Reached v (tell e (record s { inputs = inputs })))
         event_performs e v inputs inputs' s h own stays near acted along = by_tells (tells_now s e h own along) where
-          by_tells : Tells s e h → Done (Option Value) (Reached v (tell e (record s { inputs = inputs })))
+          by_tells : Tells k comp theirs s h.other e → Done (Option Value) (Reached v (tell e (record s { inputs = inputs })))
           by_tells (all_told all) =
               performing.done (past s.trace e all) (whole main t S' s.trace (last left).trace all (behind s h))
           by_tells (tells_it more all act) = performing.here v _ refl (record {
@@ -586,28 +558,21 @@ module _ (L : Library) (main : ℕ) (t : List Event) (S S' : ℕ → Bool) (larg
             ∙ ap (λ i. next (tell (In comp (next_input i)) (taken h.other))) h.near.inputs)
 
         -- a call across is told, or there is no turn or no function for it
-        data CrossTells (to index : ℕ) (args : List Value) (s : State) (o : Piece (Option Value)) : Type 0 where
-          silent : (y : State) → o ≡ Stopped TurnsOut y → y.trace ≡ s.trace → CrossTells to index args s o
-          loud : Front (s.trace ++ Call comp to index (map word_in args) ∷ []) (last o).trace →
-              CrossTells to index args s o
-
-        number_tells : (to index : ℕ) (args : List Value) (number : Option ℕ) (s : State) →
-            CrossTells to index args s (and_then (found number s) (crosses a comp to index args))
-        number_tells to index args None s = silent s refl refl
-        number_tells to index args (Some number) s = loud (run_goes L a bodies.goes to number _
-            (back_cross L.interfaces comp to index) (back_goes L.interfaces comp to index) _).grown.events
-
-        same_trace : (to index : ℕ) (args : List Value) (s y : State) (o : Piece (Option Value)) → y.trace ≡ s.trace →
-            CrossTells to index args y o → CrossTells to index args s o
-        same_trace to index args s y o is (silent z stops trace) = silent z stops (trace ∙ is)
-        same_trace to index args s y o is (loud front) =
-            loud (subst (λ u. Front (u ++ Call comp to index (map word_in args) ∷ []) (last o).trace) is front)
+        data CrossTells (e : Event) (u : List Event) (o : Piece (Option Value)) : Type 0 where
+          silent : (y : State) → o ≡ Stopped TurnsOut y → y.trace ≡ u → CrossTells e u o
+          loud : Front (u ++ e ∷ []) (last o).trace → CrossTells e u o
 
         cross_tells : (to index : ℕ) (args : List Value) (s : State) (m : ℕ) →
-            CrossTells to index args s (and_then (turn_of m s) (λ _ s. call_cross L a comp to index args s))
+            CrossTells (Call comp to index (map word_in args)) s.trace
+            (and_then (turn_of m s) (λ _ s. call_cross L a comp to index args s))
         cross_tells to index args s zero = silent s refl refl
-        cross_tells to index args s (suc m) =
-            same_trace to index args s (record s { turns = m }) _ refl (number_tells to index args _ _)
+        cross_tells to index args s (suc m) = by_number (L.entered to (Export index)) where
+          by_number : (number : Option ℕ) → CrossTells (Call comp to index (map word_in args)) s.trace
+              (and_then (found number (record s { turns = m })) (λ number s. run_in L a to number (crossed args)
+              (back_cross L.interfaces comp to index) (tell (Call comp to index (map word_in args)) s)))
+          by_number None = silent (record s { turns = m }) refl refl
+          by_number (Some number) = loud (run_goes L a bodies.goes to number _
+              (back_cross L.interfaces comp to index) (back_goes L.interfaces comp to index) _).grown.events
 
         -- a call with the words of a row is the call with the values that they come of
         words_may : (to index : ℕ) (args : List Value) → may (Cross to index) args ≡ true →
@@ -649,12 +614,12 @@ module _ (L : Library) (main : ℕ) (t : List Event) (S S' : ℕ → Bool) (larg
 
           cross_performs : may (Cross to index) args ≡ true → InLine t (last o).trace → Done (Option Value) o
           cross_performs allowed along = by_told (cross_tells to index args s s.turns) where
-            by_told : CrossTells to index args s o → Done (Option Value) o
+            by_told : CrossTells calling s.trace o → Done (Option Value) o
             by_told (silent y stops trace) = subst (Done (Option Value)) (sym stops)
                 (stops_here main t S' st left rest rest_goes (Option Value) s y trace h)
             by_told (loud front) = by_tells (tells_now s calling h refl
                 (in_line_before t (s.trace ++ calling ∷ []) (last o).trace front along)) where
-                  by_tells : Tells s calling h → Done (Option Value) o
+                  by_tells : Tells k comp theirs s h.other calling → Done (Option Value) o
                   by_tells (all_told all) = performing.done
                       (front_more t (s.trace ++ calling ∷ []) (last o).trace (past s.trace calling all) front)
                       (whole main t S' s.trace (last left).trace all (behind s h))
@@ -662,11 +627,18 @@ module _ (L : Library) (main : ℕ) (t : List Event) (S S' : ℕ → Bool) (larg
                       (h.is ∙ act.is ∙ ap (λ o. and_then o (λ v. rest)) (recalled to index args h.other allowed))
                       ((turned_follows comp to index args st s h.other h.near).follows along)
 
-        own_function_performs : (number : ℕ) (args : List Value) (f : Option Function) (s : State) → H s →
-            Pieces (Option Value) (runs_own a comp number args f s) (runs_own a comp number args f s)
-        own_function_performs number args None s h =
-            record { performs = λ along. stops_here main t S' st left rest rest_goes (Option Value) s s refl h }
-        own_function_performs number args (Some f) s h =
+        stopped : (s : State) → H s → Done (Option Value) (Stopped TurnsOut s)
+        stopped s h = stops_here main t S' st left rest rest_goes (Option Value) s s refl h
+
+        found_performs : {V : Type 0} (o : Option V) (go : V → State → Piece (Option Value)) (s : State) → H s →
+            ((v : V) → Pieces (Option Value) (go v s) (go v s)) →
+            Pieces (Option Value) (and_then (found o s) go) (and_then (found o s) go)
+        found_performs None go s h k = record { performs = λ along. stopped s h }
+        found_performs (Some v) go s h k = k v
+
+        own_function_performs : (number : ℕ) (args : List Value) (s : State) → H s →
+            Pieces (Option Value) (call_own L a comp number args s) (call_own L a comp number args s)
+        own_function_performs number args s h = found_performs (function L comp number) _ s h (λ f.
             let first : ℕ = length (s.memory comp) in
             let start : State = begun comp f args s in
             let h_start : H start = stands_stored main t S' st left rest rest_goes comp
@@ -682,7 +654,7 @@ module _ (L : Library) (main : ℕ) (t : List Event) (S S' : ℕ → Bool) (larg
             (λ v u u' up up' one. record {
               performs = λ along. performing.here v (done comp f first u) refl (stands_stored main t S' st left rest
                   rest_goes comp (ended first (length f.cells) (u.memory comp)) _ u set one.stands);
-            })
+            }))
 
         if_performs : (b : Bool) (o p : Piece (Option Value)) → (b ≡ true → InLine t (last o).trace →
             Done (Option Value) o) → Done (Option Value) p → InLine t (last (if b then o else p)).trace →
@@ -696,7 +668,7 @@ module _ (L : Library) (main : ℕ) (t : List Event) (S S' : ℕ → Bool) (larg
             (perform_kept main t S' st left rest rest_goes).turned (Option Value) (λ _. call_own L a comp number args)
             (λ _. call_own L a comp number args) (λ _. own_goes L a bodies.goes comp number args)
             (λ _. own_goes L a bodies.goes comp number args) s s' one (λ y y' less less' now_one. record {
-              performs = (own_function_performs number args (function L comp number) y now_one.stands).performs;
+              performs = (own_function_performs number args y now_one.stands).performs;
             })
 
         allowed_performs : (target : CallTarget) (args : List Value) (s s' : State) → One s s' →
@@ -723,9 +695,6 @@ module _ (L : Library) (main : ℕ) (t : List Event) (S S' : ℕ → Bool) (larg
         }
 
         -- the rows that it performs in the first
-        stopped : (s : State) → H s → Done (Option Value) (Stopped TurnsOut s)
-        stopped s h = stops_here main t S' st left rest rest_goes (Option Value) s s refl h
-
         asks_then : (target : CallTarget) (args : List Value) (go : State → Piece (Option Value)) → Goes go →
             ((u : State) → H u → Pieces (Option Value) (go u) (go u)) → (s : State) → H s → Pieces (Option Value)
             (and_then (asks L a comp target args s) (λ v. go)) (and_then (asks L a comp target args s) (λ v. go))
@@ -769,7 +738,7 @@ module _ (L : Library) (main : ℕ) (t : List Event) (S S' : ℕ → Bool) (larg
             (here : Here) → S' here.comp ≡ false → (s s' : State) → N st s s' →
             F st (and_then (found f s) (λ f s. f.does (calls L a) here s))
             (and_then (found g s') (λ f s. f.does (calls L second) here s))
-        runs_follow None None st meets here clear s s' n = nothing_follows st s s' n
+        runs_follow None None st meets here clear s s' n = both_stop main t S' st (Option Value) s s' n.trace
         runs_follow (Some f) (Some g) st meets here clear s s' n =
             (meets.does _ _ here clear (calls_follow here clear st)).both s s' n
         runs_follow _ _ st meets here clear s s' n = absurd meets

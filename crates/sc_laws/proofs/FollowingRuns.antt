@@ -16,8 +16,9 @@ use Rattle.sc_laws.proofs.Following.{perform_at, MovesOrReturns, MovesOn, IfBlam
 use Rattle.sc_laws.proofs.Following.{Performs as performing, MovesOn as passed, MovesOrReturns as passing}
 use Rattle.sc_laws.proofs.Matching.{library_twins, scripted_goes_on, library_goes}
 use Rattle.sc_laws.proofs.Runs.{scripted_fixed, shown, trace_is, take_fronts}
-use Rattle.sc_laws.proofs.Rows.{InLine, in_line_before, NextIs, over, next_told_is, told as next_told}
-use Rattle.sc_laws.proofs.FollowingCalls.{at, first_step, second_step, N, Bodies, Telling, performs_next, all_bodies}
+use Rattle.sc_laws.proofs.Rows.{InLine, in_line_before}
+use Rattle.sc_laws.proofs.FollowingCalls.{at, first_step, second_step, N, Bodies, Tells, all_told, tells_it, tells_next}
+use Rattle.sc_laws.proofs.FollowingCalls.{all_bodies}
 
 -- what is shown of a piece goes on from where it is
 behaviour_front : (main : ℕ) (o : Piece (Option Value)) → Front (last o).trace (run_to main o).behaviour.trace
@@ -164,24 +165,20 @@ module _ (L : Library) (obedient : Obedient L) (t : List Event) (S S' : Set) (la
           InLine t (run_to main o).behaviour.trace → RunsFollow t S' (run_to main o).behaviour (run_to main p).behaviour
       resumes_end (performing.done a b) set along = tells_all (told_on t S' main t o a) (told_on t S' main t p b)
       resumes_end (performing.here v u is stands) set along = subst (λ r. RunsFollow t S' r (run_to main p).behaviour)
-          (sym (ap (λ y. (run_to main y).behaviour) is)) (by_next (next_told_is t u.trace (exit v) stands.near.front
+          (sym (ap (λ y. (run_to main y).behaviour) is)) (by_tells (tells_next L main t S S' larger step_fixed later_goes
+          number main first st u stands.other (exit v) set is_number refl stands.near
           (subst (λ y. InLine t (run_to main y).behaviour.trace) is along))) where
-            by_next : NextIs t u.trace (exit v) →
+            by_tells : Tells L main t S S' larger step_fixed later_goes number main first u stands.other (exit v) →
                 RunsFollow t S' (run_to main (Reached v u)).behaviour (run_to main p).behaviour
-            by_next (over all) =
+            by_tells (all_told all) =
                 tells_all
                 (whole main t S' u.trace (u.trace ++ exit v ∷ []) all (record { more = exit v ∷ []; is = refl }))
                 (whole main t S' u.trace (run_to main p).behaviour.trace all (told_on t S' main u.trace p
                 (left_goes main t S' st p (λ u. now step' number (at main first) u) (later_goes number (at main first))
                 u stands)))
-            by_next (next_told more all) =
-                let u' : State = stands.other in
-                let now_told : Telling L main t S S' larger step_fixed later_goes number main first (exit v) u' =
-                performs_next L main t S S' larger step_fixed later_goes number main first st u' (exit v) more set
-                is_number refl (all ∙ ap (λ x. x ++ exit v ∷ more) (sym stands.near.trace))
-                (ap (stands_behind (at_start main)) stands.near.trace ∙ stands.near.stands) in
-                ends_so (λ comp cause line blame. absurd (cc)) (ap (λ y. (run_to main y).behaviour) (stands.is
-                ∙ now_told.is) ∙ ap (λ z. record { trace = z ++ exit v ∷ []; end = Ended }) stands.near.trace)
+            by_tells (tells_it more all now_told) = ends_so (λ comp cause line blame. absurd (cc))
+                (ap (λ y. (run_to main y).behaviour) (stands.is ∙ now_told.is)
+                ∙ ap (λ z. record { trace = z ++ exit v ∷ []; end = Ended }) stands.near.trace)
       resumes_end (performing.stop end u is by) set along =
           stops_by t S' main end u o p _ is stops by (λ x same. passes_in t S' main x u.trace p same)
 
