@@ -159,49 +159,47 @@ module _ (L : Library) (main : ℕ) (t : List Event) (S S' : ℕ → Bool) (larg
     halts : (s : State) → Passes s (Stopped TurnsOut s)
     halts s = passing.passes (passed.no_turn s refl refl)
 
-    tells_more : (s : State) (e : Event) (p : Piece (Option Value)) → Front (s.trace ++ e ∷ []) (last p).trace →
-        Passes s p
-    tells_more s e p front = passing.passes (passed.longer e front)
+    -- a call tells its event, or there is no turn or no function for it
+    data Asked (e : Event) (u : List Event) (o : Piece (Option Value)) : Type 0 where
+      silent : (y : State) → o ≡ Stopped TurnsOut y → y.trace ≡ u → Asked e u o
+      loud : Front (u ++ e ∷ []) (last o).trace → Asked e u o
 
-    call_passes : (allowed : Bool) (m : ℕ) (from to index : ℕ) (args : List Value) (number : Option ℕ) (s : State)
-        (k : Option Value → State → Piece (Option Value)) → ((v : Option Value) → Goes (k v)) → Passes s (and_then (if
-        allowed then and_then (turn_of m s) (λ _ s. and_then (found number s) (λ number s. run_in L second to number
-        (crossed args) (back_cross L.interfaces from to index) (tell (Call from to index (map word_in args)) s))) else
-        Stopped TurnsOut s) k)
-    call_passes false m from to index args number s k goes = halts s
-    call_passes true zero from to index args number s k goes = halts s
-    call_passes true (suc m) from to index args None s k goes =
-        passing.passes (passed.no_turn (record s { turns = m }) refl refl)
-    call_passes true (suc m) from to index args (Some number) s k goes =
-        let back = back_cross L.interfaces from to index in
-        let told_state : State = tell (Call from to index (map word_in args)) (record s { turns = m }) in
-        tells_more s (Call from to index (map word_in args)) _
-        (then_goes told_state (run_in L second to number (crossed args) back told_state) k
-        (run_goes L second second_goes to number (crossed args) back (back_goes L.interfaces from to index)
-        told_state) goes).grown.events
+    cross_asked : (body : Body) → BodyGoes body → (comp to index : ℕ) (args : List Value) (s : State) (m : ℕ) →
+        Asked (Call comp to index (map word_in args)) s.trace
+        (and_then (turn_of m s) (λ _ s. call_cross L body comp to index args s))
+    cross_asked body goes comp to index args s zero = silent s refl refl
+    cross_asked body goes comp to index args s (suc m) = by_number (L.entered to (Export index)) where
+      by_number : (number : Option ℕ) → Asked (Call comp to index (map word_in args)) s.trace
+          (and_then (found number (record s { turns = m })) (λ number s. run_in L body to number (crossed args)
+          (back_cross L.interfaces comp to index) (tell (Call comp to index (map word_in args)) s)))
+      by_number None = silent (record s { turns = m }) refl refl
+      by_number (Some number) = loud (run_goes L body goes to number _
+          (back_cross L.interfaces comp to index) (back_goes L.interfaces comp to index) _).grown.events
 
-    environment_passes : (allowed : Bool) (s : State) (e : Event) (x : State) (v : Option Value) (next : State →
-        Piece (Option Value)) → x.trace ≡ s.trace ++ e ∷ [] → Goes next →
-        Passes s (and_then (if allowed then Reached v x else Stopped TurnsOut s) (λ v. next))
-    environment_passes false s e x v next is goes = halts s
-    environment_passes true s e x v next is goes =
-        tells_more s e _ (subst (λ u. Front u (last (next x)).trace) is (goes x).grown.events)
+    asks_pass : (comp : ℕ) (target : CallTarget) (args : List Value) (e : Event) (s : State)
+        (k : Option Value → State → Piece (Option Value)) → ((v : Option Value) → Goes (k v)) →
+        Asked e s.trace (called L second comp target args s) →
+        Passes s (and_then (asks L second comp target args s) k)
+    asks_pass comp target args e s k goes h = subst (λ o. Passes s (and_then o k))
+        (sym (asks_is L second second_goes comp target args s)) (by_test (may_call L comp target args) h) where
+          by_test : (b : Bool) → Asked e s.trace (called L second comp target args s) →
+              Passes s (and_then (if b then called L second comp target args s else Stopped TurnsOut s) k)
+          by_test true (silent y stops trace) = passing.passes (passed.no_turn y (ap (λ o. and_then o k) stops) trace)
+          by_test true (loud front) = passing.passes (passed.longer e (then_front (s.trace ++ e ∷ [])
+              (called L second comp target args s) k goes front))
+          by_test false h = halts s
 
     action_passes : (action : Action) (k comp first : ℕ) (next : State → Piece (Option Value)) → Goes next →
         (s : State) → Passes s (acts L second action next (second k (at comp first)) comp s)
     action_passes (act.Call to index words) k comp first next goes s =
         let args = map (λ w. Word w) words in
-        subst (λ o. Passes s (and_then o (λ v. second k (at comp first))))
-        (sym (asks_is L second second_goes comp (Cross to index) args s))
-        (call_passes (may_call L comp (Cross to index) args) s.turns comp to index args (L.entered to (Export index)) s
-        (λ v. second k _) (λ v. second_goes k (at comp first)))
+        asks_pass comp (Cross to index) args (Call comp to index (map word_in args)) s (λ v. second k _)
+        (λ v. second_goes k (at comp first)) (cross_asked second second_goes comp to index args s s.turns)
     action_passes (act.Ret v) k comp first next goes s = passing.hands_back _ s refl refl
     action_passes (act.Out w) k comp first next goes s =
-        subst (λ o. Passes s (and_then o (λ v. next))) (sym (asks_is L second second_goes comp Output (Word w ∷ []) s))
-        (environment_passes (may_call L comp Output (Word w ∷ [])) s (Out comp w) (tell _ s) None next refl goes)
+        asks_pass comp Output (Word w ∷ []) (Out comp w) s (λ v. next) (λ v. goes) (loud (front_same _))
     action_passes (act.In w) k comp first next goes s =
-        subst (λ o. Passes s (and_then o (λ v. next))) (sym (asks_is L second second_goes comp Input [] s))
-        (environment_passes (may_call L comp Input []) s (In comp _) (read_input comp s) (Some _) next refl goes)
+        asks_pass comp Input [] (In comp _) s (λ v. next) (λ v. goes) (loud (front_same _))
     action_passes (act.End w) k comp first next goes s = passing.hands_back _ s refl refl
 
     rows_pass : (rows : List Row) (k comp first : ℕ) (s : State) → Passes s (performs L second rows k (at comp first) s)
@@ -557,23 +555,6 @@ module _ (L : Library) (main : ℕ) (t : List Event) (S S' : ℕ → Bool) (larg
             (λ next. ap (λ o. and_then o (λ v. next)) (asks_allowed Input [] h.other allowed)
             ∙ ap (λ i. next (tell (In comp (next_input i)) (taken h.other))) h.near.inputs)
 
-        -- a call across is told, or there is no turn or no function for it
-        data CrossTells (e : Event) (u : List Event) (o : Piece (Option Value)) : Type 0 where
-          silent : (y : State) → o ≡ Stopped TurnsOut y → y.trace ≡ u → CrossTells e u o
-          loud : Front (u ++ e ∷ []) (last o).trace → CrossTells e u o
-
-        cross_tells : (to index : ℕ) (args : List Value) (s : State) (m : ℕ) →
-            CrossTells (Call comp to index (map word_in args)) s.trace
-            (and_then (turn_of m s) (λ _ s. call_cross L a comp to index args s))
-        cross_tells to index args s zero = silent s refl refl
-        cross_tells to index args s (suc m) = by_number (L.entered to (Export index)) where
-          by_number : (number : Option ℕ) → CrossTells (Call comp to index (map word_in args)) s.trace
-              (and_then (found number (record s { turns = m })) (λ number s. run_in L a to number (crossed args)
-              (back_cross L.interfaces comp to index) (tell (Call comp to index (map word_in args)) s)))
-          by_number None = silent (record s { turns = m }) refl refl
-          by_number (Some number) = loud (run_goes L a bodies.goes to number _
-              (back_cross L.interfaces comp to index) (back_goes L.interfaces comp to index) _).grown.events
-
         -- a call with the words of a row is the call with the values that they come of
         words_may : (to index : ℕ) (args : List Value) → may (Cross to index) args ≡ true →
             may (Cross to index) (map (λ w. Word w) (map word_in args)) ≡ true
@@ -613,8 +594,8 @@ module _ (L : Library) (main : ℕ) (t : List Event) (S S' : ℕ → Bool) (larg
               (beyond_then main t S' (Option Value) (Option Value) end y p (λ v. rest) (λ v. rest_goes) by)))
 
           cross_performs : may (Cross to index) args ≡ true → InLine t (last o).trace → Done (Option Value) o
-          cross_performs allowed along = by_told (cross_tells to index args s s.turns) where
-            by_told : CrossTells calling s.trace o → Done (Option Value) o
+          cross_performs allowed along = by_told (cross_asked a bodies.goes comp to index args s s.turns) where
+            by_told : Asked calling s.trace o → Done (Option Value) o
             by_told (silent y stops trace) = subst (Done (Option Value)) (sym stops)
                 (stops_here main t S' st left rest rest_goes (Option Value) s y trace h)
             by_told (loud front) = by_tells (tells_now s calling h refl
