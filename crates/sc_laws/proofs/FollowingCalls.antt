@@ -1,15 +1,15 @@
 -- Calls in two runs along one trace, of which the second has more compartments that perform their parts of it.
-use Rattle.sc_laws.proofs.Common.{Action, BadType, Blamed, Body, Bool, Call, CallTarget, Cross, Event, Export, Front}
-use Rattle.sc_laws.proofs.Common.{Function, Goes, Gone, Here, In, Input, IsFixed, Library, List, Meets, None, Option}
-use Rattle.sc_laws.proofs.Common.{Output, Own, Piece, Proto, Reached, Ret, Row, Scalar, Some, Standing, State, Step}
-use Rattle.sc_laws.proofs.Common.{Stopped, TurnsOut, Value, Word, [], action_of, acts, and_from, and_parts, and_then}
-use Rattle.sc_laws.proofs.Common.{ap, ap₂, asks, at_start, back_cross, begun, blocks_for, both_ways, call_cross}
-use Rattle.sc_laws.proofs.Common.{call_own, called, calls, count_of, crossed, crossing, done, drop, ended, eq-eqb}
-use Rattle.sc_laws.proofs.Common.{export_at, false, first_word, found, function, if◌then◌else◌, imports, is_number}
-use Rattle.sc_laws.proofs.Common.{is_output, is_word, last, length, list_all, map, may_call, next_input, now}
-use Rattle.sc_laws.proofs.Common.{option_value, part, performer, performs, read_input, refl, roles_in, rows_left}
-use Rattle.sc_laws.proofs.Common.{run_in, run_step, scripted_step, stands_after, stands_behind, subst, suc, sym, takes}
-use Rattle.sc_laws.proofs.Common.{tell, true, turn, turn_of, within, word_back, word_in, zero, ℕ, ◌++◌, ◌∙◌, ◌∷◌, ◌≡◌}
+use Rattle.sc_laws.proofs.Common.{Action, BadType, Body, Bool, Call, CallTarget, Cross, Event, Export, Front, Function}
+use Rattle.sc_laws.proofs.Common.{Goes, Gone, Here, In, Input, IsFixed, Library, List, Meets, None, Option, Output, Own}
+use Rattle.sc_laws.proofs.Common.{Piece, Proto, Reached, Ret, Row, Scalar, Some, Standing, State, Step, Stopped}
+use Rattle.sc_laws.proofs.Common.{TurnsOut, Value, Word, [], action_of, acts, and_from, and_parts, and_then, ap, ap₂}
+use Rattle.sc_laws.proofs.Common.{asks, at_start, back_cross, begun, blocks_for, both_ways, call_cross, call_own}
+use Rattle.sc_laws.proofs.Common.{called, calls, crossed, crossing, done, drop, ended, eq-eqb, export_at, false}
+use Rattle.sc_laws.proofs.Common.{first_word, found, function, if◌then◌else◌, imports, is_number, is_output, is_word}
+use Rattle.sc_laws.proofs.Common.{last, length, list_all, map, may_call, next_input, now, option_value, performer}
+use Rattle.sc_laws.proofs.Common.{performs, read_input, refl, roles_in, rows_left, run_in, run_step, scripted_step}
+use Rattle.sc_laws.proofs.Common.{stands_after, stands_behind, subst, suc, sym, takes, tell, true, turn, turn_of}
+use Rattle.sc_laws.proofs.Common.{within, word_back, word_in, zero, ℕ, ◌++◌, ◌∙◌, ◌∷◌, ◌≡◌}
 use Rattle.sc_event.specs.declared.event.Event.TheVariants.{Out}
 use Rattle.sc_event.specs.declared.row.Action.TheVariants as act
 use Rattle.sc_laws.proofs.Growing.{front_same, front_more, more, reached, stays, no_turn, earlier, then_goes, BodyGoes}
@@ -138,7 +138,8 @@ module _ (L : Library) (main : ℕ) (t : List Event) (S S' : ℕ → Bool) (larg
           let stands = ap (stands_behind (at_start main)) n.trace ∙ n.stands in
           let next : Next _ st e = row_of_next main comp t s'.trace e more st is stands own in
           let row : Row = record { entry = st.active.entry; number = next.number; action = action_of e } in
-          let doing = acts L second (action_of e) (performs L second next.rest k _) (second k (at comp first)) comp s' in
+          let doing =
+          acts L second (action_of e) (performs L second next.rest k _) (second k (at comp first)) comp s' in
           record {
             rest = next.rest;
             left = rows_behind main comp t s'.trace e st own next;
@@ -311,9 +312,9 @@ module _ (L : Library) (main : ℕ) (t : List Event) (S S' : ℕ → Bool) (larg
             (subst (λ y. InLine t (last (and_then y ends)).trace) is along))) where
               told_held : Tells k to first' u stands.other (told v) → Up st (ends v u) (and_then left ends')
               told_held (all_told all) =
-                  follows.done (past u.trace (told v) all) (whole main t S' u.trace (last (and_then left ends')).trace all
-                  (then_front u.trace left ends' (returns_goes to from index f first') (left_goes main t S'
-                  (inside st to index) left (Onward k to first') (second_goes k (at to first')) u stands)))
+                  follows.done (past u.trace (told v) all) (whole main t S' u.trace _ all (then_front u.trace left ends'
+                  (returns_goes to from index f first') (left_goes main t S' (inside st to index) left
+                  (Onward k to first') (second_goes k (at to first')) u stands)))
               told_held (tells_it more all now) = follows.both (option_value (back to index v)) _ _ refl
                   (ap (λ y. and_then y ends') (stands.is ∙ now.is) ∙ performed_return v stands.other)
                   (ended_near first' u stands.other v more all (λ clear. absurd (both_ways _ clear set)) stands.near)
@@ -423,7 +424,8 @@ module _ (L : Library) (main : ℕ) (t : List Event) (S S' : ℕ → Bool) (larg
 
       own_follows : (comp number : ℕ) (args : List Value) → S' comp ≡ false → (st : Standing)
           (s s' : State) → N st s s' → F st (call_own L a comp number args s) (call_own L second comp number args s')
-      own_follows comp number args clear st s s' n = found_follow (function L comp number) _ _ st s s' n.trace (λ f there.
+      own_follows comp number args clear st s s' n =
+          found_follow (function L comp number) _ _ st s s' n.trace (λ f there.
           let first : ℕ = length (s.memory comp) in
           let ends : ℕ → Option Value → State → Piece (Option Value) = λ first v u. Reached v (done comp f first u) in
           let near_start : N st (begun comp f args s) (begun comp f args s') = near_blocks main t S' st s s' comp _ _ _
@@ -438,19 +440,6 @@ module _ (L : Library) (main : ℕ) (t : List Event) (S S' : ℕ → Bool) (larg
           (λ v u u' up up' near. (follow_kept main t S' st).reached (Option Value) v _ _ (near_blocks main t S' st u u'
           comp _ _ _ _ (λ c. ap (ended first _) (near.memory comp c)) near))))
 
-      -- calls of the environment
-      input_follows : (from : ℕ) (args : List Value) (st : Standing) (s s' : State) → N st s s' →
-          F st (called L a from Input args s) (called L second from Input args s')
-      input_follows from args st s s' n = subst (λ i. F st (called L a from Input args s)
-          (Reached (Some (Word (next_input i))) (tell (In from (next_input i)) (taken s')))) (sym n.inputs)
-          (tells _ st st (taken s) (taken s') (In from (next_input s.inputs)) _ _ refl (taken_near st s s' n)
-          (front_same _) (front_same _) (λ near. (follow_kept main t S' st).reached (Option Value) _ _ _ near))
-
-      output_follows : (from : ℕ) (args : List Value) (st : Standing) (s s' : State) → N st s s' →
-          F st (called L a from Output args s) (called L second from Output args s')
-      output_follows from args st s s' n = tells _ st st s s' (Out from _) _ _ refl n (front_same _) (front_same _)
-          (λ near. (follow_kept main t S' st).reached (Option Value) None _ _ near)
-
       both_called : (here : Here) → S' here.comp ≡ false →
           (st : Standing) (target : CallTarget) (args : List Value) (s s' : State) → N st s s' →
           F st (called L a here.comp target args s) (called L second here.comp target args s')
@@ -458,8 +447,12 @@ module _ (L : Library) (main : ℕ) (t : List Event) (S S' : ℕ → Bool) (larg
           (λ _. own_goes L a bodies.goes _ number args) (λ _. own_goes L second second_goes _ number args) s s' n
           (λ y y' less less' near. own_follows here.comp number args clear st y y' near)
       both_called here clear st (Cross to index) args s s' n = turned_follows _ to index args st s s' n
-      both_called here clear st Input args s s' n = input_follows _ args st s s' n
-      both_called here clear st Output args s s' n = output_follows _ args st s s' n
+      both_called here clear st Input args s s' n = subst (λ i. F st (called L a here.comp Input args s)
+          (Reached (Some (Word (next_input i))) (tell (In here.comp (next_input i)) (taken s')))) (sym n.inputs)
+          (tells _ st st (taken s) (taken s') (In _ (next_input s.inputs)) _ _ refl (taken_near st s s' n)
+          (front_same _) (front_same _) (λ near. (follow_kept main t S' st).reached (Option Value) _ _ _ near))
+      both_called here clear st Output args s s' n = tells _ st st s s' (Out here.comp _) _ _ refl n (front_same _)
+          (front_same _) (λ near. (follow_kept main t S' st).reached (Option Value) None _ _ near)
 
       both_calls : (here : Here) → S' here.comp ≡ false →
           (st : Standing) (target : CallTarget) (args : List Value) (s s' : State) → N st s s' →
@@ -496,8 +489,11 @@ module _ (L : Library) (main : ℕ) (t : List Event) (S S' : ℕ → Bool) (larg
         abbrev Pieces : (V : Type 0) → Piece V → Piece V → Type 0
         Pieces = Perform main t S' st left rest rest_goes
 
-        abbrev Done : (V : Type 0) → Piece V → Type 0
-        Done V o = Performs main t S' st left rest rest_goes V o
+        abbrev Keeps : Piece (Option Value) → Type 0
+        Keeps o = Pieces (Option Value) o o
+
+        abbrev Done : Piece (Option Value) → Type 0
+        Done o = Performs main t S' st left rest rest_goes (Option Value) o
 
         -- to perform these rows is to go on
         rows_now : (u : State) (rows : List Row) → rows_left (roles_in main S' t) comp u.trace ≡ rows →
@@ -508,10 +504,8 @@ module _ (L : Library) (main : ℕ) (t : List Event) (S S' : ℕ → Bool) (larg
         behind : (s : State) → H s → Front s.trace (last left).trace
         behind s h = left_goes main t S' st left rest _ s h
 
-        -- an event of this compartment
-        tells_now : (s : State) (e : Event) (h : H s) → performer e ≡ comp → InLine t (s.trace ++ e ∷ []) →
-            Tells k comp theirs s h.other e
-        tells_now s e h own along = tells_next k comp theirs st s h.other e set is_k own h.near along
+        stopped : (s : State) → H s → Done (Stopped TurnsOut s)
+        stopped s h = stops_here main t S' st left rest rest_goes (Option Value) s s refl h
 
         -- what may be called
         abbrev may : (target : CallTarget) → List Value → Bool
@@ -527,21 +521,22 @@ module _ (L : Library) (main : ℕ) (t : List Event) (S S' : ℕ → Bool) (larg
             performer e ≡ comp → stands_after st e ≡ Some st → N st (record s { inputs = inputs })
             (record h.other { inputs = inputs' }) → ((next : State → Piece (Option Value)) →
             acts L second (action_of e) next rest comp h.other ≡ next (tell e (record h.other { inputs = inputs' }))) →
-            InLine t (s.trace ++ e ∷ []) → Done (Option Value) (Reached v (tell e (record s { inputs = inputs })))
-        event_performs e v inputs inputs' s h own stays near acted along = by_tells (tells_now s e h own along) where
-          by_tells : Tells k comp theirs s h.other e → Done (Option Value) (Reached v (tell e (record s { inputs = inputs })))
-          by_tells (all_told all) =
-              performing.done (past s.trace e all) (whole main t S' s.trace (last left).trace all (behind s h))
-          by_tells (tells_it more all act) = performing.here v _ refl (record {
-            other = tell e (record h.other { inputs = inputs' });
-            near = near_tell main t S' st st (record s { inputs = inputs }) _ e more stays all near;
-            is = h.is ∙ act.is ∙ acted (performs L second act.rest k (at comp theirs))
-                ∙ rows_now (tell e (record h.other { inputs = inputs' })) act.rest act.left;
-          })
+            InLine t (s.trace ++ e ∷ []) → Done (Reached v (tell e (record s { inputs = inputs })))
+        event_performs e v inputs inputs' s h own stays near acted along =
+            by_tells (tells_next k comp theirs st s h.other e set is_k own h.near along) where
+              by_tells : Tells k comp theirs s h.other e → Done (Reached v (tell e (record s { inputs = inputs })))
+              by_tells (all_told all) =
+                  performing.done (past s.trace e all) (whole main t S' s.trace (last left).trace all (behind s h))
+              by_tells (tells_it more all act) = performing.here v _ refl (record {
+                other = tell e (record h.other { inputs = inputs' });
+                near = near_tell main t S' st st (record s { inputs = inputs }) _ e more stays all near;
+                is = h.is ∙ act.is ∙ acted (performs L second act.rest k (at comp theirs))
+                    ∙ rows_now (tell e (record h.other { inputs = inputs' })) act.rest act.left;
+              })
 
         output_performs : (args : List Value) (s : State) → H s → may Output args ≡ true →
             InLine t (s.trace ++ Out comp (first_word args) ∷ []) →
-            Done (Option Value) (Reached None (tell (Out comp (first_word args)) s))
+            Done (Reached None (tell (Out comp (first_word args)) s))
         output_performs args s h allowed = event_performs (Out comp (first_word args)) None s.inputs h.other.inputs s h
             refl refl h.near (λ next. ap (λ o. and_then o (λ v. next)) (asks_allowed Output
             (Word (first_word args) ∷ []) h.other (and_from (imports L.interfaces comp is_output) true
@@ -549,7 +544,7 @@ module _ (L : Library) (main : ℕ) (t : List Event) (S S' : ℕ → Bool) (larg
 
         input_performs : (args : List Value) (s : State) → H s → may Input args ≡ true →
             InLine t (s.trace ++ In comp (next_input s.inputs) ∷ []) →
-            Done (Option Value) (Reached (Some (Word (next_input s.inputs))) (read_input comp s))
+            Done (Reached (Some (Word (next_input s.inputs))) (read_input comp s))
         input_performs args s h allowed = event_performs (In comp (next_input s.inputs)) _ (drop 1 s.inputs)
             (drop 1 h.other.inputs) s h refl refl (taken_near st s h.other h.near)
             (λ next. ap (λ o. and_then o (λ v. next)) (asks_allowed Input [] h.other allowed)
@@ -584,7 +579,7 @@ module _ (L : Library) (main : ℕ) (t : List Event) (S S' : ℕ → Bool) (larg
           abbrev p : Piece (Option Value)
           p = called L second comp (Cross to index) args h.other
 
-          by_follows : left ≡ and_then p (λ v. rest) → Up st o p → Done (Option Value) o
+          by_follows : left ≡ and_then p (λ v. rest) → Up st o p → Done o
           by_follows is (follows.done x y) = performing.done x
               (subst (λ z. Front t (last z).trace) (sym is) (then_front t p (λ v. rest) (λ v. rest_goes) y))
           by_follows is (follows.both v y y' at_y at_y' near) = performing.here v y at_y
@@ -593,14 +588,14 @@ module _ (L : Library) (main : ℕ) (t : List Event) (S S' : ℕ → Bool) (larg
               (subst (Beyond main t S' (Option Value) end y) (sym is)
               (beyond_then main t S' (Option Value) (Option Value) end y p (λ v. rest) (λ v. rest_goes) by)))
 
-          cross_performs : may (Cross to index) args ≡ true → InLine t (last o).trace → Done (Option Value) o
+          cross_performs : may (Cross to index) args ≡ true → InLine t (last o).trace → Done o
           cross_performs allowed along = by_told (cross_asked a bodies.goes comp to index args s s.turns) where
-            by_told : Asked calling s.trace o → Done (Option Value) o
-            by_told (silent y stops trace) = subst (Done (Option Value)) (sym stops)
+            by_told : Asked calling s.trace o → Done o
+            by_told (silent y stops trace) = subst Done (sym stops)
                 (stops_here main t S' st left rest rest_goes (Option Value) s y trace h)
-            by_told (loud front) = by_tells (tells_now s calling h refl
+            by_told (loud front) = by_tells (tells_next k comp theirs st s h.other calling set is_k refl h.near
                 (in_line_before t (s.trace ++ calling ∷ []) (last o).trace front along)) where
-                  by_tells : Tells k comp theirs s h.other calling → Done (Option Value) o
+                  by_tells : Tells k comp theirs s h.other calling → Done o
                   by_tells (all_told all) = performing.done
                       (front_more t (s.trace ++ calling ∷ []) (last o).trace (past s.trace calling all) front)
                       (whole main t S' s.trace (last left).trace all (behind s h))
@@ -608,17 +603,13 @@ module _ (L : Library) (main : ℕ) (t : List Event) (S S' : ℕ → Bool) (larg
                       (h.is ∙ act.is ∙ ap (λ o. and_then o (λ v. rest)) (recalled to index args h.other allowed))
                       ((turned_follows comp to index args st s h.other h.near).follows along)
 
-        stopped : (s : State) → H s → Done (Option Value) (Stopped TurnsOut s)
-        stopped s h = stops_here main t S' st left rest rest_goes (Option Value) s s refl h
-
         found_performs : {V : Type 0} (o : Option V) (go : V → State → Piece (Option Value)) (s : State) → H s →
-            ((v : V) → Pieces (Option Value) (go v s) (go v s)) →
-            Pieces (Option Value) (and_then (found o s) go) (and_then (found o s) go)
+            ((v : V) → Keeps (go v s)) → Keeps (and_then (found o s) go)
         found_performs None go s h k = record { performs = λ along. stopped s h }
         found_performs (Some v) go s h k = k v
 
         own_function_performs : (number : ℕ) (args : List Value) (s : State) → H s →
-            Pieces (Option Value) (call_own L a comp number args s) (call_own L a comp number args s)
+            Keeps (call_own L a comp number args s)
         own_function_performs number args s h = found_performs (function L comp number) _ s h (λ f.
             let first : ℕ = length (s.memory comp) in
             let start : State = begun comp f args s in
@@ -637,25 +628,20 @@ module _ (L : Library) (main : ℕ) (t : List Event) (S S' : ℕ → Bool) (larg
                   rest_goes comp (ended first (length f.cells) (u.memory comp)) _ u set one.stands);
             }))
 
-        if_performs : (b : Bool) (o p : Piece (Option Value)) → (b ≡ true → InLine t (last o).trace →
-            Done (Option Value) o) → Done (Option Value) p → InLine t (last (if b then o else p)).trace →
-            Done (Option Value) (if b then o else p)
+        if_performs : (b : Bool) (o p : Piece (Option Value)) → (b ≡ true → InLine t (last o).trace → Done o) →
+            Done p → InLine t (last (if b then o else p)).trace → Done (if b then o else p)
         if_performs true o p h k along = h refl along
         if_performs false o p h k along = k
 
-        own_performs : (number : ℕ) (args : List Value) (s s' : State) → One s s' →
-            Pieces (Option Value) (called L a comp (Own number) args s) (called L a comp (Own number) args s')
-        own_performs number args s s' one =
-            (perform_kept main t S' st left rest rest_goes).turned (Option Value) (λ _. call_own L a comp number args)
+        allowed_performs : (target : CallTarget) (args : List Value) (s s' : State) → One s s' →
+            may target args ≡ true → InLine t (last (called L a comp target args s)).trace →
+            Done (called L a comp target args s)
+        allowed_performs (Own number) args s s' one allowed =
+            ((perform_kept main t S' st left rest rest_goes).turned (Option Value) (λ _. call_own L a comp number args)
             (λ _. call_own L a comp number args) (λ _. own_goes L a bodies.goes comp number args)
             (λ _. own_goes L a bodies.goes comp number args) s s' one (λ y y' less less' now_one. record {
               performs = (own_function_performs number args y now_one.stands).performs;
-            })
-
-        allowed_performs : (target : CallTarget) (args : List Value) (s s' : State) → One s s' →
-            may target args ≡ true → InLine t (last (called L a comp target args s)).trace →
-            Done (Option Value) (called L a comp target args s)
-        allowed_performs (Own number) args s s' one allowed = (own_performs number args s s' one).performs
+            })).performs
         allowed_performs (Cross to index) args s s' one allowed = cross_performs to index args s one.stands allowed
         allowed_performs Input args s s' one allowed = input_performs args s one.stands allowed
         allowed_performs Output args s s' one allowed = output_performs args s one.stands allowed
@@ -663,7 +649,7 @@ module _ (L : Library) (main : ℕ) (t : List Event) (S S' : ℕ → Bool) (larg
         -- a call that may not be made is blamed, and the second run, in which the compartment performs, passes that
         -- point
         guarded_performs : (target : CallTarget) (args : List Value) (s s' : State) → One s s' →
-            InLine t (last (calls L a comp target args s)).trace → Done (Option Value) (calls L a comp target args s)
+            InLine t (last (calls L a comp target args s)).trace → Done (calls L a comp target args s)
         guarded_performs target args s s' one = if_performs (may target args) (called L a comp target args s) _
             (allowed_performs target args s s' one) (blamed_here main t S' st left rest rest_goes (Option Value) comp
             BadType 0 s set one.stands (held_passes st k comp theirs left set s one.stands))
@@ -677,8 +663,8 @@ module _ (L : Library) (main : ℕ) (t : List Event) (S S' : ℕ → Bool) (larg
 
         -- the rows that it performs in the first
         asks_then : (target : CallTarget) (args : List Value) (go : State → Piece (Option Value)) → Goes go →
-            ((u : State) → H u → Pieces (Option Value) (go u) (go u)) → (s : State) → H s → Pieces (Option Value)
-            (and_then (asks L a comp target args s) (λ v. go)) (and_then (asks L a comp target args s) (λ v. go))
+            ((u : State) → H u → Keeps (go u)) → (s : State) → H s →
+            Keeps (and_then (asks L a comp target args s) (λ v. go))
         asks_then target args go goes h s held =
             (perform_kept main t S' st left rest rest_goes).after (Option Value) (Option Value) s s
             (asks L a comp target args s) (asks L a comp target args s) (λ v. go) (λ v. go)
@@ -689,21 +675,20 @@ module _ (L : Library) (main : ℕ) (t : List Event) (S S' : ℕ → Bool) (larg
             }) (λ v u u' up up' one. record { performs = (h u one.stands).performs })
 
         acts_perform : (action : Action) (next : State → Piece (Option Value)) (number mine : ℕ) → Goes next →
-            ((u : State) → H u → Pieces (Option Value) (next u) (next u)) → (s : State) → H s →
-            Pieces (Option Value) (acts L a action next (a number (at comp mine)) comp s)
-            (acts L a action next (a number (at comp mine)) comp s)
+            ((u : State) → H u → Keeps (next u)) → (s : State) → H s →
+            Keeps (acts L a action next (a number (at comp mine)) comp s)
         acts_perform (act.Call to index words) next number mine goes h s held =
             asks_then (Cross to index) (map (λ w. Word w) words) (a number (at comp mine)) (bodies.goes number _)
             (λ u. bodies.resumes number comp mine k theirs st left u set is_k) s held
-        acts_perform (act.Ret v) next number mine goes h s held = record { performs = λ along. performing.here _ s refl
-            held }
+        acts_perform (act.Ret v) next number mine goes h s held =
+            record { performs = λ along. performing.here _ s refl held }
         acts_perform (act.Out w) next number mine goes h s held = asks_then Output (Word w ∷ []) next goes h s held
         acts_perform (act.In w) next number mine goes h s held = asks_then Input [] next goes h s held
-        acts_perform (act.End w) next number mine goes h s held = record { performs = λ along. performing.here _ s refl
-            held }
+        acts_perform (act.End w) next number mine goes h s held =
+            record { performs = λ along. performing.here _ s refl held }
 
-        pub performs_perform : (rows : List Row) (number mine : ℕ) (s : State) → H s →
-            P st k comp theirs left (performs L a rows number (at comp mine) s)
+        performs_perform : (rows : List Row) (number mine : ℕ) (s : State) → H s →
+            Keeps (performs L a rows number (at comp mine) s)
         performs_perform [] number mine s held = record { performs = λ along. stopped s held }
         performs_perform (row ∷ rows) number mine s held = record {
           performs = if_performs (is_number number _) (acts L a row.action (performs L a rows number (at comp mine))
@@ -711,6 +696,17 @@ module _ (L : Library) (main : ℕ) (t : List Event) (S S' : ℕ → Bool) (larg
               (performs_go L a bodies.goes rows number _) (performs_perform rows number mine) s held).performs)
               (stopped s held);
         }
+
+        -- the function that it runs in the first
+        function_performs : (f g : Option Function) → Meets (FunctionTwins One Pieces (λ h. S' h.comp ≡ true)) f g →
+            (mine : ℕ) (s : State) → H s →
+            Keeps (and_then (found f s) (λ f s. f.does (calls L a) (at comp mine) s))
+        function_performs None g meets mine s held = record { performs = λ along. stopped s held }
+        function_performs _ (Some g) meets mine s held = record {
+          performs = ((meets.does _ (calls L a) _ set calls_perform).both s s
+              (record { same = refl; stands = held })).performs;
+        }
+        function_performs _ None meets mine s held = absurd meets
 
       -- ONE STEP
       module _ (library_goes : LibraryGoes L) (follow_twins : TwinsFollow) (perform_twins : TwinsPerform) where
@@ -741,35 +737,20 @@ module _ (L : Library) (main : ℕ) (t : List Event) (S S' : ℕ → Bool) (larg
             S' comp ≡ true → L.entered comp st.active.entry ≡ Some k → Held st k comp theirs left s →
             P st k comp theirs left (first_step a number (at comp mine) s)
         step_resumes number comp mine k theirs st left s set is_k h = by_role (S comp) where
-          by_function : (f g : Option Function) →
-              Meets (FunctionTwins (OneSided main t S' st left (Onward k comp theirs)
-              (second_goes k (at comp theirs))) (Perform main t S' st left (Onward k comp theirs)
-              (second_goes k (at comp theirs))) (λ h. S' h.comp ≡ true)) f g →
-              P st k comp theirs left (and_then (found f s) (λ f s. f.does (calls L a) (at comp mine) s))
-          by_function None g meets =
-              record { performs = λ along. stops_here main t S' st left _ (second_goes k _) _ s s refl h }
-          by_function (Some f) None meets = absurd meets
-          by_function _ (Some g) meets = record {
-            performs = ((meets.does _ (calls L a) _ set
-                (calls_perform st k comp theirs left set is_k)).both s s
-                (record { same = refl; stands = h })).performs;
-          }
-
           by_role : (b : Bool) → P st k comp theirs left (if b then performs L a
               (rows_left (roles_in main S t) comp s.trace) number (at comp mine) s else
               run_step L a number (at comp mine) s)
           by_role true = performs_perform st k comp theirs left set is_k _ number mine s h
-          by_role false = by_function (function L comp number) (function L comp number)
-              ((perform_twins st left _ _ (held_passes st k comp theirs left set)).functions comp number)
+          by_role false = function_performs st k comp theirs left set is_k (function L comp number) _
+              ((perform_twins st left _ _ (held_passes st k comp theirs left set)).functions comp number) mine s h
 
         pub step_bodies : Bodies (first_step a)
-        step_bodies =
-            record {
-              goes = scripted_goes L (roles_in main S t) (run_step L) (λ body goes. run_step_goes L body goes
-                  library_goes) a bodies.goes;
-              plain = step_plain;
-              resumes = step_resumes;
-            }
+        step_bodies = record {
+          goes = scripted_goes L (roles_in main S t) (run_step L)
+              (λ body goes. run_step_goes L body goes library_goes) a bodies.goes;
+          plain = step_plain;
+          resumes = step_resumes;
+        }
 
     -- where no call may be open the first run stops
     no_bodies : Bodies (within first_step zero)

@@ -3,12 +3,11 @@ use Rattle.sc_laws.proofs.Common.{Blamed, Bool, Cause, Ended, Event, Front, Func
 use Rattle.sc_laws.proofs.Common.{IsStop, IsWithin, KeepsBlames, LeastIsChain, Library, Link, List, Main, Memory, Never}
 use Rattle.sc_laws.proofs.Common.{None, Obedient, Option, PassesBlame, PassesBlames, Piece, Reached, RunEnd, Set, Some}
 use Rattle.sc_laws.proofs.Common.{SourceRun, Standing, State, Step, Stopped, StopsSo, TellsWithMore, TurnsOut, Value}
-use Rattle.sc_laws.proofs.Common.{[], and_then, ap, append-nil, arith, at_start, begun, call_own, done, drop, eqb-true}
-use Rattle.sc_laws.proofs.Common.{exit_word, false, first_state, found, inl, inr, last, leb-false, length}
-use Rattle.sc_laws.proofs.Common.{length-append, longer, lt-leb, nobody, now, performed_by, reaches, refl, roles_in}
-use Rattle.sc_laws.proofs.Common.{roles_run, run_by, run_to, stands_behind, stopped_at, subst, suc, sym, take}
-use Rattle.sc_laws.proofs.Common.{take-append-drop, take_all, take_front, true, turnless, with, within, ℕ, ◌++◌, ◌+◌}
-use Rattle.sc_laws.proofs.Common.{◌<◌, ◌==◌, ◌||◌, ◌∙◌, ◌∷◌, ◌≡◌}
+use Rattle.sc_laws.proofs.Common.{[], and_then, ap, append-nil, arith, begun, call_own, done, drop, eqb-true, exit_word}
+use Rattle.sc_laws.proofs.Common.{false, first_state, found, inl, inr, last, leb-false, length, length-append, longer}
+use Rattle.sc_laws.proofs.Common.{lt-leb, nobody, now, performed_by, reaches, refl, roles_in, roles_run, run_by, run_to}
+use Rattle.sc_laws.proofs.Common.{stopped_at, subst, suc, sym, take, take-append-drop, take_all, take_front, true}
+use Rattle.sc_laws.proofs.Common.{turnless, with, within, ℕ, ◌++◌, ◌+◌, ◌<◌, ◌==◌, ◌||◌, ◌∙◌, ◌∷◌, ◌≡◌}
 use Rattle.sc_event.specs.declared.event.Event.TheVariants as event
 use Rattle.sc_laws.proofs.Growing.{front_same, front_more, front_no_longer, BodyGoes, within_goes}
 use Rattle.sc_laws.proofs.Following.{GoesOn, KeepsUp, whole, follow_kept, follow_at, Performs, left_goes, perform_kept}
@@ -165,8 +164,8 @@ module _ (L : Library) (obedient : Obedient L) (t : List Event) (S S' : Set) (la
           InLine t (run_to main o).behaviour.trace → RunsFollow t S' (run_to main o).behaviour (run_to main p).behaviour
       resumes_end (performing.done a b) set along = tells_all (told_on t S' main t o a) (told_on t S' main t p b)
       resumes_end (performing.here v u is stands) set along = subst (λ r. RunsFollow t S' r (run_to main p).behaviour)
-          (sym (ap (λ y. (run_to main y).behaviour) is)) (by_tells (tells_next L main t S S' larger step_fixed later_goes
-          number main first st u stands.other (exit v) set is_number refl stands.near
+          (sym (ap (λ y. (run_to main y).behaviour) is)) (by_tells (tells_next L main t S S' larger step_fixed
+          later_goes number main first st u stands.other (exit v) set is_number refl stands.near
           (subst (λ y. InLine t (run_to main y).behaviour.trace) is along))) where
             by_tells : Tells L main t S S' larger step_fixed later_goes number main first u stands.other (exit v) →
                 RunsFollow t S' (run_to main (Reached v u)).behaviour (run_to main p).behaviour
