@@ -1,18 +1,14 @@
 -- No compartment that performs is blamed, whatever the trace is, and only compartments that there are.
-use Rattle.sc_laws.proofs.Common.{AreFresh, Blamed, Body, Bool, CallTarget, Cause, ChainRises, Cross, Ended, Event}
-use Rattle.sc_laws.proofs.Common.{EventsOut, Function, HasChain, Here, Input, IsBlamedOutside, IsChain, IsRising}
-use Rattle.sc_laws.proofs.Common.{IsWithin, Kept, Library, Link, List, Main, Memory, Obedient, Option, Output, Own}
-use Rattle.sc_laws.proofs.Common.{PassesBlame, Piece, Property, Reached, Roles, RunEnd, Set, Some, SourceRun, State}
-use Rattle.sc_laws.proofs.Common.{Stopped, TurnsOut, Value, [], ap, ap₂, arith, back_cross, back_own, call_cross}
-use Rattle.sc_laws.proofs.Common.{call_own, called, cases_eq, eq-eqb, eqb-true, false, first_state, found_kept}
-use Rattle.sc_laws.proofs.Common.{function, if◌then◌else◌, leb-false, length, length-append, longer, nat_le, ne_eqb}
-use Rattle.sc_laws.proofs.Common.{nobody, performed_by, reaches, refl, roles_in, roles_run, run_by, run_in, run_step}
-use Rattle.sc_laws.proofs.Common.{run_to, scripted_step, slice_get, slice_index_or, stopped_at, subst, suc, sym}
-use Rattle.sc_laws.proofs.Common.{then_kept, true, turn, turn_of, turnless, with, within, zero, ℕ, ⊎_elim, ◌++◌, ◌+◌}
-use Rattle.sc_laws.proofs.Common.{◌<◌, ◌==◌, ◌||◌, ◌∙◌, ◌∷◌, ◌≡◌, ◌≤◌, ◌⊎◌}
-use Rattle.sc_laws.proofs.Growing.{BodyGoes, within_goes}
-use Rattle.sc_laws.proofs.Matching.{scripted_goes_on}
-use Rattle.sc_laws.proofs.Keeping.{IsKept, scripted_keeps}
+use Rattle.sc_laws.proofs.Common.{is_some, AreFresh, Blamed, Bool, Cause, ChainRises, Ended, Event, EventsOut, Function}
+use Rattle.sc_laws.proofs.Common.{HasChain, IsBlamedOutside, IsChain, IsRising, IsWithin, Kept, Library, Link, List}
+use Rattle.sc_laws.proofs.Common.{Memory, Obedient, Option, PassesBlame, Piece, Reached, Roles, RunEnd, Set, SourceRun}
+use Rattle.sc_laws.proofs.Common.{State, Stopped, TurnsOut, Value, [], ap, ap₂, arith, cases_eq, eq-eqb, eqb-true}
+use Rattle.sc_laws.proofs.Common.{false, first_state, function, if◌then◌else◌, leb-false, length, length-append, longer}
+use Rattle.sc_laws.proofs.Common.{nat_le, ne_eqb, nobody, performed_by, reaches, refl, roles_in, roles_run, run_step}
+use Rattle.sc_laws.proofs.Common.{run_to, scripted_step, slice_get, slice_index_or, stopped_at, subst, suc, sym, true}
+use Rattle.sc_laws.proofs.Common.{turnless, with, within, zero, ℕ, ⊎_elim, ◌++◌, ◌+◌, ◌<◌, ◌==◌, ◌||◌, ◌∙◌, ◌∷◌, ◌≡◌}
+use Rattle.sc_laws.proofs.Common.{◌≤◌, ◌⊎◌}
+use Rattle.sc_laws.proofs.Keeping.{Walk, place, main_walks, scripted_walks}
 use Rattle.sc_laws.proofs.FollowingRuns.{passes_blames}
 use Rattle.sc_laws.proofs.Runs.{shown}
 
@@ -25,71 +21,52 @@ module _ (Fair : ℕ → Type 0) where
   Spares TurnsOut = Unit {0}
   Spares EventsOut = Unit {0}
 
-  abbrev sparing : Property
-  sparing = record { Goes = λ s. Unit {0}; Ends = λ end s. Spares end }
+  -- nothing is asked of states
+  abbrev Any : ℕ → Unit {0} → State → Type 0
+  Any n i s = Unit {0}
 
-  abbrev BodySpares : Body → Type 0
-  BodySpares body = (number : ℕ) (here : Here) (s : State) → Kept sparing (body number here s)
+  abbrev Ends : RunEnd → State → Type 0
+  Ends end s = Spares end
 
-  turned : (n : ℕ) (s : State) → Kept sparing (turn_of n s)
-  turned zero s = record { after = tt }
-  turned (suc n) s = record { after = tt }
+  abbrev Anywhere : Unit {0} → ℕ → Type 0
+  Anywhere i comp = Unit {0}
 
-  is_kept : (here : Here) → Fair here.comp → IsKept sparing here
-  is_kept here clear =
-      record { memory = λ s blocks h. tt; turned = λ s h. turned s.turns s; blamed = λ s cause line h. clear }
+  abbrev Runs : Unit {0} → ℕ → ℕ → Type 0
+  Runs i comp number = Unit {0}
 
-  module _ (library : Library) (body : Body) (spares : BodySpares body) where
-    run_spares : (comp number : ℕ) (args : List Value) (back : Option Value → State → Piece (Option Value)) →
-        ((v : Option Value) (s : State) → Kept sparing (back v s)) → (s : State) →
-        Kept sparing (run_in library body comp number args back s)
-    run_spares comp number args back b s = found_kept sparing (function library comp number) s _ tt
-        (λ f is. then_kept sparing (body number _ _) _ (spares number _ _) (λ v t h. b v _))
+  module _ (library : Library) (obedient : Obedient library) (roles : Roles) (fair : (comp number : ℕ) →
+      roles.scripted comp ≡ false → is_some (function library comp number) ≡ true → Fair comp) where
+    walk : Walk library _ Any Ends Anywhere Runs
+    walk = record {
+      inner = λ i comp f. tt;
+      across = λ i to index. tt;
+      cross_runs = λ i to index number f same. tt;
+      halts = λ i s at. tt;
+      spent = λ n i s none at. tt;
+      less = λ n m i s is at. tt;
+      raised = λ n i s at. tt;
+      stored = λ n i s memory at. tt;
+      begins = λ n i comp f args s at. tt;
+      ends = λ n i comp f first s at. tt;
+      enters = λ n i from to index args s here may at. tt;
+      leaves = λ n i from to index args v s here may at. tt;
+      reads = λ n i from args s here may at. tt;
+      writes = λ n i from args s here may at. tt;
+    }
 
-    cross_spares : (from to index : ℕ) (args : List Value) (s : State) →
-        Kept sparing (call_cross library body from to index args s)
-    cross_spares from to index args s =
-        found_kept sparing (library.entered to _) s _ tt (λ number is.
-        run_spares to number _ (back_cross library.interfaces from to index) (λ v s. record { after = tt }) _)
-
-    called_spares : (from : ℕ) (target : CallTarget) (args : List Value) (s : State) →
-        Kept sparing (called library body from target args s)
-    called_spares from (Own number) args s =
-        then_kept sparing (turn s) (λ _ s. call_own library body from number args s) (turned s.turns s)
-        (λ _ s h. run_spares from number args back_own _ s)
-    called_spares from (Cross to index) args s =
-        then_kept sparing (turn s) (λ _ s. call_cross library body from to index args s) (turned s.turns s)
-        (λ _ s h. cross_spares from to index args s)
-    called_spares from Input args s = record { after = tt }
-    called_spares from Output args s = record { after = tt }
-
-  module _ (library : Library) (obedient : Obedient library) (roles : Roles) (fair : (comp number : ℕ) (f : Function) →
-      roles.scripted comp ≡ false → function library comp number ≡ Some f → Fair comp) where
-    step_spares : (body : Body) → BodyGoes body → BodySpares body →
-        BodySpares (scripted_step library roles (run_step library) body)
-    step_spares body goes spares number here s = scripted_keeps sparing library body here
-        (λ target args s may h. called_spares library body spares here.comp target args s) number (λ s h. tt)
-        (λ s h. spares number here s) roles obedient goes
-        (λ plain f found_f. is_kept here (fair here.comp number f plain found_f)) s tt
-
-    within_spares : (n : ℕ) → BodySpares (within (scripted_step library roles (run_step library)) n)
-    within_spares zero number here s = record { after = tt }
-    within_spares (suc n) number here s = step_spares (within (scripted_step library roles (run_step library)) n)
-        (within_goes (scripted_step library roles _) (scripted_goes_on library obedient roles) n) (within_spares n)
-        number here s
-
-    run_to_spares : (main : ℕ) (piece : Piece (Option Value)) → Kept sparing piece →
-        Spares (run_to main piece).behaviour.end
-    run_to_spares main (Reached v s) h = tt
-    run_to_spares main (Stopped end s) h = h.after
+    run_to_spares : (n main : ℕ) (piece : Piece (Option Value)) →
+        Kept (place library _ Any Ends Anywhere Runs n tt) piece → Spares (run_to main piece).behaviour.end
+    run_to_spares n main (Reached v s) h = tt
+    run_to_spares n main (Stopped end s) h = h.after
 
     run_by_spares : (globals : Memory) (inputs : List ℕ) (turns : ℕ) →
-        Spares (run_by library (scripted_step library roles (run_step library)) globals inputs turns).behaviour.end
-    run_by_spares globals inputs turns =
-        run_to_spares library.interfaces.main _ (found_kept sparing (library.entered _ Main)
-        (first_state globals inputs turns) _ tt (λ number is.
-        run_spares library (within (scripted_step library roles (run_step library)) (suc turns))
-        (within_spares (suc turns)) _ number [] back_own (λ v s. record { after = tt }) _))
+        Spares (roles_run library globals inputs turns roles).behaviour.end
+    run_by_spares globals inputs turns = run_to_spares (suc turns) library.interfaces.main _ (main_walks library _ Any
+        Ends Anywhere Runs walk (suc turns) (within (scripted_step library roles (run_step library)) (suc turns))
+        (scripted_walks library _ Any Ends Anywhere Runs walk (λ n i s at. tt) (λ i comp number runs. tt)
+        (λ i comp number f here. tt) obedient roles
+        (λ comp number plain is n i cause line s at. fair comp number plain is) (suc turns)) tt
+        (first_state globals inputs turns) (λ none. tt) (λ number is none. tt) (λ number f is. tt) tt)
 
   stopped_spares : (events : ℕ) (run : SourceRun) → Spares run.end → Spares (stopped_at events run).end
   stopped_spares events run h = by _ where
@@ -101,23 +78,23 @@ module _ (library : Library) (obedient : Obedient library) (globals : Memory) (i
     (roles : Roles) (comp : ℕ) (cause : Cause) (line : ℕ)
     (ends : (stopped_at events (roles_run library globals inputs turns roles).behaviour).end ≡ Blamed comp cause line)
   where
-    fair_blame : (Fair : ℕ → Type 0) → ((comp number : ℕ) (f : Function) → roles.scripted comp ≡ false →
-        function library comp number ≡ Some f → Fair comp) → Fair comp
+    fair_blame : (Fair : ℕ → Type 0) → ((comp number : ℕ) → roles.scripted comp ≡ false →
+        is_some (function library comp number) ≡ true → Fair comp) → Fair comp
     fair_blame Fair fair =
         subst (Spares Fair) ends (stopped_spares Fair events (roles_run library globals inputs turns roles).behaviour
         (run_by_spares Fair library obedient roles fair globals inputs turns))
 
     pub nobody_is_blamed : roles.scripted comp ≡ false
-    nobody_is_blamed = fair_blame (λ c. roles.scripted c ≡ false) (λ c number f plain found_f. plain)
+    nobody_is_blamed = fair_blame (λ c. roles.scripted c ≡ false) (λ c number plain is. plain)
 
     pub blamed_is_there : comp < length library.functions
     blamed_is_there = fair_blame (λ c. c < length library.functions)
-        (λ c number f plain found_f. listed library.functions c number f found_f) where
-          listed : (functions : List (List Function)) (c number : ℕ) (f : Function) →
-              slice_get (slice_index_or functions c []) number ≡ Some f → c < length functions
-          listed [] c number f is = absurd (cc)
-          listed (x ∷ xs) zero number f is = omega arith
-          listed (x ∷ xs) (suc c) number f is = omega (arith, listed xs c number f is)
+        (λ c number plain is. listed library.functions c number is) where
+          listed : (functions : List (List Function)) (c number : ℕ) →
+              is_some (slice_get (slice_index_or functions c []) number) ≡ true → c < length functions
+          listed [] c number is = absurd (cc)
+          listed (x ∷ xs) zero number is = omega arith
+          listed (x ∷ xs) (suc c) number is = omega (arith, listed xs c number is)
 
 -- The links of a chain come one after another, and a chain is found.
 

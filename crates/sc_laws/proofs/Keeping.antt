@@ -191,8 +191,8 @@ module _ (K : Property) (library : Library) (body : Body) (here : Here) (called_
         by true is = performs_keep _ s h
         by false is = run_step_keeps obedient goes (kept is) s h
 
--- A property of the places at which a run stands, with fewer turns than a number: what calls have to keep of it, so that
--- functions do. A compartment is at a place, and a function runs at one.
+-- A property of the places at which a run stands, with fewer turns than a number: what calls have to keep of it, so
+-- that functions do. A compartment is at a place, and a function runs at one.
 module _ (library : Library) (I : Type 0) (At : ℕ → I → State → Type 0) (Ends : RunEnd → State → Type 0)
     (In : I → ℕ → Type 0) (Runs : I → ℕ → ℕ → Type 0) where
   abbrev pub place : ℕ → I → Property
@@ -202,7 +202,6 @@ module _ (library : Library) (I : Type 0) (At : ℕ → I → State → Type 0) 
     -- the place within a frame, and within a call across
     pub inner : I → ℕ → Function → I
     pub across : I → ℕ → ℕ → I
-    pub own_runs : (i : I) (from number : ℕ) (f : Function) → In i from → Runs (inner i from f) from number
     pub cross_runs : (i : I) (to index number : ℕ) (f : Function) → library.entered to (Export index) ≡ Some number →
         Runs (inner (across i to index) to f) to number
     pub halts : (i : I) (s : State) → At zero i s → Ends TurnsOut s
@@ -291,14 +290,15 @@ module _ (library : Library) (I : Type 0) (At : ℕ → I → State → Type 0) 
           after_turn n s.turns i s _ refl at (λ t at. cross_walks i from to index args here may t at)
 
       called_walks : (i : I) (from : ℕ) (target : CallTarget) (args : List Value) (s : State) → In i from →
-          may_call library from target args ≡ true → At (suc n) i s →
+          ((number : ℕ) (f : Function) → Runs (walk.inner i from f) from number) → may_call library from target args ≡ true → At (suc n) i s →
           Kept (place (suc n) i) (called library body from target args s)
-      called_walks i from (Own number) args s here may at = raise n i _ (after_turn n s.turns i s _ refl at (λ t at.
-          own_walks i from number args (λ f. walk.own_runs i from number f here) t (λ none. absurd (cc (may, none))) at))
-      called_walks i from (Cross to index) args s here may at =
+      called_walks i from (Own number) args s here runs may at = raise n i _ (after_turn n s.turns i s _ refl at
+          (λ t at. own_walks i from number args (runs number) t (λ none. absurd (cc (may, none))) at))
+      called_walks i from (Cross to index) args s here runs may at =
           raise n i _ (turned_cross i from to index args s here may at)
-      called_walks i from Input args s here may at = record { after = walk.reads (suc n) i from args s here may at }
-      called_walks i from Output args s here may at = record { after = walk.writes (suc n) i from args s here may at }
+      called_walks i from Input args s here runs may at = record { after = walk.reads (suc n) i from args s here may at }
+      called_walks i from Output args s here runs may at =
+          record { after = walk.writes (suc n) i from args s here may at }
 
       -- the first call of `main`
       pub main_walks : (i : I) (s : State) → (library.entered library.interfaces.main Main ≡ None → Ends TurnsOut s) →
@@ -313,21 +313,23 @@ module _ (library : Library) (I : Type 0) (At : ℕ → I → State → Type 0) 
 
       -- a function of a compartment that may be blamed runs
       pub run_step_walks : Obedient library → BodyGoes body → (number : ℕ) (here : Here) (s : State) (i : I) →
-          is_some (function library here.comp number) ≡ true → In i here.comp → ((cause : Cause) (line : ℕ)
-          (s : State) → At (suc n) i s → Ends (Blamed here.comp cause line) s) → At (suc n) i s →
-          Kept (place (suc n) i) (run_step library body number here s)
-      run_step_walks obedient goes number here s i is at_place blamed at =
+          is_some (function library here.comp number) ≡ true → In i here.comp →
+          ((k : ℕ) (f : Function) → Runs (walk.inner i here.comp f) here.comp k) →
+          ((cause : Cause) (line : ℕ) (s : State) → At (suc n) i s → Ends (Blamed here.comp cause line) s) →
+          At (suc n) i s → Kept (place (suc n) i) (run_step library body number here s)
+      run_step_walks obedient goes number here s i is at_place runs blamed at =
           there (place (suc n) i) (function library here.comp number) s (λ f s. f.does (calls library body) here s) is
           (λ f found_f. function_keeps library obedient here.comp number f found_f (place (suc n) i) here
           (is_kept n i here blamed) (calls library body) (calls_go library body goes)
           (calls_keep (place (suc n) i) library body here
-          (λ target args s may at. called_walks i here.comp target args s at_place may at)
+          (λ target args s may at. called_walks i here.comp target args s at_place runs may at)
           (is_kept n i here blamed)) s at)
 
     -- where turns don't matter, also where some compartments perform
     module _ (lowered : (n : ℕ) (i : I) (s : State) → At (suc n) i s → At n i s)
-        (at_place : (i : I) (comp number : ℕ) → Runs i comp number → In i comp) (obedient : Obedient library)
-        (roles : Roles) (blamed : (comp number : ℕ) → roles.scripted comp ≡ false →
+        (at_place : (i : I) (comp number : ℕ) → Runs i comp number → In i comp)
+        (owns : (i : I) (comp number : ℕ) (f : Function) → In i comp → Runs (walk.inner i comp f) comp number)
+        (obedient : Obedient library) (roles : Roles) (blamed : (comp number : ℕ) → roles.scripted comp ≡ false →
         is_some (function library comp number) ≡ true → (n : ℕ) (i : I) (cause : Cause) (line : ℕ) (s : State) →
         At n i s → Ends (Blamed comp cause line) s) where
       pub scripted_walks : (n : ℕ) → BodyWalks n (within (scripted_step library roles (run_step library)) n)
@@ -335,7 +337,9 @@ module _ (library : Library) (I : Type 0) (At : ℕ → I → State → Type 0) 
       scripted_walks (suc n) number here s i is runs at =
           let body = within (scripted_step library roles (run_step library)) n in
           scripted_keeps (place (suc n) i) library body here (λ target args s may at.
-          called_walks n body (scripted_walks n) i here.comp target args s (at_place i _ number runs) may at) number
+          let here_at = at_place i here.comp number runs in
+          called_walks n body (scripted_walks n) i here.comp target args s here_at
+          (λ k f. owns i here.comp k f here_at) may at) number
           (λ s at. stops (suc n) i s at)
           (λ s at. raise n i _ (scripted_walks n number here s i is runs (lowered n i s at))) roles obedient
           (within_goes (scripted_step library roles _) (scripted_goes_on library obedient roles) n)

@@ -107,7 +107,6 @@ module _ (library : Library) where
   walk = record {
     inner = λ st comp f. st;
     across = entered_at;
-    own_runs = λ st from number f is. is;
     cross_runs = λ st to index number f same. refl;
     halts = λ st s h. (h.is_legal, tt);
     spent = λ n st s none h. (h.is_legal, tt);
@@ -140,7 +139,8 @@ module _ (library : Library) where
     unfolding walk
     run_legal roles globals inputs turns = piece_legal (suc turns) _ (main_walks library Standing At Ends Active Runs
         walk (suc turns) (within (scripted_step library roles (run_step library)) (suc turns))
-        (scripted_walks library Standing At Ends Active Runs walk (λ n st s h. h) (λ st comp number is. is) obedient
+        (scripted_walks library Standing At Ends Active Runs walk (λ n st s h. h) (λ st comp number is. is)
+        (λ st comp number f is. is) obedient
         roles (λ comp number plain is n st cause line s h. (h.is_legal, tt)) (suc turns)) begins
         (first_state globals inputs turns) (λ none. (refl, tt)) (λ number is none. (refl, tt)) (λ number f is. refl)
         (record { stands = refl; is_legal = refl }))
