@@ -8,13 +8,12 @@ use Rattle.sc_laws.proofs.Common.{leb-false, length, length-append, lt-leb, ltb-
 use Rattle.sc_laws.proofs.Common.{run_step, run_to, scripted_step, stopped_at, subst, suc, sym, take, take_all, true}
 use Rattle.sc_laws.proofs.Common.{within, zero, ℕ, ◌++◌, ◌+◌, ◌<◌, ◌∙◌, ◌∷◌, ◌≡◌, ◌≤◌, ◌⊎◌}
 use Rattle.sc_laws.proofs.Growing.{front_more, front_no_longer, StepGoes, then_goes, found_goes, own_goes, within_goes}
-use Rattle.sc_laws.proofs.Growing.{BodyGoes, StepGoes, within_goes}
+use Rattle.sc_laws.proofs.Growing.{BodyGoes}
 pub use Rattle.sc_laws.proofs.Growing.{front_no_longer as front_long}
 use Rattle.sc_laws.proofs.Twins.{Anywhere}
 use Rattle.sc_laws.proofs.Matching.{library_twins, run_goes_on, scripted_goes_on}
 use Rattle.sc_laws.proofs.Below.{richer, richer_piece, Passes, Below, along, passed, below_kept, below_at, StepsBelow}
-use Rattle.sc_laws.proofs.Below.{LibrariesBelow, run_step_below, scripted_below, own_below, within_below, richer}
-use Rattle.sc_laws.proofs.Below.{richer_piece, Passes, Below, along, passed, BodiesBelow, StepsBelow, within_below}
+use Rattle.sc_laws.proofs.Below.{LibrariesBelow, run_step_below, scripted_below, own_below, within_below, BodiesBelow}
 
 -- LISTS
 take_front : {A : Type 0} (n m : ℕ) (xs more : List A) → n ≤ m → Front (take n xs) (take m (xs ++ more))
@@ -117,12 +116,12 @@ module _ (d : ℕ) (Soft : Cause → Type 0) (Turns : Type 0) where
         (λ here good. below_at d Soft Turns n n' spent here) L M match
 
     pub run_steps : StepsBelow d Soft Turns spent (run_step L) (run_step M)
-    run_steps n n' a b goes goes' h = run_step_below d Soft Turns spent n n' a b goes goes' h L M (libraries n n')
+    run_steps n n' a b h = run_step_below d Soft Turns spent n n' a b h L M (libraries (suc n) (suc n'))
 
     pub scripted_steps : (roles : Roles) → StepsBelow d Soft Turns spent (scripted_step L roles (run_step L))
         (scripted_step M roles (run_step M))
-    scripted_steps roles n n' a b goes goes' h = scripted_below d Soft Turns spent n n' a b goes goes' h L M
-        (libraries n n') roles (run_step L) (run_step M) (run_steps n n' a b goes goes' h)
+    scripted_steps roles n n' a b h = scripted_below d Soft Turns spent n n' a b h L M (libraries (suc n) (suc n'))
+        roles (run_step L) (run_step M) (run_steps n n' a b h)
 
     module _ (step step' : Step) (goes : StepGoes step) (goes' : StepGoes step') (steps : StepsBelow d Soft Turns spent
         step step') (globals : Memory) (inputs : List ℕ) (turns : ℕ) where
@@ -142,10 +141,10 @@ module _ (d : ℕ) (Soft : Cause → Type 0) (Turns : Type 0) where
       begin_below : (number : Option ℕ) → Below d Soft Turns (Option Value)
           (and_then (found number start) (first_call L step turns main)) (second_comes main number)
       begin_below None = along refl
-      begin_below (Some number) = own_below d Soft Turns spent (suc turns) (suc _) (within step (suc turns))
-          (within step' (suc _)) (within_goes step goes (suc turns)) (within_goes step' goes' (suc _))
-          (within_below d Soft Turns spent step step' goes goes' steps _ _) L M (libraries _ (suc (turns + d))) main
-          number [] start (omega arith) (omega arith)
+      begin_below (Some number) = (own_below d Soft Turns spent (suc turns) (suc (turns + d)) (within step (suc turns))
+          (within step' (suc _)) (within_below d Soft Turns spent step step' goes goes' steps (suc turns) (suc _)) L M
+          (libraries _ _) main number []).both start (richer d start)
+          (record { state = refl; few = omega arith; few' = omega arith })
 
       begin_goes : (library : Library) (step : Step) → StepGoes step →
           (turns main : ℕ) (number : Option ℕ) (s : State) →
@@ -188,17 +187,24 @@ module _ (step : Step) (goes : StepGoes step) (steps : StepsBelow 0 Never ⊥ (i
   pub any_depth : (n m number : ℕ) (here : Here) (s : State) → s.turns < n → s.turns < m →
       within step m number here s ≡ within step n number here s
   any_depth n m number here s few few' = ap (within step m number here) (sym (no_richer s)) ∙ only_same _ _
-      (within_below 0 Never ⊥ (inl refl) step step goes goes steps n m number here s few (omega (arith, few')))
+      ((within_below 0 Never ⊥ (inl refl) step step goes goes steps n m number here).both s (richer 0 s)
+      (record { state = refl; few = few; few' = omega (arith, few') }))
 
   pub now_goes : BodyGoes (now step)
   now_goes number here s = within_goes step goes (suc s.turns) number here s
 
   pub fixed : IsFixed step
   fixed number here s =
-      let inner : BodiesBelow 0 Never ⊥ (inl refl) s.turns (s.turns + 0) _ (now step) = λ number here t few few'.
-      within_below 0 Never ⊥ (inl refl) step step goes goes steps s.turns (suc _) number here t few (omega arith) in
-      sym (only_same _ _ (steps s.turns _ _ _ (within_goes step goes s.turns) now_goes inner
-      number here s (omega arith) (omega arith))) ∙ ap (step _ number here) (no_richer s)
+      let inner : BodiesBelow 0 Never ⊥ (inl refl) s.turns (s.turns + 0) (within step s.turns) (now step) =
+      λ number here. record {
+        first = within_goes step goes s.turns number here;
+        second = now_goes number here;
+        both = λ t t' ahead. (within_below 0 Never ⊥ (inl refl) step step goes goes steps s.turns (suc t'.turns) number
+            here).both t t' (record { state = ahead.state; few = ahead.few; few' = omega arith });
+      } in
+      sym (only_same _ _ ((steps s.turns (s.turns + 0) (within step s.turns) (now step) inner number here).both s
+      (richer 0 s) (record { state = refl; few = omega arith; few' = omega arith })))
+      ∙ ap (step _ number here) (no_richer s)
 
 module _ (library : Library) (obedient : Obedient library) where
   steady_steps : StepsBelow 0 Never ⊥ (inl refl) (run_step library) (run_step library)
