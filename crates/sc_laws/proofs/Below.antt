@@ -236,10 +236,10 @@ module _ (d : ℕ) (Soft : Cause → Type 0) (Turns : Type 0) (spent : (d ≡ 0)
         let inside : Ahead d Soft Turns n n' start (richer d start) =
         record { state = refl; few = ahead.few; few' = ahead.few' } in
         subst (λ x. Beneath (and_then (a number here start) out) (and_then (b number here x) out')) (sym alike_start)
-        ((below_kept d Soft Turns n n' spent).after (Option Value) (Option Value) start (richer d start)
-        (a number here start) (b number here _) out out' inside (goes number here start) (goes' number here _) (leaves f)
-        (leaves g) ((bodies number here).both start (richer d start) inside)
-        (λ v t t' x x' ahead. along (ap (out' v) ahead.state ∙ alike_out v t)))
+        ((below_kept d Soft Turns n n' spent).after (Option Value) (Option Value) start (richer d start) (a number here
+        start) (b number here _) out out' inside (goes number here start) (goes' number here _) (leaves f) (leaves g)
+        ((bodies number here).both start (richer d start) inside) (λ v t t' x x' ahead. along (ap (out' v) ahead.state ∙
+        alike_out v t)))
 
     module _ (L M : Library) (twins : LibrariesBelow (suc n) (suc n') L M) where
       run_below : (comp number : ℕ) (args : List Value) (back : Option Value → State → Piece (Option Value))
@@ -272,12 +272,12 @@ module _ (d : ℕ) (Soft : Cause → Type 0) (Turns : Type 0) (spent : (d ≡ 0)
 
       cross_below : (from to index : ℕ) (args : List Value) →
           Under n n' (call_cross L a from to index args) (call_cross M b from to index args)
-      cross_below from to index args = from_richer n n' _ _ (cross_goes L a goes from to index args)
-          (cross_goes M b goes' from to index args) (λ s ahead. subst (λ x. Beneath (call_cross L a from to index args s)
-          (and_then (found x (richer d s)) (crosses M b M.interfaces from to index args)))
-          (sym (twins.entered to (Export index))) (subst (λ i. Beneath (call_cross L a from to index args s)
-          (and_then (found (L.entered to (Export index)) (richer d s)) (crosses M b i from to index args)))
-          (sym twins.interfaces) (cross_to from to index args (L.entered to _) s ahead)))
+      cross_below from to index args = from_richer n n' _ _ (cross_goes L a goes from to index args) (cross_goes M b
+          goes' from to index args) (λ s ahead. subst (λ x. Beneath (call_cross L a from to index args s) (and_then
+          (found x (richer d s)) (crosses M b M.interfaces from to index args))) (sym (twins.entered to (Export index)))
+          (subst (λ i. Beneath (call_cross L a from to index args s) (and_then (found (L.entered to (Export index))
+          (richer d s)) (crosses M b i from to index args))) (sym twins.interfaces) (cross_to from to index args
+          (L.entered to _) s ahead)))
 
       abbrev Within : (f g : State → Piece (Option Value)) → Type 0
       Within = Under (suc n) (suc n')

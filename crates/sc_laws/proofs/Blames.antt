@@ -2,8 +2,8 @@
 use Rattle.sc_laws.proofs.Common.{is_some, AreFresh, Blamed, Bool, Cause, ChainRises, Ended, Event, EventsOut, Function}
 use Rattle.sc_laws.proofs.Common.{HasChain, IsBlamedOutside, IsChain, IsRising, IsWithin, Kept, Library, Link, List}
 use Rattle.sc_laws.proofs.Common.{Memory, Obedient, Option, PassesBlame, Piece, Reached, Roles, RunEnd, Set, SourceRun}
-use Rattle.sc_laws.proofs.Common.{State, Stopped, TurnsOut, Value, [], ap, ap₂, arith, cases_eq, eq-eqb, eqb-true}
-use Rattle.sc_laws.proofs.Common.{false, first_state, function, if◌then◌else◌, leb-false, length, length-append, longer}
+use Rattle.sc_laws.proofs.Common.{Stopped, TurnsOut, Value, [], ap, ap₂, arith, cases_eq, eq-eqb, eqb-true, false}
+use Rattle.sc_laws.proofs.Common.{first_state, function, if◌then◌else◌, leb-false, length, length-append, longer}
 use Rattle.sc_laws.proofs.Common.{nat_le, ne_eqb, nobody, performed_by, reaches, refl, roles_in, roles_run, run_step}
 use Rattle.sc_laws.proofs.Common.{run_to, scripted_step, slice_get, slice_index_or, stopped_at, subst, suc, sym, true}
 use Rattle.sc_laws.proofs.Common.{turnless, with, within, zero, ℕ, ⊎_elim, ◌++◌, ◌+◌, ◌<◌, ◌==◌, ◌||◌, ◌∙◌, ◌∷◌, ◌≡◌}
@@ -21,23 +21,16 @@ module _ (Fair : ℕ → Type 0) where
   Spares TurnsOut = Unit {0}
   Spares EventsOut = Unit {0}
 
-  -- nothing is asked of states
-  abbrev Any : ℕ → Unit {0} → State → Type 0
-  Any n i s = Unit {0}
-
-  abbrev Ends : RunEnd → State → Type 0
-  Ends end s = Spares end
-
-  abbrev Anywhere : Unit {0} → ℕ → Type 0
-  Anywhere i comp = Unit {0}
-
-  abbrev Runs : Unit {0} → ℕ → ℕ → Type 0
-  Runs i comp number = Unit {0}
-
   module _ (library : Library) (obedient : Obedient library) (roles : Roles) (fair : (comp number : ℕ) →
       roles.scripted comp ≡ false → is_some (function library comp number) ≡ true → Fair comp) where
-    walk : Walk library _ Any Ends Anywhere Runs
+    -- nothing is asked of states
+    abbrev walk : Walk library
     walk = record {
+      Place = Unit {0};
+      At = λ n i s. Unit {0};
+      Ends = λ end s. Spares end;
+      In = λ i comp. Unit {0};
+      Runs = λ i comp number. Unit {0};
       inner = λ i comp f. tt;
       across = λ i to index. tt;
       cross_runs = λ i to index number f same. tt;
@@ -55,18 +48,17 @@ module _ (Fair : ℕ → Type 0) where
     }
 
     run_to_spares : (n main : ℕ) (piece : Piece (Option Value)) →
-        Kept (place library _ Any Ends Anywhere Runs n tt) piece → Spares (run_to main piece).behaviour.end
+        Kept (place library walk n tt) piece → Spares (run_to main piece).behaviour.end
     run_to_spares n main (Reached v s) h = tt
     run_to_spares n main (Stopped end s) h = h.after
 
     run_by_spares : (globals : Memory) (inputs : List ℕ) (turns : ℕ) →
         Spares (roles_run library globals inputs turns roles).behaviour.end
-    run_by_spares globals inputs turns = run_to_spares (suc turns) library.interfaces.main _ (main_walks library _ Any
-        Ends Anywhere Runs walk (suc turns) (within (scripted_step library roles (run_step library)) (suc turns))
-        (scripted_walks library _ Any Ends Anywhere Runs walk (λ n i s at. tt) (λ i comp number runs. tt)
-        (λ i comp number f here. tt) obedient roles
-        (λ comp number plain is n i cause line s at. fair comp number plain is) (suc turns)) tt
-        (first_state globals inputs turns) (λ none. tt) (λ number is none. tt) (λ number f is. tt) tt)
+    run_by_spares globals inputs turns = run_to_spares (suc turns) library.interfaces.main _ (main_walks library walk
+        (suc turns) (within (scripted_step library roles (run_step library)) (suc turns)) (scripted_walks library walk
+        (λ n i s at. tt) (λ i comp number runs. tt) (λ i comp number f here. tt) obedient roles (λ comp number plain is
+        n i cause line s at. fair comp number plain is) (suc turns)) tt (first_state globals inputs turns) (λ none. tt)
+        (λ number is none. tt) (λ number f is. tt) tt)
 
   stopped_spares : (events : ℕ) (run : SourceRun) → Spares run.end → Spares (stopped_at events run).end
   stopped_spares events run h = by _ where

@@ -91,20 +91,13 @@ module _ (library : Library) where
   environment_at st from e s is may stays h = told_at s.trace st st e h (and_from _ _ (eq-eqb _ _ is) may) stays
 
   -- the run stands here, after a legal trace
-  abbrev At : ℕ → Standing → State → Type 0
-  At n st s = IsAt s.trace st
-
-  abbrev Ends : RunEnd → State → Type 0
-  Ends end s = (legal interfaces s.trace ≡ true) × IsStop end
-
-  abbrev Active : Standing → ℕ → Type 0
-  Active st comp = comp ≡ st.active.comp
-
-  abbrev Runs : Standing → ℕ → ℕ → Type 0
-  Runs st comp number = comp ≡ st.active.comp
-
-  walk : Walk library Standing At Ends Active Runs
+  abbrev walk : Walk library
   walk = record {
+    Place = Standing;
+    At = λ n st s. IsAt s.trace st;
+    Ends = λ end s. (legal interfaces s.trace ≡ true) × IsStop end;
+    In = λ st comp. comp ≡ st.active.comp;
+    Runs = λ st comp number. comp ≡ st.active.comp;
     inner = λ st comp f. st;
     across = entered_at;
     cross_runs = λ st to index number f same. refl;
@@ -128,7 +121,7 @@ module _ (library : Library) where
     begins = record { active = record { comp = interfaces.main; entry = Main }; waiting = [] }
 
     piece_legal : (n : ℕ) (piece : Piece (Option Value)) →
-        Kept (place library Standing At Ends Active Runs n begins) piece →
+        Kept (place library walk n begins) piece →
         legal interfaces (run_to interfaces.main piece).behaviour.trace ≡ true
     piece_legal n (Reached v s) h =
         legal_more _ s.trace begins _ h.after.stands h.after.is_legal (and_from _ true (eq-eqb _ _ refl) refl)
@@ -136,14 +129,11 @@ module _ (library : Library) where
 
     run_legal : (roles : Roles) (globals : Memory) (inputs : List ℕ) (turns : ℕ) →
         legal interfaces (roles_run library globals inputs turns roles).behaviour.trace ≡ true
-    unfolding walk
-    run_legal roles globals inputs turns = piece_legal (suc turns) _ (main_walks library Standing At Ends Active Runs
-        walk (suc turns) (within (scripted_step library roles (run_step library)) (suc turns))
-        (scripted_walks library Standing At Ends Active Runs walk (λ n st s h. h) (λ st comp number is. is)
-        (λ st comp number f is. is) obedient
-        roles (λ comp number plain is n st cause line s h. (h.is_legal, tt)) (suc turns)) begins
-        (first_state globals inputs turns) (λ none. (refl, tt)) (λ number is none. (refl, tt)) (λ number f is. refl)
-        (record { stands = refl; is_legal = refl }))
+    run_legal roles globals inputs turns = piece_legal (suc turns) _ (main_walks library walk (suc turns) (within
+        (scripted_step library roles (run_step library)) (suc turns)) (scripted_walks library walk (λ n st s h. h) (λ st
+        comp number is. is) (λ st comp number f is. is) obedient roles (λ comp number plain is n st cause line s h.
+        (h.is_legal, tt)) (suc turns)) begins (first_state globals inputs turns) (λ none. (refl, tt)) (λ number is none.
+        (refl, tt)) (λ number f is. refl) (record { stands = refl; is_legal = refl }))
 
 stopped_legal : (library : Library) (n : ℕ) (t : List Event) (end : RunEnd) → legal library.interfaces t ≡ true →
     legal library.interfaces (stopped_at n (record { trace = t; end = end })).trace ≡ true

@@ -1,12 +1,12 @@
 -- Frames: each change is of a moment within the trace, and a call that returns leaves the open room as it was.
-use Rattle.sc_laws.proofs.Common.{nobody, RunEnd, and_then, found, AllBefore, AreTold, Body, Bool, Closed}
-use Rattle.sc_laws.proofs.Common.{DeepestIsReached, End, Event, FrameChange, Function, In, KeepsRooms, Kept}
-use Rattle.sc_laws.proofs.Common.{LeavesRooms, Library, List, Main, Memory, Obedient, Opened, Option, Piece, Property}
-use Rattle.sc_laws.proofs.Common.{Reached, Roles, State, Step, Stopped, TellsNoEnd, Value, [], ap, arith, begun}
-use Rattle.sc_laws.proofs.Common.{call_own, deepest, done, exit_word, false, first_state, has_no_end, if◌then◌else◌}
-use Rattle.sc_laws.proofs.Common.{is_end, last, length, length-append, list_any, lt-ltb, max, nat_lt, not, open_room}
-use Rattle.sc_laws.proofs.Common.{refl, room_after, run_by, run_step, run_to, scripted_step, subst, suc, tell, true}
-use Rattle.sc_laws.proofs.Common.{within, ℕ, ◌&&◌, ◌++◌, ◌+◌, ◌-◌, ◌==◌, ◌||◌, ◌∙◌, ◌∷◌, ◌≡◌, ◌≤◌}
+use Rattle.sc_laws.proofs.Common.{nobody, and_then, found, AllBefore, AreTold, Body, Bool, Closed, DeepestIsReached}
+use Rattle.sc_laws.proofs.Common.{End, Event, FrameChange, Function, In, KeepsRooms, Kept, LeavesRooms, Library, List}
+use Rattle.sc_laws.proofs.Common.{Main, Memory, Obedient, Opened, Option, Piece, Property, Reached, Roles, State, Step}
+use Rattle.sc_laws.proofs.Common.{Stopped, TellsNoEnd, Value, [], ap, arith, begun, call_own, deepest, done, exit_word}
+use Rattle.sc_laws.proofs.Common.{false, first_state, has_no_end, if◌then◌else◌, is_end, last, length, length-append}
+use Rattle.sc_laws.proofs.Common.{list_any, lt-ltb, max, nat_lt, not, open_room, refl, room_after, run_by, run_step}
+use Rattle.sc_laws.proofs.Common.{run_to, scripted_step, subst, suc, tell, true, within, ℕ, ◌&&◌, ◌++◌, ◌+◌, ◌-◌, ◌==◌}
+use Rattle.sc_laws.proofs.Common.{◌||◌, ◌∙◌, ◌∷◌, ◌≡◌, ◌≤◌}
 use Rattle.sc_laws.proofs.Keeping.{Walk, place, BodyWalks, own_walks, main_walks, scripted_walks}
 
 -- LISTS OF CHANGES
@@ -112,15 +112,6 @@ module _ (base : State) where
   abbrev At : ℕ → Rooms → State → Type 0
   At n rooms s = Noted base rooms s.trace s.frames
 
-  abbrev Ends : RunEnd → State → Type 0
-  Ends end s = Told base s.trace s.frames
-
-  abbrev Anywhere : Rooms → ℕ → Type 0
-  Anywhere rooms comp = Unit {0}
-
-  abbrev Runs : Rooms → ℕ → ℕ → Type 0
-  Runs rooms comp number = Unit {0}
-
   told_noted : (n : ℕ) (rooms : Rooms) (e : Event) (s : State) → is_end e ≡ false → At n rooms s →
       At n rooms (tell e s)
   told_noted n rooms e s plain h =
@@ -167,8 +158,13 @@ module _ (base : State) where
 
   -- RUNS
   module _ (library : Library) where
-    walk : Walk library Rooms At Ends Anywhere Runs
+    abbrev walk : Walk library
     walk = record {
+      Place = Rooms;
+      At = At;
+      Ends = λ end s. Told base s.trace s.frames;
+      In = λ rooms comp. Unit {0};
+      Runs = λ rooms comp number. Unit {0};
       inner = λ rooms comp f. wider comp f.room rooms;
       across = λ rooms to index. rooms;
       cross_runs = λ rooms to index number f same. tt;
@@ -189,8 +185,8 @@ module _ (base : State) where
       abbrev body : ℕ → Body
       body n = within (scripted_step library roles (run_step library)) n
 
-      body_notes : (n : ℕ) → BodyWalks library Rooms At Ends Anywhere Runs n (body n)
-      body_notes = scripted_walks library Rooms At Ends Anywhere Runs walk (λ n rooms s h. h)
+      body_notes : (n : ℕ) → BodyWalks library walk n (body n)
+      body_notes = scripted_walks library walk (λ n rooms s h. h)
           (λ rooms comp number runs. tt) (λ rooms comp number f here. tt) obedient roles
           (λ comp number plain is n rooms cause line s h. h.told)
 
@@ -199,19 +195,17 @@ module _ (base : State) where
       at_base = record { moments = λ h. h; endless = λ h. h }
 
       abbrev kept : Rooms → Property
-      kept = place library Rooms At Ends Anywhere Runs 0
+      kept = place library walk 0
 
       own_kept : (n comp number : ℕ) (args : List Value) →
           Kept (kept (λ c. open_room c base)) (call_own library (body n) comp number args base)
-      unfolding walk
-      own_kept n comp number args = own_walks library Rooms At Ends Anywhere Runs walk n (body n) (body_notes n) _ comp
+      own_kept n comp number args = own_walks library walk n (body n) (body_notes n) _ comp
           number args (λ f. tt) base (λ none. at_base) (record { told = at_base; open_ = λ c. refl })
 
       main_kept : (n : ℕ) → Kept (kept (λ c. open_room c base)) (and_then
           (found (library.entered library.interfaces.main Main) base)
           (λ number s. call_own library (body n) library.interfaces.main number [] s))
-      unfolding walk
-      main_kept n = main_walks library Rooms At Ends Anywhere Runs walk n (body n) (body_notes n) _ base
+      main_kept n = main_walks library walk n (body n) (body_notes n) _ base
           (λ none. at_base) (λ number is none. at_base) (λ number f is. tt)
           (record { told = at_base; open_ = λ c. refl })
 

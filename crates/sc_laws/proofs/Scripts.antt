@@ -14,7 +14,7 @@ use Rattle.sc_laws.proofs.Common.{zero, ℕ, ◌++◌, ◌<◌, ◌∙◌, ◌�
 use Rattle.sc_event.specs.declared.event.Event.TheVariants.{Out}
 use Rattle.sc_event.specs.declared.row.Action.TheVariants as act
 use Rattle.sc_laws.proofs.Growing.{BodyGoes, within_goes}
-use Rattle.sc_laws.proofs.Keeping.{Walk, place, BodyWalks, raise, turned_cross, main_walks, run_step_walks}
+use Rattle.sc_laws.proofs.Keeping.{Walk, place, BodyWalks, raise, cross_walks, main_walks, run_step_walks}
 use Rattle.sc_laws.proofs.Keeping.{led_somewhere, led_there}
 use Rattle.sc_laws.proofs.Matching.{scripted_goes_on}
 use Rattle.sc_laws.proofs.Rows.{Next, counts_its_own, row_of_next, stands_last}
@@ -74,26 +74,22 @@ module _ (library : Library) (leads_on : ExportsLead library) (trace : List Even
   abbrev Now : ℕ → Standing → State → Type 0
   Now = At main trace
 
-  abbrev Ends : RunEnd → State → Type 0
-  Ends = Spent main trace
-
-  abbrev Active : Standing → ℕ → Type 0
-  Active st comp = comp ≡ st.active.comp
-
   -- a function that performs is the one by which its compartment was entered
   record Runs (st : Standing) (comp number : ℕ) : Type 0 where
     pub active : comp ≡ st.active.comp
     pub entered : set comp ≡ true → library.entered comp st.active.entry ≡ Some number
 
-  abbrev Kind : ℕ → Standing → Property
-  Kind = place library Standing Now Ends Active Runs
-
   abbrev entered_at : Standing → ℕ → ℕ → Standing
   entered_at st to index =
       record { active = record { comp = to; entry = Export index }; waiting = st.active ∷ st.waiting }
 
-  walk : Walk library Standing Now Ends Active Runs
+  abbrev walk : Walk library
   walk = record {
+    Place = Standing;
+    At = Now;
+    Ends = Spent main trace;
+    In = λ st comp. comp ≡ st.active.comp;
+    Runs = Runs;
     inner = λ st comp f. st;
     across = entered_at;
     cross_runs = λ st to index number f same. record { active = refl; entered = λ performing. same };
@@ -110,8 +106,11 @@ module _ (library : Library) (leads_on : ExportsLead library) (trace : List Even
     writes = λ n st from args s here may at. told main trace n st st s _ at refl;
   }
 
+  abbrev Kind : ℕ → Standing → Property
+  Kind = place library walk
+
   abbrev BodyAlong : ℕ → Body → Type 0
-  BodyAlong = BodyWalks library Standing Now Ends Active Runs
+  BodyAlong = BodyWalks library walk
 
   module _ (n : ℕ) (body : Body) (along : BodyAlong n body) where
     -- OF COMPARTMENTS THAT PERFORM
@@ -202,10 +201,9 @@ module _ (library : Library) (leads_on : ExportsLead library) (trace : List Even
       acts_along : (action : Action) → row.action ≡ action → Kept (Kind (suc n) st)
           (acts library body action (performs library body rest number here) (body number here) here.comp s)
       acts_along (act.Call to index args) its = asks_along (Cross to index) (map (λ w. Word w) args) _ _ its (λ h. h)
-          (λ may. raise library Standing Now Ends Active Runs walk n st _ (then_kept (Kind n st)
-          (called library body here.comp (Cross to index) (map _ args) s) _ (turned_cross library Standing Now Ends
-          Active Runs walk n body along st here.comp to index (map _ args) s active may at)
-          (λ v t at. along number here t st is (record { active = active; entered = λ performing. entered }) at)))
+          (λ may. raise library walk n st _ (then_kept (Kind n st) (called library body here.comp (Cross to index) (map
+          _ args) s) _ (cross_walks library walk n body along st here.comp to index (map _ args) s active may at) (λ v t
+          at. along number here t st is (record { active = active; entered = λ performing. entered }) at)))
       acts_along (act.Ret v) its = record { after = at }
       acts_along (act.Out w) its = asks_along Output (Word w ∷ []) _ _ its (λ h. h)
           (λ may. next _ (rows_then _ refl) (told main trace _ st st s _ at refl))
@@ -241,14 +239,12 @@ module _ (library : Library) (leads_on : ExportsLead library) (trace : List Even
 
     step_along : (n : ℕ) (body : Body) → BodyGoes body → BodyAlong n body →
         BodyAlong (suc n) (scripted_step library roles (run_step library) body)
-    unfolding walk
     step_along n body goes along number here s st is runs at = by (set here.comp) refl where
       by : (b : Bool) → set here.comp ≡ b → Kept (Kind (suc n) st) (if b then performs library body
           (rows_left roles here.comp s.trace) number here s else run_step library body number here s)
       by true performing = performs_along n body along (rows_left roles here.comp s.trace) number here s st refl
           runs.active is (runs.entered performing) at
-      by false plain = run_step_walks library Standing Now Ends Active Runs walk n body along obedient goes number here s
-          st is runs.active
+      by false plain = run_step_walks library walk n body along obedient goes number here s st is runs.active
           (λ k f. record { active = runs.active; entered = λ performing. absurd (false≢true (sym plain ∙ performing)) })
           (λ cause line s at. tt) at
 
@@ -264,8 +260,7 @@ module _ (library : Library) (leads_on : ExportsLead library) (trace : List Even
     main_along : (globals : Memory) (inputs : List ℕ) (turns : ℕ) →
         leads library main (library.entered main Main) ≡ true →
         Kept (Kind (suc turns) first) (scripted_call library roles globals inputs turns)
-    unfolding walk
-    main_along globals inputs turns is = main_walks library Standing Now Ends Active Runs walk (suc turns)
+    main_along globals inputs turns is = main_walks library walk (suc turns)
         (its_bodies (suc turns)) (within_along (suc turns)) first (first_state globals inputs turns)
         (λ none. absurd (cc (led_somewhere library main _ is, none)))
         (λ number same none. absurd (cc (led_there library main number _ is same, none)))

@@ -15,8 +15,8 @@ use Rattle.sc_core.specs.declared.stmt.TypedStmtKind.TheOpen as layer
 use Rattle.sc_core.specs.declared.stmt.TypedSimpleKind.TheVariants as simple
 use Rattle.sc_core.specs.declared.value.Want.TheVariants as want
 use Rattle.sc_laws.proofs.Interactions.{MatchWith, match_reached, match_then, match_computed, match_store, match_call}
-use Rattle.sc_laws.proofs.Interactions.{match_if, match_leave, match_follow, match_all, match_loop, match_then}
-use Rattle.sc_laws.proofs.Expressions.{Keeps, alike, ArithKeeps, ways_keep, values_keep, alike, ArithKeeps}
+use Rattle.sc_laws.proofs.Interactions.{match_if, match_leave, match_follow, match_all, match_loop}
+use Rattle.sc_laws.proofs.Expressions.{Keeps, alike, ArithKeeps, ways_keep, values_keep}
 
 module _ (Soft : Cause → Type 0) (here : Here) where
   -- statements, by what calls do

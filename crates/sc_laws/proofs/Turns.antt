@@ -14,22 +14,15 @@ Spent (Blamed comp cause line) s = Unit {0}
 Spent TurnsOut s = s.turns ≡ 0
 Spent EventsOut s = Unit {0}
 
--- fewer turns than a number
-abbrev Fewer : ℕ → Unit {0} → State → Type 0
-Fewer n i s = s.turns < n
-
-abbrev Anywhere : Unit {0} → ℕ → Type 0
-Anywhere i comp = Unit {0}
-
-abbrev Runs : Unit {0} → ℕ → ℕ → Type 0
-Runs i comp number = Unit {0}
-
 module _ (library : Library) where
-  abbrev spending : ℕ → Property
-  spending n = place library _ Fewer Spent Anywhere Runs n tt
-
-  walk : Walk library _ Fewer Spent Anywhere Runs
+  -- fewer turns than a number
+  abbrev walk : Walk library
   walk = record {
+    Place = Unit {0};
+    At = λ n i s. s.turns < n;
+    Ends = Spent;
+    In = λ i comp. Unit {0};
+    Runs = λ i comp number. Unit {0};
     inner = λ i comp f. tt;
     across = λ i to index. tt;
     cross_runs = λ i to index number f same. tt;
@@ -46,14 +39,15 @@ module _ (library : Library) where
     writes = λ n i from args s here may few. few;
   }
 
+  abbrev spending : ℕ → Property
+  spending n = place library walk n tt
+
   module _ (obedient : Obedient library) where
-    within_spends : (n : ℕ) → BodyWalks library _ Fewer Spent Anywhere Runs n (within (run_step library) n)
-    unfolding walk
+    within_spends : (n : ℕ) → BodyWalks library walk n (within (run_step library) n)
     within_spends zero number here s i is runs few = absurd (omega (arith, few))
-    within_spends (suc n) number here s i is runs few = run_step_walks library _ Fewer Spent Anywhere Runs walk n
-        (within (run_step library) n) (within_spends n) obedient
-        (within_goes (run_step library) (run_goes_on library obedient) n) number here s i is tt (λ k f. tt)
-        (λ cause line s few. tt) few
+    within_spends (suc n) number here s i is runs few = run_step_walks library walk n (within (run_step library) n)
+        (within_spends n) obedient (within_goes (run_step library) (run_goes_on library obedient) n) number here s i is
+        tt (λ k f. tt) (λ cause line s few. tt) few
 
     is_spent : {V : Type 0} (n : ℕ) (o : Piece V) → Kept (spending n) o → IsSpent o
     is_spent n o h s is = (subst (λ x. Kept (spending n) x) is h).after
@@ -63,8 +57,7 @@ module _ (library : Library) where
 
     main_spends : (globals : Memory) (inputs : List ℕ) (turns : ℕ) → leads library main (library.entered main Main)
         ≡ true → Kept (spending (suc turns)) (main_call library globals inputs turns)
-    unfolding walk
-    main_spends globals inputs turns is = main_walks library _ Fewer Spent Anywhere Runs walk (suc turns)
+    main_spends globals inputs turns is = main_walks library walk (suc turns)
         (within (run_step library) (suc turns)) (within_spends (suc turns)) tt (first_state globals inputs turns)
         (λ none. absurd (cc (led_somewhere library main _ is, none)))
         (λ number same none. absurd (cc (led_there library main number _ is same, none))) (λ number f same. tt)
