@@ -2,12 +2,13 @@
 use Rattle.sc_laws.proofs.Common.{Call, Cross, Event, Export, Interfaces, IsStop, Kept, Library, List, Main, Memory}
 use Rattle.sc_laws.proofs.Common.{None, Obedient, Option, Piece, Proto, Reached, Ret, Roles, RunEnd, Scalar, Some}
 use Rattle.sc_laws.proofs.Common.{Standing, State, Stopped, Value, [], and_from, and_parts, ap, at_start, awaits}
-use Rattle.sc_laws.proofs.Common.{crossing, eq-eqb, export_at, false, nobody, first_state, fits_result, found, imports}
+use Rattle.sc_laws.proofs.Common.{crossing, eq-eqb, export_at, false, first_state, fits_result, found, imports}
 use Rattle.sc_laws.proofs.Common.{is_allowed, is_function, is_legal_from, legal, length, length-map, library_run, map}
 use Rattle.sc_laws.proofs.Common.{may_call, may_perform, may_return, option_map_or, performer, refl, roles_run}
 use Rattle.sc_laws.proofs.Common.{run_step, run_to, scripted_step, stands_after, stands_behind, stopped_at, suc, sym}
 use Rattle.sc_laws.proofs.Common.{take, takes, true, within, word_back, word_in, zero, ℕ, ◌&&◌, ◌++◌, ◌==◌, ◌∙◌, ◌∷◌}
 use Rattle.sc_laws.proofs.Common.{◌≡◌}
+use Rattle.sc_laws.proofs.Matching.{idle}
 use Rattle.sc_laws.proofs.Keeping.{Walk, place, main_walks, scripted_walks}
 use Rattle.sc_laws.proofs.Rows.{stands_last}
 use Rattle.sc_laws.proofs.Runs.{trace_is}
@@ -146,4 +147,4 @@ module _ (library : Library) (obedient : Obedient library) (globals : Memory) (i
 
   pub runs_legal : legal library.interfaces
       (stopped_at events (library_run library globals inputs turns).behaviour).trace ≡ true
-  runs_legal = scripts_legal (record { scripted = nobody; rows = λ comp. [] })
+  runs_legal = scripts_legal idle

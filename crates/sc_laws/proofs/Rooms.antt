@@ -1,12 +1,13 @@
 -- Frames: each change is of a moment within the trace, and a call that returns leaves the open room as it was.
-use Rattle.sc_laws.proofs.Common.{nobody, and_then, found, AllBefore, AreTold, Body, Bool, Closed, DeepestIsReached}
-use Rattle.sc_laws.proofs.Common.{End, Event, FrameChange, Function, In, KeepsRooms, Kept, LeavesRooms, Library, List}
-use Rattle.sc_laws.proofs.Common.{Main, Memory, Obedient, Opened, Option, Piece, Property, Reached, Roles, State, Step}
-use Rattle.sc_laws.proofs.Common.{Stopped, TellsNoEnd, Value, [], ap, arith, begun, call_own, deepest, done, exit_word}
-use Rattle.sc_laws.proofs.Common.{false, first_state, has_no_end, if◌then◌else◌, is_end, last, length, length-append}
-use Rattle.sc_laws.proofs.Common.{list_any, lt-ltb, max, nat_lt, not, open_room, refl, room_after, run_by, run_step}
-use Rattle.sc_laws.proofs.Common.{run_to, scripted_step, subst, suc, tell, true, within, ℕ, ◌&&◌, ◌++◌, ◌+◌, ◌-◌, ◌==◌}
-use Rattle.sc_laws.proofs.Common.{◌||◌, ◌∙◌, ◌∷◌, ◌≡◌, ◌≤◌}
+use Rattle.sc_laws.proofs.Common.{and_then, found, AllBefore, AreTold, Body, Bool, Closed, DeepestIsReached, End, Event}
+use Rattle.sc_laws.proofs.Common.{FrameChange, Function, In, KeepsRooms, Kept, LeavesRooms, Library, List, Main, Memory}
+use Rattle.sc_laws.proofs.Common.{Obedient, Opened, Option, Piece, Property, Reached, Roles, State, Step, Stopped}
+use Rattle.sc_laws.proofs.Common.{TellsNoEnd, Value, [], ap, arith, begun, call_own, deepest, done, exit_word, false}
+use Rattle.sc_laws.proofs.Common.{first_state, has_no_end, if◌then◌else◌, is_end, last, length, length-append, list_any}
+use Rattle.sc_laws.proofs.Common.{lt-ltb, max, nat_lt, not, open_room, refl, room_after, run_by, run_step, run_to}
+use Rattle.sc_laws.proofs.Common.{scripted_step, subst, suc, tell, true, within, ℕ, ◌&&◌, ◌++◌, ◌+◌, ◌-◌, ◌==◌, ◌||◌}
+use Rattle.sc_laws.proofs.Common.{◌∙◌, ◌∷◌, ◌≡◌, ◌≤◌}
+use Rattle.sc_laws.proofs.Matching.{idle}
 use Rattle.sc_laws.proofs.Keeping.{Walk, place, BodyWalks, own_walks, main_walks, scripted_walks}
 
 -- LISTS OF CHANGES
@@ -240,17 +241,12 @@ module _ (library : Library) (obedient : Obedient library) (roles : Roles) where
       (call_own library (within step n) comp number args s) (own_kept s library obedient roles n comp number args)
       ).endless h
 
-module _ (library : Library) (obedient : Obedient library) where
-  -- where nobody performs
-  abbrev none : Roles
-  none = record { scripted = nobody; rows = λ comp. [] }
-
-  pub keeps_rooms : KeepsRooms library
-  keeps_rooms = record {
-    told = run_by_notes library obedient none;
-    scripted_told = λ globals inputs turns roles. run_by_notes library obedient roles globals inputs turns;
-    returns = leaves_rooms library obedient none;
-    scripted_returns = leaves_rooms library obedient;
-    no_end = tells_no_end library obedient none;
-    scripted_no_end = tells_no_end library obedient;
-  }
+pub keeps_rooms : (library : Library) → Obedient library → KeepsRooms library
+keeps_rooms library obedient = record {
+  told = run_by_notes library obedient idle;
+  scripted_told = λ globals inputs turns roles. run_by_notes library obedient roles globals inputs turns;
+  returns = leaves_rooms library obedient idle;
+  scripted_returns = leaves_rooms library obedient;
+  no_end = tells_no_end library obedient idle;
+  scripted_no_end = tells_no_end library obedient;
+}

@@ -1,17 +1,17 @@
 -- Whole runs: steps of two libraries, and what they come to when they are stopped at a number of events.
-use Rattle.sc_laws.proofs.Common.{AllFrom, Blamed, Bool, Cause, End, Ended, Event, EventsOut, FrameChange, Front, Gone}
-use Rattle.sc_laws.proofs.Common.{HasFixedPoint, Here, IsFixed, IsSteady, IsStop, LibrariesMatch, Library, List, Main}
-use Rattle.sc_laws.proofs.Common.{Memory, Never, None, Obedient, Option, Piece, Reached, Roles, Run, RunEnd, Some}
-use Rattle.sc_laws.proofs.Common.{SourceRun, State, Step, Stopped, StopsSo, TurnsOut, Value, [], and_then, ap, arith}
-use Rattle.sc_laws.proofs.Common.{call_own, exit_word, false, first_state, found, if◌then◌else◌, inl, last, le-ltb}
-use Rattle.sc_laws.proofs.Common.{leb-false, length, length-append, lt-leb, ltb-false, now, reaches, refl, run_by}
+use Rattle.sc_laws.proofs.Common.{roles_run, AllFrom, Blamed, Bool, Cause, End, Ended, Event, EventsOut, FrameChange}
+use Rattle.sc_laws.proofs.Common.{Front, Gone, HasFixedPoint, Here, IsFixed, IsSteady, IsStop, LibrariesMatch, Library}
+use Rattle.sc_laws.proofs.Common.{List, Main, Memory, Never, None, Obedient, Option, Piece, Reached, Roles, Run, RunEnd}
+use Rattle.sc_laws.proofs.Common.{Some, SourceRun, State, Step, Stopped, StopsSo, TurnsOut, Value, [], and_then, ap}
+use Rattle.sc_laws.proofs.Common.{arith, call_own, exit_word, false, first_state, found, if◌then◌else◌, inl, last}
+use Rattle.sc_laws.proofs.Common.{le-ltb, leb-false, length, length-append, lt-leb, ltb-false, now, reaches, refl}
 use Rattle.sc_laws.proofs.Common.{run_step, run_to, scripted_step, stopped_at, subst, suc, sym, take, take_all, true}
 use Rattle.sc_laws.proofs.Common.{within, zero, ℕ, ◌++◌, ◌+◌, ◌<◌, ◌∙◌, ◌∷◌, ◌≡◌, ◌≤◌, ◌⊎◌}
 use Rattle.sc_laws.proofs.Growing.{front_more, front_no_longer, StepGoes, then_goes, found_goes, own_goes, within_goes}
-use Rattle.sc_laws.proofs.Growing.{BodyGoes}
+use Rattle.sc_laws.proofs.Growing.{run_step_goes, scripted_goes, BodyGoes}
 pub use Rattle.sc_laws.proofs.Growing.{front_no_longer as front_long}
 use Rattle.sc_laws.proofs.Twins.{Anywhere}
-use Rattle.sc_laws.proofs.Matching.{library_twins, run_goes_on, scripted_goes_on}
+use Rattle.sc_laws.proofs.Matching.{library_twins, first_goes, second_goes, idle, scripted_goes_on}
 use Rattle.sc_laws.proofs.Below.{richer, richer_piece, Passes, Below, along, passed, below_kept, below_at, StepsBelow}
 use Rattle.sc_laws.proofs.Below.{LibrariesBelow, run_step_below, scripted_below, own_below, within_below, BodiesBelow}
 
@@ -115,16 +115,26 @@ module _ (d : ℕ) (Soft : Cause → Type 0) (Turns : Type 0) where
     libraries n n' = library_twins Soft _ _ Anywhere (below_kept d Soft Turns n n' spent)
         (λ here good. below_at d Soft Turns n n' spent here) L M match
 
-    pub run_steps : StepsBelow d Soft Turns spent (run_step L) (run_step M)
-    run_steps n n' a b h = run_step_below d Soft Turns spent n n' a b h L M (libraries (suc n) (suc n'))
-
     pub scripted_steps : (roles : Roles) → StepsBelow d Soft Turns spent (scripted_step L roles (run_step L))
         (scripted_step M roles (run_step M))
-    scripted_steps roles n n' a b h = scripted_below d Soft Turns spent n n' a b h L M (libraries (suc n) (suc n'))
-        roles (run_step L) (run_step M) (run_steps n n' a b h)
+    scripted_steps roles n n' a b h =
+        let below = libraries (suc n) (suc n') in
+        scripted_below d Soft Turns spent n n' a b h L M below roles (run_step L) (run_step M)
+        (run_step_below d Soft Turns spent n n' a b h L M below)
 
-    module _ (step step' : Step) (goes : StepGoes step) (goes' : StepGoes step') (steps : StepsBelow d Soft Turns spent
-        step step') (globals : Memory) (inputs : List ℕ) (turns : ℕ) where
+    module _ (roles : Roles) (globals : Memory) (inputs : List ℕ) (turns : ℕ) where
+      abbrev step : Step
+      step = scripted_step L roles (run_step L)
+
+      abbrev step' : Step
+      step' = scripted_step M roles (run_step M)
+
+      goes : StepGoes step
+      goes = scripted_goes L roles _ (λ body goes. run_step_goes L body goes (first_goes Soft L M match))
+
+      goes' : StepGoes step'
+      goes' = scripted_goes M roles _ (λ body goes. run_step_goes M body goes (second_goes Soft L M match))
+
       abbrev main : ℕ
       main = L.interfaces.main
 
@@ -142,7 +152,8 @@ module _ (d : ℕ) (Soft : Cause → Type 0) (Turns : Type 0) where
           (and_then (found number start) (first_call L step turns main)) (second_comes main number)
       begin_below None = along refl
       begin_below (Some number) = (own_below d Soft Turns spent (suc turns) (suc (turns + d)) (within step (suc turns))
-          (within step' (suc _)) (within_below d Soft Turns spent step step' goes goes' steps (suc turns) (suc _)) L M
+          (within step' (suc _)) (within_below d Soft Turns spent step step' goes goes'
+          (scripted_steps roles) (suc turns) (suc _)) L M
           (libraries _ _) main number []).both start (richer d start)
           (record { state = refl; few = omega arith; few' = omega arith })
 
@@ -153,8 +164,8 @@ module _ (d : ℕ) (Soft : Cause → Type 0) (Turns : Type 0) where
           then_goes s (found number s) (first_call library step turns main) (found_goes number s)
           (λ number. own_goes library (within step (suc turns)) (within_goes step goes (suc turns)) main number [])
 
-      pub runs_below : RunsBelow (run_by L step globals inputs turns) (run_by M step' globals inputs (turns + d))
-      runs_below = subst (λ i. RunsBelow (run_by L step globals inputs turns)
+      pub runs_below : RunsBelow (roles_run L globals inputs turns roles) (roles_run M globals inputs (turns + d) roles)
+      runs_below = subst (λ i. RunsBelow (roles_run L globals inputs turns roles)
           (run_to i.main (second_comes i.main (M.entered i.main Main))))
           (sym (libraries (suc turns) (suc (turns + d))).interfaces) (run_to_below main
           (and_then (found _ start) (first_call L step turns main)) (second_comes main _)
@@ -207,27 +218,22 @@ module _ (step : Step) (goes : StepGoes step) (steps : StepsBelow 0 Never ⊥ (i
       ∙ ap (step _ number here) (no_richer s)
 
 module _ (library : Library) (obedient : Obedient library) where
-  steady_steps : StepsBelow 0 Never ⊥ (inl refl) (run_step library) (run_step library)
-  steady_steps = run_steps 0 Never ⊥ (inl refl) library library obedient
-
-  steady_scripts : (roles : Roles) → StepsBelow 0 Never ⊥ (inl refl) (scripted_step library roles (run_step library))
+  steady_steps : (roles : Roles) → StepsBelow 0 Never ⊥ (inl refl) (scripted_step library roles (run_step library))
       (scripted_step library roles (run_step library))
-  steady_scripts = scripted_steps 0 Never ⊥ (inl refl) library library obedient
-
-  pub run_fixed : IsFixed (run_step library)
-  run_fixed = fixed (run_step library) (run_goes_on library obedient) steady_steps
+  steady_steps = scripted_steps 0 Never ⊥ (inl refl) library library obedient
 
   pub scripted_fixed : (roles : Roles) → IsFixed (scripted_step library roles (run_step library))
   scripted_fixed roles =
-      fixed (scripted_step library roles _) (scripted_goes_on library obedient roles) (steady_scripts roles)
+      fixed (scripted_step library roles _) (scripted_goes_on library obedient roles) (steady_steps roles)
 
-  pub run_steady : IsSteady (run_step library)
-  run_steady = any_depth (run_step library) (run_goes_on library obedient) steady_steps
-
-  pub scripted_steady : (roles : Roles) → IsSteady (scripted_step library roles (run_step library))
+  scripted_steady : (roles : Roles) → IsSteady (scripted_step library roles (run_step library))
   scripted_steady roles =
-      any_depth (scripted_step library roles _) (scripted_goes_on library obedient roles) (steady_scripts roles)
+      any_depth (scripted_step library roles _) (scripted_goes_on library obedient roles) (steady_steps roles)
 
   pub has_fixed_point : HasFixedPoint library
-  has_fixed_point =
-      record { run = run_fixed; scripted = scripted_fixed; run_steady = run_steady; scripted_steady = scripted_steady }
+  has_fixed_point = record {
+    run = scripted_fixed idle;
+    scripted = scripted_fixed;
+    run_steady = scripted_steady idle;
+    scripted_steady = scripted_steady;
+  }
