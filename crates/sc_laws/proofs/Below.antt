@@ -192,7 +192,7 @@ module _ (d : ℕ) (Soft : Cause → Type 0) (Turns : Type 0) (spent : (d ≡ 0)
       ((s : State) → g (richer d s) ≡ richer_piece d (f s)) → Under n n' f g
   same_below n n' f g go go' is = from_richer n n' f g go go' (λ s ahead. along (is s))
 
-  stop_below : (n n' : ℕ) → Under n n' (Stopped TurnsOut) (Stopped TurnsOut)
+  pub stop_below : (n n' : ℕ) → Under n n' (Stopped TurnsOut) (Stopped TurnsOut)
   stop_below n n' = same_below n n' _ _ (λ s. no_turn s) (λ s. no_turn s) (λ s. refl)
 
   -- what follows once a function is looked up

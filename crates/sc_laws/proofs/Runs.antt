@@ -1,19 +1,20 @@
 -- Whole runs: steps of two libraries, and what they come to when they are stopped at a number of events.
 use Rattle.sc_laws.proofs.Common.{roles_run, AllFrom, Blamed, Bool, Cause, End, Ended, Event, EventsOut, FrameChange}
-use Rattle.sc_laws.proofs.Common.{Front, Gone, HasFixedPoint, Here, IsFixed, IsSteady, IsStop, LibrariesMatch, Library}
-use Rattle.sc_laws.proofs.Common.{List, Main, Memory, Never, None, Obedient, Option, Piece, Reached, Roles, Run, RunEnd}
-use Rattle.sc_laws.proofs.Common.{Some, SourceRun, State, Step, Stopped, StopsSo, TurnsOut, Value, [], and_then, ap}
-use Rattle.sc_laws.proofs.Common.{arith, call_own, exit_word, false, first_state, found, if◌then◌else◌, inl, last}
-use Rattle.sc_laws.proofs.Common.{le-ltb, leb-false, length, length-append, lt-leb, ltb-false, now, reaches, refl}
-use Rattle.sc_laws.proofs.Common.{run_step, run_to, scripted_step, stopped_at, subst, suc, sym, take, take_all, true}
-use Rattle.sc_laws.proofs.Common.{within, zero, ℕ, ◌++◌, ◌+◌, ◌<◌, ◌∙◌, ◌∷◌, ◌≡◌, ◌≤◌, ◌⊎◌}
-use Rattle.sc_laws.proofs.Growing.{front_more, front_no_longer, StepGoes, then_goes, found_goes, own_goes, within_goes}
-use Rattle.sc_laws.proofs.Growing.{run_step_goes, scripted_goes, BodyGoes}
+use Rattle.sc_laws.proofs.Common.{Front, HasFixedPoint, Here, IsFixed, IsSteady, IsStop, LibrariesMatch, Library, List}
+use Rattle.sc_laws.proofs.Common.{Main, Memory, Never, None, Obedient, Option, Piece, Reached, Roles, Run, RunEnd, Some}
+use Rattle.sc_laws.proofs.Common.{SourceRun, State, Step, Stopped, StopsSo, TurnsOut, Value, [], and_then, ap, arith}
+use Rattle.sc_laws.proofs.Common.{call_own, exit_word, false, first_state, found, if◌then◌else◌, inl, last, le-ltb}
+use Rattle.sc_laws.proofs.Common.{leb-false, length, length-append, lt-leb, ltb-false, now, reaches, refl, run_step}
+use Rattle.sc_laws.proofs.Common.{run_to, scripted_step, stopped_at, subst, suc, sym, take, take_all, true, within}
+use Rattle.sc_laws.proofs.Common.{zero, ℕ, ◌++◌, ◌+◌, ◌<◌, ◌∙◌, ◌∷◌, ◌≡◌, ◌≤◌, ◌⊎◌}
+use Rattle.sc_laws.proofs.Growing.{front_more, front_no_longer, StepGoes, within_goes, run_step_goes, scripted_goes}
+use Rattle.sc_laws.proofs.Growing.{BodyGoes}
 pub use Rattle.sc_laws.proofs.Growing.{front_no_longer as front_long}
 use Rattle.sc_laws.proofs.Twins.{Anywhere}
 use Rattle.sc_laws.proofs.Matching.{library_twins, first_goes, second_goes, idle, scripted_goes_on}
-use Rattle.sc_laws.proofs.Below.{richer, richer_piece, Passes, Below, along, passed, below_kept, below_at, StepsBelow}
-use Rattle.sc_laws.proofs.Below.{LibrariesBelow, run_step_below, scripted_below, own_below, within_below, BodiesBelow}
+use Rattle.sc_laws.proofs.Below.{Under, stop_below, richer, richer_piece, Passes, Below, along, passed, below_kept}
+use Rattle.sc_laws.proofs.Below.{below_at, StepsBelow, LibrariesBelow, run_step_below, scripted_below, own_below}
+use Rattle.sc_laws.proofs.Below.{within_below, BodiesBelow}
 
 -- LISTS
 take_front : {A : Type 0} (n m : ℕ) (xs more : List A) → n ≤ m → Front (take n xs) (take m (xs ++ more))
@@ -141,39 +142,27 @@ module _ (d : ℕ) (Soft : Cause → Type 0) (Turns : Type 0) where
       abbrev start : State
       start = first_state globals inputs turns
 
-      abbrev first_call : Library → Step → ℕ → ℕ → ℕ → State → Piece (Option Value)
-      first_call library step turns main number s = call_own library (within step (suc turns)) main number [] s
+      -- what comes of the first call of `main`, where it is of this compartment
+      abbrev first_call : Library → Step → (turns main : ℕ) → Option ℕ → State → Piece (Option Value)
+      first_call library step turns main number s = and_then (found number s)
+          (λ number s. call_own library (within step (suc turns)) main number [] s)
 
-      -- what the second comes to, where `main` is of this compartment
-      abbrev second_comes : ℕ → Option ℕ → Piece (Option Value)
-      second_comes main number = and_then (found number (richer d start)) (first_call M step' (turns + d) main)
-
-      begin_below : (number : Option ℕ) → Below d Soft Turns (Option Value)
-          (and_then (found number start) (first_call L step turns main)) (second_comes main number)
-      begin_below None = along refl
-      begin_below (Some number) = (own_below d Soft Turns spent (suc turns) (suc (turns + d)) (within step (suc turns))
-          (within step' (suc _)) (within_below d Soft Turns spent step step' goes goes'
-          (scripted_steps roles) (suc turns) (suc _)) L M
-          (libraries _ _) main number []).both start (richer d start)
-          (record { state = refl; few = omega arith; few' = omega arith })
-
-      begin_goes : (library : Library) (step : Step) → StepGoes step →
-          (turns main : ℕ) (number : Option ℕ) (s : State) →
-          Gone s (and_then (found number s) (first_call library step turns main))
-      begin_goes library step goes turns main number s =
-          then_goes s (found number s) (first_call library step turns main) (found_goes number s)
-          (λ number. own_goes library (within step (suc turns)) (within_goes step goes (suc turns)) main number [])
+      begin_below : (number : Option ℕ) → Under d Soft Turns spent (suc turns) (suc (turns + d))
+          (first_call L step turns main number) (first_call M step' (turns + d) main number)
+      begin_below None = stop_below d Soft Turns spent _ _
+      begin_below (Some number) = own_below d Soft Turns spent (suc turns) (suc (turns + d)) (within step (suc turns))
+          (within step' (suc _)) (within_below d Soft Turns spent step step' goes goes' (scripted_steps roles)
+          (suc turns) (suc _)) L M (libraries _ _) main number []
 
       pub runs_below : RunsBelow (roles_run L globals inputs turns roles) (roles_run M globals inputs (turns + d) roles)
-      runs_below = subst (λ i. RunsBelow (roles_run L globals inputs turns roles)
-          (run_to i.main (second_comes i.main (M.entered i.main Main))))
-          (sym (libraries (suc turns) (suc (turns + d))).interfaces) (run_to_below main
-          (and_then (found _ start) (first_call L step turns main)) (second_comes main _)
-          (begin_goes L step goes turns main (L.entered main Main) start).stop
-          (begin_goes M step' goes' (turns + d) main (M.entered main Main) (richer d start)).stop (subst (λ x. Below d
-          Soft Turns (Option Value) (and_then (found (L.entered main Main) start) (first_call L step turns main))
-          (second_comes main x)) (sym ((libraries (suc turns) (suc (turns + d))).entered main Main))
-          (begin_below (L.entered main Main))))
+      runs_below =
+          let begins = begin_below (L.entered main Main) in
+          subst (λ i. RunsBelow (roles_run L globals inputs turns roles)
+          (run_to i.main (first_call M step' (turns + d) i.main (M.entered i.main Main) (richer d start))))
+          (sym match.interfaces) (subst (λ number. RunsBelow (roles_run L globals inputs turns roles)
+          (run_to main (first_call M step' (turns + d) main number (richer d start)))) (sym (match.entered main Main))
+          (run_to_below main _ _ (begins.first start).stop (begins.second (richer d start)).stop
+          (begins.both start (richer d start) (record { state = refl; few = omega arith; few' = omega arith }))))
 
 -- What functions do with as many open calls as they have turns is a fixed point.
 
