@@ -80,18 +80,12 @@ module _ (d : ℕ) (Soft : Cause → Type 0) (Turns : Type 0) where
         at_most x y z p q = omega (arith, p, q)
     on_along V W s s' (Stopped end t) p k l a g g' is h = along (ap (λ x. and_then x l) is)
 
-    on_passed : (V W : Type 0) (o p : Piece V) (k l : V → State → Piece W) (end : RunEnd) (t : State) →
-        o ≡ Stopped end t → Passes end → Later t (last p) → ((v : V) → Goes (l v)) →
-        Below W (and_then o k) (and_then p l)
-    on_passed V W o p k l end t is passes front goes =
-        passed end t (ap (λ x. and_then x k) is) passes (later_more t _ _ front (then_from p l goes))
-
     after : (V W : Type 0) (s s' : State) (o p : Piece V) (k l : V → State → Piece W) → Ahead n n' s s' → Gone s o →
         Gone s' p → ((v : V) → Goes (k v)) → ((v : V) → Goes (l v)) → Below V o p → After V W s s' k l →
         Below W (and_then o k) (and_then p l)
     after V W s s' o p k l a g g' goes goes' (along is) h = on_along V W s s' o p k l a g g' is h
     after V W s s' o p k l a g g' goes goes' (passed end t is passes front) h =
-        on_passed V W o p k l end t is passes front goes'
+        passed end t (ap (λ x. and_then x k) is) passes (later_more t _ _ front (then_from p l goes'))
 
     -- a turn of both, where the first has m turns and the second m'
     turn_at : (W : Type 0) (k l : Unit {0} → State → Piece W) → ((v : Unit {0}) → Goes (l v)) → (s : State) (m m' : ℕ) →

@@ -107,17 +107,9 @@ within_with set comp c is = ap (λ b. (c == comp) || b) is ∙ or_true (c == com
   or_true true = refl
   or_true false = refl
 
-with_has : (set : Set) (comp : ℕ) → with comp set comp ≡ true
-with_has set comp = ap (λ b. b || set comp) (eq-eqb comp comp refl)
-
 module _ (L : Library) (obedient : Obedient L) (globals : Memory) (inputs : List ℕ) (turns : ℕ) (t : List Event) where
   abbrev behaviour : Set → SourceRun
   behaviour set = performed_by L globals inputs turns t set
-
-  blamed_early : (set : Set) (comp : ℕ) (cause : Cause) (line : ℕ) → (behaviour set).end ≡ Blamed comp cause line →
-      length (behaviour set).trace < length t
-  blamed_early set comp cause line ends =
-      early _ (roles_run L globals inputs turns (roles_in L.interfaces.main set t)).behaviour comp cause line ends
 
   -- where the next run is blamed it has told more
   told_more : (run other : SourceRun) (comp : ℕ) (cause : Cause) (line : ℕ) → other.end ≡ Blamed comp cause line →
@@ -135,7 +127,7 @@ module _ (L : Library) (obedient : Obedient L) (globals : Memory) (inputs : List
       let here = chain.0 in
       let low : least ≤ length (behaviour set).trace = h link.comp link.cause link.line here.blamed in
       let high : length (behaviour set).trace < length t =
-      blamed_early set link.comp link.cause link.line here.blamed in
+      early _ (roles_run L globals inputs turns (roles_in L.interfaces.main set t)).behaviour _ _ _ here.blamed in
       let same : length (behaviour set).trace ≡ link.after = here.after in (
         omega (arith, low, same),
         omega (arith, high, same),
@@ -143,7 +135,8 @@ module _ (L : Library) (obedient : Obedient L) (globals : Memory) (inputs : List
             let more : length (behaviour set).trace < length (behaviour (with _ set)).trace =
             told_more (behaviour set) (behaviour (with link.comp set)) comp cause line ends
             (passes_blames L obedient globals inputs turns t set (with link.comp set) (within_with set link.comp)
-            link.comp link.cause link.line here.blamed here.front (with_has set link.comp)) in
+            link.comp link.cause link.line here.blamed here.front (ap (λ b. b || set link.comp) (eq-eqb link.comp _
+            refl))) in
             omega (arith, more, same)) chain.1,
       )
 

@@ -294,12 +294,6 @@ module _ (L : Library) (main : ℕ) (t : List Event) (S S' : ℕ → Bool) (larg
         abbrev ends' : Option Value → State → Piece (Option Value)
         ends' = returns to from index f first'
 
-        -- the value and the event with which a performed return comes
-        performed_return : (v : Option Value) (u' : State) → ends' (option_value (back to index v)) u'
-            ≡ Reached (option_value (back to index v)) (tell (told v) (done to f first' u'))
-        performed_return v u' = ap (λ w. Reached (option_value w) (tell (Ret to from w) (done to f first' u')))
-            (crossing_stays (export_at L.interfaces to index) v)
-
         held_return : (k : ℕ) (o left : Piece (Option Value)) → S' to ≡ true → L.entered to (Export index) ≡ Some k →
             InLine t (last (and_then o ends)).trace → Performs main t S' (inside st to index) left (Onward k to first')
             (second_goes k (at to first')) (Option Value) o → Up st (and_then o ends) (and_then left ends')
@@ -316,7 +310,8 @@ module _ (L : Library) (main : ℕ) (t : List Event) (S S' : ℕ → Bool) (larg
                   (returns_goes to from index f first') (left_goes main t S' (inside st to index) left
                   (Onward k to first') (second_goes k (at to first')) u stands)))
               told_held (tells_it more all now) = follows.both (option_value (back to index v)) _ _ refl
-                  (ap (λ y. and_then y ends') (stands.is ∙ now.is) ∙ performed_return v stands.other)
+                  (ap (λ y. and_then y ends') (stands.is ∙ now.is) ∙ ap (λ w. Reached (option_value w) (tell (Ret to
+                  from w) (done to f first' stands.other))) (crossing_stays (export_at L.interfaces to index) v))
                   (ended_near first' u stands.other v more all (λ clear. absurd (both_ways _ clear set)) stands.near)
         held_return k o left set is_k along (performing.stop end x is by) =
             follows.stop end x (ap (λ y. and_then y ends) is) (beyond_back main t S' (Option Value) end x left ends'
@@ -362,10 +357,6 @@ module _ (L : Library) (main : ℕ) (t : List Event) (S S' : ℕ → Bool) (larg
         abbrev run' : Piece (Option Value)
         run' = enters second from to index number args f s'
 
-        entered_near : N (inside st to index) (tell event s) (tell event s') → N (inside st to index) x x'
-        entered_near = near_blocks main t S' _ _ _ to _ _ _ _
-            (λ clear. ap (λ blocks. blocks ++ blocks_for f.cells (crossed args)) (n.memory to clear))
-
         along_inside : InLine t (last run).trace → InLine t (last (a number (at to first) x)).trace
         along_inside =
             then_along t (a number (at to first) x) (returns to from index f first) (returns_goes to from index f first)
@@ -386,7 +377,8 @@ module _ (L : Library) (main : ℕ) (t : List Event) (S S' : ℕ → Bool) (larg
         enters_follow = tells (Option Value) st (inside st to index) s s' event run run' refl n
             (enters_goes a bodies.goes from to index number args f s).grown.events
             (enters_goes second second_goes from to index number args f s').grown.events
-            (λ near. record { follows = callee _ refl (entered_near near) })
+            (λ near. record { follows = callee _ refl (near_blocks main t S' _ _ _ to _ _ _ _
+            (λ clear. ap (λ blocks. blocks ++ blocks_for f.cells (crossed args)) (n.memory to clear)) near) })
 
       -- what is looked up is there in both runs, or both stop
       found_follow : {V : Type 0} (o : Option V) (go go' : V → State → Piece (Option Value)) (st : Standing)

@@ -1,13 +1,14 @@
 -- Whole runs along one trace, of which the second has more compartments that perform their parts of it; the least set.
-use Rattle.sc_laws.proofs.Common.{Blamed, Bool, Cause, Ended, Event, Front, Function, Includes, IsChain, IsFixed}
-use Rattle.sc_laws.proofs.Common.{IsStop, IsWithin, KeepsBlames, LeastIsChain, Library, Link, List, Main, Memory, Never}
-use Rattle.sc_laws.proofs.Common.{None, Obedient, Option, PassesBlame, PassesBlames, Piece, Reached, RunEnd, Set, Some}
-use Rattle.sc_laws.proofs.Common.{SourceRun, Standing, State, Step, Stopped, StopsSo, TellsWithMore, TurnsOut, Value}
-use Rattle.sc_laws.proofs.Common.{[], and_then, ap, append-nil, arith, begun, call_own, done, drop, eqb-true, exit_word}
-use Rattle.sc_laws.proofs.Common.{false, first_state, found, inl, inr, last, leb-false, length, length-append, longer}
-use Rattle.sc_laws.proofs.Common.{lt-leb, nobody, now, performed_by, reaches, refl, roles_in, roles_run, run_by, run_to}
-use Rattle.sc_laws.proofs.Common.{stopped_at, subst, suc, sym, take, take-append-drop, take_all, take_front, true}
-use Rattle.sc_laws.proofs.Common.{turnless, with, within, ℕ, ◌++◌, ◌+◌, ◌<◌, ◌==◌, ◌||◌, ◌∙◌, ◌∷◌, ◌≡◌}
+use Rattle.sc_laws.proofs.Common.{function, Blamed, Bool, Cause, Ended, Event, Front, Function, Includes, IsChain}
+use Rattle.sc_laws.proofs.Common.{IsFixed, IsStop, IsWithin, KeepsBlames, LeastIsChain, Library, Link, List, Main}
+use Rattle.sc_laws.proofs.Common.{Memory, Never, None, Obedient, Option, PassesBlame, PassesBlames, Piece, Reached}
+use Rattle.sc_laws.proofs.Common.{RunEnd, Set, Some, SourceRun, Standing, State, Step, Stopped, StopsSo, TellsWithMore}
+use Rattle.sc_laws.proofs.Common.{TurnsOut, Value, [], and_then, ap, append-nil, arith, begun, done, drop, eqb-true}
+use Rattle.sc_laws.proofs.Common.{exit_word, false, first_state, found, inl, inr, last, leb-false, length}
+use Rattle.sc_laws.proofs.Common.{length-append, longer, lt-leb, nobody, now, performed_by, reaches, refl, roles_in}
+use Rattle.sc_laws.proofs.Common.{roles_run, run_by, run_to, stopped_at, subst, suc, sym, take, take-append-drop}
+use Rattle.sc_laws.proofs.Common.{take_all, take_front, true, turnless, with, within, ℕ, ◌++◌, ◌+◌, ◌<◌, ◌==◌, ◌||◌}
+use Rattle.sc_laws.proofs.Common.{◌∙◌, ◌∷◌, ◌≡◌}
 use Rattle.sc_event.specs.declared.event.Event.TheVariants as event
 use Rattle.sc_laws.proofs.Growing.{front_same, front_more, front_no_longer, BodyGoes, within_goes}
 use Rattle.sc_laws.proofs.Following.{GoesOn, KeepsUp, whole, follow_kept, follow_at, Performs, left_goes, perform_kept}
@@ -73,15 +74,12 @@ module _ (t : List Event) (S' : Set) where
         (λ comp cause line blame set. passed (run_to main o).behaviour (ap (λ r. r.trace) behaviour)
         (by.passed comp cause line blame set))
 
-    ended_whole : (x : SourceRun) → x.end ≡ Ended → (comp : ℕ) (cause : Cause) (line : ℕ) →
-        x.end ≡ Blamed comp cause line → ⊥
-    ended_whole x ended comp cause line blame = (let clash = sym ended ∙ blame in absurd (cc))
-
     both_end : (st : Standing) (o p : Piece (Option Value)) → StopsSo o → KeepsUp main t S' st (Option Value) o p →
         RunsFollow (run_to main o).behaviour (run_to main p).behaviour
     both_end st o p stop (follows.done a b) = tells_all (told_on t o a) (told_on t p b)
     both_end st o p stop (follows.both v u u' is is' near) =
-        ends_so (ended_whole (run_to main o).behaviour (ap (λ y. (run_to main y).behaviour.end) is))
+        ends_so (λ comp cause line blame. (let clash = sym (ap (λ y. (run_to main y).behaviour.end) is) ∙ blame in
+        absurd (cc)))
         (ap (λ y. (run_to main y).behaviour) is'
         ∙ ap (λ z. record { trace = z ++ event.End main (exit_word v) ∷ []; end = Ended }) near.trace
         ∙ sym (ap (λ y. (run_to main y).behaviour) is))
@@ -196,30 +194,20 @@ module _ (L : Library) (obedient : Obedient L) (t : List Event) (S S' : Set) (la
           (subst (RunsFollow t S' (run_to main o).behaviour) (sym (ended_shows p))
           (main_follows _ refl (subst (λ r. InLine t r.trace) (ended_shows o) along)))
 
-    -- the run once the function of `main` is looked up, and once its number is
-    abbrev of_function : Step → ℕ → Option Function → SourceRun
-    of_function step number f = (run_to main (and_then (found f beginning) (λ f s. and_then
-        (within step (suc turns) number (at main (length (s.memory main))) (begun main f [] s))
-        (λ v u. Reached v (done main f (length (s.memory main)) u))))).behaviour
-
-    function_runs : (number : ℕ) → L.entered main Main ≡ Some number → (f : Option Function) →
-        InLine t (of_function step number f).trace → RunsFollow t S' (of_function step number f)
-        (of_function step' number f)
-    function_runs number is None along = ends_so (λ comp cause line blame. absurd (cc)) refl
-    function_runs number is (Some f) along = main_runs number is f along
-
-    abbrev of_number : Step → Option ℕ → SourceRun
-    of_number step number = (run_to main (and_then (found number beginning)
-        (λ number s. call_own L (within step (suc turns)) main number [] s))).behaviour
-
-    number_runs : (number : Option ℕ) → L.entered main Main ≡ number → InLine t (of_number step number).trace →
-        RunsFollow t S' (of_number step number) (of_number step' number)
-    number_runs None is along = ends_so (λ comp cause line blame. absurd (cc)) refl
-    number_runs (Some number) is along = function_runs number is _ along
+    -- what is looked up is there in both runs, or both stop
+    found_runs : {V : Type 0} (o : Option V) (go go' : V → State → Piece (Option Value)) → ((v : V) → o ≡ Some v →
+        InLine t (run_to main (go v beginning)).behaviour.trace →
+        RunsFollow t S' (run_to main (go v beginning)).behaviour (run_to main (go' v beginning)).behaviour) →
+        InLine t (run_to main (and_then (found o beginning) go)).behaviour.trace →
+        RunsFollow t S' (run_to main (and_then (found o beginning) go)).behaviour
+        (run_to main (and_then (found o beginning) go')).behaviour
+    found_runs None go go' h along = ends_so (λ comp cause line blame. absurd (cc)) refl
+    found_runs (Some v) go go' h along = h v refl along
 
     run_follows : InLine t (run_by L step globals inputs turns).behaviour.trace →
         RunsFollow t S' (run_by L step globals inputs turns).behaviour (run_by L step' globals inputs turns).behaviour
-    run_follows along = number_runs _ refl along
+    run_follows = found_runs (L.entered main Main) _ _ (λ number is.
+        found_runs (function L main number) _ _ (λ f there. main_runs number is f))
 
 -- THE LAWS
 module _ (t : List Event) (x y : SourceRun) where
@@ -305,10 +293,6 @@ module _ (L : Library) (obedient : Obedient L) (globals : Memory) (inputs : List
   abbrev behaviour : Set → SourceRun
   behaviour = performed_by L globals inputs turns t
 
-  -- the same, not stopped yet
-  abbrev whole_run : Set → SourceRun
-  whole_run set = (roles_run L globals inputs turns (roles_in L.interfaces.main set t)).behaviour
-
   pub tells_with_more : TellsWithMore t behaviour
   tells_with_more small large larger tells =
       tells_too t _ _ large (run_follows L obedient t small large larger globals inputs turns) tells
@@ -333,8 +317,9 @@ module _ (L : Library) (obedient : Obedient L) (globals : Memory) (inputs : List
           by_test false clear rest =
               let equal : behaviour set ≡ behaviour small =
               keeps_blames small set larger link.comp link.cause link.line chain.0.blamed chain.0.front clear in
-              absurd (blamed_below t (whole_run small) (behaviour small) link.comp link.cause link.line _ refl
-              chain.0.blamed (ap (λ r. r.trace) (sym equal) ∙ tells))
+              absurd (blamed_below t (roles_run L globals inputs turns (roles_in L.interfaces.main small t)).behaviour
+              (behaviour small) link.comp link.cause link.line _ refl chain.0.blamed (ap (λ r. r.trace) (sym equal) ∙
+              tells))
 
     is_enough : (links : List Link) (small : Set) → IsWithin small set → IsChain behaviour t small links →
         Includes set links → (behaviour set).trace ≡ t

@@ -1,15 +1,15 @@
 -- What statements do is a tree, and under two arithmetics the trees are alike.
-use Rattle.sc_laws.proofs.Common.{Acts, Arith, Blocks, Bool, Break, CallTarget, Calls, Cause, Continue, Doing, Each}
-use Rattle.sc_laws.proofs.Common.{Err, Exit, FunctionsMatch, Here, Inside, LibrariesMatch, List, Local, Match, Meets}
-use Rattle.sc_laws.proofs.Common.{Never, Next, NoReturn, None, Obedient, Ok, Option, ProgramTree, Return, Some}
-use Rattle.sc_laws.proofs.Common.{TypedExpr, TypedFunction, TypedLocal, TypedSection, TypedSimple, TypedSimpleKind}
-use Rattle.sc_laws.proofs.Common.{TypedStmt, TypedStmtKind, TypedStmtKind-F, TypedStruct, Value, Want, Ways, [], all_do}
-use Rattle.sc_laws.proofs.Common.{assign, at_brace, at_place, block_does, body_does, call, choose, closed, evaluated}
+use Rattle.sc_laws.proofs.Common.{Acts, Arith, Blocks, Bool, Break, Calls, Cause, Continue, Doing, Each, Err, Exit}
+use Rattle.sc_laws.proofs.Common.{FunctionsMatch, Here, Inside, LibrariesMatch, List, Local, Match, Meets, Never, Next}
+use Rattle.sc_laws.proofs.Common.{NoReturn, None, Obedient, Ok, Option, ProgramTree, Return, Some, TypedExpr}
+use Rattle.sc_laws.proofs.Common.{TypedFunction, TypedLocal, TypedSection, TypedSimple, TypedSimpleKind, TypedStmt}
+use Rattle.sc_laws.proofs.Common.{TypedStmtKind, TypedStmtKind-F, TypedStruct, Value, Want, Ways, [], all_do, assign}
+use Rattle.sc_laws.proofs.Common.{at_brace, at_place, block_does, body_does, call, choose, closed, evaluated}
 use Rattle.sc_laws.proofs.Common.{everywhere, false, function_of, functions_in, in_order, init_does, inits_do}
 use Rattle.sc_laws.proofs.Common.{kind_step, layer_of, leave, library_of, loop, map, on_line, part_does, refl}
 use Rattle.sc_laws.proofs.Common.{simple_does, slice_get, slice_index_or, stmt_at, stmt_does, stmt_induction, stmt_step}
-use Rattle.sc_laws.proofs.Common.{store_at, store_result, stored, subst, suc, sym, test, true, values, variable_at}
-use Rattle.sc_laws.proofs.Common.{ways, zero, ℕ, ◌∷◌, ◌≡◌}
+use Rattle.sc_laws.proofs.Common.{store_at, store_result, stored, subst, suc, sym, test, true, variable_at, ways, zero}
+use Rattle.sc_laws.proofs.Common.{ℕ, ◌∷◌, ◌≡◌}
 use Rattle.sc_core.specs.declared.expr.TypedCall.{TypedCall}
 use Rattle.sc_core.specs.declared.stmt.TypedStmtKind.TheOpen as layer
 use Rattle.sc_core.specs.declared.stmt.TypedSimpleKind.TheVariants as simple
@@ -58,12 +58,6 @@ module _ (Soft : Cause → Type 0) (here : Here) where
   store_result_matches place place' h None line = leave_matches Next
   store_result_matches place place' h (Some v) line = store_at_matches place place' h v line
 
-  call_matches : (target : CallTarget) (args args' : List Ways) →
-      ((blocks : Blocks) → Keeps Soft (List Value) (values args blocks) (values args' blocks)) → (line : ℕ) →
-      Match Soft here (λ by. call here by target args line) (λ by. call here by target args' line)
-  call_matches target args args' h line = match_then Soft here _ _ (λ vs by. by _ target vs) (λ vs by. by _ target vs)
-      (match_computed Soft here line _ _ h) (λ vs. match_call Soft here target vs)
-
   module _ (ar br : Arith) (arith : ArithKeeps Soft ar br) (structs : List TypedStruct) (params : ℕ) where
     -- the same acts in both
     abbrev InBoth : (Arith → Calls → Acts) → Type 0
@@ -78,8 +72,9 @@ module _ (Soft : Cause → Type 0) (here : Here) where
 
     called_matches : (c : TypedCall) (line : ℕ) → Match Soft here (λ by. call here by c.target (args_by ar c) line)
         (λ by. call here by c.target (args_by br c) line)
-    called_matches c line = call_matches c.target (args_by ar c) (args_by br c)
-        (values_keep Soft ar br arith structs here params c.args) line
+    called_matches c line = match_then Soft here _ _ (λ vs by. by _ c.target vs) (λ vs by. by _ c.target vs)
+        (match_computed Soft here line _ _ (values_keep Soft ar br arith structs here params c.args))
+        (λ vs. match_call Soft here c.target vs)
 
     simple_matches : (k : TypedSimpleKind) (line : ℕ) →
         InBoth (λ arith by. simple_does arith structs here params by k line)

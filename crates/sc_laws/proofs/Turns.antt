@@ -1,8 +1,8 @@
 -- A run that is out of turns has none left, where all functions that are called are there.
-use Rattle.sc_laws.proofs.Common.{Blamed, Ended, EventsOut, IsSpent, Kept, Library, List, Main, Memory, Obedient}
-use Rattle.sc_laws.proofs.Common.{Option, Piece, Property, Reached, RunEnd, SpendsTurns, State, Stopped, StopsSpent}
-use Rattle.sc_laws.proofs.Common.{TurnsOut, Value, arith, first_state, leads, main_call, refl, run_step, run_to, subst}
-use Rattle.sc_laws.proofs.Common.{suc, true, within, zero, ℕ, ◌<◌, ◌≡◌}
+use Rattle.sc_laws.proofs.Common.{Blamed, Ended, EventsOut, Kept, Library, List, Main, Memory, Obedient, Option, Piece}
+use Rattle.sc_laws.proofs.Common.{Property, Reached, RunEnd, SpendsTurns, State, Stopped, StopsSpent, TurnsOut, Value}
+use Rattle.sc_laws.proofs.Common.{arith, first_state, leads, main_call, refl, run_step, run_to, subst, suc, true}
+use Rattle.sc_laws.proofs.Common.{within, zero, ℕ, ◌<◌, ◌≡◌}
 use Rattle.sc_laws.proofs.Growing.{within_goes}
 use Rattle.sc_laws.proofs.Matching.{run_goes_on}
 use Rattle.sc_laws.proofs.Keeping.{Walk, place, BodyWalks, main_walks, run_step_walks, led_somewhere, led_there}
@@ -49,9 +49,6 @@ module _ (library : Library) where
         (within_spends n) obedient (within_goes (run_step library) (run_goes_on library obedient) n) number here s i is
         tt (λ k f. tt) (λ cause line s few. tt) few
 
-    is_spent : {V : Type 0} (n : ℕ) (o : Piece V) → Kept (spending n) o → IsSpent o
-    is_spent n o h s is = (subst (λ x. Kept (spending n) x) is h).after
-
     abbrev main : ℕ
     main = library.interfaces.main
 
@@ -72,7 +69,8 @@ module _ (library : Library) where
 
     pub spends_turns : SpendsTurns library
     spends_turns = record {
-      functions = λ number here s is. is_spent (suc s.turns) _ (within_spends _ number here s tt is tt (omega arith));
+      functions = λ number here s is t stopped. (subst (λ x. Kept (spending (suc s.turns)) x) stopped
+          (within_spends _ number here s tt is tt (omega arith))).after;
       runs = λ globals inputs turns is ends. stops globals inputs turns _ refl
           (main_spends globals inputs turns is) ends;
     }
