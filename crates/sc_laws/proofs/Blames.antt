@@ -102,10 +102,7 @@ early n x comp cause line ends = by _ refl ends where
   by false is ends = few x.end ends is
 
 within_with : (set : Set) (comp : ℕ) → IsWithin set (with comp set)
-within_with set comp c is = ap (λ b. (c == comp) || b) is ∙ or_true (c == comp) where
-  or_true : (b : Bool) → (b || true) ≡ true
-  or_true true = refl
-  or_true false = refl
+within_with set comp c is = grind (arith, is)
 
 module _ (L : Library) (obedient : Obedient L) (globals : Memory) (inputs : List ℕ) (turns : ℕ) (t : List Event) where
   abbrev behaviour : Set → SourceRun
@@ -161,32 +158,14 @@ missing set (suc n) = (if set n then 0 else 1) + missing set n
 above_counts : (set : Set) (comp n : ℕ) → n ≤ comp → missing (with comp set) n ≡ missing set n
 unfolding missing
 above_counts set comp zero le = refl
-above_counts set comp (suc n) le = ap₂ (λ b m. (if b || set n then 0 else 1) + m)
-    (ne_eqb n comp (λ is. absurd (omega (arith, le, is)))) (above_counts set comp n (omega (arith, le)))
+above_counts set comp (suc n) le = grind (arith, ne_eqb n comp, above_counts set comp n (omega (arith, le)))
 
 -- one below it that isn't of the set counts once
-still_apart : (n comp : ℕ) → (n == comp) ≡ false → comp < suc n → comp < n
-still_apart n comp differs lt = ⊎_elim (λ is. cc (sym differs ∙ eq-eqb n comp is)) (λ no. omega (arith, lt, no))
-    (cases_eq n comp)
-
 below_counts : (set : Set) (comp n : ℕ) → set comp ≡ false → comp < n → suc (missing (with comp set) n) ≡ missing set n
 unfolding missing
 below_counts set comp zero clear lt = absurd (omega (arith, lt))
-below_counts set comp (suc n) clear lt = by (below_counts set comp n clear) (n == comp) refl where
-  by : (comp < n → suc (missing (with comp set) n) ≡ missing set n) → (b : Bool) → (n == comp) ≡ b → suc
-      ((if (n == comp) || set n then 0 else 1) + missing (with comp set) n) ≡ (if set n then 0 else 1) + missing set n
-  by before true is =
-      let same : n ≡ comp = eqb-true n comp is in
-      let here : set n ≡ false = ap set same ∙ clear in
-      let counts : missing (with comp set) n ≡ missing set n = above_counts set comp n (omega (arith, same)) in
-      ap (λ b. suc ((if b || set n then 0 else 1) + missing (with comp set) n)) is
-      ∙ ((let one : suc (0 + missing (with comp set) n) ≡ 1 + missing set n = omega (arith, counts) in one)
-      ∙ ap (λ b. (if b then 0 else 1) + missing set n) (sym here))
-  by before false is =
-      let counts : suc (missing (with comp set) n) ≡ missing set n = before (still_apart n comp is lt) in
-      ap (λ b. suc ((if b || set n then 0 else 1) + missing (with comp set) n)) is
-      ∙ (let one : ℕ = if set n then 0 else 1 in let moved : suc (one + missing (with comp set) n)
-      ≡ one + missing set n = omega (arith, counts) in moved)
+below_counts set comp (suc n) clear lt = grind (arith, cases_eq n comp, eq-eqb n comp, ne_eqb n comp,
+    above_counts set comp n, below_counts set comp n clear)
 
 nobody_missing : (n : ℕ) → missing nobody n ≡ n
 unfolding missing

@@ -284,10 +284,7 @@ module _ (t : List Event) (x y : SourceRun) where
       (let few = blamed_early comp cause line ends is in let long = ap length tells in omega (arith, few, long))
 
 with_link : (set small : Set) (comp : ℕ) → IsWithin small set → set comp ≡ true → IsWithin (with comp small) set
-with_link set small comp larger has c is = by_test _ refl is where
-  by_test : (b : Bool) → (c == comp) ≡ b → (b || small c) ≡ true → set c ≡ true
-  by_test true same is = subst (λ d. set d ≡ true) (sym (eqb-true c comp same)) has
-  by_test false same is = larger c is
+with_link set small comp larger has c is = grind (arith, larger c, eqb-true c comp, has, is)
 
 module _ (L : Library) (obedient : Obedient L) (globals : Memory) (inputs : List ℕ) (turns : ℕ) (t : List Event) where
   abbrev behaviour : Set → SourceRun

@@ -12,21 +12,13 @@ use Rattle.sc_laws.proofs.Keeping.{Walk, place, BodyWalks, own_walks, main_walks
 
 -- LISTS OF CHANGES
 
-appended : (comp inner room : ℕ) (xs ys : List FrameChange) (b : Bool) →
-    room_after comp inner (xs ++ ys) ≡ room_after comp (room_after comp inner xs) ys →
-    room_after comp room (xs ++ ys) ≡ room_after comp (room_after comp room xs) ys →
-    (if b then room_after comp inner (xs ++ ys) else room_after comp room (xs ++ ys))
-    ≡ room_after comp (if b then room_after comp inner xs else room_after comp room xs) ys
-appended comp inner room xs ys true h k = h
-appended comp inner room xs ys false h k = k
-
 room_append : (comp room : ℕ) (xs ys : List FrameChange) →
     room_after comp room (xs ++ ys) ≡ room_after comp (room_after comp room xs) ys
 room_append comp room [] ys = refl
-room_append comp room (Opened told c more ∷ xs) ys = appended comp (room + more) room xs ys (c == comp)
-    (room_append comp (room + more) xs ys) (room_append comp room xs ys)
-room_append comp room (Closed told c less ∷ xs) ys = appended comp (room - less) room xs ys (c == comp)
-    (room_append comp (room - less) xs ys) (room_append comp room xs ys)
+room_append comp room (Opened told c more ∷ xs) ys =
+    grind (arith, room_append comp (room + more) xs ys, room_append comp room xs ys)
+room_append comp room (Closed told c less ∷ xs) ys =
+    grind (arith, room_append comp (room - less) xs ys, room_append comp room xs ys)
 
 before_append : (n : ℕ) (xs ys : List FrameChange) → AllBefore n xs → AllBefore n ys → AllBefore n (xs ++ ys)
 before_append n [] ys h k = k
@@ -42,44 +34,27 @@ before_more n m le (Closed told c less ∷ xs) h =
     let first = h.0 in (omega (arith, le, first), before_more n m le xs h.1)
 
 -- the deepest room is at least the first
-deeper : (b : Bool) (room more rest : ℕ) → room ≤ rest → room ≤ (if b then max room more else rest)
-deeper true room more rest h = omega arith
-deeper false room more rest h = h
-
 deepest_first : (events comp room : ℕ) (ys : List FrameChange) → room ≤ deepest events comp room ys
 deepest_first events comp room [] = omega arith
-deepest_first events comp room (Opened told c more ∷ ys) = deeper _ room _ _ (deepest_first events comp room ys)
-deepest_first events comp room (Closed told c less ∷ ys) = deeper _ room _ _ (deepest_first events comp room ys)
-
-either : (b before : Bool) (room x x' y y' : ℕ) → before ≡ true → x ≤ x' → y ≤ y' →
-    (if b then x else y) ≤ (if b && before then max room x' else y')
-either true true room x x' y y' is h k = omega (arith, h)
-either true false room x x' y y' is h k = cc
-either false before room x x' y y' is h k = k
+deepest_first events comp room (Opened told c more ∷ ys) = grind (arith, deepest_first events comp room ys)
+deepest_first events comp room (Closed told c less ∷ ys) = grind (arith, deepest_first events comp room ys)
 
 deepest_from : (events comp room : ℕ) (xs ys : List FrameChange) → AllBefore events xs →
     room_after comp room xs ≤ deepest events comp room (xs ++ ys)
 deepest_from events comp room [] ys h = deepest_first events comp room ys
-deepest_from events comp room (Opened told c more ∷ xs) ys h = either (c == comp) _ room _ _ _ _
-    (lt-ltb told events h.0) (deepest_from events comp (room + more) xs ys h.1)
-    (deepest_from events comp room xs ys h.1)
-deepest_from events comp room (Closed told c less ∷ xs) ys h = either (c == comp) _ room _ _ _ _
-    (lt-ltb told events h.0) (deepest_from events comp (room - less) xs ys h.1)
-    (deepest_from events comp room xs ys h.1)
+deepest_from events comp room (Opened told c more ∷ xs) ys h = grind (arith, lt-ltb told events h.0,
+    deepest_from events comp (room + more) xs ys h.1, deepest_from events comp room xs ys h.1)
+deepest_from events comp room (Closed told c less ∷ xs) ys h = grind (arith, lt-ltb told events h.0,
+    deepest_from events comp (room - less) xs ys h.1, deepest_from events comp room xs ys h.1)
 
 -- more changes get no less deep
-both_more : (b : Bool) (room x x' y y' : ℕ) → x ≤ x' → y ≤ y' →
-    (if b then max room x else y) ≤ (if b then max room x' else y')
-both_more true room x x' y y' h k = omega (arith, h)
-both_more false room x x' y y' h k = k
-
 pub deepest_more : (events comp room : ℕ) (xs ys : List FrameChange) →
     deepest events comp room xs ≤ deepest events comp room (xs ++ ys)
 deepest_more events comp room [] ys = deepest_first events comp room ys
-deepest_more events comp room (Opened told c more ∷ xs) ys = both_more (c == comp && nat_lt told events) room _ _ _ _
-    (deepest_more events comp (room + more) xs ys) (deepest_more events comp room xs ys)
-deepest_more events comp room (Closed told c less ∷ xs) ys = both_more (c == comp && nat_lt told events) room _ _ _ _
-    (deepest_more events comp (room - less) xs ys) (deepest_more events comp room xs ys)
+deepest_more events comp room (Opened told c more ∷ xs) ys =
+    grind (arith, deepest_more events comp (room + more) xs ys, deepest_more events comp room xs ys)
+deepest_more events comp room (Closed told c less ∷ xs) ys =
+    grind (arith, deepest_more events comp (room - less) xs ys, deepest_more events comp room xs ys)
 
 pub deepest_is_reached : DeepestIsReached
 deepest_is_reached events comp before after h = deepest_from events comp 0 before after h
