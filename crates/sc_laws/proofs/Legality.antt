@@ -1,4 +1,5 @@
 -- Every trace that a run shows is legal.
+use Rattle.sc_laws.proofs.Common.{arith}
 use Rattle.sc_laws.proofs.Common.{Call, Cross, Event, Export, Interfaces, IsStop, Kept, Library, List, Main, Memory}
 use Rattle.sc_laws.proofs.Common.{None, Obedient, Option, Piece, Proto, Reached, Ret, Roles, Scalar, Some, Standing}
 use Rattle.sc_laws.proofs.Common.{State, Stopped, Value, [], and_from, and_parts, ap, at_start, awaits, crossing}
@@ -21,18 +22,14 @@ module _ (library : Library) where
       is_legal_from interfaces at (t ++ e ∷ []) ≡ true
   legal_more at [] st e h l may = ap (λ x. is_legal_from interfaces x (e ∷ [])) h ∙ and_from _ true may refl
   legal_more None (x ∷ t) st e h l may = cc l
-  legal_more (Some a) (x ∷ t) st e h l may =
-      let parts = and_parts (is_allowed interfaces a x) (is_legal_from interfaces (stands_after a x) t) l in
-      and_from (is_allowed interfaces a x) _ parts.0 (legal_more (stands_after a x) t st e h parts.1 may)
+  legal_more (Some a) (x ∷ t) st e h l may = grind (arith, legal_more (stands_after a x) t st e h, l, may)
 
   legal_take : (n : ℕ) (at : Option Standing) (t : List Event) → is_legal_from interfaces at t ≡ true →
       is_legal_from interfaces at (take n t) ≡ true
   legal_take zero at t l = refl
   legal_take (suc n) at [] l = refl
   legal_take (suc n) None (x ∷ t) l = cc l
-  legal_take (suc n) (Some a) (x ∷ t) l =
-      let parts = and_parts (is_allowed interfaces a x) (is_legal_from interfaces (stands_after a x) t) l in
-      and_from (is_allowed interfaces a x) _ parts.0 (legal_take n (stands_after a x) t parts.1)
+  legal_take (suc n) (Some a) (x ∷ t) l = grind (arith, legal_take n (stands_after a x) t, l)
 
   -- where a legal trace stands
   pub record IsAt (t : List Event) (st : Standing) : Type 0 where

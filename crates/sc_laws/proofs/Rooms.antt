@@ -78,11 +78,7 @@ record Noted (base : State) (rooms : Rooms) (trace : List Event) (frames : List 
 endless_more : (xs : List Event) (e : Event) → is_end e ≡ false → has_no_end xs ≡ true →
     has_no_end (xs ++ e ∷ []) ≡ true
 endless_more [] e plain h = rw plain refl
-endless_more (x ∷ xs) e plain h = by _ (endless_more xs e plain) h where
-  by : (b : Bool) → (has_no_end xs ≡ true → has_no_end (xs ++ e ∷ []) ≡ true) →
-      not (b || list_any is_end xs) ≡ true → not (b || list_any is_end (xs ++ e ∷ [])) ≡ true
-  by true later h = h
-  by false later h = later h
+endless_more (x ∷ xs) e plain h = grind (arith, endless_more xs e plain, h)
 
 module _ (base : State) where
   abbrev At : ℕ → Rooms → State → Type 0
@@ -124,13 +120,8 @@ module _ (base : State) where
           (h.told.moments first) (omega arith, tt);
       endless = h.told.endless;
     };
-    open_ = λ c. room_append c 0 s.frames (Closed _ comp f.room ∷ [])
-        ∙ (ap (λ room. if comp == c then room - f.room else room) (h.open_ c) ∙ narrower (comp == c) _ f.room);
-  } where
-    narrower : (b : Bool) (room more : ℕ) →
-        (if b then (if b then room + more else room) - more else (if b then room + more else room)) ≡ room
-    narrower true room more = omega arith
-    narrower false room more = refl
+    open_ = λ c. grind (arith, room_append c 0 s.frames (Closed (length s.trace) comp f.room ∷ []), h.open_ c);
+  }
 
   -- RUNS
   module _ (library : Library) where

@@ -1,5 +1,6 @@
 -- A run in which a set performs its part of a legal trace: where it is out of turns while it keeps to the trace and
 -- hasn't told all of it, it has none left. For there the next row of the active compartment is its next event.
+use Rattle.sc_laws.proofs.Common.{drop_next}
 use Rattle.sc_laws.proofs.Common.{Action, BadType, Blamed, Body, Bool, Call, CallTarget, Cross, End, Ended, Event}
 use Rattle.sc_laws.proofs.Common.{EventsOut, Export, ExportsLead, Here, In, Input, Interfaces, Kept, Library, List}
 use Rattle.sc_laws.proofs.Common.{Main, Memory, None, Obedient, Option, Output, Piece, Property, Ret, Roles, Row}
@@ -29,13 +30,6 @@ allowed_at interfaces (Some a) [] e more st l is = subst (λ x. is_allowed inter
     (and_parts (is_allowed interfaces a e) (is_legal_from interfaces _ more) l).0
 allowed_at interfaces None (x ∷ u) e more st l is = absurd (false≢true l)
 allowed_at interfaces (Some a) (x ∷ u) e more st l is = allowed_at interfaces _ u e more st (and_parts _ _ l).1 is
-
--- what is left behind the first of what is left
-left_behind : {A : Type 0} (n : ℕ) (xs : List A) (x : A) (rest : List A) → x ∷ rest ≡ drop n xs → rest ≡ drop (suc n) xs
-left_behind zero [] x rest is = absurd (cc)
-left_behind zero (y ∷ xs) x rest is = cc is
-left_behind (suc n) [] x rest is = absurd (cc)
-left_behind (suc n) (y ∷ xs) x rest is = left_behind n xs x rest is
 
 -- words are words
 pub words_are : (args : List ℕ) → list_all is_word (map (λ w. Word w) args) ≡ true
@@ -180,7 +174,7 @@ module _ (library : Library) (leads_on : ExportsLead library) (trace : List Even
 
       -- once an event was told, the rows behind are left
       rows_then : (e : Event) → performer e ≡ here.comp → rest ≡ rows_left roles here.comp (s.trace ++ e ∷ [])
-      rows_then e own = left_behind (count_of _ s.trace) (part main _ trace) row rest rows
+      rows_then e own = ap (drop 1) rows ∙ drop_next (part main _ trace) (count_of _ s.trace)
           ∙ ap (λ k. drop k (part main here.comp trace)) (sym (counts_its_own _ s.trace e own))
 
       asks_along : (target : CallTarget) (args : List Value) (action : Action)
