@@ -1,4 +1,5 @@
 -- Calls in two runs along one trace, of which the second has more compartments that perform their parts of it.
+use Rattle.sc_laws.proofs.Common.{arith}
 use Rattle.sc_laws.proofs.Common.{Action, BadType, Body, Bool, Call, CallTarget, Cross, Event, Export, Front, Function}
 use Rattle.sc_laws.proofs.Common.{Goes, Gone, Here, In, Input, IsFixed, Library, List, Meets, None, Option, Output, Own}
 use Rattle.sc_laws.proofs.Common.{Piece, Proto, Reached, Ret, Row, Scalar, Some, Standing, State, Step, Stopped}
@@ -713,10 +714,7 @@ module _ (L : Library) (main : ℕ) (t : List Event) (S S' : ℕ → Bool) (larg
         runs_follow _ _ st meets here clear s s' n = absurd meets
 
         smaller : (c : ℕ) → S' c ≡ false → S c ≡ false
-        smaller c clear = by_test (S c) refl where
-          by_test : (b : Bool) → S c ≡ b → S c ≡ false
-          by_test true set = absurd (both_ways (S' c) clear (larger c set))
-          by_test false is = is
+        smaller c clear = grind (arith, larger c, clear)
 
         step_plain : (number : ℕ) (here : Here) (st : Standing) (s s' : State) → S' here.comp ≡ false → N st s s' →
             F st (first_step a number here s) (second number here s')

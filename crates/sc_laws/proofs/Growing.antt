@@ -211,11 +211,7 @@ module _ (library : Library) (body : Body) (goes : BodyGoes body) where
   -- a call that a script asks for is made where it may be
   pub asks_is : (comp : ℕ) (target : CallTarget) (args : List Value) (s : State) → asks library body comp target args s
       ≡ (if may_call library comp target args then called library body comp target args s else Stopped TurnsOut s)
-  asks_is comp target args s = by _ where
-    by : (b : Bool) → (if b then (if b then called library body comp target args s else Stopped (Blamed comp BadType 0)
-        s) else Stopped TurnsOut s) ≡ (if b then called library body comp target args s else Stopped TurnsOut s)
-    by true = refl
-    by false = refl
+  asks_is comp target args s = grind arith
 
   pub asks_go : (comp : ℕ) (target : CallTarget) (args : List Value) → Goes (asks library body comp target args)
   asks_go comp target args s = if_goes s (may_call library comp target args) (calls library body comp target args s)
