@@ -2,12 +2,11 @@
 use Rattle.sc_laws.proofs.Common.{is_some, AreFresh, Blamed, Bool, Cause, ChainRises, Ended, Event, EventsOut, Function}
 use Rattle.sc_laws.proofs.Common.{HasChain, IsBlamedOutside, IsChain, IsRising, IsWithin, Kept, Library, Link, List}
 use Rattle.sc_laws.proofs.Common.{Memory, Obedient, Option, PassesBlame, Piece, Reached, Roles, RunEnd, Set, SourceRun}
-use Rattle.sc_laws.proofs.Common.{Stopped, TurnsOut, Value, [], ap, ap₂, arith, cases_eq, eq-eqb, eqb-true, false}
-use Rattle.sc_laws.proofs.Common.{first_state, function, if◌then◌else◌, leb-false, length, length-append, longer}
-use Rattle.sc_laws.proofs.Common.{nat_le, ne_eqb, nobody, performed_by, reaches, refl, roles_in, roles_run, run_step}
-use Rattle.sc_laws.proofs.Common.{run_to, scripted_step, slice_get, slice_index_or, stopped_at, subst, suc, sym, true}
-use Rattle.sc_laws.proofs.Common.{turnless, with, within, zero, ℕ, ⊎_elim, ◌++◌, ◌+◌, ◌<◌, ◌==◌, ◌||◌, ◌∙◌, ◌∷◌, ◌≡◌}
-use Rattle.sc_laws.proofs.Common.{◌≤◌, ◌⊎◌}
+use Rattle.sc_laws.proofs.Common.{Stopped, TurnsOut, Value, [], ap, arith, cases_eq, eq-eqb, false, first_state}
+use Rattle.sc_laws.proofs.Common.{function, if◌then◌else◌, leb-false, length, length-append, longer, nat_le, ne_eqb}
+use Rattle.sc_laws.proofs.Common.{nobody, performed_by, reaches, refl, roles_in, roles_run, run_step, run_to}
+use Rattle.sc_laws.proofs.Common.{scripted_step, slice_get, slice_index_or, stopped_at, subst, suc, sym, true, turnless}
+use Rattle.sc_laws.proofs.Common.{with, within, zero, ℕ, ⊎_elim, ◌++◌, ◌+◌, ◌<◌, ◌||◌, ◌∙◌, ◌∷◌, ◌≡◌, ◌≤◌, ◌⊎◌}
 use Rattle.sc_laws.proofs.Keeping.{Walk, place, main_walks, scripted_walks}
 use Rattle.sc_laws.proofs.FollowingRuns.{passes_blames}
 use Rattle.sc_laws.proofs.Runs.{shown}

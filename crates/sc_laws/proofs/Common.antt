@@ -2,14 +2,14 @@
 pub use Rattle.std.proofs.Common.{Bool, Err, List, None, Ok, Option, Result, Some, [], ap, append-nil, append_assoc}
 pub use Rattle.std.proofs.Common.{ap₂, arith, bytes_eq, cond, drop, eq-eqb, eqb-true, false, filter, if◌then◌else◌, inl}
 pub use Rattle.std.proofs.Common.{inr, int_lt, is_some, le-leb, le-ltb, leb-false, leb-true, length, length-append}
-pub use Rattle.std.proofs.Common.{lt-ltb, ltb-false, map, max, nat_le, nat_lt, ne_eqb, not, pos, refl, slice_get}
+pub use Rattle.std.proofs.Common.{lt-ltb, ltb-false, map, nat_le, nat_lt, ne_eqb, not, pos, refl, slice_get}
 pub use Rattle.std.proofs.Common.{slice_index_or, subst, suc, sym, take, take-append-drop, take_all, true, zero, ℕ, ℤ}
 pub use Rattle.std.proofs.Common.{⊎_elim, ◌%◌, ◌&&◌, ◌*ℤ◌, ◌*◌, ◌++◌, ◌+◌, ◌-◌, ◌/◌, ◌<◌, ◌==◌, ◌^◌, ◌||◌, ◌∙◌, ◌∷◌}
 pub use Rattle.std.proofs.Common.{◌≡◌, ◌≤◌, ◌⊎◌}
 pub use Rattle.std.proofs.lemmas.Bool.{and_from, and_parts, both_ways, cases_eq, false≢true, lt-leb}
 pub use Rattle.std.proofs.lemmas.List.{length-map, take-append-le}
 pub use Rattle.std.proofs.lemmas.Option.{same_Some, slice_get-map}
-pub use Rattle.std.specs.List.{list_all, list_any, position_or_len}
+pub use Rattle.std.specs.List.{list_all, position_or_len}
 pub use Rattle.std.specs.Option.{option_map, option_map_or}
 pub use Rattle.sc_base.proofs.Lists.{drop_next, take_front}
 pub use Rattle.sc_base.specs.declared.op.BinaryOp.{BinaryOp}

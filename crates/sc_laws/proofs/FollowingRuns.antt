@@ -7,8 +7,7 @@ use Rattle.sc_laws.proofs.Common.{TurnsOut, Value, [], and_then, ap, append-nil,
 use Rattle.sc_laws.proofs.Common.{exit_word, false, first_state, found, inl, inr, last, leb-false, length}
 use Rattle.sc_laws.proofs.Common.{length-append, longer, lt-leb, nobody, now, performed_by, reaches, refl, roles_in}
 use Rattle.sc_laws.proofs.Common.{roles_run, run_by, run_to, stopped_at, subst, suc, sym, take, take-append-drop}
-use Rattle.sc_laws.proofs.Common.{take_all, take_front, true, turnless, with, within, ℕ, ◌++◌, ◌+◌, ◌<◌, ◌==◌, ◌||◌}
-use Rattle.sc_laws.proofs.Common.{◌∙◌, ◌∷◌, ◌≡◌}
+use Rattle.sc_laws.proofs.Common.{take_all, take_front, true, turnless, with, within, ℕ, ◌++◌, ◌+◌, ◌<◌, ◌∙◌, ◌∷◌, ◌≡◌}
 use Rattle.sc_event.specs.declared.event.Event.TheVariants as event
 use Rattle.sc_laws.proofs.Growing.{front_same, front_more, front_no_longer, BodyGoes, within_goes}
 use Rattle.sc_laws.proofs.Following.{GoesOn, KeepsUp, whole, follow_kept, follow_at, Performs, left_goes, perform_kept}

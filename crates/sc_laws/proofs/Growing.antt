@@ -1,10 +1,10 @@
 -- Each word of the meaning only goes on: events are appended, and no turns come back.
-use Rattle.sc_laws.proofs.Common.{Action, AllFrom, BadType, Blamed, Body, Bool, Call, CallTarget, Calls, Closed, Cross}
-use Rattle.sc_laws.proofs.Common.{Does, Event, Exit, FrameChange, Front, Function, Goes, Gone, Grown, Here, In, Input}
-use Rattle.sc_laws.proofs.Common.{Interfaces, Left, Library, List, None, On, Opened, Option, Out, Output, Own, Piece}
-use Rattle.sc_laws.proofs.Common.{Reached, Ret, Roles, Route, Row, Some, State, Step, Stopped, TurnsOut, Value, Word}
-use Rattle.sc_laws.proofs.Common.{[], acts, and_then, ap, append-nil, append_assoc, arith, asks, back_cross, back_own}
-use Rattle.sc_laws.proofs.Common.{begun, call_cross, call_own, called, calls, done, false, follow, found, function}
+use Rattle.sc_laws.proofs.Common.{Action, AllFrom, Body, Bool, Call, CallTarget, Calls, Closed, Cross, Does, Event}
+use Rattle.sc_laws.proofs.Common.{Exit, FrameChange, Front, Function, Goes, Gone, Grown, Here, In, Input, Interfaces}
+use Rattle.sc_laws.proofs.Common.{Left, Library, List, None, On, Opened, Option, Out, Output, Own, Piece, Reached, Ret}
+use Rattle.sc_laws.proofs.Common.{Roles, Route, Row, Some, State, Step, Stopped, TurnsOut, Value, Word, [], acts}
+use Rattle.sc_laws.proofs.Common.{and_then, ap, append-nil, append_assoc, arith, asks, back_cross, back_own, begun}
+use Rattle.sc_laws.proofs.Common.{call_cross, call_own, called, calls, done, false, follow, found, function}
 use Rattle.sc_laws.proofs.Common.{if◌then◌else◌, is_number, last, length, length-append, map, may_call, performs}
 use Rattle.sc_laws.proofs.Common.{read_input, refl, rows_left, run_in, run_step, scripted_step, suc, sym, tell, true}
 use Rattle.sc_laws.proofs.Common.{turn, turn_of, within, word_in, zero, ℕ, ◌++◌, ◌∙◌, ◌∷◌, ◌≡◌, ◌≤◌}

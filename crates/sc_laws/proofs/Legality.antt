@@ -1,13 +1,13 @@
 -- Every trace that a run shows is legal.
-use Rattle.sc_laws.proofs.Common.{arith}
-use Rattle.sc_laws.proofs.Common.{Call, Cross, Event, Export, Interfaces, IsStop, Kept, Library, List, Main, Memory}
-use Rattle.sc_laws.proofs.Common.{None, Obedient, Option, Piece, Proto, Reached, Ret, Roles, Scalar, Some, Standing}
-use Rattle.sc_laws.proofs.Common.{State, Stopped, Value, [], and_from, and_parts, ap, at_start, awaits, crossing}
-use Rattle.sc_laws.proofs.Common.{eq-eqb, export_at, false, first_state, fits_result, found, imports, is_allowed}
-use Rattle.sc_laws.proofs.Common.{is_function, is_legal_from, legal, length, length-map, library_run, map, may_call}
-use Rattle.sc_laws.proofs.Common.{may_perform, may_return, option_map_or, performer, refl, roles_run, run_step, run_to}
-use Rattle.sc_laws.proofs.Common.{scripted_step, stands_after, stands_behind, stopped_at, suc, sym, take, takes, true}
-use Rattle.sc_laws.proofs.Common.{within, word_back, word_in, zero, ℕ, ◌&&◌, ◌++◌, ◌==◌, ◌∙◌, ◌∷◌, ◌≡◌}
+use Rattle.sc_laws.proofs.Common.{arith, Call, Cross, Event, Export, Interfaces, IsStop, Kept, Library, List, Main}
+use Rattle.sc_laws.proofs.Common.{Memory, None, Obedient, Option, Piece, Proto, Reached, Ret, Roles, Scalar, Some}
+use Rattle.sc_laws.proofs.Common.{Standing, State, Stopped, Value, [], and_from, and_parts, ap, at_start, awaits}
+use Rattle.sc_laws.proofs.Common.{crossing, eq-eqb, export_at, false, first_state, fits_result, found, imports}
+use Rattle.sc_laws.proofs.Common.{is_allowed, is_function, is_legal_from, legal, length, length-map, library_run, map}
+use Rattle.sc_laws.proofs.Common.{may_call, may_perform, may_return, option_map_or, performer, refl, roles_run}
+use Rattle.sc_laws.proofs.Common.{run_step, run_to, scripted_step, stands_after, stands_behind, stopped_at, suc, sym}
+use Rattle.sc_laws.proofs.Common.{take, takes, true, within, word_back, word_in, zero, ℕ, ◌&&◌, ◌++◌, ◌==◌, ◌∙◌, ◌∷◌}
+use Rattle.sc_laws.proofs.Common.{◌≡◌}
 use Rattle.sc_laws.proofs.Matching.{idle}
 use Rattle.sc_laws.proofs.Keeping.{Walk, place, main_walks, scripted_walks}
 use Rattle.sc_laws.proofs.Rows.{stands_last}

@@ -1,9 +1,8 @@
 -- A run in which a set performs its part of a legal trace: where it is out of turns while it keeps to the trace and
 -- hasn't told all of it, it has none left. For there the next row of the active compartment is its next event.
-use Rattle.sc_laws.proofs.Common.{drop_next}
-use Rattle.sc_laws.proofs.Common.{Action, BadType, Blamed, Body, Bool, Call, CallTarget, Cross, End, Ended, Event}
-use Rattle.sc_laws.proofs.Common.{EventsOut, Export, ExportsLead, Here, In, Input, Interfaces, Kept, Library, List}
-use Rattle.sc_laws.proofs.Common.{Main, Memory, None, Obedient, Option, Output, Piece, Property, Ret, Roles, Row}
+use Rattle.sc_laws.proofs.Common.{drop_next, Action, BadType, Blamed, Body, Bool, Call, CallTarget, Cross, End, Ended}
+use Rattle.sc_laws.proofs.Common.{Event, EventsOut, Export, ExportsLead, Here, In, Input, Interfaces, Kept, Library}
+use Rattle.sc_laws.proofs.Common.{List, Main, Memory, None, Obedient, Option, Output, Piece, Property, Ret, Roles, Row}
 use Rattle.sc_laws.proofs.Common.{RunEnd, Set, Some, SpendsAlong, Standing, State, Stopped, TurnsOut, Value, Word, []}
 use Rattle.sc_laws.proofs.Common.{action_of, acts, and_from, and_parts, and_then, ap, arith, asks, at_start, called}
 use Rattle.sc_laws.proofs.Common.{count_of, drop, eq-eqb, eqb-true, false, false≢true, first_state, function}
