@@ -10,12 +10,12 @@ pub use Rattle.sc_core.specs.Prelude.{Acts, Arith, Break, Callable, Calls, Conti
 pub use Rattle.sc_core.specs.Prelude.{Meant, Next, Piece, Reached, Return, Run, Scope, State, Stopped, Ways, all_do}
 pub use Rattle.sc_core.specs.Prelude.{and_then, assign, assign_call, assign_call_fits, assign_fits, at_place, c_arith}
 pub use Rattle.sc_core.specs.Prelude.{call, call_alone, call_fits, callable_in, choose, closed, code_bound, decl_count}
-pub use Rattle.sc_core.specs.Prelude.{deepest, depth, entry_in, evaluated, expr_height, expr_nodes, follow, found}
-pub use Rattle.sc_core.specs.Prelude.{frame_bound, function_fits, function_of, functions_in, global_fits, globals_of}
-pub use Rattle.sc_core.specs.Prelude.{goes_into, has_distinct_names, has_few_compartments, has_main, has_one_main}
-pub use Rattle.sc_core.specs.Prelude.{highest, in_order, init_fits, init_height, init_nodes, inits_do, interface_fits}
-pub use Rattle.sc_core.specs.Prelude.{is_scalar, is_well_typed, judged, leave, library_of, local_fits, local_nodes}
-pub use Rattle.sc_core.specs.Prelude.{loop, main_name, meaning, meant, meant_step, most_height, most_nodes, most_params}
+pub use Rattle.sc_core.specs.Prelude.{deepest, depth, entry_in, evaluated, expr_height, expr_nodes, follow, frame_bound}
+pub use Rattle.sc_core.specs.Prelude.{function_fits, function_of, functions_in, global_fits, globals_of, goes_into}
+pub use Rattle.sc_core.specs.Prelude.{has_distinct_names, has_few_compartments, has_main, has_one_main, highest}
+pub use Rattle.sc_core.specs.Prelude.{in_order, init_fits, init_height, init_nodes, inits_do, interface_fits, is_scalar}
+pub use Rattle.sc_core.specs.Prelude.{is_well_typed, judged, leave, library_of, local_fits, local_nodes, loop}
+pub use Rattle.sc_core.specs.Prelude.{main_name, meaning, meant, meant_step, most_height, most_nodes, most_params}
 pub use Rattle.sc_core.specs.Prelude.{negated_word, nodes, on_all_words, params_fit, result_fits, returned_call_fits}
 pub use Rattle.sc_core.specs.Prelude.{returned_fits, roles_in, run_by, run_of, run_step, scope_of, scripted_depth_by}
 pub use Rattle.sc_core.specs.Prelude.{scripted_meaning, scripted_run_of, scripted_step, section_fits, sections_fit}

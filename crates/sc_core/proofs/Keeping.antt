@@ -1,6 +1,5 @@
 -- Properties of states that pieces of a run keep.
-use Rattle.sc_core.proofs.Common.{None, Option, Piece, Reached, Some, State, Stopped, TurnsOut, and_then, found, refl}
-use Rattle.sc_core.proofs.Common.{◌≡◌}
+use Rattle.sc_core.proofs.Common.{Piece, Reached, State, Stopped, and_then}
 use Rattle.sc_core.specs.declared.run.RunEnd.{RunEnd}
 
 -- what is kept: of the states at which a run goes on, and of those at which it stops
@@ -21,9 +20,3 @@ pub then_kept : (K : Property) {V W : Type 0} (piece : Piece V) (go : V → Stat
     ((v : V) (s : State) → K.Goes s → Kept K (go v s)) → Kept K (and_then piece go)
 then_kept K (Reached v s) go h k = k v s h.after
 then_kept K (Stopped end s) go h k = record { after = h.after }
-
--- what is looked up is there, or the run stops
-pub found_kept : (K : Property) {V W : Type 0} (option : Option V) (s : State) (go : V → State → Piece W) →
-    K.Ends TurnsOut s → ((v : V) → option ≡ Some v → Kept K (go v s)) → Kept K (and_then (found option s) go)
-found_kept K None s go h k = record { after = h }
-found_kept K (Some v) s go h k = k v refl

@@ -1,17 +1,18 @@
 -- Two runs that do the same, where the second may have more turns, and may go on where the first has to stop.
-use Rattle.sc_laws.proofs.Common.{Action, AllFrom, BadType, Blamed, Body, Bool, Call, CallTarget, Cause, Cross, Ended}
-use Rattle.sc_laws.proofs.Common.{EventsOut, Export, Front, Function, Goes, Gone, Grown, Here, Input, Interfaces}
-use Rattle.sc_laws.proofs.Common.{Library, List, Meets, None, Ok, Option, Output, Own, Piece, Reached, Result, Roles}
-use Rattle.sc_laws.proofs.Common.{Row, RunEnd, Some, State, Step, Stopped, TurnsOut, Value, Word, [], acts, and_then}
-use Rattle.sc_laws.proofs.Common.{ap, ap₂, arith, asks, back_cross, back_own, begun, call_cross, call_own, called}
-use Rattle.sc_laws.proofs.Common.{calls, computed, crossed, done, false, found, function, if◌then◌else◌, inl, inr}
-use Rattle.sc_laws.proofs.Common.{is_number, last, length, map, may_call, performs, refl, run_in, run_step}
-use Rattle.sc_laws.proofs.Common.{scripted_step, subst, suc, sym, tell, true, turn, turn_of, with_blocks, within}
-use Rattle.sc_laws.proofs.Common.{word_in, zero, ℕ, ◌+◌, ◌<◌, ◌∙◌, ◌∷◌, ◌≡◌, ◌≤◌, ◌⊎◌}
-use Rattle.sc_laws.proofs.Growing.{front_same, front_more, then_from, late_more, stays, earlier, back_goes, then_goes}
-use Rattle.sc_laws.proofs.Growing.{BodyGoes, StepGoes, begun_goes, done_goes, own_goes, cross_goes, calls_go}
-use Rattle.sc_laws.proofs.Growing.{performs_go, within_goes, asks_is, asks_go, then_then}
-use Rattle.sc_laws.proofs.Twins.{Kept, KeptAt, Anywhere, CallsTwins, FunctionTwins, LibraryTwins, may_same}
+use Rattle.sc_laws.proofs.Common.{option_value, rows_left, Action, AllFrom, BadType, Blamed, Body, Bool, Call}
+use Rattle.sc_laws.proofs.Common.{CallTarget, Cause, Cross, Ended, EventsOut, Export, Front, Function, Goes, Gone}
+use Rattle.sc_laws.proofs.Common.{Grown, Here, Input, Interfaces, Library, List, Meets, None, Ok, Option, Output, Own}
+use Rattle.sc_laws.proofs.Common.{Piece, Reached, Result, Roles, Row, RunEnd, Some, State, Step, Stopped, TurnsOut}
+use Rattle.sc_laws.proofs.Common.{Value, Word, [], acts, and_then, ap, ap₂, arith, asks, back_cross, back_own, begun}
+use Rattle.sc_laws.proofs.Common.{call_cross, call_own, called, calls, computed, crossed, done, false, found, function}
+use Rattle.sc_laws.proofs.Common.{if◌then◌else◌, inl, inr, is_number, last, length, map, may_call, performs, refl}
+use Rattle.sc_laws.proofs.Common.{run_in, run_step, scripted_step, subst, suc, sym, tell, true, turn, turn_of}
+use Rattle.sc_laws.proofs.Common.{with_blocks, within, word_in, zero, ℕ, ◌+◌, ◌<◌, ◌∙◌, ◌∷◌, ◌≡◌, ◌≤◌, ◌⊎◌}
+use Rattle.sc_laws.proofs.Growing.{front_same, front_more, then_from, late_more, same, no_turn, stays, earlier}
+use Rattle.sc_laws.proofs.Growing.{back_goes, then_goes, turn_goes, BodyGoes, StepGoes, done_goes, frame_goes}
+use Rattle.sc_laws.proofs.Growing.{cross_goes, called_go, performs_go, within_goes, then_then}
+use Rattle.sc_laws.proofs.Twins.{Twins, Kept, then_twins, if_twins, KeptAt, Anywhere, CallsTwins, FunctionTwins}
+use Rattle.sc_laws.proofs.Twins.{LibraryTwins, may_same}
 use Rattle.sc_laws.proofs.Expressions.{Keeps, alike, blamed}
 use Rattle.sc_event.specs.declared.row.Action.TheVariants as act
 
@@ -55,11 +56,11 @@ module _ (d : ℕ) (Soft : Cause → Type 0) (Turns : Type 0) where
     along : p ≡ richer_piece d o → Below V o p
     passed : (end : RunEnd) (s : State) → o ≡ Stopped end s → Passes end → Later s (last p) → Below V o p
 
-  -- states of functions in which at most so many calls are still made
+  -- states in which fewer calls than this are still made
   pub record Ahead (n n' : ℕ) (s s' : State) : Type 0 where
     pub state : s' ≡ richer d s
-    pub few : s.turns ≤ n
-    pub few' : s'.turns ≤ n'
+    pub few : s.turns < n
+    pub few' : s'.turns < n'
 
   module _ (n n' : ℕ) (spent : (d ≡ 0) ⊎ Turns) where
     abbrev After : (V W : Type 0) (s s' : State) (k l : V → State → Piece W) → Type 0
@@ -75,26 +76,20 @@ module _ (d : ℕ) (Soft : Cause → Type 0) (Turns : Type 0) where
           few' = at_most _ _ n' g2.turns a.few';
         }))
       where
-        at_most : (x y z : ℕ) → x ≤ y → y ≤ z → x ≤ z
+        at_most : (x y z : ℕ) → x ≤ y → y < z → x < z
         at_most x y z p q = omega (arith, p, q)
     on_along V W s s' (Stopped end t) p k l a g g' is h = along (ap (λ x. and_then x l) is)
-
-    on_passed : (V W : Type 0) (o p : Piece V) (k l : V → State → Piece W) (end : RunEnd) (t : State) →
-        o ≡ Stopped end t → Passes end → Later t (last p) → ((v : V) → Goes (l v)) →
-        Below W (and_then o k) (and_then p l)
-    on_passed V W o p k l end t is passes front goes =
-        passed end t (ap (λ x. and_then x k) is) passes (later_more t _ _ front (then_from p l goes))
 
     after : (V W : Type 0) (s s' : State) (o p : Piece V) (k l : V → State → Piece W) → Ahead n n' s s' → Gone s o →
         Gone s' p → ((v : V) → Goes (k v)) → ((v : V) → Goes (l v)) → Below V o p → After V W s s' k l →
         Below W (and_then o k) (and_then p l)
     after V W s s' o p k l a g g' goes goes' (along is) h = on_along V W s s' o p k l a g g' is h
     after V W s s' o p k l a g g' goes goes' (passed end t is passes front) h =
-        on_passed V W o p k l end t is passes front goes'
+        passed end t (ap (λ x. and_then x k) is) passes (later_more t _ _ front (then_from p l goes'))
 
     -- a turn of both, where the first has m turns and the second m'
     turn_at : (W : Type 0) (k l : Unit {0} → State → Piece W) → ((v : Unit {0}) → Goes (l v)) → (s : State) (m m' : ℕ) →
-        m ≡ s.turns → m' ≡ m + d → s.turns ≤ n → s.turns + d ≤ n'
+        m ≡ s.turns → m' ≡ m + d → s.turns < n → s.turns + d < n'
         → ((t t' : State) → t.turns < s.turns → t'.turns < s.turns + d → Ahead n n' t t' → Below W (k tt t) (l tt t')) →
         Below W (and_then (turn_of m s) k) (and_then (turn_of m' (richer d s)) l)
     turn_at W k l goes s (suc m) zero is is' few few' h = absurd (omega (arith, is'))
@@ -122,7 +117,7 @@ module _ (d : ℕ) (Soft : Cause → Type 0) (Turns : Type 0) where
     turned W k l goes goes' s s' a h =
         let same_turns = ap (λ x. x.turns) a.state in
         subst (λ x. Below W (and_then (turn s) k) (and_then (turn x) l)) (sym a.state)
-        (turn_at W k l goes' s s.turns _ refl refl a.few (subst (λ x. x ≤ n') same_turns a.few')
+        (turn_at W k l goes' s s.turns _ refl refl a.few (subst (λ x. x < n') same_turns a.few')
         (λ t t' less less' b. h t t' less (subst (λ x. t'.turns < x) (sym same_turns) less') b))
 
     pub below_kept : Kept (Ahead n n') Below
@@ -164,274 +159,235 @@ module _ (d : ℕ) (Soft : Cause → Type 0) (Turns : Type 0) (spent : (d ≡ 0)
   abbrev Beneath : Piece (Option Value) → Piece (Option Value) → Type 0
   Beneath = Below d Soft Turns (Option Value)
 
-  -- bodies that are related where fewer calls than this are still made
+  -- doings that are related where fewer calls than this are still made
+  abbrev pub Under : (n n' : ℕ) → (f g : State → Piece (Option Value)) → Type 0
+  Under n n' = Twins (Ahead d Soft Turns n n') (Below d Soft Turns) (Option Value)
+
   abbrev pub BodiesBelow : (n n' : ℕ) → Body → Body → Type 0
-  BodiesBelow n n' a b = (number : ℕ) (here : Here) (s : State) → s.turns < n → s.turns + d < n' →
-      Beneath (a number here s) (b number here (richer d s))
+  BodiesBelow n n' a b = (number : ℕ) (here : Here) → Under n n' (a number here) (b number here)
 
-  -- the same where at most so many are
-  abbrev pub BodiesWithin : (n n' : ℕ) → Body → Body → Type 0
-  BodiesWithin n n' a b = (number : ℕ) (here : Here) (s : State) → s.turns ≤ n → s.turns + d ≤ n' →
-      Beneath (a number here s) (b number here (richer d s))
+  abbrev pub LibrariesBelow : (n n' : ℕ) → Library → Library → Type 0
+  LibrariesBelow n n' = LibraryTwins (Ahead d Soft Turns n n') (Below d Soft Turns) Anywhere
 
-  module _ (n n' : ℕ) where
-    abbrev Near : State → State → Type 0
-    Near = Ahead d Soft Turns n n'
+  abbrev FunctionsBelow : (n n' : ℕ) → Function → Function → Type 0
+  FunctionsBelow n n' = FunctionTwins (Ahead d Soft Turns n n') (Below d Soft Turns) Anywhere
 
-    abbrev pub LibrariesBelow : Library → Library → Type 0
-    LibrariesBelow L M = LibraryTwins (Near) (Below d Soft Turns) Anywhere L M
+  from_richer : (n n' : ℕ) (f g : State → Piece (Option Value)) → Goes f → Goes g →
+      ((s : State) → Ahead d Soft Turns n n' s (richer d s) → Beneath (f s) (g (richer d s))) → Under n n' f g
+  from_richer n n' f g go go' h = record {
+    first = go;
+    second = go';
+    both = λ s s' ahead. subst (λ x. Beneath (f s) (g x)) (sym ahead.state)
+        (h s (subst (Ahead d Soft Turns n n' s) ahead.state ahead));
+  }
 
-    abbrev pub FunctionsBelow : Function → Function → Type 0
-    FunctionsBelow f g = FunctionTwins (Near) (Below d Soft Turns) Anywhere f g
+  -- what is the same in both
+  same_below : (n n' : ℕ) (f g : State → Piece (Option Value)) → Goes f → Goes g →
+      ((s : State) → g (richer d s) ≡ richer_piece d (f s)) → Under n n' f g
+  same_below n n' f g go go' is = from_richer n n' f g go go' (λ s ahead. along (is s))
 
-    module _ (a b : Body) (goes : BodyGoes a) (goes' : BodyGoes b) (bodies : BodiesBelow n n' a b) where
-      -- a function that was found in both
-      entered_below : (f g : Function) → FunctionsBelow f g →
-          (comp number : ℕ) (args : List Value) (back : Option Value → State → Piece (Option Value))
+  pub stop_below : (n n' : ℕ) → Under n n' (Stopped TurnsOut) (Stopped TurnsOut)
+  stop_below n n' = same_below n n' _ _ (λ s. no_turn s) (λ s. no_turn s) (λ s. refl)
+
+  -- what follows once a function is looked up
+  found_below : (m m' n n' : ℕ) (f g : Option Function) → Meets (FunctionsBelow m m') f g →
+      (k l : Function → State → Piece (Option Value)) →
+      ((f g : Function) → FunctionsBelow m m' f g → Under n n' (k f) (l g)) →
+      Under n n' (λ s. and_then (found f s) k) (λ s. and_then (found g s) l)
+  found_below m m' n n' None None meets k l h = stop_below n n'
+  found_below m m' n n' (Some f) (Some g) meets k l h = h f g meets
+  found_below m m' n n' _ _ meets k l h = absurd meets
+
+  module _ (n n' : ℕ) (a b : Body) (bodies : BodiesBelow n n' a b) where
+    goes : BodyGoes a
+    goes number here = (bodies number here).first
+
+    goes' : BodyGoes b
+    goes' number here = (bodies number here).second
+
+    -- a function that was found in both
+    entered_below : (f g : Function) → g.cells ≡ f.cells → g.room ≡ f.room → (comp number : ℕ) (args : List Value)
+        (back : Option Value → State → Piece (Option Value)) → ((v : Option Value) → Goes (back v)) →
+        ((v : Option Value) (s : State) → back v (richer d s) ≡ richer_piece d (back v s)) → (s : State) →
+        Ahead d Soft Turns n n' s (richer d s) → Beneath
+        (and_then (a number (record { comp = comp; first = length (s.memory comp) }) (begun comp f args s))
+        (λ v t. back v (done comp f (length (s.memory comp)) t)))
+        (and_then (b number (record { comp = comp; first = length (s.memory comp) }) (begun comp g args (richer d s)))
+        (λ v t. back v (done comp g (length (s.memory comp)) t)))
+    entered_below f g cells room comp number args back k k' s ahead =
+        let first : ℕ = length (s.memory comp) in
+        let here : Here = record { comp = comp; first = first } in
+        let start : State = begun comp f args s in
+        let alike_start : begun comp g args (richer d s) ≡ richer d start =
+        ap₂ (λ cells room. begun comp (record g { cells = cells; room = room }) args (richer d s)) cells room in
+        let out : Option Value → State → Piece (Option Value) = λ v t. back v (done comp f first t) in
+        let out' : Option Value → State → Piece (Option Value) = λ v t. back v (done comp g first t) in
+        let alike_out : (v : Option Value) (t : State) → out' v (richer d t) ≡ richer_piece d (out v t) = λ v t.
+        ap₂ (λ cells room. back v (done comp (record g { cells = cells; room = room }) first (richer d t))) cells room
+        ∙ k' v (done comp f first t) in
+        let leaves : (f : Function) (v : Option Value) → Goes (λ t. back v (done comp f first t)) =
+        λ f v t. earlier t (done comp f first t) (back v _) (done_goes comp f first t) (k v (done comp f first t)) in
+        let inside : Ahead d Soft Turns n n' start (richer d start) =
+        record { state = refl; few = ahead.few; few' = ahead.few' } in
+        subst (λ x. Beneath (and_then (a number here start) out) (and_then (b number here x) out')) (sym alike_start)
+        ((below_kept d Soft Turns n n' spent).after (Option Value) (Option Value) start (richer d start) (a number here
+        start) (b number here _) out out' inside (goes number here start) (goes' number here _) (leaves f) (leaves g)
+        ((bodies number here).both start (richer d start) inside) (λ v t t' x x' ahead. along (ap (out' v) ahead.state ∙
+        alike_out v t)))
+
+    module _ (L M : Library) (twins : LibrariesBelow (suc n) (suc n') L M) where
+      run_below : (comp number : ℕ) (args : List Value) (back : Option Value → State → Piece (Option Value))
           → ((v : Option Value) → Goes (back v)) →
-          ((v : Option Value) (s : State) → back v (richer d s) ≡ richer_piece d (back v s)) → (s : State) →
-          s.turns < n → s.turns + d < n'
-          → Beneath
-          (and_then (a number (record { comp = comp; first = length (s.memory comp) }) (begun comp f args s))
-          (λ v t. back v (done comp f (length (s.memory comp)) t)))
-          (and_then (b number (record { comp = comp; first = length (s.memory comp) }) (begun comp g args (richer d s)))
-          (λ v t. back v (done comp g (length (s.memory comp)) t)))
-      entered_below f g twins comp number args back k k' s few few' =
-          let first : ℕ = length (s.memory comp) in
-          let here : Here = record { comp = comp; first = first } in
-          let start : State = begun comp f args s in
-          let up : Grown s start = begun_goes comp f args s in
-          let alike_start : begun comp g args (richer d s) ≡ richer d start =
-          ap₂ (λ cells room. begun comp (record g { cells = cells; room = room }) args (richer d s)) twins.cells
-          twins.room in
-          let out : Option Value → State → Piece (Option Value) = λ v t. back v (done comp f first t) in
-          let out' : Option Value → State → Piece (Option Value) = λ v t. back v (done comp g first t) in
-          let alike_out : (v : Option Value) (t : State) → out' v (richer d t) ≡ richer_piece d (out v t) = λ v t.
-          ap₂ (λ cells room. back v (done comp (record g { cells = cells; room = room }) first (richer d t)))
-          twins.cells twins.room ∙ k' v (done comp f first t) in
-          let leaves : (v : Option Value) → Goes (out v) =
-          λ v t. earlier t (done comp f first t) (out v t) (done_goes comp f first t) (k v (done comp f first t)) in
-          let leaves' : (v : Option Value) → Goes (out' v) =
-          λ v t. earlier t (done comp g first t) (out' v t) (done_goes comp g first t) (k v (done comp g first t)) in
-          let inside : Beneath (a number here start) (b number here (richer d start)) =
-          bodies number here start (omega (arith, up.turns, few)) (omega (arith, up.turns, few')) in
-          subst (λ x. Beneath (and_then (a number here start) out)
-          (and_then (b number here x) out')) (sym alike_start) ((below_kept d Soft Turns n n' spent).after
-          (Option Value) (Option Value) start (richer d start) (a number here start) (b number here _)
-          out out' (record { state = refl; few = omega (arith, up.turns, few); few' = omega (arith, up.turns, few') })
-          (goes number here start) (goes' number here _) leaves leaves' inside
-          (λ v t t' x x' ahead. along (ap (out' v) ahead.state ∙ alike_out v t)))
+          ((v : Option Value) (s : State) → back v (richer d s) ≡ richer_piece d (back v s)) →
+          Under n n' (run_in L a comp number args back) (run_in M b comp number args back)
+      run_below comp number args back k k' = found_below _ _ n n' (function L comp number) (function M comp number)
+          (twins.functions comp number) _ _ (λ f g meets. from_richer n n' _ _
+          (frame_goes L a goes comp number f args back k) (frame_goes M b goes' comp number g args back k)
+          (λ s ahead. entered_below f g meets.cells meets.room comp number args back k k' s ahead))
 
-      abbrev RunBelow : (s : State) → (f g : State → Piece (Option Value)) → Type 0
-      RunBelow s f g = s.turns < n → s.turns + d < n' → Beneath (f s) (g (richer d s))
+      pub own_below : (comp number : ℕ) (args : List Value) →
+          Under n n' (call_own L a comp number args) (call_own M b comp number args)
+      own_below comp number args = run_below comp number args back_own (λ v. stays v) (λ v s. refl)
 
-      -- what follows once a function is looked up
-      found_below : (f g : Option Function) → Meets FunctionsBelow f g →
-          (s : State) (k l : Function → State → Piece (Option Value)) →
-          ((f g : Function) → FunctionsBelow f g → Beneath (k f s) (l g (richer d s))) →
-          Beneath (and_then (found f s) k) (and_then (found g (richer d s)) l)
-      found_below None None meets s k l h = along refl
-      found_below (Some f) (Some g) meets s k l h = h f g meets
-      found_below _ _ meets s k l h = absurd meets
+      -- a call across, once the number of the function is known
+      abbrev crosses : Library → Body → Interfaces → (from to index : ℕ) → List Value → ℕ → State →
+          Piece (Option Value)
+      crosses library body interfaces from to index args number s = run_in library body to number (crossed args)
+          (back_cross interfaces from to index) (tell (Call from to index (map word_in args)) s)
 
-      module _ (L M : Library) (twins : LibrariesBelow L M) where
-        run_below : (comp number : ℕ) (args : List Value) (back : Option Value → State → Piece (Option Value))
-            → ((v : Option Value) → Goes (back v)) →
-            ((v : Option Value) (s : State) → back v (richer d s) ≡ richer_piece d (back v s)) → (s : State) →
-            RunBelow s (run_in L a comp number args back) (run_in M b comp number args back)
-        run_below comp number args back k k' s few few' = found_below (function L comp number) (function M comp number)
-            (twins.functions comp number) s _ _
-            (λ f g meets. entered_below f g meets comp number args back k k' s few few')
+      cross_to : (from to index : ℕ) (args : List Value) (number : Option ℕ) (s : State) →
+          Ahead d Soft Turns n n' s (richer d s) →
+          Beneath (and_then (found number s) (crosses L a L.interfaces from to index args))
+          (and_then (found number (richer d s)) (crosses M b L.interfaces from to index args))
+      cross_to from to index args None s ahead = along refl
+      cross_to from to index args (Some number) s ahead = (run_below to number (crossed args)
+          (back_cross L.interfaces from to index) (back_goes L.interfaces from to index) (λ v s. refl)).both (tell _ s)
+          (tell _ (richer d s)) (record { state = refl; few = ahead.few; few' = ahead.few' })
 
-        pub own_below : (comp number : ℕ) (args : List Value) (s : State) →
-            RunBelow s (call_own L a comp number args) (call_own M b comp number args)
-        own_below comp number args s = run_below comp number args back_own (λ v. stays v) (λ v s. refl) s
+      cross_below : (from to index : ℕ) (args : List Value) →
+          Under n n' (call_cross L a from to index args) (call_cross M b from to index args)
+      cross_below from to index args = from_richer n n' _ _ (cross_goes L a goes from to index args) (cross_goes M b
+          goes' from to index args) (λ s ahead. subst (λ x. Beneath (call_cross L a from to index args s) (and_then
+          (found x (richer d s)) (crosses M b M.interfaces from to index args))) (sym (twins.entered to (Export index)))
+          (subst (λ i. Beneath (call_cross L a from to index args s) (and_then (found (L.entered to (Export index))
+          (richer d s)) (crosses M b i from to index args))) (sym twins.interfaces) (cross_to from to index args
+          (L.entered to _) s ahead)))
 
-        -- a call across, once the number of the function is known
-        abbrev crosses : Library → Body → Interfaces → (from to index : ℕ) → List Value → ℕ → State →
-            Piece (Option Value)
-        crosses library body interfaces from to index args number s = run_in library body to number (crossed args)
-            (back_cross interfaces from to index) (tell (Call from to index (map word_in args)) s)
+      abbrev Within : (f g : State → Piece (Option Value)) → Type 0
+      Within = Under (suc n) (suc n')
 
-        cross_to : (from to index : ℕ) (args : List Value) (number : Option ℕ) (s : State) → s.turns < n →
-            s.turns + d < n' → Beneath (and_then (found number s) (crosses L a L.interfaces from to index args))
-            (and_then (found number (richer d s)) (crosses M b L.interfaces from to index args))
-        cross_to from to index args None s few few' = along refl
-        cross_to from to index args (Some number) s few few' = run_below to number _
-            (back_cross L.interfaces from to index) (back_goes L.interfaces from to index) (λ v s. refl) _ few few'
+      -- a turn, and then what is related while fewer calls are made
+      after_turn : (f g : State → Piece (Option Value)) → Under n n' f g →
+          Within (λ s. and_then (turn s) (λ _. f)) (λ s. and_then (turn s) (λ _. g))
+      after_turn f g h = record {
+        first = λ s. then_goes s (turn s) (λ _. f) (turn_goes s) (λ _. h.first);
+        second = λ s. then_goes s (turn s) (λ _. g) (turn_goes s) (λ _. h.second);
+        both = λ s s' ahead. (below_kept d Soft Turns (suc n) (suc n') spent).turned (Option Value) (λ _. f) (λ _. g)
+            (λ _. h.first) (λ _. h.second) s s' ahead (λ t t' less less' next. h.both t t' (record {
+              state = next.state;
+              few = omega (arith, less, ahead.few);
+              few' = omega (arith, less', ahead.few');
+            }));
+      }
 
-        pub cross_below : (from to index : ℕ) (args : List Value) (s : State) →
-            RunBelow s (call_cross L a from to index args) (call_cross M b from to index args)
-        cross_below from to index args s few few' = subst (λ x. Beneath (call_cross L a from to index args s)
-            (and_then (found x (richer d s)) (crosses M b M.interfaces from to index args)))
-            (sym (twins.entered to (Export index))) (subst (λ i. Beneath (call_cross L a from to index args s)
-            (and_then (found (L.entered to (Export index)) (richer d s)) (crosses M b i from to index args)))
-            (sym twins.interfaces) (cross_to from to index args (L.entered to _) s few few'))
+      called_below : (from : ℕ) (target : CallTarget) (args : List Value) →
+          Within (called L a from target args) (called M b from target args)
+      called_below from (Own number) args = after_turn _ _ (own_below from number args)
+      called_below from (Cross to index) args = after_turn _ _ (cross_below from to index args)
+      called_below from Input args = same_below _ _ (called L a from Input args) (called M b from Input args)
+          (called_go L a goes from Input args) (called_go M b goes' from Input args) (λ s. refl)
+      called_below from Output args = same_below _ _ (called L a from Output args) (called M b from Output args)
+          (called_go L a goes from Output args) (called_go M b goes' from Output args) (λ s. refl)
 
-        -- a turn, and then what is related while fewer calls are made
-        after_turn : (f g : State → Piece (Option Value)) → Goes f → Goes g → ((s : State) → RunBelow s f g) →
-            (s s' : State) → Near s s' → Beneath (and_then (turn s) (λ _. f)) (and_then (turn s') (λ _. g))
-        after_turn f g go go' h s s' ahead =
-            (below_kept d Soft Turns n n' spent).turned (Option Value) _ _ (λ _. go) (λ _. go') s s' ahead
-            (λ t t' less less' next. let poorer = ap (λ x. x.turns) next.state in
-            subst (λ x. Beneath (f t) (g x)) (sym next.state)
-            (h t (omega (arith, less, ahead.few)) (omega (arith, less', ahead.few', poorer))))
+      -- the same tests are made
+      tested : (from : ℕ) (target : CallTarget) (args : List Value) (f : State → Piece (Option Value))
+          (g : Bool → State → Piece (Option Value)) → Within f (g (may_call L from target args)) →
+          Within f (g (may_call M from target args))
+      tested from target args f g h =
+          subst (λ may. Within f (g may)) (sym (may_same _ _ Anywhere L M twins from target args)) h
 
-        called_below : (from : ℕ) (target : CallTarget) (args : List Value) (s s' : State) → Near s s' →
-            Beneath (called L a from target args s) (called M b from target args s')
-        called_below from (Own number) args s s' ahead = after_turn _ _ (own_goes L a goes from number args)
-            (own_goes M b goes' from number args) (own_below from number args) s s' ahead
-        called_below from (Cross to index) args s s' ahead = after_turn _ _ (cross_goes L a goes from to index args)
-            (cross_goes M b goes' from to index args) (cross_below from to index args) s s' ahead
-        called_below from Input args s s' ahead = subst
-            (λ x. Beneath (called L a from Input args s) (called M b from Input args x)) (sym ahead.state) (along refl)
-        called_below from Output args s s' ahead =
-            subst (λ x. Beneath (called L a from Output args s)
-            (called M b from Output args x)) (sym ahead.state) (along refl)
+      pub calls_below : (from : ℕ) → CallsTwins (Ahead d Soft Turns (suc n) (suc n')) (Below d Soft Turns) Anywhere from
+          (calls L a) (calls M b)
+      calls_below from target args = tested from target args _ (λ may s. if may then called M b from target args s else
+          Stopped (Blamed from BadType 0) s) (if_twins _ _ (may_call L from target args) _ _ _ _
+          (called_below from target args) (same_below _ _ _ _ (λ s. record { grown = same s; stop = tt })
+          (λ s. record { grown = same s; stop = tt }) (λ s. refl)))
 
-        if_below : (x : Bool) (o o' p p' : Piece (Option Value)) → Beneath o p → Beneath o' p' →
-            Beneath (if x then o else o') (if x then p else p')
-        if_below true o o' p p' h k = h
-        if_below false o o' p p' h k = k
+      asked_below : (from : ℕ) (target : CallTarget) (args : List Value) →
+          Within (asks L a from target args) (asks M b from target args)
+      asked_below from target args = tested from target args _ (λ may s. if may then calls M b from target args s else
+          Stopped TurnsOut s) (if_twins _ _ (may_call L from target args) _ _ _ _ (calls_below from target args)
+          (stop_below _ _))
 
-        same_tests : (from : ℕ) (target : CallTarget) (args : List Value) →
-            may_call M from target args ≡ may_call L from target args
-        same_tests from target args = may_same _ _ Anywhere L M twins from target args
+      pub run_step_below : BodiesBelow (suc n) (suc n') (run_step L a) (run_step M b)
+      run_step_below number here = found_below _ _ (suc n) (suc n') (function L _ number) (function M _ number)
+          (twins.functions _ number) _ _ (λ f g meets. meets.does _ _ here tt (calls_below _))
 
-        guarded_below : (from : ℕ) (target : CallTarget) (args : List Value) (s s' : State) → Near s s' →
-            Beneath (calls L a from target args s) (calls M b from target args s')
-        guarded_below from target args s s' ahead = subst (λ may. Beneath (calls L a from target args s)
-            (if may then called M b from target args s' else Stopped (Blamed from BadType 0) s'))
-            (sym (same_tests from target args)) (if_below (may_call L from target args) _ _ _ _
-            (called_below from target args s s' ahead) (along (ap (Stopped (Blamed from BadType 0)) ahead.state)))
+      -- a row's call takes its turn first, where it may be made, and then the function performs again
+      row_call : (number : ℕ) (here : Here) (to index : ℕ) (args : List Value) →
+          Within (λ s. and_then (asks L a here.comp (Cross to index) args s) (λ v. a number here))
+          (λ s. and_then (asks M b here.comp (Cross to index) args s) (λ v. b number here))
+      row_call number here to index args = tested here.comp (Cross to index) args _ (λ may s. and_then (if may then
+          (if may then called M b here.comp (Cross to index) args s else Stopped (Blamed here.comp BadType 0) s) else
+          Stopped TurnsOut s) (λ v. b number here)) (by (may_call L here.comp (Cross to index) args)) where
+            by : (may : Bool) → Within (λ s. and_then (if may then (if may then called L a here.comp (Cross to index)
+                args s else Stopped (Blamed here.comp BadType 0) s) else Stopped TurnsOut s) (λ v. a number here))
+                (λ s. and_then (if may then (if may then called M b here.comp (Cross to index) args s else
+                Stopped (Blamed here.comp BadType 0) s) else Stopped TurnsOut s) (λ v. b number here))
+            by false = stop_below _ _
+            by true = subst (λ f. Within f (λ s. and_then (called M b here.comp (Cross to index) args s)
+                (λ v. b number here)))
+                (λ i s. sym (then_then (turn s) (λ _. call_cross L a here.comp to index args) (λ v. a number here)) i)
+                (subst (Within (λ s. and_then (turn s) (λ _ s. and_then (call_cross L a here.comp to index args s)
+                (λ v. a number here))))
+                (λ i s. sym (then_then (turn s) (λ _. call_cross M b here.comp to index args) (λ v. b number here)) i)
+                (after_turn _ _ (then_twins _ _ (below_kept d Soft Turns n n' spent)
+                (call_cross L a here.comp to index args) (call_cross M b here.comp to index args) (λ v. a number here)
+                (λ v. b number here) (cross_below here.comp to index args) (λ v. bodies number here))))
 
-        asked_below : (from : ℕ) (target : CallTarget) (args : List Value) (s s' : State) → Near s s' →
-            Beneath (asks L a from target args s) (asks M b from target args s')
-        asked_below from target args s s' ahead = subst (λ may. Beneath
-            (asks L a from target args s) (if may then calls M b from target args s' else Stopped TurnsOut s'))
-            (sym (same_tests from target args)) (if_below (may_call L from target args) _ _ _ _
-            (guarded_below from target args s s' ahead) (along (ap (Stopped TurnsOut) ahead.state)))
+      -- a call of the environment, and then the rows behind it
+      row_then : (from : ℕ) (target : CallTarget) (args : List Value) (next next' : State → Piece (Option Value)) →
+          Within next next' → Within (λ s. and_then (asks L a from target args s) (λ v. next))
+          (λ s. and_then (asks M b from target args s) (λ v. next'))
+      row_then from target args next next' h = then_twins _ _ (below_kept d Soft Turns (suc n) (suc n') spent)
+          (asks L a from target args) (asks M b from target args) (λ v. next) (λ v. next')
+          (asked_below from target args) (λ v. h)
 
-        pub calls_below : (from : ℕ) → CallsTwins (Near) (Below d Soft Turns) Anywhere from (calls L a) (calls M b)
-        calls_below from target args =
-            record {
-              first = calls_go L a goes from target args;
-              second = calls_go M b goes' from target args;
-              both = guarded_below from target args;
-            }
+      acts_below : (action : Action) (next next' : State → Piece (Option Value)) → Within next next' →
+          (number : ℕ) (here : Here) → Within (acts L a action next (a number here) here.comp)
+          (acts M b action next' (b number here) here.comp)
+      acts_below (act.Call to index words) next next' h number here = row_call number here to index (map _ words)
+      acts_below (act.Ret v) next next' h number here =
+          same_below _ _ (Reached _) (Reached (option_value v)) (λ s. stays _ s) (λ s. stays _ s) (λ s. refl)
+      acts_below (act.Out w) next next' h number here = row_then here.comp Output (Word w ∷ []) next next' h
+      acts_below (act.In w) next next' h number here = row_then here.comp Input [] next next' h
+      acts_below (act.End w) next next' h number here =
+          same_below _ _ (Reached _) (Reached (Some (Word w))) (λ s. stays _ s) (λ s. stays _ s) (λ s. refl)
 
-        pub run_step_below : BodiesWithin n n' (run_step L a) (run_step M b)
-        run_step_below number here s few few' =
-            found_below (function L _ number) (function M _ number) (twins.functions _ number) s
-            _ _ (λ f g meets. (meets.does _ _ here tt (calls_below _)).both s _
-            (record { state = refl; few = few; few' = few' }))
+      performs_below : (rows : List Row) → BodiesBelow (suc n) (suc n') (performs L a rows) (performs M b rows)
+      performs_below [] number here = stop_below _ _
+      performs_below (row ∷ rest) number here = subst (λ x. Within (performs L a (row ∷ rest) number here)
+          (λ s. if is_number number x then acts M b row.action (performs M b rest number here) (b number here) here.comp
+          s else Stopped TurnsOut s)) (sym (twins.entered _ _)) (if_twins _ _ (is_number number _) _ _ _ _
+          (acts_below row.action _ _ (performs_below rest number here) number here) (stop_below _ _))
 
-        -- a row's call, and then the function again
-        abbrev calls_again : Library → Body → (number : ℕ) (here : Here) (to index : ℕ) (args : List Value) → State →
-            Piece (Option Value)
-        calls_again library body number here to index args s =
-            and_then (call_cross library body here.comp to index args s) (λ v. body number here)
-
-        again_below : (number : ℕ) (here : Here) (to index : ℕ) (args : List Value) (s : State) →
-            RunBelow s (calls_again L a number here to index args) (calls_again M b number here to index args)
-        again_below number here to index args s few few' = (below_kept d Soft Turns n n' spent).after (Option Value) _ s
-            (richer d s) (call_cross L a _ to index args s) (call_cross M b _ to index args _) (λ v. a number here)
-            (λ v. b number here) (record { state = refl; few = omega (arith, few); few' = omega (arith, few') })
-            (cross_goes L a goes _ to index args s) (cross_goes M b goes' _ to index args _) (λ v. goes number here)
-            (λ v. goes' number here) (cross_below _ to index args s few few') (λ v t t' up up' ahead.
-            let poorer = ap (λ x. x.turns) ahead.state in
-            subst (λ x. Beneath (a number here t) (b number here x)) (sym ahead.state)
-            (bodies number here t (omega (arith, up.turns, few)) (omega (arith, up'.turns, few', poorer))))
-
-        -- where the call may be made it takes its turn first
-        row_call : (number : ℕ) (here : Here) (to index : ℕ) (args : List Value) (may : Bool) (s : State) →
-            s.turns ≤ n → s.turns + d ≤ n'
-            → Beneath
-            (and_then (if may then called L a here.comp (Cross to index) args s else Stopped TurnsOut s)
-            (λ v. a number here)) (and_then (if may then called M b here.comp (Cross to index) args
-            (richer d s) else Stopped TurnsOut (richer d s)) (λ v. b number here))
-        row_call number here to index args false s few few' = along refl
-        row_call number here to index args true s few few' =
-            subst (λ x. Beneath x
-            (and_then (called M b here.comp (Cross to index) args (richer d s)) (λ v. b number here)))
-            (sym (then_then (turn s) (λ _. call_cross L a _ to index args) (λ v. a number here)))
-            (subst (Beneath _)
-            (sym (then_then (turn _) (λ _. call_cross M b _ to index args) (λ v. b number here)))
-            (after_turn (calls_again L a number here to index args) (calls_again M b number here to index args)
-            (λ s. then_goes s (call_cross L a _ to index args s) _ (cross_goes L a goes here.comp to index args
-            s) (λ v. goes number here)) (λ s. then_goes s (call_cross M b _ to index args s)
-            _ (cross_goes M b goes' here.comp to index args s) (λ v. goes' number here))
-            (again_below number here to index args) s (richer d s) (record { state = refl; few = few; few' = few' })))
-
-        -- a call of the environment, and then the rows behind it
-        row_then : (from : ℕ) (target : CallTarget) (args : List Value) (next next' : State → Piece (Option Value)) →
-            Goes next → Goes next' → ((s : State) → s.turns ≤ n → s.turns + d ≤ n' →
-            Beneath (next s) (next' (richer d s))) → (s : State) → s.turns ≤ n →
-            s.turns + d ≤ n' → Beneath (and_then (asks L a from target args s) (λ v. next))
-            (and_then (asks M b from target args (richer d s)) (λ v. next'))
-        row_then from target args next next' go go' h s few few' =
-            (below_kept d Soft Turns n n' spent).after (Option Value) _ s (richer d s)
-            (asks L a from target args s) (asks M b from target args _) (λ v. next) (λ v. next')
-            (record { state = refl; few = few; few' = few' }) (asks_go L a goes from target args s)
-            (asks_go M b goes' from target args _) (λ v. go) (λ v. go')
-            (asked_below from target args s _ (record { state = refl; few = few; few' = few' }))
-            (λ v t t' up up' ahead. let poorer = ap (λ x. x.turns) ahead.state in
-            subst (λ x. Beneath (next t) (next' x)) (sym ahead.state)
-            (h t ahead.few (omega (arith, ahead.few', poorer))))
-
-        acts_below : (action : Action) (next next' : State → Piece (Option Value)) → Goes next → Goes next' →
-            (number : ℕ) (here : Here) → ((s : State) → s.turns ≤ n → s.turns + d ≤ n' →
-            Beneath (next s) (next' (richer d s))) → (s : State) → s.turns ≤ n →
-            s.turns + d ≤ n' → Beneath (acts L a action next (a number here) here.comp s)
-            (acts M b action next' (b number here) here.comp (richer d s))
-        acts_below (act.Call to index words) next next' go go' number here h s few few' =
-            let args : List Value = map (λ w. Word w) words in
-            let k : Option Value → State → Piece (Option Value) = λ v. a number here in
-            let k' : Option Value → State → Piece (Option Value) = λ v. b number here in
-            let one : Bool → Piece (Option Value) =
-            λ may. and_then (if may then called L a here.comp (Cross to index) args s else Stopped TurnsOut s) k in
-            let other : Bool → Piece (Option Value) =
-            λ may. and_then (if may then called M b here.comp (Cross to index) args (richer d s) else Stopped TurnsOut
-            (richer d s)) k' in
-            subst (λ p. Beneath (and_then p k)
-            (and_then (asks M b here.comp (Cross to index) args (richer d s)) k'))
-            (sym (asks_is L a goes here.comp (Cross to index) args s))
-            (subst (λ p. Beneath (one (may_call L here.comp (Cross to index) args))
-            (and_then p k')) (sym (asks_is M b goes' here.comp (Cross to index) args (richer d s)))
-            (subst (λ may. Beneath (one (may_call L here.comp (Cross to index) args))
-            (other may)) (sym (same_tests here.comp (Cross to index) args))
-            (row_call number here to index args (may_call L here.comp (Cross to index) args) s few few')))
-        acts_below (act.Ret v) next next' go go' number here h s few few' = along refl
-        acts_below (act.Out w) next next' go go' number here h s few few' =
-            row_then here.comp Output (Word w ∷ []) next next' go go' h s few few'
-        acts_below (act.In w) next next' go go' number here h s few few' =
-            row_then here.comp Input [] next next' go go' h s few few'
-        acts_below (act.End w) next next' go go' number here h s few few' = along refl
-
-        performs_below : (rows : List Row) → BodiesWithin n n' (performs L a rows) (performs M b rows)
-        performs_below [] number here s few few' = along refl
-        performs_below (row ∷ rest) number here s few few' = subst (λ x. Beneath
-            (performs L a (row ∷ rest) number here s) (if is_number number x then acts M b row.action
-            (performs M b rest number here) (b number here) here.comp (richer d s) else Stopped TurnsOut (richer d s)))
-            (sym (twins.entered _ _)) (if_below (is_number number _) _ _ _ _ (acts_below
-            row.action (performs L a rest number here) (performs M b rest number here)
-            (performs_go L a goes rest number here) (performs_go M b goes' rest number here) number here
-            (performs_below rest number here) s few few') (along refl))
-
-        pub scripted_below : (roles : Roles) (step step' : Step) → BodiesWithin n n' (step a) (step' b) →
-            BodiesWithin n n' (scripted_step L roles step a) (scripted_step M roles step' b)
-        scripted_below roles step step' h number here s few few' =
-            if_below (roles.scripted _) _ _ _ _ (performs_below _ number here s few few') (h number here s few few')
+      pub scripted_below : (roles : Roles) (step step' : Step) → BodiesBelow (suc n) (suc n') (step a) (step' b) →
+          BodiesBelow (suc n) (suc n') (scripted_step L roles step a) (scripted_step M roles step' b)
+      scripted_below roles step step' h number here = if_twins _ _ (roles.scripted _) _ _ _ _ (from_richer _ _ _ _
+          (λ s. performs_go L a goes _ number here s) (λ s. performs_go M b goes' _ number here s) (λ s ahead.
+          (performs_below (rows_left roles here.comp s.trace) number here).both s (richer d s) ahead)) (h number here)
 
   -- steps under which bodies are related for one call more
   abbrev pub StepsBelow : Step → Step → Type 0
-  StepsBelow step step' = (n n' : ℕ) (a b : Body) → BodyGoes a → BodyGoes b → BodiesBelow n n' a b →
-      BodiesWithin n n' (step a) (step' b)
+  StepsBelow step step' =
+      (n n' : ℕ) (a b : Body) → BodiesBelow n n' a b → BodiesBelow (suc n) (suc n') (step a) (step' b)
 
   pub within_below : (step step' : Step) → StepGoes step → StepGoes step' → StepsBelow step step' → (n n' : ℕ) →
       BodiesBelow n n' (within step n) (within step' n')
-  within_below step step' goes goes' h zero n' number here s few few' = absurd (omega (arith, few))
-  within_below step step' goes goes' h (suc n) zero number here s few few' = absurd (omega (arith, few'))
-  within_below step step' goes goes' h (suc n) (suc n') number here s few few' =
-      h n n' _ _ (within_goes step goes n) (within_goes step' goes' n')
-      (within_below step step' goes goes' h n n') number here s (omega (arith, few)) (omega (arith, few'))
+  within_below step step' goes goes' h (suc n) (suc n') number here =
+      h n n' _ _ (within_below step step' goes goes' h n n') number here
+  within_below step step' goes goes' h zero n' number here = from_richer zero n' _ _ (within_goes step goes zero number
+      here) (within_goes step' goes' n' number here) (λ s ahead. absurd (omega (arith, ahead.few)))
+  within_below step step' goes goes' h (suc n) zero number here = from_richer (suc n) zero _ _
+      (within_goes step goes (suc n) number here) (within_goes step' goes' zero number here)
+      (λ s ahead. absurd (omega (arith, ahead.few')))

@@ -1,18 +1,13 @@
 -- No compartment that performs is blamed, whatever the trace is, and only compartments that there are.
-use Rattle.sc_laws.proofs.Common.{AreFresh, Blamed, Body, Bool, CallTarget, Cause, ChainRises, Cross, Ended, Event}
-use Rattle.sc_laws.proofs.Common.{EventsOut, Function, HasChain, Here, Input, IsBlamedOutside, IsChain, IsRising}
-use Rattle.sc_laws.proofs.Common.{IsWithin, Kept, Library, Link, List, Main, Memory, Obedient, Option, Output, Own}
-use Rattle.sc_laws.proofs.Common.{PassesBlame, Piece, Property, Reached, Roles, RunEnd, Set, Some, SourceRun, State}
-use Rattle.sc_laws.proofs.Common.{Stopped, TurnsOut, Value, [], ap, ap₂, arith, back_cross, back_own, call_cross}
-use Rattle.sc_laws.proofs.Common.{call_own, called, cases_eq, eq-eqb, eqb-true, false, first_state, found_kept}
+use Rattle.sc_laws.proofs.Common.{is_some, AreFresh, Blamed, Bool, Cause, ChainRises, Ended, Event, EventsOut, Function}
+use Rattle.sc_laws.proofs.Common.{HasChain, IsBlamedOutside, IsChain, IsRising, IsWithin, Kept, Library, Link, List}
+use Rattle.sc_laws.proofs.Common.{Memory, Obedient, Option, PassesBlame, Piece, Reached, Roles, RunEnd, Set, SourceRun}
+use Rattle.sc_laws.proofs.Common.{Stopped, TurnsOut, Value, [], ap, arith, cases_eq, eq-eqb, false, first_state}
 use Rattle.sc_laws.proofs.Common.{function, if◌then◌else◌, leb-false, length, length-append, longer, nat_le, ne_eqb}
-use Rattle.sc_laws.proofs.Common.{nobody, performed_by, reaches, refl, roles_in, roles_run, run_by, run_in, run_step}
-use Rattle.sc_laws.proofs.Common.{run_to, scripted_step, slice_get, slice_index_or, stopped_at, subst, suc, sym}
-use Rattle.sc_laws.proofs.Common.{then_kept, true, turn, turn_of, turnless, with, within, zero, ℕ, ⊎_elim, ◌++◌, ◌+◌}
-use Rattle.sc_laws.proofs.Common.{◌<◌, ◌==◌, ◌||◌, ◌∙◌, ◌∷◌, ◌≡◌, ◌≤◌, ◌⊎◌}
-use Rattle.sc_laws.proofs.Growing.{BodyGoes, within_goes}
-use Rattle.sc_laws.proofs.Matching.{scripted_goes_on}
-use Rattle.sc_laws.proofs.Keeping.{IsKept, scripted_keeps}
+use Rattle.sc_laws.proofs.Common.{nobody, performed_by, reaches, refl, roles_in, roles_run, run_step, run_to}
+use Rattle.sc_laws.proofs.Common.{scripted_step, slice_get, slice_index_or, stopped_at, subst, suc, sym, true, turnless}
+use Rattle.sc_laws.proofs.Common.{with, within, zero, ℕ, ⊎_elim, ◌++◌, ◌+◌, ◌<◌, ◌||◌, ◌∙◌, ◌∷◌, ◌≡◌, ◌≤◌, ◌⊎◌}
+use Rattle.sc_laws.proofs.Keeping.{Walk, place, main_walks, scripted_walks}
 use Rattle.sc_laws.proofs.FollowingRuns.{passes_blames}
 use Rattle.sc_laws.proofs.Runs.{shown}
 
@@ -25,71 +20,44 @@ module _ (Fair : ℕ → Type 0) where
   Spares TurnsOut = Unit {0}
   Spares EventsOut = Unit {0}
 
-  abbrev sparing : Property
-  sparing = record { Goes = λ s. Unit {0}; Ends = λ end s. Spares end }
+  module _ (library : Library) (obedient : Obedient library) (roles : Roles) (fair : (comp number : ℕ) →
+      roles.scripted comp ≡ false → is_some (function library comp number) ≡ true → Fair comp) where
+    -- nothing is asked of states
+    abbrev walk : Walk library
+    walk = record {
+      Place = Unit {0};
+      At = λ n i s. Unit {0};
+      Ends = λ end s. Spares end;
+      In = λ i comp. Unit {0};
+      Runs = λ i comp number. Unit {0};
+      inner = λ i comp f. tt;
+      across = λ i to index. tt;
+      cross_runs = λ i to index number f same. tt;
+      halts = λ i s at. tt;
+      spent = λ n i s none at. tt;
+      less = λ n m i s is at. tt;
+      raised = λ n i s at. tt;
+      stored = λ n i s memory at. tt;
+      begins = λ n i comp f args s at. tt;
+      ends = λ n i comp f first s at. tt;
+      enters = λ n i from to index args s here may at. tt;
+      leaves = λ n i from to index args v s here may at. tt;
+      reads = λ n i from args s here may at. tt;
+      writes = λ n i from args s here may at. tt;
+    }
 
-  abbrev BodySpares : Body → Type 0
-  BodySpares body = (number : ℕ) (here : Here) (s : State) → Kept sparing (body number here s)
-
-  turned : (n : ℕ) (s : State) → Kept sparing (turn_of n s)
-  turned zero s = record { after = tt }
-  turned (suc n) s = record { after = tt }
-
-  is_kept : (here : Here) → Fair here.comp → IsKept sparing here
-  is_kept here clear =
-      record { memory = λ s blocks h. tt; turned = λ s h. turned s.turns s; blamed = λ s cause line h. clear }
-
-  module _ (library : Library) (body : Body) (spares : BodySpares body) where
-    run_spares : (comp number : ℕ) (args : List Value) (back : Option Value → State → Piece (Option Value)) →
-        ((v : Option Value) (s : State) → Kept sparing (back v s)) → (s : State) →
-        Kept sparing (run_in library body comp number args back s)
-    run_spares comp number args back b s = found_kept sparing (function library comp number) s _ tt
-        (λ f is. then_kept sparing (body number _ _) _ (spares number _ _) (λ v t h. b v _))
-
-    cross_spares : (from to index : ℕ) (args : List Value) (s : State) →
-        Kept sparing (call_cross library body from to index args s)
-    cross_spares from to index args s =
-        found_kept sparing (library.entered to _) s _ tt (λ number is.
-        run_spares to number _ (back_cross library.interfaces from to index) (λ v s. record { after = tt }) _)
-
-    called_spares : (from : ℕ) (target : CallTarget) (args : List Value) (s : State) →
-        Kept sparing (called library body from target args s)
-    called_spares from (Own number) args s =
-        then_kept sparing (turn s) (λ _ s. call_own library body from number args s) (turned s.turns s)
-        (λ _ s h. run_spares from number args back_own _ s)
-    called_spares from (Cross to index) args s =
-        then_kept sparing (turn s) (λ _ s. call_cross library body from to index args s) (turned s.turns s)
-        (λ _ s h. cross_spares from to index args s)
-    called_spares from Input args s = record { after = tt }
-    called_spares from Output args s = record { after = tt }
-
-  module _ (library : Library) (obedient : Obedient library) (roles : Roles) (fair : (comp number : ℕ) (f : Function) →
-      roles.scripted comp ≡ false → function library comp number ≡ Some f → Fair comp) where
-    step_spares : (body : Body) → BodyGoes body → BodySpares body →
-        BodySpares (scripted_step library roles (run_step library) body)
-    step_spares body goes spares number here s = scripted_keeps sparing library body here
-        (λ target args s may h. called_spares library body spares here.comp target args s) number (λ s h. tt)
-        (λ s h. spares number here s) roles obedient goes
-        (λ plain f found_f. is_kept here (fair here.comp number f plain found_f)) s tt
-
-    within_spares : (n : ℕ) → BodySpares (within (scripted_step library roles (run_step library)) n)
-    within_spares zero number here s = record { after = tt }
-    within_spares (suc n) number here s = step_spares (within (scripted_step library roles (run_step library)) n)
-        (within_goes (scripted_step library roles _) (scripted_goes_on library obedient roles) n) (within_spares n)
-        number here s
-
-    run_to_spares : (main : ℕ) (piece : Piece (Option Value)) → Kept sparing piece →
-        Spares (run_to main piece).behaviour.end
-    run_to_spares main (Reached v s) h = tt
-    run_to_spares main (Stopped end s) h = h.after
+    run_to_spares : (n main : ℕ) (piece : Piece (Option Value)) →
+        Kept (place library walk n tt) piece → Spares (run_to main piece).behaviour.end
+    run_to_spares n main (Reached v s) h = tt
+    run_to_spares n main (Stopped end s) h = h.after
 
     run_by_spares : (globals : Memory) (inputs : List ℕ) (turns : ℕ) →
-        Spares (run_by library (scripted_step library roles (run_step library)) globals inputs turns).behaviour.end
-    run_by_spares globals inputs turns =
-        run_to_spares library.interfaces.main _ (found_kept sparing (library.entered _ Main)
-        (first_state globals inputs turns) _ tt (λ number is.
-        run_spares library (within (scripted_step library roles (run_step library)) (suc turns))
-        (within_spares (suc turns)) _ number [] back_own (λ v s. record { after = tt }) _))
+        Spares (roles_run library globals inputs turns roles).behaviour.end
+    run_by_spares globals inputs turns = run_to_spares (suc turns) library.interfaces.main _ (main_walks library walk
+        (suc turns) (within (scripted_step library roles (run_step library)) (suc turns)) (scripted_walks library walk
+        (λ n i s at. tt) (λ i comp number runs. tt) (λ i comp number f here. tt) obedient roles (λ comp number plain is
+        n i cause line s at. fair comp number plain is) (suc turns)) tt (first_state globals inputs turns) (λ none. tt)
+        (λ number is none. tt) (λ number f is. tt) tt)
 
   stopped_spares : (events : ℕ) (run : SourceRun) → Spares run.end → Spares (stopped_at events run).end
   stopped_spares events run h = by _ where
@@ -101,23 +69,23 @@ module _ (library : Library) (obedient : Obedient library) (globals : Memory) (i
     (roles : Roles) (comp : ℕ) (cause : Cause) (line : ℕ)
     (ends : (stopped_at events (roles_run library globals inputs turns roles).behaviour).end ≡ Blamed comp cause line)
   where
-    fair_blame : (Fair : ℕ → Type 0) → ((comp number : ℕ) (f : Function) → roles.scripted comp ≡ false →
-        function library comp number ≡ Some f → Fair comp) → Fair comp
+    fair_blame : (Fair : ℕ → Type 0) → ((comp number : ℕ) → roles.scripted comp ≡ false →
+        is_some (function library comp number) ≡ true → Fair comp) → Fair comp
     fair_blame Fair fair =
         subst (Spares Fair) ends (stopped_spares Fair events (roles_run library globals inputs turns roles).behaviour
         (run_by_spares Fair library obedient roles fair globals inputs turns))
 
     pub nobody_is_blamed : roles.scripted comp ≡ false
-    nobody_is_blamed = fair_blame (λ c. roles.scripted c ≡ false) (λ c number f plain found_f. plain)
+    nobody_is_blamed = fair_blame (λ c. roles.scripted c ≡ false) (λ c number plain is. plain)
 
     pub blamed_is_there : comp < length library.functions
     blamed_is_there = fair_blame (λ c. c < length library.functions)
-        (λ c number f plain found_f. listed library.functions c number f found_f) where
-          listed : (functions : List (List Function)) (c number : ℕ) (f : Function) →
-              slice_get (slice_index_or functions c []) number ≡ Some f → c < length functions
-          listed [] c number f is = absurd (cc)
-          listed (x ∷ xs) zero number f is = omega arith
-          listed (x ∷ xs) (suc c) number f is = omega (arith, listed xs c number f is)
+        (λ c number plain is. listed library.functions c number is) where
+          listed : (functions : List (List Function)) (c number : ℕ) →
+              is_some (slice_get (slice_index_or functions c []) number) ≡ true → c < length functions
+          listed [] c number is = absurd (cc)
+          listed (x ∷ xs) zero number is = omega arith
+          listed (x ∷ xs) (suc c) number is = omega (arith, listed xs c number is)
 
 -- The links of a chain come one after another, and a chain is found.
 
@@ -133,22 +101,11 @@ early n x comp cause line ends = by _ refl ends where
   by false is ends = few x.end ends is
 
 within_with : (set : Set) (comp : ℕ) → IsWithin set (with comp set)
-within_with set comp c is = ap (λ b. (c == comp) || b) is ∙ or_true (c == comp) where
-  or_true : (b : Bool) → (b || true) ≡ true
-  or_true true = refl
-  or_true false = refl
-
-with_has : (set : Set) (comp : ℕ) → with comp set comp ≡ true
-with_has set comp = ap (λ b. b || set comp) (eq-eqb comp comp refl)
+within_with set comp c is = grind (arith, is)
 
 module _ (L : Library) (obedient : Obedient L) (globals : Memory) (inputs : List ℕ) (turns : ℕ) (t : List Event) where
   abbrev behaviour : Set → SourceRun
   behaviour set = performed_by L globals inputs turns t set
-
-  blamed_early : (set : Set) (comp : ℕ) (cause : Cause) (line : ℕ) → (behaviour set).end ≡ Blamed comp cause line →
-      length (behaviour set).trace < length t
-  blamed_early set comp cause line ends =
-      early _ (roles_run L globals inputs turns (roles_in L.interfaces.main set t)).behaviour comp cause line ends
 
   -- where the next run is blamed it has told more
   told_more : (run other : SourceRun) (comp : ℕ) (cause : Cause) (line : ℕ) → other.end ≡ Blamed comp cause line →
@@ -166,7 +123,7 @@ module _ (L : Library) (obedient : Obedient L) (globals : Memory) (inputs : List
       let here = chain.0 in
       let low : least ≤ length (behaviour set).trace = h link.comp link.cause link.line here.blamed in
       let high : length (behaviour set).trace < length t =
-      blamed_early set link.comp link.cause link.line here.blamed in
+      early _ (roles_run L globals inputs turns (roles_in L.interfaces.main set t)).behaviour _ _ _ here.blamed in
       let same : length (behaviour set).trace ≡ link.after = here.after in (
         omega (arith, low, same),
         omega (arith, high, same),
@@ -174,7 +131,8 @@ module _ (L : Library) (obedient : Obedient L) (globals : Memory) (inputs : List
             let more : length (behaviour set).trace < length (behaviour (with _ set)).trace =
             told_more (behaviour set) (behaviour (with link.comp set)) comp cause line ends
             (passes_blames L obedient globals inputs turns t set (with link.comp set) (within_with set link.comp)
-            link.comp link.cause link.line here.blamed here.front (with_has set link.comp)) in
+            link.comp link.cause link.line here.blamed here.front (ap (λ b. b || set link.comp) (eq-eqb link.comp _
+            refl))) in
             omega (arith, more, same)) chain.1,
       )
 
@@ -199,32 +157,14 @@ missing set (suc n) = (if set n then 0 else 1) + missing set n
 above_counts : (set : Set) (comp n : ℕ) → n ≤ comp → missing (with comp set) n ≡ missing set n
 unfolding missing
 above_counts set comp zero le = refl
-above_counts set comp (suc n) le = ap₂ (λ b m. (if b || set n then 0 else 1) + m)
-    (ne_eqb n comp (λ is. absurd (omega (arith, le, is)))) (above_counts set comp n (omega (arith, le)))
+above_counts set comp (suc n) le = grind (arith, ne_eqb n comp, above_counts set comp n (omega (arith, le)))
 
 -- one below it that isn't of the set counts once
-still_apart : (n comp : ℕ) → (n == comp) ≡ false → comp < suc n → comp < n
-still_apart n comp differs lt = ⊎_elim (λ is. cc (sym differs ∙ eq-eqb n comp is)) (λ no. omega (arith, lt, no))
-    (cases_eq n comp)
-
 below_counts : (set : Set) (comp n : ℕ) → set comp ≡ false → comp < n → suc (missing (with comp set) n) ≡ missing set n
 unfolding missing
 below_counts set comp zero clear lt = absurd (omega (arith, lt))
-below_counts set comp (suc n) clear lt = by (below_counts set comp n clear) (n == comp) refl where
-  by : (comp < n → suc (missing (with comp set) n) ≡ missing set n) → (b : Bool) → (n == comp) ≡ b → suc
-      ((if (n == comp) || set n then 0 else 1) + missing (with comp set) n) ≡ (if set n then 0 else 1) + missing set n
-  by before true is =
-      let same : n ≡ comp = eqb-true n comp is in
-      let here : set n ≡ false = ap set same ∙ clear in
-      let counts : missing (with comp set) n ≡ missing set n = above_counts set comp n (omega (arith, same)) in
-      ap (λ b. suc ((if b || set n then 0 else 1) + missing (with comp set) n)) is
-      ∙ ((let one : suc (0 + missing (with comp set) n) ≡ 1 + missing set n = omega (arith, counts) in one)
-      ∙ ap (λ b. (if b then 0 else 1) + missing set n) (sym here))
-  by before false is =
-      let counts : suc (missing (with comp set) n) ≡ missing set n = before (still_apart n comp is lt) in
-      ap (λ b. suc ((if b || set n then 0 else 1) + missing (with comp set) n)) is
-      ∙ (let one : ℕ = if set n then 0 else 1 in let moved : suc (one + missing (with comp set) n)
-      ≡ one + missing set n = omega (arith, counts) in moved)
+below_counts set comp (suc n) clear lt = grind (arith, cases_eq n comp, eq-eqb n comp, ne_eqb n comp,
+    above_counts set comp n, below_counts set comp n clear)
 
 nobody_missing : (n : ℕ) → missing nobody n ≡ n
 unfolding missing

@@ -1,15 +1,15 @@
 -- Calls in two runs along one trace, of which the second has more compartments that perform their parts of it.
-use Rattle.sc_laws.proofs.Common.{Action, BadType, Blamed, Body, Bool, Call, CallTarget, Cross, Event, Export, Front}
+use Rattle.sc_laws.proofs.Common.{arith, Action, BadType, Body, Bool, Call, CallTarget, Cross, Event, Export, Front}
 use Rattle.sc_laws.proofs.Common.{Function, Goes, Gone, Here, In, Input, IsFixed, Library, List, Meets, None, Option}
 use Rattle.sc_laws.proofs.Common.{Output, Own, Piece, Proto, Reached, Ret, Row, Scalar, Some, Standing, State, Step}
 use Rattle.sc_laws.proofs.Common.{Stopped, TurnsOut, Value, Word, [], action_of, acts, and_from, and_parts, and_then}
 use Rattle.sc_laws.proofs.Common.{ap, ap₂, asks, at_start, back_cross, begun, blocks_for, both_ways, call_cross}
-use Rattle.sc_laws.proofs.Common.{call_own, called, calls, count_of, crossed, crossing, done, drop, ended, eq-eqb}
-use Rattle.sc_laws.proofs.Common.{export_at, false, first_word, found, function, if◌then◌else◌, imports, is_number}
-use Rattle.sc_laws.proofs.Common.{is_output, is_word, last, length, list_all, map, may_call, next_input, now}
-use Rattle.sc_laws.proofs.Common.{option_value, part, performer, performs, read_input, refl, roles_in, rows_left}
-use Rattle.sc_laws.proofs.Common.{run_in, run_step, scripted_step, stands_after, stands_behind, subst, suc, sym, takes}
-use Rattle.sc_laws.proofs.Common.{tell, true, turn, turn_of, within, word_back, word_in, zero, ℕ, ◌++◌, ◌∙◌, ◌∷◌, ◌≡◌}
+use Rattle.sc_laws.proofs.Common.{call_own, called, calls, crossed, crossing, done, drop, ended, eq-eqb, export_at}
+use Rattle.sc_laws.proofs.Common.{false, first_word, found, function, if◌then◌else◌, imports, is_number, is_output}
+use Rattle.sc_laws.proofs.Common.{is_word, last, length, list_all, map, may_call, next_input, now, option_value}
+use Rattle.sc_laws.proofs.Common.{performer, performs, read_input, refl, roles_in, rows_left, run_in, run_step}
+use Rattle.sc_laws.proofs.Common.{scripted_step, stands_after, stands_behind, subst, suc, sym, takes, tell, true, turn}
+use Rattle.sc_laws.proofs.Common.{turn_of, within, word_back, word_in, zero, ℕ, ◌++◌, ◌∙◌, ◌∷◌, ◌≡◌}
 use Rattle.sc_event.specs.declared.event.Event.TheVariants.{Out}
 use Rattle.sc_event.specs.declared.row.Action.TheVariants as act
 use Rattle.sc_laws.proofs.Growing.{front_same, front_more, more, reached, stays, no_turn, earlier, then_goes, BodyGoes}
@@ -106,13 +106,11 @@ module _ (L : Library) (main : ℕ) (t : List Event) (S S' : ℕ → Bool) (larg
     -- what is to be shown of the bodies of the first run
     pub record Bodies (a : Body) : Type 0 where
       pub goes : BodyGoes a
-      -- of a compartment that performs in neither run, in both, and in the second alone
+      -- of a compartment that performs in neither run, and of one that performs in the second
       pub plain : (number : ℕ) (here : Here) (st : Standing) (s s' : State) → S' here.comp ≡ false → N st s s' →
           F st (a number here s) (second number here s')
-      pub enters : (number comp first first' : ℕ) (st : Standing) (s s' : State) → S comp ≡ true → N st s s' →
-          F st (a number (at comp first) s) (second number (at comp first') s')
       pub resumes : (number comp first k first' : ℕ) (st : Standing) (left : Piece (Option Value)) (s : State) →
-          S comp ≡ false → S' comp ≡ true → L.entered comp st.active.entry ≡ Some k → Held st k comp first' left s →
+          S' comp ≡ true → L.entered comp st.active.entry ≡ Some k → Held st k comp first' left s →
           P st k comp first' left (a number (at comp first) s)
 
     performs_now : (k comp first : ℕ) (s : State) → S' comp ≡ true → second k (at comp first) s
@@ -126,21 +124,34 @@ module _ (L : Library) (main : ℕ) (t : List Event) (S S' : ℕ → Bool) (larg
       pub is : second k (at comp first) s ≡ acts L second (action_of e) (performs L second rest k (at comp first))
           (second k (at comp first)) comp s
 
-    -- a function that performs tells the next event of the trace, where that is its compartment's
-    pub performs_next : (k comp first : ℕ) (st : Standing) (s : State) (e : Event) (more : List Event) →
-        S' comp ≡ true → L.entered comp st.active.entry ≡ Some k → performer e ≡ comp → t ≡ s.trace ++ e ∷ more →
-        stands_behind (at_start main) s.trace ≡ Some st → Telling k comp first e s
-    performs_next k comp first st s e more set is_k own is stands =
-        let next : Next _ st e = row_of_next main comp t s.trace e more st is stands own in
-        let row : Row = record { entry = st.active.entry; number = next.number; action = action_of e } in
-        let doing = acts L second (action_of e) (performs L second next.rest k _) (second k (at comp first)) comp s in
-        record {
-          rest = next.rest;
-          left = rows_behind main comp t s.trace e st own next;
-          is = performs_now k comp first s set ∙ ap (λ rows. performs L second rows k (at comp first) s) next.is
-              ∙ ap (λ n. if is_number k n then doing else Stopped TurnsOut s) is_k
-              ∙ ap (λ b. if b then doing else Stopped TurnsOut s) (eq-eqb k k refl);
-        }
+    -- an event of a compartment that performs: the trace ends, or the second run tells it too
+    pub data Tells (k comp first : ℕ) (s s' : State) (e : Event) : Type 0 where
+      all_told : t ≡ s.trace → Tells k comp first s s' e
+      tells_it : (more : List Event) → t ≡ s.trace ++ e ∷ more → Telling k comp first e s' → Tells k comp first s s' e
+
+    pub tells_next : (k comp first : ℕ) (st : Standing) (s s' : State) (e : Event) → S' comp ≡ true →
+        L.entered comp st.active.entry ≡ Some k → performer e ≡ comp → N st s s' → InLine t (s.trace ++ e ∷ []) →
+        Tells k comp first s s' e
+    tells_next k comp first st s s' e set is_k own n along = by_next (next_told_is t s.trace e n.front along) where
+      performs_next : (more : List Event) → t ≡ s'.trace ++ e ∷ more → Telling k comp first e s'
+      performs_next more is =
+          let stands = ap (stands_behind (at_start main)) n.trace ∙ n.stands in
+          let next : Next _ st e = row_of_next main comp t s'.trace e more st is stands own in
+          let row : Row = record { entry = st.active.entry; number = next.number; action = action_of e } in
+          let doing =
+          acts L second (action_of e) (performs L second next.rest k _) (second k (at comp first)) comp s' in
+          record {
+            rest = next.rest;
+            left = rows_behind main comp t s'.trace e st own next;
+            is = performs_now k comp first s' set ∙ ap (λ rows. performs L second rows k (at comp first) s') next.is
+                ∙ ap (λ n. if is_number k n then doing else Stopped TurnsOut s') is_k
+                ∙ ap (λ b. if b then doing else Stopped TurnsOut s') (eq-eqb k k refl);
+          }
+
+      by_next : NextIs t s.trace e → Tells k comp first s s' e
+      by_next (over all) = all_told all
+      by_next (next_told more all) =
+          tells_it more all (performs_next more (all ∙ ap (λ u. u ++ e ∷ more) (sym n.trace)))
 
     -- a function that performs tells an event more, wants a turn or a row for it, or returns
     abbrev Passes : State → Piece (Option Value) → Type 0
@@ -149,49 +160,47 @@ module _ (L : Library) (main : ℕ) (t : List Event) (S S' : ℕ → Bool) (larg
     halts : (s : State) → Passes s (Stopped TurnsOut s)
     halts s = passing.passes (passed.no_turn s refl refl)
 
-    tells_more : (s : State) (e : Event) (p : Piece (Option Value)) → Front (s.trace ++ e ∷ []) (last p).trace →
-        Passes s p
-    tells_more s e p front = passing.passes (passed.longer e front)
+    -- a call tells its event, or there is no turn or no function for it
+    data Asked (e : Event) (u : List Event) (o : Piece (Option Value)) : Type 0 where
+      silent : (y : State) → o ≡ Stopped TurnsOut y → y.trace ≡ u → Asked e u o
+      loud : Front (u ++ e ∷ []) (last o).trace → Asked e u o
 
-    call_passes : (allowed : Bool) (m : ℕ) (from to index : ℕ) (args : List Value) (number : Option ℕ) (s : State)
-        (k : Option Value → State → Piece (Option Value)) → ((v : Option Value) → Goes (k v)) → Passes s (and_then (if
-        allowed then and_then (turn_of m s) (λ _ s. and_then (found number s) (λ number s. run_in L second to number
-        (crossed args) (back_cross L.interfaces from to index) (tell (Call from to index (map word_in args)) s))) else
-        Stopped TurnsOut s) k)
-    call_passes false m from to index args number s k goes = halts s
-    call_passes true zero from to index args number s k goes = halts s
-    call_passes true (suc m) from to index args None s k goes =
-        passing.passes (passed.no_turn (record s { turns = m }) refl refl)
-    call_passes true (suc m) from to index args (Some number) s k goes =
-        let back = back_cross L.interfaces from to index in
-        let told_state : State = tell (Call from to index (map word_in args)) (record s { turns = m }) in
-        tells_more s (Call from to index (map word_in args)) _
-        (then_goes told_state (run_in L second to number (crossed args) back told_state) k
-        (run_goes L second second_goes to number (crossed args) back (back_goes L.interfaces from to index)
-        told_state) goes).grown.events
+    cross_asked : (body : Body) → BodyGoes body → (comp to index : ℕ) (args : List Value) (s : State) (m : ℕ) →
+        Asked (Call comp to index (map word_in args)) s.trace
+        (and_then (turn_of m s) (λ _ s. call_cross L body comp to index args s))
+    cross_asked body goes comp to index args s zero = silent s refl refl
+    cross_asked body goes comp to index args s (suc m) = by_number (L.entered to (Export index)) where
+      by_number : (number : Option ℕ) → Asked (Call comp to index (map word_in args)) s.trace
+          (and_then (found number (record s { turns = m })) (λ number s. run_in L body to number (crossed args)
+          (back_cross L.interfaces comp to index) (tell (Call comp to index (map word_in args)) s)))
+      by_number None = silent (record s { turns = m }) refl refl
+      by_number (Some number) = loud (run_goes L body goes to number _
+          (back_cross L.interfaces comp to index) (back_goes L.interfaces comp to index) _).grown.events
 
-    environment_passes : (allowed : Bool) (s : State) (e : Event) (x : State) (v : Option Value) (next : State →
-        Piece (Option Value)) → x.trace ≡ s.trace ++ e ∷ [] → Goes next →
-        Passes s (and_then (if allowed then Reached v x else Stopped TurnsOut s) (λ v. next))
-    environment_passes false s e x v next is goes = halts s
-    environment_passes true s e x v next is goes =
-        tells_more s e _ (subst (λ u. Front u (last (next x)).trace) is (goes x).grown.events)
+    asks_pass : (comp : ℕ) (target : CallTarget) (args : List Value) (e : Event) (s : State)
+        (k : Option Value → State → Piece (Option Value)) → ((v : Option Value) → Goes (k v)) →
+        Asked e s.trace (called L second comp target args s) →
+        Passes s (and_then (asks L second comp target args s) k)
+    asks_pass comp target args e s k goes h = subst (λ o. Passes s (and_then o k))
+        (sym (asks_is L second second_goes comp target args s)) (by_test (may_call L comp target args) h) where
+          by_test : (b : Bool) → Asked e s.trace (called L second comp target args s) →
+              Passes s (and_then (if b then called L second comp target args s else Stopped TurnsOut s) k)
+          by_test true (silent y stops trace) = passing.passes (passed.no_turn y (ap (λ o. and_then o k) stops) trace)
+          by_test true (loud front) = passing.passes (passed.longer e (then_front (s.trace ++ e ∷ [])
+              (called L second comp target args s) k goes front))
+          by_test false h = halts s
 
     action_passes : (action : Action) (k comp first : ℕ) (next : State → Piece (Option Value)) → Goes next →
         (s : State) → Passes s (acts L second action next (second k (at comp first)) comp s)
     action_passes (act.Call to index words) k comp first next goes s =
         let args = map (λ w. Word w) words in
-        subst (λ o. Passes s (and_then o (λ v. second k (at comp first))))
-        (sym (asks_is L second second_goes comp (Cross to index) args s))
-        (call_passes (may_call L comp (Cross to index) args) s.turns comp to index args (L.entered to (Export index)) s
-        (λ v. second k _) (λ v. second_goes k (at comp first)))
+        asks_pass comp (Cross to index) args (Call comp to index (map word_in args)) s (λ v. second k _)
+        (λ v. second_goes k (at comp first)) (cross_asked second second_goes comp to index args s s.turns)
     action_passes (act.Ret v) k comp first next goes s = passing.hands_back _ s refl refl
     action_passes (act.Out w) k comp first next goes s =
-        subst (λ o. Passes s (and_then o (λ v. next))) (sym (asks_is L second second_goes comp Output (Word w ∷ []) s))
-        (environment_passes (may_call L comp Output (Word w ∷ [])) s (Out comp w) (tell _ s) None next refl goes)
+        asks_pass comp Output (Word w ∷ []) (Out comp w) s (λ v. next) (λ v. goes) (loud (front_same _))
     action_passes (act.In w) k comp first next goes s =
-        subst (λ o. Passes s (and_then o (λ v. next))) (sym (asks_is L second second_goes comp Input [] s))
-        (environment_passes (may_call L comp Input []) s (In comp _) (read_input comp s) (Some _) next refl goes)
+        asks_pass comp Input [] (In comp _) s (λ v. next) (λ v. goes) (loud (front_same _))
     action_passes (act.End w) k comp first next goes s = passing.hands_back _ s refl refl
 
     rows_pass : (rows : List Row) (k comp first : ℕ) (s : State) → Passes s (performs L second rows k (at comp first) s)
@@ -249,72 +258,64 @@ module _ (L : Library) (main : ℕ) (t : List Event) (S S' : ℕ → Bool) (larg
           (front_more t (y'.trace ++ e ∷ []) (last p).trace (past y'.trace e (all ∙ sym n.trace)) front')
       by_next (next_told more all) along = (go (near_tell main t S' st after y y' e more moves all n)).follows along
 
-    module _ (st : Standing) (from to index : ℕ) (f : Function) (first first' : ℕ) where
-      -- what the call does at its end in both runs, and what is told then
+    module _ (st : Standing) (from to index : ℕ) (f : Function) (first : ℕ) where
+      -- what the call does at its end, and what is told then
       abbrev ends : Option Value → State → Piece (Option Value)
       ends = returns to from index f first
-
-      abbrev ends' : Option Value → State → Piece (Option Value)
-      ends' = returns to from index f first'
 
       abbrev told : Option Value → Event
       told v = Ret to from (back to index v)
 
-      ended_near : (u u' : State) (v : Option Value) (more : List Event) → t ≡ u.trace ++ told v ∷ more →
+      ended_near : (first' : ℕ) (u u' : State) (v : Option Value) (more : List Event) → t ≡ u.trace ++ told v ∷ more →
           (S' to ≡ false → ended first' (length f.cells) (u'.memory to) ≡ ended first (length f.cells) (u.memory to)) →
           N (inside st to index) u u' → N st (tell (told v) (done to f first u)) (tell (told v) (done to f first' u'))
-      ended_near u u' v more all same near = near_tell main t S' (inside st to index) st (done to f first u)
+      ended_near first' u u' v more all same near = near_tell main t S' (inside st to index) st (done to f first u)
           (done to f first' u') (told v) more refl all (near_blocks main t S' _ u u' to _ _ _ _ same near)
 
-      both_return : (o p : Piece (Option Value)) → (S' to ≡ false → first' ≡ first) →
-          InLine t (last (and_then o ends)).trace → Up (inside st to index) o p →
-          Up st (and_then o ends) (and_then p ends')
-      both_return o p equal along (follows.done a b) = follows.done
+      both_return : (o p : Piece (Option Value)) → InLine t (last (and_then o ends)).trace →
+          Up (inside st to index) o p → Up st (and_then o ends) (and_then p ends)
+      both_return o p along (follows.done a b) = follows.done
           (then_front t o ends (returns_goes to from index f first) a)
-          (then_front t p ends' (returns_goes to from index f first') b)
-      both_return o p equal along (follows.both v u u' is is' near) =
-          subst (λ y. Up st (and_then y ends) (and_then p ends')) (sym is)
-          (subst (λ y. Up st (ends v u) (and_then y ends')) (sym is') (told_both (next_told_is t u.trace (told v)
+          (then_front t p ends (returns_goes to from index f first) b)
+      both_return o p along (follows.both v u u' is is' near) =
+          subst (λ y. Up st (and_then y ends) (and_then p ends)) (sym is)
+          (subst (λ y. Up st (ends v u) (and_then y ends)) (sym is') (told_both (next_told_is t u.trace (told v)
           near.front (subst (λ y. InLine t (last (and_then y ends)).trace) is along)))) where
-            told_both : NextIs t u.trace (told v) → Up st (ends v u) (ends' v u')
+            told_both : NextIs t u.trace (told v) → Up st (ends v u) (ends v u')
             told_both (over all) =
                 follows.done (past u.trace (told v) all) (past u'.trace (told v) (all ∙ sym near.trace))
-            told_both (next_told more all) = follows.both (option_value (back to index v)) _ _ refl refl (ended_near u
-                u' v more all (λ clear. (λ i. ended (equal clear i) (length f.cells) (near.memory to clear i))) near)
-      both_return o p equal along (follows.stop end x is by) = follows.stop end x (ap (λ y. and_then y ends) is)
-          (beyond_then main t S' (Option Value) (Option Value) end x p ends' (returns_goes to from index f first') by)
+            told_both (next_told more all) = follows.both (option_value (back to index v)) _ _ refl refl (ended_near
+                first u u' v more all (λ clear. ap (ended first (length f.cells)) (near.memory to clear)) near)
+      both_return o p along (follows.stop end x is by) = follows.stop end x (ap (λ y. and_then y ends) is)
+          (beyond_then main t S' (Option Value) (Option Value) end x p ends (returns_goes to from index f first) by)
 
-      -- the value and the event with which a performed return comes
-      performed_return : (v : Option Value) (u' : State) → ends' (option_value (back to index v)) u'
-          ≡ Reached (option_value (back to index v)) (tell (told v) (done to f first' u'))
-      performed_return v u' = ap (λ w. Reached (option_value w) (tell (Ret to from w) (done to f first' u')))
-          (crossing_stays (export_at L.interfaces to index) v)
+      module _ (first' : ℕ) where
+        -- in the second run
+        abbrev ends' : Option Value → State → Piece (Option Value)
+        ends' = returns to from index f first'
 
-      held_return : (k : ℕ) (o left : Piece (Option Value)) → S' to ≡ true → L.entered to (Export index) ≡ Some k →
-          InLine t (last (and_then o ends)).trace → Performs main t S' (inside st to index) left (Onward k to first')
-          (second_goes k (at to first')) (Option Value) o → Up st (and_then o ends) (and_then left ends')
-      held_return k o left set is_k along (performing.done a b) = follows.done
-          (then_front t o ends (returns_goes to from index f first) a)
-          (then_front t left ends' (returns_goes to from index f first') b)
-      held_return k o left set is_k along (performing.here v u is stands) =
-          subst (λ y. Up st (and_then y ends) (and_then left ends')) (sym is) (told_held (next_told_is t u.trace
-          (told v) stands.near.front (subst (λ y. InLine t (last (and_then y ends)).trace) is along))) where
-            told_held : NextIs t u.trace (told v) → Up st (ends v u) (and_then left ends')
-            told_held (over all) =
-                follows.done (past u.trace (told v) all) (whole main t S' u.trace (last (and_then left ends')).trace all
-                (then_front u.trace left ends' (returns_goes to from index f first') (left_goes main t S'
-                (inside st to index) left (Onward k to first') (second_goes k (at to first')) u stands)))
-            told_held (next_told more all) =
-                let now_told : Telling k to first' (told v) stands.other =
-                performs_next k to first' (inside st to index) stands.other (told v) more set is_k refl
-                (all ∙ ap (λ x. x ++ told v ∷ more) (sym stands.near.trace))
-                (ap (stands_behind (at_start main)) stands.near.trace ∙ stands.near.stands) in
-                follows.both (option_value (back to index v)) _ _ refl
-                (ap (λ y. and_then y ends') (stands.is ∙ now_told.is) ∙ performed_return v stands.other)
-                (ended_near u stands.other v more all (λ clear. absurd (both_ways _ clear set)) stands.near)
-      held_return k o left set is_k along (performing.stop end x is by) =
-          follows.stop end x (ap (λ y. and_then y ends) is) (beyond_back main t S' (Option Value) end x left ends'
-          (returns_goes to from index f first') (λ v u. (told v, front_same (u.trace ++ told v ∷ []))) by)
+        held_return : (k : ℕ) (o left : Piece (Option Value)) → S' to ≡ true → L.entered to (Export index) ≡ Some k →
+            InLine t (last (and_then o ends)).trace → Performs main t S' (inside st to index) left (Onward k to first')
+            (second_goes k (at to first')) (Option Value) o → Up st (and_then o ends) (and_then left ends')
+        held_return k o left set is_k along (performing.done a b) = follows.done
+            (then_front t o ends (returns_goes to from index f first) a)
+            (then_front t left ends' (returns_goes to from index f first') b)
+        held_return k o left set is_k along (performing.here v u is stands) =
+            subst (λ y. Up st (and_then y ends) (and_then left ends')) (sym is) (told_held (tells_next k to first'
+            (inside st to index) u stands.other (told v) set is_k refl stands.near
+            (subst (λ y. InLine t (last (and_then y ends)).trace) is along))) where
+              told_held : Tells k to first' u stands.other (told v) → Up st (ends v u) (and_then left ends')
+              told_held (all_told all) =
+                  follows.done (past u.trace (told v) all) (whole main t S' u.trace _ all (then_front u.trace left ends'
+                  (returns_goes to from index f first') (left_goes main t S' (inside st to index) left
+                  (Onward k to first') (second_goes k (at to first')) u stands)))
+              told_held (tells_it more all now) = follows.both (option_value (back to index v)) _ _ refl
+                  (ap (λ y. and_then y ends') (stands.is ∙ now.is) ∙ ap (λ w. Reached (option_value w) (tell (Ret to
+                  from w) (done to f first' stands.other))) (crossing_stays (export_at L.interfaces to index) v))
+                  (ended_near first' u stands.other v more all (λ clear. absurd (both_ways _ clear set)) stands.near)
+        held_return k o left set is_k along (performing.stop end x is by) =
+            follows.stop end x (ap (λ y. and_then y ends) is) (beyond_back main t S' (Option Value) end x left ends'
+            (returns_goes to from index f first') (λ v u. (told v, front_same (u.trace ++ told v ∷ []))) by)
 
     module _ (a : Body) (bodies : Bodies a) where
       -- the call once the function is found: its variables and its frame are there, and the call is told
@@ -356,95 +357,47 @@ module _ (L : Library) (main : ℕ) (t : List Event) (S S' : ℕ → Bool) (larg
         abbrev run' : Piece (Option Value)
         run' = enters second from to index number args f s'
 
-        entered_near : N (inside st to index) (tell event s) (tell event s') → N (inside st to index) x x'
-        entered_near = near_blocks main t S' _ _ _ to _ _ _ _
-            (λ clear. ap (λ blocks. blocks ++ blocks_for f.cells (crossed args)) (n.memory to clear))
-
         along_inside : InLine t (last run).trace → InLine t (last (a number (at to first) x)).trace
         along_inside =
             then_along t (a number (at to first) x) (returns to from index f first) (returns_goes to from index f first)
 
-        -- by whether the callee's compartment performs in both runs, in the second, or in neither
-        callee : (b b' : Bool) → S to ≡ b → S' to ≡ b' → N (inside st to index) x x' → InLine t (last run).trace →
-            Up st run run'
-        callee true b' set set' near along = both_return st from to index f first first' (a number (at to first) x)
-            (second number _ x') (λ clear. absurd (both_ways (S' to) clear (larger to set))) along
-            ((bodies.enters number to first first' (inside st to index) x x' set near).follows (along_inside along))
-        callee false true clear set' near along = held_return st from to index f first first' number
-            (a number (at to first) x) (second number (at to first') x') set' is_number along
-            ((bodies.resumes number to first number first' (inside st to index) (second number (at to first') x') x
-            clear set' is_number (record { other = x'; near = near; is = refl })).performs (along_inside along))
-        callee false false clear clear' near along =
+        -- by whether the callee's compartment performs in the second run
+        callee : (b : Bool) → S' to ≡ b → N (inside st to index) x x' → InLine t (last run).trace → Up st run run'
+        callee true set near along = held_return st from to index f first first' number (a number (at to first) x)
+            (second number (at to first') x') set is_number along ((bodies.resumes number to first number first'
+            (inside st to index) (second number (at to first') x') x set is_number
+            (record { other = x'; near = near; is = refl })).performs (along_inside along))
+        callee false clear near along =
             subst (λ k. Up st run (and_then (second number (at to k) x') (returns to from index f k)))
-            (sym (ap length (n.memory to clear'))) (both_return st from to index f first first (a number _ x)
-            (second number (at to first) x') (λ c. refl) along
-            ((bodies.plain number (at to first) (inside st to index) x x' clear' near).follows (along_inside along)))
+            (sym (ap length (n.memory to clear))) (both_return st from to index f first (a number _ x)
+            (second number (at to first) x') along
+            ((bodies.plain number (at to first) (inside st to index) x x' clear near).follows (along_inside along)))
 
         enters_follow : F st run run'
         enters_follow = tells (Option Value) st (inside st to index) s s' event run run' refl n
             (enters_goes a bodies.goes from to index number args f s).grown.events
             (enters_goes second second_goes from to index number args f s').grown.events
-            (λ near. record { follows = callee (S to) _ refl refl (entered_near near) })
+            (λ near. record { follows = callee _ refl (near_blocks main t S' _ _ _ to _ _ _ _
+            (λ clear. ap (λ blocks. blocks ++ blocks_for f.cells (crossed args)) (n.memory to clear)) near) })
 
-      -- where nothing is found both runs stop
-      nothing_follows : (st : Standing) (s s' : State) → N st s s' → F st (Stopped TurnsOut s) (Stopped TurnsOut s')
-      nothing_follows st s s' n = both_stop main t S' st (Option Value) s s' n.trace
-
-      -- a call across, once the number of the function is known
-      abbrev crosses : Body → (from to index : ℕ) → List Value → ℕ → State → Piece (Option Value)
-      crosses body from to index args number s = run_in L body to number (crossed args)
-          (back_cross L.interfaces from to index) (tell (Call from to index (map word_in args)) s)
-
-      -- by whether the function is there
-      abbrev crosses_to : Body → (from to index number : ℕ) → List Value → Option Function → State → Piece
-          (Option Value)
-      crosses_to body from to index number args f s = and_then
-          (found f (tell (Call from to index (map word_in args)) s))
-          (λ f y. and_then (body number (at to (length (y.memory to))) (begun to f (crossed args) y))
-          (returns to from index f (length (y.memory to))))
-
-      by_function : (from to index number : ℕ) (args : List Value) → L.entered to (Export index) ≡ Some number →
-          (f : Option Function) (st : Standing) (s s' : State) → N st s s' →
-          F st (crosses_to a from to index number args f s) (crosses_to second from to index number args f s')
-      by_function from to index number args is None st s s' n = both_stop main t S' st (Option Value) _ _
-          (ap (λ u. u ++ Call from to index (map word_in args) ∷ []) n.trace)
-      by_function from to index number args is (Some f) st s s' n =
-          enters_follow from to index number args f is st s s' n
-
-      by_number : (from to index : ℕ) (args : List Value) (number : Option ℕ) → L.entered to (Export index) ≡ number →
-          (st : Standing) (s s' : State) → N st s s' → F st (and_then (found number s) (crosses a from to index args))
-          (and_then (found number s') (crosses second from to index args))
-      by_number from to index args None is st s s' n = nothing_follows st s s' n
-      by_number from to index args (Some number) is st s s' n = by_function from to index number args is _ st s s' n
+      -- what is looked up is there in both runs, or both stop
+      found_follow : {V : Type 0} (o : Option V) (go go' : V → State → Piece (Option Value)) (st : Standing)
+          (s s' : State) → s'.trace ≡ s.trace → ((v : V) → o ≡ Some v → F st (go v s) (go' v s')) →
+          F st (and_then (found o s) go) (and_then (found o s') go')
+      found_follow None go go' st s s' same h = both_stop main t S' st (Option Value) s s' same
+      found_follow (Some v) go go' st s s' same h = h v refl
 
       pub cross_follows : (from to index : ℕ) (args : List Value) (st : Standing) (s s' : State) → N st s s' →
           F st (call_cross L a from to index args s) (call_cross L second from to index args s')
-      cross_follows from to index args st s s' n = by_number from to index args _ refl st s s' n
+      cross_follows from to index args st s s' n = found_follow (L.entered to _) _ _ st s s' n.trace (λ number is.
+          let event : Event = Call from to index (map word_in args) in
+          found_follow (function L to number) _ _ st (tell event s) (tell event s')
+          (ap (λ u. u ++ event ∷ []) n.trace) (λ f there. enters_follow from to index number args f is st s s' n))
 
       if_follows : (b : Bool) (st : Standing) (o o' p p' : Piece (Option Value)) → F st o o' → F st p p' →
           F st (if b then o else p) (if b then o' else p')
       if_follows true st o o' p p' h k = h
       if_follows false st o o' p p' h k = k
-
-      -- a call that both ask for
-      asked : (from : ℕ) (target : CallTarget) (args : List Value) (st : Standing) (s s' : State) → N st s s' →
-          F st (called L a from target args s) (called L second from target args s') →
-          F st (asks L a from target args s) (asks L second from target args s')
-      asked from target args st s s' n h =
-          subst (λ o. F st o (asks L second from target args s')) (sym (asks_is L a bodies.goes from target args s))
-          (subst (F st _) (sym (asks_is L second second_goes from target args s'))
-          (if_follows (may_call L from target args) st _ _ _ (Stopped TurnsOut s') h (nothing_follows st s s' n)))
-
-      asked_then : (comp : ℕ) (target : CallTarget) (args : List Value) (k l : Option Value → State →
-          Piece (Option Value)) → ((v : Option Value) → Goes (k v)) → ((v : Option Value) → Goes (l v)) → (st :
-          Standing)
-          (s s' : State) → N st s s' → F st (called L a comp target args s) (called L second comp target args s') →
-          ((v : Option Value) (u u' : State) → N st u u' → F st (k v u) (l v u')) →
-          F st (and_then (asks L a comp target args s) k) (and_then (asks L second comp target args s') l)
-      asked_then comp target args k l goes goes' st s s' n h after = (follow_kept main t S' st).after (Option Value) _ s
-          s' (asks L a comp target args s) (asks L second comp target args s') k l n
-          (asks_go L a bodies.goes comp target args s) (asks_go L second second_goes comp target args s') goes goes'
-          (asked comp target args st s s' n h) (λ v u u' up up' near. after v u u' near)
 
       -- with its turn
       turned_follows : (from to index : ℕ) (args : List Value) (st : Standing) (s s' : State) → N st s s' →
@@ -453,7 +406,7 @@ module _ (L : Library) (main : ℕ) (t : List Event) (S S' : ℕ → Bool) (larg
           (λ _. cross_goes L a bodies.goes from to index args) (λ _. cross_goes L second second_goes from to index args)
           s s' n (λ y y' less less' near. cross_follows from to index args st y y' near)
 
-      -- EVENTS OF THE ENVIRONMENT, AND CALLS WITHIN, WHERE NOBODY PERFORMS OR BOTH DO
+      -- EVENTS OF THE ENVIRONMENT, AND CALLS WITHIN, WHERE NOBODY PERFORMS
       -- the state once an input is taken
       abbrev taken : State → State
       taken s = record s { inputs = drop 1 s.inputs }
@@ -461,16 +414,10 @@ module _ (L : Library) (main : ℕ) (t : List Event) (S S' : ℕ → Bool) (larg
       taken_near : (st : Standing) (s s' : State) → N st s s' → N st (taken s) (taken s')
       taken_near st s s' n = near_with main t S' st s s' s.turns s'.turns _ _ n.turns (ap (drop 1) n.inputs) n
 
-      -- a call within, once the function is looked up
-      abbrev runs_own : Body → (comp number : ℕ) → List Value → Option Function → State → Piece (Option Value)
-      runs_own body comp number args f s = and_then (found f s) (λ f s. and_then
-          (body number (at comp (length (s.memory comp))) (begun comp f args s))
-          (λ v u. Reached v (done comp f (length (s.memory comp)) u)))
-
-      own_function : (comp number : ℕ) (args : List Value) (f : Option Function) → S' comp ≡ false → (st : Standing)
-          (s s' : State) → N st s s' → F st (runs_own a comp number args f s) (runs_own second comp number args f s')
-      own_function comp number args None clear st s s' n = nothing_follows st s s' n
-      own_function comp number args (Some f) clear st s s' n =
+      own_follows : (comp number : ℕ) (args : List Value) → S' comp ≡ false → (st : Standing)
+          (s s' : State) → N st s s' → F st (call_own L a comp number args s) (call_own L second comp number args s')
+      own_follows comp number args clear st s s' n =
+          found_follow (function L comp number) _ _ st s s' n.trace (λ f there.
           let first : ℕ = length (s.memory comp) in
           let ends : ℕ → Option Value → State → Piece (Option Value) = λ first v u. Reached v (done comp f first u) in
           let near_start : N st (begun comp f args s) (begun comp f args s') = near_blocks main t S' st s s' comp _ _ _
@@ -483,30 +430,21 @@ module _ (L : Library) (main : ℕ) (t : List Event) (S S' : ℕ → Bool) (larg
           (second_goes number (at comp first) _) (λ v u. reached v u _ (done_goes comp f first u))
           (λ v u. reached v u _ (done_goes comp f first u)) (bodies.plain number _ st _ _ clear near_start)
           (λ v u u' up up' near. (follow_kept main t S' st).reached (Option Value) v _ _ (near_blocks main t S' st u u'
-          comp _ _ _ _ (λ c. ap (ended first _) (near.memory comp c)) near)))
-
-      -- calls of the environment
-      input_follows : (from : ℕ) (args : List Value) (st : Standing) (s s' : State) → N st s s' →
-          F st (called L a from Input args s) (called L second from Input args s')
-      input_follows from args st s s' n = subst (λ i. F st (called L a from Input args s)
-          (Reached (Some (Word (next_input i))) (tell (In from (next_input i)) (taken s')))) (sym n.inputs)
-          (tells _ st st (taken s) (taken s') (In from (next_input s.inputs)) _ _ refl (taken_near st s s' n)
-          (front_same _) (front_same _) (λ near. (follow_kept main t S' st).reached (Option Value) _ _ _ near))
-
-      output_follows : (from : ℕ) (args : List Value) (st : Standing) (s s' : State) → N st s s' →
-          F st (called L a from Output args s) (called L second from Output args s')
-      output_follows from args st s s' n = tells _ st st s s' (Out from _) _ _ refl n (front_same _) (front_same _)
-          (λ near. (follow_kept main t S' st).reached (Option Value) None _ _ near)
+          comp _ _ _ _ (λ c. ap (ended first _) (near.memory comp c)) near))))
 
       both_called : (here : Here) → S' here.comp ≡ false →
           (st : Standing) (target : CallTarget) (args : List Value) (s s' : State) → N st s s' →
           F st (called L a here.comp target args s) (called L second here.comp target args s')
       both_called here clear st (Own number) args s s' n = (follow_kept main t S' st).turned (Option Value) _ _
           (λ _. own_goes L a bodies.goes _ number args) (λ _. own_goes L second second_goes _ number args) s s' n
-          (λ y y' less less' near. own_function here.comp number args (function L here.comp number) clear st y y' near)
+          (λ y y' less less' near. own_follows here.comp number args clear st y y' near)
       both_called here clear st (Cross to index) args s s' n = turned_follows _ to index args st s s' n
-      both_called here clear st Input args s s' n = input_follows _ args st s s' n
-      both_called here clear st Output args s s' n = output_follows _ args st s s' n
+      both_called here clear st Input args s s' n = subst (λ i. F st (called L a here.comp Input args s)
+          (Reached (Some (Word (next_input i))) (tell (In here.comp (next_input i)) (taken s')))) (sym n.inputs)
+          (tells _ st st (taken s) (taken s') (In _ (next_input s.inputs)) _ _ refl (taken_near st s s' n)
+          (front_same _) (front_same _) (λ near. (follow_kept main t S' st).reached (Option Value) _ _ _ near))
+      both_called here clear st Output args s s' n = tells _ st st s s' (Out here.comp _) _ _ refl n (front_same _)
+          (front_same _) (λ near. (follow_kept main t S' st).reached (Option Value) None _ _ near)
 
       both_calls : (here : Here) → S' here.comp ≡ false →
           (st : Standing) (target : CallTarget) (args : List Value) (s s' : State) → N st s s' →
@@ -525,39 +463,9 @@ module _ (L : Library) (main : ℕ) (t : List Event) (S S' : ℕ → Bool) (larg
             both = both_calls here clear st target args;
           }
 
-      -- ROWS THAT BOTH PERFORM
-      acts_follow : (action : Action) (next next' : State → Piece (Option Value)) (number comp mine theirs : ℕ) →
-          Goes next → Goes next' → S comp ≡ true → (st : Standing) →
-          ((s s' : State) → N st s s' → F st (next s) (next' s')) → (s s' : State) → N st s s'
-          → F st (acts L a action next (a number (at comp mine)) comp s)
-          (acts L second action next' (second number (at comp theirs)) comp s')
-      acts_follow (act.Call to index words) next next' number comp mine theirs goes goes' set st h s s' n =
-          let args = map (λ w. Word w) words in
-          asked_then comp (Cross to index) args (λ v. a number _) (λ v. second number _) (λ v. bodies.goes number _)
-          (λ v. second_goes number _) st s s' n (turned_follows comp to index args st s s' n)
-          (λ v u u' near. bodies.enters number comp mine theirs st u u' set near)
-      acts_follow (act.Ret v) next next' number comp mine theirs goes goes' set st h s s' n =
-          (follow_kept main t S' st).reached (Option Value) _ s s' n
-      acts_follow (act.Out w) next next' number comp mine theirs goes goes' set st h s s' n =
-          asked_then comp Output (Word w ∷ []) (λ v. next) (λ v. next') (λ v. goes) (λ v. goes') st s s' n
-          (output_follows comp (Word w ∷ []) st s s' n) (λ v. h)
-      acts_follow (act.In w) next next' number comp mine theirs goes goes' set st h s s' n = asked_then comp Input []
-          (λ v. next) (λ v. next') (λ v. goes) (λ v. goes') st s s' n (input_follows comp [] st s s' n) (λ v. h)
-      acts_follow (act.End w) next next' number comp mine theirs goes goes' set st h s s' n =
-          (follow_kept main t S' st).reached (Option Value) _ s s' n
-
-      pub performs_follow : (rows : List Row) (number comp mine theirs : ℕ) → S comp ≡ true →
-          (st : Standing) (s s' : State) → N st s s' →
-          F st (performs L a rows number (at comp mine) s) (performs L second rows number (at comp theirs) s')
-      performs_follow [] number comp mine theirs set st s s' n = nothing_follows st s s' n
-      performs_follow (row ∷ rest) number comp mine theirs set st s s' n =
-          if_follows (is_number number _) st _ _ _ _ (acts_follow _ _ _ number comp mine
-          theirs (performs_go L a bodies.goes rest number _) (performs_go L second second_goes rest number
-          _) set st (performs_follow rest number comp mine theirs set st) s s' n) (nothing_follows st s s' n)
-
-      -- A FUNCTION THAT RUNS IN THE FIRST AND PERFORMS IN THE SECOND
-      module _ (st : Standing) (k comp theirs : ℕ) (left : Piece (Option Value)) (clear : S comp ≡ false) (set : S' comp
-          ≡ true) (is_k : L.entered comp st.active.entry ≡ Some k) where
+      -- A FUNCTION THAT PERFORMS IN THE SECOND, WHATEVER IT DOES IN THE FIRST
+      module _ (st : Standing) (k comp theirs : ℕ) (left : Piece (Option Value)) (set : S' comp ≡ true)
+          (is_k : L.entered comp st.active.entry ≡ Some k) where
         abbrev rest : State → Piece (Option Value)
         rest = Onward k comp theirs
 
@@ -573,8 +481,11 @@ module _ (L : Library) (main : ℕ) (t : List Event) (S S' : ℕ → Bool) (larg
         abbrev Pieces : (V : Type 0) → Piece V → Piece V → Type 0
         Pieces = Perform main t S' st left rest rest_goes
 
-        abbrev Done : (V : Type 0) → Piece V → Type 0
-        Done V o = Performs main t S' st left rest rest_goes V o
+        abbrev Keeps : Piece (Option Value) → Type 0
+        Keeps o = Pieces (Option Value) o o
+
+        abbrev Done : Piece (Option Value) → Type 0
+        Done o = Performs main t S' st left rest rest_goes (Option Value) o
 
         -- to perform these rows is to go on
         rows_now : (u : State) (rows : List Row) → rows_left (roles_in main S' t) comp u.trace ≡ rows →
@@ -585,18 +496,8 @@ module _ (L : Library) (main : ℕ) (t : List Event) (S S' : ℕ → Bool) (larg
         behind : (s : State) → H s → Front s.trace (last left).trace
         behind s h = left_goes main t S' st left rest _ s h
 
-        -- an event of this compartment: the trace ends, or the second run tells it too
-        data Tells (s : State) (e : Event) (h : H s) : Type 0 where
-          all_told : t ≡ s.trace → Tells s e h
-          tells_it : (more : List Event) → t ≡ s.trace ++ e ∷ more → Telling k comp theirs e h.other → Tells s e h
-
-        tells_now : (s : State) (e : Event) (h : H s) → performer e ≡ comp → InLine t (s.trace ++ e ∷ []) → Tells s e h
-        tells_now s e h own along = by_next (next_told_is t s.trace e h.near.front along) where
-          by_next : NextIs t s.trace e → Tells s e h
-          by_next (over all) = all_told all
-          by_next (next_told more all) = tells_it more all (performs_next k comp theirs st h.other e more set is_k own
-              (all ∙ ap (λ u. u ++ e ∷ more) (sym h.near.trace))
-              (ap (stands_behind (at_start main)) h.near.trace ∙ h.near.stands))
+        stopped : (s : State) → H s → Done (Stopped TurnsOut s)
+        stopped s h = stops_here main t S' st left rest rest_goes (Option Value) s s refl h
 
         -- what may be called
         abbrev may : (target : CallTarget) → List Value → Bool
@@ -612,21 +513,22 @@ module _ (L : Library) (main : ℕ) (t : List Event) (S S' : ℕ → Bool) (larg
             performer e ≡ comp → stands_after st e ≡ Some st → N st (record s { inputs = inputs })
             (record h.other { inputs = inputs' }) → ((next : State → Piece (Option Value)) →
             acts L second (action_of e) next rest comp h.other ≡ next (tell e (record h.other { inputs = inputs' }))) →
-            InLine t (s.trace ++ e ∷ []) → Done (Option Value) (Reached v (tell e (record s { inputs = inputs })))
-        event_performs e v inputs inputs' s h own stays near acted along = by_tells (tells_now s e h own along) where
-          by_tells : Tells s e h → Done (Option Value) (Reached v (tell e (record s { inputs = inputs })))
-          by_tells (all_told all) =
-              performing.done (past s.trace e all) (whole main t S' s.trace (last left).trace all (behind s h))
-          by_tells (tells_it more all act) = performing.here v _ refl (record {
-            other = tell e (record h.other { inputs = inputs' });
-            near = near_tell main t S' st st (record s { inputs = inputs }) _ e more stays all near;
-            is = h.is ∙ act.is ∙ acted (performs L second act.rest k (at comp theirs))
-                ∙ rows_now (tell e (record h.other { inputs = inputs' })) act.rest act.left;
-          })
+            InLine t (s.trace ++ e ∷ []) → Done (Reached v (tell e (record s { inputs = inputs })))
+        event_performs e v inputs inputs' s h own stays near acted along =
+            by_tells (tells_next k comp theirs st s h.other e set is_k own h.near along) where
+              by_tells : Tells k comp theirs s h.other e → Done (Reached v (tell e (record s { inputs = inputs })))
+              by_tells (all_told all) =
+                  performing.done (past s.trace e all) (whole main t S' s.trace (last left).trace all (behind s h))
+              by_tells (tells_it more all act) = performing.here v _ refl (record {
+                other = tell e (record h.other { inputs = inputs' });
+                near = near_tell main t S' st st (record s { inputs = inputs }) _ e more stays all near;
+                is = h.is ∙ act.is ∙ acted (performs L second act.rest k (at comp theirs))
+                    ∙ rows_now (tell e (record h.other { inputs = inputs' })) act.rest act.left;
+              })
 
         output_performs : (args : List Value) (s : State) → H s → may Output args ≡ true →
             InLine t (s.trace ++ Out comp (first_word args) ∷ []) →
-            Done (Option Value) (Reached None (tell (Out comp (first_word args)) s))
+            Done (Reached None (tell (Out comp (first_word args)) s))
         output_performs args s h allowed = event_performs (Out comp (first_word args)) None s.inputs h.other.inputs s h
             refl refl h.near (λ next. ap (λ o. and_then o (λ v. next)) (asks_allowed Output
             (Word (first_word args) ∷ []) h.other (and_from (imports L.interfaces comp is_output) true
@@ -634,35 +536,11 @@ module _ (L : Library) (main : ℕ) (t : List Event) (S S' : ℕ → Bool) (larg
 
         input_performs : (args : List Value) (s : State) → H s → may Input args ≡ true →
             InLine t (s.trace ++ In comp (next_input s.inputs) ∷ []) →
-            Done (Option Value) (Reached (Some (Word (next_input s.inputs))) (read_input comp s))
+            Done (Reached (Some (Word (next_input s.inputs))) (read_input comp s))
         input_performs args s h allowed = event_performs (In comp (next_input s.inputs)) _ (drop 1 s.inputs)
             (drop 1 h.other.inputs) s h refl refl (taken_near st s h.other h.near)
             (λ next. ap (λ o. and_then o (λ v. next)) (asks_allowed Input [] h.other allowed)
             ∙ ap (λ i. next (tell (In comp (next_input i)) (taken h.other))) h.near.inputs)
-
-        -- a call across is told, or there is no turn or no function for it
-        data CrossTells (to index : ℕ) (args : List Value) (s : State) (o : Piece (Option Value)) : Type 0 where
-          silent : (y : State) → o ≡ Stopped TurnsOut y → y.trace ≡ s.trace → CrossTells to index args s o
-          loud : Front (s.trace ++ Call comp to index (map word_in args) ∷ []) (last o).trace →
-              CrossTells to index args s o
-
-        number_tells : (to index : ℕ) (args : List Value) (number : Option ℕ) (s : State) →
-            CrossTells to index args s (and_then (found number s) (crosses a comp to index args))
-        number_tells to index args None s = silent s refl refl
-        number_tells to index args (Some number) s = loud (run_goes L a bodies.goes to number _
-            (back_cross L.interfaces comp to index) (back_goes L.interfaces comp to index) _).grown.events
-
-        same_trace : (to index : ℕ) (args : List Value) (s y : State) (o : Piece (Option Value)) → y.trace ≡ s.trace →
-            CrossTells to index args y o → CrossTells to index args s o
-        same_trace to index args s y o is (silent z stops trace) = silent z stops (trace ∙ is)
-        same_trace to index args s y o is (loud front) =
-            loud (subst (λ u. Front (u ++ Call comp to index (map word_in args) ∷ []) (last o).trace) is front)
-
-        cross_tells : (to index : ℕ) (args : List Value) (s : State) (m : ℕ) →
-            CrossTells to index args s (and_then (turn_of m s) (λ _ s. call_cross L a comp to index args s))
-        cross_tells to index args s zero = silent s refl refl
-        cross_tells to index args s (suc m) =
-            same_trace to index args s (record s { turns = m }) _ refl (number_tells to index args _ _)
 
         -- a call with the words of a row is the call with the values that they come of
         words_may : (to index : ℕ) (args : List Value) → may (Cross to index) args ≡ true →
@@ -693,7 +571,7 @@ module _ (L : Library) (main : ℕ) (t : List Event) (S S' : ℕ → Bool) (larg
           abbrev p : Piece (Option Value)
           p = called L second comp (Cross to index) args h.other
 
-          by_follows : left ≡ and_then p (λ v. rest) → Up st o p → Done (Option Value) o
+          by_follows : left ≡ and_then p (λ v. rest) → Up st o p → Done o
           by_follows is (follows.done x y) = performing.done x
               (subst (λ z. Front t (last z).trace) (sym is) (then_front t p (λ v. rest) (λ v. rest_goes) y))
           by_follows is (follows.both v y y' at_y at_y' near) = performing.here v y at_y
@@ -702,14 +580,14 @@ module _ (L : Library) (main : ℕ) (t : List Event) (S S' : ℕ → Bool) (larg
               (subst (Beyond main t S' (Option Value) end y) (sym is)
               (beyond_then main t S' (Option Value) (Option Value) end y p (λ v. rest) (λ v. rest_goes) by)))
 
-          cross_performs : may (Cross to index) args ≡ true → InLine t (last o).trace → Done (Option Value) o
-          cross_performs allowed along = by_told (cross_tells to index args s s.turns) where
-            by_told : CrossTells to index args s o → Done (Option Value) o
-            by_told (silent y stops trace) = subst (Done (Option Value)) (sym stops)
+          cross_performs : may (Cross to index) args ≡ true → InLine t (last o).trace → Done o
+          cross_performs allowed along = by_told (cross_asked a bodies.goes comp to index args s s.turns) where
+            by_told : Asked calling s.trace o → Done o
+            by_told (silent y stops trace) = subst Done (sym stops)
                 (stops_here main t S' st left rest rest_goes (Option Value) s y trace h)
-            by_told (loud front) = by_tells (tells_now s calling h refl
+            by_told (loud front) = by_tells (tells_next k comp theirs st s h.other calling set is_k refl h.near
                 (in_line_before t (s.trace ++ calling ∷ []) (last o).trace front along)) where
-                  by_tells : Tells s calling h → Done (Option Value) o
+                  by_tells : Tells k comp theirs s h.other calling → Done o
                   by_tells (all_told all) = performing.done
                       (front_more t (s.trace ++ calling ∷ []) (last o).trace (past s.trace calling all) front)
                       (whole main t S' s.trace (last left).trace all (behind s h))
@@ -717,11 +595,14 @@ module _ (L : Library) (main : ℕ) (t : List Event) (S S' : ℕ → Bool) (larg
                       (h.is ∙ act.is ∙ ap (λ o. and_then o (λ v. rest)) (recalled to index args h.other allowed))
                       ((turned_follows comp to index args st s h.other h.near).follows along)
 
-        own_function_performs : (number : ℕ) (args : List Value) (f : Option Function) (s : State) → H s →
-            Pieces (Option Value) (runs_own a comp number args f s) (runs_own a comp number args f s)
-        own_function_performs number args None s h =
-            record { performs = λ along. stops_here main t S' st left rest rest_goes (Option Value) s s refl h }
-        own_function_performs number args (Some f) s h =
+        found_performs : {V : Type 0} (o : Option V) (go : V → State → Piece (Option Value)) (s : State) → H s →
+            ((v : V) → Keeps (go v s)) → Keeps (and_then (found o s) go)
+        found_performs None go s h k = record { performs = λ along. stopped s h }
+        found_performs (Some v) go s h k = k v
+
+        own_function_performs : (number : ℕ) (args : List Value) (s : State) → H s →
+            Keeps (call_own L a comp number args s)
+        own_function_performs number args s h = found_performs (function L comp number) _ s h (λ f.
             let first : ℕ = length (s.memory comp) in
             let start : State = begun comp f args s in
             let h_start : H start = stands_stored main t S' st left rest rest_goes comp
@@ -733,50 +614,91 @@ module _ (L : Library) (main : ℕ) (t : List Event) (S S' : ℕ → Bool) (larg
             (perform_kept main t S' st left rest rest_goes).after (Option Value) (Option Value) start start o o ends
             ends (record { same = refl; stands = h_start }) (bodies.goes number (at comp first) start)
             (bodies.goes number (at comp first) start) ends_go ends_go
-            (bodies.resumes number comp first k theirs st left start clear set is_k h_start)
+            (bodies.resumes number comp first k theirs st left start set is_k h_start)
             (λ v u u' up up' one. record {
               performs = λ along. performing.here v (done comp f first u) refl (stands_stored main t S' st left rest
                   rest_goes comp (ended first (length f.cells) (u.memory comp)) _ u set one.stands);
-            })
+            }))
 
-        -- a call that may not be made is blamed, and the second run, in which the compartment performs, passes that
-        -- point
-        with_test : (target : CallTarget) (args : List Value) (s : State) → H s → (may target args ≡ true →
-            InLine t (last (called L a comp target args s)).trace → Done (Option Value) (called L a comp target args s))
-            → InLine t (last (calls L a comp target args s)).trace → Done (Option Value) (calls L a comp target args s)
-        with_test target args s h go along = by_test _ refl along where
-          by_test : (b : Bool) → may target args ≡ b →
-              InLine t (last (if b then called L a comp target args s else Stopped (Blamed comp BadType 0) s)).trace →
-              Done (Option Value) (if b then called L a comp target args s else Stopped (Blamed comp BadType 0) s)
-          by_test true allowed along = go allowed along
-          by_test false barred along = blamed_here main t S' st left rest rest_goes (Option Value) comp BadType 0 s set
-              h (held_passes st k comp theirs left set s h)
-
-        own_performs : (number : ℕ) (args : List Value) (s s' : State) → One s s' →
-            Pieces (Option Value) (called L a comp (Own number) args s) (called L a comp (Own number) args s')
-        own_performs number args s s' one =
-            (perform_kept main t S' st left rest rest_goes).turned (Option Value) (λ _. call_own L a comp number args)
-            (λ _. call_own L a comp number args) (λ _. own_goes L a bodies.goes comp number args)
-            (λ _. own_goes L a bodies.goes comp number args) s s' one (λ y y' less less' now_one. record {
-              performs = (own_function_performs number args (function L comp number) y now_one.stands).performs;
-            })
+        if_performs : (b : Bool) (o p : Piece (Option Value)) → (b ≡ true → InLine t (last o).trace → Done o) →
+            Done p → InLine t (last (if b then o else p)).trace → Done (if b then o else p)
+        if_performs true o p h k along = h refl along
+        if_performs false o p h k along = k
 
         allowed_performs : (target : CallTarget) (args : List Value) (s s' : State) → One s s' →
             may target args ≡ true → InLine t (last (called L a comp target args s)).trace →
-            Done (Option Value) (called L a comp target args s)
-        allowed_performs (Own number) args s s' one allowed = (own_performs number args s s' one).performs
+            Done (called L a comp target args s)
+        allowed_performs (Own number) args s s' one allowed =
+            ((perform_kept main t S' st left rest rest_goes).turned (Option Value) (λ _. call_own L a comp number args)
+            (λ _. call_own L a comp number args) (λ _. own_goes L a bodies.goes comp number args)
+            (λ _. own_goes L a bodies.goes comp number args) s s' one (λ y y' less less' now_one. record {
+              performs = (own_function_performs number args y now_one.stands).performs;
+            })).performs
         allowed_performs (Cross to index) args s s' one allowed = cross_performs to index args s one.stands allowed
         allowed_performs Input args s s' one allowed = input_performs args s one.stands allowed
         allowed_performs Output args s s' one allowed = output_performs args s one.stands allowed
 
+        -- a call that may not be made is blamed, and the second run, in which the compartment performs, passes that
+        -- point
+        guarded_performs : (target : CallTarget) (args : List Value) (s s' : State) → One s s' →
+            InLine t (last (calls L a comp target args s)).trace → Done (calls L a comp target args s)
+        guarded_performs target args s s' one = if_performs (may target args) (called L a comp target args s) _
+            (allowed_performs target args s s' one) (blamed_here main t S' st left rest rest_goes (Option Value) comp
+            BadType 0 s set one.stands (held_passes st k comp theirs left set s one.stands))
+
         pub calls_perform : CallsTwins One Pieces (λ h. S' h.comp ≡ true) comp (calls L a) (calls L a)
-        calls_perform target args =
-            record {
-              first = calls_go L a bodies.goes comp target args;
-              second = calls_go L a bodies.goes comp target args;
-              both = λ s s' one.
-                  record { performs = with_test target args s one.stands (allowed_performs target args s s' one) };
-            }
+        calls_perform target args = record {
+          first = calls_go L a bodies.goes comp target args;
+          second = calls_go L a bodies.goes comp target args;
+          both = λ s s' one. record { performs = guarded_performs target args s s' one };
+        }
+
+        -- the rows that it performs in the first
+        asks_then : (target : CallTarget) (args : List Value) (go : State → Piece (Option Value)) → Goes go →
+            ((u : State) → H u → Keeps (go u)) → (s : State) → H s →
+            Keeps (and_then (asks L a comp target args s) (λ v. go))
+        asks_then target args go goes h s held =
+            (perform_kept main t S' st left rest rest_goes).after (Option Value) (Option Value) s s
+            (asks L a comp target args s) (asks L a comp target args s) (λ v. go) (λ v. go)
+            (record { same = refl; stands = held }) (asks_go L a bodies.goes comp target args s)
+            (asks_go L a bodies.goes comp target args s) (λ v. goes) (λ v. goes) (record {
+              performs = if_performs (may target args) (calls L a comp target args s) _ (λ allowed.
+                  guarded_performs target args s s (record { same = refl; stands = held })) (stopped s held);
+            }) (λ v u u' up up' one. record { performs = (h u one.stands).performs })
+
+        acts_perform : (action : Action) (next : State → Piece (Option Value)) (number mine : ℕ) → Goes next →
+            ((u : State) → H u → Keeps (next u)) → (s : State) → H s →
+            Keeps (acts L a action next (a number (at comp mine)) comp s)
+        acts_perform (act.Call to index words) next number mine goes h s held =
+            asks_then (Cross to index) (map (λ w. Word w) words) (a number (at comp mine)) (bodies.goes number _)
+            (λ u. bodies.resumes number comp mine k theirs st left u set is_k) s held
+        acts_perform (act.Ret v) next number mine goes h s held =
+            record { performs = λ along. performing.here _ s refl held }
+        acts_perform (act.Out w) next number mine goes h s held = asks_then Output (Word w ∷ []) next goes h s held
+        acts_perform (act.In w) next number mine goes h s held = asks_then Input [] next goes h s held
+        acts_perform (act.End w) next number mine goes h s held =
+            record { performs = λ along. performing.here _ s refl held }
+
+        performs_perform : (rows : List Row) (number mine : ℕ) (s : State) → H s →
+            Keeps (performs L a rows number (at comp mine) s)
+        performs_perform [] number mine s held = record { performs = λ along. stopped s held }
+        performs_perform (row ∷ rows) number mine s held = record {
+          performs = if_performs (is_number number _) (acts L a row.action (performs L a rows number (at comp mine))
+              (a number (at comp mine)) comp s) _ (λ is. (acts_perform row.action _ number mine
+              (performs_go L a bodies.goes rows number _) (performs_perform rows number mine) s held).performs)
+              (stopped s held);
+        }
+
+        -- the function that it runs in the first
+        function_performs : (f g : Option Function) → Meets (FunctionTwins One Pieces (λ h. S' h.comp ≡ true)) f g →
+            (mine : ℕ) (s : State) → H s →
+            Keeps (and_then (found f s) (λ f s. f.does (calls L a) (at comp mine) s))
+        function_performs None g meets mine s held = record { performs = λ along. stopped s held }
+        function_performs _ (Some g) meets mine s held = record {
+          performs = ((meets.does _ (calls L a) _ set calls_perform).both s s
+              (record { same = refl; stands = held })).performs;
+        }
+        function_performs _ None meets mine s held = absurd meets
 
       -- ONE STEP
       module _ (library_goes : LibraryGoes L) (follow_twins : TwinsFollow) (perform_twins : TwinsPerform) where
@@ -785,16 +707,13 @@ module _ (L : Library) (main : ℕ) (t : List Event) (S S' : ℕ → Bool) (larg
             (here : Here) → S' here.comp ≡ false → (s s' : State) → N st s s' →
             F st (and_then (found f s) (λ f s. f.does (calls L a) here s))
             (and_then (found g s') (λ f s. f.does (calls L second) here s))
-        runs_follow None None st meets here clear s s' n = nothing_follows st s s' n
+        runs_follow None None st meets here clear s s' n = both_stop main t S' st (Option Value) s s' n.trace
         runs_follow (Some f) (Some g) st meets here clear s s' n =
             (meets.does _ _ here clear (calls_follow here clear st)).both s s' n
         runs_follow _ _ st meets here clear s s' n = absurd meets
 
         smaller : (c : ℕ) → S' c ≡ false → S c ≡ false
-        smaller c clear = by_test (S c) refl where
-          by_test : (b : Bool) → S c ≡ b → S c ≡ false
-          by_test true set = absurd (both_ways (S' c) clear (larger c set))
-          by_test false is = is
+        smaller c clear = grind (arith, larger c, clear)
 
         step_plain : (number : ℕ) (here : Here) (st : Standing) (s s' : State) → S' here.comp ≡ false → N st s s' →
             F st (first_step a number here s) (second number here s')
@@ -803,47 +722,24 @@ module _ (L : Library) (main : ℕ) (t : List Event) (S S' : ℕ → Bool) (larg
             (F st _) (sym (fixed number here s' ∙ role_is second S' number here s' false clear)) (runs_follow
             (function L _ number) (function L _ number) st ((follow_twins st).functions _ number) here clear s s' n))
 
-        step_enters : (number comp mine theirs : ℕ) (st : Standing) (s s' : State) → S comp ≡ true → N st s s' →
-            F st (first_step a number (at comp mine) s) (second number (at comp theirs) s')
-        step_enters number comp mine theirs st s s' set n =
-            let rows = rows_left (roles_in main S t) comp s.trace in
-            let same_rows = ap (λ u. drop (count_of comp u) (part main comp t)) n.trace in
-            subst (λ x. F st x (second number (at comp theirs) s')) (sym (role_is a S number _ s true set))
-            (subst (F st _) (sym (performs_now number comp theirs s' (larger comp set)
-            ∙ ap (λ rows. performs L second rows number (at comp theirs) s') same_rows))
-            (performs_follow rows number comp mine theirs set st s s' n))
-
         step_resumes : (number comp mine k theirs : ℕ) (st : Standing) (left : Piece (Option Value)) (s : State) →
-            S comp ≡ false → S' comp ≡ true → L.entered comp st.active.entry ≡ Some k → Held st k comp theirs left s →
+            S' comp ≡ true → L.entered comp st.active.entry ≡ Some k → Held st k comp theirs left s →
             P st k comp theirs left (first_step a number (at comp mine) s)
-        step_resumes number comp mine k theirs st left s clear set is_k h =
-            subst (P st k comp theirs left) (sym (role_is a S number _ s false clear))
-            (by_function_held (function L comp number) (function L comp number)
-            ((perform_twins st left _ _ (held_passes st k comp theirs left set)).functions comp number)) where
-              by_function_held : (f g : Option Function) →
-                  Meets (FunctionTwins (OneSided main t S' st left (Onward k comp theirs)
-                  (second_goes k (at comp theirs))) (Perform main t S' st left (Onward k comp theirs)
-                  (second_goes k (at comp theirs))) (λ h. S' h.comp ≡ true)) f g →
-                  P st k comp theirs left (and_then (found f s) (λ f s. f.does (calls L a) (at comp mine) s))
-              by_function_held None g meets =
-                  record { performs = λ along. stops_here main t S' st left _ (second_goes k _) _ s s refl h }
-              by_function_held (Some f) None meets = absurd meets
-              by_function_held _ (Some g) meets =
-                  record {
-                    performs = ((meets.does _ (calls L a) _ set
-                        (calls_perform st k comp theirs left clear set is_k)).both s s
-                        (record { same = refl; stands = h })).performs;
-                  }
+        step_resumes number comp mine k theirs st left s set is_k h = by_role (S comp) where
+          by_role : (b : Bool) → P st k comp theirs left (if b then performs L a
+              (rows_left (roles_in main S t) comp s.trace) number (at comp mine) s else
+              run_step L a number (at comp mine) s)
+          by_role true = performs_perform st k comp theirs left set is_k _ number mine s h
+          by_role false = function_performs st k comp theirs left set is_k (function L comp number) _
+              ((perform_twins st left _ _ (held_passes st k comp theirs left set)).functions comp number) mine s h
 
         pub step_bodies : Bodies (first_step a)
-        step_bodies =
-            record {
-              goes = scripted_goes L (roles_in main S t) (run_step L) (λ body goes. run_step_goes L body goes
-                  library_goes) a bodies.goes;
-              plain = step_plain;
-              enters = step_enters;
-              resumes = step_resumes;
-            }
+        step_bodies = record {
+          goes = scripted_goes L (roles_in main S t) (run_step L)
+              (λ body goes. run_step_goes L body goes library_goes) a bodies.goes;
+          plain = step_plain;
+          resumes = step_resumes;
+        }
 
     -- where no call may be open the first run stops
     no_bodies : Bodies (within first_step zero)
@@ -851,8 +747,7 @@ module _ (L : Library) (main : ℕ) (t : List Event) (S S' : ℕ → Bool) (larg
         record {
           goes = λ number here s. no_turn s;
           plain = λ number here st s s' clear n. stops_now number here st s s' n;
-          enters = λ number comp mine theirs st s s' set n. stops_now number (at comp theirs) st s s' n;
-          resumes = λ number comp mine k theirs st left s clear set is_k h. record {
+          resumes = λ number comp mine k theirs st left s set is_k h. record {
             performs = λ along.
                 stops_here main t S' st left (Onward k comp theirs) (second_goes k _) (Option Value) s s refl h;
           };

@@ -1,14 +1,13 @@
 -- Whole runs along one trace, of which the second has more compartments that perform their parts of it; the least set.
-use Rattle.sc_laws.proofs.Common.{Blamed, Bool, Cause, Ended, Event, Front, Function, Includes, IsChain, IsFixed}
-use Rattle.sc_laws.proofs.Common.{IsStop, IsWithin, KeepsBlames, LeastIsChain, Library, Link, List, Main, Memory, Never}
-use Rattle.sc_laws.proofs.Common.{None, Obedient, Option, PassesBlame, PassesBlames, Piece, Reached, RunEnd, Set, Some}
-use Rattle.sc_laws.proofs.Common.{SourceRun, Standing, State, Step, Stopped, StopsSo, TellsWithMore, TurnsOut, Value}
-use Rattle.sc_laws.proofs.Common.{[], and_then, ap, append-nil, arith, at_start, begun, call_own, done, drop, eqb-true}
+use Rattle.sc_laws.proofs.Common.{function, Blamed, Bool, Cause, Ended, Event, Front, Function, Includes, IsChain}
+use Rattle.sc_laws.proofs.Common.{IsFixed, IsStop, IsWithin, KeepsBlames, LeastIsChain, Library, Link, List, Main}
+use Rattle.sc_laws.proofs.Common.{Memory, Never, None, Obedient, Option, PassesBlame, PassesBlames, Piece, Reached}
+use Rattle.sc_laws.proofs.Common.{RunEnd, Set, Some, SourceRun, Standing, State, Step, Stopped, StopsSo, TellsWithMore}
+use Rattle.sc_laws.proofs.Common.{TurnsOut, Value, [], and_then, ap, append-nil, arith, begun, done, drop, eqb-true}
 use Rattle.sc_laws.proofs.Common.{exit_word, false, first_state, found, inl, inr, last, leb-false, length}
 use Rattle.sc_laws.proofs.Common.{length-append, longer, lt-leb, nobody, now, performed_by, reaches, refl, roles_in}
-use Rattle.sc_laws.proofs.Common.{roles_run, run_by, run_to, stands_behind, stopped_at, subst, suc, sym, take}
-use Rattle.sc_laws.proofs.Common.{take-append-drop, take_all, take_front, true, turnless, with, within, ℕ, ◌++◌, ◌+◌}
-use Rattle.sc_laws.proofs.Common.{◌<◌, ◌==◌, ◌||◌, ◌∙◌, ◌∷◌, ◌≡◌}
+use Rattle.sc_laws.proofs.Common.{roles_run, run_by, run_to, stopped_at, subst, suc, sym, take, take-append-drop}
+use Rattle.sc_laws.proofs.Common.{take_all, take_front, true, turnless, with, within, ℕ, ◌++◌, ◌+◌, ◌<◌, ◌∙◌, ◌∷◌, ◌≡◌}
 use Rattle.sc_event.specs.declared.event.Event.TheVariants as event
 use Rattle.sc_laws.proofs.Growing.{front_same, front_more, front_no_longer, BodyGoes, within_goes}
 use Rattle.sc_laws.proofs.Following.{GoesOn, KeepsUp, whole, follow_kept, follow_at, Performs, left_goes, perform_kept}
@@ -16,8 +15,9 @@ use Rattle.sc_laws.proofs.Following.{perform_at, MovesOrReturns, MovesOn, IfBlam
 use Rattle.sc_laws.proofs.Following.{Performs as performing, MovesOn as passed, MovesOrReturns as passing}
 use Rattle.sc_laws.proofs.Matching.{library_twins, scripted_goes_on, library_goes}
 use Rattle.sc_laws.proofs.Runs.{scripted_fixed, shown, trace_is, take_fronts}
-use Rattle.sc_laws.proofs.Rows.{InLine, in_line_before, NextIs, over, next_told_is, told as next_told}
-use Rattle.sc_laws.proofs.FollowingCalls.{at, first_step, second_step, N, Bodies, Telling, performs_next, all_bodies}
+use Rattle.sc_laws.proofs.Rows.{InLine, in_line_before}
+use Rattle.sc_laws.proofs.FollowingCalls.{at, first_step, second_step, N, Bodies, Tells, all_told, tells_it, tells_next}
+use Rattle.sc_laws.proofs.FollowingCalls.{all_bodies}
 
 -- what is shown of a piece goes on from where it is
 behaviour_front : (main : ℕ) (o : Piece (Option Value)) → Front (last o).trace (run_to main o).behaviour.trace
@@ -73,15 +73,12 @@ module _ (t : List Event) (S' : Set) where
         (λ comp cause line blame set. passed (run_to main o).behaviour (ap (λ r. r.trace) behaviour)
         (by.passed comp cause line blame set))
 
-    ended_whole : (x : SourceRun) → x.end ≡ Ended → (comp : ℕ) (cause : Cause) (line : ℕ) →
-        x.end ≡ Blamed comp cause line → ⊥
-    ended_whole x ended comp cause line blame = (let clash = sym ended ∙ blame in absurd (cc))
-
     both_end : (st : Standing) (o p : Piece (Option Value)) → StopsSo o → KeepsUp main t S' st (Option Value) o p →
         RunsFollow (run_to main o).behaviour (run_to main p).behaviour
     both_end st o p stop (follows.done a b) = tells_all (told_on t o a) (told_on t p b)
     both_end st o p stop (follows.both v u u' is is' near) =
-        ends_so (ended_whole (run_to main o).behaviour (ap (λ y. (run_to main y).behaviour.end) is))
+        ends_so (λ comp cause line blame. (let clash = sym (ap (λ y. (run_to main y).behaviour.end) is) ∙ blame in
+        absurd (cc)))
         (ap (λ y. (run_to main y).behaviour) is'
         ∙ ap (λ z. record { trace = z ++ event.End main (exit_word v) ∷ []; end = Ended }) near.trace
         ∙ sym (ap (λ y. (run_to main y).behaviour) is))
@@ -164,69 +161,52 @@ module _ (L : Library) (obedient : Obedient L) (t : List Event) (S S' : Set) (la
           InLine t (run_to main o).behaviour.trace → RunsFollow t S' (run_to main o).behaviour (run_to main p).behaviour
       resumes_end (performing.done a b) set along = tells_all (told_on t S' main t o a) (told_on t S' main t p b)
       resumes_end (performing.here v u is stands) set along = subst (λ r. RunsFollow t S' r (run_to main p).behaviour)
-          (sym (ap (λ y. (run_to main y).behaviour) is)) (by_next (next_told_is t u.trace (exit v) stands.near.front
+          (sym (ap (λ y. (run_to main y).behaviour) is)) (by_tells (tells_next L main t S S' larger step_fixed
+          later_goes number main first st u stands.other (exit v) set is_number refl stands.near
           (subst (λ y. InLine t (run_to main y).behaviour.trace) is along))) where
-            by_next : NextIs t u.trace (exit v) →
+            by_tells : Tells L main t S S' larger step_fixed later_goes number main first u stands.other (exit v) →
                 RunsFollow t S' (run_to main (Reached v u)).behaviour (run_to main p).behaviour
-            by_next (over all) =
+            by_tells (all_told all) =
                 tells_all
                 (whole main t S' u.trace (u.trace ++ exit v ∷ []) all (record { more = exit v ∷ []; is = refl }))
                 (whole main t S' u.trace (run_to main p).behaviour.trace all (told_on t S' main u.trace p
                 (left_goes main t S' st p (λ u. now step' number (at main first) u) (later_goes number (at main first))
                 u stands)))
-            by_next (next_told more all) =
-                let u' : State = stands.other in
-                let now_told : Telling L main t S S' larger step_fixed later_goes number main first (exit v) u' =
-                performs_next L main t S S' larger step_fixed later_goes number main first st u' (exit v) more set
-                is_number refl (all ∙ ap (λ x. x ++ exit v ∷ more) (sym stands.near.trace))
-                (ap (stands_behind (at_start main)) stands.near.trace ∙ stands.near.stands) in
-                ends_so (λ comp cause line blame. absurd (cc)) (ap (λ y. (run_to main y).behaviour) (stands.is
-                ∙ now_told.is) ∙ ap (λ z. record { trace = z ++ exit v ∷ []; end = Ended }) stands.near.trace)
+            by_tells (tells_it more all now_told) = ends_so (λ comp cause line blame. absurd (cc))
+                (ap (λ y. (run_to main y).behaviour) (stands.is ∙ now_told.is)
+                ∙ ap (λ z. record { trace = z ++ exit v ∷ []; end = Ended }) stands.near.trace)
       resumes_end (performing.stop end u is by) set along =
           stops_by t S' main end u o p _ is stops by (λ x same. passes_in t S' main x u.trace p same)
 
-      -- by whether `main` performs in both runs, in the second, or in neither
-      main_follows : (b b' : Bool) → S main ≡ b → S' main ≡ b' → InLine t (run_to main o).behaviour.trace →
+      -- by whether `main` performs in the second run
+      main_follows : (b : Bool) → S' main ≡ b → InLine t (run_to main o).behaviour.trace →
           RunsFollow t S' (run_to main o).behaviour (run_to main p).behaviour
-      main_follows true b' set set' along = both_end t S' main st o p stops (((bodies (suc turns)).enters number main
-          first first st start start set (begins_near f)).follows (within_run along))
-      main_follows false true clear set' along = resumes_end
-          (((bodies (suc turns)).resumes number main first number first
-          st p start clear set' is_number (record { other = start; near = begins_near f; is = refl })).performs
-          (within_run along)) set' along
-      main_follows false false clear clear' along = both_end t S' main st o p stops (((bodies (suc turns)).plain number
-          (at main first) st start start clear' (begins_near f)).follows (within_run along))
+      main_follows true set along = resumes_end (((bodies (suc turns)).resumes number main first number first st p start
+          set is_number (record { other = start; near = begins_near f; is = refl })).performs (within_run along)) set
+          along
+      main_follows false clear along = both_end t S' main st o p stops (((bodies (suc turns)).plain number
+          (at main first) st start start clear (begins_near f)).follows (within_run along))
 
       main_runs : InLine t (run_to main (and_then o ends)).behaviour.trace →
           RunsFollow t S' (run_to main (and_then o ends)).behaviour (run_to main (and_then p ends)).behaviour
       main_runs along = subst (λ r. RunsFollow t S' r (run_to main (and_then p ends)).behaviour) (sym (ended_shows o))
           (subst (RunsFollow t S' (run_to main o).behaviour) (sym (ended_shows p))
-          (main_follows _ _ refl refl (subst (λ r. InLine t r.trace) (ended_shows o) along)))
+          (main_follows _ refl (subst (λ r. InLine t r.trace) (ended_shows o) along)))
 
-    -- the run once the function of `main` is looked up, and once its number is
-    abbrev of_function : Step → ℕ → Option Function → SourceRun
-    of_function step number f = (run_to main (and_then (found f beginning) (λ f s. and_then
-        (within step (suc turns) number (at main (length (s.memory main))) (begun main f [] s))
-        (λ v u. Reached v (done main f (length (s.memory main)) u))))).behaviour
-
-    function_runs : (number : ℕ) → L.entered main Main ≡ Some number → (f : Option Function) →
-        InLine t (of_function step number f).trace → RunsFollow t S' (of_function step number f)
-        (of_function step' number f)
-    function_runs number is None along = ends_so (λ comp cause line blame. absurd (cc)) refl
-    function_runs number is (Some f) along = main_runs number is f along
-
-    abbrev of_number : Step → Option ℕ → SourceRun
-    of_number step number = (run_to main (and_then (found number beginning)
-        (λ number s. call_own L (within step (suc turns)) main number [] s))).behaviour
-
-    number_runs : (number : Option ℕ) → L.entered main Main ≡ number → InLine t (of_number step number).trace →
-        RunsFollow t S' (of_number step number) (of_number step' number)
-    number_runs None is along = ends_so (λ comp cause line blame. absurd (cc)) refl
-    number_runs (Some number) is along = function_runs number is _ along
+    -- what is looked up is there in both runs, or both stop
+    found_runs : {V : Type 0} (o : Option V) (go go' : V → State → Piece (Option Value)) → ((v : V) → o ≡ Some v →
+        InLine t (run_to main (go v beginning)).behaviour.trace →
+        RunsFollow t S' (run_to main (go v beginning)).behaviour (run_to main (go' v beginning)).behaviour) →
+        InLine t (run_to main (and_then (found o beginning) go)).behaviour.trace →
+        RunsFollow t S' (run_to main (and_then (found o beginning) go)).behaviour
+        (run_to main (and_then (found o beginning) go')).behaviour
+    found_runs None go go' h along = ends_so (λ comp cause line blame. absurd (cc)) refl
+    found_runs (Some v) go go' h along = h v refl along
 
     run_follows : InLine t (run_by L step globals inputs turns).behaviour.trace →
         RunsFollow t S' (run_by L step globals inputs turns).behaviour (run_by L step' globals inputs turns).behaviour
-    run_follows along = number_runs _ refl along
+    run_follows = found_runs (L.entered main Main) _ _ (λ number is.
+        found_runs (function L main number) _ _ (λ f there. main_runs number is f))
 
 -- THE LAWS
 module _ (t : List Event) (x y : SourceRun) where
@@ -303,18 +283,11 @@ module _ (t : List Event) (x y : SourceRun) where
       (let few = blamed_early comp cause line ends is in let long = ap length tells in omega (arith, few, long))
 
 with_link : (set small : Set) (comp : ℕ) → IsWithin small set → set comp ≡ true → IsWithin (with comp small) set
-with_link set small comp larger has c is = by_test _ refl is where
-  by_test : (b : Bool) → (c == comp) ≡ b → (b || small c) ≡ true → set c ≡ true
-  by_test true same is = subst (λ d. set d ≡ true) (sym (eqb-true c comp same)) has
-  by_test false same is = larger c is
+with_link set small comp larger has c is = grind (arith, larger c, eqb-true c comp, has, is)
 
 module _ (L : Library) (obedient : Obedient L) (globals : Memory) (inputs : List ℕ) (turns : ℕ) (t : List Event) where
   abbrev behaviour : Set → SourceRun
   behaviour = performed_by L globals inputs turns t
-
-  -- the same, not stopped yet
-  abbrev whole_run : Set → SourceRun
-  whole_run set = (roles_run L globals inputs turns (roles_in L.interfaces.main set t)).behaviour
 
   pub tells_with_more : TellsWithMore t behaviour
   tells_with_more small large larger tells =
@@ -340,8 +313,9 @@ module _ (L : Library) (obedient : Obedient L) (globals : Memory) (inputs : List
           by_test false clear rest =
               let equal : behaviour set ≡ behaviour small =
               keeps_blames small set larger link.comp link.cause link.line chain.0.blamed chain.0.front clear in
-              absurd (blamed_below t (whole_run small) (behaviour small) link.comp link.cause link.line _ refl
-              chain.0.blamed (ap (λ r. r.trace) (sym equal) ∙ tells))
+              absurd (blamed_below t (roles_run L globals inputs turns (roles_in L.interfaces.main small t)).behaviour
+              (behaviour small) link.comp link.cause link.line _ refl chain.0.blamed (ap (λ r. r.trace) (sym equal) ∙
+              tells))
 
     is_enough : (links : List Link) (small : Set) → IsWithin small set → IsChain behaviour t small links →
         Includes set links → (behaviour set).trace ≡ t

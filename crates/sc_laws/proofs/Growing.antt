@@ -1,13 +1,13 @@
 -- Each word of the meaning only goes on: events are appended, and no turns come back.
-use Rattle.sc_laws.proofs.Common.{Action, AllFrom, BadType, Blamed, Body, Bool, Call, CallTarget, Calls, Closed, Cross}
-use Rattle.sc_laws.proofs.Common.{Does, Event, Exit, FrameChange, Front, Function, Goes, Gone, Grown, Here, In, Input}
-use Rattle.sc_laws.proofs.Common.{Interfaces, Left, Library, List, None, On, Opened, Option, Out, Output, Own, Piece}
-use Rattle.sc_laws.proofs.Common.{Reached, Ret, Roles, Route, Row, Some, State, Step, Stopped, TurnsOut, Value, Word}
-use Rattle.sc_laws.proofs.Common.{[], acts, and_then, ap, append-nil, append_assoc, arith, asks, back_cross, back_own}
-use Rattle.sc_laws.proofs.Common.{begun, call_cross, call_own, called, calls, done, false, follow, found, function}
+use Rattle.sc_laws.proofs.Common.{Action, AllFrom, Body, Bool, Call, CallTarget, Calls, Closed, Cross, Does, Event}
+use Rattle.sc_laws.proofs.Common.{Exit, FrameChange, Front, Function, Goes, Gone, Grown, Here, In, Input, Interfaces}
+use Rattle.sc_laws.proofs.Common.{Left, Library, List, None, On, Opened, Option, Out, Output, Own, Piece, Reached, Ret}
+use Rattle.sc_laws.proofs.Common.{Roles, Route, Row, Some, State, Step, Stopped, TurnsOut, Value, Word, [], acts}
+use Rattle.sc_laws.proofs.Common.{and_then, ap, append-nil, append_assoc, arith, asks, back_cross, back_own, begun}
+use Rattle.sc_laws.proofs.Common.{call_cross, call_own, called, calls, done, false, follow, found, function}
 use Rattle.sc_laws.proofs.Common.{if◌then◌else◌, is_number, last, length, length-append, map, may_call, performs}
 use Rattle.sc_laws.proofs.Common.{read_input, refl, rows_left, run_in, run_step, scripted_step, suc, sym, tell, true}
-use Rattle.sc_laws.proofs.Common.{turn, turn_of, within, word_in, zero, ℕ, ◌++◌, ◌+◌, ◌∙◌, ◌∷◌, ◌≡◌, ◌≤◌}
+use Rattle.sc_laws.proofs.Common.{turn, turn_of, within, word_in, zero, ℕ, ◌++◌, ◌∙◌, ◌∷◌, ◌≡◌, ◌≤◌}
 use Rattle.sc_core.specs.Prelude.{take}
 use Rattle.sc_event.specs.declared.row.Action.TheVariants as act
 
@@ -171,16 +171,21 @@ back_goes interfaces from to index v s = reached _ s _ (told _ s)
 
 module _ (library : Library) (body : Body) (goes : BodyGoes body) where
   -- what follows once the function is found
-  pub run_goes : (comp number : ℕ) (args : List Value) (back : Option Value → State → Piece (Option Value)) →
-      ((v : Option Value) → Goes (back v)) → Goes (run_in library body comp number args back)
-  run_goes comp number args back k s =
-      then_goes s (found (function library comp number) s) _ (found_goes (function library comp number) s) (λ f s.
+  pub frame_goes : (comp number : ℕ) (f : Function) (args : List Value)
+      (back : Option Value → State → Piece (Option Value)) → ((v : Option Value) → Goes (back v)) →
+      Goes (λ s. and_then (body number (record { comp = comp; first = length (s.memory comp) }) (begun comp f args s))
+      (λ v t. back v (done comp f (length (s.memory comp)) t)))
+  frame_goes comp number f args back k s =
       let first : ℕ = length (s.memory comp) in
       let here : Here = record { comp = comp; first = first } in
       let start = begun comp f args s in
-      then_goes s (body number here start) _ (earlier s start _ (begun_goes comp f args s)
-      (goes number here start)) (λ v t.
-      let end = done comp f first t in earlier t end _ (done_goes comp f first t) (k v end)))
+      then_goes s (body number here start) _ (earlier s start _ (begun_goes comp f args s) (goes number here start))
+      (λ v t. let end = done comp f first t in earlier t end _ (done_goes comp f first t) (k v end))
+
+  pub run_goes : (comp number : ℕ) (args : List Value) (back : Option Value → State → Piece (Option Value)) →
+      ((v : Option Value) → Goes (back v)) → Goes (run_in library body comp number args back)
+  run_goes comp number args back k s = then_goes s (found (function library comp number) s) _
+      (found_goes (function library comp number) s) (λ f. frame_goes comp number f args back k)
 
   pub own_goes : (comp number : ℕ) (args : List Value) → Goes (call_own library body comp number args)
   own_goes comp number args = run_goes comp number args back_own (λ v. stays v)
@@ -206,11 +211,7 @@ module _ (library : Library) (body : Body) (goes : BodyGoes body) where
   -- a call that a script asks for is made where it may be
   pub asks_is : (comp : ℕ) (target : CallTarget) (args : List Value) (s : State) → asks library body comp target args s
       ≡ (if may_call library comp target args then called library body comp target args s else Stopped TurnsOut s)
-  asks_is comp target args s = by _ where
-    by : (b : Bool) → (if b then (if b then called library body comp target args s else Stopped (Blamed comp BadType 0)
-        s) else Stopped TurnsOut s) ≡ (if b then called library body comp target args s else Stopped TurnsOut s)
-    by true = refl
-    by false = refl
+  asks_is comp target args s = grind arith
 
   pub asks_go : (comp : ℕ) (target : CallTarget) (args : List Value) → Goes (asks library body comp target args)
   asks_go comp target args s = if_goes s (may_call library comp target args) (calls library body comp target args s)

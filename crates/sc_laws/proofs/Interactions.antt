@@ -201,16 +201,6 @@ module _ {A : Type 0} (here : Here) where
   abbrev pub PlaysWith : DoingWith A → (A → ℕ → Interaction (Left A)) → Type 0
   PlaysWith f tree = (a : A) → Plays here (λ by. f by a) (tree a)
 
-  plays_take : (route : Route) (f : DoingWith A) (tree : A → ℕ → Interaction (Left A)) → PlaysWith f tree →
-      PlaysWith (λ by. take route (f by)) (λ a n. on_route route (λ a. tree a n) a)
-  plays_take On f tree h a = h a
-  plays_take (Out exit) f tree h a = plays_reached here _
-
-  pub plays_follow : (route : Exit → Route) (f : Doing (Left A)) (k : DoingWith A) (tree : ℕ → Interaction (Left A))
-      (next : A → ℕ → Interaction (Left A)) → Plays here f tree → PlaysWith k next →
-      Plays here (λ by s. follow route (f by s) (k by)) (λ n. trail route (tree n) (λ a. next a n))
-  plays_follow route f k tree next h x = plays_then here f _ tree _ h (λ left. plays_take _ k next x _)
-
   module _ (f f2 f3 : DoingWith A) (head body next : A → ℕ → Interaction (Left A)) (h : PlaysWith f head)
       (b : PlaysWith f2 body) (x : PlaysWith f3 next) (most : ℕ) where
     abbrev pub trees : ℕ → A → Interaction (Left A)
@@ -366,15 +356,14 @@ module _ (Soft : Cause → Type 0) where
       pub match_leave : (exit : Exit) → MatchWith (λ by. leave exit) (λ by. leave exit)
       match_leave exit a = match_reached _
 
+      match_take : (route : Route) (k l : DoingWith A) → MatchWith k l →
+          MatchWith (λ by. take route (k by)) (λ by. take route (l by))
+      match_take On k l h a = h a
+      match_take (Out exit) k l h a = match_reached _
+
       pub match_follow : (route : Exit → Route) (f g : Doing (Left A)) (k l : DoingWith A) → Match Soft here f g →
           MatchWith k l → Match Soft here (λ by s. follow route (f by s) (k by)) (λ by s. follow route (g by s) (l by))
-      match_follow route f g k l h x = record {
-        tree = λ n. trail route _ (λ a. (x a).tree n);
-        twin = λ n. trail route _ (λ a. (x a).twin n);
-        first = plays_follow here route f k h.tree _ h.first (λ a. (x a).first);
-        second = plays_follow here route g l h.twin _ h.second (λ a. (x a).second);
-        alike = λ n. alike_trail route _ _ _ _ (h.alike n) (λ a. (x a).alike n);
-      }
+      match_follow route f g k l h x = match_then f g _ _ h (λ left. match_take (route left.exit) k l x left.carried)
 
       -- a value at a place
       pub match_store : (q v : Value) (line : ℕ) → MatchWith (λ by. stored here q v line) (λ by. stored here q v line)

@@ -1,16 +1,20 @@
 -- To show that the functions of a library keep a property of states, show it of what changes memory, of turns and of
 -- calls.
-use Rattle.sc_laws.proofs.Common.{Action, BadType, Blamed, Blocks, Body, Bool, CallTarget, Calls, Cause, Cross, Err}
-use Rattle.sc_laws.proofs.Common.{Function, Gone, Grown, Here, Input, Kept, Library, List, Meets, Never, None, Obedient}
-use Rattle.sc_laws.proofs.Common.{Ok, Option, Output, Piece, Property, Reached, Result, Roles, Row, RunEnd, Some, State}
-use Rattle.sc_laws.proofs.Common.{Stopped, TurnsOut, Value, Word, [], acts, and_then, ap, arith, asks, called, calls}
-use Rattle.sc_laws.proofs.Common.{computed, false, found, found_kept, function, if◌then◌else◌, is_some, leads, map}
-use Rattle.sc_laws.proofs.Common.{may_call, performs, refl, rows_left, run_step, scripted_step, subst, suc, sym}
-use Rattle.sc_laws.proofs.Common.{then_kept, true, turn, turn_of, with_blocks, zero, ℕ, ◌<◌, ◌∙◌, ◌∷◌, ◌≡◌}
+use Rattle.sc_laws.proofs.Common.{Action, BadType, Blamed, Blocks, Body, Bool, Call, CallTarget, Calls, Cause, Cross}
+use Rattle.sc_laws.proofs.Common.{Err, Export, Function, Gone, Grown, Here, Input, Kept, Library, List, Main, Meets}
+use Rattle.sc_laws.proofs.Common.{Memory, Never, None, Obedient, Ok, Option, Output, Own, Piece, Property, Reached}
+use Rattle.sc_laws.proofs.Common.{Result, Ret, Roles, Row, RunEnd, Some, State, Stopped, TurnsOut, Value, Word, []}
+use Rattle.sc_laws.proofs.Common.{acts, and_parts, and_then, ap, arith, asks, back_cross, back_own, begun, call_own}
+use Rattle.sc_laws.proofs.Common.{called, calls, computed, crossing, done, export_at, false, first_word, found}
+use Rattle.sc_laws.proofs.Common.{function, if◌then◌else◌, imports, is_some, is_word, leads, length, list_all, map}
+use Rattle.sc_laws.proofs.Common.{may_call, performs, read_input, refl, rows_left, run_in, run_step, scripted_step}
+use Rattle.sc_laws.proofs.Common.{subst, suc, sym, takes, tell, then_kept, true, turn, turn_of, with_blocks, within}
+use Rattle.sc_laws.proofs.Common.{word_in, zero, ℕ, ◌<◌, ◌∙◌, ◌∷◌, ◌≡◌}
+use Rattle.sc_event.specs.declared.event.Event.TheVariants.{Out}
 use Rattle.sc_event.specs.declared.row.Action.TheVariants as act
-use Rattle.sc_laws.proofs.Growing.{BodyGoes, CallsGo, calls_go}
+use Rattle.sc_laws.proofs.Growing.{BodyGoes, CallsGo, calls_go, within_goes}
 use Rattle.sc_laws.proofs.Twins.{Kept as RelationKept, KeptAt, FunctionTwins}
-use Rattle.sc_laws.proofs.Matching.{library_twins}
+use Rattle.sc_laws.proofs.Matching.{library_twins, scripted_goes_on}
 
 -- what is to be shown of a property, for the functions of a compartment
 pub record IsKept (K : Property) (here : Here) : Type 0 where
@@ -94,11 +98,16 @@ function_keeps library obedient comp number f is K here kept by goes keeps s at 
     library obedient in
     keeps_here K here kept _ (function library comp number) (twins.functions comp number) f is by goes keeps s at
 
+-- what is looked up is there, or that it isn't allows to stop
+looked_up : {V W : Type 0} (K : Property) (o : Option V) (s : State) (go : V → State → Piece W) →
+    (o ≡ None → K.Ends TurnsOut s) → ((v : V) → o ≡ Some v → Kept K (go v s)) → Kept K (and_then (found o s) go)
+looked_up K None s go none h = record { after = none refl }
+looked_up K (Some v) s go none h = h v refl
+
 -- what is looked up and there
 pub there : {V W : Type 0} (K : Property) (o : Option V) (s : State) (go : V → State → Piece W) → is_some o ≡ true →
     ((v : V) → o ≡ Some v → Kept K (go v s)) → Kept K (and_then (found o s) go)
-there K None s go is h = absurd (cc)
-there K (Some v) s go is h = h v refl
+there K o s go is h = looked_up K o s go (λ none. absurd (cc (is, none))) h
 
 pub led_somewhere : (library : Library) (comp : ℕ) (number : Option ℕ) → leads library comp number ≡ true →
     is_some number ≡ true
@@ -108,6 +117,14 @@ led_somewhere library comp (Some number) is = refl
 pub led_there : (library : Library) (comp number : ℕ) (o : Option ℕ) → leads library comp o ≡ true → o ≡ Some number →
     is_some (function library comp number) ≡ true
 led_there library comp number o is same = sym (ap (leads library comp) same) ∙ is
+
+-- a call across that may be made leads somewhere
+pub led : (library : Library) (from to index : ℕ) (args : List Value) →
+    may_call library from (Cross to index) args ≡ true → leads library to (library.entered to (Export index)) ≡ true
+led library from to index args may =
+    let first = and_parts (imports library.interfaces from _) _ may in
+    let second = and_parts (takes library.interfaces to index _) _ first.1 in
+    (and_parts (list_all is_word args) _ second.1).1
 
 -- a piece that keeps another property, and what follows it
 pub then_other : {V W : Type 0} (K L : Property) (piece : Piece V) (go : V → State → Piece W) →
@@ -136,13 +153,6 @@ module _ (K : Property) (library : Library) (body : Body) (here : Here) (called_
       by true may = called_keep target args s may h
       by false may = record { after = stops s h }
 
-    pub run_step_keeps : Obedient library → BodyGoes body →
-        ((f : Function) → function library here.comp number ≡ Some f → IsKept K here) → (s : State) → K.Goes s →
-        Kept K (run_step library body number here s)
-    run_step_keeps obedient goes kept s h = found_kept K (function library here.comp number) s
-        (λ f s. f.does (calls library body) here s) (stops s h) (λ f is. function_keeps library obedient here.comp
-        number f is K here (kept f is) (calls library body) (calls_go library body goes) (calls_keep (kept f is)) s h)
-
     module _ (again : (s : State) → K.Goes s → Kept K (body number here s)) where
       acts_keep : (action : Action) (next : State → Piece (Option Value)) → ((s : State) → K.Goes s → Kept K (next s)) →
           (s : State) → K.Goes s → Kept K (acts library body action next (body number here) here.comp s)
@@ -165,11 +175,167 @@ module _ (K : Property) (library : Library) (body : Body) (here : Here) (called_
         by next true = acts_keep _ _ next s h
         by next false = record { after = stops s h }
 
-      pub scripted_keeps : (roles : Roles) → Obedient library → BodyGoes body → (roles.scripted here.comp ≡ false →
-          (f : Function) → function library here.comp number ≡ Some f → IsKept K here) → (s : State) → K.Goes s →
-          Kept K (scripted_step library roles (run_step library) body number here s)
-      scripted_keeps roles obedient goes kept s h = by _ refl where
-        by : (b : Bool) → roles.scripted here.comp ≡ b → Kept K (if b then performs library body
-            (rows_left roles here.comp s.trace) number here s else run_step library body number here s)
-        by true is = performs_keep _ s h
-        by false is = run_step_keeps obedient goes (kept is) s h
+-- A property of the places at which a run stands, with fewer turns than a number: what calls have to keep of it, so
+-- that functions do.
+pub record Walk (library : Library) : Type 1 where
+  pub Place : Type 0
+  pub At : ℕ → Place → State → Type 0
+  pub Ends : RunEnd → State → Type 0
+  -- a compartment is at a place, and a function runs at one
+  pub In : Place → ℕ → Type 0
+  pub Runs : Place → ℕ → ℕ → Type 0
+  -- the place within a frame, and within a call across
+  pub inner : Place → ℕ → Function → Place
+  pub across : Place → ℕ → ℕ → Place
+  pub cross_runs : (i : Place) (to index number : ℕ) (f : Function) →
+      library.entered to (Export index) ≡ Some number → Runs (inner (across i to index) to f) to number
+  pub halts : (i : Place) (s : State) → At zero i s → Ends TurnsOut s
+  pub spent : (n : ℕ) (i : Place) (s : State) → s.turns ≡ 0 → At (suc n) i s → Ends TurnsOut s
+  pub less : (n m : ℕ) (i : Place) (s : State) → suc m ≡ s.turns → At (suc n) i s → At n i (record s { turns = m })
+  pub raised : (n : ℕ) (i : Place) (s : State) → At n i s → At (suc n) i s
+  pub stored : (n : ℕ) (i : Place) (s : State) (memory : Memory) → At n i s → At n i (record s { memory = memory })
+  pub begins : (n : ℕ) (i : Place) (comp : ℕ) (f : Function) (args : List Value) (s : State) → At n i s →
+      At n (inner i comp f) (begun comp f args s)
+  pub ends : (n : ℕ) (i : Place) (comp : ℕ) (f : Function) (first : ℕ) (s : State) → At n (inner i comp f) s →
+      At n i (done comp f first s)
+  pub enters : (n : ℕ) (i : Place) (from to index : ℕ) (args : List Value) (s : State) → In i from →
+      may_call library from (Cross to index) args ≡ true → At n i s →
+      At n (across i to index) (tell (Call from to index (map word_in args)) s)
+  pub leaves : (n : ℕ) (i : Place) (from to index : ℕ) (args : List Value) (v : Option Value) (s : State) → In i from →
+      may_call library from (Cross to index) args ≡ true → At n (across i to index) s →
+      At n i (tell (Ret to from (crossing (export_at library.interfaces to index) v)) s)
+  pub reads : (n : ℕ) (i : Place) (from : ℕ) (args : List Value) (s : State) → In i from →
+      may_call library from Input args ≡ true → At n i s → At n i (read_input from s)
+  pub writes : (n : ℕ) (i : Place) (from : ℕ) (args : List Value) (s : State) → In i from →
+      may_call library from Output args ≡ true → At n i s → At n i (tell (Out from (first_word args)) s)
+
+module _ (library : Library) (walk : Walk library) where
+  abbrev pub place : ℕ → walk.Place → Property
+  place n i = record { Goes = walk.At n i; Ends = walk.Ends }
+
+  abbrev pub BodyWalks : ℕ → Body → Type 0
+  BodyWalks n body = (number : ℕ) (here : Here) (s : State) (i : walk.Place) →
+      is_some (function library here.comp number) ≡ true → walk.Runs i here.comp number → walk.At n i s →
+      Kept (place n i) (body number here s)
+
+  pub raise : {V : Type 0} (n : ℕ) (i : walk.Place) (o : Piece V) → Kept (place n i) o → Kept (place (suc n) i) o
+  raise n i (Reached v s) h = record { after = walk.raised n i s h.after }
+  raise n i (Stopped end s) h = record { after = h.after }
+
+  -- a turn, and then what has one turn less
+  after_turn : {V : Type 0} (n m : ℕ) (i : walk.Place) (s : State) (k : State → Piece V) → m ≡ s.turns →
+      walk.At (suc n) i s → ((t : State) → walk.At n i t → Kept (place n i) (k t)) →
+      Kept (place n i) (and_then (turn_of m s) (λ _. k))
+  after_turn n zero i s k is at h = record { after = walk.spent n i s (sym is) at }
+  after_turn n (suc m) i s k is at h = h _ (walk.less n m i s is at)
+
+  turned : (n m : ℕ) (i : walk.Place) (s : State) → m ≡ s.turns → walk.At (suc n) i s →
+      Kept (place (suc n) i) (turn_of m s)
+  turned n zero i s is at = record { after = walk.spent n i s (sym is) at }
+  turned n (suc m) i s is at = record { after = walk.raised n i _ (walk.less n m i s is at) }
+
+  module _ (n : ℕ) (body : Body) (walks : BodyWalks n body) where
+    run_walks : (i j : walk.Place) (comp number : ℕ) (args : List Value)
+        (back : Option Value → State → Piece (Option Value)) →
+        ((f : Function) → walk.Runs (walk.inner i comp f) comp number) →
+        ((v : Option Value) (s : State) → walk.At n i s → Kept (place n j) (back v s)) → (s : State) →
+        (function library comp number ≡ None → walk.Ends TurnsOut s) → walk.At n i s →
+        Kept (place n j) (run_in library body comp number args back s)
+    run_walks i j comp number args back runs b s none at =
+        looked_up (place n j) (function library comp number) s _ none (λ f is.
+        then_other (place n (walk.inner i comp f)) (place n j) (body number _ _) _ (λ end s h. h)
+        (walks number (record { comp = comp; first = length (s.memory comp) }) _ (walk.inner i comp f) (ap is_some is)
+        (runs f) (walk.begins n i comp f args s at)) (λ v t at. b v _ (walk.ends n i comp f _ t at)))
+
+    pub own_walks : (i : walk.Place) (comp number : ℕ) (args : List Value) →
+        ((f : Function) → walk.Runs (walk.inner i comp f) comp number) → (s : State) →
+        (function library comp number ≡ None → walk.Ends TurnsOut s) → walk.At n i s →
+        Kept (place n i) (call_own library body comp number args s)
+    own_walks i comp number args runs = run_walks i i comp number args back_own runs (λ v s at. record { after = at })
+
+    pub cross_walks : (i : walk.Place) (from to index : ℕ) (args : List Value) (s : State) → walk.In i from →
+        may_call library from (Cross to index) args ≡ true → walk.At (suc n) i s →
+        Kept (place n i) (called library body from (Cross to index) args s)
+    cross_walks i from to index args s here may at = after_turn n s.turns i s _ refl at (λ s at.
+        let is = led library from to index args may in
+        there (place n i) (library.entered to _) s _ (led_somewhere library to _ is) (λ number same.
+        let known = led_there library to number _ is same in
+        run_walks (walk.across i to index) i to number _ (back_cross library.interfaces from to index)
+        (λ f. walk.cross_runs i to index number f same)
+        (λ v s at. record { after = walk.leaves n i from to index args v s here may at }) _
+        (λ none. absurd (cc (known, none))) (walk.enters n i from to index args s here may at)))
+
+    called_walks : (i : walk.Place) (from : ℕ) (target : CallTarget) (args : List Value) (s : State) → walk.In i from →
+        ((number : ℕ) (f : Function) → walk.Runs (walk.inner i from f) from number) →
+        may_call library from target args ≡ true → walk.At (suc n) i s →
+        Kept (place (suc n) i) (called library body from target args s)
+    called_walks i from (Own number) args s here runs may at = raise n i _ (after_turn n s.turns i s _ refl at
+        (λ t at. own_walks i from number args (runs number) t (λ none. absurd (cc (may, none))) at))
+    called_walks i from (Cross to index) args s here runs may at =
+        raise n i _ (cross_walks i from to index args s here may at)
+    called_walks i from Input args s here runs may at = record { after = walk.reads (suc n) i from args s here may at }
+    called_walks i from Output args s here runs may at =
+        record { after = walk.writes (suc n) i from args s here may at }
+
+    -- the first call of `main`
+    pub main_walks : (i : walk.Place) (s : State) →
+        (library.entered library.interfaces.main Main ≡ None → walk.Ends TurnsOut s) →
+        ((number : ℕ) → library.entered library.interfaces.main Main ≡ Some number →
+        function library library.interfaces.main number ≡ None → walk.Ends TurnsOut s) →
+        ((number : ℕ) (f : Function) → library.entered library.interfaces.main Main ≡ Some number →
+        walk.Runs (walk.inner i library.interfaces.main f) library.interfaces.main number) → walk.At n i s →
+        Kept (place n i) (and_then (found (library.entered library.interfaces.main Main) s)
+        (λ number s. call_own library body library.interfaces.main number [] s))
+    main_walks i s unled none runs at = looked_up (place n i) (library.entered _ Main) s _ unled (λ number is.
+        own_walks i _ number [] (λ f. runs number f is) s (none number is) at)
+
+    -- a function of a compartment that may be blamed runs
+    pub run_step_walks : Obedient library → BodyGoes body → (number : ℕ) (here : Here) (s : State) (i : walk.Place) →
+        is_some (function library here.comp number) ≡ true → walk.In i here.comp →
+        ((k : ℕ) (f : Function) → walk.Runs (walk.inner i here.comp f) here.comp k) → ((cause : Cause) (line : ℕ)
+        (s : State) → walk.At (suc n) i s → walk.Ends (Blamed here.comp cause line) s) → walk.At (suc n) i s →
+        Kept (place (suc n) i) (run_step library body number here s)
+    run_step_walks obedient goes number here s i is at_place runs blamed at =
+        let kept : IsKept (place (suc n) i) here = record {
+          memory = λ s blocks at. walk.stored (suc n) i s _ at;
+          turned = λ s at. turned n s.turns i s refl at;
+          blamed = λ s cause line at. blamed cause line s at;
+        } in
+        there (place (suc n) i) (function library here.comp number) s (λ f s. f.does (calls library body) here s) is
+        (λ f found_f. function_keeps library obedient here.comp number f found_f (place (suc n) i) here kept
+        (calls library body) (calls_go library body goes) (calls_keep (place (suc n) i) library body here
+        (λ target args s may at. called_walks i here.comp target args s at_place runs may at) kept) s at)
+
+  -- where turns don't matter, also where some compartments perform
+  module _ (lowered : (n : ℕ) (i : walk.Place) (s : State) → walk.At (suc n) i s → walk.At n i s)
+      (at_place : (i : walk.Place) (comp number : ℕ) → walk.Runs i comp number → walk.In i comp)
+      (owns : (i : walk.Place) (comp number : ℕ) (f : Function) → walk.In i comp →
+      walk.Runs (walk.inner i comp f) comp number) (obedient : Obedient library) (roles : Roles)
+      (blamed : (comp number : ℕ) → roles.scripted comp ≡ false → is_some (function library comp number) ≡ true →
+      (n : ℕ) (i : walk.Place) (cause : Cause) (line : ℕ) (s : State) → walk.At n i s →
+      walk.Ends (Blamed comp cause line) s) where
+    stops : (n : ℕ) (i : walk.Place) (s : State) → walk.At n i s → walk.Ends TurnsOut s
+    stops zero i s at = walk.halts i s at
+    stops (suc n) i s at = stops n i s (lowered n i s at)
+
+    step_walks : (n : ℕ) (body : Body) → BodyGoes body → BodyWalks n body →
+        BodyWalks (suc n) (scripted_step library roles (run_step library) body)
+    step_walks n body goes walks number here s i is runs at = by _ refl where
+      here_at : walk.In i here.comp
+      here_at = at_place i here.comp number runs
+
+      owned : (k : ℕ) (f : Function) → walk.Runs (walk.inner i here.comp f) here.comp k
+      owned k f = owns i here.comp k f here_at
+
+      by : (b : Bool) → roles.scripted here.comp ≡ b → Kept (place (suc n) i) (if b then performs library body
+          (rows_left roles here.comp s.trace) number here s else run_step library body number here s)
+      by true performing = performs_keep (place (suc n) i) library body here
+          (λ target args s may at. called_walks n body walks i here.comp target args s here_at owned may at) number
+          (λ s at. stops (suc n) i s at) (λ s at. raise n i _ (walks number here s i is runs (lowered n i s at))) _ s at
+      by false plain = run_step_walks n body walks obedient goes number here s i is here_at owned
+          (λ cause line s at. blamed here.comp number plain is (suc n) i cause line s at) at
+
+    pub scripted_walks : (n : ℕ) → BodyWalks n (within (scripted_step library roles (run_step library)) n)
+    scripted_walks zero number here s i is runs at = record { after = walk.halts i s at }
+    scripted_walks (suc n) number here s i is runs at = step_walks n _ (within_goes (scripted_step library roles _)
+        (scripted_goes_on library obedient roles) n) (scripted_walks n) number here s i is runs at

@@ -5,17 +5,17 @@ use Rattle.sc_laws.proofs.Common.{None, Ok, On, Option, OtherLinesAgree, Out, Pi
 use Rattle.sc_laws.proofs.Common.{Result, Return, Route, RunsAgree, Some, State, TypedExpr, TypedFunction, TypedLocal}
 use Rattle.sc_laws.proofs.Common.{TypedSection, TypedSimple, TypedSimpleKind, TypedStmt, TypedStmt-F, TypedStmtKind}
 use Rattle.sc_laws.proofs.Common.{TypedStmtKind-F, TypedStruct, Value, Want, Ways, [], all_do, ap, ap₂, assign}
-use Rattle.sc_laws.proofs.Common.{assign_call, at_brace, at_place, block_does, body_does, bytes_eq, call, call_alone}
-use Rattle.sc_laws.proofs.Common.{cells_of, choose, closed, computed, cond, entry_in, evaluated, everywhere, export_at}
-use Rattle.sc_laws.proofs.Common.{expr_nodes, false, first_blocks, fold-TypedStmt, fold-TypedStmtKind, follow}
-use Rattle.sc_laws.proofs.Common.{frame_bound, function_of, functions_in, globals_of, if◌then◌else◌, in_loop, in_order}
-use Rattle.sc_laws.proofs.Common.{init_does, inits_do, kind_nodes, kind_step, layer_of, leave, length, length-map}
-use Rattle.sc_laws.proofs.Common.{library_of, local_nodes, loop, main_name, map, map-TypedStmtKind, nat_lt, nodes, not}
-use Rattle.sc_laws.proofs.Common.{on_line, option_map, part_does, part_nodes, place_named, place_of_export}
-use Rattle.sc_laws.proofs.Common.{position_or_len, refl, roll-TypedStmtKind, rounds, run_by, run_of, run_step}
-use Rattle.sc_laws.proofs.Common.{simple_does, slice_get, slice_get-map, stmt_at, stmt_does, stmt_induction, stmt_nodes}
-use Rattle.sc_laws.proofs.Common.{stmt_step, store, store_at, store_result, stored, subst, suc, sym, test, total, true}
-use Rattle.sc_laws.proofs.Common.{turn, variable_at, variables, ways, zero, ℕ, ◌++◌, ◌+◌, ◌∙◌, ◌∷◌, ◌≡◌}
+use Rattle.sc_laws.proofs.Common.{at_brace, at_place, block_does, body_does, bytes_eq, call, cells_of, choose, closed}
+use Rattle.sc_laws.proofs.Common.{computed, cond, entry_in, evaluated, everywhere, export_at, expr_nodes, false}
+use Rattle.sc_laws.proofs.Common.{first_blocks, fold-TypedStmt, fold-TypedStmtKind, follow, frame_bound, function_of}
+use Rattle.sc_laws.proofs.Common.{functions_in, globals_of, if◌then◌else◌, in_loop, in_order, init_does, inits_do}
+use Rattle.sc_laws.proofs.Common.{kind_nodes, kind_step, layer_of, leave, length, length-map, library_of, local_nodes}
+use Rattle.sc_laws.proofs.Common.{loop, main_name, map, map-TypedStmtKind, nat_lt, nodes, not, on_line, option_map}
+use Rattle.sc_laws.proofs.Common.{part_does, part_nodes, place_named, place_of_export, position_or_len, refl}
+use Rattle.sc_laws.proofs.Common.{roll-TypedStmtKind, rounds, run_by, run_of, run_step, simple_does, slice_get}
+use Rattle.sc_laws.proofs.Common.{slice_get-map, stmt_at, stmt_does, stmt_induction, stmt_nodes, stmt_step, store}
+use Rattle.sc_laws.proofs.Common.{store_at, store_result, subst, suc, sym, test, total, true, turn, variable_at}
+use Rattle.sc_laws.proofs.Common.{variables, ways, zero, ℕ, ◌++◌, ◌+◌, ◌∙◌, ◌∷◌, ◌≡◌}
 use Rattle.sc_core.specs.Prelude.{take}
 use Rattle.sc_core.specs.declared.stmt.TypedSimpleKind.TheVariants as simple
 use Rattle.sc_core.specs.declared.stmt.TypedStmtKind.TheOpen as layer
@@ -127,11 +127,6 @@ module _ (line_of : ℕ → ℕ) where
 
 -- STATEMENTS
 module _ (here : Here) where
-  stored_agree : (q v : Value) (line other : ℕ) →
-      DoesAgree {A = Unit {0}} (stored here q v line) (stored here q v other)
-  stored_agree q v line other a s =
-      then_agree _ _ _ _ (computed_agree here line other (store _ q v) s) (λ blocks s. itself _)
-
   given_agree : (w : Want) (e : Ways) (line other : ℕ) (s : State) →
       PiecesAgree (evaluated here w e line s) (evaluated here w e other s)
   given_agree w e line other s = computed_agree here line other _ s
@@ -139,7 +134,8 @@ module _ (here : Here) where
   store_at_agree : (place : Ways) (v : Value) (line other : ℕ) →
       DoesAgree (store_at here place v line) (store_at here place v other)
   store_at_agree place v line other a s =
-      then_agree _ _ _ _ (given_agree _ place line other s) (λ q s. stored_agree q v line other a s)
+      then_agree _ _ _ _ (given_agree _ place line other s) (λ q s.
+      then_agree _ _ _ _ (computed_agree here line other (store _ q v) s) (λ blocks s. itself _))
 
   assign_agree : (place e : Ways) (line other : ℕ) → DoesAgree (assign here place e line) (assign here place e other)
   assign_agree place e line other a s =
@@ -159,24 +155,16 @@ module _ (here : Here) where
     call_agree target args line other s =
         then_agree _ _ _ _ (computed_agree here line other _ s) (λ vs s. calls _ target vs s)
 
-    assign_call_agree : (place : Ways) (target : CallTarget) (args : List Ways) (line other : ℕ) →
-        DoesAgree (assign_call here C place target args line) (assign_call here D place target args other)
-    assign_call_agree place target args line other a s = then_agree _ _ _ _ (call_agree target args line other s)
-        (λ result s. store_result_agree place result line other a s)
-
-    call_alone_agree : (target : CallTarget) (args : List Ways) (line other : ℕ) →
-        DoesAgree (call_alone here C target args line) (call_alone here D target args other)
-    call_alone_agree target args line other a s =
-        then_agree _ _ _ _ (call_agree target args line other s) (λ result s. itself _)
-
     module _ (arith : Arith) (structs : List TypedStruct) (params : ℕ) (line_of : ℕ → ℕ) where
       simple_agree : (k : TypedSimpleKind) (line other : ℕ) →
           DoesAgree (simple_does arith structs here params C k line) (simple_does arith structs here params D k other)
-      simple_agree (simple.Assign place e) line other =
-          assign_agree (ways arith structs here params place) (ways arith structs here params e) line other
-      simple_agree (simple.AssignCall place c) line other =
-          assign_call_agree (ways arith structs here params place) c.target (map _ c.args) line other
-      simple_agree (simple.Call c) line other = call_alone_agree c.target (map _ c.args) line other
+      simple_agree (simple.Assign place e) line other a s =
+          assign_agree (ways arith structs here params place) (ways arith structs here params e) line other a s
+      simple_agree (simple.AssignCall place c) line other a s =
+          then_agree _ _ _ _ (call_agree c.target (map _ c.args) line other s)
+          (λ result s. store_result_agree (ways arith structs here params place) result line other a s)
+      simple_agree (simple.Call c) line other a s =
+          then_agree _ _ _ _ (call_agree c.target (map _ c.args) line other s) (λ result s. itself _)
 
       part_agree : (part : Option TypedSimple) → DoesAgree (part_does arith structs here params C part)
           (part_does arith structs here params D (option_map (simple_lined line_of) part))
@@ -203,11 +191,10 @@ module _ (here : Here) where
 
       layer_agree : (line : ℕ) (k : TypedStmtKind-F TypedStmtKind TypedStmt) → Inside Agrees k →
           DoesAgree (layered C k line) (layered D (inner_lined line_of k) (line_of line))
-      layer_agree line (layer.Assign place e) h a s =
-          assign_agree (ways arith structs here params place) (ways arith structs here params e) line (line_of line) a s
+      layer_agree line (layer.Assign place e) h a s = simple_agree (simple.Assign place e) line (line_of line) a s
       layer_agree line (layer.AssignCall place c) h a s =
-          assign_call_agree (ways arith structs here params place) c.target (map _ c.args) line (line_of line) a s
-      layer_agree line (layer.Call c) h a s = call_alone_agree c.target (map _ c.args) line (line_of line) a s
+          simple_agree (simple.AssignCall place c) line (line_of line) a s
+      layer_agree line (layer.Call c) h a s = simple_agree (simple.Call c) line (line_of line) a s
       layer_agree line (layer.If cond x y) h a s =
           then_agree _ _ _ _ (given_agree want.Value (ways arith structs here params cond) line (line_of line) s)
           (λ v s. choose_agree v _ _ _ _ (block_agree x h.0 a s) (block_agree y h.1 a s))
@@ -262,6 +249,11 @@ module _ (here : Here) where
   closed_agree _ has_result is_main line other s = brace_agree _ is_main line other s
 
 -- FUNCTIONS AND LIBRARIES
+pairs_map : {A A' B : Type 0} (Q : B → B → Type 0) (f : A → B) (g : A' → B) (h : A → A') →
+    ((x : A) → Q (f x) (g (h x))) → (xs : List A) → Pairs Q (map f xs) (map g (map h xs))
+pairs_map Q f g h each [] = tt
+pairs_map Q f g h each (x ∷ xs) = (each x, pairs_map Q f g h each xs)
+
 module _ (arith : Arith) (line_of : ℕ → ℕ) where
   function_agrees : (main : ℕ) (structs : List TypedStruct) (f : TypedFunction) →
       FunctionsAgree (function_of arith main structs f) (function_of arith main structs (function_lined line_of f))
@@ -272,15 +264,10 @@ module _ (arith : Arith) (line_of : ℕ → ℕ) where
         closed_agree here _ _ _ _ _ s);
   }
 
-  functions_agree : (main : ℕ) (structs : List TypedStruct) (fs : List TypedFunction) → Pairs FunctionsAgree
-      (map (function_of arith main structs) fs) (map (function_of arith main structs) (map (function_lined line_of) fs))
-  functions_agree main structs [] = tt
-  functions_agree main structs (f ∷ fs) = (function_agrees main structs f, functions_agree main structs fs)
-
   sections_agree : (main : ℕ) (sections : List TypedSection) → Pairs (Pairs FunctionsAgree)
       (map (functions_in arith main) sections) (map (functions_in arith main) (map (section_lined line_of) sections))
-  sections_agree main [] = tt
-  sections_agree main (section ∷ rest) = (functions_agree main _ _, sections_agree main rest)
+  sections_agree main = pairs_map _ _ _ _ (λ section.
+      pairs_map _ _ _ _ (function_agrees main section.structs) section.functions)
 
   -- names lead to the same places
   same_prefix : (name : List ℕ) (fs : List TypedFunction) →

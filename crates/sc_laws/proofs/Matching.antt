@@ -1,6 +1,6 @@
 -- Functions that match are related in every relation that the words of the meaning keep.
-use Rattle.sc_laws.proofs.Common.{Alike, Asks, Blamed, Blames, Blocks, Calls, Cause, Does, Doing, Err, Function}
-use Rattle.sc_laws.proofs.Common.{FunctionsMatch, Gives, GoFrom, Goes, Gone, Halts, Here, Interaction, Lasts}
+use Rattle.sc_laws.proofs.Common.{[], nobody, Alike, Asks, Blamed, Blames, Blocks, Calls, Cause, Does, Doing, Err}
+use Rattle.sc_laws.proofs.Common.{Function, FunctionsMatch, Gives, GoFrom, Goes, Gone, Halts, Here, Interaction, Lasts}
 use Rattle.sc_laws.proofs.Common.{LibrariesMatch, Library, Match, Meets, Never, None, Obedient, Ok, Option, Piece}
 use Rattle.sc_laws.proofs.Common.{Plays, Reached, Reads, Roles, Some, Spends, State, Stopped, Stores, Value, and_then}
 use Rattle.sc_laws.proofs.Common.{arith, follow, function, in_loop, inl, inr, loop, played, refl, rounds, run_step}
@@ -125,6 +125,10 @@ module _ (Soft : Cause → Type 0) where
 
     pub second_goes : LibraryGoes M
     second_goes comp number = goes_there (function L comp number) _ (match.functions comp number)
+
+-- where nobody performs: a step of these roles is the plain one
+abbrev pub idle : Roles
+idle = record { scripted = nobody; rows = λ comp. [] }
 
 module _ (library : Library) (obedient : Obedient library) where
   pub library_goes : LibraryGoes library

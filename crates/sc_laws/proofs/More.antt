@@ -1,19 +1,19 @@
 -- The laws on more turns, more events, and the arithmetic that wraps.
 use Rattle.sc_laws.proofs.Common.{AgreesInRoom, AgreesUntilBlame, Blamed, Bool, Cause, Ended, EventsOut, ExtendedByMore}
 use Rattle.sc_laws.proofs.Common.{Extends, Front, IsArithmetic, IsFinal, LibrariesMatch, Library, List, Memory, Never}
-use Rattle.sc_laws.proofs.Common.{Obedient, ProgramTree, Roles, Run, RunEnd, RunsUntilBlame, SourceRun, Step, TurnsOut}
-use Rattle.sc_laws.proofs.Common.{ap, arith, blamed, blamed_run, c_arith, deepest, depth_in, false, inl, inr, le-leb}
+use Rattle.sc_laws.proofs.Common.{Obedient, ProgramTree, Roles, Run, RunEnd, RunsUntilBlame, SourceRun, TurnsOut, ap}
+use Rattle.sc_laws.proofs.Common.{arith, blamed, blamed_run, c_arith, deepest, depth_in, false, inl, inr, le-leb}
 use Rattle.sc_laws.proofs.Common.{leb-true, length, library_of, library_run, lt-ltb, nat_le, reaches, refl, roles_run}
-use Rattle.sc_laws.proofs.Common.{run_by, run_step, same, same_run, scripted_step, stopped_at, subst, sym, take}
-use Rattle.sc_laws.proofs.Common.{take-append-le, take_all, true, wrapping, ℕ, ◌+◌, ◌-◌, ◌<◌, ◌∙◌, ◌≡◌, ◌≤◌}
+use Rattle.sc_laws.proofs.Common.{same, same_run, stopped_at, subst, sym, take, take-append-le, take_all, true}
+use Rattle.sc_laws.proofs.Common.{wrapping, ℕ, ◌+◌, ◌-◌, ◌<◌, ◌∙◌, ◌≡◌, ◌≤◌}
 use Rattle.sc_laws.proofs.Wrapping.{binary_fits, negated_fits}
-use Rattle.sc_laws.proofs.Growing.{front_same, front_no_longer, StepGoes, run_step_goes, scripted_goes}
+use Rattle.sc_laws.proofs.Growing.{front_same, front_no_longer}
 use Rattle.sc_laws.proofs.Expressions.{ArithKeeps}
-use Rattle.sc_laws.proofs.Matching.{first_goes, second_goes, run_goes_on, scripted_goes_on}
+use Rattle.sc_laws.proofs.Matching.{idle}
 use Rattle.sc_laws.proofs.Statements.{program_matches}
-use Rattle.sc_laws.proofs.Below.{Passes, StepsBelow}
-use Rattle.sc_laws.proofs.Runs.{shown, take_fronts, unreached, still_unreached, trace_is, RunsBelow, run_steps}
-use Rattle.sc_laws.proofs.Runs.{scripted_steps, runs_below, RunsBelow as goes}
+use Rattle.sc_laws.proofs.Below.{Passes}
+use Rattle.sc_laws.proofs.Runs.{shown, take_fronts, unreached, still_unreached, trace_is, RunsBelow, runs_below}
+use Rattle.sc_laws.proofs.Runs.{RunsBelow as goes}
 use Rattle.sc_laws.proofs.Rooms.{deepest_more}
 
 -- MORE TURNS AND EVENTS
@@ -48,25 +48,19 @@ module _ (d : ℕ) (one other : Run) (events more_events : ℕ) (le : events ≤
       }
 
 module _ (library : Library) (obedient : Obedient library) (globals : Memory) (inputs : List ℕ) where
-  more_of : (step : Step) → StepGoes step → ((d : ℕ) → StepsBelow d Never (Unit {0}) (inr tt) step step) →
-      ExtendedByMore (λ turns events. stopped_at events (run_by library step globals inputs turns).behaviour)
-  more_of step goes steps turns more_turns events more_events le_turns le_events =
+  pub more_scripted : (roles : Roles) →
+      ExtendedByMore (λ turns events. stopped_at events (roles_run library globals inputs turns roles).behaviour)
+  more_scripted roles turns more_turns events more_events le_turns le_events =
       let d : ℕ = more_turns - turns in
       let sum : turns + d ≡ more_turns = omega (arith, le_turns) in
-      subst (λ n. Extends (stopped_at events (run_by library step globals inputs turns).behaviour)
-      (stopped_at more_events (run_by library step globals inputs n).behaviour)) sum
-      (extends d _ _ events more_events le_events (runs_below d Never _ (inr tt) library library obedient step
-      step goes goes (steps d) globals inputs turns))
+      subst (λ n. Extends (stopped_at events (roles_run library globals inputs turns roles).behaviour)
+      (stopped_at more_events (roles_run library globals inputs n roles).behaviour)) sum
+      (extends d _ _ events more_events le_events
+      (runs_below d Never _ (inr tt) library library obedient roles globals inputs turns))
 
   pub more_runs : ExtendedByMore (λ turns events. stopped_at events
       (library_run library globals inputs turns).behaviour)
-  more_runs = more_of (run_step library) (run_goes_on library obedient)
-      (λ d. run_steps d Never _ (inr tt) library library obedient)
-
-  pub more_scripted : (roles : Roles) →
-      ExtendedByMore (λ turns events. stopped_at events (roles_run library globals inputs turns roles).behaviour)
-  more_scripted roles = more_of (scripted_step library roles _) (scripted_goes_on library obedient roles)
-      (λ d. scripted_steps d Never _ (inr tt) library library obedient roles)
+  more_runs = more_scripted idle
 
 -- ARITHMETIC
 pub wrapping_keeps : ArithKeeps IsArithmetic c_arith wrapping
@@ -132,28 +126,16 @@ module _ (one other : Run) where
 
 module _ (L M : Library) (match : LibrariesMatch IsArithmetic L M) (globals : Memory) (inputs : List ℕ)
     (turns : ℕ) where
-  below_of : (step step' : Step) → StepGoes step → StepGoes step' → StepsBelow 0 IsArithmetic ⊥ (inl refl) step step' →
-      RunsBelow 0 IsArithmetic ⊥ (run_by L step globals inputs turns) (run_by M step' globals inputs turns)
-  below_of step step' goes goes' steps =
-      let none : turns + 0 ≡ turns = omega arith in
-      subst (λ n. RunsBelow 0 IsArithmetic ⊥ (run_by L step globals inputs turns) (run_by M step' globals inputs n))
-      none (runs_below 0 IsArithmetic ⊥ (inl refl) L M match step step' goes goes' steps globals inputs turns)
-
-  run_goes : StepGoes (run_step L)
-  run_goes body goes = run_step_goes L body goes (first_goes IsArithmetic L M match)
-
-  run_goes' : StepGoes (run_step M)
-  run_goes' body goes = run_step_goes M body goes (second_goes IsArithmetic L M match)
-
-  pub runs_agree : AgreesInRoom (library_run L globals inputs turns) (library_run M globals inputs turns)
-  runs_agree = in_room _ _
-      (below_of (run_step L) (run_step M) run_goes run_goes' (run_steps 0 IsArithmetic ⊥ (inl refl) L M match))
-
   pub scripts_agree : (roles : Roles) →
       AgreesInRoom (roles_run L globals inputs turns roles) (roles_run M globals inputs turns roles)
-  scripts_agree roles = in_room _ _ (below_of (scripted_step L roles _) (scripted_step M roles (run_step M))
-      (scripted_goes L roles _ run_goes) (scripted_goes M roles _ run_goes')
-      (scripted_steps 0 IsArithmetic ⊥ (inl refl) L M match roles))
+  scripts_agree roles =
+      let none : turns + 0 ≡ turns = omega arith in
+      in_room _ _ (subst (λ n. RunsBelow 0 IsArithmetic ⊥ (roles_run L globals inputs turns roles)
+      (roles_run M globals inputs n roles)) none
+      (runs_below 0 IsArithmetic ⊥ (inl refl) L M match roles globals inputs turns))
+
+  pub runs_agree : AgreesInRoom (library_run L globals inputs turns) (library_run M globals inputs turns)
+  runs_agree = scripts_agree idle
 
 pub wrapping_matches : (program : ProgramTree) →
     LibrariesMatch IsArithmetic (library_of c_arith program) (library_of wrapping program)

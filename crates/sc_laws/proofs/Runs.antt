@@ -1,20 +1,20 @@
 -- Whole runs: steps of two libraries, and what they come to when they are stopped at a number of events.
-use Rattle.sc_laws.proofs.Common.{AllFrom, Blamed, Bool, Cause, End, Ended, Event, EventsOut, FrameChange, Front, Gone}
-use Rattle.sc_laws.proofs.Common.{HasFixedPoint, Here, IsFixed, IsSteady, IsStop, LibrariesMatch, Library, List, Main}
-use Rattle.sc_laws.proofs.Common.{Memory, Never, None, Obedient, Option, Piece, Reached, Roles, Run, RunEnd, Some}
+use Rattle.sc_laws.proofs.Common.{roles_run, AllFrom, Blamed, Bool, Cause, End, Ended, Event, EventsOut, FrameChange}
+use Rattle.sc_laws.proofs.Common.{Front, HasFixedPoint, Here, IsFixed, IsSteady, IsStop, LibrariesMatch, Library, List}
+use Rattle.sc_laws.proofs.Common.{Main, Memory, Never, None, Obedient, Option, Piece, Reached, Roles, Run, RunEnd, Some}
 use Rattle.sc_laws.proofs.Common.{SourceRun, State, Step, Stopped, StopsSo, TurnsOut, Value, [], and_then, ap, arith}
 use Rattle.sc_laws.proofs.Common.{call_own, exit_word, false, first_state, found, if◌then◌else◌, inl, last, le-ltb}
-use Rattle.sc_laws.proofs.Common.{leb-false, length, length-append, lt-leb, ltb-false, now, reaches, refl, run_by}
-use Rattle.sc_laws.proofs.Common.{run_step, run_to, scripted_step, stopped_at, subst, suc, sym, take, take_all, true}
-use Rattle.sc_laws.proofs.Common.{within, zero, ℕ, ◌++◌, ◌+◌, ◌<◌, ◌∙◌, ◌∷◌, ◌≡◌, ◌≤◌, ◌⊎◌}
-use Rattle.sc_laws.proofs.Growing.{front_more, front_no_longer, StepGoes, then_goes, found_goes, own_goes, within_goes}
-use Rattle.sc_laws.proofs.Growing.{BodyGoes, StepGoes, within_goes}
+use Rattle.sc_laws.proofs.Common.{leb-false, length, length-append, lt-leb, ltb-false, now, reaches, refl, run_step}
+use Rattle.sc_laws.proofs.Common.{run_to, scripted_step, stopped_at, subst, suc, sym, take, take_all, true, within}
+use Rattle.sc_laws.proofs.Common.{zero, ℕ, ◌++◌, ◌+◌, ◌<◌, ◌∙◌, ◌∷◌, ◌≡◌, ◌≤◌, ◌⊎◌}
+use Rattle.sc_laws.proofs.Growing.{front_more, front_no_longer, StepGoes, within_goes, run_step_goes, scripted_goes}
+use Rattle.sc_laws.proofs.Growing.{BodyGoes}
 pub use Rattle.sc_laws.proofs.Growing.{front_no_longer as front_long}
 use Rattle.sc_laws.proofs.Twins.{Anywhere}
-use Rattle.sc_laws.proofs.Matching.{library_twins, run_goes_on, scripted_goes_on}
-use Rattle.sc_laws.proofs.Below.{richer, richer_piece, Passes, Below, along, passed, below_kept, below_at, StepsBelow}
-use Rattle.sc_laws.proofs.Below.{LibrariesBelow, run_step_below, scripted_below, own_below, within_below, richer}
-use Rattle.sc_laws.proofs.Below.{richer_piece, Passes, Below, along, passed, BodiesBelow, StepsBelow, within_below}
+use Rattle.sc_laws.proofs.Matching.{library_twins, first_goes, second_goes, idle, scripted_goes_on}
+use Rattle.sc_laws.proofs.Below.{Under, stop_below, richer, richer_piece, Passes, Below, along, passed, below_kept}
+use Rattle.sc_laws.proofs.Below.{below_at, StepsBelow, LibrariesBelow, run_step_below, scripted_below, own_below}
+use Rattle.sc_laws.proofs.Below.{within_below, BodiesBelow}
 
 -- LISTS
 take_front : {A : Type 0} (n m : ℕ) (xs more : List A) → n ≤ m → Front (take n xs) (take m (xs ++ more))
@@ -116,54 +116,53 @@ module _ (d : ℕ) (Soft : Cause → Type 0) (Turns : Type 0) where
     libraries n n' = library_twins Soft _ _ Anywhere (below_kept d Soft Turns n n' spent)
         (λ here good. below_at d Soft Turns n n' spent here) L M match
 
-    pub run_steps : StepsBelow d Soft Turns spent (run_step L) (run_step M)
-    run_steps n n' a b goes goes' h = run_step_below d Soft Turns spent n n' a b goes goes' h L M (libraries n n')
-
     pub scripted_steps : (roles : Roles) → StepsBelow d Soft Turns spent (scripted_step L roles (run_step L))
         (scripted_step M roles (run_step M))
-    scripted_steps roles n n' a b goes goes' h = scripted_below d Soft Turns spent n n' a b goes goes' h L M
-        (libraries n n') roles (run_step L) (run_step M) (run_steps n n' a b goes goes' h)
+    scripted_steps roles n n' a b h =
+        let below = libraries (suc n) (suc n') in
+        scripted_below d Soft Turns spent n n' a b h L M below roles (run_step L) (run_step M)
+        (run_step_below d Soft Turns spent n n' a b h L M below)
 
-    module _ (step step' : Step) (goes : StepGoes step) (goes' : StepGoes step') (steps : StepsBelow d Soft Turns spent
-        step step') (globals : Memory) (inputs : List ℕ) (turns : ℕ) where
+    module _ (roles : Roles) (globals : Memory) (inputs : List ℕ) (turns : ℕ) where
+      abbrev step : Step
+      step = scripted_step L roles (run_step L)
+
+      abbrev step' : Step
+      step' = scripted_step M roles (run_step M)
+
+      goes : StepGoes step
+      goes = scripted_goes L roles _ (λ body goes. run_step_goes L body goes (first_goes Soft L M match))
+
+      goes' : StepGoes step'
+      goes' = scripted_goes M roles _ (λ body goes. run_step_goes M body goes (second_goes Soft L M match))
+
       abbrev main : ℕ
       main = L.interfaces.main
 
       abbrev start : State
       start = first_state globals inputs turns
 
-      abbrev first_call : Library → Step → ℕ → ℕ → ℕ → State → Piece (Option Value)
-      first_call library step turns main number s = call_own library (within step (suc turns)) main number [] s
+      -- what comes of the first call of `main`, where it is of this compartment
+      abbrev first_call : Library → Step → (turns main : ℕ) → Option ℕ → State → Piece (Option Value)
+      first_call library step turns main number s = and_then (found number s)
+          (λ number s. call_own library (within step (suc turns)) main number [] s)
 
-      -- what the second comes to, where `main` is of this compartment
-      abbrev second_comes : ℕ → Option ℕ → Piece (Option Value)
-      second_comes main number = and_then (found number (richer d start)) (first_call M step' (turns + d) main)
+      begin_below : (number : Option ℕ) → Under d Soft Turns spent (suc turns) (suc (turns + d))
+          (first_call L step turns main number) (first_call M step' (turns + d) main number)
+      begin_below None = stop_below d Soft Turns spent _ _
+      begin_below (Some number) = own_below d Soft Turns spent (suc turns) (suc (turns + d)) (within step (suc turns))
+          (within step' (suc _)) (within_below d Soft Turns spent step step' goes goes' (scripted_steps roles)
+          (suc turns) (suc _)) L M (libraries _ _) main number []
 
-      begin_below : (number : Option ℕ) → Below d Soft Turns (Option Value)
-          (and_then (found number start) (first_call L step turns main)) (second_comes main number)
-      begin_below None = along refl
-      begin_below (Some number) = own_below d Soft Turns spent (suc turns) (suc _) (within step (suc turns))
-          (within step' (suc _)) (within_goes step goes (suc turns)) (within_goes step' goes' (suc _))
-          (within_below d Soft Turns spent step step' goes goes' steps _ _) L M (libraries _ (suc (turns + d))) main
-          number [] start (omega arith) (omega arith)
-
-      begin_goes : (library : Library) (step : Step) → StepGoes step →
-          (turns main : ℕ) (number : Option ℕ) (s : State) →
-          Gone s (and_then (found number s) (first_call library step turns main))
-      begin_goes library step goes turns main number s =
-          then_goes s (found number s) (first_call library step turns main) (found_goes number s)
-          (λ number. own_goes library (within step (suc turns)) (within_goes step goes (suc turns)) main number [])
-
-      pub runs_below : RunsBelow (run_by L step globals inputs turns) (run_by M step' globals inputs (turns + d))
-      runs_below = subst (λ i. RunsBelow (run_by L step globals inputs turns)
-          (run_to i.main (second_comes i.main (M.entered i.main Main))))
-          (sym (libraries (suc turns) (suc (turns + d))).interfaces) (run_to_below main
-          (and_then (found _ start) (first_call L step turns main)) (second_comes main _)
-          (begin_goes L step goes turns main (L.entered main Main) start).stop
-          (begin_goes M step' goes' (turns + d) main (M.entered main Main) (richer d start)).stop (subst (λ x. Below d
-          Soft Turns (Option Value) (and_then (found (L.entered main Main) start) (first_call L step turns main))
-          (second_comes main x)) (sym ((libraries (suc turns) (suc (turns + d))).entered main Main))
-          (begin_below (L.entered main Main))))
+      pub runs_below : RunsBelow (roles_run L globals inputs turns roles) (roles_run M globals inputs (turns + d) roles)
+      runs_below =
+          let begins = begin_below (L.entered main Main) in
+          subst (λ i. RunsBelow (roles_run L globals inputs turns roles)
+          (run_to i.main (first_call M step' (turns + d) i.main (M.entered i.main Main) (richer d start))))
+          (sym match.interfaces) (subst (λ number. RunsBelow (roles_run L globals inputs turns roles)
+          (run_to main (first_call M step' (turns + d) main number (richer d start)))) (sym (match.entered main Main))
+          (run_to_below main _ _ (begins.first start).stop (begins.second (richer d start)).stop
+          (begins.both start (richer d start) (record { state = refl; few = omega arith; few' = omega arith }))))
 
 -- What functions do with as many open calls as they have turns is a fixed point.
 
@@ -188,40 +187,42 @@ module _ (step : Step) (goes : StepGoes step) (steps : StepsBelow 0 Never ⊥ (i
   pub any_depth : (n m number : ℕ) (here : Here) (s : State) → s.turns < n → s.turns < m →
       within step m number here s ≡ within step n number here s
   any_depth n m number here s few few' = ap (within step m number here) (sym (no_richer s)) ∙ only_same _ _
-      (within_below 0 Never ⊥ (inl refl) step step goes goes steps n m number here s few (omega (arith, few')))
+      ((within_below 0 Never ⊥ (inl refl) step step goes goes steps n m number here).both s (richer 0 s)
+      (record { state = refl; few = few; few' = omega (arith, few') }))
 
   pub now_goes : BodyGoes (now step)
   now_goes number here s = within_goes step goes (suc s.turns) number here s
 
   pub fixed : IsFixed step
   fixed number here s =
-      let inner : BodiesBelow 0 Never ⊥ (inl refl) s.turns (s.turns + 0) _ (now step) = λ number here t few few'.
-      within_below 0 Never ⊥ (inl refl) step step goes goes steps s.turns (suc _) number here t few (omega arith) in
-      sym (only_same _ _ (steps s.turns _ _ _ (within_goes step goes s.turns) now_goes inner
-      number here s (omega arith) (omega arith))) ∙ ap (step _ number here) (no_richer s)
+      let inner : BodiesBelow 0 Never ⊥ (inl refl) s.turns (s.turns + 0) (within step s.turns) (now step) =
+      λ number here. record {
+        first = within_goes step goes s.turns number here;
+        second = now_goes number here;
+        both = λ t t' ahead. (within_below 0 Never ⊥ (inl refl) step step goes goes steps s.turns (suc t'.turns) number
+            here).both t t' (record { state = ahead.state; few = ahead.few; few' = omega arith });
+      } in
+      sym (only_same _ _ ((steps s.turns (s.turns + 0) (within step s.turns) (now step) inner number here).both s
+      (richer 0 s) (record { state = refl; few = omega arith; few' = omega arith })))
+      ∙ ap (step _ number here) (no_richer s)
 
 module _ (library : Library) (obedient : Obedient library) where
-  steady_steps : StepsBelow 0 Never ⊥ (inl refl) (run_step library) (run_step library)
-  steady_steps = run_steps 0 Never ⊥ (inl refl) library library obedient
-
-  steady_scripts : (roles : Roles) → StepsBelow 0 Never ⊥ (inl refl) (scripted_step library roles (run_step library))
+  steady_steps : (roles : Roles) → StepsBelow 0 Never ⊥ (inl refl) (scripted_step library roles (run_step library))
       (scripted_step library roles (run_step library))
-  steady_scripts = scripted_steps 0 Never ⊥ (inl refl) library library obedient
-
-  pub run_fixed : IsFixed (run_step library)
-  run_fixed = fixed (run_step library) (run_goes_on library obedient) steady_steps
+  steady_steps = scripted_steps 0 Never ⊥ (inl refl) library library obedient
 
   pub scripted_fixed : (roles : Roles) → IsFixed (scripted_step library roles (run_step library))
   scripted_fixed roles =
-      fixed (scripted_step library roles _) (scripted_goes_on library obedient roles) (steady_scripts roles)
+      fixed (scripted_step library roles _) (scripted_goes_on library obedient roles) (steady_steps roles)
 
-  pub run_steady : IsSteady (run_step library)
-  run_steady = any_depth (run_step library) (run_goes_on library obedient) steady_steps
-
-  pub scripted_steady : (roles : Roles) → IsSteady (scripted_step library roles (run_step library))
+  scripted_steady : (roles : Roles) → IsSteady (scripted_step library roles (run_step library))
   scripted_steady roles =
-      any_depth (scripted_step library roles _) (scripted_goes_on library obedient roles) (steady_scripts roles)
+      any_depth (scripted_step library roles _) (scripted_goes_on library obedient roles) (steady_steps roles)
 
   pub has_fixed_point : HasFixedPoint library
-  has_fixed_point =
-      record { run = run_fixed; scripted = scripted_fixed; run_steady = run_steady; scripted_steady = scripted_steady }
+  has_fixed_point = record {
+    run = scripted_fixed idle;
+    scripted = scripted_fixed;
+    run_steady = scripted_steady idle;
+    scripted_steady = scripted_steady;
+  }

@@ -1,22 +1,22 @@
 -- What statements do is a tree, and under two arithmetics the trees are alike.
-use Rattle.sc_laws.proofs.Common.{Acts, Arith, Blocks, Bool, Break, CallTarget, Calls, Cause, Continue, Doing, Each}
-use Rattle.sc_laws.proofs.Common.{Err, Exit, FunctionsMatch, Here, Inside, LibrariesMatch, List, Local, Match, Meets}
-use Rattle.sc_laws.proofs.Common.{Never, Next, NoReturn, None, Obedient, Ok, Option, ProgramTree, Return, Some}
-use Rattle.sc_laws.proofs.Common.{TypedExpr, TypedFunction, TypedLocal, TypedSection, TypedSimple, TypedSimpleKind}
-use Rattle.sc_laws.proofs.Common.{TypedStmt, TypedStmtKind, TypedStmtKind-F, TypedStruct, Value, Want, Ways, [], all_do}
-use Rattle.sc_laws.proofs.Common.{assign, assign_call, at_brace, at_place, block_does, body_does, call, call_alone}
-use Rattle.sc_laws.proofs.Common.{choose, closed, evaluated, everywhere, false, function_of, functions_in, in_order}
-use Rattle.sc_laws.proofs.Common.{init_does, inits_do, kind_step, layer_of, leave, library_of, loop, map, on_line}
-use Rattle.sc_laws.proofs.Common.{part_does, refl, simple_does, slice_get, slice_index_or, stmt_at, stmt_does}
-use Rattle.sc_laws.proofs.Common.{stmt_induction, stmt_step, store_at, store_result, stored, subst, suc, sym, test}
-use Rattle.sc_laws.proofs.Common.{true, values, variable_at, ways, zero, ℕ, ◌∷◌, ◌≡◌}
+use Rattle.sc_laws.proofs.Common.{Acts, Arith, Blocks, Bool, Break, Calls, Cause, Continue, Doing, Each, Err, Exit}
+use Rattle.sc_laws.proofs.Common.{FunctionsMatch, Here, Inside, LibrariesMatch, List, Local, Match, Meets, Never, Next}
+use Rattle.sc_laws.proofs.Common.{NoReturn, None, Obedient, Ok, Option, ProgramTree, Return, Some, TypedExpr}
+use Rattle.sc_laws.proofs.Common.{TypedFunction, TypedLocal, TypedSection, TypedSimple, TypedSimpleKind, TypedStmt}
+use Rattle.sc_laws.proofs.Common.{TypedStmtKind, TypedStmtKind-F, TypedStruct, Value, Want, Ways, [], all_do, assign}
+use Rattle.sc_laws.proofs.Common.{at_brace, at_place, block_does, body_does, call, choose, closed, evaluated}
+use Rattle.sc_laws.proofs.Common.{everywhere, false, function_of, functions_in, in_order, init_does, inits_do}
+use Rattle.sc_laws.proofs.Common.{kind_step, layer_of, leave, library_of, loop, map, on_line, part_does, refl}
+use Rattle.sc_laws.proofs.Common.{simple_does, slice_get, slice_index_or, stmt_at, stmt_does, stmt_induction, stmt_step}
+use Rattle.sc_laws.proofs.Common.{store_at, store_result, stored, subst, suc, sym, test, true, variable_at, ways, zero}
+use Rattle.sc_laws.proofs.Common.{ℕ, ◌∷◌, ◌≡◌}
 use Rattle.sc_core.specs.declared.expr.TypedCall.{TypedCall}
 use Rattle.sc_core.specs.declared.stmt.TypedStmtKind.TheOpen as layer
 use Rattle.sc_core.specs.declared.stmt.TypedSimpleKind.TheVariants as simple
 use Rattle.sc_core.specs.declared.value.Want.TheVariants as want
 use Rattle.sc_laws.proofs.Interactions.{MatchWith, match_reached, match_then, match_computed, match_store, match_call}
-use Rattle.sc_laws.proofs.Interactions.{match_if, match_leave, match_follow, match_all, match_loop, match_then}
-use Rattle.sc_laws.proofs.Expressions.{Keeps, alike, ArithKeeps, ways_keep, values_keep, alike, ArithKeeps}
+use Rattle.sc_laws.proofs.Interactions.{match_if, match_leave, match_follow, match_all, match_loop}
+use Rattle.sc_laws.proofs.Expressions.{Keeps, alike, ArithKeeps, ways_keep, values_keep}
 
 module _ (Soft : Cause → Type 0) (here : Here) where
   -- statements, by what calls do
@@ -58,12 +58,6 @@ module _ (Soft : Cause → Type 0) (here : Here) where
   store_result_matches place place' h None line = leave_matches Next
   store_result_matches place place' h (Some v) line = store_at_matches place place' h v line
 
-  call_matches : (target : CallTarget) (args args' : List Ways) →
-      ((blocks : Blocks) → Keeps Soft (List Value) (values args blocks) (values args' blocks)) → (line : ℕ) →
-      Match Soft here (λ by. call here by target args line) (λ by. call here by target args' line)
-  call_matches target args args' h line = match_then Soft here _ _ (λ vs by. by _ target vs) (λ vs by. by _ target vs)
-      (match_computed Soft here line _ _ h) (λ vs. match_call Soft here target vs)
-
   module _ (ar br : Arith) (arith : ArithKeeps Soft ar br) (structs : List TypedStruct) (params : ℕ) where
     -- the same acts in both
     abbrev InBoth : (Arith → Calls → Acts) → Type 0
@@ -78,26 +72,19 @@ module _ (Soft : Cause → Type 0) (here : Here) where
 
     called_matches : (c : TypedCall) (line : ℕ) → Match Soft here (λ by. call here by c.target (args_by ar c) line)
         (λ by. call here by c.target (args_by br c) line)
-    called_matches c line = call_matches c.target (args_by ar c) (args_by br c)
-        (values_keep Soft ar br arith structs here params c.args) line
-
-    assign_call_matches : (place : TypedExpr) (c : TypedCall) (line : ℕ) →
-        InBoth (λ arith by. assign_call here by (ways arith structs here params place) c.target (args_by arith c) line)
-    assign_call_matches place c line a =
-        match_then Soft here _ _ (λ result by. store_result here (ways ar structs here params place) result line a)
-        (λ result by. store_result here (ways br structs here params place) result line a)
-        (called_matches c line) (λ result. store_result_matches _ _ (way_matches place) result line a)
-
-    call_alone_matches : (c : TypedCall) (line : ℕ) →
-        InBoth (λ arith by. call_alone here by c.target (args_by arith c) line)
-    call_alone_matches c line a = match_then Soft here _ _ (λ result by. leave Next a) (λ result by. leave Next a)
-        (called_matches c line) (λ result. leave_matches Next a)
+    called_matches c line = match_then Soft here _ _ (λ vs by. by _ c.target vs) (λ vs by. by _ c.target vs)
+        (match_computed Soft here line _ _ (values_keep Soft ar br arith structs here params c.args))
+        (λ vs. match_call Soft here c.target vs)
 
     simple_matches : (k : TypedSimpleKind) (line : ℕ) →
         InBoth (λ arith by. simple_does arith structs here params by k line)
-    simple_matches (simple.Assign place e) line = assign_matches _ _ _ _ (way_matches place) (way_matches e) line
-    simple_matches (simple.AssignCall place c) line = assign_call_matches place c line
-    simple_matches (simple.Call c) line = call_alone_matches c line
+    simple_matches (simple.Assign place e) line a = assign_matches _ _ _ _ (way_matches place) (way_matches e) line a
+    simple_matches (simple.AssignCall place c) line a =
+        match_then Soft here _ _ (λ result by. store_result here (ways ar structs here params place) result line a)
+        (λ result by. store_result here (ways br structs here params place) result line a)
+        (called_matches c line) (λ result. store_result_matches _ _ (way_matches place) result line a)
+    simple_matches (simple.Call c) line a = match_then Soft here _ _ (λ result by. leave Next a)
+        (λ result by. leave Next a) (called_matches c line) (λ result. leave_matches Next a)
 
     pub part_matches : (part : Option TypedSimple) →
         ActsMatch (λ by. part_does ar structs here params by part) (λ by. part_does br structs here params by part)
@@ -127,9 +114,9 @@ module _ (Soft : Cause → Type 0) (here : Here) where
     layer_matches : (line : ℕ) (k : TypedStmtKind-F TypedStmtKind TypedStmt) → Inside Both k →
         InBoth (λ arith. layered arith k line)
     layer_matches line layer.Empty h a = leave_matches Next a
-    layer_matches line (layer.Assign place e) h a = assign_matches _ _ _ _ (way_matches place) (way_matches e) line a
-    layer_matches line (layer.AssignCall place c) h a = assign_call_matches place c line a
-    layer_matches line (layer.Call c) h a = call_alone_matches c line a
+    layer_matches line (layer.Assign place e) h a = simple_matches (simple.Assign place e) line a
+    layer_matches line (layer.AssignCall place c) h a = simple_matches (simple.AssignCall place c) line a
+    layer_matches line (layer.Call c) h a = simple_matches (simple.Call c) line a
     layer_matches line (layer.If cond x y) h a = match_then Soft here _ _
         (λ v by s. choose v (block_does ar structs here params by x a s) (block_does ar structs here params by y a s))
         (λ v by s. choose v (block_does br structs here params by x a s) _)

@@ -1,9 +1,11 @@
 -- Two runs side by side: which relations of them the words of the meaning keep.
-use Rattle.sc_laws.proofs.Common.{Blamed, Blocks, CallTarget, Calls, Cause, Cross, Entry, Export, Function, Goes, Gone}
-use Rattle.sc_laws.proofs.Common.{Grown, Here, Input, Library, List, Meets, None, Option, Output, Own, Piece, Reached}
-use Rattle.sc_laws.proofs.Common.{Result, Some, State, Stopped, Value, and_then, ap, computed, function, imports}
-use Rattle.sc_laws.proofs.Common.{is_function, is_input, is_output, is_some, is_word, leads, length, list_all, may_call}
-use Rattle.sc_laws.proofs.Common.{refl, takes, turn, with_blocks, ℕ, ◌&&◌, ◌<◌, ◌==◌, ◌∙◌, ◌≡◌}
+use Rattle.sc_laws.proofs.Common.{Bool, true, false, if◌then◌else◌, Blamed, Blocks, CallTarget, Calls, Cause, Cross}
+use Rattle.sc_laws.proofs.Common.{Entry, Export, Function, Goes, Gone, Grown, Here, Input, Library, List, Meets, None}
+use Rattle.sc_laws.proofs.Common.{Option, Output, Own, Piece, Reached, Result, Some, State, Stopped, Value, and_then}
+use Rattle.sc_laws.proofs.Common.{ap, computed, function, imports, is_function, is_input, is_output, is_some, is_word}
+use Rattle.sc_laws.proofs.Common.{leads, length, list_all, may_call, refl, takes, turn, with_blocks, ℕ, ◌&&◌, ◌<◌, ◌==◌}
+use Rattle.sc_laws.proofs.Common.{◌∙◌, ◌≡◌}
+use Rattle.sc_laws.proofs.Growing.{then_goes}
 use Rattle.sc_laws.proofs.Expressions.{Keeps}
 
 -- A relation of two runs: which states are related, and which pieces are.
@@ -25,6 +27,21 @@ module _ (P : State → State → Type 0) (R : (V : Type 0) → Piece V → Piec
         ((v : Unit {0}) → Goes (l v)) → (s s' : State) → P s s'
         → ((t t' : State) → t.turns < s.turns → t'.turns < s'.turns → P t t' → R W (k tt t) (l tt t')) →
         R W (and_then (turn s) k) (and_then (turn s') l)
+
+  -- one doing after another, and what a test decides
+  pub then_twins : Kept → {V W : Type 0} (f g : State → Piece V) (k l : V → State → Piece W) → Twins V f g →
+      ((v : V) → Twins W (k v) (l v)) → Twins W (λ s. and_then (f s) k) (λ s. and_then (g s) l)
+  then_twins kept {V} {W} f g k l h x = record {
+    first = λ s. then_goes s (f s) k (h.first s) (λ v. (x v).first);
+    second = λ s. then_goes s (g s) l (h.second s) (λ v. (x v).second);
+    both = λ s s' p. kept.after V W s s' (f s) (g s') k l p (h.first s) (h.second s') (λ v. (x v).first)
+        (λ v. (x v).second) (h.both s s' p) (λ v t t' up up' q. (x v).both t t' q);
+  }
+
+  pub if_twins : {V : Type 0} (b : Bool) (f g f' g' : State → Piece V) → Twins V f g → Twins V f' g' →
+      Twins V (λ s. if b then f s else f' s) (λ s. if b then g s else g' s)
+  if_twins true f g f' g' h k = h
+  if_twins false f g f' g' h k = k
 
   module _ (Soft : Cause → Type 0) where
     -- what a relation must keep in the calls of a compartment: what is computed in its blocks, and that it stores

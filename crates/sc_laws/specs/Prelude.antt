@@ -19,5 +19,5 @@ pub use Rattle.sc_laws.specs.Rooms.{AllBefore, AllFrom, has_no_end, open_room, r
 pub use Rattle.sc_laws.specs.Runs.{library_run, performed_by, roles_run}
 pub use Rattle.sc_laws.specs.Steady.{AgreesInRoom, AgreesUntilBlame, ExtendedByMore, Extends, RunsUntilBlame, blamed}
 pub use Rattle.sc_laws.specs.Steady.{blamed_run, now, same, same_run}
-pub use Rattle.sc_laws.specs.Turns.{ExportsLead, IsSpent, SpendsAlong, SpendsTurns, StopsSpent, TurnsOutMeansTurns}
-pub use Rattle.sc_laws.specs.Turns.{main_call, scripted_call}
+pub use Rattle.sc_laws.specs.Turns.{ExportsLead, SpendsAlong, SpendsTurns, StopsSpent, TurnsOutMeansTurns, main_call}
+pub use Rattle.sc_laws.specs.Turns.{scripted_call}
