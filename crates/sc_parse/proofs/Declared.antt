@@ -1,20 +1,14 @@
 -- Declarations of variables and structs are read exactly as they are spelled.
-use Rattle.sc_parse.proofs.Common.{BaseTree, Declarator, Declares, IsMark, IsMember, Lexeme, List, MemberTree, None}
-use Rattle.sc_parse.proofs.Common.{Option, Reader, Separated, Some, SpellsDeclarator, TypeTree, [], adds, all_separated}
-use Rattle.sc_parse.proofs.Common.{ap, append_assoc, array, behind, behind_mark, bound, declaration_at, declarator}
-use Rattle.sc_parse.proofs.Common.{declarator_at, declares, first_line, glued, int, member_at, members_behind, more}
-use Rattle.sc_parse.proofs.Common.{one, plain, refl, subst, sym, type_of, ℕ, ◌++◌, ◌∙◌, ◌∷◌, ◌≡◌}
+use Rattle.sc_parse.proofs.Common.{BaseTree, Declarator, Declares, IsMark, IsMember, Lexeme, List, None, Reader}
+use Rattle.sc_parse.proofs.Common.{Separated, Some, SpellsBase, SpellsDeclarator, TypeTree, [], adds, all_separated, ap}
+use Rattle.sc_parse.proofs.Common.{append_assoc, array, base_at, before_mark, bound, declaration_at, declarator}
+use Rattle.sc_parse.proofs.Common.{declarator_at, declares, first_line, glued, member_at, members_behind, more, one}
+use Rattle.sc_parse.proofs.Common.{plain, refl, subst, sym, type_of, ℕ, ◌++◌, ◌>>=◌, ◌∙◌, ◌∷◌, ◌≡◌}
 use Rattle.sc_parse.proofs.Bases.{base_front, NoInt, NoBracket, base_exact, no_length, in_brackets, declarator_sound}
 use Rattle.sc_parse.proofs.Bases.{declarator_reads, stars_no_int}
-use Rattle.sc_parse.proofs.Exact.{same_pair, Taken, Added, Exact, ExactAdder, Any, took, separated_exact}
+use Rattle.sc_parse.proofs.Exact.{Adds, Any, Before, Complete, Exact, ExactAdder, Form, Hereditary, Property, Then}
+use Rattle.sc_parse.proofs.Exact.{adding, any, before, before_exact, both, commas_exact, fitting, then_exact, took}
 use Rattle.sc_expr.specs.declared.mark.Mark.TheVariants as mark
-
-abbrev pub Comma : List Lexeme → Option (List Lexeme)
-Comma = behind mark.Comma
-
-pub comma_ahead : (us vs : List Lexeme) → behind mark.Comma us ≡ Some vs →
-    (t : Lexeme) × (us ≡ t ∷ vs) × IsMark mark.Comma t
-comma_ahead us vs h = behind_mark _ us vs h
 
 -- a declarator of a type and a name is read as one that makes them of its base
 pub record Reads (base : BaseTree) (ts rest : List Lexeme) (ty : TypeTree) (name : List ℕ) : Type 0 where
@@ -56,84 +50,100 @@ separated_front P front (one {ts = ts} {x = x} d) rest = front ts rest x d
 separated_front P front (more {ts = ts} {us = us} {x = x} t p d g) rest =
     subst P (sym (append_assoc ts _ rest)) (front ts (t ∷ us ++ rest) x d)
 
-module _ {A : Type 0} (Fits : List Lexeme → Type 0) (fits_left : (ts us : List Lexeme) → Fits (ts ++ us) → Fits ts)
-    (fits_right : (ts us : List Lexeme) → Fits (ts ++ us) → Fits us)
-    (Item : BaseTree → ℕ → List Lexeme → A → Type 0) (Ends : List Lexeme → Type 0) (item : BaseTree → ℕ → Reader A)
+module _ {A : Type 0} {Fits : Property} (parts : Hereditary Fits) {Item : BaseTree → ℕ → Form A} {Ends : Property}
+    {item : BaseTree → ℕ → Reader A}
     (exact : (base : BaseTree) (line : ℕ) → Exact Fits (Item base line) Ends (item base line))
     (before_comma : (t : Lexeme) (rest : List Lexeme) → IsMark mark.Comma t → Ends (t ∷ rest))
     (before_semicolon : (t : Lexeme) (rest : List Lexeme) → IsMark mark.Semicolon t → Ends (t ∷ rest))
     (no_int : (base : BaseTree) (line : ℕ) (ts rest : List Lexeme) (x : A) → Item base line ts x →
     NoInt (ts ++ rest)) where
-  items_exact : (base : BaseTree) (line : ℕ) → ExactAdder Fits (Separated (Item base line))
-      (λ rest. Ends rest × (behind mark.Comma rest ≡ None)) (all_separated (adds (item base line)))
-  items_exact base line = separated_exact Fits fits_left fits_right _ comma_ahead
-      _ Ends _ (exact base line) before_comma (λ t us rest zs p d. rw p)
+  -- what a base at this line declares
+  abbrev ItemsOf : ℕ → List A → BaseTree → Form (List A)
+  ItemsOf line xs base = Before mark.Semicolon (λ x. x) (Adds (Separated (Item base line)) xs)
 
-  declaration_sound : (xs ys : List A) (ts rest : List Lexeme) → declaration_at (λ base line. adds (item base line))
-      xs ts ≡ Some (ys, rest) → Added (Declares Item) xs ts ys rest
+  items_no_int : (line : ℕ) (xs : List A) (base : BaseTree) (us : List Lexeme) (ys : List A) →
+      ItemsOf line xs base us ys → (rest : List Lexeme) → Any rest → NoInt (us ++ rest)
+  items_no_int line xs base _ _ (before {ts = ts} t p (adding g)) rest h =
+      subst NoInt (sym (append_assoc ts (t ∷ []) rest)) (separated_front NoInt (no_int base line) g (t ∷ rest))
+
+  lined_exact : (line : ℕ) (xs : List A) → Exact Fits (Then SpellsBase (ItemsOf line xs)) Any (λ ts.
+      base_at ts >>= (λ x. before_mark mark.Semicolon (all_separated (adds (item x.0 line)) xs) x.1))
+  lined_exact line xs = then_exact parts (fitting parts base_exact) (λ base.
+      before_exact parts mark.Semicolon (λ x. x) (commas_exact parts (exact base line) before_comma xs)
+      (λ t rest p. (before_semicolon t rest p, rw p))) (items_no_int line xs)
+
+  lined_is : {line : ℕ} {xs ys : List A} {ts : List Lexeme} (rest : List Lexeme) → line ≡ first_line (ts ++ rest) →
+      Then SpellsBase (ItemsOf line xs) ts ys → Adds (Declares Item) xs ts ys
+  lined_is rest e (both {ts = ts} {us = us} {x = base} b (before {ts = vs} t p (adding {zs = zs} g))) =
+      adding (declares t p b (subst (λ n. Separated (Item base n) vs zs)
+      (e ∙ ap first_line (append_assoc ts us rest) ∙ (base_front b).line (us ++ rest)) g))
+
+  pub declaration_exact : ExactAdder Fits (Declares Item) Any (declaration_at (λ base line. adds (item base line)))
   unfolding declaration_at
-  declaration_sound xs ys ts rest h =
+  declaration_exact xs = record {
+    sound = λ ts rest ys h.
+        let d = (lined_exact (first_line ts) xs).sound ts rest ys h in
+        record { taken = d.taken; split = d.split; spelled = lined_is rest (ap first_line d.split) d.spelled };
+    complete = complete;
+  }
+    where
+      complete : Complete Fits (Adds (Declares Item) xs) Any (declaration_at (λ base line. adds (item base line)) xs)
+      complete _ _ (adding (declares {ts = ts} {us = us} {base = base} {xs = zs} t p b g)) rest fits ends =
+          let line = ap first_line (append_assoc ts (us ++ t ∷ []) rest) ∙ (base_front b).line _ in
+          let items = adding (subst (λ n. Separated (Item base n) us zs) (sym line) g) in
+          (lined_exact _ xs).complete _ _ (both b (before t p items)) rest fits tt
+
+-- A declarator and a value behind it, which make a tree.
+pub data Valued {V T : Type 0} (Value : Form V) (tree : TypeTree → List ℕ → V → T) (base : BaseTree) :
+    List Lexeme → T → Type 0 where
+  valued : {ts us : List Lexeme} {ty : TypeTree} {name : List ℕ} {value : V} → SpellsDeclarator base ts ty name →
+      Value us value → Valued Value tree base (ts ++ us) (tree ty name value)
+
+pub valued_no_int : {V T : Type 0} {Value : Form V} {tree : TypeTree → List ℕ → V → T} {base : BaseTree}
+    {ts : List Lexeme} {x : T} → Valued Value tree base ts x → (rest : List Lexeme) → NoInt (ts ++ rest)
+valued_no_int (valued {ts = ts} {us = us} d v) rest = subst NoInt (sym (append_assoc ts us rest))
+    (declarator_no_int d (us ++ rest))
+
+pub valued_exact : {V T : Type 0} {Fits Ends : Property} {Value : Form V} {reader : Reader V} → Hereditary Fits →
+    (tree : TypeTree → List ℕ → V → T) → Exact Fits Value Ends reader →
+    ((ts : List Lexeme) (x : V) → Value ts x → (rest : List Lexeme) → NoBracket rest → NoBracket (ts ++ rest)) →
+    (base : BaseTree) → Exact Fits (Valued Value tree base) (λ rest. NoBracket rest × Ends rest) (λ ts.
+    declarator_at ts >>= (λ x. reader x.1 >>= (λ y. Some (tree (type_of base x.0) x.0.name y.0, y.1))))
+valued_exact {V} {T} {Fits} {Ends} {Value} {reader} parts tree exact no_bracket base = record {
+  sound = λ ts rest x h.
       let b = bound _ _ _ h in
       let c = bound _ _ _ b.2 in
-      let s = bound _ _ _ c.2 in
-      let same = same_pair s.2 in
-      let first = base_exact.sound ts b.0.1 b.0.0 b.1 in
-      let items = (items_exact b.0.0 _).sound xs c.0.0 b.0.1 c.0.1 c.1 in
-      let mark = behind_mark _ c.0.1 s.0 s.1 in
-      let line = ap first_line first.split ∙ (base_front first.spelled).line b.0.1 in
-      record {
-        taken = first.taken ++ (items.taken ++ mark.0 ∷ []);
-        added = items.added;
-        split = glued rest first.taken (items.taken ++ mark.0 ∷ []) first.split
-            (glued rest items.taken (mark.0 ∷ []) items.split (mark.1 ∙ ap (λ l. mark.0 ∷ l) same.1));
-        all = sym same.0 ∙ items.all;
-        spelled = declares mark.0 mark.2 first.spelled
-            (subst (λ n. Separated (Item b.0.0 n) items.taken items.added) line items.spelled);
-      }
+      let d = declarator_sound ts b.0.1 b.0.0 b.1 in
+      let v = exact.sound b.0.1 c.0.1 c.0.0 c.1 in
+      took (d.taken ++ v.taken) c.2 (glued c.0.1 d.taken v.taken d.split v.split) (valued (d.spelled base) v.spelled);
+  complete = complete;
+}
+  where
+    read : Reader T
+    read ts = declarator_at ts >>= (λ x. reader x.1 >>= (λ y. Some (tree (type_of base x.0) x.0.name y.0, y.1)))
 
-  declaration_reads : {ts : List Lexeme} {zs : List A} (d : Declares Item ts zs) (xs : List A) (rest : List Lexeme) →
-      Fits ts → declaration_at (λ base line. adds (item base line)) xs (ts ++ rest) ≡ Some (xs ++ zs, rest)
-  unfolding declaration_at
-  declaration_reads (declares {ts = ts} {us = us} {base = base} {xs = zs} t p d g) xs rest fits =
-      let tail = us ++ t ∷ rest in
-      let all : (ts ++ (us ++ t ∷ [])) ++ rest ≡ ts ++ (us ++ t ∷ rest) =
-      append_assoc ts (us ++ t ∷ []) rest ∙ ap (λ l. ts ++ l) (append_assoc us (t ∷ []) rest) in
-      let first = base_exact.complete ts (us ++ t ∷ rest) base d tt
-      (separated_front NoInt (no_int base (first_line ts)) g (t ∷ rest)) in
-      let no_comma : behind mark.Comma (t ∷ rest) ≡ None = rw p in
-      let items = (items_exact base (first_line ts)).complete xs zs us (t ∷ rest) g
-      (fits_left us (t ∷ []) (fits_right ts (us ++ t ∷ []) fits)) (before_semicolon t rest p, no_comma) in
-      let semicolon : behind mark.Semicolon (t ∷ rest) ≡ Some rest = rw p in
-      ap (λ l. declaration_at (λ base line. adds (item base line)) xs l) all
-      ∙ rw (first, (base_front d).line (us ++ t ∷ rest), items, semicolon)
+    complete : Complete Fits (Valued Value tree base) (λ rest. NoBracket rest × Ends rest) read
+    complete _ _ (valued {ts = ts} {us = us} d v) rest fits ends =
+        let r = declarator_complete d (us ++ rest) (no_bracket us _ v rest ends.0) in
+        ap read (append_assoc ts us rest) ∙
+        rw (r.is, exact.complete us _ v rest (parts.right ts us fits) ends.1, r.ty_is, r.name_is)
 
-  pub declaration_exact : ExactAdder Fits (Declares Item) (λ rest. Unit {0})
-      (declaration_at (λ base line. adds (item base line)))
-  declaration_exact = record {
-    sound = declaration_sound;
-    complete = λ xs zs ts rest d fits h. declaration_reads d xs rest fits;
-  }
-
-member_sound : (base : BaseTree) (line : ℕ) (ts rest : List Lexeme) (x : MemberTree) →
-    member_at base ts ≡ Some (x, rest) → Taken (IsMember base line) ts x rest
+member_complete : (base : BaseTree) (line : ℕ) → Complete Any (IsMember base line) NoBracket (member_at base)
 unfolding member_at
-member_sound base line ts rest x h =
-    let b = bound _ _ _ h in
-    let d = declarator_sound ts b.0.1 b.0.0 b.1 in
-    took d.taken b.2 d.split (d.spelled base)
-
-member_complete : (base : BaseTree) (ts rest : List Lexeme) (x : MemberTree) → SpellsDeclarator base ts x.ty x.name →
-    NoBracket rest → member_at base (ts ++ rest) ≡ Some (x, rest)
-unfolding member_at
-member_complete base ts rest x d h = let r = declarator_complete d rest h in rw (r.is, r.ty_is, r.name_is)
+member_complete base line ts x d rest fits h =
+    let r = declarator_complete d rest h in rw (r.is, r.ty_is, r.name_is)
 
 member_exact : (base : BaseTree) (line : ℕ) → Exact Any (IsMember base line) NoBracket (member_at base)
+unfolding member_at
 member_exact base line = record {
-  sound = member_sound base line;
-  complete = λ ts rest x d fits h. member_complete base ts rest x d h;
+  sound = λ ts rest x h.
+      let b = bound _ _ _ h in
+      let d = declarator_sound ts b.0.1 b.0.0 b.1 in
+      took d.taken b.2 d.split (d.spelled base);
+  complete = member_complete base line;
 }
 
 -- a declaration of members
-pub member_line_exact : ExactAdder Any (Declares IsMember) (λ rest. Unit {0}) (declaration_at members_behind)
-member_line_exact = declaration_exact Any _ _ IsMember NoBracket _ member_exact (λ t rest p. rw p) (λ t rest p. rw p)
+pub member_line_exact : ExactAdder Any (Declares IsMember) Any (declaration_at members_behind)
+member_line_exact = declaration_exact any member_exact (λ t rest p. rw p) (λ t rest p. rw p)
     (λ base line ts rest x d. declarator_no_int d rest)

@@ -1,22 +1,21 @@
 -- Statements are read exactly as they are spelled.
 use Rattle.sc_parse.proofs.Common.{IsKeyword, IsMark, Keyword, Lexeme, List, Option, Some, SpellsIf, SpellsStmtKind}
-use Rattle.sc_parse.proofs.Common.{StmtKind, StmtTree, [], alone, ap, append_assoc, arith, begins_with, behind}
-use Rattle.sc_parse.proofs.Common.{break_height, call_at, choice, continue_height, drop, empty, empty_height, ended_at}
-use Rattle.sc_parse.proofs.Common.{expr_at, false, false≢true, first_line, for_loop, is_base, is_else, is_if}
-use Rattle.sc_parse.proofs.Common.{keyword_at, kind_height, kind_of, length, length-append, no_base, not, otherwise}
-use Rattle.sc_parse.proofs.Common.{otherwise_if, plain_at, plain_height, refl, return_call, return_call_height}
-use Rattle.sc_parse.proofs.Common.{return_height, return_nothing, return_value, returned, simple_at, simple_or_none}
-use Rattle.sc_parse.proofs.Common.{stmt_tree, sym, true, value_height, value_returned, while_loop, ℕ, ◌++◌, ◌<◌, ◌∙◌}
-use Rattle.sc_parse.proofs.Common.{◌∷◌, ◌≡◌, ◌≤◌}
+use Rattle.sc_parse.proofs.Common.{StmtKind, StmtTree, [], alone, ap, append_assoc, arith, begins_with, behind_mark}
+use Rattle.sc_parse.proofs.Common.{bound, break_height, choice, continue_height, drop, empty, empty_height, ended_at}
+use Rattle.sc_parse.proofs.Common.{false, false≢true, first_line, for_loop, glued, is_base, is_else, is_if, keyword_at}
+use Rattle.sc_parse.proofs.Common.{kind_height, kind_of, length, length-append, no_base, not, otherwise, otherwise_if}
+use Rattle.sc_parse.proofs.Common.{plain_at, plain_height, refl, return_call, return_call_height, return_height}
+use Rattle.sc_parse.proofs.Common.{return_nothing, return_value, returned, simple_or_none, stmt_tree, sym, true}
+use Rattle.sc_parse.proofs.Common.{value_height, value_returned, while_loop, ℕ, ◌++◌, ◌<◌, ◌∙◌, ◌∷◌, ◌≡◌}
 use Rattle.sc_parse.specs.Statements.{plain}
-use Rattle.sc_parse.proofs.Exact.{chosen, made, ended, Taken, took}
+use Rattle.sc_parse.proofs.Exact.{Form, Low, Sound, Taken, as_form, chosen, front_taken, made_exact, made_of, took}
+use Rattle.sc_parse.proofs.Exact.{word_ahead}
 use Rattle.sc_parse.proofs.Expressions.{expr_exact, call_exact}
 use Rattle.sc_parse.proofs.Simples.{simple_exact}
 use Rattle.sc_ast.specs.declared.stmt.StmtKind.TheVariants as stmt
 use Rattle.sc_expr.specs.declared.mark.Keyword.TheVariants as word
 use Rattle.sc_expr.specs.declared.mark.Mark.TheVariants as mark
 use Rattle.sc_parse.specs.Statements as statements
-use Rattle.sc_parse.proofs.Bases.{word_ahead}
 use Rattle.sc_parse.proofs.Parts.{kind_no_word, kind_no_mark}
 
 abbrev pub NoElse : List Lexeme → Type 0
@@ -28,7 +27,7 @@ pub record Starts (ts : List Lexeme) (k : StmtKind) : Type 0 where
   pub no_end : (rest : List Lexeme) → begins_with mark.CloseCurly (ts ++ rest) ≡ false
   pub no_else : (rest : List Lexeme) → NoElse (ts ++ rest)
   pub no_base : (rest : List Lexeme) → no_base (ts ++ rest) ≡ true
-  pub an_if : is_if (keyword_at ts) ≡ true → SpellsIf ts k
+  pub an_if : (rest : List Lexeme) → is_if (keyword_at (ts ++ rest)) ≡ true → SpellsIf ts k
 
 -- an `if` begins with its word, and no other statement with that
 word_starts : (t : Lexeme) (ts : List Lexeme) (k : StmtKind) (w : Keyword) → IsKeyword w t → is_else (Some w) ≡ false →
@@ -38,7 +37,7 @@ word_starts t ts k w p q r an_if = record {
   no_end = λ rest. rw p;
   no_else = λ rest. rw (p, q);
   no_base = λ rest. rw (p, r);
-  an_if = λ h. an_if (rw p at h);
+  an_if = λ rest h. an_if (rw p at h);
 }
 
 if_starts : {ts : List Lexeme} {k : StmtKind} (d : SpellsIf ts k) → Starts ts k
@@ -52,7 +51,7 @@ kind_starts (empty t p) = record {
   no_end = λ rest. rw p;
   no_else = λ rest. rw p;
   no_base = λ rest. rw p;
-  an_if = λ h. absurd (false≢true (rw p at h));
+  an_if = λ rest h. absurd (false≢true (rw p at h));
 }
 kind_starts (plain {ts = ts} t p d) = record {
   some = omega (arith, length-append ts (t ∷ []));
@@ -61,7 +60,8 @@ kind_starts (plain {ts = ts} t p d) = record {
   no_else = λ rest. ap (λ l. is_else (keyword_at l)) (append_assoc ts (t ∷ []) rest) ∙
       ap is_else (kind_no_word d (t ∷ rest));
   no_base = λ rest. ap no_base (append_assoc ts _ rest) ∙ ap (λ o. not (is_base o)) (kind_no_word d (t ∷ rest));
-  an_if = λ h. absurd (false≢true (sym (ap is_if (kind_no_word d _)) ∙ h));
+  an_if = λ rest h. absurd (false≢true (sym (ap (λ l. is_if (keyword_at l)) (append_assoc ts (t ∷ []) rest) ∙
+      ap is_if (kind_no_word d (t ∷ rest))) ∙ h));
 }
 kind_starts (statements.break t u p q) = word_starts t _ _ _ p refl refl (λ h. absurd (false≢true h))
 kind_starts (statements.continue t u p q) = word_starts t _ _ _ p refl refl (λ h. absurd (false≢true h))
@@ -73,9 +73,8 @@ kind_starts (while_loop t p c b) = word_starts t _ _ _ p refl refl (λ h. absurd
 kind_starts (for_loop t u v w x p q r s k f c n b) = word_starts t _ _ _ p refl refl (λ h. absurd (false≢true h))
 
 -- a kind of statement whose parts are at most so high
-pub record IsKind (room : ℕ) (ts : List Lexeme) (k : StmtKind) : Type 0 where
-  pub spelled : SpellsStmtKind ts k
-  pub low : kind_height k ≤ room
+abbrev pub IsKind : ℕ → Form StmtKind
+IsKind room = Low SpellsStmtKind kind_height room
 
 -- a statement that is at most so high
 pub data IsStmt (room : ℕ) : List Lexeme → StmtTree → Type 0 where
@@ -86,8 +85,12 @@ pub stmt_starts : {room : ℕ} {ts : List Lexeme} {x : StmtTree} (d : IsStmt roo
 stmt_starts (a_stmt d h) = kind_starts d
 
 -- what is a statement with a `;` behind it
-abbrev Unended : ℕ → List Lexeme → StmtKind → Type 0
+abbrev Unended : ℕ → Form StmtKind
 Unended room ts k = (u : Lexeme) → IsMark mark.Semicolon u → IsKind room (ts ++ u ∷ []) k
+
+-- what stands behind `return`
+abbrev Returned : ℕ → Form StmtKind
+Returned room us k = (t : Lexeme) → IsKeyword word.Return t → Unended room (t ∷ us) k
 
 word_sound : (ts : List Lexeme) (word : Keyword) (rest : List Lexeme) (k x : StmtKind) (room : ℕ) →
     keyword_at ts ≡ Some word → ((t : Lexeme) → IsKeyword word t → Unended room (t ∷ []) k) →
@@ -95,59 +98,46 @@ word_sound : (ts : List Lexeme) (word : Keyword) (rest : List Lexeme) (k x : Stm
 word_sound ts word rest k x room q make h = let t = word_ahead ts word q in
     took (t.first ∷ []) h t.is (make t.first t.keyword)
 
--- what stands behind `return`
-abbrev Returned : ℕ → List Lexeme → StmtKind → Type 0
-Returned room us k = (t : Lexeme) → IsKeyword word.Return t → Unended room (t ∷ us) k
-
-returned_sound : (free : ℕ) → (room : ℕ) (ts rest : List Lexeme) (x : StmtKind) → keyword_at ts ≡ Some word.Return →
+returned_sound : (free room : ℕ) (ts rest : List Lexeme) (x : StmtKind) → keyword_at ts ≡ Some word.Return →
     returned free room (drop 1 ts) ≡ Some (x, rest) → Taken (Unended room) ts x rest
 unfolding returned
 returned_sound free room ts rest x q h = chosen _ _ (value_returned free room (drop 1 ts)) h
     (λ n e. word_sound ts word.Return rest stmt.Return x room q
-    (λ t p u r. record { spelled = return_nothing t u p r; low = omega (arith, return_height) }) e) (λ n e.
+    (λ t p u r. (return_nothing t u p r, omega (arith, return_height))) e) (λ n e.
     let t = word_ahead ts word.Return q in
     let d : Taken (Returned room) (drop 1 ts) x rest = chosen _ _ _ e
-    (λ n e. made (λ c. stmt.ReturnCall c) (call_at free room) (call_exact free room).sound
-    (λ ts c d t p u r. let height = return_call_height c in
-    record { spelled = return_call t u p r d.spelled; low = omega (arith, height, d.low) }) e)
-    (λ n e. made (λ v. stmt.ReturnValue v) (expr_at free room) (expr_exact free room).sound
-    (λ ts v d t p u r. record { spelled = return_value t u p r d.spelled; low = omega (arith, value_height v, d.low) })
-    e) in
-    record {
-      taken = t.first ∷ d.taken;
-      split = t.is ∙ ap (λ l. t.first ∷ l) d.split;
-      spelled = d.spelled t.first t.keyword;
-    })
+    (λ n e. as_form (made_of (Returned room) (λ us c d t p u r.
+    (return_call t u p r d.0, omega (arith, return_call_height c, d.1))))
+    ((made_exact (λ c. stmt.ReturnCall c) (call_exact free room)).sound (drop 1 ts) rest x e))
+    (λ n e. as_form (made_of (Returned room) (λ us v d t p u r.
+    (return_value t u p r d.0, omega (arith, value_height v, d.1))))
+    ((made_exact (λ v. stmt.ReturnValue v) (expr_exact free room)).sound (drop 1 ts) rest x e)) in
+    front_taken t.first t.is d (λ us d. d t.first t.keyword))
 
-simple_sound : (free : ℕ) → (room : ℕ) (ts rest : List Lexeme) (x : StmtKind) →
-    simple_or_none free room ts ≡ Some (x, rest) → Taken (Unended room) ts x rest
+simple_sound : (free room : ℕ) → Sound (Unended room) (simple_or_none free room)
 simple_sound free room ts rest x h = chosen _ _ _ h
-    (λ q e. took [] e refl (λ u p. record { spelled = empty u p; low = omega (arith, empty_height) }))
-    (λ q e. made (λ k. kind_of k) (simple_at free room) (simple_exact free room).sound
-    (λ ts k d u p. record { spelled = plain u p d.spelled; low = omega (arith, plain_height k, d.low) }) e)
+    (λ q e. took [] e refl (λ u p. (empty u p, omega (arith, empty_height))))
+    (λ q e. as_form (made_of (Unended room) (λ us k d u p. (plain u p d.0, omega (arith, plain_height k, d.1))))
+    ((made_exact (λ k. kind_of k) (simple_exact free room)).sound ts rest x e))
 
-unended_sound : (free : ℕ) → (room : ℕ) (ts rest : List Lexeme) (x : StmtKind) →
-    plain_at free room (keyword_at ts) ts ≡ Some (x, rest) → Taken (Unended room) ts x rest
+unended_sound : (free room : ℕ) → Sound (Unended room) (λ ts. plain_at free room (keyword_at ts) ts)
 unfolding plain_at
 unended_sound free room ts rest x h = go (keyword_at ts) refl h
   where
     go : (o : Option Keyword) → keyword_at ts ≡ o → plain_at free room o ts ≡ Some (x, rest) →
         Taken (Unended room) ts x rest
     go (Some word.Break) q e = word_sound ts word.Break rest stmt.Break x room q
-        (λ t p u r. record { spelled = statements.break t u p r; low = omega (arith, break_height) }) e
+        (λ t p u r. (statements.break t u p r, omega (arith, break_height))) e
     go (Some word.Continue) q e = word_sound ts word.Continue rest stmt.Continue x room q
-        (λ t p u r. record { spelled = statements.continue t u p r; low = omega (arith, continue_height) }) e
+        (λ t p u r. (statements.continue t u p r, omega (arith, continue_height))) e
     go (Some word.Return) q e = returned_sound free room ts rest x q e
     go _ q e = simple_sound free room ts rest x e
 
-pub ended_sound : (free : ℕ) → (room : ℕ) (ts rest : List Lexeme) (x : StmtKind) →
-    ended_at free room ts ≡ Some (x, rest) → Taken (IsKind room) ts x rest
+pub ended_sound : (free room : ℕ) → Sound (IsKind room) (ended_at free room)
 unfolding ended_at
 ended_sound free room ts rest x h =
-    let b = ended mark.Semicolon (Unended room) (λ ts. plain_at free room (keyword_at ts) ts) (unended_sound free room)
-    ts (x, rest) h in
-    record {
-      taken = b.taken ++ b.ends ∷ [];
-      split = b.split ∙ sym (append_assoc b.taken (b.ends ∷ []) rest);
-      spelled = b.spelled b.ends b.mark;
-    }
+    let b = bound _ _ _ h in
+    let c = bound _ _ _ b.2 in
+    let d = unended_sound free room ts b.0.1 b.0.0 b.1 in
+    let u = behind_mark mark.Semicolon b.0.1 c.0 c.1 in
+    took (d.taken ++ u.0 ∷ []) c.2 (glued c.0 d.taken (u.0 ∷ []) d.split u.1) (d.spelled u.0 u.2)

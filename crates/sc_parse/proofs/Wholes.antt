@@ -3,43 +3,36 @@ use Rattle.sc_parse.proofs.Common.{BaseTree, Decl, Declares, FunctionHead, Funct
 use Rattle.sc_parse.proofs.Common.{Lexeme, List, Option, Reader, Separated, Some, SpellsDecl, SpellsHead, []}
 use Rattle.sc_parse.proofs.Common.{a_function, a_struct, adds, ap, arith, begins_struct, behind_head, behind_mark}
 use Rattle.sc_parse.proofs.Common.{body_behind, bound, cond, decl_at, declares, decls_height, drop, false, false≢true}
-use Rattle.sc_parse.proofs.Common.{function, function_behind, globals, glued, head_at, head_of, headed_at}
+use Rattle.sc_parse.proofs.Common.{function, function_behind, global, globals, glued, head_at, head_of, headed_at}
 use Rattle.sc_parse.proofs.Common.{is_struct_word, keyword_at, map, more, named_head, names_struct, prototype, refl}
-use Rattle.sc_parse.proofs.Common.{struct_decl_at, subst, sym, true, ℕ, ◌++◌, ◌>>=◌, ◌∙◌, ◌∷◌, ◌≡◌, ◌≤◌}
+use Rattle.sc_parse.proofs.Common.{struct_decl_at, subst, sym, true, ℕ, ◌++◌, ◌>>=◌, ◌∷◌, ◌≡◌}
 use Rattle.sc_ast.specs.declared.section.Decl.TheVariants as decl
 use Rattle.sc_expr.specs.declared.mark.Keyword.TheVariants as word
 use Rattle.sc_expr.specs.declared.mark.Mark.TheVariants as mark
 use Rattle.sc_parse.specs.Lists as lists
-use Rattle.sc_parse.proofs.Exact.{Taken, Added, took, given, chosen, same_pair}
+use Rattle.sc_parse.proofs.Exact.{Adds, Form, Low, Sound, Taken, Turns, adding, as_form, chosen, given, took}
+use Rattle.sc_parse.proofs.Declared.{valued}
 use Rattle.sc_parse.proofs.Structures.{struct_sound}
-use Rattle.sc_parse.proofs.Initialisers.{IsGlobalDecl, a_global, globals_exact}
+use Rattle.sc_parse.proofs.Initialisers.{IsGlobalDecl, globals_exact}
 use Rattle.sc_parse.proofs.Prototypes.{head_exact}
 use Rattle.sc_parse.proofs.Bodies.{IsBody, a_body, body_sound, named_sound}
 
 -- declarations whose trees are at most so high
-pub record IsDecls (limit : ℕ) (ts : List Lexeme) (ds : List Decl) : Type 0 where
-  pub spelled : SpellsDecl ts ds
-  pub low : decls_height ds ≤ limit
+abbrev pub IsDecls : ℕ → Form (List Decl)
+IsDecls limit = Low SpellsDecl decls_height limit
 
 -- one declaration that adds one entry
-abbrev IsOne : (limit : ℕ) → List Lexeme → Decl → Type 0
+abbrev IsOne : ℕ → Form Decl
 IsOne limit ts d = IsDecls limit ts (d ∷ [])
 
-one_added : (limit : ℕ) → (reader : Reader Decl) (xs ys : List Decl) (ts rest : List Lexeme) →
+one_added : (limit : ℕ) (reader : Reader Decl) (xs ys : List Decl) (ts rest : List Lexeme) →
     ((x : Decl) (rest : List Lexeme) → reader ts ≡ Some (x, rest) → Taken (IsOne limit) ts x rest) →
-    adds reader xs ts ≡ Some (ys, rest) → Added (IsDecls limit) xs ts ys rest
+    adds reader xs ts ≡ Some (ys, rest) → Taken (Adds (IsDecls limit) xs) ts ys rest
 unfolding adds
 one_added limit reader xs ys ts rest sound h =
     let b = bound _ _ _ h in
     let t = sound b.0.0 b.0.1 b.1 in
-    let same = same_pair b.2 in
-    record {
-      taken = t.taken;
-      added = b.0.0 ∷ [];
-      split = t.split ∙ ap (λ l. t.taken ++ l) same.1;
-      all = sym same.0;
-      spelled = t.spelled;
-    }
+    took t.taken b.2 t.split (adding t.spelled)
 
 struct_word : (ts : List Lexeme) → begins_struct ts ≡ true → keyword_at ts ≡ Some word.Struct
 struct_word ts h = go _ refl h
@@ -49,21 +42,19 @@ struct_word ts h = go _ refl h
     go (Some word.Struct) q e = q
     go _ q e = absurd (false≢true e)
 
-struct_one : (limit : ℕ) → (ts rest : List Lexeme) (x : Decl) → keyword_at ts ≡ Some word.Struct →
+struct_one : (limit : ℕ) (ts rest : List Lexeme) (x : Decl) → keyword_at ts ≡ Some word.Struct →
     struct_decl_at ts ≡ Some (x, rest) → Taken (IsOne limit) ts x rest
 unfolding struct_decl_at
 struct_one limit ts rest x q h =
     let b = bound _ _ _ h in
     let t = struct_sound ts b.0.1 b.0.0 q b.1 in
-    took t.taken b.2 t.split (record { spelled = a_struct t.spelled; low = omega arith })
+    took t.taken b.2 t.split (a_struct t.spelled, omega arith)
 
 function_made : (limit : ℕ) → {ts us : List Lexeme} {head : FunctionHead} {x : FunctionTree}
     (d : SpellsHead ts (head_of head)) (b : IsBody limit head us x) → IsOne limit (ts ++ us) (decl.Function x)
-function_made limit d (a_body t u p q g s low less) =
-    record { spelled = a_function (function t u p q d g s); low = omega arith }
+function_made limit d (a_body t u p q g s) = (a_function (function t u p q d g.0 s.0), omega (arith, g.1, s.1))
 
-headed_one : (free limit : ℕ) → (ts rest : List Lexeme) (x : Decl) → headed_at free limit ts ≡ Some (x, rest) →
-    Taken (IsOne limit) ts x rest
+headed_one : (free limit : ℕ) → Sound (IsOne limit) (headed_at free limit)
 unfolding headed_at function_behind
 headed_one free limit ts rest x h =
     let b = bound (λ x. behind_head free limit x.0 x.1) (head_at ts) (x, rest) h in
@@ -78,7 +69,7 @@ headed_one free limit ts rest x h =
     (λ vs q e.
     let t = behind_mark mark.Semicolon b.0.1 vs q in
     took (d.taken ++ t.0 ∷ []) e (glued vs d.taken (t.0 ∷ []) d.split t.1)
-    (record { spelled = prototype t.0 t.2 d.spelled; low = omega arith }))
+    (prototype t.0 t.2 d.spelled, omega arith))
 
 -- globals as trees
 record AreGlobals (base : BaseTree) (line : ℕ) (ts : List Lexeme) (ds : List Decl) : Type 0 where
@@ -86,44 +77,33 @@ record AreGlobals (base : BaseTree) (line : ℕ) (ts : List Lexeme) (ds : List D
   is : ds ≡ map (λ tree. decl.Global tree) trees
   spelled : Separated (IsGlobal base line) ts trees
 
-first_global : {base : BaseTree} {line : ℕ} {ts : List Lexeme} {x : Decl} (d : IsGlobalDecl base line ts x) →
-    (tree : GlobalTree) × (x ≡ decl.Global tree) × IsGlobal base line ts tree
-first_global (a_global {tree = tree} g) = (tree, refl, g)
-
 as_globals : {base : BaseTree} {line : ℕ} {ts : List Lexeme} {ds : List Decl}
     (d : Separated (IsGlobalDecl base line) ts ds) → AreGlobals base line ts ds
-as_globals (lists.one d) = let g = first_global d in record {
-  trees = g.0 ∷ [];
-  is = ap (λ x. x ∷ []) g.1;
-  spelled = lists.one g.2;
-}
-as_globals (more {xs = xs} t p d s) =
-    let g = first_global d in
+as_globals (lists.one (valued d v)) = record { trees = _ ∷ []; is = refl; spelled = lists.one (global d v) }
+as_globals {line = line} (more t p (valued {ty = ty} {name = name} {value = value} d v) s) =
     let others = as_globals s in
+    let tree : GlobalTree = record { ty = ty; name = name; init = value; line = line } in
     record {
-      trees = g.0 ∷ others.trees;
-      is = ap (λ x. x ∷ xs) g.1 ∙ ap (λ l. decl.Global g.0 ∷ l) others.is;
-      spelled = more t p g.2 others.spelled;
+      trees = tree ∷ others.trees;
+      is = ap (λ l. decl.Global tree ∷ l) others.is;
+      spelled = more t p (global d v) others.spelled;
     }
 
 globals_low : (trees : List GlobalTree) → decls_height (map (λ tree. decl.Global tree) trees) ≡ 0
 globals_low [] = refl
 globals_low (tree ∷ trees) = omega (arith, globals_low trees)
 
-globals_made : (limit : ℕ) → {ts : List Lexeme} {ds : List Decl} (d : Declares IsGlobalDecl ts ds) → IsDecls limit ts ds
-globals_made limit (declares {ts = ts} {us = us} t p b d) =
+globals_made : {limit : ℕ} {xs : List Decl} → Turns (Adds (Declares IsGlobalDecl) xs) (Adds (IsDecls limit) xs)
+globals_made {limit} _ _ (adding (declares {ts = ts} {us = us} t p b d)) =
     let g = as_globals d in
-    subst (λ l. IsDecls limit (ts ++ (us ++ t ∷ [])) l) (sym g.is)
-    (record { spelled = globals (declares t p b g.spelled); low = omega (arith, globals_low g.trees) })
+    adding (subst (λ l. IsDecls limit (ts ++ (us ++ t ∷ [])) l) (sym g.is)
+    (globals (declares t p b g.spelled), omega (arith, globals_low g.trees)))
 
 -- what is read as a declaration is spelled so, and within the limit of height
-pub decl_sound : (free limit : ℕ) → (xs ys : List Decl) (ts rest : List Lexeme) →
-    decl_at free limit xs ts ≡ Some (ys, rest) → Added (IsDecls limit) xs ts ys rest
+pub decl_sound : (free limit : ℕ) (xs : List Decl) → Sound (Adds (IsDecls limit) xs) (decl_at free limit xs)
 unfolding decl_at
-decl_sound free limit xs ys ts rest h = chosen _ (adds struct_decl_at xs ts) _ h
+decl_sound free limit xs ts rest ys h = chosen _ (adds struct_decl_at xs ts) _ h
     (λ q e. one_added limit struct_decl_at xs ys ts rest (λ x rest h. struct_one limit ts rest x (struct_word ts q) h)
     e) (λ q e. chosen _ _ _ e
     (λ q e. one_added limit (headed_at free limit) xs ys ts rest (λ x rest h. headed_one free limit ts rest x h) e)
-    (λ q e.
-    let d = globals_exact.sound xs ys ts rest e in
-    record { taken = d.taken; added = d.added; split = d.split; all = d.all; spelled = globals_made limit d.spelled }))
+    (λ q e. as_form globals_made ((globals_exact xs).sound ts rest ys e)))
