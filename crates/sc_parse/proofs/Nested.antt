@@ -26,8 +26,8 @@ use Rattle.sc_parse.proofs.Expressions.{Few, call_begins, call_exact, call_start
 use Rattle.sc_parse.proofs.Expressions.{no_call, no_mark}
 use Rattle.sc_parse.proofs.Simples.{simple_exact}
 use Rattle.sc_parse.proofs.Parts.{IsCondition, IsPart, IsTest, condition_exact, first_line_some, kind_no_mark}
-use Rattle.sc_parse.proofs.Parts.{kind_no_word, part_exact, test_exact}
-use Rattle.sc_parse.proofs.Ended.{IsKind, IsStmt, NoElse, Starts, a_stmt, ended_sound, kind_starts, stmt_starts}
+use Rattle.sc_parse.proofs.Parts.{kind_no_word, part_exact, test_exact, IsKind, IsStmt, NoElse, Starts, a_stmt}
+use Rattle.sc_parse.proofs.Parts.{ended_sound, kind_starts, stmt_starts}
 
 -- behind a `}` no `else` stands at the front
 end_no_else : (rest : List Lexeme) → begins_with mark.CloseCurly rest ≡ true → NoElse rest

@@ -11,9 +11,7 @@ use Rattle.sc_parse.proofs.Exact.{Adds, Form, Low, Turns, adding, fits_behind, f
 use Rattle.sc_parse.proofs.Exact.{groups_joined, same_pair}
 use Rattle.sc_ast.specs.Prelude.{decl_height}
 use Rattle.sc_parse.proofs.Expressions.{Few, few}
-use Rattle.sc_parse.proofs.Beginnings.{NoLine}
-use Rattle.sc_parse.proofs.Wholes.{IsDecls}
-use Rattle.sc_parse.proofs.Decls.{all_exact, decl_exact, decl_no_line}
+use Rattle.sc_parse.proofs.Beginnings.{NoLine, IsDecls, all_exact, decl_exact, decl_no_line}
 use Rattle.sc_parse.proofs.Directing.{lines_sound, lines_complete}
 
 -- a compartment line at the front
