@@ -25,7 +25,7 @@ pub use Rattle.sc_ast.specs.declared.section.FunctionParam.{FunctionParam}
 pub use Rattle.sc_ast.specs.declared.section.GlobalTree.{GlobalTree}
 pub use Rattle.sc_expr.proofs.Ahead.{behind_mark, name_ahead}
 pub use Rattle.sc_expr.proofs.Balance.{open_along, open_low}
-pub use Rattle.sc_expr.proofs.Options.{bound, cond_is, glued, same_some}
+pub use Rattle.sc_expr.proofs.Ahead.{bound, cond_is, glued, same_some}
 pub use Rattle.sc_expr.proofs.Sound.{read_sound}
 pub use Rattle.sc_expr.specs.Prelude.{IsIdent, IsMark, Spells, arrow, behind, binary_of, extension_at, found, ident_in}
 pub use Rattle.sc_expr.specs.Prelude.{import_of, index, is_mark, joined, lead_by, lexeme_of, literal, look_up, looser}
