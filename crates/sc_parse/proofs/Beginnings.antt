@@ -1,17 +1,16 @@
 -- What declarations begin with, and that those of a section are read exactly as they are spelled.
 use Rattle.sc_parse.proofs.Common.{BaseTree, Decl, Declares, FunctionHead, FunctionTree, GlobalTree, Grouped, HeadTree}
 use Rattle.sc_parse.proofs.Common.{InitTree, IsGlobal, IsMark, Keyword, Lexeme, List, None, Option, Reader, Separated}
-use Rattle.sc_parse.proofs.Common.{Some, SpellsBase, SpellsDecl, SpellsDeclarator, SpellsFunction, SpellsHead}
-use Rattle.sc_parse.proofs.Common.{SpellsInit, SpellsResult, SpellsStars, SpellsStruct, StructTree, TypeName, TypeTree}
-use Rattle.sc_parse.proofs.Common.{[], a_function, a_result, a_struct, absent, adds, ap, append_assoc, arith, array}
-use Rattle.sc_parse.proofs.Common.{begins_call, begins_head, begins_struct, begins_with, behind, behind_head}
-use Rattle.sc_parse.proofs.Common.{behind_mark, body_behind, bound, cond, decl_at, declares, decls_height, drop, false}
-use Rattle.sc_parse.proofs.Common.{false≢true, function, function_behind, global, globals, glued, grouped, head}
-use Rattle.sc_parse.proofs.Common.{head_at, head_of, headed_at, int, is_empty, is_struct_word, keyword_at, length}
-use Rattle.sc_parse.proofs.Common.{length-append, line_at, many, many_comma, map, more, named_head, names_struct}
-use Rattle.sc_parse.proofs.Common.{no_result, past_base, past_stars, plain, prototype, refl, signed, signed_int, star}
-use Rattle.sc_parse.proofs.Common.{struct, struct_decl_at, subst, sym, true, type_name, unsigned, unsigned_int, ℕ, ◌++◌}
-use Rattle.sc_parse.proofs.Common.{◌+◌, ◌<◌, ◌>>=◌, ◌∙◌, ◌∷◌, ◌≡◌, ◌≤◌}
+use Rattle.sc_parse.proofs.Common.{Some, SpellsBase, SpellsDecl, SpellsDeclarator, SpellsHead, SpellsInit, SpellsResult}
+use Rattle.sc_parse.proofs.Common.{SpellsStars, SpellsStruct, StructTree, TypeName, TypeTree, [], a_function, a_result}
+use Rattle.sc_parse.proofs.Common.{a_struct, absent, adds, ap, append_assoc, arith, array, begins_call, begins_head}
+use Rattle.sc_parse.proofs.Common.{begins_struct, begins_with, behind, behind_head, behind_mark, bound, cond, decl_at}
+use Rattle.sc_parse.proofs.Common.{declares, decls_height, drop, false, false≢true, function, function_behind, global}
+use Rattle.sc_parse.proofs.Common.{globals, grouped, head, head_of, headed_at, int, is_empty, is_struct_word}
+use Rattle.sc_parse.proofs.Common.{keyword_at, length, length-append, line_at, many, many_comma, map, more}
+use Rattle.sc_parse.proofs.Common.{names_struct, no_result, past_base, past_stars, plain, prototype, refl, signed}
+use Rattle.sc_parse.proofs.Common.{signed_int, star, struct, struct_decl_at, subst, sym, true, type_name, unsigned}
+use Rattle.sc_parse.proofs.Common.{unsigned_int, ℕ, ◌++◌, ◌+◌, ◌<◌, ◌∙◌, ◌∷◌, ◌≡◌}
 use Rattle.sc_parse.proofs.Bases.{base_front, NoInt, stars_no_int, stars_count}
 use Rattle.sc_expr.specs.declared.mark.Mark.TheVariants as mark
 use Rattle.sc_parse.specs.Lists as lists
@@ -21,8 +20,8 @@ use Rattle.sc_parse.proofs.Declared.{declarator_no_int, valued, struct_sound, Is
 use Rattle.sc_parse.proofs.Declared.{declares_some, struct_complete}
 use Rattle.sc_ast.specs.declared.section.Decl.TheVariants as decl
 use Rattle.sc_expr.specs.declared.mark.Keyword.TheVariants as word
-use Rattle.sc_parse.proofs.Exact.{Adds, Form, Low, Sound, Taken, Turns, adding, as_form, chosen, given, took, Any}
-use Rattle.sc_parse.proofs.Exact.{Complete, ExactAdder, grouped_exact}
+use Rattle.sc_parse.proofs.Exact.{Adds, Any, Complete, Exact, ExactAdder, Form, Low, Sound, Taken, Then, Turns, adding}
+use Rattle.sc_parse.proofs.Exact.{as_form, both, chosen, fitting, given, grouped_exact, then_exact, took}
 use Rattle.sc_parse.proofs.Prototypes.{head_exact}
 use Rattle.sc_parse.proofs.Bodies.{IsBody, a_body, body_sound, named_sound, body_complete}
 use Rattle.sc_parse.proofs.Expressions.{Few, few}
@@ -203,26 +202,44 @@ struct_one limit ts rest x q h =
     let t = struct_sound ts b.0.1 b.0.0 q b.1 in
     took t.taken b.2 t.split (a_struct t.spelled, omega arith)
 
-function_made : (limit : ℕ) → {ts us : List Lexeme} {head : FunctionHead} {x : FunctionTree}
-    (d : SpellsHead ts (head_of head)) (b : IsBody limit head us x) → IsOne limit (ts ++ us) (decl.Function x)
-function_made limit d (a_body t u p q g s) = (a_function (function t u p q d g.0 s.0), omega (arith, g.1, s.1))
+-- What stands behind the head of a prototype or of a function.
+data IsHeaded (limit : ℕ) (head : HeadTree) : List Lexeme → Decl → Type 0 where
+  ends : (t : Lexeme) → IsMark mark.Semicolon t → IsHeaded limit head (t ∷ []) (decl.Proto head)
+  goes_on : {ts : List Lexeme} {named : FunctionHead} {x : FunctionTree} → head_of named ≡ head →
+      IsBody limit named ts x → IsHeaded limit head ts (decl.Function x)
 
-headed_one : (free limit : ℕ) → Sound (IsOne limit) (headed_at free limit)
-unfolding headed_at function_behind
-headed_one free limit ts rest x h =
-    let b = bound (λ x. behind_head free limit x.0 x.1) (head_at ts) (x, rest) h in
-    let d = head_exact.sound ts b.0.1 b.0.0 b.1 in
-    given (λ rest. Some _) _ _ b.2 (λ q e.
-    let n = bound (λ named. body_behind free limit named b.0.1 >>= (λ x. Some (decl.Function x.0, x.1)))
-    (named_head b.0.0) (x, rest) e in
-    let c = bound (λ x. Some (decl.Function x.0, x.1)) (body_behind free limit n.0 b.0.1) (x, rest) n.2 in
-    let body = body_sound free limit n.0 b.0.1 c.0.1 c.0.0 c.1 in
-    took (d.taken ++ body.taken) c.2 (glued c.0.1 d.taken body.taken d.split body.split)
-    (function_made limit (subst (SpellsHead d.taken) (sym (named_sound b.0.0 n.0 n.1)) d.spelled) body.spelled))
-    (λ vs q e.
-    let t = behind_mark mark.Semicolon b.0.1 vs q in
-    took (d.taken ++ t.0 ∷ []) e (glued vs d.taken (t.0 ∷ []) d.split t.1)
-    (prototype t.0 t.2 d.spelled, omega arith))
+behind_sound : (free limit : ℕ) (head : HeadTree) → Sound (IsHeaded limit head) (behind_head free limit head)
+unfolding function_behind
+behind_sound free limit tree ts rest x h = given (λ rest. Some _) _ _ h (λ q e.
+    let n = bound _ _ _ e in
+    let c = bound _ _ _ n.2 in
+    let d = body_sound free limit n.0 ts c.0.1 c.0.0 c.1 in
+    took d.taken c.2 d.split (goes_on (named_sound tree n.0 n.1) d.spelled)) (λ vs q e.
+    let t = behind_mark mark.Semicolon ts vs q in
+    took (t.0 ∷ []) e t.1 (ends t.0 t.2))
+
+-- a `{` and no `;` stands behind the head of a function
+body_opens : {limit : ℕ} {named : FunctionHead} {x : FunctionTree} {ts : List Lexeme} (d : IsBody limit named ts x)
+    (rest : List Lexeme) → behind mark.Semicolon (ts ++ rest) ≡ None
+body_opens (a_body t u p q g s) rest = rw p
+
+behind_complete : (free limit : ℕ) (head : HeadTree) →
+    Complete (Few free) (IsHeaded limit head) Any (behind_head free limit head)
+unfolding function_behind
+behind_complete free limit tree _ _ (ends t p) rest fits h = rw p
+behind_complete free limit tree _ _ (goes_on {ts = ts} {named = named} same b) rest fits h =
+    rw (body_opens b rest, head_named named tree same, body_complete free limit named ts _ b rest fits tt)
+
+headed_exact : (free limit : ℕ) → Exact (Few free) (Then SpellsHead (IsHeaded limit)) Any (headed_at free limit)
+unfolding headed_at
+headed_exact free limit = then_exact (few free) (fitting (few free) head_exact)
+    (λ tree. record { sound = behind_sound free limit tree; complete = behind_complete free limit tree })
+    (λ x us y d rest h. tt)
+
+headed_one : {limit : ℕ} → Turns (Then SpellsHead (IsHeaded limit)) (IsOne limit)
+headed_one _ _ (both d (ends t p)) = (prototype t p d, omega arith)
+headed_one _ _ (both {ts = ts} d (goes_on same (a_body t u p q g s))) =
+    (a_function (function t u p q (subst (SpellsHead ts) (sym same) d) g.0 s.0), omega (arith, g.1, s.1))
 
 -- globals as trees
 record AreGlobals (base : BaseTree) (line : ℕ) (ts : List Lexeme) (ds : List Decl) : Type 0 where
@@ -258,7 +275,8 @@ unfolding decl_at
 decl_sound free limit xs ts rest ys h = chosen _ (adds struct_decl_at xs ts) _ h
     (λ q e. one_added limit struct_decl_at xs ys ts rest (λ x rest h. struct_one limit ts rest x (struct_word ts q) h)
     e) (λ q e. chosen _ _ _ e
-    (λ q e. one_added limit (headed_at free limit) xs ys ts rest (λ x rest h. headed_one free limit ts rest x h) e)
+    (λ q e. one_added limit (headed_at free limit) xs ys ts rest (λ x rest h. as_form headed_one
+    ((headed_exact free limit).sound ts rest x h)) e)
     (λ q e. as_form globals_made ((globals_exact xs).sound ts rest ys e)))
 
 -- globals as declarations
@@ -272,59 +290,28 @@ global_decls : {ts : List Lexeme} {trees : List GlobalTree} (d : Declares IsGlob
     Declares IsGlobalDecl ts (map (λ tree. decl.Global tree) trees)
 global_decls (declares t p b g) = declares t p b (as_decls g)
 
--- behind the head of a function
-body_of : (limit : ℕ) → {ts : List Lexeme} {x : FunctionTree} (d : SpellsFunction ts x) →
-    decls_height (decl.Function x ∷ []) ≤ limit → (front : List Lexeme) × (body : List Lexeme) × (ts ≡ front ++ body) ×
-    SpellsHead front (head_of x.head) × IsBody limit x.head body x
-body_of limit (function {ts = ts} {us = us} {vs = vs} t u p q d g s) low =
-    (ts, t ∷ (us ++ (vs ++ u ∷ [])), refl, d, a_body t u p q (g, omega arith) (s, omega arith))
-
--- a `{` and no `;` stands behind the head of a function
-body_opens : (limit : ℕ) → {named : FunctionHead} {x : FunctionTree} {ts : List Lexeme} (d : IsBody limit named ts x)
-    (rest : List Lexeme) → behind mark.Semicolon (ts ++ rest) ≡ None
-body_opens limit (a_body t u p q g s) rest = rw p
-
-function_reads : (free limit : ℕ) → {front body : List Lexeme} {x : FunctionTree}
-    (d : SpellsHead front (head_of x.head)) (b : IsBody limit x.head body x) (rest : List Lexeme) → Few free body →
-    headed_at free limit ((front ++ body) ++ rest) ≡ Some (decl.Function x, rest)
-unfolding headed_at function_behind
-function_reads free limit {front} {body} {x} d b rest few =
-    let first = head_exact.complete front _ d (body ++ rest) tt tt in
-    let named = head_named x.head (head_of x.head) refl in
-    ap (headed_at free limit) (append_assoc front body rest) ∙
-    rw (first, body_opens limit b rest, named, body_complete free limit x.head body x b rest few tt)
-
-headed_reads : (free limit : ℕ) → {front : List Lexeme} {x : HeadTree} (t : Lexeme) (p : IsMark mark.Semicolon t)
-    (d : SpellsHead front x) (rest : List Lexeme) → headed_at free limit ((front ++ t ∷ []) ++ rest) ≡
-    Some (decl.Proto x, rest)
-unfolding headed_at
-headed_reads free limit {front} {x} t p d rest =
-    let first = head_exact.complete front x d (t ∷ rest) tt tt in
-    ap (headed_at free limit) (append_assoc front (t ∷ []) rest) ∙ rw (first, p)
+-- with what stands behind its head
+headed_begins : {ts : List Lexeme} {x : HeadTree} (d : SpellsHead ts x) (us rest : List Lexeme) →
+    BeginsHead ((ts ++ us) ++ rest)
+headed_begins {ts} d us rest = subst BeginsHead (sym (append_assoc ts us rest)) (head_begins d (us ++ rest))
 
 -- what is spelled as a declaration, within the limits, is read so
 decl_complete : (free limit : ℕ) (xs : List Decl) →
     Complete (Few free) (Adds (IsDecls limit) xs) Any (decl_at free limit xs)
 unfolding decl_at adds struct_decl_at
-decl_complete free limit xs _ _ (adding (a_struct d, low)) rest fits ends =
+decl_complete free limit xs _ _ (adding (a_struct d, low)) rest fits h =
     rw ((struct_begins d rest).0, struct_complete d rest)
-decl_complete free limit xs _ _ (adding (globals {ts = ts} {trees = trees} d, low)) rest fits ends =
+decl_complete free limit xs _ _ (adding (globals {ts = ts} {trees = trees} d, low)) rest fits h =
     let b = globals_begin d rest in
     rw (b.no_struct, b.no_head) ((globals_exact xs).complete ts _ (adding (global_decls d)) rest tt tt)
-decl_complete free limit xs _ _ (adding (prototype {ts = ts} t p d, low)) rest fits ends =
-    let b = head_begins d (t ∷ rest) in
-    let all = append_assoc ts (t ∷ []) rest in
-    let read : headed_at free limit (ts ++ t ∷ rest) ≡ _ =
-    ap (headed_at free limit) (sym all) ∙ headed_reads free limit t p d rest in
-    ap (decl_at free limit xs) all ∙ rw (b.no_struct, b.is_head, read)
-decl_complete free limit xs _ _ (adding (a_function {ts = ts} {tree = tree} d, low)) rest fits ends =
-    let o = body_of limit d low in
-    let b = head_begins o.3 (o.1 ++ rest) in
-    let all : ts ++ rest ≡ o.0 ++ (o.1 ++ rest) = ap (λ l. l ++ rest) o.2 ∙ append_assoc o.0 o.1 rest in
-    let read : headed_at free limit _ ≡ Some _ =
-    ap (headed_at free limit) (sym (append_assoc o.0 o.1 rest)) ∙
-    function_reads free limit o.3 o.4 rest ((few free).right o.0 o.1 (subst (Few free) o.2 fits)) in
-    ap (decl_at free limit xs) all ∙ rw (b.no_struct, b.is_head, read)
+decl_complete free limit xs _ _ (adding (prototype t p d, low)) rest fits h =
+    let b = headed_begins d (t ∷ []) rest in
+    rw (b.no_struct, b.is_head, (headed_exact free limit).complete _ _ (both d (ends t p)) rest fits tt)
+decl_complete free limit xs _ _ (adding (a_function (function {us = us} {vs = vs} t u p q d g s), low)) rest fits h =
+    let b = headed_begins d (t ∷ (us ++ (vs ++ u ∷ []))) rest in
+    let read = (headed_exact free limit).complete _ _
+    (both d (goes_on refl (a_body t u p q (g, omega arith) (s, omega arith)))) rest fits tt in
+    rw (b.no_struct, b.is_head, read)
 
 -- a declaration
 pub decl_exact : (free limit : ℕ) → ExactAdder (Few free) (IsDecls limit) Any (decl_at free limit)
@@ -341,11 +328,9 @@ decl_some (a_function (function {ts = ts} {us = us} {vs = vs} t u p q d g s)) =
 pub decl_no_line : {ts : List Lexeme} {zs : List Decl} (d : SpellsDecl ts zs) (rest : List Lexeme) → NoLine (ts ++ rest)
 decl_no_line (a_struct d) rest = (struct_begins d rest).1
 decl_no_line (globals d) rest = (globals_begin d rest).no_line
-decl_no_line (prototype {ts = ts} t p d) rest = subst NoLine (sym (append_assoc ts _ rest))
-    (head_begins d (t ∷ rest)).no_line
-decl_no_line (a_function (function {ts = ts} {us = us} {vs = vs} t u p q d g s)) rest =
-    let body = t ∷ (us ++ (vs ++ u ∷ [])) in
-    subst NoLine (sym (append_assoc ts _ rest)) (head_begins d (body ++ rest)).no_line
+decl_no_line (prototype t p d) rest = (headed_begins d (t ∷ []) rest).no_line
+decl_no_line (a_function (function {us = us} {vs = vs} t u p q d g s)) rest =
+    (headed_begins d (t ∷ (us ++ (vs ++ u ∷ []))) rest).no_line
 
 full : (ts rest : List Lexeme) → 0 < length ts → is_empty (ts ++ rest) ≡ false
 full [] rest h = absurd (omega arith)
