@@ -41,30 +41,30 @@ pub use Rattle.sc_parse.specs.Common.{StmtTree, StructTree, Symbol, TypeName, Ty
 pub use Rattle.sc_parse.specs.Prelude.{Adder, Declares, Grouped, IsExcess, IsGlobal, IsInteger, IsKeyword, IsLocal}
 pub use Rattle.sc_parse.specs.Prelude.{IsMember, IsParsed, Parses, Reader, SectionTree, Separated, SpellsArgs}
 pub use Rattle.sc_parse.specs.Prelude.{SpellsBase, SpellsBlock, SpellsCall, SpellsCondition, SpellsConst, SpellsDecl}
-pub use Rattle.sc_parse.specs.Prelude.{SpellsDeclarator, SpellsDirectives, SpellsFunction, SpellsHead, SpellsIf}
-pub use Rattle.sc_parse.specs.Prelude.{SpellsInit, SpellsKind, SpellsParam, SpellsParams, SpellsPart, SpellsPlace}
-pub use Rattle.sc_parse.specs.Prelude.{SpellsResult, SpellsSection, SpellsStars, SpellsStmtKind, SpellsStmts}
-pub use Rattle.sc_parse.specs.Prelude.{SpellsStruct, SpellsTest, SpellsTypeName, SpellsValue, a_function, a_part}
-pub use Rattle.sc_parse.specs.Prelude.{a_result, a_struct, a_test, a_value, absent, all_separated, alone, args_behind}
-pub use Rattle.sc_parse.specs.Prelude.{array, assign, assign_call, base_by, before_mark, begins_call, begins_struct}
-pub use Rattle.sc_parse.specs.Prelude.{begins_value, begins_with, behind_head, behind_inner_comma, block, call}
-pub use Rattle.sc_parse.specs.Prelude.{change_at, change_of, changed, choice, compartment_at, compartment_by, compound}
-pub use Rattle.sc_parse.specs.Prelude.{compound_of, condition, const_tree, declarator, declares, decls_at, directives}
-pub use Rattle.sc_parse.specs.Prelude.{directives_at, elements_at, empty, export, export_line, first_line, for_loop}
-pub use Rattle.sc_parse.specs.Prelude.{for_parts, function, function_head, function_param, function_tree, global}
-pub use Rattle.sc_parse.specs.Prelude.{globals, globals_behind, head, head_tree, import_line, int, integer_by, is_base}
-pub use Rattle.sc_parse.specs.Prelude.{is_else, is_empty, is_if, is_int, is_struct_word, is_void, keyword_at}
-pub use Rattle.sc_parse.specs.Prelude.{keyword_by, kind_by, lexemes_of, line_at, line_by, literal_at, local}
-pub use Rattle.sc_parse.specs.Prelude.{locals_behind, loop_of, makes_value, many, many_comma, mark_at, mark_by}
-pub use Rattle.sc_parse.specs.Prelude.{members_behind, members_in_braces, more, named, named_head, named_params}
-pub use Rattle.sc_parse.specs.Prelude.{nameless, names_struct, negated, next, no_args, no_base, no_params, no_part}
-pub use Rattle.sc_parse.specs.Prelude.{no_result, no_test, no_value, none, one, otherwise, otherwise_if, param_tree}
-pub use Rattle.sc_parse.specs.Prelude.{past_base, past_comma, past_int, past_stars, placed, plain, prototype}
-pub use Rattle.sc_parse.specs.Prelude.{return_call, return_nothing, return_value, section, section_at, section_tree}
-pub use Rattle.sc_parse.specs.Prelude.{signed, signed_int, simple_or_none, simple_tree, some_args, some_params, star}
-pub use Rattle.sc_parse.specs.Prelude.{step_at, step_before, step_behind, step_of, stmt_tree, stmts_at, struct}
-pub use Rattle.sc_parse.specs.Prelude.{struct_tree, type_name, type_of, unary_place, unsigned, unsigned_int, unstepped}
-pub use Rattle.sc_parse.specs.Prelude.{updates, value_returned, while_loop, whole_line, with_line}
+pub use Rattle.sc_parse.specs.Prelude.{SpellsDeclarator, SpellsDirectives, SpellsHead, SpellsIf, SpellsInit, SpellsKind}
+pub use Rattle.sc_parse.specs.Prelude.{SpellsParam, SpellsParams, SpellsPart, SpellsPlace, SpellsResult, SpellsSection}
+pub use Rattle.sc_parse.specs.Prelude.{SpellsStars, SpellsStmtKind, SpellsStmts, SpellsStruct, SpellsTest}
+pub use Rattle.sc_parse.specs.Prelude.{SpellsTypeName, SpellsValue, a_function, a_part, a_result, a_struct, a_test}
+pub use Rattle.sc_parse.specs.Prelude.{a_value, absent, all_separated, alone, args_behind, array, assign, assign_call}
+pub use Rattle.sc_parse.specs.Prelude.{base_by, before_mark, begins_call, begins_struct, begins_value, begins_with}
+pub use Rattle.sc_parse.specs.Prelude.{behind_head, behind_inner_comma, block, call, change_at, change_of, changed}
+pub use Rattle.sc_parse.specs.Prelude.{choice, compartment_at, compartment_by, compound, compound_of, condition}
+pub use Rattle.sc_parse.specs.Prelude.{const_tree, declarator, declares, decls_at, directives, directives_at}
+pub use Rattle.sc_parse.specs.Prelude.{elements_at, empty, export, export_line, first_line, for_loop, for_parts}
+pub use Rattle.sc_parse.specs.Prelude.{function, function_head, function_param, function_tree, global, globals}
+pub use Rattle.sc_parse.specs.Prelude.{globals_behind, head, head_tree, import_line, int, integer_by, is_base, is_else}
+pub use Rattle.sc_parse.specs.Prelude.{is_empty, is_if, is_int, is_struct_word, is_void, keyword_at, keyword_by}
+pub use Rattle.sc_parse.specs.Prelude.{kind_by, lexemes_of, line_at, line_by, literal_at, local, locals_behind, loop_of}
+pub use Rattle.sc_parse.specs.Prelude.{makes_value, many, many_comma, mark_at, mark_by, members_behind}
+pub use Rattle.sc_parse.specs.Prelude.{members_in_braces, more, named, named_head, named_params, nameless, names_struct}
+pub use Rattle.sc_parse.specs.Prelude.{negated, next, no_args, no_base, no_params, no_part, no_result, no_test}
+pub use Rattle.sc_parse.specs.Prelude.{no_value, none, one, otherwise, otherwise_if, param_tree, past_base, past_comma}
+pub use Rattle.sc_parse.specs.Prelude.{past_int, past_stars, placed, plain, prototype, return_call, return_nothing}
+pub use Rattle.sc_parse.specs.Prelude.{return_value, section, section_at, section_tree, signed, signed_int}
+pub use Rattle.sc_parse.specs.Prelude.{simple_or_none, simple_tree, some_args, some_params, star, step_at, step_before}
+pub use Rattle.sc_parse.specs.Prelude.{step_behind, step_of, stmt_tree, stmts_at, struct, struct_tree, type_name}
+pub use Rattle.sc_parse.specs.Prelude.{type_of, unary_place, unsigned, unsigned_int, unstepped, updates, value_returned}
+pub use Rattle.sc_parse.specs.Prelude.{while_loop, whole_line, with_line}
 unfoldable pub use Rattle.sc_parse.specs.Prelude.{adds, args_at, assignment_at, base_at, begins_head, block_at}
 unfoldable pub use Rattle.sc_parse.specs.Prelude.{body_behind, call_at, condition_at, const_at, consts_at, decl_at}
 unfoldable pub use Rattle.sc_parse.specs.Prelude.{declaration_at, declarator_at, else_at, else_behind, ended_at}
