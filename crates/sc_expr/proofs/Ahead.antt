@@ -1,10 +1,10 @@
--- What stands at the front, where reading says so.
-use Rattle.sc_expr.proofs.Common.{BinaryOp, Extension, IsIdent, IsMark, Lead, Lexeme, List, Mark, None, Option, Prefix}
-use Rattle.sc_expr.proofs.Common.{Some, Symbol, [], ap, arith, behind, binary_of, cases_lt, cond, cond_some}
-use Rattle.sc_expr.proofs.Common.{extension_at, extension_by, extension_level, extension_of, extension_within, is_mark}
-use Rattle.sc_expr.proofs.Common.{le-leb, lead_by, lead_of, leb-true, level_of, name_at, name_by, none-some, option_map}
-use Rattle.sc_expr.proofs.Common.{prefix_of, refl, rules, subst, sym, true, within, ℕ, ⊎_elim, ◌<◌, ◌>>=◌, ◌∙◌, ◌∷◌}
-use Rattle.sc_expr.proofs.Common.{◌≡◌, ◌≤◌}
+-- What an answer that is there came from, and what stands at the front, where reading says so.
+use Rattle.sc_expr.proofs.Common.{BinaryOp, Bool, Extension, IsIdent, IsMark, Lead, Lexeme, List, Mark, None, Option}
+use Rattle.sc_expr.proofs.Common.{Prefix, Some, Symbol, [], ap, append_assoc, arith, behind, binary_of, cases_lt, cond}
+use Rattle.sc_expr.proofs.Common.{cond_some, extension_at, extension_by, extension_level, extension_of}
+use Rattle.sc_expr.proofs.Common.{extension_within, false, is_mark, le-leb, lead_by, lead_of, leb-true, level_of}
+use Rattle.sc_expr.proofs.Common.{name_at, name_by, none-some, option_map, prefix_of, refl, rules, subst, sym, true}
+use Rattle.sc_expr.proofs.Common.{within, ℕ, ⊎_elim, ◌++◌, ◌<◌, ◌>>=◌, ◌∙◌, ◌∷◌, ◌≡◌, ◌≤◌}
 use Rattle.sc_base.specs.declared.op.BinaryOp.TheVariants as binary
 use Rattle.sc_expr.specs.contracts.mark.Mark.{the_type}
 use denote.Enum.Bare.{same_true}
@@ -12,7 +12,29 @@ use Rattle.sc_expr.specs.declared.mark.Mark.TheVariants as mark
 use Rattle.sc_expr.specs.declared.operator.Extension.TheVariants as extension
 use Rattle.sc_expr.specs.declared.lexeme.Symbol.TheVariants as symbol
 use Rattle.sc_expr.specs.declared.parser.Lead.TheVariants as lead
-use Rattle.sc_expr.proofs.Options.{same_some, bound}
+
+abbrev out : {A : Type 0} → A → Option A → A
+out other None = other
+out other (Some x) = x
+
+pub same_some : {A : Type 0} {x y : A} → Some x ≡ Some y → x ≡ y
+same_some {x = x} h = ap (out x) h
+
+-- where the whole gives something, so does the first part
+pub bound : {A B : Type 0} (f : A → Option B) (first : Option A) (y : B) → first >>= f ≡ Some y →
+    (x : A) × (first ≡ Some x) × (f x ≡ Some y)
+bound f None y h = absurd (none-some y h)
+bound f (Some x) y h = (x, refl, h)
+
+-- what is there only under a condition
+pub cond_is : {A : Type 0} (b : Bool) (o : Option A) (x : A) → cond b o None ≡ Some x → (b ≡ true) × (o ≡ Some x)
+cond_is true o x h = (refl, h)
+cond_is false o x h = absurd (none-some x h)
+
+-- one front behind another
+pub glued : {A : Type 0} {ts us : List A} (rest first second : List A) → ts ≡ first ++ us → us ≡ second ++ rest →
+    ts ≡ (first ++ second) ++ rest
+glued rest first second p q = p ∙ ap (λ l. first ++ l) q ∙ sym (append_assoc first second rest)
 
 -- every operator between operands is looser than the prefix operators
 pub operator_low : (op : BinaryOp) → 2 ≤ level_of op

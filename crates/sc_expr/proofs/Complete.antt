@@ -12,11 +12,10 @@ use Rattle.sc_expr.specs.declared.mark.Mark.TheVariants as mark
 use Rattle.sc_expr.specs.declared.operator.Extension.TheVariants as extension
 use Rattle.sc_expr.specs.declared.lexeme.Symbol.TheVariants as symbol
 use Rattle.sc_expr.specs.declared.parser.Lead.TheVariants as lead
-use Rattle.sc_expr.proofs.Options.{same_some}
+use Rattle.sc_expr.proofs.Ahead.{same_some, no_unary, mark_operator}
 use Rattle.sc_expr.proofs.Heights.{literal_height, variable_height, prefixed_height, joined_height, index_height}
 use Rattle.sc_expr.proofs.Heights.{member_height, arrow_height, positive}
 use Rattle.sc_expr.proofs.Balance.{says, plain_binary, plain_prefix, open_low, most_behind, most_bracketed, most_plain}
-use Rattle.sc_expr.proofs.Ahead.{no_unary, mark_operator}
 use Rattle.sc_expr.proofs.Steps.{read_goes, nested_at, turns_on, turns_end}
 
 -- what goes on at the front is of this level or a looser one

@@ -1,6 +1,5 @@
 pub mod Common
 pub mod Steps
-pub mod Options
 pub mod Heights
 pub mod Balance
 pub mod Ahead

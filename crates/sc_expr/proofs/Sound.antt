@@ -13,12 +13,11 @@ use Rattle.sc_expr.specs.declared.mark.Mark.TheVariants as mark
 use Rattle.sc_expr.specs.declared.operator.Extension.TheVariants as extension
 use Rattle.sc_expr.specs.declared.lexeme.Symbol.TheVariants as symbol
 use Rattle.sc_expr.specs.declared.parser.Lead.TheVariants as lead
-use Rattle.sc_expr.proofs.Options.{same_some, bound, cond_is, glued}
+use Rattle.sc_expr.proofs.Ahead.{same_some, bound, cond_is, glued, operator_low, operator_mark, extension_mark, Ahead}
+use Rattle.sc_expr.proofs.Ahead.{ahead, nothing_within, behind_mark, name_ahead, paren_lead, prefix_lead}
 use Rattle.sc_expr.proofs.Heights.{literal_height, variable_height, prefixed_height, joined_height, index_height}
 use Rattle.sc_expr.proofs.Heights.{member_height, arrow_height}
 use Rattle.sc_expr.proofs.Balance.{says, plain_binary, plain_prefix, most_behind, most_bracketed, most_plain}
-use Rattle.sc_expr.proofs.Ahead.{operator_low, operator_mark, extension_mark, Ahead, ahead, nothing_within, behind_mark}
-use Rattle.sc_expr.proofs.Ahead.{name_ahead, paren_lead, prefix_lead}
 
 -- An expression stands at the front: it is spelled at this level within the limits, and what goes on behind it is of
 -- the second level or a looser one.

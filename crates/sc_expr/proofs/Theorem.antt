@@ -3,7 +3,7 @@ use Rattle.sc_expr.proofs.Common.{Agrees, Bor, Err, ExprTree, Found, IfOk, IsErr
 use Rattle.sc_expr.proofs.Common.{Result, Some, Spells, SyntaxFault, [], ap, arith, expr_height, found, max, most_open}
 use Rattle.sc_expr.proofs.Common.{none-some, read, read_expr, subst, sym, ℕ, ◌-◌, ◌<◌, ◌∙◌, ◌≡◌, ◌≤◌}
 use Rattle.sc_expr.specs.declared.parser.Built.{Built}
-use Rattle.sc_expr.proofs.Options.{same_some}
+use Rattle.sc_expr.proofs.Ahead.{same_some}
 use Rattle.sc_expr.proofs.Balance.{open_low}
 use Rattle.sc_expr.proofs.Sound.{read_sound}
 use Rattle.sc_expr.proofs.Complete.{reads_all}

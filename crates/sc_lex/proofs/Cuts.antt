@@ -6,8 +6,7 @@ use Rattle.sc_lex.proofs.Common.{line_comment, newlines, none-some, nothing, pla
 use Rattle.sc_lex.proofs.Common.{token_at, white_space, ℕ, ⊎_elim, ◌++◌, ◌+◌, ◌-◌, ◌<◌, ◌∙◌, ◌∷◌, ◌≡◌, ◌≤◌}
 use Rattle.sc_lex.specs.declared.cut.Piece.{Piece}
 use Rattle.sc_lex.specs.declared.cut.Piece.TheVariants as pieces
-use Rattle.sc_lex.proofs.Gaps.{one_gap, gap_fits}
-use Rattle.sc_lex.proofs.Runs.{token_positive}
+use Rattle.sc_lex.proofs.Gaps.{one_gap, gap_fits, token_positive}
 use Rattle.sc_lex.proofs.Fronts.{white_none}
 use Rattle.sc_lex.proofs.Splits.{line_at_end}
 

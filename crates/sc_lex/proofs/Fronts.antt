@@ -6,10 +6,9 @@ use Rattle.sc_lex.proofs.Common.{is_inside_line, is_mark, is_name_byte, is_white
 use Rattle.sc_lex.proofs.Common.{length, length-take, length-take-le, line_kind, line_len, list_all, mark_kind, nat_le}
 use Rattle.sc_lex.proofs.Common.{none-some, prefix_len, refl, slice_index, sym, take, true, word_kind, ℕ, ⊎_elim, ◌&&◌}
 use Rattle.sc_lex.proofs.Common.{◌<◌, ◌==◌, ◌∙◌, ◌≡◌, ◌≤◌}
-use Rattle.sc_lex.proofs.Gaps.{slash_first, star_first}
+use Rattle.sc_lex.proofs.Gaps.{slash_first, star_first, token_positive, run_all, run_positive, run_token, run_none}
 use Rattle.sc_lex.proofs.Texts.{IsRun, word_run, directive_run, mark_is, no_mark, kind_of-word, kind_of-directive}
 use Rattle.sc_lex.proofs.Texts.{kind_of-mark, kind_of-white_space}
-use Rattle.sc_lex.proofs.Runs.{token_positive, run_all, run_positive, run_token, run_none}
 
 head_of : (text : List ℕ) (n : ℕ) → 0 < n → slice_index (take n text) 0 ≡ slice_index text 0
 head_of text n h = get_or-take n text 0 0 h

@@ -4,7 +4,6 @@ pub mod Directives
 pub mod Fronts
 pub mod Gaps
 pub mod Numbers
-pub mod Runs
 pub mod Spans
 pub mod Splits
 pub mod Texts

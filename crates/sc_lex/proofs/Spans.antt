@@ -3,7 +3,7 @@ use Rattle.sc_lex.proofs.Common.{All, AreSpans, Bool, Cuts, IsCut, IsSpan, IsTok
 use Rattle.sc_lex.proofs.Common.{gap, length-drop, nothing, refl, token, token_at, ℕ, ◌+◌, ◌-◌, ◌≡◌, ◌≤◌}
 use Rattle.std.proofs.lemmas.List.Elements.{All-cons}
 use Rattle.std.proofs.lemmas.List.Kept.{AllPairs-cons}
-use Rattle.sc_lex.proofs.Runs.{token_positive}
+use Rattle.sc_lex.proofs.Gaps.{token_positive}
 
 module _ (bytes : List ℕ) where
   span_of : {directives : Bool} (at : ℕ) (kind : TokenKind) (len : ℕ) → IsToken directives (drop at bytes) kind len →

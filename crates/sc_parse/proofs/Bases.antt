@@ -1,43 +1,24 @@
 -- Types and declarators are read exactly as they are spelled.
 use Rattle.sc_parse.proofs.Common.{BaseTree, Declarator, IsIdent, IsInteger, IsKeyword, IsMark, Keyword, Lexeme, List}
 use Rattle.sc_parse.proofs.Common.{Mark, None, Number, Option, Some, SpellsBase, SpellsDeclarator, SpellsStars}
-use Rattle.sc_parse.proofs.Common.{SpellsTypeName, Symbol, TypeName, [], ap, append_assoc, arith, array, array_length}
-use Rattle.sc_parse.proofs.Common.{base_at, base_by, begins_with, behind, behind_mark, bound, cond_both, declarator}
+use Rattle.sc_parse.proofs.Common.{SpellsTypeName, Symbol, [], ap, append_assoc, arith, array, array_length, base_at}
+use Rattle.sc_parse.proofs.Common.{base_by, begins_with, behind, behind_mark, bound, cond_both, declarator}
 use Rattle.sc_parse.proofs.Common.{declarator_at, drop, elements_at, false, false_from_ne_true, false≢true, first_line}
-use Rattle.sc_parse.proofs.Common.{glued, int, integer_by, is_base, is_int, is_mark, is_void, keyword_at, keyword_by}
-use Rattle.sc_parse.proofs.Common.{length, length_at, line_at, name_ahead, name_at, no_base, none-some, one-add}
-use Rattle.sc_parse.proofs.Common.{past_int, plain, refl, same_some, signed, signed_int, star, star_count, subst, suc}
-use Rattle.sc_parse.proofs.Common.{sym, true, type_name, type_name_at, type_of, unsigned, unsigned_int, ℕ, ◌++◌, ◌+◌}
-use Rattle.sc_parse.proofs.Common.{◌<◌, ◌>>=◌, ◌∙◌, ◌∷◌, ◌≡◌}
+use Rattle.sc_parse.proofs.Common.{glued, int, integer_by, is_base, is_int, is_mark, is_void, keyword_at, length}
+use Rattle.sc_parse.proofs.Common.{length_at, line_at, name_ahead, name_at, no_base, none-some, one-add, past_int}
+use Rattle.sc_parse.proofs.Common.{plain, refl, same_some, signed, signed_int, star, star_count, subst, suc, sym, true}
+use Rattle.sc_parse.proofs.Common.{type_name, type_name_at, type_of, unsigned, unsigned_int, ℕ, ◌++◌, ◌+◌, ◌<◌, ◌>>=◌}
+use Rattle.sc_parse.proofs.Common.{◌∙◌, ◌∷◌, ◌≡◌}
 use Rattle.sc_parse.specs.Types.{struct, none}
 use Rattle.sc_ast.specs.declared.types.BaseTree.TheVariants as base
 use Rattle.sc_expr.specs.declared.mark.Keyword.TheVariants as word
 use Rattle.sc_expr.specs.declared.mark.Mark.TheVariants as mark
 use Rattle.sc_expr.specs.declared.lexeme.Symbol.TheVariants as symbol
-use Rattle.sc_parse.proofs.Exact.{Taken, Exact, Any, took, given, same_pair}
+use Rattle.sc_parse.proofs.Exact.{Any, Complete, Exact, Sound, Taken, given, same_pair, took, word_ahead}
 
-pub keyword_is : (s : Symbol) (word : Keyword) → keyword_by s ≡ Some word →
-    IsKeyword word (record { symbol = s; line = 0 })
-keyword_is (symbol.Keyword other) word h = ap (λ w. symbol.Keyword w) (same_some h)
-keyword_is _ word h = absurd (none-some word h)
-
--- a reserved word at the front
-pub record Word (ts : List Lexeme) (word : Keyword) : Type 0 where
-  pub first : Lexeme
-  pub is : ts ≡ first ∷ drop 1 ts
-  pub keyword : IsKeyword word first
-
-pub word_ahead : (ts : List Lexeme) (word : Keyword) → keyword_at ts ≡ Some word → Word ts word
-word_ahead [] word h = absurd (none-some word h)
-word_ahead (t ∷ ts) word h = record { first = t; is = refl; keyword = keyword_is _ word h }
-
--- an `int` at the front
-pub int_ahead : (ts : List Lexeme) → is_int (keyword_at ts) ≡ true → Word ts word.Int
-int_ahead ts h = go (keyword_at ts) refl h
-  where
-    go : (o : Option Keyword) → keyword_at ts ≡ o → is_int o ≡ true → Word ts word.Int
-    go (Some word.Int) q e = word_ahead ts word.Int q
-    go _ q e = absurd (false≢true e)
+is_int_word : (o : Option Keyword) → is_int o ≡ true → o ≡ Some word.Int
+is_int_word (Some word.Int) h = refl
+is_int_word _ h = absurd (false≢true h)
 
 abbrev pub NoInt : List Lexeme → Type 0
 NoInt rest = is_int (keyword_at rest) ≡ false
@@ -52,12 +33,12 @@ sign_taken ts rest sign value x q alone both h =
     let first = word_ahead ts sign q in
     cond_both (is_int (keyword_at (drop 1 ts))) _ _
     (λ l. ◌≡◌ {A = Option (BaseTree × List Lexeme)} (Some (value, l)) (Some (x, rest)) → Taken SpellsBase ts x rest)
-    (λ e k. let second = int_ahead (drop 1 ts) e in
+    (λ e k. let second = word_ahead (drop 1 ts) word.Int (is_int_word _ e) in
     took (first.first ∷ second.first ∷ []) k (first.is ∙ ap (λ l. first.first ∷ l) second.is)
     (both first.first second.first first.keyword second.keyword))
     (λ e k. took (first.first ∷ []) k first.is (alone first.first first.keyword)) h
 
-base_sound : (ts rest : List Lexeme) (x : BaseTree) → base_at ts ≡ Some (x, rest) → Taken SpellsBase ts x rest
+base_sound : Sound SpellsBase base_at
 unfolding base_at
 base_sound ts rest x h = go (keyword_at ts) refl h
   where
@@ -75,18 +56,17 @@ base_sound ts rest x h = go (keyword_at ts) refl h
         (struct first.first tag.0 b.0.0 first.keyword tag.2)
     go _ q e = absurd (none-some (x, rest) e)
 
-base_complete : {ts : List Lexeme} {x : BaseTree} (d : SpellsBase ts x) (rest : List Lexeme) → NoInt rest →
-    base_at (ts ++ rest) ≡ Some (x, rest)
+base_complete : Complete Any SpellsBase NoInt base_at
 unfolding base_at
-base_complete (int t p) rest h = rw p
-base_complete (signed t p) rest h = rw (p, h)
-base_complete (signed_int t u p q) rest h = rw (p, q)
-base_complete (unsigned t p) rest h = rw (p, h)
-base_complete (unsigned_int t u p q) rest h = rw (p, q)
-base_complete (struct t u tag p q) rest h = rw (p, q)
+base_complete _ _ (int t p) rest fits h = rw p
+base_complete _ _ (signed t p) rest fits h = rw (p, h)
+base_complete _ _ (signed_int t u p q) rest fits h = rw (p, q)
+base_complete _ _ (unsigned t p) rest fits h = rw (p, h)
+base_complete _ _ (unsigned_int t u p q) rest fits h = rw (p, q)
+base_complete _ _ (struct t u tag p q) rest fits h = rw (p, q)
 
 pub base_exact : Exact Any SpellsBase NoInt base_at
-base_exact = record { sound = base_sound; complete = λ ts rest x d fits h. base_complete d rest h }
+base_exact = record { sound = base_sound; complete = base_complete }
 
 -- what a base begins with
 pub record BaseFront (ts : List Lexeme) : Type 0 where
@@ -152,35 +132,32 @@ stars_count (star {ts = ts} {stars = n} t p d) rest h =
     let m = stars_count d rest h in
     (rw (p, m.0) (omega arith), let e : n + 1 ≡ suc n = omega arith in rw e m.1)
 
-type_name_sound : (ts rest : List Lexeme) (x : TypeName) → type_name_at ts ≡ Some (x, rest) →
-    Taken SpellsTypeName ts x rest
-unfolding type_name_at
-type_name_sound ts rest x h =
-    let b = bound _ _ _ h in
-    let first = base_sound ts b.0.1 b.0.0 b.1 in
-    let stars = stars_ahead b.0.1 in
-    took (first.taken ++ stars.taken) b.2 (glued (drop _ b.0.1) first.taken stars.taken first.split stars.split)
-    (type_name first.spelled stars.spelled)
-
 -- no `int` stands at the front of `*` and what is no `int`
 pub stars_no_int : {ts : List Lexeme} {n : ℕ} (d : SpellsStars ts n) (rest : List Lexeme) → NoInt rest →
     NoInt (ts ++ rest)
 stars_no_int none rest h = h
 stars_no_int (star t p d) rest h = rw p
 
-type_name_complete : {ts : List Lexeme} {x : TypeName} (d : SpellsTypeName ts x) (rest : List Lexeme) → NoInt rest →
-    NoStar rest → type_name_at (ts ++ rest) ≡ Some (x, rest)
-unfolding type_name_at
-type_name_complete (type_name {ts = ts} {us = us} {base = base} {stars = n} d g) rest h k =
-    let stars = stars_count g rest k in
-    ap type_name_at (append_assoc ts us rest)
-    ∙ rw (base_complete d (us ++ rest) (stars_no_int g rest h), stars.0, stars.1)
-
 abbrev pub NoType : List Lexeme → Type 0
 NoType rest = NoInt rest × NoStar rest
 
 pub type_name_exact : Exact Any SpellsTypeName NoType type_name_at
-type_name_exact = record { sound = type_name_sound; complete = λ ts rest x d fits h. type_name_complete d rest h.0 h.1 }
+unfolding type_name_at
+type_name_exact = record {
+  sound = λ ts rest x h.
+      let b = bound _ _ _ h in
+      let first = base_sound ts b.0.1 b.0.0 b.1 in
+      let stars = stars_ahead b.0.1 in
+      took (first.taken ++ stars.taken) b.2 (glued (drop _ b.0.1) first.taken stars.taken first.split stars.split)
+      (type_name first.spelled stars.spelled);
+  complete = complete;
+}
+  where
+    complete : Complete Any SpellsTypeName NoType type_name_at
+    complete _ _ (type_name {ts = ts} {us = us} d g) rest fits h =
+        let stars = stars_count g rest h.1 in
+        ap type_name_at (append_assoc ts us rest)
+        ∙ rw (base_complete _ _ d (us ++ rest) tt (stars_no_int g rest h.0), stars.0, stars.1)
 
 pub integer_is : (s : Symbol) (number : Number) → integer_by s ≡ Some number → s ≡ symbol.Integer number
 integer_is (symbol.Integer other) number h = ap (λ n. symbol.Integer n) (same_some h)
@@ -217,7 +194,7 @@ pub data IsLength : List Lexeme → Option ℕ → Type 0 where
 abbrev pub NoBracket : List Lexeme → Type 0
 NoBracket rest = behind mark.OpenSquare rest ≡ None
 
-length_sound : (ts rest : List Lexeme) (x : Option ℕ) → length_at ts ≡ Some (x, rest) → Taken IsLength ts x rest
+length_sound : Sound IsLength length_at
 unfolding length_at
 length_sound ts rest x h = given _ _ _ h (λ q e. took [] e refl no_length) (λ us q e.
     let u = behind_mark mark.OpenSquare ts us q in
@@ -243,8 +220,7 @@ with_length : {ts us : List Lexeme} {stars : ℕ} {elements : Option ℕ} (t : L
 with_length t name p d no_length base = plain t name p d
 with_length t name p d (in_brackets u v w number elements q r s k) base = array t u v w name number _ p q r s k d
 
-pub declarator_sound : (ts rest : List Lexeme) (x : Declarator) → declarator_at ts ≡ Some (x, rest) →
-    Taken IsDeclarator ts x rest
+pub declarator_sound : Sound IsDeclarator declarator_at
 unfolding declarator_at
 declarator_sound ts rest x h =
     let stars = stars_ahead ts in

@@ -1,144 +1,99 @@
 -- Locals and functions are read exactly as they are spelled.
 use Rattle.sc_parse.proofs.Common.{BaseTree, Declares, ExprTree, FunctionHead, FunctionParam, FunctionTree, Grouped}
-use Rattle.sc_parse.proofs.Common.{HeadTree, IsLocal, IsMark, Lexeme, List, LocalTree, None, Option, ParamTree}
-use Rattle.sc_parse.proofs.Common.{Separated, Some, SpellsStmts, SpellsValue, StmtTree, [], a_value, ap, append_assoc}
-use Rattle.sc_parse.proofs.Common.{arith, behind, behind_mark, body_behind, bound, declaration_at, declares, expr_at}
-use Rattle.sc_parse.proofs.Common.{false, first_line, function_head, function_param, function_tree, glued, grouped}
-use Rattle.sc_parse.proofs.Common.{head_of, init_height, is_base, length, local, local_at, local_height, locals_behind}
-use Rattle.sc_parse.proofs.Common.{locals_height, map, max, more, named_head, named_params, no_base, no_value, param_of}
-use Rattle.sc_parse.proofs.Common.{refl, same_some, stmts_height, subst, sym, true, value_at, ℕ, ◌++◌, ◌+◌, ◌>>=◌, ◌∙◌}
-use Rattle.sc_parse.proofs.Common.{◌∷◌, ◌≡◌, ◌≤◌}
-use Rattle.sc_parse.proofs.Bases.{base_front, NoInt, NoBracket, declarator_sound}
-use Rattle.sc_parse.proofs.Exact.{given, Taken, Exact, ExactAdder, took, grouped_exact}
-use Rattle.sc_parse.proofs.Ended.{kind_starts}
+use Rattle.sc_parse.proofs.Common.{HeadTree, IsLocal, IsMark, Lexeme, List, LocalTree, None, Option, ParamTree, Some}
+use Rattle.sc_parse.proofs.Common.{SpellsStmts, SpellsValue, StmtTree, [], a_value, ap, append_assoc, arith, behind}
+use Rattle.sc_parse.proofs.Common.{behind_mark, body_behind, bound, declaration_at, declares, false, first_line}
+use Rattle.sc_parse.proofs.Common.{function_head, function_param, function_tree, glued, head_of, init_height, is_base}
+use Rattle.sc_parse.proofs.Common.{local, local_at, local_height, locals_behind, locals_height, map, named_head}
+use Rattle.sc_parse.proofs.Common.{named_params, no_base, no_value, param_of, refl, same_some, subst, sym, true}
+use Rattle.sc_parse.proofs.Common.{value_at, ℕ, ◌++◌, ◌>>=◌, ◌∙◌, ◌∷◌, ◌≡◌}
+use Rattle.sc_parse.proofs.Bases.{NoBracket, base_front}
+use Rattle.sc_parse.proofs.Exact.{Any, Complete, Exact, ExactAdder, Form, Low, Made, Property, Sound, Turns}
+use Rattle.sc_parse.proofs.Exact.{fits_behind, formed_exact, from_none, front_taken, given, grouped_exact, groups_apart}
+use Rattle.sc_parse.proofs.Exact.{groups_joined, groups_turned, items_apart, items_joined, items_turned, made}
+use Rattle.sc_parse.proofs.Exact.{made_exact, took}
+use Rattle.sc_parse.proofs.Parts.{kind_starts}
 use Rattle.sc_expr.specs.declared.mark.Mark.TheVariants as mark
-use Rattle.sc_parse.specs.Lists as lists
 use Rattle.sc_parse.specs.Statements as statements
-use Rattle.sc_parse.proofs.Declared.{declaration_exact, declarator_complete, declarator_no_int}
-use Rattle.sc_parse.proofs.Structures.{declares_some}
-use Rattle.sc_parse.proofs.Expressions.{Few, few_left, few_right, few_tail, NoExtension, expr_exact}
-use Rattle.sc_parse.proofs.Nested.{stmts_exact}
+use Rattle.sc_parse.proofs.Declared.{Valued, declaration_exact, valued, valued_exact, valued_no_int, declares_some}
+use Rattle.sc_parse.proofs.Expressions.{Few, IsExpr, NoExtension, expr_exact, few}
+use Rattle.sc_parse.proofs.Nested.{IsStmts, stmts_exact}
+use Rattle.sc_parse.specs.SectionReaders.{locals_at}
 
 -- what a local begins with, at most so high
-record IsValue (limit : ℕ) (ts : List Lexeme) (x : Option ExprTree) : Type 0 where
-  spelled : SpellsValue ts x
-  low : init_height x ≤ limit
+abbrev IsValue : ℕ → Form (Option ExprTree)
+IsValue limit = Low SpellsValue init_height limit
 
-abbrev NoEqual : List Lexeme → Type 0
-NoEqual rest = behind mark.Equal rest ≡ None
+abbrev EndsValue : Property
+EndsValue rest = (behind mark.Equal rest ≡ None) × NoExtension rest
 
-value_sound : (free limit : ℕ) → (ts rest : List Lexeme) (x : Option ExprTree) →
-    value_at free limit ts ≡ Some (x, rest) → Taken (IsValue limit) ts x rest
+value_exact : (free limit : ℕ) → Exact (Few free) (IsValue limit) EndsValue (value_at free limit)
 unfolding value_at
-value_sound free limit ts rest x h = given _ _ _ h (λ q e.
-    took [] e refl (record { spelled = no_value; low = omega arith })) (λ us q e.
-    let t = behind_mark mark.Equal ts us q in
-    let b = bound (λ x. Some (Some x.0, x.1)) (expr_at free limit us) (x, rest) e in
-    let d = (expr_exact free limit).sound us b.0.1 b.0.0 b.1 in
-    took (t.0 ∷ d.taken) b.2 (t.1 ∙ ap (λ l. t.0 ∷ l) d.split)
-    (record { spelled = a_value t.0 t.2 d.spelled.spelled; low = d.spelled.low }))
+value_exact free limit = record {
+  sound = λ ts rest x h. given _ _ _ h (λ q e. took [] e refl (no_value, omega arith)) (λ us q e.
+      let t = behind_mark mark.Equal ts us q in
+      let d = (made_exact (λ e. Some e) (expr_exact free limit)).sound us rest x e in
+      front_taken t.0 t.1 d (λ vs d. a_local t.0 t.2 d));
+  complete = complete;
+}
+  where
+    a_local : {ts : List Lexeme} {x : Option ExprTree} (t : Lexeme) → IsMark mark.Equal t →
+        Made (λ e. Some e) (IsExpr limit) ts x → IsValue limit (t ∷ ts) x
+    a_local t p (made d) = (a_value t p d.0, d.1)
 
-value_complete : (free limit : ℕ) → {ts : List Lexeme} {x : Option ExprTree} (d : SpellsValue ts x)
-    (rest : List Lexeme) → init_height x ≤ limit → Few free ts → NoEqual rest → NoExtension rest →
-    value_at free limit (ts ++ rest) ≡ Some (x, rest)
-unfolding value_at
-value_complete free limit no_value rest low few ends stop = rw ends
-value_complete free limit (a_value {ts = ts} {value = e} t p d) rest low few ends stop =
-    rw (p, (expr_exact free limit).complete ts rest e (record { spelled = d; low = low }) (few_tail free t ts few) stop)
+    complete : Complete (Few free) (IsValue limit) EndsValue (value_at free limit)
+    complete _ _ (no_value, low) rest fits ends = rw ends.0
+    complete _ _ (a_value {ts = ts} t p d, low) rest fits ends =
+        rw (p, (expr_exact free limit).complete _ _ (d, low) rest (fits_behind (few free) t ts fits) ends.1)
 
-value_no_bracket : {ts : List Lexeme} {x : Option ExprTree} (d : SpellsValue ts x) (rest : List Lexeme) →
+value_no_bracket : {limit : ℕ} (ts : List Lexeme) (x : Option ExprTree) → IsValue limit ts x → (rest : List Lexeme) →
     NoBracket rest → NoBracket (ts ++ rest)
-value_no_bracket no_value rest h = h
-value_no_bracket (a_value t p d) rest h = rw p
+value_no_bracket _ _ (no_value, low) rest h = h
+value_no_bracket _ _ (a_value t p d, low) rest h = rw p
 
 -- a local whose initialiser is at most so high
-pub record IsLow (limit : ℕ) (base : BaseTree) (line : ℕ) (ts : List Lexeme) (x : LocalTree) : Type 0 where
-  pub spelled : IsLocal base line ts x
-  pub low : local_height x ≤ limit
+abbrev pub IsLow : ℕ → BaseTree → ℕ → Form LocalTree
+IsLow limit base line =
+    Valued (IsValue limit) (λ ty name value. record { ty = ty; name = name; init = value; line = line }) base
 
-abbrev EndsLocal : List Lexeme → Type 0
-EndsLocal rest = NoBracket rest × NoEqual rest × NoExtension rest
-
-local_sound : (free limit : ℕ) → (base : BaseTree) (line : ℕ) (ts rest : List Lexeme) (x : LocalTree) →
-    local_at free limit base line ts ≡ Some (x, rest) → Taken (IsLow limit base line) ts x rest
+local_exact : (free limit : ℕ) (base : BaseTree) (line : ℕ) → Exact (Few free) (IsLow limit base line)
+    (λ rest. NoBracket rest × EndsValue rest) (local_at free limit base line)
 unfolding local_at
-local_sound free limit base line ts rest x h =
-    let b = bound _ _ _ h in
-    let c = bound _ _ _ b.2 in
-    let d = declarator_sound ts b.0.1 b.0.0 b.1 in
-    let v = value_sound free limit b.0.1 c.0.1 c.0.0 c.1 in
-    took (d.taken ++ v.taken) c.2 (glued c.0.1 d.taken v.taken d.split v.split)
-    (record { spelled = local (d.spelled base) v.spelled.spelled; low = v.spelled.low })
+local_exact free limit base line = valued_exact (few free) _ (value_exact free limit) value_no_bracket base
 
-local_complete : (free limit : ℕ) → {base : BaseTree} {line : ℕ} {ts : List Lexeme} {x : LocalTree}
-    (d : IsLocal base line ts x) (rest : List Lexeme) → local_height x ≤ limit → Few free ts → EndsLocal rest →
-    local_at free limit base line (ts ++ rest) ≡ Some (x, rest)
-unfolding local_at
-local_complete free limit {base = base} {line = line} (local {ts = ts} {us = us} d v) rest low few ends =
-    let r = declarator_complete d (us ++ rest) (value_no_bracket v rest ends.0) in
-    ap (local_at free limit base line) (append_assoc ts us rest) ∙
-    rw (r.is, value_complete free limit v rest low (few_right free ts us few) ends.1 ends.2, r.ty_is, r.name_is)
-
-local_no_int : {base : BaseTree} {line : ℕ} {ts : List Lexeme} {x : LocalTree} (d : IsLocal base line ts x)
-    (rest : List Lexeme) → NoInt (ts ++ rest)
-local_no_int (local {ts = ts} {us = us} d v) rest = subst NoInt (sym (append_assoc ts us rest))
-    (declarator_no_int d (us ++ rest))
-
-local_exact : (free limit : ℕ) → (base : BaseTree) (line : ℕ) →
-    Exact (Few free) (IsLow limit base line) EndsLocal (local_at free limit base line)
-local_exact free limit base line = record {
-  sound = local_sound free limit base line;
-  complete = λ ts rest x d few ends. local_complete free limit d.spelled rest d.low few ends;
-}
-
-local_line_exact : (free limit : ℕ) → ExactAdder (Few free) (Declares (IsLow limit)) (λ rest. Unit {0})
+local_line_exact : (free limit : ℕ) → ExactAdder (Few free) (Declares (IsLow limit)) Any
     (declaration_at (locals_behind free limit))
-local_line_exact free limit = declaration_exact _ (few_left free) (few_right free) _ EndsLocal
-    _ (local_exact free limit) (λ t rest p. (rw p, rw p, rw p)) (λ t rest p. (rw p, rw p, rw p))
-    (λ base line ts rest x d. local_no_int d.spelled rest)
+local_line_exact free limit = declaration_exact (few free) (local_exact free limit) (λ t rest p. (rw p, (rw p, rw p)))
+    (λ t rest p. (rw p, (rw p, rw p))) (λ base line ts rest x d. valued_no_int d rest)
 
 declares_begins : {A : Type 0} {Item : BaseTree → ℕ → List Lexeme → A → Type 0} {ts : List Lexeme} {xs : List A}
     (d : Declares Item ts xs) (rest : List Lexeme) → no_base (ts ++ rest) ≡ false
 declares_begins (declares {ts = ts} {us = us} t p d g) rest =
     ap no_base (append_assoc ts _ rest) ∙ (base_front d).is_base ((us ++ t ∷ []) ++ rest)
 
-pub lows_exact : (free limit : ℕ) → ExactAdder (Few free) (Grouped (Declares (IsLow limit)))
-    (λ rest. no_base rest ≡ true) (λ xs ts. grouped no_base (declaration_at (locals_behind free limit))
-    (length ts + 1) xs ts)
-lows_exact free limit = grouped_exact _ (few_left free) (few_right free) no_base _
-    (λ rest. Unit {0}) _ (local_line_exact free limit)
-    (λ us rest zs d. declares_begins d rest) (λ us zs d. declares_some _ d) (λ rest h. tt) (λ us rest zs d. tt)
+local_is : {limit : ℕ} {base : BaseTree} {line : ℕ} → Turns (IsLow limit base line)
+    (Low (IsLocal base line) local_height limit)
+local_is _ _ (valued d v) = (local d v.0, v.1)
 
-heights_joined : (xs ys : List LocalTree) → locals_height (xs ++ ys) ≡ max (locals_height xs) (locals_height ys)
-heights_joined [] ys = omega arith
-heights_joined (x ∷ xs) ys = omega (arith, heights_joined xs ys)
+local_apart : {limit : ℕ} {base : BaseTree} {line : ℕ} → Turns (Low (IsLocal base line) local_height limit)
+    (IsLow limit base line)
+local_apart _ _ (local d v, low) = valued d (v, low)
 
-items_apart : (limit : ℕ) → {base : BaseTree} {line : ℕ} {ts : List Lexeme} {xs : List LocalTree} →
-    Separated (IsLow limit base line) ts xs → Separated (IsLocal base line) ts xs × (locals_height xs ≤ limit)
-items_apart limit (lists.one d) = (lists.one d.spelled, omega (arith, d.low))
-items_apart limit (more t p d g) = let others = items_apart limit g in
-    (more t p d.spelled others.0, omega (arith, d.low, others.1))
+locals_is : {limit : ℕ} → Turns (Declares (IsLow limit)) (Low (Declares IsLocal) locals_height limit)
+locals_is {limit} _ _ (declares t p d g) = let a = items_apart local_height limit (items_turned local_is g) in
+    (declares t p d a.0, a.1)
 
-items_joined : (limit : ℕ) → {base : BaseTree} {line : ℕ} {ts : List Lexeme} {xs : List LocalTree} →
-    Separated (IsLocal base line) ts xs → locals_height xs ≤ limit → Separated (IsLow limit base line) ts xs
-items_joined limit (lists.one d) h = lists.one (record { spelled = d; low = omega arith })
-items_joined limit (more t p d g) h = more t p (record { spelled = d; low = omega arith })
-    (items_joined limit g (omega arith))
+locals_apart : {limit : ℕ} → Turns (Low (Declares IsLocal) locals_height limit) (Declares (IsLow limit))
+locals_apart {limit} _ _ (declares t p d g, low) =
+    declares t p d (items_turned local_apart (items_joined local_height limit g low))
 
-pub locals_apart : (limit : ℕ) → {ts : List Lexeme} {xs : List LocalTree} → Grouped (Declares (IsLow limit)) ts xs →
-    Grouped (Declares IsLocal) ts xs × (locals_height xs ≤ limit)
-locals_apart limit lists.none = (lists.none, omega arith)
-locals_apart limit (lists.next {xs = xs} {ys = ys} (declares t p d g) gs) =
-    let first = items_apart limit g in
-    let others = locals_apart limit gs in
-    (lists.next (declares t p d first.0) others.0, omega (arith, heights_joined xs ys, first.1, others.1))
-
-pub locals_joined : (limit : ℕ) → {ts : List Lexeme} {xs : List LocalTree} → Grouped (Declares IsLocal) ts xs →
-    locals_height xs ≤ limit → Grouped (Declares (IsLow limit)) ts xs
-locals_joined limit lists.none h = lists.none
-locals_joined limit (lists.next {xs = xs} {ys = ys} (declares t p d g) gs) h =
-    let sum = heights_joined xs ys in
-    lists.next (declares t p d (items_joined limit g (omega arith))) (locals_joined limit gs (omega arith))
+-- the locals of a function, at most so high
+lows_exact : (free limit : ℕ) → Exact (Few free) (Low (Grouped (Declares IsLocal)) locals_height limit)
+    (λ rest. no_base rest ≡ true) (locals_at free limit)
+lows_exact free limit = formed_exact (from_none (grouped_exact (few free) no_base (local_line_exact free limit)
+    (λ us rest zs d. declares_begins d rest) (λ us zs d. declares_some _ d) (λ rest h. tt) (λ us rest zs d. tt)))
+    (λ ts xs g. groups_apart local_height limit (groups_turned locals_is g))
+    (λ ts xs g. groups_turned locals_apart (groups_joined local_height limit g.0 g.1)) (λ rest h. h)
 
 -- the parameters of a function are those of its head
 params_sound : (params : List ParamTree) (named : List FunctionParam) → named_params params ≡ Some named →
@@ -163,12 +118,11 @@ named_sound head named h =
 -- What stands behind the head of a function.
 pub data IsBody (limit : ℕ) (head : FunctionHead) : List Lexeme → FunctionTree → Type 0 where
   a_body : {us vs : List Lexeme} {locals : List LocalTree} {body : List StmtTree} (t u : Lexeme) →
-      IsMark mark.OpenCurly t → IsMark mark.CloseCurly u → Grouped (Declares IsLocal) us locals →
-      SpellsStmts vs body → locals_height locals ≤ limit → stmts_height body ≤ limit →
+      IsMark mark.OpenCurly t → IsMark mark.CloseCurly u →
+      Low (Grouped (Declares IsLocal)) locals_height limit us locals → IsStmts limit vs body →
       IsBody limit head (t ∷ (us ++ (vs ++ u ∷ []))) (function_tree head locals body u.line)
 
-pub body_sound : (free limit : ℕ) → (head : FunctionHead) (ts rest : List Lexeme) (x : FunctionTree) →
-    body_behind free limit head ts ≡ Some (x, rest) → Taken (IsBody limit head) ts x rest
+pub body_sound : (free limit : ℕ) (head : FunctionHead) → Sound (IsBody limit head) (body_behind free limit head)
 unfolding body_behind
 body_sound free limit head ts rest x h =
     let o = bound _ _ _ h in
@@ -176,19 +130,14 @@ body_sound free limit head ts rest x h =
     let s = bound _ _ _ l.2 in
     let c = bound _ _ _ s.2 in
     let t = behind_mark _ ts o.0 o.1 in
-    let locals = (lows_exact free limit).sound [] l.0.0 o.0 l.0.1 l.1 in
-    let apart = locals_apart limit locals.spelled in
+    let locals = (lows_exact free limit).sound o.0 l.0.1 l.0.0 l.1 in
     let stmts = (stmts_exact free limit).sound l.0.1 s.0.1 s.0.0 s.1 in
     let u = behind_mark _ s.0.1 c.0 c.1 in
-    let line = ap first_line u.1 in
-    let made = a_body t.0 u.0 t.2 u.2 apart.0 stmts.spelled.spelled apart.1 stmts.spelled.low in
     took (t.0 ∷ (locals.taken ++ (stmts.taken ++ u.0 ∷ []))) c.2
     (t.1 ∙ ap (λ k. t.0 ∷ k) (glued c.0 locals.taken (stmts.taken ++ u.0 ∷ []) locals.split
     (glued c.0 stmts.taken (u.0 ∷ []) stmts.split u.1)))
     (subst (λ n. IsBody limit head (t.0 ∷ (locals.taken ++ (stmts.taken ++ u.0 ∷ [])))
-    (function_tree head l.0.0 s.0.0 n)) (sym line)
-    (subst (λ z. IsBody limit head (t.0 ∷ (locals.taken ++ (stmts.taken ++ u.0 ∷ [])))
-    (function_tree head z s.0.0 u.0.line)) (sym locals.all) made))
+    (function_tree head l.0.0 s.0.0 n)) (sym (ap first_line u.1)) (a_body t.0 u.0 t.2 u.2 locals.spelled stmts.spelled))
 
 -- no statement begins as a declaration of locals does
 stmts_no_base : {ts : List Lexeme} {ss : List StmtTree} (d : SpellsStmts ts ss) (u : Lexeme) (rest : List Lexeme) →
@@ -197,17 +146,14 @@ stmts_no_base statements.none u rest p = rw p
 stmts_no_base (statements.next {ts = ts} {us = us} d g) u rest p =
     ap no_base (append_assoc ts us _) ∙ (kind_starts d).no_base (us ++ u ∷ rest)
 
-pub body_complete : (free limit : ℕ) → {head : FunctionHead} {ts : List Lexeme} {x : FunctionTree}
-    (d : IsBody limit head ts x) (rest : List Lexeme) → Few free ts →
-    body_behind free limit head (ts ++ rest) ≡ Some (x, rest)
+pub body_complete : (free limit : ℕ) (head : FunctionHead) →
+    Complete (Few free) (IsBody limit head) Any (body_behind free limit head)
 unfolding body_behind
-body_complete free limit {head = head} (a_body {us = us} {vs = vs} {locals = locals} {body = body} t u p q d g low less)
-    rest few =
-    let inside = few_tail free t (us ++ (vs ++ u ∷ [])) few in
-    let first = (lows_exact free limit).complete [] locals us (vs ++ u ∷ rest) (locals_joined limit d low)
-    (few_left free us (vs ++ u ∷ []) inside) (stmts_no_base g u rest q) in
-    let second = (stmts_exact free limit).complete vs (u ∷ rest) body (record { spelled = g; low = less })
-    (few_left free vs (u ∷ []) (few_right free us (vs ++ u ∷ []) inside)) (rw q) in
-    let all : (us ++ (vs ++ u ∷ [])) ++ rest ≡ us ++ (vs ++ u ∷ rest) =
-    append_assoc us (vs ++ u ∷ []) rest ∙ ap (λ l. us ++ l) (append_assoc vs (u ∷ []) rest) in
+body_complete free limit head _ _ (a_body {us = us} {vs = vs} t u p q d g) rest fits ends =
+    let inside = fits_behind (few free) t (us ++ (vs ++ u ∷ [])) fits in
+    let first = (lows_exact free limit).complete us _ d (vs ++ u ∷ rest) ((few free).left us (vs ++ u ∷ []) inside)
+    (stmts_no_base g.0 u rest q) in
+    let second = (stmts_exact free limit).complete vs _ g (u ∷ rest)
+    ((few free).left vs (u ∷ []) ((few free).right us (vs ++ u ∷ []) inside)) (rw q) in
+    let all : (us ++ (vs ++ u ∷ [])) ++ rest ≡ us ++ (vs ++ u ∷ rest) = simp append_assoc in
     ap (λ l. body_behind free limit head (t ∷ l)) all ∙ rw (p, first, second, q)

@@ -8,7 +8,7 @@ pub use Rattle.std.proofs.lemmas.Bool.{cond_both, false_from_ne_true, false≢tr
 pub use Rattle.std.proofs.lemmas.List.{length-map, take_more}
 pub use Rattle.std.proofs.lemmas.Option.{none-some}
 pub use Rattle.std.specs.Option.{option_map, option_map_or, option_or}
-pub use Rattle.sc_base.specs.Prelude.{is_name, is_reserved, loosest_level, name_of, unary_level}
+pub use Rattle.sc_base.specs.Prelude.{is_name, is_reserved, loosest_level, name_of}
 pub use Rattle.sc_lex.specs.Prelude.{IsSpan, directive_kind, heading_name, is_export, is_import, is_integer, line_after}
 pub use Rattle.sc_lex.specs.Prelude.{mark_kind, words}
 unfoldable pub use Rattle.sc_lex.specs.Prelude.{integer_of, line_kind, word_kind}
@@ -25,13 +25,13 @@ pub use Rattle.sc_ast.specs.declared.section.FunctionParam.{FunctionParam}
 pub use Rattle.sc_ast.specs.declared.section.GlobalTree.{GlobalTree}
 pub use Rattle.sc_expr.proofs.Ahead.{behind_mark, name_ahead}
 pub use Rattle.sc_expr.proofs.Balance.{open_along, open_low}
-pub use Rattle.sc_expr.proofs.Options.{bound, cond_is, glued, same_some}
+pub use Rattle.sc_expr.proofs.Ahead.{bound, cond_is, glued, same_some}
 pub use Rattle.sc_expr.proofs.Sound.{read_sound}
-pub use Rattle.sc_expr.specs.Prelude.{Found, IsIdent, IsMark, Spells, arrow, behind, binary_of, extension_at, found}
-pub use Rattle.sc_expr.specs.Prelude.{ident_in, import_of, index, is_mark, joined, lead_by, lexeme_of, literal, look_up}
-pub use Rattle.sc_expr.specs.Prelude.{looser, mark_texts, member, most_open, name_at, number_in, open_after}
-pub use Rattle.sc_expr.specs.Prelude.{open_behind, or_unused, parenthesised, prefix, prefix_of, prefixed, read}
-pub use Rattle.sc_expr.specs.Prelude.{symbol_of, third_word, variable, ◌>>=◌}
+pub use Rattle.sc_expr.specs.Prelude.{IsIdent, IsMark, Spells, arrow, behind, binary_of, extension_at, found, ident_in}
+pub use Rattle.sc_expr.specs.Prelude.{import_of, index, is_mark, joined, lead_by, lexeme_of, literal, look_up, looser}
+pub use Rattle.sc_expr.specs.Prelude.{mark_texts, member, most_open, name_at, number_in, open_after, open_behind}
+pub use Rattle.sc_expr.specs.Prelude.{or_unused, parenthesised, prefix, prefix_of, prefixed, read, symbol_of}
+pub use Rattle.sc_expr.specs.Prelude.{third_word, variable, ◌>>=◌}
 unfoldable pub use Rattle.sc_expr.specs.Prelude.{mark_of, says}
 pub use Rattle.sc_expr.specs.declared.operator.Prefix.{Prefix}
 pub use Rattle.sc_parse.specs.Common.{BaseTree, BinaryOp, CallTree, ConstTree, Decl, Declarator, ExportLine, ExprTree}
@@ -41,31 +41,30 @@ pub use Rattle.sc_parse.specs.Common.{StmtTree, StructTree, Symbol, TypeName, Ty
 pub use Rattle.sc_parse.specs.Prelude.{Adder, Declares, Grouped, IsExcess, IsGlobal, IsInteger, IsKeyword, IsLocal}
 pub use Rattle.sc_parse.specs.Prelude.{IsMember, IsParsed, Parses, Reader, SectionTree, Separated, SpellsArgs}
 pub use Rattle.sc_parse.specs.Prelude.{SpellsBase, SpellsBlock, SpellsCall, SpellsCondition, SpellsConst, SpellsDecl}
-pub use Rattle.sc_parse.specs.Prelude.{SpellsDeclarator, SpellsDirectives, SpellsFunction, SpellsHead, SpellsIf}
-pub use Rattle.sc_parse.specs.Prelude.{SpellsInit, SpellsKind, SpellsParam, SpellsParams, SpellsPart, SpellsPlace}
-pub use Rattle.sc_parse.specs.Prelude.{SpellsResult, SpellsSection, SpellsStars, SpellsStmtKind, SpellsStmts}
-pub use Rattle.sc_parse.specs.Prelude.{SpellsStruct, SpellsTest, SpellsTypeName, SpellsValue, a_function, a_part}
-pub use Rattle.sc_parse.specs.Prelude.{a_result, a_struct, a_test, a_value, absent, all_consts, all_separated, alone}
-pub use Rattle.sc_parse.specs.Prelude.{args_behind, array, assign, assign_call, base_by, before_mark, begins_call}
-pub use Rattle.sc_parse.specs.Prelude.{begins_struct, begins_value, begins_with, behind_head, behind_inner_comma, block}
-pub use Rattle.sc_parse.specs.Prelude.{call, call_alone, change_at, change_of, changed, choice, compartment_at}
-pub use Rattle.sc_parse.specs.Prelude.{compartment_by, compound, compound_of, condition, const_tree, declarator}
-pub use Rattle.sc_parse.specs.Prelude.{declares, decls_at, directives, directives_at, elements_at, empty, export}
-pub use Rattle.sc_parse.specs.Prelude.{export_line, first_line, for_loop, for_parts, function, function_head}
-pub use Rattle.sc_parse.specs.Prelude.{function_param, function_tree, global, globals, globals_behind, head, head_tree}
-pub use Rattle.sc_parse.specs.Prelude.{import_line, int, integer_by, is_base, is_else, is_empty, is_if, is_int}
-pub use Rattle.sc_parse.specs.Prelude.{is_struct_word, is_void, keyword_at, keyword_by, kind_by, lexemes_of, line_at}
-pub use Rattle.sc_parse.specs.Prelude.{line_by, literal_at, local, locals_behind, loop_of, makes_value, many}
-pub use Rattle.sc_parse.specs.Prelude.{many_comma, mark_at, mark_by, members_behind, members_in_braces, more, named}
-pub use Rattle.sc_parse.specs.Prelude.{named_head, named_params, nameless, names_struct, negated, next, no_args}
-pub use Rattle.sc_parse.specs.Prelude.{no_base, no_params, no_part, no_result, no_test, no_value, none, one, otherwise}
-pub use Rattle.sc_parse.specs.Prelude.{otherwise_if, param_tree, past_base, past_comma, past_int, past_stars, placed}
-pub use Rattle.sc_parse.specs.Prelude.{plain, prototype, return_call, return_nothing, return_value, section, section_at}
-pub use Rattle.sc_parse.specs.Prelude.{section_tree, signed, signed_int, simple_or_none, simple_tree, some_args}
-pub use Rattle.sc_parse.specs.Prelude.{some_params, star, step_at, step_before, step_behind, step_of, stmt_tree}
-pub use Rattle.sc_parse.specs.Prelude.{stmts_at, struct, struct_tree, type_name, type_of, unary_place, unsigned}
-pub use Rattle.sc_parse.specs.Prelude.{unsigned_int, unstepped, updates, value_returned, while_loop, whole_line}
-pub use Rattle.sc_parse.specs.Prelude.{with_line}
+pub use Rattle.sc_parse.specs.Prelude.{SpellsDeclarator, SpellsDirectives, SpellsHead, SpellsIf, SpellsInit, SpellsKind}
+pub use Rattle.sc_parse.specs.Prelude.{SpellsParam, SpellsParams, SpellsPart, SpellsPlace, SpellsResult, SpellsSection}
+pub use Rattle.sc_parse.specs.Prelude.{SpellsStars, SpellsStmtKind, SpellsStmts, SpellsStruct, SpellsTest}
+pub use Rattle.sc_parse.specs.Prelude.{SpellsTypeName, SpellsValue, a_function, a_part, a_result, a_struct, a_test}
+pub use Rattle.sc_parse.specs.Prelude.{a_value, absent, all_separated, alone, args_behind, array, assign, assign_call}
+pub use Rattle.sc_parse.specs.Prelude.{base_by, before_mark, begins_call, begins_struct, begins_value, begins_with}
+pub use Rattle.sc_parse.specs.Prelude.{behind_head, behind_inner_comma, block, call, change_at, change_of, changed}
+pub use Rattle.sc_parse.specs.Prelude.{choice, compartment_at, compartment_by, compound, compound_of, condition}
+pub use Rattle.sc_parse.specs.Prelude.{const_tree, declarator, declares, decls_at, directives, directives_at}
+pub use Rattle.sc_parse.specs.Prelude.{elements_at, empty, export, export_line, first_line, for_loop, for_parts}
+pub use Rattle.sc_parse.specs.Prelude.{function, function_head, function_param, function_tree, global, globals}
+pub use Rattle.sc_parse.specs.Prelude.{globals_behind, head, head_tree, import_line, int, integer_by, is_base, is_else}
+pub use Rattle.sc_parse.specs.Prelude.{is_empty, is_if, is_int, is_struct_word, is_void, keyword_at, keyword_by}
+pub use Rattle.sc_parse.specs.Prelude.{kind_by, lexemes_of, line_at, line_by, literal_at, local, locals_behind, loop_of}
+pub use Rattle.sc_parse.specs.Prelude.{makes_value, many, many_comma, mark_at, mark_by, members_behind}
+pub use Rattle.sc_parse.specs.Prelude.{members_in_braces, more, named, named_head, named_params, nameless, names_struct}
+pub use Rattle.sc_parse.specs.Prelude.{negated, next, no_args, no_base, no_params, no_part, no_result, no_test}
+pub use Rattle.sc_parse.specs.Prelude.{no_value, none, one, otherwise, otherwise_if, param_tree, past_base, past_comma}
+pub use Rattle.sc_parse.specs.Prelude.{past_int, past_stars, placed, plain, prototype, return_call, return_nothing}
+pub use Rattle.sc_parse.specs.Prelude.{return_value, section, section_at, section_tree, signed, signed_int}
+pub use Rattle.sc_parse.specs.Prelude.{simple_or_none, simple_tree, some_args, some_params, star, step_at, step_before}
+pub use Rattle.sc_parse.specs.Prelude.{step_behind, step_of, stmt_tree, stmts_at, struct, struct_tree, type_name}
+pub use Rattle.sc_parse.specs.Prelude.{type_of, unary_place, unsigned, unsigned_int, unstepped, updates, value_returned}
+pub use Rattle.sc_parse.specs.Prelude.{while_loop, whole_line, with_line}
 unfoldable pub use Rattle.sc_parse.specs.Prelude.{adds, args_at, assignment_at, base_at, begins_head, block_at}
 unfoldable pub use Rattle.sc_parse.specs.Prelude.{body_behind, call_at, condition_at, const_at, consts_at, decl_at}
 unfoldable pub use Rattle.sc_parse.specs.Prelude.{declaration_at, declarator_at, else_at, else_behind, ended_at}

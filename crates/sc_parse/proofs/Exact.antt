@@ -1,44 +1,59 @@
 -- Readers that read exactly what is spelled, alone and in lists.
-use Rattle.sc_parse.proofs.Common.{Adder, Bool, Grouped, IsMark, Lexeme, List, Mark, None, Option, Reader, Separated}
-use Rattle.sc_parse.proofs.Common.{Some, [], adds, ap, append-nil, append_assoc, arith, before_mark, behind}
-use Rattle.sc_parse.proofs.Common.{behind_mark, bound, cond, false, glued, grouped, length, length-append, more, next}
-use Rattle.sc_parse.proofs.Common.{none, none-some, one, option_map_or, refl, same_some, separated, subst, suc, sym}
-use Rattle.sc_parse.proofs.Common.{true, zero, ℕ, ◌++◌, ◌+◌, ◌<◌, ◌>>=◌, ◌∙◌, ◌∷◌, ◌≡◌, ◌≤◌}
+use Rattle.sc_parse.proofs.Common.{Adder, Bool, Grouped, IsIdent, IsKeyword, IsMark, Keyword, Lexeme, List, Mark, None}
+use Rattle.sc_parse.proofs.Common.{Option, Reader, Separated, Some, Symbol, [], adds, all_separated, ap, append-nil}
+use Rattle.sc_parse.proofs.Common.{append_assoc, arith, before_mark, behind, behind_mark, bound, cond, drop, false}
+use Rattle.sc_parse.proofs.Common.{glued, grouped, is_mark, keyword_at, keyword_by, length, length-append, map, max}
+use Rattle.sc_parse.proofs.Common.{more, name_ahead, name_at, next, none, none-some, one, option_map_or, refl}
+use Rattle.sc_parse.proofs.Common.{same_some, separated, subst, suc, sym, true, zero, ℕ, ◌++◌, ◌+◌, ◌<◌, ◌>>=◌, ◌∙◌}
+use Rattle.sc_parse.proofs.Common.{◌∷◌, ◌≡◌, ◌≤◌}
 use Rattle.sc_expr.specs.declared.mark.Mark.TheVariants as mark
+use Rattle.sc_expr.specs.declared.lexeme.Symbol.TheVariants as symbol
+use Rattle.sc_ast.specs.Height.{highest}
+use Rattle.sc_expr.specs.contracts.mark.Mark.{the_type}
+use denote.Enum.Bare.{true_same}
+use Rattle.sc_parse.specs.Fronts.{ended_by}
+
+-- what is read at the front, as forms that lexemes have and properties of what stands behind
+abbrev pub Form : Type 0 → Type 1
+Form A = List Lexeme → A → Type 0
+
+abbrev pub Property : Type 1
+Property = List Lexeme → Type 0
 
 -- A front of the lexemes, with what it spells.
-pub record Taken {A : Type 0} (Item : List Lexeme → A → Type 0) (ts : List Lexeme) (x : A)
-    (rest : List Lexeme) : Type 0 where
+pub record Taken {A : Type 0} (Item : Form A) (ts : List Lexeme) (x : A) (rest : List Lexeme) : Type 0 where
   pub taken : List Lexeme
   pub split : ts ≡ taken ++ rest
   pub spelled : Item taken x
 
--- A front of the lexemes, with what it adds to a list.
-pub record Added {A : Type 0} (Group : List Lexeme → List A → Type 0) (xs : List A) (ts : List Lexeme) (ys : List A)
-    (rest : List Lexeme) : Type 0 where
-  pub taken : List Lexeme
-  pub added : List A
-  pub split : ts ≡ taken ++ rest
-  pub all : ys ≡ xs ++ added
-  pub spelled : Group taken added
+-- What is read is spelled so.
+abbrev pub Sound : {A : Type 0} → Form A → Reader A → Type 0
+Sound {A} Item reader = (ts rest : List Lexeme) (x : A) → reader ts ≡ Some (x, rest) → Taken Item ts x rest
 
--- What is read is spelled so, and what is spelled so is read, where it fits and ends there.
-pub record Exact {A : Type 0} (Fits : List Lexeme → Type 0) (Item : List Lexeme → A → Type 0)
-    (Ends : List Lexeme → Type 0) (reader : Reader A) : Type 0 where
-  pub sound : (ts rest : List Lexeme) (x : A) → reader ts ≡ Some (x, rest) → Taken Item ts x rest
-  pub complete : (ts rest : List Lexeme) (x : A) → Item ts x → Fits ts → Ends rest →
-      reader (ts ++ rest) ≡ Some (x, rest)
+-- What is spelled so is read, where it fits and ends there.
+abbrev pub Complete : {A : Type 0} → Property → Form A → Property → Reader A → Type 0
+Complete {A} Fits Item Ends reader = (ts : List Lexeme) (x : A) → Item ts x → (rest : List Lexeme) → Fits ts →
+    Ends rest → reader (ts ++ rest) ≡ Some (x, rest)
 
--- The same for what adds to a list.
-pub record ExactAdder {A : Type 0} (Fits : List Lexeme → Type 0) (Group : List Lexeme → List A → Type 0)
-    (Ends : List Lexeme → Type 0) (adder : Adder A) : Type 0 where
-  pub sound : (xs ys : List A) (ts rest : List Lexeme) → adder xs ts ≡ Some (ys, rest) → Added Group xs ts ys rest
-  pub complete : (xs zs : List A) (ts rest : List Lexeme) → Group ts zs → Fits ts → Ends rest →
-      adder xs (ts ++ rest) ≡ Some (xs ++ zs, rest)
+-- What has one form has the other.
+abbrev pub Turns : {A : Type 0} → Form A → Form A → Type 0
+Turns {A} Item Other = (ts : List Lexeme) (x : A) → Item ts x → Other ts x
+
+pub record Exact {A : Type 0} (Fits : Property) (Item : Form A) (Ends : Property) (reader : Reader A) : Type 0 where
+  pub sound : Sound Item reader
+  pub complete : Complete Fits Item Ends reader
 
 -- all lexemes fit
-abbrev pub Any : List Lexeme → Type 0
+abbrev pub Any : Property
 Any ts = Unit {0}
+
+-- What fits as a whole fits in parts.
+pub record Hereditary (Fits : Property) : Type 0 where
+  pub left : (ts us : List Lexeme) → Fits (ts ++ us) → Fits ts
+  pub right : (ts us : List Lexeme) → Fits (ts ++ us) → Fits us
+
+pub any : Hereditary Any
+any = record { left = λ ts us h. tt; right = λ ts us h. tt }
 
 -- what a test chose
 pub chosen : {A P : Type 0} (b : Bool) (u v : A) {w : A} → cond b u v ≡ w → (b ≡ true → u ≡ w → P) →
@@ -55,191 +70,312 @@ given f (Some x) other h without with = with x refl h
 pub same_pair : {A B : Type 0} {x y : A × B} → Some x ≡ Some y → (x.0 ≡ y.0) × (x.1 ≡ y.1)
 same_pair h = let same = same_some h in (ap (λ p. p.0) same, ap (λ p. p.1) same)
 
-pub took : {A : Type 0} {Item : List Lexeme → A → Type 0} {ts us rest : List Lexeme} {x y : A} (taken : List Lexeme) →
+pub took : {A : Type 0} {Item : Form A} {ts us rest : List Lexeme} {x y : A} (taken : List Lexeme) →
     ◌≡◌ {A = Option (A × List Lexeme)} (Some (y, us)) (Some (x, rest)) → ts ≡ taken ++ us → Item taken y →
     Taken Item ts x rest
 took {Item = Item} {ts = ts} taken h split spelled =
     subst (λ p. Taken Item ts p.0 p.1) (same_some h) (record { taken = taken; split = split; spelled = spelled })
 
--- what is read, made into something else
-pub made : {A B : Type 0} {Item : List Lexeme → A → Type 0} {Made : List Lexeme → B → Type 0} (f : A → B)
-    (reader : Reader A) → ((ts rest : List Lexeme) (x : A) → reader ts ≡ Some (x, rest) → Taken Item ts x rest) →
-    ((ts : List Lexeme) (x : A) → Item ts x → Made ts (f x)) → {ts rest : List Lexeme} {y : B} →
-    ◌>>=◌ {B = B × List Lexeme} (reader ts) (λ x. Some (f x.0, x.1)) ≡ Some (y, rest) → Taken Made ts y rest
-made f reader sound make {ts} h =
-    let b = bound _ _ _ h in
-    let t = sound ts b.0.1 b.0.0 b.1 in
-    took t.taken b.2 t.split (make t.taken b.0.0 t.spelled)
+-- What is spelled so and at most so high.
+abbrev pub Low : {A : Type 0} → Form A → (A → ℕ) → ℕ → Form A
+Low Item height room ts x = Item ts x × (height x ≤ room)
 
--- What stands before a mark, and the mark.
-pub record Before {A : Type 0} (Item : List Lexeme → A → Type 0) (m : Mark) (ts : List Lexeme) (x : A)
-    (rest : List Lexeme) : Type 0 where
-  pub taken : List Lexeme
-  pub ends : Lexeme
-  pub split : ts ≡ taken ++ ends ∷ rest
-  pub mark : IsMark m ends
-  pub spelled : Item taken x
+-- the same lexemes as another form
+pub as_form : {A : Type 0} {Item Other : Form A} {ts rest : List Lexeme} {x : A} →
+    Turns Item Other → Taken Item ts x rest → Taken Other ts x rest
+as_form turn t = record { taken = t.taken; split = t.split; spelled = turn _ _ t.spelled }
 
-pub ended : {A : Type 0} (m : Mark) (Item : List Lexeme → A → Type 0) (reader : Reader A) →
-    ((ts rest : List Lexeme) (x : A) → reader ts ≡ Some (x, rest) → Taken Item ts x rest) → (ts : List Lexeme)
-    (y : A × List Lexeme) → before_mark m reader ts ≡ Some y → Before Item m ts y.0 y.1
-ended m Item reader sound ts y h =
-    let b = bound _ _ y h in
-    let c = bound _ _ y b.2 in
-    let d = sound ts b.0.1 b.0.0 b.1 in
-    let v = behind_mark m b.0.1 c.0 c.1 in
-    subst (λ p. Before Item m ts p.0 p.1) (same_some c.2) (record {
-      taken = d.taken;
-      ends = v.0;
-      split = d.split ∙ ap (λ l. d.taken ++ l) v.1;
-      mark = v.2;
-      spelled = d.spelled;
-    })
+-- What is read, made into something else.
+pub data Made {A B : Type 0} (f : A → B) (Item : Form A) : List Lexeme → B → Type 0 where
+  made : {ts : List Lexeme} {x : A} → Item ts x → Made f Item ts (f x)
 
--- What stands between two marks, and the marks.
-pub record Between {A : Type 0} (Item : List Lexeme → A → Type 0) (m n : Mark) (ts : List Lexeme) (x : A)
-    (rest : List Lexeme) : Type 0 where
-  pub first : Lexeme
-  pub taken : List Lexeme
-  pub last : Lexeme
-  pub split : ts ≡ (first ∷ (taken ++ last ∷ [])) ++ rest
-  pub opens : IsMark m first
-  pub closes : IsMark n last
-  pub spelled : Item taken x
+-- What stands behind a mark, with the mark.
+pub data After {A : Type 0} (m : Mark) (Item : Form A) : List Lexeme → A → Type 0 where
+  after : {ts : List Lexeme} {x : A} (t : Lexeme) → IsMark m t → Item ts x → After m Item (t ∷ ts) x
 
-pub enclosed : {A : Type 0} (m n : Mark) (Item : List Lexeme → A → Type 0) (reader : Reader A) →
-    ((ts rest : List Lexeme) (x : A) → reader ts ≡ Some (x, rest) → Taken Item ts x rest) → (ts : List Lexeme)
-    (y : A × List Lexeme) → behind m ts >>= before_mark n reader ≡ Some y → Between Item m n ts y.0 y.1
-enclosed m n Item reader sound ts y h =
-    let o = bound _ _ y h in
-    let u = behind_mark m ts o.0 o.1 in
-    let b = ended n Item reader sound o.0 y o.2 in
-    record {
-      first = u.0;
-      taken = b.taken;
-      last = b.ends;
-      split = u.1 ∙ ap (λ l. u.0 ∷ l) (glued y.1 b.taken (b.ends ∷ []) b.split refl);
-      opens = u.2;
-      closes = b.mark;
-      spelled = b.spelled;
-    }
+-- What stands before a mark, with the mark, made into something else.
+pub data Before {A B : Type 0} (m : Mark) (f : A → B) (Item : Form A) : List Lexeme → B → Type 0 where
+  before : {ts : List Lexeme} {x : A} (t : Lexeme) → IsMark m t → Item ts x → Before m f Item (ts ++ t ∷ []) (f x)
 
--- one item of a list
-pub record One {A : Type 0} (Item : List Lexeme → A → Type 0) (ts : List Lexeme) (xs : List A) : Type 0 where
-  pub item : A
-  pub is : xs ≡ item ∷ []
-  pub spelled : Item ts item
+-- What stands between two marks, with the marks.
+abbrev pub Between : {A : Type 0} → Mark → Mark → Form A → Form A
+Between opens closes Item = After opens (Before closes (λ x. x) Item)
 
-pub adds_exact : {A : Type 0} (Fits : List Lexeme → Type 0) (Item : List Lexeme → A → Type 0) (Ends : List Lexeme →
-    Type 0) (reader : Reader A) → Exact Fits Item Ends reader → ExactAdder Fits (One Item) Ends (adds reader)
-unfolding adds
-adds_exact {A} Fits Item Ends reader e = record {
-  sound = λ xs ys ts rest h.
-      let b = bound _ _ _ h in
-      let t = e.sound ts b.0.1 b.0.0 b.1 in
-      let same = same_pair b.2 in
-      record {
-        taken = t.taken;
-        added = b.0.0 ∷ [];
-        split = t.split ∙ ap (λ l. t.taken ++ l) same.1;
-        all = sym same.0;
-        spelled = record { item = b.0.0; is = refl; spelled = t.spelled };
-      };
-  complete = λ xs zs ts rest g fits ends.
-      ap (λ r. r >>= (λ x. Some (xs ++ x.0 ∷ [], x.1))) (e.complete ts rest g.item g.spelled fits ends)
-      ∙ ap (λ l. Some (xs ++ l, rest)) (sym g.is);
+-- What stands behind a word, with the word.
+pub data Behind {A : Type 0} (word : Keyword) (Item : Form A) : List Lexeme → A → Type 0 where
+  behind_word : {ts : List Lexeme} {x : A} (t : Lexeme) → IsKeyword word t → Item ts x → Behind word Item (t ∷ ts) x
+
+-- One form behind another, which the value of the first chooses.
+pub data Then {A B : Type 0} (Item : Form A) (Next : A → Form B) : List Lexeme → B → Type 0 where
+  both : {ts us : List Lexeme} {x : A} {y : B} → Item ts x → Next x us y → Then Item Next (ts ++ us) y
+
+-- A name as a form.
+pub data IsName : List Lexeme → List ℕ → Type 0 where
+  a_name : (t : Lexeme) (name : List ℕ) → IsIdent name t → IsName (t ∷ []) name
+
+pub name_exact : {Fits : Property} → Exact Fits IsName Any name_at
+name_exact {Fits} = record {
+  sound = λ ts rest x h.
+      let t = name_ahead ts rest x h in
+      record { taken = t.0 ∷ []; split = t.1; spelled = a_name t.0 x t.2 };
+  complete = name_reads;
+}
+  where
+    name_reads : Complete Fits IsName Any name_at
+    name_reads _ _ (a_name t name p) rest fits ends = rw p
+
+pub made_exact : {A B : Type 0} {Fits Ends : Property} {Item : Form A} {reader : Reader A} (f : A → B) →
+    Exact Fits Item Ends reader → Exact Fits (Made f Item) Ends (λ ts. reader ts >>= (λ x. Some (f x.0, x.1)))
+made_exact {A} {B} {Fits} {Ends} {Item} {reader} f exact = record { sound = sound; complete = complete }
+  where
+    sound : Sound (Made f Item) (λ ts. reader ts >>= (λ x. Some (f x.0, x.1)))
+    sound ts rest y h =
+        let b = bound _ _ _ h in
+        let d = exact.sound ts b.0.1 b.0.0 b.1 in
+        took d.taken b.2 d.split (made d.spelled)
+
+    complete : Complete Fits (Made f Item) Ends (λ ts. reader ts >>= (λ x. Some (f x.0, x.1)))
+    complete _ _ (made d) rest fits ends = rw (exact.complete _ _ d rest fits ends)
+
+-- A reader of one form as that of another.
+pub formed_exact : {A : Type 0} {Fits Ends Earlier : Property} {Item Other : Form A} {reader : Reader A} →
+    Exact Fits Item Ends reader → Turns Item Other → Turns Other Item →
+    ((rest : List Lexeme) → Earlier rest → Ends rest) → Exact Fits Other Earlier reader
+formed_exact exact make apart ends = record {
+  sound = λ ts rest x h. as_form make (exact.sound ts rest x h);
+  complete = λ ts x d rest fits earlier. exact.complete ts x (apart ts x d) rest fits (ends rest earlier);
 }
 
-module _ {A : Type 0} (Fits : List Lexeme → Type 0) (fits_left : (ts us : List Lexeme) → Fits (ts ++ us) → Fits ts)
-    (fits_right : (ts us : List Lexeme) → Fits (ts ++ us) → Fits us) where
+pub made_of : {A B : Type 0} {f : A → B} {Item : Form A} (Other : Form B) →
+    ((ts : List Lexeme) (x : A) → Item ts x → Other ts (f x)) → Turns (Made f Item) Other
+made_of Other make _ _ (made d) = make _ _ d
+
+-- what was read behind a lexeme, with it
+pub front_taken : {A : Type 0} {Item Other : Form A} {ts us rest : List Lexeme} {x : A} (t : Lexeme) → ts ≡ t ∷ us →
+    Taken Item us x rest → ((vs : List Lexeme) → Item vs x → Other (t ∷ vs) x) → Taken Other ts x rest
+front_taken t is d make =
+    record { taken = t ∷ d.taken; split = is ∙ ap (λ l. t ∷ l) d.split; spelled = make d.taken d.spelled }
+
+keyword_is : (s : Symbol) (word : Keyword) → keyword_by s ≡ Some word → s ≡ symbol.Keyword word
+keyword_is (symbol.Keyword other) word h = ap (λ w. symbol.Keyword w) (same_some h)
+keyword_is _ word h = absurd (none-some word h)
+
+-- a reserved word at the front
+pub record Word (ts : List Lexeme) (word : Keyword) : Type 0 where
+  pub first : Lexeme
+  pub is : ts ≡ first ∷ drop 1 ts
+  pub keyword : IsKeyword word first
+
+pub word_ahead : (ts : List Lexeme) (word : Keyword) → keyword_at ts ≡ Some word → Word ts word
+word_ahead [] word h = absurd (none-some word h)
+word_ahead (t ∷ ts) word h = record { first = t; is = refl; keyword = keyword_is _ word h }
+
+pub word_taken : {A : Type 0} {Item : Form A} (ts : List Lexeme) {rest : List Lexeme} {x : A} {word : Keyword} →
+    keyword_at ts ≡ Some word → Taken Item (drop 1 ts) x rest → Taken (Behind word Item) ts x rest
+word_taken ts {word = word} h d = let t = word_ahead ts word h in
+    front_taken t.first t.is d (λ vs d. behind_word t.first t.keyword d)
+
+mark_same : (m : Mark) → is_mark m (symbol.Mark m) ≡ true
+mark_same m = true_same the_type m m refl
+
+module _ {Fits : Property} (parts : Hereditary Fits) where
+  pub fits_behind : (t : Lexeme) (ts : List Lexeme) → Fits (t ∷ ts) → Fits ts
+  fits_behind t ts h = parts.right (t ∷ []) ts h
+
+  pub then_exact : {A B : Type 0} {Item : Form A} {Next : A → Form B} {Ends Last : Property} {reader : Reader A}
+      {next : A → Reader B} → Exact Fits Item Ends reader → ((x : A) → Exact Fits (Next x) Last (next x)) →
+      ((x : A) (us : List Lexeme) (y : B) → Next x us y → (rest : List Lexeme) → Last rest → Ends (us ++ rest)) →
+      Exact Fits (Then Item Next) Last (λ ts. reader ts >>= (λ x. next x.0 x.1))
+  then_exact {A} {B} {Item} {Next} {Ends} {Last} {reader} {next} first second meets = record {
+    sound = λ ts rest y h.
+        let b = bound _ _ _ h in
+        let d = first.sound ts b.0.1 b.0.0 b.1 in
+        let e = (second b.0.0).sound b.0.1 rest y b.2 in
+        record {
+          taken = d.taken ++ e.taken;
+          split = glued rest d.taken e.taken d.split e.split;
+          spelled = both d.spelled e.spelled;
+        };
+    complete = complete;
+  }
+    where
+      complete : Complete Fits (Then Item Next) Last (λ ts. reader ts >>= (λ x. next x.0 x.1))
+      complete _ _ (both {ts = ts} {us = us} {x = x} d e) rest fits ends =
+          ap (λ l. reader l >>= (λ x. next x.0 x.1)) (append_assoc ts us rest) ∙
+          rw (first.complete _ _ d (us ++ rest) (parts.left ts us fits) (meets x us _ e rest ends))
+          ((second x).complete _ _ e rest (parts.right ts us fits) ends)
+
+  pub after_exact : {A : Type 0} {Item : Form A} {Ends : Property} {reader : Reader A} (m : Mark) →
+      Exact Fits Item Ends reader → Exact Fits (After m Item) Ends (λ ts. behind m ts >>= reader)
+  after_exact {A} {Item} {Ends} {reader} m exact = record {
+    sound = λ ts rest x h.
+        let b = bound _ _ _ h in
+        let t = behind_mark m ts b.0 b.1 in
+        front_taken t.0 t.1 (exact.sound b.0 rest x b.2) (λ vs d. after t.0 t.2 d);
+    complete = complete;
+  }
+    where
+      complete : Complete Fits (After m Item) Ends (λ ts. behind m ts >>= reader)
+      complete _ _ (after {ts = ts} t p d) rest fits ends =
+          rw (p, mark_same m) (exact.complete ts _ d rest (fits_behind t ts fits) ends)
+
+  pub before_exact : {A B : Type 0} {Item : Form A} {Ends : Property} {reader : Reader A} (m : Mark) (f : A → B) →
+      Exact Fits Item Ends reader → ((t : Lexeme) (rest : List Lexeme) → IsMark m t → Ends (t ∷ rest)) →
+      Exact Fits (Before m f Item) Any (λ ts. reader ts >>= (λ x. ended_by m (f x.0) x.1))
+  before_exact {A} {B} {Item} {Ends} {reader} m f exact meets = record {
+    sound = λ ts rest x h.
+        let b = bound _ _ _ h in
+        let c = bound _ _ _ b.2 in
+        let d = exact.sound ts b.0.1 b.0.0 b.1 in
+        let t = behind_mark m b.0.1 c.0 c.1 in
+        took (d.taken ++ t.0 ∷ []) c.2 (glued c.0 d.taken (t.0 ∷ []) d.split t.1) (before t.0 t.2 d.spelled);
+    complete = complete;
+  }
+    where
+      complete : Complete Fits (Before m f Item) Any (λ ts. reader ts >>= (λ x. ended_by m (f x.0) x.1))
+      complete _ _ (before {ts = ts} t p d) rest fits ends =
+          ap (λ l. reader l >>= (λ x. ended_by m (f x.0) x.1)) (append_assoc ts (t ∷ []) rest) ∙
+          rw (exact.complete ts _ d (t ∷ rest) (parts.left ts (t ∷ []) fits) (meets t rest p), p, mark_same m)
+
+  pub between_exact : {A : Type 0} {Item : Form A} {Ends : Property} {reader : Reader A} (opens closes : Mark) →
+      Exact Fits Item Ends reader → ((t : Lexeme) (rest : List Lexeme) → IsMark closes t → Ends (t ∷ rest)) →
+      Exact Fits (Between opens closes Item) Any (λ ts. behind opens ts >>= before_mark closes reader)
+  between_exact opens closes exact meets = after_exact opens (before_exact closes (λ x. x) exact meets)
+
+  -- what all lexemes fit, these fit
+  pub fitting : {A : Type 0} {Item : Form A} {Ends : Property} {reader : Reader A} → Exact Any Item Ends reader →
+      Exact Fits Item Ends reader
+  fitting exact = record {
+    sound = exact.sound;
+    complete = λ ts x d rest fits ends. exact.complete ts x d rest tt ends;
+  }
+
+-- What stands at the front is added to a list.
+pub data Adds {A : Type 0} (Group : Form (List A)) (xs : List A) : List Lexeme → List A → Type 0 where
+  adding : {ts : List Lexeme} {zs : List A} → Group ts zs → Adds Group xs ts (xs ++ zs)
+
+abbrev pub ExactAdder : {A : Type 0} → Property → Form (List A) → Property → Adder A → Type 0
+ExactAdder {A} Fits Group Ends adder = (xs : List A) → Exact Fits (Adds Group xs) Ends (adder xs)
+
+-- what is added to nothing is read
+pub from_none : {A : Type 0} {Fits Ends : Property} {Group : Form (List A)} {adder : Adder A} →
+    ExactAdder Fits Group Ends adder → Exact Fits Group Ends (adder [])
+from_none {Group = Group} e = formed_exact (e []) added (λ ts x d. adding d) (λ rest h. h)
+  where
+    added : Turns (Adds Group []) Group
+    added _ _ (adding d) = d
+
+-- One item of a list.
+pub data One {A : Type 0} (Item : Form A) : List Lexeme → List A → Type 0 where
+  single : {ts : List Lexeme} {x : A} → Item ts x → One Item ts (x ∷ [])
+
+pub adds_exact : {A : Type 0} {Fits Ends : Property} {Item : Form A} {reader : Reader A} → Exact Fits Item Ends reader →
+    ExactAdder Fits (One Item) Ends (adds reader)
+unfolding adds
+adds_exact {A} {Item = Item} exact xs = formed_exact (made_exact (λ x. xs ++ x ∷ []) exact) added apart (λ rest h. h)
+  where
+    added : Turns (Made (λ x. xs ++ x ∷ []) Item) (Adds (One Item) xs)
+    added _ _ (made d) = adding (single d)
+
+    apart : Turns (Adds (One Item) xs) (Made (λ x. xs ++ x ∷ []) Item)
+    apart _ _ (adding (single d)) = made d
+
+module _ {A : Type 0} {Fits : Property} (parts : Hereditary Fits) where
   module _ (comma : List Lexeme → Option (List Lexeme))
       (comma_ahead : (us vs : List Lexeme) → comma us ≡ Some vs → (t : Lexeme) × (us ≡ t ∷ vs) × IsMark mark.Comma t)
-      (Item : List Lexeme → A → Type 0) (Ends : List Lexeme → Type 0) (reader : Reader A)
-      (exact : Exact Fits Item Ends reader) where
-    pub separated_sound : (turns : ℕ) (xs ys : List A) (ts rest : List Lexeme) →
-        separated comma (adds reader) turns xs ts ≡ Some (ys, rest) → Added (Separated Item) xs ts ys rest
+      {Item : Form A} {Ends : Property} {reader : Reader A} (exact : Exact Fits Item Ends reader) where
+    first_item : {xs ys : List A} {ts : List Lexeme} → Adds (One Item) xs ts ys → Adds (Separated Item) xs ts ys
+    first_item (adding (single d)) = adding (one d)
+
+    next_item : {xs ys zs : List A} {ts us : List Lexeme} (t : Lexeme) → IsMark mark.Comma t →
+        Adds (One Item) xs ts ys → Adds (Separated Item) ys us zs → Adds (Separated Item) xs (ts ++ t ∷ us) zs
+    next_item {xs = xs} {ts = ts} {us = us} t p (adding (single {x = x} d)) (adding {zs = zs} g) =
+        subst (Adds (Separated Item) xs (ts ++ t ∷ us)) (sym (append_assoc xs (x ∷ []) zs)) (adding (more t p d g))
+
+    separated_sound : (turns : ℕ) (xs : List A) →
+        Sound (Adds (Separated Item) xs) (separated comma (adds reader) turns xs)
     unfolding separated
-    separated_sound zero xs ys ts rest h = absurd (none-some _ h)
-    separated_sound (suc turns) xs ys ts rest h =
+    separated_sound zero xs ts rest ys h = absurd (none-some _ h)
+    separated_sound (suc turns) xs ts rest ys h =
         let b = bound (λ x. option_map_or (λ rest. separated comma (adds reader) turns x.0 rest) (comma x.1) (Some x))
         (adds reader xs ts) (ys, rest) h in
-        let a = (adds_exact Fits Item Ends reader exact).sound xs b.0.0 ts b.0.1 b.1 in
-        let item = a.all ∙ ap (λ l. xs ++ l) a.spelled.is in
-        given _ _ _ b.2 (λ q e.
-        let same = same_pair e in
-        record {
-          taken = a.taken;
-          added = a.spelled.item ∷ [];
-          split = a.split ∙ ap (λ l. a.taken ++ l) same.1;
-          all = sym same.0 ∙ item;
-          spelled = one a.spelled.spelled;
-        }) (λ vs q e.
+        let d = (adds_exact exact xs).sound ts b.0.1 b.0.0 b.1 in
+        given _ _ _ b.2 (λ q e. took d.taken e d.split (first_item d.spelled)) (λ vs q e.
         let c = comma_ahead b.0.1 vs q in
-        let l = separated_sound turns b.0.0 ys vs rest e in
+        let l = separated_sound turns b.0.0 vs rest ys e in
         record {
-          taken = a.taken ++ c.0 ∷ l.taken;
-          added = a.spelled.item ∷ l.added;
-          split = glued rest a.taken (c.0 ∷ l.taken) a.split (c.1 ∙ ap (λ r. c.0 ∷ r) l.split);
-          all = l.all ∙ ap (λ r. r ++ l.added) item ∙ append_assoc xs (a.spelled.item ∷ []) l.added;
-          spelled = more c.0 c.2 a.spelled.spelled l.spelled;
+          taken = d.taken ++ c.0 ∷ l.taken;
+          split = glued rest d.taken (c.0 ∷ l.taken) d.split (c.1 ∙ ap (λ r. c.0 ∷ r) l.split);
+          spelled = next_item c.0 c.2 d.spelled l.spelled;
         })
 
-    pub separated_short : {ts : List Lexeme} {zs : List A} → Separated Item ts zs → length zs ≤ length ts + 1
+    separated_short : {ts : List Lexeme} {zs : List A} → Separated Item ts zs → length zs ≤ length ts + 1
     separated_short (one d) = omega arith
     separated_short (more {ts = ts} {us = us} t p d g) = omega (arith, separated_short g, length-append ts (t ∷ us))
 
     module _ (before_comma : (t : Lexeme) (rest : List Lexeme) → IsMark mark.Comma t → Ends (t ∷ rest))
         (goes_on : (t : Lexeme) (us rest : List Lexeme) (zs : List A) → IsMark mark.Comma t → Separated Item us zs →
         comma (t ∷ (us ++ rest)) ≡ Some (us ++ rest)) where
-      pub separated_reads : {ts : List Lexeme} {zs : List A} (d : Separated Item ts zs) (turns : ℕ) (xs : List A)
+      separated_reads : {ts : List Lexeme} {zs : List A} (d : Separated Item ts zs) (turns : ℕ) (xs : List A)
           (rest : List Lexeme) → length zs ≤ turns → Fits ts → Ends rest → comma rest ≡ None →
           separated comma (adds reader) turns xs (ts ++ rest) ≡ Some (xs ++ zs, rest)
       unfolding separated
       separated_reads (one d) zero xs rest h fits ends stop = absurd (omega arith)
       separated_reads (one {ts = ts} {x = x} d) (suc turns) xs rest h fits ends stop =
-          rw (
-            (adds_exact Fits Item Ends reader exact).complete xs (x ∷ []) ts rest
-                (record { item = x; is = refl; spelled = d }) fits ends,
-            stop,
-          )
+          rw ((adds_exact exact xs).complete ts _ (adding (single d)) rest fits ends, stop)
       separated_reads (more t p d g) zero xs rest h fits ends stop = absurd (omega arith)
       separated_reads (more {ts = ts} {us = us} {x = x} {xs = zs} t p d g) (suc turns) xs rest h fits ends stop =
-          let first = (adds_exact Fits Item Ends reader exact).complete xs (x ∷ []) ts (t ∷ (us ++ rest))
-          (record { item = x; is = refl; spelled = d }) (fits_left ts _ fits) (before_comma t (us ++ rest) p) in
+          let first = (adds_exact exact xs).complete ts _ (adding (single d)) (t ∷ (us ++ rest)) (parts.left ts _ fits)
+          (before_comma t (us ++ rest) p) in
           let others = separated_reads g turns (xs ++ x ∷ []) rest (omega arith)
-          (fits_right (t ∷ []) us (fits_right ts _ fits)) ends stop in
+          (fits_behind parts t us (parts.right ts _ fits)) ends stop in
           ap (λ l. separated comma (adds reader) (suc turns) xs l) (append_assoc ts _ rest)
           ∙ rw (first, goes_on t us rest zs p g) (others ∙ ap (λ l. Some (l, rest)) (append_assoc xs _ zs))
 
       -- all that stands between the items is commas
       pub separated_exact : ExactAdder Fits (Separated Item) (λ rest. Ends rest × (comma rest ≡ None))
           (λ xs ts. separated comma (adds reader) (length ts + 1) xs ts)
-      separated_exact = record {
-        sound = λ xs ys ts rest h. separated_sound _ xs ys ts rest h;
-        complete = λ xs zs ts rest g fits ends.
-            let short = separated_short g in
-            separated_reads g _ xs rest (omega (arith, length-append ts rest)) fits ends.0 ends.1;
+      separated_exact xs = record {
+        sound = λ ts rest ys h. separated_sound (length ts + 1) xs ts rest ys h;
+        complete = complete;
       }
+        where
+          complete : Complete Fits (Adds (Separated Item) xs) (λ rest. Ends rest × (comma rest ≡ None))
+              (λ ts. separated comma (adds reader) (length ts + 1) xs ts)
+          complete ts _ (adding g) rest fits ends = let short = separated_short g in
+              separated_reads g _ xs rest (omega (arith, length-append ts rest)) fits ends.0 ends.1
 
-  module _ (ends : List Lexeme → Bool) (Group : List Lexeme → List A → Type 0) (Ends : List Lexeme → Type 0)
-      (group : Adder A) (exact : ExactAdder Fits Group Ends group) where
-    pub grouped_sound : (turns : ℕ) (xs ys : List A) (ts rest : List Lexeme) →
-        grouped ends group turns xs ts ≡ Some (ys, rest) → Added (Grouped Group) xs ts ys rest × (ends rest ≡ true)
+  -- only commas stand between the items
+  pub commas_exact : {Item : Form A} {Ends : Property} {reader : Reader A} → Exact Fits Item Ends reader →
+      ((t : Lexeme) (rest : List Lexeme) → IsMark mark.Comma t → Ends (t ∷ rest)) →
+      ExactAdder Fits (Separated Item) (λ rest. Ends rest × (behind mark.Comma rest ≡ None))
+      (all_separated (adds reader))
+  commas_exact exact before_comma = separated_exact (behind mark.Comma) (λ us vs h. behind_mark _ us vs h) exact
+      before_comma (λ t us rest zs p d. rw p)
+
+  module _ (ends : List Lexeme → Bool) {Group : Form (List A)} {Ends : Property} {group : Adder A}
+      (exact : ExactAdder Fits Group Ends group) where
+    next_group : {xs ys zs : List A} {ts us : List Lexeme} → Adds Group xs ts ys → Adds (Grouped Group) ys us zs →
+        Adds (Grouped Group) xs (ts ++ us) zs
+    next_group {xs = xs} {ts = ts} {us = us} (adding {zs = zs} d) (adding {zs = ws} g) =
+        subst (Adds (Grouped Group) xs (ts ++ us)) (sym (append_assoc xs zs ws)) (adding (next d g))
+
+    pub grouped_sound : (turns : ℕ) (xs : List A) (ts rest : List Lexeme) (ys : List A) →
+        grouped ends group turns xs ts ≡ Some (ys, rest) → Taken (Adds (Grouped Group) xs) ts ys rest ×
+        (ends rest ≡ true)
     unfolding grouped
-    grouped_sound zero xs ys ts rest h = absurd (none-some _ h)
-    grouped_sound (suc turns) xs ys ts rest h = chosen _ _ _ h (λ q e. let same = same_pair e in (
-      record { taken = []; added = []; split = same.1; all = sym same.0 ∙ sym (append-nil xs); spelled = none },
-      ap ends (sym same.1) ∙ q,
+    grouped_sound zero xs ts rest ys h = absurd (none-some _ h)
+    grouped_sound (suc turns) xs ts rest ys h = chosen _ _ _ h (λ q e. (
+      took [] e refl (subst (Adds (Grouped Group) xs []) (append-nil xs) (adding none)),
+      ap ends (sym (same_pair e).1) ∙ q,
     )) (λ q e.
         let b = bound (λ x. grouped ends group turns x.0 x.1) _ (ys, rest) e in
-        let a = exact.sound xs b.0.0 ts b.0.1 b.1 in
-        let l = grouped_sound turns b.0.0 ys b.0.1 rest b.2 in (
+        let d = (exact xs).sound ts b.0.1 b.0.0 b.1 in
+        let l = grouped_sound turns b.0.0 b.0.1 rest ys b.2 in (
           record {
-            taken = a.taken ++ l.0.taken;
-            added = a.added ++ l.0.added;
-            split = glued rest a.taken l.0.taken a.split l.0.split;
-            all = l.0.all ∙ ap (λ r. r ++ l.0.added) a.all ∙ append_assoc xs a.added l.0.added;
-            spelled = next a.spelled l.0.spelled;
+            taken = d.taken ++ l.0.taken;
+            split = glued rest d.taken l.0.taken d.split l.0.split;
+            spelled = next_group d.spelled l.0.spelled;
           },
           l.1,
         ))
@@ -259,10 +395,10 @@ module _ {A : Type 0} (Fits : List Lexeme → Type 0) (fits_left : (ts us : List
       group_short (next {ts = ts} {us = us} {xs = xs} d g) =
           omega (arith, group_short g, some ts xs d, length-append ts us)
 
-      before : {us : List Lexeme} {zs : List A} (g : Grouped Group us zs) (rest : List Lexeme) → ends rest ≡ true →
+      group_ahead : {us : List Lexeme} {zs : List A} (g : Grouped Group us zs) (rest : List Lexeme) → ends rest ≡ true →
           Ends (us ++ rest)
-      before none rest h = at_end rest h
-      before (next {ts = ts} {us = us} {xs = xs} d g) rest h =
+      group_ahead none rest h = at_end rest h
+      group_ahead (next {ts = ts} {us = us} {xs = xs} d g) rest h =
           subst Ends (sym (append_assoc ts us rest)) (before_group ts (us ++ rest) xs d)
 
       grouped_reads : {ts : List Lexeme} {zs : List A} (d : Grouped Group ts zs) (turns : ℕ) (xs : List A)
@@ -273,16 +409,63 @@ module _ {A : Type 0} (Fits : List Lexeme → Type 0) (fits_left : (ts us : List
       grouped_reads none (suc turns) xs rest h fits stop = rw stop (ap (λ l. Some (l, rest)) (sym (append-nil xs)))
       grouped_reads (next d g) zero xs rest h fits stop = absurd (omega arith)
       grouped_reads (next {ts = ts} {us = us} {xs = zs} {ys = ws} d g) (suc turns) xs rest h fits stop =
-          let first = exact.complete xs zs ts _ d (fits_left ts us fits) (before g rest stop) in
-          let others = grouped_reads g turns (xs ++ zs) rest (omega arith) (fits_right ts us fits) stop in
+          let first = (exact xs).complete ts _ (adding d) _ (parts.left ts us fits) (group_ahead g rest stop) in
+          let others = grouped_reads g turns (xs ++ zs) rest (omega arith) (parts.right ts us fits) stop in
           ap (λ l. grouped ends group (suc turns) xs l) (append_assoc ts us rest)
           ∙ rw (starts ts (us ++ rest) zs d, first) (others ∙ ap (λ l. Some (l, rest)) (append_assoc xs zs ws))
 
       pub grouped_exact : ExactAdder Fits (Grouped Group) (λ rest. ends rest ≡ true)
           (λ xs ts. grouped ends group (length ts + 1) xs ts)
-      grouped_exact = record {
-        sound = λ xs ys ts rest h. (grouped_sound _ xs ys ts rest h).0;
-        complete = λ xs zs ts rest g fits stop.
-            let short = group_short g in
-            grouped_reads g _ xs rest (omega (arith, length-append ts rest)) fits stop;
+      grouped_exact xs = record {
+        sound = λ ts rest ys h. (grouped_sound (length ts + 1) xs ts rest ys h).0;
+        complete = complete;
       }
+        where
+          complete : Complete Fits (Adds (Grouped Group) xs) (λ rest. ends rest ≡ true)
+              (λ ts. grouped ends group (length ts + 1) xs ts)
+          complete ts _ (adding g) rest fits stop = let short = group_short g in
+              grouped_reads g _ xs rest (omega (arith, length-append ts rest)) fits stop
+
+-- items and groups of one form as those of another
+pub items_turned : {A : Type 0} {Item Other : Form A} {ts : List Lexeme} {xs : List A} → Turns Item Other →
+    Separated Item ts xs → Separated Other ts xs
+items_turned turn (one d) = one (turn _ _ d)
+items_turned turn (more t p d g) = more t p (turn _ _ d) (items_turned turn g)
+
+pub groups_turned : {A : Type 0} {Group Other : Form (List A)} {ts : List Lexeme} {xs : List A} → Turns Group Other →
+    Grouped Group ts xs → Grouped Other ts xs
+groups_turned turn none = none
+groups_turned turn (next d g) = next (turn _ _ d) (groups_turned turn g)
+
+module _ {A : Type 0} (height : A → ℕ) where
+  abbrev pub heights : List A → ℕ
+  heights xs = highest (map height xs)
+
+  pub heights_joined : (xs ys : List A) → heights (xs ++ ys) ≡ max (heights xs) (heights ys)
+  heights_joined [] ys = omega arith
+  heights_joined (x ∷ xs) ys = omega (arith, heights_joined xs ys)
+
+  module _ (room : ℕ) where
+    -- a list whose items are low is low, and the other way round
+    pub items_apart : {Item : Form A} {ts : List Lexeme} {xs : List A} → Separated (Low Item height room) ts xs →
+        Low (Separated Item) heights room ts xs
+    items_apart (one d) = (one d.0, omega (arith, d.1))
+    items_apart (more t p d g) = let others = items_apart g in (more t p d.0 others.0, omega (arith, d.1, others.1))
+
+    pub items_joined : {Item : Form A} {ts : List Lexeme} {xs : List A} → Separated Item ts xs → heights xs ≤ room →
+        Separated (Low Item height room) ts xs
+    items_joined (one d) h = one (d, omega arith)
+    items_joined (more t p d g) h = more t p (d, omega arith) (items_joined g (omega arith))
+
+    -- a list whose groups are low is low, and the other way round
+    pub groups_apart : {Group : Form (List A)} {ts : List Lexeme} {xs : List A} →
+        Grouped (Low Group heights room) ts xs → Low (Grouped Group) heights room ts xs
+    groups_apart none = (none, omega arith)
+    groups_apart (next {xs = xs} {ys = ys} d g) = let others = groups_apart g in
+        (next d.0 others.0, omega (arith, heights_joined xs ys, d.1, others.1))
+
+    pub groups_joined : {Group : Form (List A)} {ts : List Lexeme} {xs : List A} → Grouped Group ts xs →
+        heights xs ≤ room → Grouped (Low Group heights room) ts xs
+    groups_joined none h = none
+    groups_joined (next {xs = xs} {ys = ys} d g) h = let sum = heights_joined xs ys in
+        next (d, omega arith) (groups_joined g (omega arith))

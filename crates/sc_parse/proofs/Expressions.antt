@@ -1,19 +1,21 @@
 -- Expressions in statements, and calls, are read exactly as they are spelled.
-use Rattle.sc_parse.proofs.Common.{Bool, CallTree, ExprTree, Found, IsMark, Lexeme, List, Mark, None, Prefix, Separated}
-use Rattle.sc_parse.proofs.Common.{Some, Spells, SpellsArgs, SpellsCall, Symbol, [], all_separated, ap, append_assoc}
-use Rattle.sc_parse.proofs.Common.{args_at, args_behind, arith, arrow, begins_call, begins_with, behind, binary_of}
-use Rattle.sc_parse.proofs.Common.{bound, call, call_at, call_height, expr_at, expr_height, exprs_height, extension_at}
-use Rattle.sc_parse.proofs.Common.{false, false_from_ne_true, false≢true, found, index, is_some, joined, lead_by}
-use Rattle.sc_parse.proofs.Common.{literal, looser, loosest_level, member, more, most_open, name_ahead, no_args}
-use Rattle.sc_parse.proofs.Common.{none-some, one, open_after, open_behind, open_low, parenthesised, prefix, prefix_of}
-use Rattle.sc_parse.proofs.Common.{read, read_sound, refl, some_args, subst, sym, true, unary_level, variable, ℕ, ◌++◌}
-use Rattle.sc_parse.proofs.Common.{◌∙◌, ◌∷◌, ◌≡◌, ◌≤◌}
+use Rattle.sc_parse.proofs.Common.{Bool, CallTree, ExprTree, Lexeme, List, Mark, None, Prefix, Separated, Some, Spells}
+use Rattle.sc_parse.proofs.Common.{SpellsArgs, SpellsCall, Symbol, [], all_separated, ap, append_assoc, args_at}
+use Rattle.sc_parse.proofs.Common.{args_behind, arith, arrow, begins_call, begins_with, behind, binary_of, bound, call}
+use Rattle.sc_parse.proofs.Common.{call_at, call_height, expr_at, expr_height, exprs_height, extension_at, false}
+use Rattle.sc_parse.proofs.Common.{false_from_ne_true, false≢true, found, index, is_some, joined, lead_by, literal}
+use Rattle.sc_parse.proofs.Common.{looser, loosest_level, member, more, most_open, no_args, none-some, one, open_after}
+use Rattle.sc_parse.proofs.Common.{open_behind, open_low, parenthesised, prefix, prefix_of, read, read_sound, refl}
+use Rattle.sc_parse.proofs.Common.{some_args, sym, true, variable, ℕ, ◌++◌, ◌∙◌, ◌∷◌, ◌≡◌, ◌≤◌}
 use Rattle.sc_parse.proofs.Bases.{other_mark, mark_is}
-use Rattle.sc_parse.proofs.Exact.{chosen, enclosed, Taken, Exact, ExactAdder, took, separated_exact}
+use Rattle.sc_parse.proofs.Exact.{Any, Between, Complete, Exact, Form, Hereditary, IsName, Low, Made, Property, Then}
+use Rattle.sc_parse.proofs.Exact.{Turns, a_name, after, as_form, before, between_exact, both, chosen, commas_exact}
+use Rattle.sc_parse.proofs.Exact.{formed_exact, from_none, items_apart, items_joined, made, made_exact, name_exact}
+use Rattle.sc_parse.proofs.Exact.{then_exact, took}
 use Rattle.sc_expr.specs.declared.mark.Mark.TheVariants as mark
 use Rattle.sc_expr.specs.declared.lexeme.Symbol.TheVariants as symbol
 use Rattle.sc_expr.proofs.Complete.{reads_all}
-use Rattle.sc_parse.proofs.Declared.{comma_ahead}
+use Rattle.sc_parse.specs.StmtReaders.{call_tree}
 
 -- nowhere more brackets are open than may be
 abbrev pub Few : (free : ℕ) → List Lexeme → Type 0
@@ -47,64 +49,34 @@ most_right : (n : ℕ) (ts us : List Lexeme) → most_open 0 us ≤ most_open n 
 most_right n [] us = most_more 0 n us (omega arith)
 most_right n (t ∷ ts) us = omega (arith, most_right (open_after t.symbol n) ts us)
 
-pub few_left : (free : ℕ) → (ts us : List Lexeme) → Few free (ts ++ us) → Few free ts
-few_left free ts us h = omega (arith, most_left 0 ts us)
-
-pub few_right : (free : ℕ) → (ts us : List Lexeme) → Few free (ts ++ us) → Few free us
-few_right free ts us h = omega (arith, most_right 0 ts us)
-
-pub few_tail : (free : ℕ) → (t : Lexeme) (ts : List Lexeme) → Few free (t ∷ ts) → Few free ts
-few_tail free t ts h = few_right free (t ∷ []) ts h
+pub few : (free : ℕ) → Hereditary (Few free)
+few free = record {
+  left = λ ts us h. omega (arith, most_left 0 ts us, h);
+  right = λ ts us h. omega (arith, most_right 0 ts us, h);
+}
 
 -- an expression that is at most so high
-pub record IsExpr (room : ℕ) (ts : List Lexeme) (e : ExprTree) : Type 0 where
-  pub spelled : Spells loosest_level ts e
-  pub low : expr_height e ≤ room
+abbrev pub IsExpr : ℕ → Form ExprTree
+IsExpr room = Low (Spells loosest_level) expr_height room
 
-abbrev pub NoExtension : List Lexeme → Type 0
+abbrev pub NoExtension : Property
 NoExtension rest = extension_at rest ≡ None
 
--- what is read, with its height
-pub record Measured (room : ℕ) (ts : List Lexeme) (x : Found) : Type 0 where
-  pub taken : List Lexeme
-  pub split : ts ≡ taken ++ x.rest
-  pub spelled : Spells loosest_level taken x.tree
-  pub height : x.height ≡ expr_height x.tree
-  pub low : x.height ≤ room
-
-pub measured : (free : ℕ) → (room : ℕ) (ts : List Lexeme) (x : Found) → read free room loosest_level ts ≡ Some x →
-    Measured room ts x
-measured free room ts x h = let r = read_sound free room _ ts x (omega arith) h in
-    record { taken = r.taken; split = r.split; spelled = r.spelled; height = r.measured; low = r.low }
-
-pub expr_reads : (free : ℕ) → {level : ℕ} {ts : List Lexeme} {e : ExprTree} (d : Spells level ts e) (room : ℕ)
+pub level_reads : (free : ℕ) {level : ℕ} {ts : List Lexeme} {e : ExprTree} (d : Spells level ts e) (room : ℕ)
     (rest : List Lexeme) → level ≤ 11 → expr_height e ≤ room → Few free ts → NoExtension rest →
-    read free room loosest_level (ts ++ rest) ≡ Some (found e (expr_height e) rest)
-expr_reads free d room rest inside low few ends = reads_all d free room _ 0 rest inside low (omega arith)
+    read free room level (ts ++ rest) ≡ Some (found e (expr_height e) rest)
+level_reads free d room rest inside low few ends = reads_all d free room _ 0 rest (omega arith) low (omega arith)
     (λ ext at. absurd (none-some ext (sym ends ∙ at)))
 
--- the same up to an operator between operands
-pub unary_reads : (free : ℕ) → {ts : List Lexeme} {e : ExprTree} (d : Spells unary_level ts e) (room : ℕ)
-    (rest : List Lexeme) → expr_height e ≤ room → Few free ts → NoExtension rest →
-    read free room unary_level (ts ++ rest) ≡ Some (found e (expr_height e) rest)
-unary_reads free d room rest low few ends = reads_all d free room _ 0 rest (omega arith) low (omega arith)
-    (λ ext at. absurd (none-some ext (sym ends ∙ at)))
-
-expr_sound : (free : ℕ) → (room : ℕ) (ts rest : List Lexeme) (x : ExprTree) → expr_at free room ts ≡ Some (x, rest) →
-    Taken (IsExpr room) ts x rest
+pub expr_exact : (free room : ℕ) → Exact (Few free) (IsExpr room) NoExtension (expr_at free room)
 unfolding expr_at
-expr_sound free room ts rest x h =
-    let b = bound _ _ _ h in
-    let m = measured free room ts b.0 b.1 in
-    took m.taken b.2 m.split (record { spelled = m.spelled; low = omega (arith, m.low, m.height) })
-
-expr_complete : (free : ℕ) → (room : ℕ) (ts rest : List Lexeme) (x : ExprTree) → IsExpr room ts x → Few free ts →
-    NoExtension rest → expr_at free room (ts ++ rest) ≡ Some (x, rest)
-unfolding expr_at
-expr_complete free room ts rest x d few ends = rw (expr_reads free d.spelled room rest (omega arith) d.low few ends)
-
-pub expr_exact : (free : ℕ) → (room : ℕ) → Exact (Few free) (IsExpr room) NoExtension (expr_at free room)
-expr_exact free room = record { sound = expr_sound free room; complete = expr_complete free room }
+expr_exact free room = record {
+  sound = λ ts rest x h.
+      let b = bound _ _ _ h in
+      let m = read_sound free room _ ts b.0 (omega arith) b.1 in
+      took m.taken b.2 m.split (m.spelled, omega (arith, m.low, m.measured));
+  complete = λ ts x d rest fits ends. rw (level_reads free d.0 room rest (omega arith) d.1 fits ends);
+}
 
 -- what begins an expression
 unfoldable pub starts_expr : Symbol → Bool
@@ -156,86 +128,55 @@ unfolding begins_expr starts_expr
 no_mark m h [] e = refl
 no_mark m h (t ∷ ts) e = false_from_ne_true _ (λ q. let is = mark_is m t q in false≢true (sym h ∙ (rw is at e)))
 
-args_apart : {room : ℕ} {ts : List Lexeme} {es : List ExprTree} → Separated (IsExpr room) ts es →
-    Separated (Spells loosest_level) ts es × (exprs_height es ≤ room)
-args_apart (one d) = (one d.spelled, omega (arith, d.low))
-args_apart (more t p d g) = let others = args_apart g in (more t p d.spelled others.0, omega (arith, d.low, others.1))
-
-args_joined : {room : ℕ} {ts : List Lexeme} {es : List ExprTree} → Separated (Spells loosest_level) ts es →
-    exprs_height es ≤ room → Separated (IsExpr room) ts es
-args_joined (one d) h = one (record { spelled = d; low = omega arith })
-args_joined (more t p d g) h = more t p (record { spelled = d; low = omega arith }) (args_joined g (omega arith))
-
-all_args_exact : (free : ℕ) → (room : ℕ) → ExactAdder (Few free) (Separated (IsExpr room))
-    (λ rest. NoExtension rest × (behind mark.Comma rest ≡ None)) (all_separated (args_behind free room))
-all_args_exact free room = separated_exact _ (few_left free) (few_right free) _ comma_ahead
-    _ NoExtension _ (expr_exact free room) (λ t rest p. rw p) (λ t us rest zs p d. rw p)
-
 args_start : {ts : List Lexeme} {es : List ExprTree} (d : Separated (Spells loosest_level) ts es) (rest : List Lexeme) →
     begins_expr (ts ++ rest) ≡ true
 args_start (one d) rest = expr_starts d rest
 args_start (more {ts = ts} {us = us} t p d g) rest = ap begins_expr (append_assoc ts _ rest) ∙
     expr_starts d (t ∷ us ++ rest)
 
--- arguments that are at most so high
-pub record IsArgs (room : ℕ) (ts : List Lexeme) (es : List ExprTree) : Type 0 where
-  pub spelled : SpellsArgs ts es
-  pub low : exprs_height es ≤ room
+-- behind arguments stands `)`
+abbrev EndsArgs : Property
+EndsArgs rest = (NoExtension rest × (behind mark.Comma rest ≡ None)) × (begins_with mark.CloseParen rest ≡ true)
 
-args_sound : (free : ℕ) → (room : ℕ) (ts rest : List Lexeme) (x : List ExprTree) →
-    args_at free room ts ≡ Some (x, rest) → Taken (IsArgs room) ts x rest
+args_exact : (free room : ℕ) → Exact (Few free) (Low SpellsArgs exprs_height room) EndsArgs (args_at free room)
 unfolding args_at
-args_sound free room ts rest x h = chosen _ _ _ h (λ q e.
-    took [] e refl (record { spelled = no_args; low = omega arith })) (λ q e.
-    let l = (all_args_exact free room).sound [] x ts rest e in
-    let a = args_apart l.spelled in
-    record {
-      taken = l.taken;
-      split = l.split;
-      spelled = subst (IsArgs room l.taken) (sym l.all) (record { spelled = some_args a.0; low = a.1 });
-    })
+args_exact free room = record {
+  sound = λ ts rest x h. chosen _ _ _ h (λ q e. took [] e refl (no_args, omega arith))
+      (λ q e. as_form (λ us y d. let a = items_apart expr_height room d in (some_args a.0, a.1))
+      (listed.sound ts rest x e));
+  complete = complete;
+}
+  where
+    listed : Exact (Few free) (Separated (IsExpr room)) (λ rest. NoExtension rest × (behind mark.Comma rest ≡ None))
+        (all_separated (args_behind free room) [])
+    listed = from_none (commas_exact (few free) (expr_exact free room) (λ t rest p. rw p))
 
-args_complete : (free : ℕ) → {room : ℕ} {ts : List Lexeme} {es : List ExprTree} (d : SpellsArgs ts es) (v : Lexeme)
-    (rest : List Lexeme) → exprs_height es ≤ room → Few free ts → IsMark mark.CloseParen v →
-    args_at free room (ts ++ v ∷ rest) ≡ Some (es, v ∷ rest)
-unfolding args_at
-args_complete free no_args v rest h few p = rw p
-args_complete free {room = room} (some_args {ts = ts} {args = es} d) v rest h few p =
-    let opened = no_mark mark.CloseParen refl (ts ++ v ∷ rest) (args_start d (v ∷ rest)) in
-    rw (opened, (all_args_exact free room).complete [] es ts (v ∷ rest) (args_joined d h) few (rw p, rw p))
+    complete : Complete (Few free) (Low SpellsArgs exprs_height room) EndsArgs (args_at free room)
+    complete _ _ (no_args, low) rest fits ends = rw ends.1
+    complete _ _ (some_args d, low) rest fits ends = rw (
+      no_mark mark.CloseParen refl _ (args_start d rest),
+      listed.complete _ _ (items_joined expr_height room d low) rest fits ends.0,
+    )
 
 -- a call whose arguments are at most so high
-pub record IsCall (room : ℕ) (ts : List Lexeme) (x : CallTree) : Type 0 where
-  pub spelled : SpellsCall ts x
-  pub low : call_height x ≤ room
+abbrev pub IsCall : ℕ → Form CallTree
+IsCall room = Low SpellsCall call_height room
 
-call_sound : (free : ℕ) → (room : ℕ) (ts rest : List Lexeme) (x : CallTree) → call_at free room ts ≡ Some (x, rest) →
-    Taken (IsCall room) ts x rest
+abbrev CallParts : ℕ → Form CallTree
+CallParts room = Then IsName (λ name. Made (call_tree name)
+    (Between mark.OpenParen mark.CloseParen (Low SpellsArgs exprs_height room)))
+
+pub call_exact : (free room : ℕ) → Exact (Few free) (IsCall room) Any (call_at free room)
 unfolding call_at
-call_sound free room ts rest x h =
-    let b = bound _ _ _ h in
-    let c = bound _ _ _ b.2 in
-    let t = name_ahead ts b.0.1 b.0.0 b.1 in
-    let p = enclosed mark.OpenParen mark.CloseParen (IsArgs room) (args_at free room) (args_sound free room) b.0.1 c.0
-    c.1 in
-    took (t.0 ∷ p.first ∷ (p.taken ++ p.last ∷ [])) c.2 (t.1 ∙ ap (λ l. t.0 ∷ l) p.split) (record {
-      spelled = call t.0 p.first p.last b.0.0 t.2 p.opens p.closes p.spelled.spelled;
-      low = p.spelled.low;
-    })
+call_exact free room = formed_exact (then_exact (few free) name_exact (λ name. made_exact (call_tree name)
+    (between_exact (few free) mark.OpenParen mark.CloseParen (args_exact free room)
+    (λ t rest p. ((rw p, rw p), rw p)))) (λ x us y d rest h. tt)) joined_call call_apart (λ rest h. h)
+  where
+    joined_call : Turns (CallParts room) (IsCall room)
+    joined_call _ _ (both (a_name t name p) (made (after u q (before v r d)))) = (call t u v name p q r d.0, d.1)
 
-call_complete : (free : ℕ) → {room : ℕ} {ts : List Lexeme} {x : CallTree} (d : SpellsCall ts x) (rest : List Lexeme) →
-    call_height x ≤ room → Few free ts → call_at free room (ts ++ rest) ≡ Some (x, rest)
-unfolding call_at
-call_complete free {room = room} (call {ts = ts} t u v name p q r d) rest h few =
-    let inner = few_left free ts (v ∷ []) (few_tail free u _ (few_tail free t (u ∷ (ts ++ v ∷ [])) few)) in
-    ap (λ l. call_at free room (t ∷ u ∷ l)) (append_assoc ts (v ∷ []) rest) ∙
-    rw (p, q, args_complete free d v rest h inner r, r)
-
-pub call_exact : (free : ℕ) → (room : ℕ) → Exact (Few free) (IsCall room) (λ rest. Unit {0}) (call_at free room)
-call_exact free room = record {
-  sound = call_sound free room;
-  complete = λ ts rest x d few ends. call_complete free d.spelled rest d.low few;
-}
+    call_apart : Turns (IsCall room) (CallParts room)
+    call_apart _ _ (call t u v name p q r d, low) = both (a_name t name p) (made (after u q (before v r (d, low))))
 
 -- an identifier and `(` begin a call
 pub call_begins : {ts : List Lexeme} {x : CallTree} (d : SpellsCall ts x) (rest : List Lexeme) →

@@ -1,58 +1,52 @@
 -- Blocks and the statements that hold them are read exactly as they are spelled.
 use Rattle.sc_parse.proofs.Common.{ExprTree, Grouped, IsKeyword, IsMark, Keyword, Lexeme, List, None, Option, Reader}
-use Rattle.sc_parse.proofs.Common.{SimpleKind, SimpleTree, Some, SpellsBlock, SpellsCondition, SpellsIf, SpellsPart}
-use Rattle.sc_parse.proofs.Common.{SpellsStmtKind, SpellsStmts, SpellsTest, StmtKind, StmtTree, [], adds, alone, ap}
-use Rattle.sc_parse.proofs.Common.{append-nil, append_assoc, arith, before_mark, begins_with, behind, behind_mark}
-use Rattle.sc_parse.proofs.Common.{block, block_at, bound, choice, cond, drop, else_at, else_behind, empty, ended_at}
-use Rattle.sc_parse.proofs.Common.{expr_height, false, false≢true, first_line, first_part, for_behind, for_head}
-use Rattle.sc_parse.proofs.Common.{for_height, for_loop, for_parts, glued, grouped, if_behind, if_height, is_else}
-use Rattle.sc_parse.proofs.Common.{is_if, keyword_at, kind_by, kind_height, kind_of, last_part, length, loop_of}
-use Rattle.sc_parse.proofs.Common.{middle_part, none-some, option_height, otherwise, otherwise_if, part_at, plain_at}
-use Rattle.sc_parse.proofs.Common.{plain_height, refl, return_call, return_call_height, return_nothing, return_value}
-use Rattle.sc_parse.proofs.Common.{returned, same_some, simple_at, stmt_at, stmt_tree, stmt_within, stmts_at}
-use Rattle.sc_parse.proofs.Common.{stmts_height, subst, suc, sym, test_at, tree_height, true, value_height}
-use Rattle.sc_parse.proofs.Common.{while_behind, while_height, while_loop, zero, ℕ, ◌++◌, ◌+◌, ◌<◌, ◌>>=◌, ◌∙◌, ◌∷◌}
-use Rattle.sc_parse.proofs.Common.{◌≡◌, ◌≤◌}
+use Rattle.sc_parse.proofs.Common.{SimpleKind, Some, SpellsBlock, SpellsIf, SpellsStmts, StmtKind, StmtTree, [], alone}
+use Rattle.sc_parse.proofs.Common.{ap, append-nil, append_assoc, arith, begins_with, block, block_at, bound, choice}
+use Rattle.sc_parse.proofs.Common.{cond, drop, else_at, else_behind, empty, ended_at, false, false≢true, first_line}
+use Rattle.sc_parse.proofs.Common.{first_part, for_behind, for_head, for_height, for_loop, for_parts, if_behind}
+use Rattle.sc_parse.proofs.Common.{if_height, is_else, is_if, keyword_at, kind_by, kind_height, kind_of, last_part}
+use Rattle.sc_parse.proofs.Common.{loop_of, middle_part, none-some, otherwise, otherwise_if, plain_at, plain_height}
+use Rattle.sc_parse.proofs.Common.{refl, return_call, return_call_height, return_nothing, return_value, returned}
+use Rattle.sc_parse.proofs.Common.{simple_at, stmt_at, stmt_tree, stmt_within, stmts_at, stmts_height, subst, suc, sym}
+use Rattle.sc_parse.proofs.Common.{tree_height, true, value_height, while_behind, while_height, while_loop, zero, ℕ}
+use Rattle.sc_parse.proofs.Common.{◌++◌, ◌<◌, ◌∙◌, ◌∷◌, ◌≡◌, ◌≤◌}
 use Rattle.sc_parse.specs.Statements.{plain}
 use Rattle.sc_ast.specs.declared.stmt.StmtKind.TheVariants as stmt
 use Rattle.sc_expr.specs.declared.mark.Keyword.TheVariants as word
 use Rattle.sc_expr.specs.declared.mark.Mark.TheVariants as mark
 use Rattle.sc_parse.specs.Lists as lists
 use Rattle.sc_parse.specs.Statements as statements
-use Rattle.sc_parse.specs.StmtReaders as readers
 use Rattle.sc_parse.specs.declared.stmts.ForHead.{ForHead}
-use Rattle.sc_parse.proofs.Exact.{Taken, Exact, ExactAdder, took, One, adds_exact, grouped_exact, chosen, ended}
-use Rattle.sc_parse.proofs.Exact.{enclosed}
-use Rattle.sc_parse.proofs.Bases.{Word, word_ahead, mark_is}
-use Rattle.sc_parse.proofs.Expressions.{Few, few_left, few_right, few_tail, expr_exact, expr_starts, call_exact}
-use Rattle.sc_parse.proofs.Expressions.{call_begins, no_call, no_mark, call_starts}
+use Rattle.sc_parse.proofs.Exact.{Any, Before, Behind, Between, Complete, Exact, Form, Low, Made, One, Property, Sound}
+use Rattle.sc_parse.proofs.Exact.{Taken, Then, Turns, adds_exact, after, as_form, before, before_exact, behind_word}
+use Rattle.sc_parse.proofs.Exact.{between_exact, both, chosen, fits_behind, formed_exact, from_none, front_taken}
+use Rattle.sc_parse.proofs.Exact.{grouped_exact, made, made_exact, single, then_exact, took, word_ahead, word_taken}
+use Rattle.sc_parse.proofs.Bases.{mark_is}
+use Rattle.sc_parse.proofs.Expressions.{Few, call_begins, call_exact, call_starts, expr_exact, expr_starts, few}
+use Rattle.sc_parse.proofs.Expressions.{no_call, no_mark}
 use Rattle.sc_parse.proofs.Simples.{simple_exact}
-use Rattle.sc_parse.proofs.Parts.{condition_exact, first_line_some, kind_no_word, kind_no_mark, IsPart, part_sound}
-use Rattle.sc_parse.proofs.Parts.{part_reads, IsTest, test_sound, test_reads}
-use Rattle.sc_parse.proofs.Ended.{NoElse, kind_starts, IsKind, IsStmt, a_stmt, stmt_starts, ended_sound}
+use Rattle.sc_parse.proofs.Parts.{IsCondition, IsPart, IsTest, condition_exact, first_line_some, kind_no_mark}
+use Rattle.sc_parse.proofs.Parts.{kind_no_word, part_exact, test_exact, IsKind, IsStmt, NoElse, Starts, a_stmt}
+use Rattle.sc_parse.proofs.Parts.{ended_sound, kind_starts, stmt_starts}
 
 -- behind a `}` no `else` stands at the front
 end_no_else : (rest : List Lexeme) → begins_with mark.CloseCurly rest ≡ true → NoElse rest
 end_no_else [] h = refl
 end_no_else (t ∷ ts) h = let is = mark_is mark.CloseCurly t h in rw is
 
--- an `else` at the front
-else_ahead : (ts : List Lexeme) → is_else (keyword_at ts) ≡ true → Word ts word.Else
-else_ahead ts h = go (keyword_at ts) refl h
-  where
-    go : (o : Option Keyword) → keyword_at ts ≡ o → is_else o ≡ true → Word ts word.Else
-    go (Some word.Else) q e = word_ahead ts word.Else q
-    go _ q e = absurd (false≢true e)
+is_else_word : (o : Option Keyword) → is_else o ≡ true → o ≡ Some word.Else
+is_else_word (Some word.Else) h = refl
+is_else_word _ h = absurd (false≢true h)
 
--- a block that is at most so high
-pub record IsBlock (room : ℕ) (ts : List Lexeme) (ss : List StmtTree) : Type 0 where
-  pub spelled : SpellsBlock ts ss
-  pub low : stmts_height ss ≤ room
+-- a block, and statements up to `}`, at most so high
+abbrev pub IsBlock : ℕ → Form (List StmtTree)
+IsBlock room = Low SpellsBlock stmts_height room
 
--- statements up to `}`, each at most so high
-pub record IsStmts (room : ℕ) (ts : List Lexeme) (ss : List StmtTree) : Type 0 where
-  pub spelled : SpellsStmts ts ss
-  pub low : stmts_height ss ≤ room
+abbrev pub IsStmts : ℕ → Form (List StmtTree)
+IsStmts room = Low SpellsStmts stmts_height room
+
+abbrev pub AtEnd : Property
+AtEnd rest = begins_with mark.CloseCurly rest ≡ true
 
 -- what may stand behind the first block of an `if`
 pub data IsElse (room : ℕ) : List Lexeme → List StmtTree → Type 0 where
@@ -62,31 +56,21 @@ pub data IsElse (room : ℕ) : List Lexeme → List StmtTree → Type 0 where
   an_if : {ts : List Lexeme} {k : StmtKind} (u : Lexeme) → IsKeyword word.Else u → SpellsIf ts k →
       kind_height k < room → IsElse room (u ∷ ts) (stmt_tree (first_line ts) k ∷ [])
 
--- statements, each at most so high
-stmts_more : {room : ℕ} {ts us : List Lexeme} {x : StmtTree} {ss : List StmtTree} (d : IsStmt room ts x) →
-    SpellsStmts us ss × (stmts_height ss ≤ room) → SpellsStmts (ts ++ us) (x ∷ ss) × (stmts_height (x ∷ ss) ≤ room)
-stmts_more (a_stmt {ts = ts} {k = k} d h) others = let height = tree_height (first_line ts) k in
+stmts_apart : {room : ℕ} → Turns (Grouped (One (IsStmt room))) (IsStmts room)
+stmts_apart _ _ lists.none = (statements.none, omega arith)
+stmts_apart _ _ (lists.next (single (a_stmt {ts = ts} {k = k} d h)) g) =
+    let others = stmts_apart _ _ g in
+    let height = tree_height (first_line ts) k in
     (statements.next d others.0, omega (arith, others.1))
 
-stmts_apart : {room : ℕ} {ts : List Lexeme} {ss : List StmtTree} (d : Grouped (One (IsStmt room)) ts ss) →
-    SpellsStmts ts ss × (stmts_height ss ≤ room)
-stmts_apart lists.none = (statements.none, omega arith)
-stmts_apart {room} (lists.next {ts = ts} {us = us} {ys = ys} d g) =
-    subst (λ l. SpellsStmts (ts ++ us) (l ++ ys) × (stmts_height (l ++ ys) ≤ room)) (sym d.is)
-    (stmts_more d.spelled (stmts_apart g))
+stmts_joined : {room : ℕ} → Turns (IsStmts room) (Grouped (One (IsStmt room)))
+stmts_joined _ _ (statements.none, low) = lists.none
+stmts_joined _ _ (statements.next {ts = ts} {kind = k} d g, low) = let height = tree_height (first_line ts) k in
+    lists.next (single (a_stmt d (omega arith))) (stmts_joined _ _ (g, omega arith))
 
-stmts_joined : {room : ℕ} {ts : List Lexeme} {ss : List StmtTree} (d : SpellsStmts ts ss) → stmts_height ss ≤ room →
-    Grouped (One (IsStmt room)) ts ss
-stmts_joined statements.none h = lists.none
-stmts_joined {room} (statements.next {ts = ts} {kind = k} {stmts = ss} d g) h =
-    let height = tree_height (first_line ts) k in
-    let low : kind_height k < room = omega arith in
-    let less : stmts_height ss ≤ room = omega arith in
-    lists.next (record { item = stmt_tree _ k; is = refl; spelled = a_stmt d low }) (stmts_joined g less)
-
-keyword_front : (ts rest : List Lexeme) → 0 < length ts → keyword_at (ts ++ rest) ≡ keyword_at ts
-keyword_front [] rest h = absurd (omega arith)
-keyword_front (t ∷ ts) rest h = refl
+one_starts : {room : ℕ} {ts : List Lexeme} {ss : List StmtTree} (d : One (IsStmt room) ts ss) →
+    (k : StmtKind) × Starts ts k
+one_starts (single {x = x} d) = (x.kind, stmt_starts d)
 
 if_begins : {ts : List Lexeme} {k : StmtKind} (d : SpellsIf ts k) (rest : List Lexeme) →
     is_if (keyword_at (ts ++ rest)) ≡ true
@@ -104,326 +88,216 @@ plain_ended : (free : ℕ) → (room : ℕ) (ts : List Lexeme) (t : Lexeme) (res
 unfolding ended_at plain_at
 plain_ended free room ts t rest k p none other read = rw (none, other, read, p)
 
+-- what stands behind the words of an `if` and of loops, in parts that are at most so high
+abbrev IfParts : ℕ → Form StmtKind
+IfParts room = Then (IsCondition room) (λ c. Then (IsBlock room) (λ th. Made (stmt.If c th) (IsElse room)))
+
+abbrev WhileParts : ℕ → Form StmtKind
+WhileParts room = Then (IsCondition room) (λ c. Made (stmt.While c) (IsBlock room))
+
+abbrev ForHeads : ℕ → Form ForHead
+ForHeads room = Then (Between mark.OpenParen mark.Semicolon (IsPart room)) (λ first.
+    Then (Before mark.Semicolon (λ c. c) (IsTest room)) (λ c.
+    Made (for_parts first c) (Before mark.CloseParen (λ next. next) (IsPart room))))
+
+abbrev ForParts : ℕ → Form StmtKind
+ForParts room = Then (ForHeads room) (λ head. Made (loop_of head) (IsBlock room))
+
+if_made : {room : ℕ} {ts us vs : List Lexeme} {c : ExprTree} {th : List StmtTree} {x : StmtKind} (t : Lexeme) →
+    IsKeyword word.If t → IsCondition room ts c → IsBlock room us th → Made (stmt.If c th) (IsElse room) vs x →
+    IsKind room (t ∷ (ts ++ (us ++ vs))) x
+if_made {room} {ts} {us} {c = c} {th = th} t p k b (made nothing) =
+    let height = if_height c th [] in
+    subst (λ l. IsKind room (t ∷ (ts ++ l)) (stmt.If c th [])) (sym (append-nil us))
+    (choice (alone t p k.0 b.0), omega (arith, k.1, b.1))
+if_made {c = c} {th = th} t p k b (made {x = e} (a_block u q d low)) =
+    (choice (otherwise t u p q k.0 b.0 d), omega (arith, k.1, b.1, low, if_height c th e))
+if_made {c = c} {th = th} t p k b (made {x = e} (an_if {ts = ts} {k = kind} u q d low)) =
+    let heights = if_height c th e in
+    (choice (otherwise_if t u p q k.0 b.0 d), omega (arith, k.1, b.1, low, tree_height (first_line ts) kind))
+
+if_is : {room : ℕ} → Turns (Behind word.If (IfParts room)) (IsKind room)
+if_is _ _ (behind_word t p (both k (both b e))) = if_made t p k b e
+
+if_apart : {room : ℕ} {ts : List Lexeme} {x : StmtKind} → SpellsIf ts x → kind_height x ≤ room →
+    Behind word.If (IfParts room) ts x
+if_apart {room} (alone {ts = ts} {us = us} {cond = c} {then_part = th} t p k b) low = let height = if_height c th [] in
+    subst (λ l. Behind word.If (IfParts room) (t ∷ (ts ++ l)) (stmt.If c th [])) (append-nil us)
+    (behind_word t p (both (k, omega arith) (both (b, omega arith) (made nothing))))
+if_apart (otherwise {cond = c} {then_part = th} {else_part = e} t u p q k b d) low = let height = if_height c th e in
+    behind_word t p (both (k, omega arith) (both (b, omega arith) (made (a_block u q d (omega arith)))))
+if_apart (otherwise_if {vs = vs} {cond = c} {then_part = th} {kind = kind} t u p q k b d) low =
+    let height = if_height c th (stmt_tree (first_line vs) kind ∷ []) in
+    let one = tree_height (first_line vs) kind in
+    behind_word t p (both (k, omega arith) (both (b, omega arith) (made (an_if u q d (omega arith)))))
+
+while_is : {room : ℕ} → Turns (Behind word.While (WhileParts room)) (IsKind room)
+while_is _ _ (behind_word t p (both {x = c} k (made {x = body} b))) =
+    (while_loop t p k.0 b.0, omega (arith, k.1, b.1, while_height c body))
+
+for_lexemes : (u v w x : Lexeme) (ts us vs ws : List Lexeme) →
+    ((u ∷ (ts ++ v ∷ [])) ++ ((us ++ w ∷ []) ++ (vs ++ x ∷ []))) ++ ws ≡ u ∷ (ts ++ v ∷ (us ++ w ∷ (vs ++ x ∷ ws)))
+for_lexemes u v w x ts us vs ws = simp append_assoc
+
+for_is : {room : ℕ} → Turns (Behind word.For (ForParts room)) (IsKind room)
+for_is {room} _ _ (behind_word t p (both (both (after u q (before {ts = ts} {x = first} v r f))
+    (both (before {ts = us} {x = c} w s k) (made (before {ts = vs} {x = next} x l n))))
+    (made {ts = ws} {x = body} b))) =
+    subst (λ l. IsKind room (t ∷ l) (stmt.For first c next body)) (sym (for_lexemes u v w x ts us vs ws))
+    (for_loop t u v w x p q r s l f.0 k.0 n.0 b.0, omega (arith, f.1, k.1, n.1, b.1, for_height first c next body))
+
 module _ (free : ℕ) (room : ℕ) (inner : Reader StmtTree) (exact : Exact (Few free) (IsStmt room) NoElse inner) where
-  inner_exact : ExactAdder (Few free) (Grouped (One (IsStmt room))) (λ rest. begins_with mark.CloseCurly rest ≡ true)
-      (λ xs ts. grouped (begins_with mark.CloseCurly) (adds inner) (length ts + 1) xs ts)
-  inner_exact = grouped_exact _ (few_left free) (few_right free) _ _ NoElse _ (adds_exact _ _ NoElse inner exact)
-      (λ us rest zs d. (stmt_starts d.spelled).no_end rest) (λ us zs d. (stmt_starts d.spelled).some) end_no_else
-      (λ us rest zs d. (stmt_starts d.spelled).no_else rest)
+  inner_exact : Exact (Few free) (IsStmts room) AtEnd (stmts_at inner)
+  inner_exact = formed_exact (from_none (grouped_exact (few free) _ (adds_exact exact)
+      (λ us rest zs d. (one_starts d).1.no_end rest) (λ us zs d. (one_starts d).1.some) end_no_else
+      (λ us rest zs d. (one_starts d).1.no_else rest))) stmts_apart stmts_joined (λ rest h. h)
 
-  stmts_sound : (ts rest : List Lexeme) (x : List StmtTree) → stmts_at inner ts ≡ Some (x, rest) →
-      Taken (IsStmts room) ts x rest
-  stmts_sound ts rest x h =
-      let d = inner_exact.sound [] x ts rest h in
-      let s = stmts_apart d.spelled in
-      record {
-        taken = d.taken;
-        split = d.split;
-        spelled = subst (IsStmts room d.taken) (sym d.all) (record { spelled = s.0; low = s.1 });
-      }
-
-  block_sound : (ts rest : List Lexeme) (x : List StmtTree) → block_at inner ts ≡ Some (x, rest) →
-      Taken (IsBlock room) ts x rest
+  block_exact : Exact (Few free) (IsBlock room) Any (block_at inner)
   unfolding block_at
-  block_sound ts rest x h =
-      let b = enclosed mark.OpenCurly mark.CloseCurly (IsStmts room) (stmts_at inner) stmts_sound ts (x, rest) h in
-      let spelled = block b.first b.last b.opens b.closes b.spelled.spelled in
-      record { taken = _; split = b.split; spelled = record { spelled = spelled; low = b.spelled.low } }
+  block_exact = formed_exact (between_exact (few free) mark.OpenCurly mark.CloseCurly inner_exact (λ t rest p. rw p))
+      joined_block block_apart (λ rest h. h)
+    where
+      joined_block : Turns (Between mark.OpenCurly mark.CloseCurly (IsStmts room)) (IsBlock room)
+      joined_block _ _ (after t p (before u q d)) = (block t u p q d.0, d.1)
 
-  block_complete : {ts : List Lexeme} {x : List StmtTree} (d : SpellsBlock ts x) (rest : List Lexeme) →
-      stmts_height x ≤ room → Few free ts → block_at inner (ts ++ rest) ≡ Some (x, rest)
-  unfolding block_at
-  block_complete (block {ts = ts} {stmts = ss} t u p q d) rest low few =
-      let less = few_left free ts (u ∷ []) (few_tail free t (ts ++ u ∷ []) few) in
-      let read = inner_exact.complete [] ss ts (u ∷ rest) (stmts_joined d low) less (rw q) in
-      ap (λ l. block_at inner (t ∷ l)) (append_assoc ts (u ∷ []) rest) ∙ rw (p, read, q)
+      block_apart : Turns (IsBlock room) (Between mark.OpenCurly mark.CloseCurly (IsStmts room))
+      block_apart _ _ (block t u p q d, low) = after t p (before u q (d, low))
 
-  if_inner : {ts : List Lexeme} {x : StmtTree} (u : Lexeme) → IsKeyword word.Else u → (d : IsStmt room ts x) →
-      is_if (keyword_at ts) ≡ true → IsElse room (u ∷ ts) (x ∷ [])
-  if_inner u p (a_stmt d low) h = an_if u p ((kind_starts d).an_if h) low
+  if_inner : {ts : List Lexeme} {ss : List StmtTree} (u : Lexeme) → IsKeyword word.Else u → (rest : List Lexeme) →
+      is_if (keyword_at (ts ++ rest)) ≡ true → Made (λ x. x ∷ []) (IsStmt room) ts ss → IsElse room (u ∷ ts) ss
+  if_inner u p rest h (made (a_stmt d low)) = an_if u p ((kind_starts d).an_if rest h) low
 
-  else_sound : (ts rest : List Lexeme) (x : List StmtTree) → else_at inner ts ≡ Some (x, rest) →
-      Taken (IsElse room) ts x rest
+  else_sound : Sound (IsElse room) (else_at inner)
   unfolding else_at else_behind
   else_sound ts rest x h = chosen _ _ _ h (λ q e.
-      let t = else_ahead ts q in
+      let t = word_ahead ts word.Else (is_else_word _ q) in
       chosen _ _ _ e (λ q e.
-      let b = bound (λ x. Some (x.0 ∷ [], x.1)) (inner (drop 1 ts)) (x, rest) e in
-      let d = exact.sound (drop 1 ts) b.0.1 b.0.0 b.1 in
-      let begins : is_if (keyword_at d.taken) ≡ true =
-      ap is_if (sym (keyword_front d.taken b.0.1 (stmt_starts d.spelled).some) ∙ ap keyword_at (sym d.split)) ∙ q in
-      took (t.first ∷ d.taken) b.2 (t.is ∙ ap (λ l. t.first ∷ l) d.split) (if_inner t.first t.keyword d.spelled begins))
-      (λ q e.
-      let d = block_sound (drop 1 ts) rest x e in
+      let d = (made_exact (λ x. x ∷ []) exact).sound (drop 1 ts) rest x e in
+      let begins = ap (λ l. is_if (keyword_at l)) (sym d.split) ∙ q in
       record {
         taken = t.first ∷ d.taken;
         split = t.is ∙ ap (λ l. t.first ∷ l) d.split;
-        spelled = a_block t.first t.keyword d.spelled.spelled d.spelled.low;
-      })) (λ q e. took [] e refl nothing)
+        spelled = if_inner t.first t.keyword rest begins d.spelled;
+      }) (λ q e. front_taken t.first t.is (block_exact.sound (drop 1 ts) rest x e)
+      (λ us d. a_block t.first t.keyword d.0 d.1))) (λ q e. took [] e refl nothing)
 
-  else_complete : {ts : List Lexeme} {x : List StmtTree} (d : IsElse room ts x) (rest : List Lexeme) → Few free ts →
-      NoElse rest → else_at inner (ts ++ rest) ≡ Some (x, rest)
+  else_complete : Complete (Few free) (IsElse room) NoElse (else_at inner)
   unfolding else_at else_behind
-  else_complete nothing rest few ends = rw ends
-  else_complete (a_block {ts = ts} u p d low) rest few ends =
-      rw (p, block_no_if d rest, block_complete d rest low (few_tail free u ts few))
-  else_complete (an_if {ts = ts} {k = k} u p d low) rest few ends =
-      let read = exact.complete ts rest _ (a_stmt (choice d) low) (few_tail free u ts few) ends in
-      rw (p, if_begins d rest, read)
+  else_complete _ _ nothing rest fits ends = rw ends
+  else_complete _ _ (a_block {ts = ts} u p d low) rest fits ends =
+      rw (p, block_no_if d rest, block_exact.complete ts _ (d, low) rest (fits_behind (few free) u ts fits) tt)
+  else_complete _ _ (an_if {ts = ts} u p d low) rest fits ends = rw (p, if_begins d rest,
+    exact.complete ts _ (a_stmt (choice d) low) rest (fits_behind (few free) u ts fits) ends)
 
-  if_made : {ts us vs : List Lexeme} {c : ExprTree} {th e : List StmtTree} (t : Lexeme) → IsKeyword word.If t →
-      SpellsCondition ts c → SpellsBlock us th → (d : IsElse room vs e) →
-      SpellsIf (t ∷ (ts ++ (us ++ vs))) (stmt.If c th e) × (stmts_height e ≤ room)
-  if_made {ts} {us} {c = c} {th = th} t p k b nothing =
-      (subst (λ l. SpellsIf (t ∷ (ts ++ l)) (stmt.If c th [])) (sym (append-nil us)) (alone t p k b), omega arith)
-  if_made t p k b (a_block u q d low) = (otherwise t u p q k b d, low)
-  if_made t p k b (an_if {ts = ts} {k = kind} u q d low) = let height = tree_height (first_line ts) kind in
-      (otherwise_if t u p q k b d, omega arith)
-
-  if_sound : (ts rest : List Lexeme) (x : StmtKind) → keyword_at ts ≡ Some word.If →
-      if_behind free inner room (drop 1 ts) ≡ Some (x, rest) → Taken (IsKind room) ts x rest
+  if_exact : Exact (Few free) (IfParts room) NoElse (if_behind free inner room)
   unfolding if_behind
-  if_sound ts rest x q h =
-      let t = word_ahead ts word.If q in
-      let b = bound _ _ _ h in
-      let c = bound _ _ _ b.2 in
-      let e = bound _ _ _ c.2 in
-      let k = (condition_exact free room).sound (drop 1 ts) b.0.1 b.0.0 b.1 in
-      let d = block_sound b.0.1 c.0.1 c.0.0 c.1 in
-      let f = else_sound c.0.1 e.0.1 e.0.0 e.1 in
-      let made = if_made t.first t.keyword k.spelled.spelled d.spelled.spelled f.spelled in
-      let height = if_height b.0.0 c.0.0 e.0.0 in
-      took (t.first ∷ (k.taken ++ (d.taken ++ f.taken))) e.2
-      (t.is ∙ ap (λ l. t.first ∷ l) (glued e.0.1 k.taken _ k.split (glued e.0.1 d.taken f.taken d.split f.split)))
-      (record { spelled = choice made.0; low = omega (arith, k.spelled.low, d.spelled.low, made.1) })
+  if_exact = then_exact (few free) (condition_exact free room) (λ c. then_exact (few free) block_exact (λ th.
+      made_exact (stmt.If c th) (record { sound = else_sound; complete = else_complete })) (λ x us y d rest h. tt))
+      (λ x us y d rest h. tt)
 
-  if_reads : {ts us vs : List Lexeme} {c : ExprTree} {th e : List StmtTree} (k : SpellsCondition ts c)
-      (b : SpellsBlock us th) (d : IsElse room vs e) (rest : List Lexeme) → expr_height c ≤ room →
-      stmts_height th ≤ room → Few free (ts ++ (us ++ vs)) → NoElse rest →
-      if_behind free inner room ((ts ++ (us ++ vs)) ++ rest) ≡ Some (stmt.If c th e, rest)
-  unfolding if_behind
-  if_reads {ts} {us} {vs} {c} {th} {e} k b d rest low less few ends =
-      let inside = few_right free ts (us ++ vs) few in
-      let first = (condition_exact free room).complete ts (us ++ (vs ++ rest)) c (record { spelled = k; low = low })
-      (few_left free ts _ few) tt in
-      let second = block_complete b (vs ++ rest) less (few_left free us vs inside) in
-      let third = else_complete d rest (few_right free us vs inside) ends in
-      let all = append_assoc ts (us ++ vs) rest ∙ ap (λ l. ts ++ l) (append_assoc us vs rest) in
-      ap (if_behind free inner room) all ∙ rw (first, second, third)
-
-  if_complete : {ts : List Lexeme} {x : StmtKind} (d : SpellsIf ts x) (rest : List Lexeme) → kind_height x ≤ room →
-      Few free ts → NoElse rest → (keyword_at (ts ++ rest) ≡ Some word.If) ×
-      (if_behind free inner room (drop 1 (ts ++ rest)) ≡ Some (x, rest))
-  if_complete (alone {ts = ts} {us = us} {cond = c} {then_part = th} t p k b) rest low few ends =
-      let height = if_height c th [] in
-      let same : us ++ [] ≡ us = append-nil us in
-      let read = if_reads k b nothing rest (omega arith) (omega arith)
-      (subst (λ l. Few free (ts ++ l)) (sym same) (few_tail free t _ few)) ends in
-      (rw p, ap (λ l. if_behind free inner room ((ts ++ l) ++ rest)) (sym same) ∙ read)
-  if_complete (otherwise {ts = ts} {us = us} {vs = vs} {cond = c} {then_part = th} {else_part = e} t u p q k b d) rest
-      low few ends =
-      let height = if_height c th e in
-      let third : stmts_height e ≤ room = omega arith in (
-        rw p,
-        if_reads k b (a_block u q d third) rest (omega arith) (omega arith) (few_tail free t _ few) ends,
-      )
-  if_complete (otherwise_if {ts = ts} {us = us} {vs = vs} {cond = c} {then_part = th} {kind = kind} t u p q k b d) rest
-      low few ends =
-      let height = if_height c th (stmt_tree (first_line vs) kind ∷ []) in
-      let one = tree_height (first_line vs) kind in
-      let third : kind_height kind < room = omega arith in (
-        rw p,
-        if_reads k b (an_if u q d third) rest (omega arith) (omega arith) (few_tail free t _ few) ends,
-      )
-
-  while_sound : (ts rest : List Lexeme) (x : StmtKind) → keyword_at ts ≡ Some word.While →
-      while_behind free inner room (drop 1 ts) ≡ Some (x, rest) → Taken (IsKind room) ts x rest
+  while_exact : Exact (Few free) (WhileParts room) Any (while_behind free inner room)
   unfolding while_behind
-  while_sound ts rest x q h =
-      let t = word_ahead ts _ q in
-      let b = bound _ _ _ h in
-      let c = bound _ _ _ b.2 in
-      let k = (condition_exact free room).sound (drop 1 ts) b.0.1 b.0.0 b.1 in
-      let d = block_sound b.0.1 c.0.1 c.0.0 c.1 in
-      let height = while_height b.0.0 c.0.0 in
-      took (t.first ∷ (k.taken ++ d.taken)) c.2 (t.is ∙ ap (λ l. t.first ∷ l)
-      (glued c.0.1 k.taken d.taken k.split d.split)) (record {
-        spelled = while_loop t.first t.keyword k.spelled.spelled d.spelled.spelled;
-        low = omega (arith, k.spelled.low, d.spelled.low);
-      })
+  while_exact = then_exact (few free) (condition_exact free room) (λ c. made_exact (stmt.While c) block_exact)
+      (λ x us y d rest h. tt)
 
-  while_reads : {ts us : List Lexeme} {c : ExprTree} {body : List StmtTree} (k : SpellsCondition ts c)
-      (b : SpellsBlock us body) (rest : List Lexeme) → expr_height c ≤ room → stmts_height body ≤ room →
-      Few free (ts ++ us) → while_behind free inner room ((ts ++ us) ++ rest) ≡ Some (stmt.While c body, rest)
-  unfolding while_behind
-  while_reads {ts} {us} {c} {body} k b rest low less few =
-      let first = (condition_exact free room).complete ts (us ++ rest) c (record { spelled = k; low = low })
-      (few_left free ts us few) tt in
-      ap (while_behind free inner room) (append_assoc ts us rest) ∙
-      rw (first, block_complete b rest less (few_right free ts us few))
-
-  -- the body of a loop, and the loop
-  abbrev in_block : ForHead × List Lexeme → Option (StmtKind × List Lexeme)
-  in_block p = block_at inner p.1 >>= (λ z. Some (loop_of p.0 z.0, z.1))
-
-  for_sound : (ts rest : List Lexeme) (x : StmtKind) → keyword_at ts ≡ Some word.For →
-      for_behind free inner room (drop 1 ts) ≡ Some (x, rest) → Taken (IsKind room) ts x rest
+  for_exact : Exact (Few free) (ForParts room) Any (for_behind free inner room)
   unfolding for_behind for_head first_part middle_part last_part
-  for_sound ts rest x q h =
-      let t = word_ahead ts word.For q in
-      let head = bound in_block (for_head free room (drop 1 ts)) (x, rest) h in
-      let a = bound (λ w. middle_part free room w.1 >>=
-      (λ x. last_part free room x.1 >>= (λ y. Some (for_parts w.0 x.0 y.0, y.1))))
-      (first_part free room (drop 1 ts)) head.0 head.1 in
-      let b = bound (λ x. last_part free room x.1 >>= (λ y. Some (for_parts a.0.0 x.0 y.0, y.1)))
-      (middle_part free room a.0.1) head.0 a.2 in
-      let c = bound (λ y. Some (for_parts a.0.0 b.0.0 y.0, y.1)) (last_part free room b.0.1) head.0 b.2 in
-      let behind_head = subst (λ p. in_block p ≡ Some (x, rest)) (sym (same_some c.2)) head.2 in
-      let e = bound (λ z. Some (stmt.For a.0.0 b.0.0 c.0.0 z.0, z.1)) (block_at inner c.0.1) (x, rest) behind_head in
-      let o = bound (λ us. before_mark mark.Semicolon (part_at free room mark.Semicolon) us)
-      (behind mark.OpenParen (drop 1 ts)) a.0 a.1 in
-      let u = behind_mark mark.OpenParen (drop 1 ts) o.0 o.1 in
-      let first = ended mark.Semicolon (IsPart room) (part_at free room mark.Semicolon)
-      (part_sound free room mark.Semicolon) o.0 a.0 o.2 in
-      let second = ended mark.Semicolon (IsTest room) (test_at free room) (test_sound free room) a.0.1 b.0 b.1 in
-      let third = ended mark.CloseParen (IsPart room) (part_at free room _) (part_sound free room mark.CloseParen) b.0.1
-      c.0 c.1 in
-      let body = block_sound c.0.1 e.0.1 e.0.0 e.1 in
-      let height = for_height a.0.0 b.0.0 c.0.0 e.0.0 in
-      let after3 = glued e.0.1 third.taken (third.ends ∷ body.taken) third.split (ap (λ l. third.ends ∷ l) body.split)
-      in
-      let after2 = glued e.0.1 second.taken (second.ends ∷ (third.taken ++ third.ends ∷ body.taken)) second.split
-      (ap (λ l. second.ends ∷ l) after3) in
-      let after1 = glued e.0.1 first.taken (first.ends ∷
-      (second.taken ++ second.ends ∷ (third.taken ++ third.ends ∷ body.taken))) first.split
-      (ap (λ l. first.ends ∷ l) after2) in
-      took (t.first ∷ u.0 ∷ (first.taken ++ first.ends ∷
-      (second.taken ++ second.ends ∷ (third.taken ++ third.ends ∷ body.taken)))) e.2
-      (t.is ∙ ap (λ l. t.first ∷ l) (u.1 ∙ ap (λ l. u.0 ∷ l) after1)) (record {
-        spelled = for_loop t.first u.0 first.ends second.ends third.ends t.keyword u.2 first.mark second.mark
-            third.mark first.spelled.spelled second.spelled.spelled third.spelled.spelled body.spelled.spelled;
-        low = omega (arith, first.spelled.low, second.spelled.low, third.spelled.low, body.spelled.low);
-      })
+  for_exact = then_exact (few free) (then_exact (few free)
+      (between_exact (few free) mark.OpenParen mark.Semicolon (part_exact free room mark.Semicolon refl refl)
+      (λ t rest p. ((rw p, rw p), rw p))) (λ first. then_exact (few free)
+      (before_exact (few free) mark.Semicolon (λ c. c) (test_exact free room) (λ t rest p. (rw p, rw p)))
+      (λ c. made_exact (for_parts first c) (before_exact (few free) mark.CloseParen (λ next. next)
+      (part_exact free room mark.CloseParen refl refl) (λ t rest p. ((rw p, rw p), rw p))))
+      (λ x us y d rest h. tt)) (λ x us y d rest h. tt)) (λ head. made_exact (loop_of head) block_exact)
+      (λ x us y d rest h. tt)
 
-  for_reads : {ts us vs ws : List Lexeme} {first next : Option SimpleTree} {c : ExprTree} {body : List StmtTree}
-      (u v w x : Lexeme) → IsMark mark.OpenParen u → IsMark mark.Semicolon v → IsMark mark.Semicolon w →
-      IsMark mark.CloseParen x → (f : SpellsPart ts first) (k : SpellsTest us c) (n : SpellsPart vs next)
-      (b : SpellsBlock ws body) (rest : List Lexeme) → option_height first ≤ room → expr_height c ≤ room →
-      option_height next ≤ room → stmts_height body ≤ room → Few free (ts ++ v ∷ (us ++ w ∷ (vs ++ x ∷ ws))) →
-      for_behind free inner room (u ∷ (ts ++ v ∷ (us ++ w ∷ (vs ++ x ∷ (ws ++ rest))))) ≡
-      Some (stmt.For first c next body, rest)
-  unfolding for_behind for_head first_part middle_part last_part
-  for_reads {ts} {us} {vs} {ws} {first} {next} {c} {body} u v w x p q r s f k n b rest l1 l2 l3 l4 few =
-      let few2 = few_tail free v (us ++ w ∷ (vs ++ x ∷ ws)) (few_right free ts _ few) in
-      let few3 = few_tail free w (vs ++ x ∷ ws) (few_right free us _ few2) in
-      let few4 = few_tail free x ws (few_right free vs (x ∷ ws) few3) in
-      let r1 = part_reads free room _ refl refl f v (us ++ w ∷ (vs ++ x ∷ (ws ++ rest))) q l1
-      (few_left free ts (v ∷ (us ++ w ∷ (vs ++ x ∷ ws))) few) (rw q, rw q) (rw q) in
-      let r2 = test_reads free room k w (vs ++ x ∷ (ws ++ rest)) r l2 (few_left free us _ few2) in
-      let r3 = part_reads free room mark.CloseParen refl refl n x (ws ++ rest) s l3 (few_left free vs _ few3)
-      (rw s, rw s) (rw s) in
-      rw (p, r1, q, r2, r, r3, s, block_complete b rest l4 few4)
-
-  kind_sound : (ts rest : List Lexeme) (x : StmtKind) → kind_by free inner room (keyword_at ts) ts ≡ Some (x, rest) →
-      Taken (IsKind room) ts x rest
+  kind_sound : Sound (IsKind room) (λ ts. kind_by free inner room (keyword_at ts) ts)
   kind_sound ts rest x h = go (keyword_at ts) refl h
     where
       go : (o : Option Keyword) → keyword_at ts ≡ o → kind_by free inner room o ts ≡ Some (x, rest) →
           Taken (IsKind room) ts x rest
-      go (Some word.If) q e = if_sound ts rest x q e
-      go (Some word.While) q e = while_sound ts rest x q e
-      go (Some word.For) q e = for_sound ts rest x q e
+      go (Some word.If) q e = as_form if_is (word_taken ts q (if_exact.sound (drop 1 ts) rest x e))
+      go (Some word.While) q e = as_form while_is (word_taken ts q (while_exact.sound (drop 1 ts) rest x e))
+      go (Some word.For) q e = as_form for_is (word_taken ts q (for_exact.sound (drop 1 ts) rest x e))
       go _ q e = ended_sound free room ts rest x e
 
-  kind_complete : {ts : List Lexeme} {k : StmtKind} (d : SpellsStmtKind ts k) (rest : List Lexeme) →
-      kind_height k ≤ room → Few free ts → NoElse rest →
-      kind_by free inner room (keyword_at (ts ++ rest)) (ts ++ rest) ≡ Some (k, rest)
+  if_reads : {ts : List Lexeme} {k : StmtKind} (d : Behind word.If (IfParts room) ts k) (rest : List Lexeme) →
+      Few free ts → NoElse rest → kind_by free inner room (keyword_at (ts ++ rest)) (ts ++ rest) ≡ Some (k, rest)
+  if_reads (behind_word {ts = ts} t p d) rest fits ends =
+      rw p (if_exact.complete ts _ d rest (fits_behind (few free) t ts fits) ends)
+
+  kind_complete : Complete (Few free) (IsKind room) NoElse (λ ts. kind_by free inner room (keyword_at ts) ts)
   unfolding ended_at plain_at returned
-  kind_complete (empty t p) rest low few ends = rw p
-  kind_complete (plain {ts = ts} {kind = k} t p d) rest low few ends =
+  kind_complete _ _ (empty t p, low) rest fits ends = rw p
+  kind_complete _ _ (plain {ts = ts} {kind = k} t p d, low) rest fits ends =
       let height = plain_height k in
-      let read = (simple_exact free room).complete ts (t ∷ rest) k (record { spelled = d; low = omega arith })
-      (few_left free ts (t ∷ []) few) (rw p, rw p) in
+      let read = (simple_exact free room).complete ts k (d, omega arith) (t ∷ rest)
+      ((few free).left ts (t ∷ []) fits) (rw p, rw p) in
       let none = kind_no_word d (t ∷ rest) in
       ap (λ l. kind_by free inner room (keyword_at l) l) (append_assoc ts (t ∷ []) rest)
       ∙ ap (λ o. kind_by free inner room o (ts ++ t ∷ rest)) none
       ∙ plain_ended free room (ts ++ t ∷ rest) t rest k p none (kind_no_mark mark.Semicolon refl refl d (t ∷ rest)) read
-  kind_complete (statements.break t u p q) rest low few ends = rw (p, q)
-  kind_complete (statements.continue t u p q) rest low few ends = rw (p, q)
-  kind_complete (return_nothing t u p q) rest low few ends = rw (p, q)
-  kind_complete (return_value {ts = ts} {value = e} t u p q d) rest low few ends =
+  kind_complete _ _ (statements.break t u p q, low) rest fits ends = rw (p, q)
+  kind_complete _ _ (statements.continue t u p q, low) rest fits ends = rw (p, q)
+  kind_complete _ _ (return_nothing t u p q, low) rest fits ends = rw (p, q)
+  kind_complete _ _ (return_value {ts = ts} {value = e} t u p q d, low) rest fits ends =
       let height = value_height e in
-      let inside = few_left free ts (u ∷ []) (few_tail free t (ts ++ u ∷ []) few) in
-      let read = (expr_exact free room).complete ts (u ∷ rest) e (record { spelled = d; low = omega arith }) inside
-      (rw q) in
+      let read = (expr_exact free room).complete ts e (d, omega arith) (u ∷ rest)
+      ((few free).left ts (u ∷ []) (fits_behind (few free) t _ fits)) (rw q) in
       let other = no_mark mark.Semicolon refl (ts ++ u ∷ rest) (expr_starts d (u ∷ rest)) in
-      let bare = no_call d (u ∷ rest) (rw q) in
       ap (λ l. kind_by free inner room (keyword_at (t ∷ l)) (t ∷ l)) (append_assoc ts (u ∷ []) rest) ∙
-      rw (p, other, bare, read, q)
-  kind_complete (return_call {ts = ts} {call = c} t u p q d) rest low few ends =
+      rw (p, other, no_call d (u ∷ rest) (rw q), read, q)
+  kind_complete _ _ (return_call {ts = ts} {call = c} t u p q d, low) rest fits ends =
       let height = return_call_height c in
-      let inside = few_left free ts (u ∷ []) (few_tail free t (ts ++ u ∷ []) few) in
-      let read = (call_exact free room).complete ts (u ∷ rest) c
-      (record { spelled = d; low = omega arith }) inside tt in
-      let other = no_mark mark.Semicolon refl _ (call_starts d (u ∷ rest)) in
+      let read = (call_exact free room).complete ts c (d, omega arith) (u ∷ rest)
+      ((few free).left ts (u ∷ []) (fits_behind (few free) t _ fits)) tt in
+      let other = no_mark mark.Semicolon refl (ts ++ u ∷ rest) (call_starts d (u ∷ rest)) in
       ap (λ l. kind_by free inner room (keyword_at (t ∷ l)) (t ∷ l)) (append_assoc ts (u ∷ []) rest) ∙
       rw (p, other, call_begins d (u ∷ rest), read, q)
-  kind_complete (choice {ts = ts} d) rest low few ends = let r = if_complete d rest low few ends in rw r.0 r.1
-  kind_complete (while_loop {ts = ts} {us = us} {cond = c} {body = body} t p k b) rest low few ends =
+  kind_complete _ _ (choice d, low) rest fits ends = if_reads (if_apart d low) rest fits ends
+  kind_complete _ _ (while_loop {ts = ts} {us = us} {cond = c} {body = body} t p k b, low) rest fits ends =
       let height = while_height c body in
-      let read = while_reads k b rest (omega arith) (omega arith) (few_tail free t (ts ++ us) few) in
-      rw p read
-  kind_complete (for_loop {ts = ts} {us = us} {vs = vs} {ws = ws} {first = first} {next = next} {cond = c} {body = body}
-      t u v w x p q r s k f g n b) rest low few ends =
+      rw p (while_exact.complete (ts ++ us) _ (both (k, omega arith) (made (b, omega arith))) rest
+      (fits_behind (few free) t (ts ++ us) fits) tt)
+  kind_complete _ _ (for_loop {ts = ts} {us = us} {vs = vs} {ws = ws} {first = first} {next = next} {cond = c}
+      {body = body} t u v w x p q r s k f g n b, low) rest fits ends =
       let height = for_height first c next body in
-      let tail = few_tail free u (ts ++ v ∷ (us ++ w ∷ (vs ++ x ∷ ws)))
-      (few_tail free t (u ∷ (ts ++ v ∷ (us ++ w ∷ (vs ++ x ∷ ws)))) few) in
-      let read = for_reads u v w x q r s k f g n b rest (omega arith) (omega arith) (omega arith) (omega arith) tail in
-      let all : (ts ++ v ∷ (us ++ w ∷ (vs ++ x ∷ ws))) ++ rest ≡ ts ++ v ∷ (us ++ w ∷ (vs ++ x ∷ (ws ++ rest))) =
-      append_assoc ts (v ∷ (us ++ w ∷ (vs ++ x ∷ ws))) rest ∙
-      ap (λ l. ts ++ v ∷ l) (append_assoc us (w ∷ (vs ++ x ∷ ws)) rest ∙
-      ap (λ l. us ++ w ∷ l) (append_assoc vs (x ∷ ws) rest)) in
-      ap (λ l. kind_by free inner room (keyword_at (t ∷ u ∷ l)) (t ∷ u ∷ l)) all ∙ rw p read
-
-  within_sound : (ts rest : List Lexeme) (x : StmtTree) → stmt_within free inner room ts ≡ Some (x, rest) →
-      Taken (IsStmt (suc room)) ts x rest
-  unfolding stmt_within
-  within_sound ts rest x h =
-      let b = bound _ _ _ h in
-      let k = kind_sound ts b.0.1 b.0.0 b.1 in
-      let line = ap first_line k.split ∙ first_line_some k.taken b.0.1 (kind_starts k.spelled.spelled).some in
-      took k.taken b.2 k.split (subst (λ n. IsStmt (suc room) k.taken (stmt_tree n b.0.0)) (sym line)
-      (a_stmt k.spelled.spelled (omega (arith, k.spelled.low))))
-
-  within_complete : {ts : List Lexeme} {x : StmtTree} (d : IsStmt (suc room) ts x) (rest : List Lexeme) → Few free ts →
-      NoElse rest → stmt_within free inner room (ts ++ rest) ≡ Some (x, rest)
-  unfolding stmt_within
-  within_complete (a_stmt {ts = ts} d low) rest few ends =
-      rw (kind_complete d rest (omega arith) few ends, first_line_some ts rest (kind_starts d).some)
+      let all = for_lexemes u v w x ts us vs ws in
+      let inside = fits_behind (few free) t (u ∷ (ts ++ v ∷ (us ++ w ∷ (vs ++ x ∷ ws)))) fits in
+      rw p (ap (λ l. for_behind free inner room (l ++ rest)) (sym all) ∙
+      for_exact.complete _ _ (both (both (after u q (before v r (f, omega arith)))
+      (both (before w s (g, omega arith)) (made (before x k (n, omega arith))))) (made (b, omega arith))) rest
+      (subst (Few free) (sym all) inside) tt)
 
   pub within_exact : Exact (Few free) (IsStmt (suc room)) NoElse (stmt_within free inner room)
-  within_exact = record { sound = within_sound; complete = λ ts rest x d few ends. within_complete d rest few ends }
+  unfolding stmt_within
+  within_exact = record {
+    sound = λ ts rest x h.
+        let b = bound _ _ _ h in
+        let k = kind_sound ts b.0.1 b.0.0 b.1 in
+        let line = ap first_line k.split ∙ first_line_some k.taken b.0.1 (kind_starts k.spelled.0).some in
+        took k.taken b.2 k.split (subst (λ n. IsStmt (suc room) k.taken (stmt_tree n b.0.0)) (sym line)
+        (a_stmt k.spelled.0 (omega (arith, k.spelled.1))));
+    complete = complete;
+  }
+    where
+      complete : Complete (Few free) (IsStmt (suc room)) NoElse (stmt_within free inner room)
+      complete _ _ (a_stmt {ts = ts} d low) rest fits ends =
+          rw (kind_complete _ _ (d, omega arith) rest fits ends, first_line_some ts rest (kind_starts d).some)
 
 no_stmt : {ts : List Lexeme} {x : StmtTree} (d : IsStmt 0 ts x) → ⊥
 no_stmt (a_stmt d low) = omega arith
 
 -- a statement that is at most so high
-pub stmt_exact : (free : ℕ) → (room : ℕ) → Exact (Few free) (IsStmt room) NoElse (stmt_at free room)
+pub stmt_exact : (free room : ℕ) → Exact (Few free) (IsStmt room) NoElse (stmt_at free room)
 unfolding stmt_at
 stmt_exact free zero = record {
   sound = λ ts rest x h. absurd (none-some _ h);
-  complete = λ ts rest x d few ends. absurd (no_stmt d);
+  complete = λ ts x d rest fits ends. absurd (no_stmt d);
 }
 stmt_exact free (suc room) =
     let w = within_exact free room (stmt_at free room) (stmt_exact free room) in
     record { sound = w.sound; complete = w.complete }
 
-abbrev pub AtEnd : List Lexeme → Type 0
-AtEnd rest = begins_with mark.CloseCurly rest ≡ true
-
-pub stmts_exact : (free : ℕ) → (room : ℕ) → Exact (Few free) (IsStmts room) AtEnd (stmts_at (stmt_at free room))
-stmts_exact free room = record {
-  sound = stmts_sound free room _ (stmt_exact free room);
-  complete = λ ts rest x d few ends.
-      (inner_exact free room _ (stmt_exact free room)).complete [] x ts rest (stmts_joined d.spelled d.low) few ends;
-}
+pub stmts_exact : (free room : ℕ) → Exact (Few free) (IsStmts room) AtEnd (stmts_at (stmt_at free room))
+stmts_exact free room = inner_exact free room _ (stmt_exact free room)

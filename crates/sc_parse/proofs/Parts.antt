@@ -1,49 +1,46 @@
--- Conditions and the parts of a `for` are read exactly as they are spelled.
-use Rattle.sc_parse.proofs.Common.{CallTree, ExprTree, IsMark, Lexeme, List, Mark, None, Option, SimpleKind, SimpleTree}
-use Rattle.sc_parse.proofs.Common.{Some, Spells, SpellsCall, SpellsCondition, SpellsKind, SpellsPart, SpellsTest}
-use Rattle.sc_parse.proofs.Common.{Symbol, [], a_part, a_test, ap, append_assoc, arith, assign, assign_call}
-use Rattle.sc_parse.proofs.Common.{begins_with, bound, call, compound, cond, cond_is, condition, condition_at, expr_at}
-use Rattle.sc_parse.proofs.Common.{expr_height, false, false≢true, first_line, is_some, keyword_at, keyword_by, le-leb}
-use Rattle.sc_parse.proofs.Common.{lead_by, leb, leb-true, length, length-append, no_part, no_test, option_height}
-use Rattle.sc_parse.proofs.Common.{part_at, refl, simple_at, simple_tree, step_before, step_behind, step_of, sym}
-use Rattle.sc_parse.proofs.Common.{test_at, true, ℕ, ◌++◌, ◌-◌, ◌<◌, ◌>>=◌, ◌∙◌, ◌∷◌, ◌≡◌, ◌≤◌}
+-- Conditions, the parts of a `for`, and statements that hold no others are read exactly as they are spelled.
+use Rattle.sc_parse.proofs.Common.{CallTree, ExprTree, IsKeyword, IsMark, Keyword, Lexeme, List, Mark, None, Option}
+use Rattle.sc_parse.proofs.Common.{SimpleKind, SimpleTree, Some, Spells, SpellsCall, SpellsCondition, SpellsIf}
+use Rattle.sc_parse.proofs.Common.{SpellsKind, SpellsPart, SpellsStmtKind, SpellsTest, StmtKind, StmtTree, Symbol, []}
+use Rattle.sc_parse.proofs.Common.{a_part, a_test, alone, ap, append_assoc, arith, assign, assign_call, begins_with}
+use Rattle.sc_parse.proofs.Common.{behind_mark, bound, break_height, call, choice, compound, cond, cond_is, condition}
+use Rattle.sc_parse.proofs.Common.{condition_at, continue_height, drop, empty, empty_height, ended_at, expr_height}
+use Rattle.sc_parse.proofs.Common.{false, false≢true, first_line, for_loop, glued, is_base, is_else, is_if, is_some}
+use Rattle.sc_parse.proofs.Common.{keyword_at, keyword_by, kind_height, kind_of, le-leb, lead_by, leb, leb-true, length}
+use Rattle.sc_parse.proofs.Common.{length-append, no_base, no_part, no_test, not, option_height, otherwise}
+use Rattle.sc_parse.proofs.Common.{otherwise_if, part_at, plain_at, plain_height, read, refl, return_call}
+use Rattle.sc_parse.proofs.Common.{return_call_height, return_height, return_nothing, return_value, returned, simple_at}
+use Rattle.sc_parse.proofs.Common.{simple_or_none, simple_tree, step_before, step_behind, step_of, stmt_tree, sym}
+use Rattle.sc_parse.proofs.Common.{test_at, true, value_height, value_returned, while_loop, ℕ, ◌++◌, ◌-◌, ◌<◌, ◌>>=◌}
+use Rattle.sc_parse.proofs.Common.{◌∙◌, ◌∷◌, ◌≡◌, ◌≤◌}
 use Rattle.sc_expr.specs.declared.mark.Mark.TheVariants as mark
 use Rattle.sc_expr.specs.declared.lexeme.Symbol.TheVariants as symbol
 use Rattle.sc_parse.specs.Statements as statements
-use Rattle.sc_parse.proofs.Exact.{Taken, Exact, took, chosen, enclosed}
+use Rattle.sc_parse.proofs.Exact.{Any, Between, Complete, Exact, Form, Low, Property, Turns, after, as_form, before}
+use Rattle.sc_parse.proofs.Exact.{between_exact, chosen, formed_exact, took, Sound, Taken, front_taken, made_exact}
+use Rattle.sc_parse.proofs.Exact.{made_of, word_ahead}
 use Rattle.sc_parse.proofs.Bases.{other_mark}
-use Rattle.sc_parse.proofs.Expressions.{Few, few_left, few_tail, expr_exact, begins_expr, starts_expr, expr_starts}
-use Rattle.sc_parse.proofs.Expressions.{no_mark, IsExpr, call_starts}
+use Rattle.sc_parse.proofs.Expressions.{Few, IsExpr, NoExtension, begins_expr, call_starts, expr_exact, expr_starts}
+use Rattle.sc_parse.proofs.Expressions.{few, no_mark, starts_expr, call_exact}
 use Rattle.sc_parse.proofs.Simples.{EndsSimple, simple_exact, one_height}
+use Rattle.sc_parse.specs.Statements.{plain}
+use Rattle.sc_ast.specs.declared.stmt.StmtKind.TheVariants as stmt
+use Rattle.sc_expr.specs.declared.mark.Keyword.TheVariants as word
 
 -- a condition that is at most so high
-pub record IsCondition (room : ℕ) (ts : List Lexeme) (e : ExprTree) : Type 0 where
-  pub spelled : SpellsCondition ts e
-  pub low : expr_height e ≤ room
+abbrev pub IsCondition : ℕ → Form ExprTree
+IsCondition room = Low SpellsCondition expr_height room
 
-condition_sound : (free : ℕ) → (room : ℕ) (ts rest : List Lexeme) (x : ExprTree) →
-    condition_at free room ts ≡ Some (x, rest) → Taken (IsCondition room) ts x rest
+pub condition_exact : (free room : ℕ) → Exact (Few free) (IsCondition room) Any (condition_at free room)
 unfolding condition_at
-condition_sound free room ts rest x h =
-    let b = enclosed mark.OpenParen mark.CloseParen (IsExpr room) (expr_at free room) (expr_exact free room).sound ts
-    (x, rest) h in
-    let spelled = condition b.first b.last b.opens b.closes b.spelled.spelled in
-    record { taken = _; split = b.split; spelled = record { spelled = spelled; low = b.spelled.low } }
+condition_exact free room = formed_exact (between_exact (few free) mark.OpenParen mark.CloseParen
+    (expr_exact free room) (λ t rest p. rw p)) joined_condition condition_apart (λ rest h. h)
+  where
+    joined_condition : Turns (Between mark.OpenParen mark.CloseParen (IsExpr room)) (IsCondition room)
+    joined_condition _ _ (after t p (before u q d)) = (condition t u p q d.0, d.1)
 
-condition_complete : (free : ℕ) → (room : ℕ) {ts : List Lexeme} {x : ExprTree} (d : SpellsCondition ts x)
-    (rest : List Lexeme) → expr_height x ≤ room → Few free ts → condition_at free room (ts ++ rest) ≡ Some (x, rest)
-unfolding condition_at
-condition_complete free room (condition {ts = ts} {cond = e} t u p q d) rest low few =
-    let inner = few_left free ts (u ∷ []) (few_tail free t (ts ++ u ∷ []) few) in
-    let read = (expr_exact free room).complete ts (u ∷ rest) e (record { spelled = d; low = low }) inner (rw q) in
-    ap (λ l. condition_at free room (t ∷ l)) (append_assoc ts (u ∷ []) rest) ∙ rw (p, read, q)
-
-pub condition_exact : (free : ℕ) → (room : ℕ) → Exact (Few free) (IsCondition room) (λ rest. Unit {0})
-    (condition_at free room)
-condition_exact free room = record {
-  sound = condition_sound free room;
-  complete = λ ts rest x d few ends. condition_complete free room d.spelled rest d.low few;
-}
+    condition_apart : Turns (IsCondition room) (Between mark.OpenParen mark.CloseParen (IsExpr room))
+    condition_apart _ _ (condition t u p q d, low) = after t p (before u q (d, low))
 
 call_some : {ts : List Lexeme} {x : CallTree} (d : SpellsCall ts x) → 0 < length ts
 call_some (statements.call t u v name p q r d) = omega arith
@@ -99,64 +96,183 @@ kind_no_mark m h s d rest = kind_front (begins_with m) false (no_mark m h) (λ t
     (λ same. false≢true (sym s ∙ ap (λ k. is_some (step_of k)) (sym same) ∙ q))) d rest
 
 -- a part of a `for`, at most so high
-pub record IsPart (room : ℕ) (ts : List Lexeme) (x : Option SimpleTree) : Type 0 where
-  pub spelled : SpellsPart ts x
-  pub low : option_height x ≤ room
+abbrev pub IsPart : ℕ → Form (Option SimpleTree)
+IsPart room = Low SpellsPart option_height room
 
-pub part_sound : (free : ℕ) → (room : ℕ) (m : Mark) (ts rest : List Lexeme) (x : Option SimpleTree) →
-    part_at free room m ts ≡ Some (x, rest) → Taken (IsPart room) ts x rest
-unfolding part_at
-part_sound free room m ts rest x h = chosen _ _ (cond (leb 1 room) (simple_at free (room - 1) ts >>=
-    (λ x. Some (Some (simple_tree (first_line ts) x.0), x.1))) None) h (λ q e.
-    took [] e refl (record { spelled = no_part; low = omega arith })) (λ q e.
-    let c = cond_is (leb 1 room) _ (x, rest) e in
-    let some = leb-true 1 room c.0 in
-    let b = bound (λ x. Some _) (simple_at free (room - 1) ts) (x, rest) c.1 in
-    let k = (simple_exact free (room - 1)).sound ts b.0.1 b.0.0 b.1 in
-    let line = ap first_line k.split ∙ first_line_some k.taken b.0.1 (kind_some k.spelled.spelled) in
-    took k.taken b.2 k.split (record {
-      spelled = a_part (k.spelled.spelled, line);
-      low = omega (arith, k.spelled.low);
-    }))
+-- behind a part stands its mark, which begins no simple statement
+abbrev pub EndsPart : Mark → Property
+EndsPart m rest = EndsSimple rest × (begins_with m rest ≡ true)
 
-pub part_reads : (free : ℕ) → (room : ℕ) (m : Mark) → is_some (lead_by m) ≡ false → is_some (step_of m) ≡ false →
-    {ts : List Lexeme} {x : Option SimpleTree} (d : SpellsPart ts x) (v : Lexeme) (rest : List Lexeme) → IsMark m v →
-    option_height x ≤ room → Few free ts → EndsSimple (v ∷ rest) → begins_with m (v ∷ rest) ≡ true →
-    part_at free room m (ts ++ v ∷ rest) ≡ Some (x, v ∷ rest)
+pub part_exact : (free room : ℕ) (m : Mark) → is_some (lead_by m) ≡ false → is_some (step_of m) ≡ false →
+    Exact (Few free) (IsPart room) (EndsPart m) (part_at free room m)
 unfolding part_at
-part_reads free room m h s no_part v rest p low few ends starts = rw starts
-part_reads free room m h s (a_part {ts = ts} {tree = tree} d) v rest p low few ends starts =
-    let other = kind_no_mark m h s d.0 (v ∷ rest) in
-    let some : 1 ≤ room = omega arith in
-    let read = (simple_exact free (room - 1)).complete ts (v ∷ rest) _
-    (record { spelled = d.0; low = omega arith }) few ends in
-    let line : first_line (ts ++ v ∷ rest) ≡ tree.line = first_line_some ts (v ∷ rest) (kind_some d.0) ∙ sym d.1 in
-    rw (other, le-leb 1 room some, read, line)
+part_exact free room m h s = record {
+  sound = λ ts rest x h. chosen _ _ (cond (leb 1 room) (simple_at free (room - 1) ts >>=
+      (λ x. Some (Some (simple_tree (first_line ts) x.0), x.1))) None) h
+      (λ q e. took [] e refl (no_part, omega arith)) (λ q e.
+      let c = cond_is (leb 1 room) _ (x, rest) e in
+      let some = leb-true 1 room c.0 in
+      let b = bound (λ x. Some _) (simple_at free (room - 1) ts) (x, rest) c.1 in
+      let k = (simple_exact free (room - 1)).sound ts b.0.1 b.0.0 b.1 in
+      let line = ap first_line k.split ∙ first_line_some k.taken b.0.1 (kind_some k.spelled.0) in
+      took k.taken b.2 k.split (a_part (k.spelled.0, line), omega (arith, k.spelled.1)));
+  complete = complete;
+}
+  where
+    complete : Complete (Few free) (IsPart room) (EndsPart m) (part_at free room m)
+    complete _ _ (no_part, low) rest fits ends = rw ends.1
+    complete _ _ (a_part {ts = ts} {tree = tree} d, low) rest fits ends =
+        let some : 1 ≤ room = omega arith in
+        let read = (simple_exact free (room - 1)).complete _ _ (d.0, omega arith) rest fits ends.0 in
+        let line : first_line (ts ++ rest) ≡ tree.line = first_line_some ts rest (kind_some d.0) ∙ sym d.1 in
+        rw (kind_no_mark m h s d.0 rest, le-leb 1 room some, read, line)
 
 -- the condition of a `for`, at most so high
-pub record IsTest (room : ℕ) (ts : List Lexeme) (e : ExprTree) : Type 0 where
-  pub spelled : SpellsTest ts e
-  pub low : expr_height e ≤ room
+abbrev pub IsTest : ℕ → Form ExprTree
+IsTest room = Low SpellsTest expr_height room
 
-pub test_sound : (free : ℕ) → (room : ℕ) (ts rest : List Lexeme) (x : ExprTree) →
-    test_at free room ts ≡ Some (x, rest) → Taken (IsTest room) ts x rest
+pub test_exact : (free room : ℕ) → Exact (Few free) (IsTest room)
+    (λ rest. NoExtension rest × (begins_with mark.Semicolon rest ≡ true)) (test_at free room)
 unfolding test_at
-test_sound free room ts rest x h = chosen _ _ _ h (λ q e.
-    let c = cond_is _ _ _ e in
-    let some = leb-true 1 room c.0 in
-    let height = one_height in
-    took [] c.1 refl (record { spelled = no_test; low = omega arith })) (λ q e.
-    let d = (expr_exact free room).sound ts rest x e in
-    let spelled : IsTest room d.taken x = record { spelled = a_test d.spelled.spelled; low = d.spelled.low } in
-    record { taken = d.taken; split = d.split; spelled = spelled })
+test_exact free room = record {
+  sound = λ ts rest x h. chosen _ _ _ h (λ q e.
+      let c = cond_is _ _ _ e in
+      let some = leb-true 1 room c.0 in
+      let height = one_height in
+      took [] c.1 refl (no_test, omega arith))
+      (λ q e. as_form (λ us y d. (a_test d.0, d.1)) ((expr_exact free room).sound ts rest x e));
+  complete = complete;
+}
+  where
+    complete : Complete (Few free) (IsTest room) (λ rest. NoExtension rest × (begins_with mark.Semicolon rest ≡ true))
+        (test_at free room)
+    complete _ _ (no_test, low) rest fits ends =
+        let height = one_height in let some : 1 ≤ room = omega arith in rw (ends.1, le-leb 1 room some)
+    complete _ _ (a_test d, low) rest fits ends = rw (
+      no_mark mark.Semicolon refl _ (expr_starts d rest),
+      (expr_exact free room).complete _ _ (d, low) rest fits ends.0,
+    )
 
-pub test_reads : (free : ℕ) → (room : ℕ) {ts : List Lexeme} {x : ExprTree} (d : SpellsTest ts x) (v : Lexeme)
-    (rest : List Lexeme) → IsMark mark.Semicolon v → expr_height x ≤ room → Few free ts →
-    test_at free room (ts ++ v ∷ rest) ≡ Some (x, v ∷ rest)
-unfolding test_at
-test_reads free room no_test v rest p low few = let height = one_height in let some : 1 ≤ room = omega arith in
-    rw (p, le-leb 1 room some)
-test_reads free room (a_test {ts = ts} {cond = e} d) v rest p low few =
-    let other = no_mark mark.Semicolon refl _ (expr_starts d (v ∷ rest)) in
-    let read = (expr_exact free room).complete ts (v ∷ rest) e (record { spelled = d; low = low }) few (rw p) in
-    rw (other, read)
+abbrev pub NoElse : List Lexeme → Type 0
+NoElse rest = is_else (keyword_at rest) ≡ false
+
+-- what a statement begins with
+pub record Starts (ts : List Lexeme) (k : StmtKind) : Type 0 where
+  pub some : 0 < length ts
+  pub no_end : (rest : List Lexeme) → begins_with mark.CloseCurly (ts ++ rest) ≡ false
+  pub no_else : (rest : List Lexeme) → NoElse (ts ++ rest)
+  pub no_base : (rest : List Lexeme) → no_base (ts ++ rest) ≡ true
+  pub an_if : (rest : List Lexeme) → is_if (keyword_at (ts ++ rest)) ≡ true → SpellsIf ts k
+
+-- an `if` begins with its word, and no other statement with that
+word_starts : (t : Lexeme) (ts : List Lexeme) (k : StmtKind) (w : Keyword) → IsKeyword w t → is_else (Some w) ≡ false →
+    is_base (Some w) ≡ false → (is_if (Some w) ≡ true → SpellsIf (t ∷ ts) k) → Starts (t ∷ ts) k
+word_starts t ts k w p q r an_if = record {
+  some = omega arith;
+  no_end = λ rest. rw p;
+  no_else = λ rest. rw (p, q);
+  no_base = λ rest. rw (p, r);
+  an_if = λ rest h. an_if (rw p at h);
+}
+
+if_starts : {ts : List Lexeme} {k : StmtKind} (d : SpellsIf ts k) → Starts ts k
+if_starts (alone t p c b) = word_starts t _ _ _ p refl refl (λ h. alone t p c b)
+if_starts (otherwise t u p q c b e) = word_starts t _ _ _ p refl refl (λ h. otherwise t u p q c b e)
+if_starts (otherwise_if t u p q c b e) = word_starts t _ _ _ p refl refl (λ h. otherwise_if t u p q c b e)
+
+pub kind_starts : {ts : List Lexeme} {k : StmtKind} (d : SpellsStmtKind ts k) → Starts ts k
+kind_starts (empty t p) = record {
+  some = omega arith;
+  no_end = λ rest. rw p;
+  no_else = λ rest. rw p;
+  no_base = λ rest. rw p;
+  an_if = λ rest h. absurd (false≢true (rw p at h));
+}
+kind_starts (plain {ts = ts} t p d) = record {
+  some = omega (arith, length-append ts (t ∷ []));
+  no_end = λ rest. ap (begins_with mark.CloseCurly) (append_assoc ts _ rest) ∙
+      kind_no_mark mark.CloseCurly refl refl d (t ∷ rest);
+  no_else = λ rest. ap (λ l. is_else (keyword_at l)) (append_assoc ts (t ∷ []) rest) ∙
+      ap is_else (kind_no_word d (t ∷ rest));
+  no_base = λ rest. ap no_base (append_assoc ts _ rest) ∙ ap (λ o. not (is_base o)) (kind_no_word d (t ∷ rest));
+  an_if = λ rest h. absurd (false≢true (sym (ap (λ l. is_if (keyword_at l)) (append_assoc ts (t ∷ []) rest) ∙
+      ap is_if (kind_no_word d (t ∷ rest))) ∙ h));
+}
+kind_starts (statements.break t u p q) = word_starts t _ _ _ p refl refl (λ h. absurd (false≢true h))
+kind_starts (statements.continue t u p q) = word_starts t _ _ _ p refl refl (λ h. absurd (false≢true h))
+kind_starts (return_nothing t u p q) = word_starts t _ _ _ p refl refl (λ h. absurd (false≢true h))
+kind_starts (return_value t u p q d) = word_starts t _ _ _ p refl refl (λ h. absurd (false≢true h))
+kind_starts (return_call t u p q d) = word_starts t _ _ _ p refl refl (λ h. absurd (false≢true h))
+kind_starts (choice d) = if_starts d
+kind_starts (while_loop t p c b) = word_starts t _ _ _ p refl refl (λ h. absurd (false≢true h))
+kind_starts (for_loop t u v w x p q r s k f c n b) = word_starts t _ _ _ p refl refl (λ h. absurd (false≢true h))
+
+-- a kind of statement whose parts are at most so high
+abbrev pub IsKind : ℕ → Form StmtKind
+IsKind room = Low SpellsStmtKind kind_height room
+
+-- a statement that is at most so high
+pub data IsStmt (room : ℕ) : List Lexeme → StmtTree → Type 0 where
+  a_stmt : {ts : List Lexeme} {k : StmtKind} → SpellsStmtKind ts k → kind_height k < room →
+      IsStmt room ts (stmt_tree (first_line ts) k)
+
+pub stmt_starts : {room : ℕ} {ts : List Lexeme} {x : StmtTree} (d : IsStmt room ts x) → Starts ts x.kind
+stmt_starts (a_stmt d h) = kind_starts d
+
+-- what is a statement with a `;` behind it
+abbrev Unended : ℕ → Form StmtKind
+Unended room ts k = (u : Lexeme) → IsMark mark.Semicolon u → IsKind room (ts ++ u ∷ []) k
+
+-- what stands behind `return`
+abbrev Returned : ℕ → Form StmtKind
+Returned room us k = (t : Lexeme) → IsKeyword word.Return t → Unended room (t ∷ us) k
+
+word_sound : (ts : List Lexeme) (word : Keyword) (rest : List Lexeme) (k x : StmtKind) (room : ℕ) →
+    keyword_at ts ≡ Some word → ((t : Lexeme) → IsKeyword word t → Unended room (t ∷ []) k) →
+    ◌≡◌ {A = Option (StmtKind × List Lexeme)} (Some (k, drop 1 ts)) (Some (x, rest)) → Taken (Unended room) ts x rest
+word_sound ts word rest k x room q make h = let t = word_ahead ts word q in
+    took (t.first ∷ []) h t.is (make t.first t.keyword)
+
+returned_sound : (free room : ℕ) (ts rest : List Lexeme) (x : StmtKind) → keyword_at ts ≡ Some word.Return →
+    returned free room (drop 1 ts) ≡ Some (x, rest) → Taken (Unended room) ts x rest
+unfolding returned
+returned_sound free room ts rest x q h = chosen _ _ (value_returned free room (drop 1 ts)) h
+    (λ n e. word_sound ts word.Return rest stmt.Return x room q
+    (λ t p u r. (return_nothing t u p r, omega (arith, return_height))) e) (λ n e.
+    let t = word_ahead ts word.Return q in
+    let d : Taken (Returned room) (drop 1 ts) x rest = chosen _ _ _ e
+    (λ n e. as_form (made_of (Returned room) (λ us c d t p u r.
+    (return_call t u p r d.0, omega (arith, return_call_height c, d.1))))
+    ((made_exact (λ c. stmt.ReturnCall c) (call_exact free room)).sound (drop 1 ts) rest x e))
+    (λ n e. as_form (made_of (Returned room) (λ us v d t p u r.
+    (return_value t u p r d.0, omega (arith, value_height v, d.1))))
+    ((made_exact (λ v. stmt.ReturnValue v) (expr_exact free room)).sound (drop 1 ts) rest x e)) in
+    front_taken t.first t.is d (λ us d. d t.first t.keyword))
+
+simple_sound : (free room : ℕ) → Sound (Unended room) (simple_or_none free room)
+simple_sound free room ts rest x h = chosen _ _ _ h
+    (λ q e. took [] e refl (λ u p. (empty u p, omega (arith, empty_height))))
+    (λ q e. as_form (made_of (Unended room) (λ us k d u p. (plain u p d.0, omega (arith, plain_height k, d.1))))
+    ((made_exact (λ k. kind_of k) (simple_exact free room)).sound ts rest x e))
+
+unended_sound : (free room : ℕ) → Sound (Unended room) (λ ts. plain_at free room (keyword_at ts) ts)
+unfolding plain_at
+unended_sound free room ts rest x h = go (keyword_at ts) refl h
+  where
+    go : (o : Option Keyword) → keyword_at ts ≡ o → plain_at free room o ts ≡ Some (x, rest) →
+        Taken (Unended room) ts x rest
+    go (Some word.Break) q e = word_sound ts word.Break rest stmt.Break x room q
+        (λ t p u r. (statements.break t u p r, omega (arith, break_height))) e
+    go (Some word.Continue) q e = word_sound ts word.Continue rest stmt.Continue x room q
+        (λ t p u r. (statements.continue t u p r, omega (arith, continue_height))) e
+    go (Some word.Return) q e = returned_sound free room ts rest x q e
+    go _ q e = simple_sound free room ts rest x e
+
+pub ended_sound : (free room : ℕ) → Sound (IsKind room) (ended_at free room)
+unfolding ended_at
+ended_sound free room ts rest x h =
+    let b = bound _ _ _ h in
+    let c = bound _ _ _ b.2 in
+    let d = unended_sound free room ts b.0.1 b.0.0 b.1 in
+    let u = behind_mark mark.Semicolon b.0.1 c.0 c.1 in
+    took (d.taken ++ u.0 ∷ []) c.2 (glued c.0 d.taken (u.0 ∷ []) d.split u.1) (d.spelled u.0 u.2)

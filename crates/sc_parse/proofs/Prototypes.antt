@@ -5,13 +5,15 @@ use Rattle.sc_parse.proofs.Common.{a_result, adds, all_separated, ap, append_ass
 use Rattle.sc_parse.proofs.Common.{first_line, glued, head, head_at, head_tree, is_void, keyword_at, name_ahead}
 use Rattle.sc_parse.proofs.Common.{name_at, named, nameless, no_params, no_result, option_map_or, param_at, param_tree}
 use Rattle.sc_parse.proofs.Common.{params_at, refl, result_at, some_params, subst, sym, true, type_name, type_name_at}
-use Rattle.sc_parse.proofs.Common.{◌++◌, ◌∙◌, ◌∷◌, ◌≡◌}
-use Rattle.sc_parse.proofs.Bases.{base_front, Word, word_ahead, NoType, type_name_exact}
-use Rattle.sc_parse.proofs.Declared.{separated_front, comma_ahead}
-use Rattle.sc_parse.proofs.Exact.{given, chosen, enclosed, made, Taken, Exact, ExactAdder, Any, took, separated_exact}
+use Rattle.sc_parse.proofs.Common.{ℕ, ◌++◌, ◌>>=◌, ◌∙◌, ◌∷◌, ◌≡◌}
+use Rattle.sc_parse.proofs.Bases.{NoType, base_front, type_name_exact}
+use Rattle.sc_parse.proofs.Declared.{separated_front}
+use Rattle.sc_parse.proofs.Exact.{Any, Between, Complete, Exact, ExactAdder, Form, IsName, Made, Property, Sound, Then}
+use Rattle.sc_parse.proofs.Exact.{Turns, a_name, after, any, as_form, before, between_exact, both, chosen, commas_exact}
+use Rattle.sc_parse.proofs.Exact.{from_none, given, made, made_exact, name_exact, then_exact, took, word_ahead}
 use Rattle.sc_expr.specs.declared.mark.Keyword.TheVariants as word
 use Rattle.sc_expr.specs.declared.mark.Mark.TheVariants as mark
-use Rattle.sc_parse.specs.Lists as lists
+use Rattle.sc_parse.specs.Readers.{params_in_parens}
 
 abbrev pub NoName : List Lexeme → Type 0
 NoName rest = name_at rest ≡ None
@@ -19,7 +21,10 @@ NoName rest = name_at rest ≡ None
 abbrev pub EndsParam : List Lexeme → Type 0
 EndsParam rest = NoType rest × NoName rest
 
-param_sound : (ts rest : List Lexeme) (x : ParamTree) → param_at ts ≡ Some (x, rest) → Taken SpellsParam ts x rest
+abbrev EndsParams : Property
+EndsParams rest = EndsParam rest × (behind mark.Comma rest ≡ None)
+
+param_sound : Sound SpellsParam param_at
 unfolding param_at
 param_sound ts rest x h =
     let b = bound (λ x. option_map_or {U = Option (ParamTree × List Lexeme)}
@@ -30,29 +35,20 @@ param_sound ts rest x h =
     let t = name_ahead b.0.1 y.1 y.0 q in
     took (d.taken ++ t.0 ∷ []) e (glued y.1 d.taken _ d.split t.1) (named t.0 y.0 t.2 d.spelled))
 
-param_complete : {ts : List Lexeme} {x : ParamTree} (d : SpellsParam ts x) (rest : List Lexeme) → EndsParam rest →
-    param_at (ts ++ rest) ≡ Some (x, rest)
+param_complete : Complete Any SpellsParam EndsParam param_at
 unfolding param_at
-param_complete (named {ts = ts} {ty = ty} t name p d) rest h =
-    let first = type_name_exact.complete ts (t ∷ rest) ty d tt (rw p, rw p) in
+param_complete _ _ (named {ts = ts} {ty = ty} t name p d) rest fits h =
+    let first = type_name_exact.complete ts ty d (t ∷ rest) tt (rw p, rw p) in
     ap param_at (append_assoc ts (t ∷ []) rest) ∙ rw (first, p)
-param_complete (nameless {ts = ts} {ty = ty} d) rest h = rw (type_name_exact.complete ts rest ty d tt h.0, h.1)
+param_complete _ _ (nameless d) rest fits h = rw (type_name_exact.complete _ _ d rest tt h.0, h.1)
 
-param_exact : Exact Any SpellsParam EndsParam param_at
-param_exact = record { sound = param_sound; complete = λ ts rest x d fits h. param_complete d rest h }
+all_params_exact : ExactAdder Any (Separated SpellsParam) EndsParams (all_separated (adds param_at))
+all_params_exact = commas_exact any (record { sound = param_sound; complete = param_complete })
+    (λ t rest p. ((rw p, rw p), rw p))
 
-all_params_exact : ExactAdder Any (Separated SpellsParam) (λ rest. EndsParam rest × (behind mark.Comma rest ≡ None))
-    (all_separated (adds param_at))
-all_params_exact = separated_exact Any _ _
-    _ comma_ahead SpellsParam EndsParam _ param_exact (λ t rest p. ((rw p, rw p), rw p)) (λ t us rest zs p d. rw p)
-
--- a `void` at the front
-pub void_ahead : (ts : List Lexeme) → is_void (keyword_at ts) ≡ true → Word ts word.Void
-void_ahead ts h = go (keyword_at ts) refl h
-  where
-    go : (o : Option Keyword) → keyword_at ts ≡ o → is_void o ≡ true → Word ts word.Void
-    go (Some word.Void) q e = word_ahead ts word.Void q
-    go _ q e = absurd (false≢true e)
+is_void_word : (o : Option Keyword) → is_void o ≡ true → o ≡ Some word.Void
+is_void_word (Some word.Void) h = refl
+is_void_word _ h = absurd (false≢true h)
 
 abbrev NoVoid : List Lexeme → Type 0
 NoVoid ts = is_void (keyword_at ts) ≡ false
@@ -67,39 +63,36 @@ param_no_void (named {ts = ts} t name p d) rest = subst NoVoid (sym (append_asso
     (type_name_no_void d (t ∷ rest))
 param_no_void (nameless d) rest = type_name_no_void d rest
 
-abbrev EndsParams : List Lexeme → Type 0
-EndsParams rest = EndsParam rest × (behind mark.Comma rest ≡ None)
-
-params_sound : (ts rest : List Lexeme) (x : List ParamTree) → params_at ts ≡ Some (x, rest) →
-    Taken SpellsParams ts x rest
+params_sound : Sound SpellsParams params_at
 unfolding params_at
-params_sound ts rest x h = chosen _ _ _ h (λ q e. let first = void_ahead ts q in
-    took (first.first ∷ []) e first.is (no_params first.first first.keyword)) (λ q e.
-    let l = all_params_exact.sound [] x ts rest e in
-    let spelled = some_params l.spelled in
-    record { taken = l.taken; split = l.split; spelled = subst (SpellsParams l.taken) (sym l.all) spelled })
+params_sound ts rest x h = chosen _ _ _ h (λ q e.
+    let first = word_ahead ts word.Void (is_void_word _ q) in
+    took (first.first ∷ []) e first.is (no_params first.first first.keyword))
+    (λ q e. as_form (λ us y d. some_params d) ((from_none all_params_exact).sound ts rest x e))
 
-params_complete : {ts : List Lexeme} {x : List ParamTree} (d : SpellsParams ts x) (rest : List Lexeme) →
-    EndsParams rest → params_at (ts ++ rest) ≡ Some (x, rest)
+params_complete : Complete Any SpellsParams EndsParams params_at
 unfolding params_at
-params_complete (no_params t p) rest h = rw p
-params_complete (some_params {ts = ts} {params = xs} d) rest h =
-    let read = all_params_exact.complete [] xs ts rest d tt h in
-    rw (separated_front NoVoid (λ ts rest x d. param_no_void d rest) d rest, read)
+params_complete _ _ (no_params t p) rest fits h = rw p
+params_complete _ _ (some_params d) rest fits h = rw (
+  separated_front NoVoid (λ ts rest x d. param_no_void d rest) d rest,
+  (from_none all_params_exact).complete _ _ d rest tt h,
+)
 
-result_sound : (ts rest : List Lexeme) (x : Option TypeName) → result_at ts ≡ Some (x, rest) →
-    Taken SpellsResult ts x rest
+result_sound : Sound SpellsResult result_at
 unfolding result_at
-result_sound ts rest x h = chosen _ _ _ h (λ q e. let first = void_ahead ts q in
+result_sound ts rest x h = chosen _ _ _ h (λ q e.
+    let first = word_ahead ts word.Void (is_void_word _ q) in
     took (first.first ∷ []) e first.is (no_result first.first first.keyword)) (λ q e.
-    made (λ x. Some x) type_name_at type_name_exact.sound (λ ts x d. a_result d) e)
+    as_form some_type ((made_exact (λ x. Some x) type_name_exact).sound ts rest x e))
+  where
+    some_type : Turns (Made (λ x. Some x) SpellsTypeName) SpellsResult
+    some_type _ _ (made d) = a_result d
 
-result_complete : {ts : List Lexeme} {x : Option TypeName} (d : SpellsResult ts x) (rest : List Lexeme) → NoType rest →
-    result_at (ts ++ rest) ≡ Some (x, rest)
+result_complete : Complete Any SpellsResult NoType result_at
 unfolding result_at
-result_complete (no_result t p) rest h = rw p
-result_complete (a_result {ts = ts} {ty = ty} d) rest h =
-    rw (type_name_no_void d rest, type_name_exact.complete ts rest ty d tt h)
+result_complete _ _ (no_result t p) rest fits h = rw p
+result_complete _ _ (a_result d) rest fits h =
+    rw (type_name_no_void d rest, type_name_exact.complete _ _ d rest tt h)
 
 first_line_type : {ts : List Lexeme} {ty : TypeName} (d : SpellsTypeName ts ty) (rest : List Lexeme) →
     first_line (ts ++ rest) ≡ first_line ts
@@ -111,32 +104,44 @@ first_line_result : {ts : List Lexeme} {x : Option TypeName} (d : SpellsResult t
 first_line_result (no_result t p) rest = refl
 first_line_result (a_result d) rest = first_line_type d rest
 
-head_sound : (ts rest : List Lexeme) (x : HeadTree) → head_at ts ≡ Some (x, rest) → Taken SpellsHead ts x rest
-unfolding head_at
-head_sound ts rest x h =
-    let b = bound _ _ _ h in
-    let n = bound _ _ _ b.2 in
-    let c = bound _ _ _ n.2 in
-    let r = result_sound ts b.0.1 b.0.0 b.1 in
-    let t = name_ahead b.0.1 n.0.1 n.0.0 n.1 in
-    let p = enclosed mark.OpenParen mark.CloseParen SpellsParams params_at params_sound n.0.1 c.0 c.1 in
-    let line = ap first_line r.split ∙ first_line_result r.spelled b.0.1 in
-    let made = head t.0 p.first p.last n.0.0 t.2 p.opens p.closes r.spelled p.spelled in
-    took (r.taken ++ t.0 ∷ p.first ∷ (p.taken ++ p.last ∷ [])) c.2
-    (glued c.0.1 r.taken _ r.split (t.1 ∙ ap (λ l. t.0 ∷ l) p.split))
-    (subst (λ k. SpellsHead (r.taken ++ t.0 ∷ p.first ∷ (p.taken ++ p.last ∷ [])) (head_tree b.0.0 n.0.0 c.0.0 k))
-    (sym line) made)
+-- a head in a line
+abbrev Lined : ℕ → Form HeadTree
+Lined line = Then SpellsResult (λ result. Then IsName (λ name. Made (λ params. head_tree result name params line)
+    (Between mark.OpenParen mark.CloseParen SpellsParams)))
 
-head_complete : {ts : List Lexeme} {x : HeadTree} (d : SpellsHead ts x) (rest : List Lexeme) →
-    head_at (ts ++ rest) ≡ Some (x, rest)
-unfolding head_at
-head_complete (head {ts = ts} {us = us} {result = result} {params = xs} t u v name p q r d g) rest =
-    let all : (ts ++ t ∷ u ∷ (us ++ v ∷ [])) ++ rest ≡ ts ++ t ∷ u ∷ (us ++ v ∷ rest) =
-    append_assoc ts _ rest ∙ ap (λ l. ts ++ t ∷ u ∷ l) (append_assoc us _ rest) in
-    let first = result_complete d (t ∷ u ∷ (us ++ v ∷ rest)) (rw p, rw p) in
-    let inner = params_complete g (v ∷ rest) (((rw r, rw r), rw r), rw r) in
-    ap head_at all ∙ rw (first, first_line_result d (t ∷ u ∷ (us ++ v ∷ rest)), p, q, inner, r)
+lined_exact : (line : ℕ) → Exact Any (Lined line) Any (λ ts. result_at ts >>= (λ x. name_at x.1 >>= (λ y.
+    params_in_parens y.1 >>= (λ z. Some (head_tree x.0 y.0 z.0 line, z.1)))))
+lined_exact line = then_exact any (record { sound = result_sound; complete = result_complete }) (λ result.
+    then_exact any name_exact (λ name. made_exact (λ params. head_tree result name params line)
+    (between_exact any mark.OpenParen mark.CloseParen (record { sound = params_sound; complete = params_complete })
+    (λ t rest p. (((rw p, rw p), rw p), rw p)))) (λ x us y d rest h. tt)) named_next
+  where
+    named_next : (result : Option TypeName) (us : List Lexeme) (y : HeadTree) → Then IsName (λ name.
+        Made (λ params. head_tree result name params line) (Between mark.OpenParen mark.CloseParen SpellsParams)) us y →
+        (rest : List Lexeme) → Any rest → NoType (us ++ rest)
+    named_next result _ _ (both (a_name t name p) d) rest h = (rw p, rw p)
 
 -- the head of a function or a prototype
-pub head_exact : Exact Any SpellsHead (λ rest. Unit {0}) head_at
-head_exact = record { sound = head_sound; complete = λ ts rest x d fits h. head_complete d rest }
+pub head_exact : Exact Any SpellsHead Any head_at
+unfolding head_at
+head_exact = record {
+  sound = λ ts rest x h.
+      let d = (lined_exact (first_line ts)).sound ts rest x h in
+      record { taken = d.taken; split = d.split; spelled = lined_is rest (ap first_line d.split) d.spelled };
+  complete = complete;
+}
+  where
+    lined_is : {line : ℕ} {ts : List Lexeme} {x : HeadTree} (rest : List Lexeme) → line ≡ first_line (ts ++ rest) →
+        Lined line ts x → SpellsHead ts x
+    lined_is rest e (both {ts = ts} {us = us} {x = result} d
+        (both (a_name t name p) (made {x = params} (after u q (before v r g))))) =
+        subst (λ n. SpellsHead (ts ++ us) (head_tree result name params n))
+        (sym (e ∙ ap first_line (append_assoc ts us rest) ∙ first_line_result d (us ++ rest)))
+        (head t u v name p q r d g)
+
+    complete : Complete Any SpellsHead Any head_at
+    complete _ _ (head {ts = ts} {us = us} {result = result} {params = params} t u v name p q r d g) rest fits h =
+        let behind_result = t ∷ u ∷ (us ++ v ∷ []) in
+        (lined_exact _).complete _ _ (both d (both (a_name t name p) (made (after u q (before v r g))))) rest tt tt ∙
+        ap (λ n. Some (head_tree result name params n, rest))
+        (ap first_line (append_assoc ts behind_result rest) ∙ first_line_result d (behind_result ++ rest))

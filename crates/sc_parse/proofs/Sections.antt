@@ -7,11 +7,11 @@ use Rattle.sc_parse.proofs.Common.{section_tree, section_within, subst, sym, tru
 use Rattle.sc_parse.proofs.Common.{◌≤◌}
 use Rattle.sc_expr.specs.declared.lexeme.Symbol.TheVariants as symbol
 use Rattle.sc_parse.specs.Lists as lists
-use Rattle.sc_parse.proofs.Exact.{grouped_sound, same_pair}
-use Rattle.sc_parse.proofs.Expressions.{Few, few_left, few_right, few_tail}
-use Rattle.sc_parse.proofs.Beginnings.{NoLine}
-use Rattle.sc_parse.proofs.Wholes.{IsDecls}
-use Rattle.sc_parse.proofs.Decls.{decl_exact, decl_no_line, all_exact, decls_apart, decls_joined}
+use Rattle.sc_parse.proofs.Exact.{Adds, Form, Low, Turns, adding, fits_behind, from_none, grouped_sound, groups_apart}
+use Rattle.sc_parse.proofs.Exact.{groups_joined, same_pair}
+use Rattle.sc_ast.specs.Prelude.{decl_height}
+use Rattle.sc_parse.proofs.Expressions.{Few, few}
+use Rattle.sc_parse.proofs.Beginnings.{NoLine, IsDecls, all_exact, decl_exact, decl_no_line}
 use Rattle.sc_parse.proofs.Directing.{lines_sound, lines_complete}
 
 -- a compartment line at the front
@@ -37,31 +37,29 @@ compartment_ahead (t ∷ ts) rest name h =
     }
 
 -- declarations up to the end, at most so high
-record Declared (limit : ℕ) (ts : List Lexeme) (zs : List Decl) : Type 0 where
-  spelled : Grouped SpellsDecl ts zs
-  low : decls_height zs ≤ limit
+abbrev Declared : ℕ → Form (List Decl)
+Declared limit = Low (Grouped SpellsDecl) decls_height limit
 
 ended : (rest : List Lexeme) → is_empty rest ≡ true → rest ≡ []
 ended [] h = refl
 ended (t ∷ rest) h = absurd (false≢true h)
 
+all_declared : {limit : ℕ} → Turns (Adds (Grouped (IsDecls limit)) []) (Declared limit)
+all_declared {limit} _ _ (adding g) = groups_apart decl_height limit g
+
 decls_sound : (free limit : ℕ) (ts rest : List Lexeme) (zs : List Decl) → decls_at free limit ts ≡ Some (zs, rest) →
     Declared limit ts zs × (rest ≡ [])
 decls_sound free limit ts rest zs h =
-    let g = grouped_sound (Few free) (few_left free) (few_right free) _ (IsDecls limit) (λ rest. Unit {0})
-    _ (decl_exact free limit) _ [] zs ts rest h in
-    let apart = decls_apart limit g.0.spelled in
-    let end = ended rest g.1 in
-    let taken = sym (g.0.split ∙ ap (λ l. g.0.taken ++ l) end ∙ append-nil _) in (
-      subst (λ l. Declared limit l zs) taken (subst (λ z. Declared limit g.0.taken z) (sym g.0.all)
-          (record { spelled = apart.0; low = apart.1 })),
+    let g = grouped_sound (few free) _ (decl_exact free limit) (length ts + 1) [] ts rest zs h in
+    let end = ended rest g.1 in (
+      subst (λ l. Declared limit l zs) (sym (g.0.split ∙ ap (λ l. g.0.taken ++ l) end ∙ append-nil _))
+          (all_declared _ _ g.0.spelled),
       end,
     )
 
 -- a section that is at most so high
-pub record IsSection (limit line : ℕ) (ts : List Lexeme) (x : SectionTree) : Type 0 where
-  pub spelled : SpellsSection line ts x
-  pub low : section_height x ≤ limit
+abbrev pub IsSection : ℕ → ℕ → Form SectionTree
+IsSection limit line = Low (SpellsSection line) section_height limit
 
 within_sound : (free limit line : ℕ) (ts rest : List Lexeme) (x : SectionTree) →
     section_within free limit line ts ≡ Some (x, rest) → IsSection limit line ts x × (rest ≡ [])
@@ -79,7 +77,7 @@ within_sound free limit line ts rest x h =
     let found : directives lines.exports lines.imports ≡ c.0.0 = rw (sym lines.all_exports, sym lines.all_imports) in
     let made : IsSection limit line (first.first ∷ (lines.taken ++ c.0.1))
     (section_tree b.0.0 line (directives lines.exports lines.imports) d.0.0) =
-    record { spelled = section first.first b.0.0 first.names lines.spelled decls.0.spelled; low = decls.0.low } in
+    (section first.first b.0.0 first.names lines.spelled decls.0.0, decls.0.1) in
     let all : ts ≡ first.first ∷ (lines.taken ++ c.0.1) = first.is ∙ ap (λ l. first.first ∷ l) lines.split in (
       subst (λ l. IsSection limit line l x) (sym all) (subst
           (IsSection limit line (first.first ∷ (lines.taken ++ c.0.1)))
@@ -95,13 +93,13 @@ within_complete : (free limit : ℕ) {line : ℕ} {ts : List Lexeme} {x : Sectio
     section_height x ≤ limit → Few free ts → section_within free limit line ts ≡ Some (x, [])
 unfolding section_within
 within_complete free limit {line} (section {ts = ts} {us = us} {exports = exports} {imports = imports} {decls = decls} t
-    name p d g) low few =
+    name p d g) low all_fit =
     let lines = lines_complete d (length (ts ++ us) + 1) [] [] us (omega (arith, length-append ts us))
     (decls_no_line g) in
-    let fits = few_right free ts us (few_tail free t _ few) in
+    let fits = (few free).right ts us (fits_behind (few free) t (ts ++ us) all_fit) in
     let read : decls_at free limit us ≡ Some _ =
     ap (decls_at free limit) (sym (append-nil us)) ∙
-    (all_exact free limit).complete [] decls us [] (decls_joined limit g low) fits refl in
+    (from_none (all_exact free limit)).complete us decls (groups_joined decl_height limit g low) [] fits refl in
     rw (p, lines, read)
 
 -- what is read as a section is spelled so, to the end, and is at most 256 high

@@ -1,16 +1,15 @@
 -- Assignments, `++` and `--`, and calls are read exactly as they are spelled.
 use Rattle.sc_parse.proofs.Common.{BinaryOp, CallTree, ExprTree, IsMark, IsTrue, Lexeme, List, Mark, None, Option}
-use Rattle.sc_parse.proofs.Common.{Prefix, SimpleKind, Some, Spells, SpellsCall, SpellsKind, SpellsPlace, Symbol, []}
-use Rattle.sc_parse.proofs.Common.{ap, append_assoc, arith, arrow, assign, assign_call, assignment_at, begins_value}
-use Rattle.sc_parse.proofs.Common.{begins_with, bound, call, call_alone, call_at, call_height, change_at, change_of}
-use Rattle.sc_parse.proofs.Common.{changed, compound, compound_of, cond_is, drop, expr_at, expr_height, false}
-use Rattle.sc_parse.proofs.Common.{false≢true, glued, index, is_place, is_some, joined, lead_by, literal, looser}
-use Rattle.sc_parse.proofs.Common.{lt-ltb, ltb-true, makes_value, mark_at, mark_by, max, member, none-some}
-use Rattle.sc_parse.proofs.Common.{operand_behind, option_map_or, parenthesised, place_at, placed, prefix, prefix_of}
-use Rattle.sc_parse.proofs.Common.{prefixed, read, read_sound, refl, rules, same_some, simple_at, simple_kind_height}
-use Rattle.sc_parse.proofs.Common.{step_at, step_before, step_behind, step_of, stepped, subst, sym, the_lemmas, true}
-use Rattle.sc_parse.proofs.Common.{unary_place, unstepped, updates, value_behind, variable, ℕ, ◌++◌, ◌+◌, ◌-◌, ◌<◌}
-use Rattle.sc_parse.proofs.Common.{◌>>=◌, ◌∙◌, ◌∷◌, ◌≡◌, ◌≤◌}
+use Rattle.sc_parse.proofs.Common.{Prefix, SimpleKind, Some, Spells, SpellsKind, SpellsPlace, Symbol, [], ap}
+use Rattle.sc_parse.proofs.Common.{append_assoc, arith, arrow, assign, assign_call, assignment_at, begins_call}
+use Rattle.sc_parse.proofs.Common.{begins_value, begins_with, bound, call, change_at, change_of, changed, compound}
+use Rattle.sc_parse.proofs.Common.{compound_of, cond_is, drop, expr_height, false, false≢true, index, is_place, is_some}
+use Rattle.sc_parse.proofs.Common.{joined, lead_by, literal, looser, lt-ltb, ltb-true, makes_value, mark_at, mark_by}
+use Rattle.sc_parse.proofs.Common.{max, member, none-some, operand_behind, option_map_or, parenthesised, place_at}
+use Rattle.sc_parse.proofs.Common.{placed, prefix, prefix_of, prefixed, read, read_sound, refl, rules, same_some}
+use Rattle.sc_parse.proofs.Common.{simple_at, simple_kind_height, step_at, step_before, step_behind, step_of, stepped}
+use Rattle.sc_parse.proofs.Common.{subst, sym, the_lemmas, true, unary_place, unstepped, updates, value_behind}
+use Rattle.sc_parse.proofs.Common.{variable, ℕ, ◌++◌, ◌+◌, ◌-◌, ◌<◌, ◌>>=◌, ◌∙◌, ◌∷◌, ◌≡◌, ◌≤◌}
 use Rattle.sc_ast.specs.declared.expr.ExprTree.TheVariants as expr
 use Rattle.sc_base.specs.declared.op.UnaryOp.{UnaryOp}
 use Rattle.sc_ast.specs.declared.stmt.SimpleKind.TheVariants as simple
@@ -21,13 +20,12 @@ use Rattle.sc_expr.proofs.Heights.{literal_height, joined_height, positive}
 use Rattle.sc_parse.specs.declared.simple.Change.{Change}
 use Rattle.sc_parse.specs.declared.simple.Change.TheVariants as change
 use Rattle.sc_parse.specs.declared.simple.Placed.{Placed}
-use Rattle.sc_parse.specs.Statements as statements
 use Rattle.sc_parse.specs.Statements.{one}
 use Rattle.sc_parse.specs.StmtReaders as readers
-use Rattle.sc_parse.proofs.Exact.{Taken, Exact, took, given, chosen, made, same_pair}
-use Rattle.sc_parse.proofs.Expressions.{Few, few_left, few_right, few_tail, NoExtension, unary_reads, expr_exact}
-use Rattle.sc_parse.proofs.Expressions.{call_exact, call_begins, no_call, begins_expr, expr_starts, starts_expr}
-use Rattle.sc_parse.proofs.Expressions.{call_starts}
+use Rattle.sc_parse.proofs.Exact.{Complete, Exact, Form, Low, Sound, Taken, Then, Turns, as_form, both, chosen}
+use Rattle.sc_parse.proofs.Exact.{fits_behind, front_taken, given, made_exact, made_of, then_exact, took}
+use Rattle.sc_parse.proofs.Expressions.{Few, IsCall, IsExpr, NoExtension, begins_expr, call_begins, call_exact}
+use Rattle.sc_parse.proofs.Expressions.{call_starts, expr_exact, expr_starts, few, level_reads, no_call, starts_expr}
 
 -- a mark at the front
 pub record Marked (ts : List Lexeme) (m : Mark) : Type 0 where
@@ -59,26 +57,12 @@ changes mark.Equal c h = subst (Changes _) (same_some h) sets
 changes _ c h = change_other _ c h
 
 -- a statement that may stand in the head of a `for`, whose parts are at most so high
-pub record IsSimple (room : ℕ) (ts : List Lexeme) (x : SimpleKind) : Type 0 where
-  pub spelled : SpellsKind ts x
-  pub low : simple_kind_height x ≤ room
+abbrev pub IsSimple : ℕ → Form SimpleKind
+IsSimple room = Low SpellsKind simple_kind_height room
 
-record PlaceTaken (room : ℕ) (ts : List Lexeme) (x : Placed) (rest : List Lexeme) : Type 0 where
-  taken : List Lexeme
-  split : ts ≡ taken ++ rest
-  spelled : SpellsPlace taken x.place
-  height : x.height ≡ expr_height x.place
-  low : x.height ≤ room
-
-place_sound : (free : ℕ) → (room : ℕ) (ts rest : List Lexeme) (x : Placed) → place_at free room ts ≡ Some (x, rest) →
-    PlaceTaken room ts x rest
-unfolding place_at
-place_sound free room ts rest x h = chosen _ None (unary_place free room ts) h (λ q e. absurd (none-some _ e)) (λ q e.
-    let b = bound _ _ _ e in
-    let m = read_sound free room _ ts b.0 (omega arith) b.1 in
-    let c = cond_is _ _ _ b.2 in
-    subst (λ y. PlaceTaken room ts y.0 y.1) (same_some c.1)
-    (record { taken = m.taken; split = m.split; spelled = (m.spelled, c.0); height = m.measured; low = m.low }))
+-- a place with its height, at most so high
+abbrev IsPlace : ℕ → Form Placed
+IsPlace room ts x = SpellsPlace ts x.place × (x.height ≡ expr_height x.place) × (x.height ≤ room)
 
 unary_no_place : (op : UnaryOp) (e : ExprTree) → is_place (expr.Unary op e) ≡ false
 unary_no_place op e = search (rules, the_lemmas)
@@ -116,15 +100,19 @@ place_begins (joined {e = e} {f = f} t m op p q k d g) rest h =
     absurd (false≢true (sym (binary_no_place op e f) ∙ h (omega arith)))
 place_begins (looser d) rest h = place_begins d rest (λ some. h (omega arith))
 
-place_reads : (free : ℕ) → (room : ℕ) {ts : List Lexeme} {place : ExprTree} (d : SpellsPlace ts place)
-    (rest : List Lexeme) → expr_height place ≤ room → Few free ts → NoExtension rest →
-    place_at free room (ts ++ rest) ≡ Some (placed place (expr_height place), rest)
+place_exact : (free room : ℕ) → Exact (Few free) (IsPlace room) NoExtension (place_at free room)
 unfolding place_at
-place_reads free room d rest low few ends = rw (
-  place_begins d.0 rest (λ some. d.1),
-  unary_reads free d.0 room rest low few ends,
-  d.1,
-)
+place_exact free room = record {
+  sound = λ ts rest x h. chosen _ None (unary_place free room ts) h (λ q e. absurd (none-some _ e)) (λ q e.
+      let b = bound _ _ _ e in
+      let m = read_sound free room _ ts b.0 (omega arith) b.1 in
+      let c = cond_is _ _ _ b.2 in
+      took m.taken c.1 m.split ((m.spelled, c.0), m.measured, m.low));
+  complete = λ ts x d rest fits ends.
+      let low : expr_height x.place ≤ room = omega (arith, d.1, d.2) in
+      rw (place_begins d.0.0 rest (λ some. d.0.1), level_reads free d.0.0 room rest (omega arith) low fits ends, d.0.1)
+      (ap (λ n. Some (placed x.place n, rest)) (sym d.1));
+}
 
 pub one_height : expr_height one ≡ 1
 one_height = literal_height _
@@ -138,113 +126,51 @@ step_low : (op : BinaryOp) (e : ExprTree) (room : ℕ) → 1 ≤ expr_height e �
     simple_kind_height (updates op e one) ≤ room
 step_low op e room some h = let a = updates_height op e one in let b = one_height in omega arith
 
-stepped_some : (room : ℕ) (op : BinaryOp) (x : Placed) (ts rest : List Lexeme) (k : SimpleKind) →
-    stepped room op x ts ≡ Some (k, rest) → (x.height < room) × (k ≡ updates op x.place one) × (ts ≡ rest)
-unfolding stepped
-stepped_some room op x ts rest k h =
-    let c = cond_is _ _ _ h in
-    let same = same_pair c.1 in
-    (ltb-true _ room c.0, sym same.0, same.1)
-
-step_before_sound : (free : ℕ) → (room : ℕ) (op : BinaryOp) (m : Mark) (ts rest : List Lexeme) (k : SimpleKind) →
-    mark_at ts ≡ Some m → step_of m ≡ Some op → readers.step_before free room op (drop 1 ts) ≡ Some (k, rest) →
-    Taken (IsSimple room) ts k rest
-unfolding readers.step_before
-step_before_sound free room op m ts rest k q r h =
-    let t = mark_ahead ts m q in
-    let b = bound _ _ _ h in
-    let p = place_sound free room _ b.0.1 b.0.0 b.1 in
-    let s = stepped_some room op b.0.0 b.0.1 rest k b.2 in
-    let height = p.height in
-    let short = s.0 in
-    let low = step_low op b.0.0.place room (positive p.spelled.0) (omega arith) in
-    record {
-      taken = t.first ∷ p.taken;
-      split = t.is ∙ ap (λ l. t.first ∷ l) (p.split ∙ ap (λ l. p.taken ++ l) s.2);
-      spelled = subst (λ z. IsSimple room (t.first ∷ p.taken) z) (sym s.1)
-          (record { spelled = step_before t.first m op t.mark r p.spelled; low = low });
-    }
-
-call_alone_sound : (free : ℕ) → (room : ℕ) (ts rest : List Lexeme) (k : SimpleKind) →
-    call_alone free room ts ≡ Some (k, rest) → Taken (IsSimple room) ts k rest
-call_alone_sound free room ts rest k h = made simple.Call (call_at free room) (call_exact free room).sound
-    (λ ts c d. record { spelled = call d.spelled; low = d.low }) h
-
-value_sound : (free : ℕ) → (room : ℕ) (place : ExprTree) (before : List Lexeme) (t : Lexeme) (ts rest : List Lexeme)
-    (k : SimpleKind) → IsMark mark.Equal t → SpellsPlace before place → expr_height place ≤ room →
-    value_behind free room place ts ≡ Some (k, rest) → Taken (λ us k. IsSimple room (before ++ t ∷ us) k) ts k rest
-unfolding value_behind
-value_sound free room place before t ts rest k p d low h = chosen _ _ _ h
-    (λ q e. made (simple.AssignCall place) (call_at free room) (call_exact free room).sound
-    (λ us c v. record { spelled = assign_call t p d v.spelled; low = omega (arith, v.low) }) e)
-    (λ q e. made (simple.Assign place) (expr_at free room) (expr_exact free room).sound
-    (λ us e v. record { spelled = assign t p d v.spelled; low = omega (arith, v.low) }) e)
-
-operand_sound : (free : ℕ) → (room : ℕ) (op : BinaryOp) (m : Mark) (x : Placed) (before : List Lexeme) (t : Lexeme)
-    (ts rest : List Lexeme) (k : SimpleKind) → IsMark m t → compound_of m ≡ Some op → SpellsPlace before x.place →
-    x.height ≡ expr_height x.place → operand_behind free room op x ts ≡ Some (k, rest) →
-    Taken (λ us k. IsSimple room (before ++ t ∷ us) k) ts k rest
-unfolding operand_behind
-operand_sound free room op m x before t ts rest k p q d height h =
-    let c = cond_is _ _ _ h in
-    let short = ltb-true _ room c.0 in
-    let b = bound _ _ _ c.1 in
-    let e = (expr_exact free _).sound ts b.0.1 b.0.0 b.1 in
-    let low = e.spelled.low in
-    let made = updates_height op x.place b.0.0 in
-    took e.taken b.2 e.split (record { spelled = compound t m op p q d e.spelled.spelled; low = omega arith })
+-- What stands behind a place, from the mark on that says what becomes of it.
+data IsChange (room : ℕ) (x : Placed) : List Lexeme → SimpleKind → Type 0 where
+  assigns : {us : List Lexeme} {value : ExprTree} (t : Lexeme) → IsMark mark.Equal t → IsExpr room us value →
+      IsChange room x (t ∷ us) (simple.Assign x.place value)
+  assigns_call : {us : List Lexeme} {call : CallTree} (t : Lexeme) → IsMark mark.Equal t → IsCall room us call →
+      IsChange room x (t ∷ us) (simple.AssignCall x.place call)
+  combines : {us : List Lexeme} {value : ExprTree} (t : Lexeme) (m : Mark) (op : BinaryOp) → IsMark m t →
+      compound_of m ≡ Some op → x.height < room → IsExpr (room - 1) us value →
+      IsChange room x (t ∷ us) (updates op x.place value)
+  moves : (t : Lexeme) (m : Mark) (op : BinaryOp) → IsMark m t → step_of m ≡ Some op → x.height < room →
+      IsChange room x (t ∷ []) (updates op x.place one)
 
 change_ahead : (ts : List Lexeme) (c : Change) → change_at ts ≡ Some c → (m : Mark) × Marked ts m × Changes m c
 change_ahead ts c h = let b = bound _ _ c h in (b.0, mark_ahead ts b.0 b.1, changes b.0 c b.2)
 
-assignment_sound : (free : ℕ) → (room : ℕ) (ts rest : List Lexeme) (k : SimpleKind) →
-    assignment_at free room ts ≡ Some (k, rest) → Taken (IsSimple room) ts k rest
-unfolding assignment_at
-assignment_sound free room ts rest k h =
-    let b = bound (λ x. changed free room (change_at x.1) x.0 (drop 1 x.1)) (place_at free room ts) (k, rest) h in
-    go b.0.0 b.0.1 (place_sound free room ts b.0.1 b.0.0 b.1) (change_at b.0.1) refl b.2
+-- what stands behind the mark of such a change
+abbrev WithMark : ℕ → Placed → Lexeme → Form SimpleKind
+WithMark room x t us k = IsChange room x (t ∷ us) k
+
+change_sound : (free room : ℕ) (x : Placed) →
+    Sound (IsChange room x) (λ ts. changed free room (change_at ts) x (drop 1 ts))
+unfolding value_behind operand_behind stepped
+change_sound free room x ts rest k h = go (change_at ts) refl h
   where
-    whole : (x : Placed) (us : List Lexeme) (p : PlaceTaken room ts x us) (t : Lexeme) → us ≡ t ∷ drop 1 us →
-        Taken (λ vs k. IsSimple room (p.taken ++ t ∷ vs) k) (drop 1 us) k rest → Taken (IsSimple room) ts k rest
-    whole x us p t is v = record {
-      taken = p.taken ++ t ∷ v.taken;
-      split = glued rest p.taken (t ∷ v.taken) p.split (is ∙ ap (λ l. t ∷ l) v.split);
-      spelled = v.spelled;
-    }
+    by_change : (m : Mark) → Marked ts m → (c : Change) → Changes m c →
+        changed free room (Some c) x (drop 1 ts) ≡ Some (k, rest) → Taken (IsChange room x) ts k rest
+    by_change _ t _ sets e = chosen _ _ _ e
+        (λ q e. front_taken t.first t.is ((made_exact (simple.AssignCall x.place) (call_exact free room)).sound
+        (drop 1 ts) rest k e)
+        (λ us d. made_of (WithMark room x t.first) (λ us v d. assigns_call t.first t.mark d) us k d))
+        (λ q e. front_taken t.first t.is ((made_exact (simple.Assign x.place) (expr_exact free room)).sound
+        (drop 1 ts) rest k e) (λ us d. made_of (WithMark room x t.first) (λ us v d. assigns t.first t.mark d) us k d))
+    by_change _ t _ (by m op q) e =
+        let c = cond_is _ _ _ e in
+        let short = ltb-true _ room c.0 in
+        front_taken t.first t.is ((made_exact (λ y. updates op x.place y) (expr_exact free (room - 1))).sound
+        (drop 1 ts) rest k c.1)
+        (λ us d. made_of (WithMark room x t.first) (λ us v d. combines t.first m op t.mark q short d) us k d)
+    by_change _ t _ (steps m op q) e = let c = cond_is _ _ _ e in
+        took (t.first ∷ []) c.1 t.is (moves t.first m op t.mark q (ltb-true _ room c.0))
 
-    by_change : (x : Placed) (us : List Lexeme) (p : PlaceTaken room ts x us) (m : Mark) → Marked us m → (c : Change) →
-        Changes m c → changed free room (Some c) x (drop 1 us) ≡ Some (k, rest) → Taken (IsSimple room) ts k rest
-    by_change x us p _ t _ sets e =
-        let low = p.low in
-        let height = p.height in
-        whole x us p t.first t.is (value_sound free room x.place p.taken t.first (drop 1 us) rest k t.mark p.spelled
-        (omega arith) e)
-    by_change x us p _ t _ (by m op q) e = whole x us p t.first t.is
-        (operand_sound free room op m x p.taken t.first (drop 1 us) rest k t.mark q p.spelled p.height e)
-    by_change x us p _ t _ (steps m op q) e =
-        let s = stepped_some room op x (drop 1 us) rest k e in
-        let height = p.height in
-        let short = s.0 in
-        let low : simple_kind_height (updates op x.place one) ≤ room =
-        step_low op x.place room (positive p.spelled.0) (omega arith) in
-        record {
-          taken = p.taken ++ t.first ∷ [];
-          split = glued rest p.taken (t.first ∷ []) p.split (t.is ∙ ap (λ l. t.first ∷ l) s.2);
-          spelled = subst (λ z. IsSimple room (p.taken ++ t.first ∷ []) z) (sym s.1)
-              (record { spelled = step_behind t.first m op t.mark q p.spelled; low = low });
-        }
-
-    go : (x : Placed) (us : List Lexeme) → PlaceTaken room ts x us → (o : Option Change) → change_at us ≡ o →
-        changed free room o x (drop 1 us) ≡ Some (k, rest) → Taken (IsSimple room) ts k rest
-    go x us p None q e = absurd (none-some (k, rest) e)
-    go x us p (Some c) q e = let a = change_ahead us c q in by_change x us p a.0 a.1 c a.2 e
-
-simple_sound : (free : ℕ) → (room : ℕ) (ts rest : List Lexeme) (k : SimpleKind) →
-    simple_at free room ts ≡ Some (k, rest) → Taken (IsSimple room) ts k rest
-unfolding simple_at
-simple_sound free room ts rest k h = given _ (step_at ts) (unstepped free room ts) h (λ q e. chosen _ _ _ e
-    (λ q e. call_alone_sound free room ts rest k e) (λ q e. assignment_sound free room ts rest k e)) (λ op q e.
-    let b = bound _ _ op q in step_before_sound free room op b.0 ts rest k b.1 b.2 e)
+    go : (o : Option Change) → change_at ts ≡ o → changed free room o x (drop 1 ts) ≡ Some (k, rest) →
+        Taken (IsChange room x) ts k rest
+    go None q e = absurd (none-some (k, rest) e)
+    go (Some c) q e = let a = change_ahead ts c q in by_change a.0 a.1 c a.2 e
 
 compound_change : (m : Mark) (op : BinaryOp) → compound_of m ≡ Some op → change_of m ≡ Some (change.By op)
 compound_change mark.Equal op h = absurd (none-some op h)
@@ -297,75 +223,94 @@ no_step (t ∷ ts) h = symbol_no_step _ h
 abbrev pub EndsSimple : List Lexeme → Type 0
 EndsSimple rest = NoExtension rest × (begins_with mark.OpenParen rest ≡ false)
 
--- an assignment, where what stands behind its place is read
-assigned : (free : ℕ) → (room : ℕ) {ts : List Lexeme} {place : ExprTree} (d : SpellsPlace ts place) (m : Mark)
-    (t : Lexeme) (us : List Lexeme) (c : Change) (k : SimpleKind) (rest : List Lexeme) → IsMark m t →
-    change_of m ≡ Some c → expr_height place ≤ room → Few free (ts ++ t ∷ us) →
-    changed free room (Some c) (placed place (expr_height place)) (us ++ rest) ≡ Some (k, rest) →
-    simple_at free room ((ts ++ t ∷ us) ++ rest) ≡ Some (k, rest)
-unfolding simple_at assignment_at
-assigned free room {ts} d m t us c k rest p q low few h =
-    let stop = stops m c q t (us ++ rest) p in
-    let none = no_step (ts ++ t ∷ (us ++ rest)) (expr_starts d.0 _) in
-    let plain = no_call d.0 (t ∷ (us ++ rest)) stop.1 in
-    let read = place_reads free room d (t ∷ (us ++ rest)) low (few_left free ts _ few) stop.0 in
-    ap (simple_at free room) (append_assoc ts _ rest) ∙ rw (none, plain, read, p, q) h
-
-before_complete : (free : ℕ) → (room : ℕ) {ts : List Lexeme} {place : ExprTree} (t : Lexeme) (m : Mark)
-    (op : BinaryOp) → IsMark m t → step_of m ≡ Some op → (d : SpellsPlace ts place) (rest : List Lexeme) →
-    simple_kind_height (updates op place one) ≤ room → Few free (t ∷ ts) → EndsSimple rest →
-    simple_at free room (t ∷ (ts ++ rest)) ≡ Some (updates op place one, rest)
-unfolding simple_at readers.step_before stepped
-before_complete free room {ts} {place} t m op p q d rest low few ends =
-    let made = updates_height op place one in
-    let height = one_height in
-    let short : expr_height place < room = omega arith in
-    rw (p, q, place_reads free room d rest (omega arith) (few_tail free t ts few) ends.0, lt-ltb _ room short)
-
-call_alone_complete : (free : ℕ) → (room : ℕ) {ts : List Lexeme} {c : CallTree} (d : SpellsCall ts c)
-    (rest : List Lexeme) → call_height c ≤ room → Few free ts →
-    simple_at free room (ts ++ rest) ≡ Some (simple.Call c, rest)
-unfolding simple_at
-call_alone_complete free room {ts} {c} d rest low few =
-    rw (
-      no_step _ (call_starts d rest),
-      call_begins d rest,
-      (call_exact free room).complete ts rest c (record { spelled = d; low = low }) few tt,
-    )
-
-simple_complete : (free : ℕ) → (room : ℕ) {ts : List Lexeme} {k : SimpleKind} (d : SpellsKind ts k) (rest : List Lexeme)
-    → simple_kind_height k ≤ room → Few free ts → EndsSimple rest → simple_at free room (ts ++ rest) ≡ Some (k, rest)
+change_complete : (free room : ℕ) (x : Placed) → Complete (Few free) (IsChange room x) EndsSimple
+    (λ ts. changed free room (change_at ts) x (drop 1 ts))
 unfolding value_behind operand_behind stepped
-simple_complete free room (assign {ts = ts} {us = us} {place = place} {value = value} t p d v) rest low few ends =
-    let inner = few_tail free t us (few_right free ts _ few) in
-    let read = (expr_exact free room).complete us rest value (record { spelled = v; low = omega arith }) inner ends.0 in
-    assigned free room d _ t us _ _ rest p refl (omega arith) few (rw (no_call v rest ends.1, read))
-simple_complete free room (assign_call {ts = ts} {us = us} {place = place} {call = c} t p d v) rest low few ends =
-    let inner = few_tail free t us (few_right free ts _ few) in
-    let read = (call_exact free room).complete us rest c (record { spelled = v; low = omega arith }) inner tt in
-    assigned free room d _ t us _ _ rest p refl (omega arith) few (rw (call_begins v rest, read))
-simple_complete free room (compound {ts = ts} {us = us} {place = place} {operand = operand} t m op p q d v) rest low few
-    ends =
-    let inner = few_tail free t us (few_right free ts _ few) in
+change_complete free room x _ _ (assigns {us = us} t p d) rest fits ends = rw (p, no_call d.0 rest ends.1,
+  (expr_exact free room).complete _ _ d rest (fits_behind (few free) t us fits) ends.0)
+change_complete free room x _ _ (assigns_call {us = us} t p d) rest fits ends = rw (p, call_begins d.0 rest,
+  (call_exact free room).complete _ _ d rest (fits_behind (few free) t us fits) tt)
+change_complete free room x _ _ (combines {us = us} t m op p q short d) rest fits ends = rw (p, compound_change m op q,
+  lt-ltb _ room short, (expr_exact free (room - 1)).complete _ _ d rest (fits_behind (few free) t us fits) ends.0)
+change_complete free room x _ _ (moves t m op p q short) rest fits ends =
+    rw (p, step_change m op q, lt-ltb _ room short)
+
+change_stops : {room : ℕ} {x : Placed} {us : List Lexeme} {k : SimpleKind} (d : IsChange room x us k)
+    (rest : List Lexeme) → EndsSimple (us ++ rest)
+change_stops (assigns {us = us} t p d) rest = stops mark.Equal _ refl t (us ++ rest) p
+change_stops (assigns_call {us = us} t p d) rest = stops mark.Equal _ refl t (us ++ rest) p
+change_stops (combines {us = us} t m op p q short d) rest = stops m _ (compound_change m op q) t (us ++ rest) p
+change_stops (moves t m op p q short) rest = stops m _ (step_change m op q) t rest p
+
+-- a place and what becomes of it
+abbrev IsAssignment : ℕ → Form SimpleKind
+IsAssignment room = Then (IsPlace room) (IsChange room)
+
+assignment_exact : (free room : ℕ) → Exact (Few free) (IsAssignment room) EndsSimple (assignment_at free room)
+unfolding assignment_at
+assignment_exact free room = then_exact (few free) (place_exact free room)
+    (λ x. record { sound = change_sound free room x; complete = change_complete free room x })
+    (λ x us k d rest ends. (change_stops d rest).0)
+
+assignment_is : {room : ℕ} → Turns (IsAssignment room) (IsSimple room)
+assignment_is _ _ (both d (assigns t p v)) = (assign t p d.0 v.0, omega (arith, d.1, d.2, v.1))
+assignment_is _ _ (both d (assigns_call t p v)) = (assign_call t p d.0 v.0, omega (arith, d.1, d.2, v.1))
+assignment_is _ _ (both {x = x} d (combines {value = value} t m op p q short v)) =
+    (compound t m op p q d.0 v.0, omega (arith, d.1, v.1, updates_height op x.place value))
+assignment_is {room} _ _ (both {x = x} d (moves t m op p q short)) =
+    (step_behind t m op p q d.0, step_low op x.place room (positive d.0.0) (omega (arith, d.1)))
+
+simple_sound : (free room : ℕ) → Sound (IsSimple room) (simple_at free room)
+unfolding simple_at readers.step_before stepped
+simple_sound free room ts rest k h = given _ (step_at ts) (unstepped free room ts) h (λ q e. chosen _ _ _ e
+    (λ q e. as_form (made_of (IsSimple room) (λ us c d. (call d.0, d.1)))
+    ((made_exact simple.Call (call_exact free room)).sound ts rest k e))
+    (λ q e. as_form assignment_is ((assignment_exact free room).sound ts rest k e))) (λ op q e.
+    let o = bound _ _ op q in
+    let t = mark_ahead ts o.0 o.1 in
+    let b = bound _ _ _ e in
+    let d = (place_exact free room).sound (drop 1 ts) b.0.1 b.0.0 b.1 in
+    let c = cond_is _ _ _ b.2 in
+    let low = step_low op b.0.0.place room (positive d.spelled.0.0)
+    (omega (arith, d.spelled.1, ltb-true _ room c.0)) in
+    took (t.first ∷ d.taken) c.1 (t.is ∙ ap (λ l. t.first ∷ l) d.split)
+    (step_before t.first o.0 op t.mark o.2 d.spelled.0, low))
+
+assigned : (free room : ℕ) {ts : List Lexeme} {k : SimpleKind} (d : IsAssignment room ts k) (rest : List Lexeme) →
+    Few free ts → EndsSimple rest → simple_at free room (ts ++ rest) ≡ Some (k, rest)
+unfolding simple_at
+assigned free room (both {ts = ts} {us = us} d c) rest few ends =
+    let all = append_assoc ts us rest in
+    let none = no_step _ (ap begins_expr all ∙ expr_starts d.0.0 (us ++ rest)) in
+    let plain = ap begins_call all ∙ no_call d.0.0 (us ++ rest) (change_stops c rest).1 in
+    rw (none, plain) ((assignment_exact free room).complete _ _ (both d c) rest few ends)
+
+simple_complete : (free room : ℕ) → Complete (Few free) (IsSimple room) EndsSimple (simple_at free room)
+unfolding simple_at readers.step_before stepped
+simple_complete free room _ _ (assign {place = place} t p d v, low) rest fits ends =
+    assigned free room (both {x = placed place (expr_height place)} (d, refl, omega arith)
+    (assigns t p (v, omega arith))) rest fits ends
+simple_complete free room _ _ (assign_call {place = place} t p d v, low) rest fits ends =
+    assigned free room (both {x = placed place (expr_height place)} (d, refl, omega arith)
+    (assigns_call t p (v, omega arith))) rest fits ends
+simple_complete free room _ _ (compound {place = place} {operand = operand} t m op p q d v, low) rest fits ends =
     let made = updates_height op place operand in
-    let short : expr_height place < room = omega arith in
-    let less : expr_height operand ≤ room - 1 = omega arith in
-    let read =
-    (expr_exact free (room - 1)).complete us rest operand (record { spelled = v; low = less }) inner ends.0 in
-    assigned free room d m t us (change.By op) _ rest p (compound_change m op q) (omega arith) few
-    (rw (lt-ltb _ room short, read))
-simple_complete free room (step_behind {ts = ts} {place = place} t m op p q d) rest low few ends =
+    assigned free room (both {x = placed place (expr_height place)} (d, refl, omega arith)
+    (combines t m op p q (omega arith) (v, omega arith))) rest fits ends
+simple_complete free room _ _ (step_behind {place = place} t m op p q d, low) rest fits ends =
+    let made = updates_height op place one in
+    let height = one_height in
+    assigned free room (both {x = placed place (expr_height place)} (d, refl, omega arith)
+    (moves t m op p q (omega arith))) rest fits ends
+simple_complete free room _ _ (step_before {ts = ts} {place = place} t m op p q d, low) rest fits ends =
     let made = updates_height op place one in
     let height = one_height in
     let short : expr_height place < room = omega arith in
-    assigned free room d m t [] (change.Step op) _ rest p (step_change m op q) (omega arith) few
-    (rw (lt-ltb _ room short))
-simple_complete free room (step_before t m op p q d) rest low few ends =
-    before_complete free room t m op p q d rest low few ends
-simple_complete free room (call {ts = ts} {call = c} d) rest low few ends = call_alone_complete free room d rest low few
+    let read = (place_exact free room).complete ts (placed place (expr_height place)) (d, refl, omega arith) rest
+    (fits_behind (few free) t ts fits) ends.0 in
+    rw (p, q, read, lt-ltb _ room short)
+simple_complete free room _ _ (call d, low) rest fits ends = rw (no_step _ (call_starts d rest), call_begins d rest,
+  (call_exact free room).complete _ _ (d, low) rest fits tt)
 
-pub simple_exact : (free : ℕ) → (room : ℕ) → Exact (Few free) (IsSimple room) EndsSimple (simple_at free room)
-simple_exact free room = record {
-  sound = simple_sound free room;
-  complete = λ ts rest k d few ends. simple_complete free room d.spelled rest d.low few ends;
-}
+pub simple_exact : (free room : ℕ) → Exact (Few free) (IsSimple room) EndsSimple (simple_at free room)
+simple_exact free room = record { sound = simple_sound free room; complete = simple_complete free room }

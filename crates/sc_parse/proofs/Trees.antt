@@ -48,7 +48,7 @@ parsed line ts (Ok tree) h =
     go (Some x) q e =
         let s = (section_sound line ts x.1 tree (q ∙ ap (λ t. Some (t, x.1)) (same_some e))).0 in
         let c = cond_is (leb _ 1024) (option_map (λ x. x.0) _) tree h in
-        record { spelled = s.spelled; low = s.low; few = leb-true (most_open 0 ts) 1024 c.0 }
+        record { spelled = s.0; low = s.1; few = leb-true (most_open 0 ts) 1024 c.0 }
 
 -- the fault is a refusal
 abbrev IsRefusal : Result SectionTree TextFault → Type 0

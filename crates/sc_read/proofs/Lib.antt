@@ -3,5 +3,4 @@ pub mod Existence
 pub mod Pieces
 pub mod Splits
 pub mod Steps
-pub mod Stuck
 pub mod Uniqueness

@@ -1,12 +1,51 @@
--- A text is read or refused in one way.
-use Rattle.sc_read.proofs.Common.{AllZip, Fails, FailsLex, FailsSyntax, First, HasTokens, HasTree, IsCut, IsParsed}
-use Rattle.sc_read.proofs.Common.{IsRead, IsSplit, IsUncut, IsUnread, Lexeme, List, Part, PassesLex, Phase, Reads}
-use Rattle.sc_read.proofs.Common.{Refusal, RefusesBytes, RefusesHeading, Section, SectionTree, SpellsSection, Token, []}
-use Rattle.sc_read.proofs.Common.{ap, ap₂, bad_heading, here, in_preamble, in_section, later, lexemes_of, line_at}
-use Rattle.sc_read.proofs.Common.{parts_of, refl, same_unless, subst, sym, uncut, ℕ, ◌∙◌, ◌∷◌, ◌≡◌}
+-- A text is read or refused in one way, and bytes that are cut aren't refused.
+use Rattle.sc_read.proofs.Common.{AllZip, Bool, Cuts, Fails, FailsLex, FailsSyntax, First, HasTokens, HasTree, IsCut}
+use Rattle.sc_read.proofs.Common.{IsGap, IsParsed, IsRead, IsSplit, IsStuck, IsToken, IsUncut, IsUnread, Lexeme, List}
+use Rattle.sc_read.proofs.Common.{Part, PassesLex, Phase, Reads, Refusal, RefusesBytes, RefusesHeading, Section}
+use Rattle.sc_read.proofs.Common.{SectionTree, SpellsSection, Token, TokenKind, [], allows_directive, ap, ap₂, arith}
+use Rattle.sc_read.proofs.Common.{bad_heading, drop, gap, gap_fits, here, in_preamble, in_section, later, length}
+use Rattle.sc_read.proofs.Common.{length-drop, lexemes_of, line_at, nothing, one_gap, parts_of, refl, same_unless}
+use Rattle.sc_read.proofs.Common.{subst, sym, token, token_positive, uncut, ℕ, ◌∙◌, ◌∷◌, ◌≡◌, ◌≤◌}
 use Rattle.sc_lex.specs.declared.refusal.Phase.TheVariants as phase
-use Rattle.sc_read.proofs.Stuck.{cut_refused}
 use Rattle.sc_read.proofs.Splits.{same_preamble, same_parts, split_good}
+use Rattle.sc_lex.proofs.Cuts.{gap_and_token, token_le}
+
+module _ (bytes : List ℕ) where
+  no_gap_behind : {n : ℕ} (at : ℕ) → length bytes ≤ at → IsGap (drop at bytes) n → ⊥
+  no_gap_behind at past h = let fits = gap_fits h in omega (arith, length-drop at bytes)
+
+  no_token_behind : {directives : Bool} {kind : TokenKind} (n at : ℕ) → length bytes ≤ at →
+      IsToken directives (drop at bytes) kind n → ⊥
+  no_token_behind n at past t = let some = token_positive n t in let within = t.within in
+      omega (arith, length-drop at bytes)
+
+  -- a token stands at this place
+  abbrev TokenAt : ℕ → TokenKind → ℕ → Type 0
+  TokenAt at kind n = IsToken (allows_directive bytes at) (drop at bytes) kind n
+
+  -- pieces from a place don't lead both to where nothing goes on and to the end
+  apart : {at stuck from end : ℕ} {tokens others : List Token} → Cuts bytes at stuck tokens →
+      Cuts bytes from end others → at ≡ from → IsStuck bytes stuck → length bytes ≤ end → ⊥
+  apart nothing nothing same s past = let more = s.more in omega arith
+  apart nothing (gap n h d) same s past = s.no_gap n (subst (λ k. IsGap (drop k bytes) n) (sym same) h)
+  apart nothing (token kind n t d) same s past = s.no_token kind n (subst (λ k. TokenAt k kind n) (sym same) t)
+  apart {at} (gap n h c) nothing same s past = no_gap_behind at (omega arith) h
+  apart {at} (gap n h c) (gap m g d) same s past =
+      let long = one_gap h (subst (λ k. IsGap (drop k bytes) m) (sym same) g) in
+      apart c d (omega arith) s past
+  apart {at} (gap n h c) (token kind m t d) same s past = gap_and_token h (subst (λ k. TokenAt k kind m) (sym same) t)
+  apart {at} (token kind n t c) nothing same s past = no_token_behind n at (omega arith) t
+  apart {at} (token kind n t c) (gap m g d) same s past =
+      gap_and_token (subst (λ k. IsGap (drop k bytes) m) (sym same) g) t
+  apart {at} (token kind n t c) (token other m u d) same s past =
+      let v = subst (λ k. TokenAt k other m) (sym same) u in
+      let low = token_le n m t v in
+      let high = token_le m n v t in
+      apart c d (omega arith) s past
+
+  pub cut_refused : (line : ℕ) (refusal : Refusal) → RefusesBytes bytes line refusal → (tokens : List Token) →
+      IsCut bytes tokens → ⊥
+  cut_refused line refusal r tokens c = apart r.front c refl r.stuck (omega arith)
 
 -- where each item is good, none is the first bad one
 no_first : {A B : Type 0} {Good Bad : A → Type 0} {R : A → B → Type 0} → ((x : A) (y : B) → R x y → Bad x → ⊥) →
