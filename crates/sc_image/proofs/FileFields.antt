@@ -8,8 +8,8 @@ use Rattle.sc_image.proofs.Common.{import_at, import_bytes, imports_at, imports_
 use Rattle.sc_image.proofs.Common.{is_name_byte, is_nondigit, is_same_name, le-leb, leb-true, length, list_all}
 use Rattle.sc_image.proofs.Common.{little_bytes, lt-ltb, ltb-true, most_globals, name_at, name_bytes, nat_le, nat_lt}
 use Rattle.sc_image.proofs.Common.{nat_tests, not-true, not_from_false, number_at, parts_in_version, refl, same_text}
-use Rattle.sc_image.proofs.Common.{stretch, suc, sym, takes, true, zero, ℕ, ◌%◌, ◌&&◌, ◌*◌, ◌++◌, ◌+◌, ◌/◌, ◌<◌, ◌==◌}
-use Rattle.sc_image.proofs.Common.{◌^◌, ◌∙◌, ◌∷◌, ◌≡◌, ◌≤◌}
+use Rattle.sc_image.proofs.Common.{stretch, suc, sym, true, zero, ℕ, ◌%◌, ◌&&◌, ◌*◌, ◌++◌, ◌+◌, ◌/◌, ◌<◌, ◌==◌, ◌^◌}
+use Rattle.sc_image.proofs.Common.{◌∙◌, ◌∷◌, ◌≡◌, ◌≤◌}
 use Rattle.sc_image.specs.Reading.{export_at}
 use Rattle.sc_image.proofs.Fits.{short_name}
 use Rattle.sc_image.proofs.Fields.{IsBytes, IsField, restated, made, tested, followed, bytes_field, number_field}

@@ -1,12 +1,11 @@
 -- A step leaves what belongs to other compartments.
-use Rattle.sc_image.proofs.Common.{Adds, Bool, Call, Crossing, Event, Goes, ImageParts, IsChain, IsSteady, IsWellFormed}
+use Rattle.sc_image.proofs.Common.{Adds, Bool, Crossing, Event, Goes, ImageParts, IsChain, IsSteady, IsWellFormed}
 use Rattle.sc_image.proofs.Common.{LeavesOthers, List, Memory, None, Outcome, Running, Some, State, [], activates}
-use Rattle.sc_image.proofs.Common.{after_outcome, ap, are_data, arguments, arith, called, data_of, drop}
-use Rattle.sc_image.proofs.Common.{drop-append_seam, eq-eqb, false, flat_map, get_or-set_other, if◌then◌else◌, input}
-use Rattle.sc_image.proofs.Common.{kept_by, length, nat_eq, ne_eqb, observation_of, output, own, params_of, refl, reg}
-use Rattle.sc_image.proofs.Common.{returned, saved_sp, shows_entry, sp, step, store_size, stored, stored-apart, subst}
-use Rattle.sc_image.proofs.Common.{sym, true, with_pc, with_stored, ℕ, ◌++◌, ◌+◌, ◌<◌, ◌==◌, ◌||◌, ◌∙◌, ◌∷◌, ◌≡◌, ◌≢◌}
-use Rattle.sc_image.proofs.Common.{◌≤◌}
+use Rattle.sc_image.proofs.Common.{after_outcome, ap, are_data, arith, called, data_of, drop, drop-append_seam, eq-eqb}
+use Rattle.sc_image.proofs.Common.{false, flat_map, get_or-set_other, if◌then◌else◌, input, kept_by, length, nat_eq}
+use Rattle.sc_image.proofs.Common.{ne_eqb, observation_of, output, own, params_of, refl, reg, returned, saved_sp}
+use Rattle.sc_image.proofs.Common.{shows_entry, sp, step, store_size, stored, stored-apart, subst, sym, true, with_pc}
+use Rattle.sc_image.proofs.Common.{with_stored, ℕ, ◌++◌, ◌+◌, ◌<◌, ◌==◌, ◌||◌, ◌∙◌, ◌∷◌, ◌≡◌, ◌≢◌, ◌≤◌}
 use Rattle.sc_image.proofs.Cases.{allowed_data, crossing_to, step_of}
 use Rattle.sc_image.proofs.Data.{data_bounds}
 use Rattle.sc_image.proofs.Bytes.{few_globals}

@@ -6,7 +6,7 @@ use Rattle.sc_image.proofs.Common.{[], a0, after_outcome, after_step, after_step
 use Rattle.sc_image.proofs.Common.{byte_of, call_of, called, data_of, drop, drop-append_seam, eq-eqb, false, flat_map}
 use Rattle.sc_image.proofs.Common.{get_or-set_same, given_back, has_result, if◌then◌else◌, inputs_in, kept_by, length}
 use Rattle.sc_image.proofs.Common.{map, nat_eq, nat_le, nat_lt, ne_eqb, observation, observation_of, own, refl, reg}
-use Rattle.sc_image.proofs.Common.{returned, returned_to, saved_sp, sp, step, store_size, stored, subst, suc, sym, true}
+use Rattle.sc_image.proofs.Common.{returned, returned_to, saved_sp, step, store_size, stored, subst, suc, sym, true}
 use Rattle.sc_image.proofs.Common.{zero, ℕ, ◌&&◌, ◌++◌, ◌+◌, ◌-◌, ◌↔◌, ◌∙◌, ◌∷◌, ◌≡◌, ◌≢◌}
 use Rattle.sc_image.proofs.Cases.{one, other, Cases, crossing_to, step_both}
 use Rattle.sc_image.proofs.Reached.{called_other, step_steady}

@@ -2,16 +2,16 @@
 use Rattle.sc_image.proofs.Common.{Activation, All, Bool, Call, CompPart, Crossing, End, Ended, Entry, Event, EventsOut}
 use Rattle.sc_image.proofs.Common.{Export, ExportPart, ImageParts, Import, In, Int, Interfaces, IsChain, IsSteady}
 use Rattle.sc_image.proofs.Common.{IsWellFormed, IsWord, List, Main, Memory, None, Option, Proto, Some, Standing, State}
-use Rattle.sc_image.proofs.Common.{TracesAreLegal, [], a0, and_from, and_parts, ap, arguments, arith, at_start, awaits}
-use Rattle.sc_image.proofs.Common.{comp_at, eq-eqb, export_at, exports_of, false, fits_result, given_back, has_result}
-use Rattle.sc_image.proofs.Common.{if◌then◌else◌, import_of, imports, inl, inr, interface_of, interfaces_of, is_allowed}
-use Rattle.sc_image.proofs.Common.{is_end, is_ended, is_function, is_input, is_legal_from, is_output, is_there, length}
-use Rattle.sc_image.proofs.Common.{length-append, length-replicate, list_any, list_any-append, machine, map, may_call}
-use Rattle.sc_image.proofs.Common.{may_input, may_output, may_return, option_and_then, option_map, option_map_or}
-use Rattle.sc_image.proofs.Common.{or_right, params_of, position, position-Some, proto_of, refl, reg, resumed, returned}
-use Rattle.sc_image.proofs.Common.{run, slice_get, slice_get-map, stands_after, stands_behind, start, step, stopped}
-use Rattle.sc_image.proofs.Common.{subst, sym, takes, true, true≢false, ℕ, ◌&&◌, ◌++◌, ◌-◌, ◌<◌, ◌==◌, ◌||◌, ◌∙◌, ◌∷◌}
-use Rattle.sc_image.proofs.Common.{◌≡◌, ◌⊎◌}
+use Rattle.sc_image.proofs.Common.{TracesAreLegal, [], a0, and_from, and_parts, ap, arguments, arith, at_start, eq-eqb}
+use Rattle.sc_image.proofs.Common.{exports_of, false, fits_result, given_back, has_result, if◌then◌else◌, import_of}
+use Rattle.sc_image.proofs.Common.{imports, inl, inr, interface_of, interfaces_of, is_allowed, is_end, is_ended}
+use Rattle.sc_image.proofs.Common.{is_function, is_input, is_legal_from, is_output, is_there, length, length-append}
+use Rattle.sc_image.proofs.Common.{length-replicate, list_any, list_any-append, machine, map, may_call, may_input}
+use Rattle.sc_image.proofs.Common.{may_output, may_return, option_and_then, option_map, option_map_or, or_right}
+use Rattle.sc_image.proofs.Common.{params_of, position, position-Some, proto_of, refl, reg, resumed, returned, run}
+use Rattle.sc_image.proofs.Common.{slice_get, slice_get-map, stands_after, stands_behind, start, step, stopped, subst}
+use Rattle.sc_image.proofs.Common.{sym, takes, true, true≢false, ℕ, ◌&&◌, ◌++◌, ◌-◌, ◌<◌, ◌==◌, ◌||◌, ◌∙◌, ◌∷◌, ◌≡◌}
+use Rattle.sc_image.proofs.Common.{◌⊎◌}
 use Rattle.sc_event.specs.declared.interface.Import.TheVariants.{Input, Output}
 use Rattle.sc_event.specs.Lookup as lookup
 use Rattle.sc_event.specs.Legal as law
