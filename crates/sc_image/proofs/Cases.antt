@@ -4,39 +4,21 @@
 use Rattle.sc_image.proofs.Common.{Auipc, BadCall, BadJump, Bool, Branch, Breakpoint, Crossing, Ebreak, Ecall, Event}
 use Rattle.sc_image.proofs.Common.{Export, Fence, Goes, HasWord, HoldsBytes, Illegal, ImageParts, Instr, IsWellFormed}
 use Rattle.sc_image.proofs.Common.{IsWord, Jal, Jalr, List, Load, LoadOp, Lui, Memory, Misaligned, NoImport, None, Op}
-use Rattle.sc_image.proofs.Common.{OpImm, Option, Outcome, Owner, Shift, ShiftOp, Some, State, Store, StoreOp}
-use Rattle.sc_image.proofs.Common.{TrapReason, Traps, Upper, a7, add_word-lt, ap, are_data, arith, by_owner, called}
-use Rattle.sc_image.proofs.Common.{calls, compares, computed, decoded, execute, execute_by, export_at, export_called}
-use Rattle.sc_image.proofs.Common.{extended, false, gives, if_decoded, if_fetched, if◌then◌else◌, input, is_some}
-use Rattle.sc_image.proofs.Common.{jalr_target, jump, leaves, length, length-set, load_of-same, load_size, loaded}
-use Rattle.sc_image.proofs.Common.{may_call, may_input, may_output, nat_eq, next, not, on_registers, output, params_of}
-use Rattle.sc_image.proofs.Common.{ra, refl, refused, reg, returned, saved_sp, set, shift_on_registers, slice_index}
-use Rattle.sc_image.proofs.Common.{sll_word-lt, sp, sra_word-lt, srl_word-lt, step, step_by, store_size, subst, true}
-use Rattle.sc_image.proofs.Common.{unless, with_pc, with_stored, word_at, word_of-lt, written, ℕ, ◌%◌, ◌+◌, ◌<◌, ◌==◌}
-use Rattle.sc_image.proofs.Common.{◌≡◌}
+use Rattle.sc_image.proofs.Common.{OpImm, Option, Outcome, Shift, ShiftOp, Some, State, Store, StoreOp, TrapReason}
+use Rattle.sc_image.proofs.Common.{Traps, Upper, a7, add_word-lt, ap, are_data, by_owner, called, calls, compares}
+use Rattle.sc_image.proofs.Common.{computed, decoded, execute, execute_by, export_at, export_called, extended, false}
+use Rattle.sc_image.proofs.Common.{gives, if_decoded, if_fetched, if◌then◌else◌, input, is_some, jalr_target, jump}
+use Rattle.sc_image.proofs.Common.{leaves, length, length-set, load_of-same, load_size, loaded, may_call, may_input}
+use Rattle.sc_image.proofs.Common.{may_output, nat_eq, next, not, on_registers, output, params_of, ra, refl, refused}
+use Rattle.sc_image.proofs.Common.{reg, returned, saved_sp, set, shift_on_registers, slice_index, sll_word-lt, sp}
+use Rattle.sc_image.proofs.Common.{sra_word-lt, srl_word-lt, step, step_by, store_size, subst, true, unless, with_pc}
+use Rattle.sc_image.proofs.Common.{with_stored, word_at, word_of-lt, written, ℕ, ◌%◌, ◌+◌, ◌==◌, ◌≡◌}
 use Rattle.sc_word.specs.Prelude.{add_word, word_of}
 use Rattle.rv_code.specs.declared.instr.ShiftOp.TheVariants.{Slli, Srli, Srai}
 use Rattle.rv_code.proofs.OneEach.{HasWord-decoded}
 use Rattle.sc_image.proofs.Words.{AreWords, written_words, written_zero, computed_word, loaded_word, in_code}
 use Rattle.sc_image.proofs.Words.{code_address}
-use Rattle.sc_image.proofs.Data.{data_bounds, within_data}
-
--- each byte of an access that is the compartment's
-pub one_of : (image : ImageParts) (c a size k : ℕ) → are_data image c a size ≡ true → k < size →
-    are_data image c (a + k) 1 ≡ true
-one_of image c a size k all within =
-    let bounds = data_bounds image c a size (omega (arith, within)) all in
-    within_data image c _ 1 (omega arith) (omega (arith, bounds.0)) (omega (arith, bounds.1, within))
-
--- an access that isn't refused is of the compartment's bytes
-data_by : (aligned owned : Bool) → (if not aligned then Some Misaligned else if not owned then Some Owner else None) ≡
-    None → owned ≡ true
-data_by true true h = refl
-data_by true false h = cc h
-data_by false owned h = cc h
-
-pub allowed_data : (image : ImageParts) (c size a : ℕ) → refused image c size a ≡ None → are_data image c a size ≡ true
-allowed_data image c size a h = data_by _ _ h
+use Rattle.sc_image.proofs.Memory.{allowed_data, one_of}
 
 pub length-written : (regs : List ℕ) (r word : ℕ) → length (written regs r word) ≡ length regs
 length-written regs r word = by_zero _

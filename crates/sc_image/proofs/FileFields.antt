@@ -11,7 +11,7 @@ use Rattle.sc_image.proofs.Common.{nat_tests, not-true, not_from_false, number_a
 use Rattle.sc_image.proofs.Common.{stretch, suc, sym, true, zero, ℕ, ◌%◌, ◌&&◌, ◌*◌, ◌++◌, ◌+◌, ◌/◌, ◌<◌, ◌==◌, ◌^◌}
 use Rattle.sc_image.proofs.Common.{◌∙◌, ◌∷◌, ◌≡◌, ◌≤◌}
 use Rattle.sc_image.specs.Reading.{export_at}
-use Rattle.sc_image.proofs.Fits.{short_name}
+use Rattle.sc_base.proofs.Filled.{name_is_short}
 use Rattle.sc_image.proofs.Fields.{IsBytes, IsField, restated, made, tested, followed, bytes_field, number_field}
 use Rattle.sc_image.proofs.Fields.{byte_field, many_field, two_wide, four_wide}
 
@@ -44,7 +44,7 @@ name_field : (cause : BadImage) → IsField (name_at cause) name_bytes (λ name.
 unfolding name_at
 name_field cause = restated (followed (byte_field cause) _ (λ size ok. tested (bytes_field cause size) cause is_name)
     (λ size name a b. b.0.0)) (λ name h. refl) (λ name h. h.1.1)
-    (λ name h. (omega (arith, short_name name h), ((refl, name_is_bytes name h), h)))
+    (λ name h. (omega (arith, name_is_short name h), ((refl, name_is_bytes name h), h)))
 
 comp_name_field : IsField comp_name_at name_bytes (λ name. (is_name name ≡ true) ×
     (is_same_name name (codes "Env") ≡ false))

@@ -1,20 +1,37 @@
--- Parts are well formed exactly where their fields are good and they keep the rules on a whole image.
-use Rattle.sc_image.proofs.Common.{All, All-from_recursion, AllByRecursion, AllPairs-from_IsDistinct, Bool, CompPart}
-use Rattle.sc_image.proofs.Common.{Decides, Decides-and, Decides-like, ExportPart, ImageParts, ImportPart, IsByte}
-use Rattle.sc_image.proofs.Common.{IsComp, IsDistinct, IsDistinct-from_AllPairs, IsDistinct-from_count, IsEquivalence}
-use Rattle.sc_image.proofs.Common.{IsExport, IsImport, IsSomeAnd, IsWellFormed, IsWord, List, None, Option, Some, []}
-use Rattle.sc_image.proofs.Common.{all_by, and_from, and_parts, ap, are_distinct, arith, bytes_decides, code_of}
-use Rattle.sc_image.proofs.Common.{code_start, comps_keep, cond, distinct_count-from_IsDistinct, eq-eqb, eqb-false}
-use Rattle.sc_image.proofs.Common.{eqb-true, exports_keep, false, false_from_ne_true, get_or_default}
-use Rattle.sc_image.proofs.Common.{get_or_from_slice_get, imports_keep, is_entry, is_import, is_same_import}
+-- Parts are well formed exactly where their fields are good and they keep the rules on a whole image: what is read is an
+-- image with these bytes, and what an image is written as is read as it.
+use Rattle.sc_image.proofs.Common.{All, All-from_recursion, AllByRecursion, AllPairs-from_IsDistinct, BadImage}
+use Rattle.sc_image.proofs.Common.{BadOrImage, Bool, BytesNameOneImage, CompPart, Decides, Decides-and, Decides-like}
+use Rattle.sc_image.proofs.Common.{Err, ExportPart, FitsItsFields, ImageParts, ImportPart, IsByte, IsComp, IsDistinct}
+use Rattle.sc_image.proofs.Common.{IsDistinct-from_AllPairs, IsDistinct-from_count, IsEquivalence, IsExport, IsImage}
+use Rattle.sc_image.proofs.Common.{IsImport, IsSomeAnd, IsWellFormed, IsWord, List, None, Ok, Option, Result, Some}
+use Rattle.sc_image.proofs.Common.{Whole, [], all_by, and_from, and_parts, ap, append-nil, are_distinct, arith, bad}
+use Rattle.sc_image.proofs.Common.{bytes_decides, cause_of, code_of, code_start, comps_keep, cond}
+use Rattle.sc_image.proofs.Common.{distinct_count-from_IsDistinct, eq-eqb, eqb-false, eqb-true, exports_keep, false}
+use Rattle.sc_image.proofs.Common.{false_from_ne_true, get_or_default, get_or_from_slice_get, image_bytes}
+use Rattle.sc_image.proofs.Common.{image_in_version, image_of, imports_keep, is_entry, is_import, is_same_import}
 use Rattle.sc_image.proofs.Common.{is_same_name, is_some, keeps_rules, length, list_all, lit≤, lt-ltb, ltb-true, map}
-use Rattle.sc_image.proofs.Common.{nat_lt, ne_eqb, not-true, not_from_Decides, not_from_false, option_map_or}
-use Rattle.sc_image.proofs.Common.{recursion_from_All, refl, same_from_decides, slice_get, slice_get_within, stretch}
-use Rattle.sc_image.proofs.Common.{subst, suc, sym, true, unsigned_Decides, word_at, zero, zero-add, ℕ, ◌&&◌, ◌*◌, ◌+◌}
-use Rattle.sc_image.proofs.Common.{◌-◌, ◌/◌, ◌<◌, ◌==◌, ◌^◌, ◌∙◌, ◌∷◌, ◌≡◌, ◌≤◌}
-use Rattle.sc_image.proofs.Fields.{IsBytes, bytes_fit}
+use Rattle.sc_image.proofs.Common.{nat_lt, ne_eqb, nil_from_length, not-true, not_from_Decides, not_from_false}
+use Rattle.sc_image.proofs.Common.{option_map_or, parts_in_version, recursion_from_All, refl, same_from_decides}
+use Rattle.sc_image.proofs.Common.{slice_get, slice_get_within, stretch, subst, suc, sym, true, unsigned_Decides}
+use Rattle.sc_image.proofs.Common.{version, word_at, zero, zero-add, ℕ, ◌&&◌, ◌*◌, ◌++◌, ◌+◌, ◌-◌, ◌/◌, ◌<◌, ◌==◌, ◌^◌}
+use Rattle.sc_image.proofs.Common.{◌∙◌, ◌∷◌, ◌≡◌, ◌≤◌}
+use Rattle.sc_image.proofs.Fields.{IsBytes, bytes_fit, bind_ok, good_ok}
 use Rattle.sc_image.proofs.Words.{some_is}
-use Rattle.sc_image.proofs.FileFields.{FitsExport, FitsImport, FitsComp, FitsParts}
+use Rattle.sc_image.proofs.FileFields.{FitsExport, FitsImport, FitsComp, FitsParts, parts_take, parts_again}
+
+fits : (image : ImageParts) (c : ℕ) (comp : CompPart) → IsComp image c comp → FitsItsFields comp
+fits image c comp h = record {
+  exports = omega (arith, h.few_exports);
+  imports = omega (arith, h.few_imports);
+  code = omega (arith, h.short_code);
+  globals = omega (arith, h.short_globals);
+}
+
+pub comps_fit : (image : ImageParts) → IsWellFormed image → All FitsItsFields image.comps
+comps_fit image h = all_by FitsItsFields _ (λ c comp e. fits image c comp (h.comps c comp e))
+
+-- Parts are well formed exactly where their fields are good and they keep the rules on a whole image.
 
 -- Distinct things.
 
@@ -257,3 +274,50 @@ module _ (image : ImageParts) (formed : IsWellFormed image) where
     entry = entry_fits image.main _ formed.main formed.entry;
     comps = recursion_from_All _ _ (all_by _ _ comp_fits);
   }
+
+-- What is read is an image with these bytes, and what an image is written as is read as it.
+
+low_version : version < 2 ^ 16
+low_version = omega arith
+
+-- what is read is well formed, and these are its bytes
+pub is_read : (bytes : List ℕ) (image : ImageParts) → IsBytes bytes → image_of bytes ≡ Ok image →
+    IsWellFormed image × (bytes ≡ image_bytes image)
+unfolding image_in_version
+is_read bytes image fits e =
+    let a = bind_ok _ _ image e in
+    let g = good_ok Whole _ a.0.0 image a.2 in
+    let tests = and_parts (length a.0.1 == 0) _ g.0 in
+    let took = parts_take version low_version bytes a.0.0 a.0.1 fits a.1 in
+    let none = nil_from_length a.0.1 (eqb-true _ _ tests.0) in
+    let all = took.0 ∙ ap (λ rest. image_bytes a.0.0 ++ rest) none ∙ append-nil _ in
+    subst (λ x. IsWellFormed x × (bytes ≡ image_bytes x)) g.1 (whole_is a.0.0 took.1 tests.1, all)
+
+pub parts_are_few : (bytes : List ℕ) (parts : ImageParts) (rest : List ℕ) → IsBytes bytes →
+    parts_in_version version bytes ≡ Ok (parts, rest) → length parts.comps ≤ 32
+parts_are_few bytes parts rest fits e = (parts_take version low_version bytes parts rest fits e).1.few
+
+-- the bytes of an image are read as it
+pub is_read_again : (image : ImageParts) → IsWellFormed image → image_of (image_bytes image) ≡ Ok image
+unfolding image_in_version
+is_read_again image formed =
+    let parts : parts_in_version version (image_bytes image) ≡ Ok _ =
+    ap (parts_in_version version) (sym (append-nil _)) ∙
+    parts_again version low_version image [] (parts_fit image formed) in
+    rw (parts, rules_are_kept image formed) refl
+
+pub one_image_each : BytesNameOneImage
+one_image_each one other formed also same =
+    let p = sym (is_read_again one formed) ∙ ap image_of same ∙ is_read_again other also in cc p
+
+no_cause : (bytes : List ℕ) → IsBytes bytes → (read : Result ImageParts BadImage) → image_of bytes ≡ read →
+    cause_of read ≡ None → IsImage bytes
+no_cause bytes fits (Ok image) e none = let h = is_read bytes image fits e in
+    record { image = image; well_formed = h.0; bytes_are = h.1 }
+no_cause bytes fits (Err cause) e none = let never = none in cc never
+
+pub bad_or_image_each : BadOrImage
+bad_or_image_each bytes all = (
+  λ none. no_cause bytes (bytes_fit bytes all) (image_of bytes) refl none,
+  λ is. ap (λ (b : List ℕ). bad b) is.bytes_are ∙ ap cause_of (is_read_again is.image is.well_formed),
+)

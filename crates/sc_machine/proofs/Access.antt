@@ -10,7 +10,7 @@ use Rattle.std.proofs.lemmas.Bool.Decides.{nat_tests}
 use Rattle.rv_code.specs.declared.instr.LoadOp.{LoadOp}
 use Rattle.rv_code.specs.declared.instr.StoreOp.{StoreOp}
 use Rattle.sc_store.proofs.Words.{address_kept}
-use Rattle.sc_image.proofs.Data.{range_of, data_bounds}
+use Rattle.sc_image.proofs.Memory.{range_of, data_bounds}
 
 -- The owner's test.
 

@@ -17,7 +17,7 @@ pub use Rattle.sc_store.proofs.Parts.{one_there, written-apart, written-in}
 pub use Rattle.sc_store.specs.Prelude.{AreApart, AreBelow, HasBytes, IsIn, Memory, byte_of, is_in, load_of, stored}
 pub use Rattle.sc_store.specs.Prelude.{written, zeros}
 pub use Rattle.sc_store.specs.declared.region.Region.{Region}
-pub use Rattle.sc_image.proofs.AtStart.{start_is}
+pub use Rattle.sc_image.proofs.Memory.{start_is}
 pub use Rattle.sc_image.proofs.Running.{run_goes, run_more, run_out, run_stopped, run_traps}
 pub use Rattle.sc_image.proofs.Words.{comp_found, in_code, no_export, some_is}
 pub use Rattle.sc_image.specs.Prelude.{Crossing, Filled, Goes, IsDistinct, IsEntry, IsExport, IsWellFormed, Outcome}

@@ -1,4 +1,4 @@
-use Rattle.sc_image.proofs.Walking.{image_in_memory}
+use Rattle.sc_image.proofs.Running.{image_in_memory}
 use Rattle.sc_image.proofs.laws.image_in_memory.Goals as goal
 
 pub returns : goal.returns

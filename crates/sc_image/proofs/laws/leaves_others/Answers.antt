@@ -1,4 +1,4 @@
-use Rattle.sc_image.proofs.Others.{leaves_others}
+use Rattle.sc_image.proofs.Isolation.{leaves_others}
 use Rattle.sc_image.proofs.laws.leaves_others.Goals as goal
 
 pub returns : goal.returns

@@ -1,4 +1,4 @@
-use Rattle.sc_image.proofs.Images.{one_image_each}
+use Rattle.sc_image.proofs.Whole.{one_image_each}
 use Rattle.sc_image.proofs.laws.one_image.Goals as goal
 
 pub returns : goal.returns

@@ -1,4 +1,4 @@
-use Rattle.sc_image.proofs.Walking.{steps_by_instruction}
+use Rattle.sc_image.proofs.Running.{steps_by_instruction}
 use Rattle.sc_image.proofs.laws.steps_by_instruction.Goals as goal
 
 pub returns : goal.returns

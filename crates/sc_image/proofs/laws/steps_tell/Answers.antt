@@ -1,4 +1,4 @@
-use Rattle.sc_image.proofs.Telling.{steps_tell}
+use Rattle.sc_image.proofs.Stretches.{steps_tell}
 use Rattle.sc_image.proofs.laws.steps_tell.Goals as goal
 
 pub returns : goal.returns

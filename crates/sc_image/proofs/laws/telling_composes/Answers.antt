@@ -1,4 +1,4 @@
-use Rattle.sc_image.proofs.Telling.{telling_composes}
+use Rattle.sc_image.proofs.Stretches.{telling_composes}
 use Rattle.sc_image.proofs.laws.telling_composes.Goals as goal
 
 pub returns : goal.returns

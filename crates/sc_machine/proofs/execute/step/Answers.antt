@@ -1,5 +1,5 @@
 use Rattle.sc_machine.proofs.Common.{map, state_in, sym, word_of, ◌∙◌}
-use Rattle.sc_image.proofs.Stepping.{step_nowhere, step_illegal, step_executes}
+use Rattle.sc_image.proofs.Running.{step_nowhere, step_illegal, step_executes}
 use Rattle.sc_machine.proofs.Answered.{moved_sound, quick_leaves, other_leaves, trap_leaves}
 use Rattle.sc_machine.proofs.execute.step.Goals as goal
 

@@ -1,6 +1,6 @@
 use Rattle.sc_machine.proofs.Common.{ap, false, is_some, state_in, sym, word_at, ◌∙◌, ◌≡◌}
 use Rattle.sc_machine.proofs.jump.jump.Goals as goal
-use Rattle.sc_image.proofs.Telling.{jump_out}
+use Rattle.sc_image.proofs.Stretches.{jump_out}
 
 pub returns-then-is_none-clause-outcome : goal.returns-then-is_none-clause-outcome
 returns-then-is_none-clause-outcome c = λ memory.

@@ -1,16 +1,133 @@
--- What a compartment does follows from its own parts and the events before.
+-- A step leaves what belongs to other compartments, and what a compartment does follows from its own parts.
 use Rattle.sc_image.proofs.Common.{Adds, All, AreSilent, Bool, Call, Crossing, End, Entered, Event, FollowsFromOwn}
 use Rattle.sc_image.proofs.Common.{Goes, GoesOnSame, ImageParts, IsChain, IsSilent, IsSteady, IsWellFormed, IsWord}
-use Rattle.sc_image.proofs.Common.{List, LooksSame, Memory, None, OpenCall, Outcome, Ret, Running, Some, State, Waits}
-use Rattle.sc_image.proofs.Common.{[], a0, after_outcome, after_step, after_steps, ap, ap₂, are_data, arguments, arith}
-use Rattle.sc_image.proofs.Common.{byte_of, call_of, called, data_of, drop, drop-append_seam, eq-eqb, false, flat_map}
-use Rattle.sc_image.proofs.Common.{get_or-set_same, given_back, has_result, if◌then◌else◌, inputs_in, kept_by, length}
-use Rattle.sc_image.proofs.Common.{map, nat_eq, nat_le, nat_lt, ne_eqb, observation, observation_of, own, refl, reg}
-use Rattle.sc_image.proofs.Common.{returned, returned_to, saved_sp, step, store_size, stored, subst, suc, sym, true}
-use Rattle.sc_image.proofs.Common.{zero, ℕ, ◌&&◌, ◌++◌, ◌+◌, ◌-◌, ◌↔◌, ◌∙◌, ◌∷◌, ◌≡◌, ◌≢◌}
-use Rattle.sc_image.proofs.Cases.{one, other, Cases, crossing_to, step_both}
+use Rattle.sc_image.proofs.Common.{LeavesOthers, List, LooksSame, Memory, None, OpenCall, Outcome, Ret, Running, Some}
+use Rattle.sc_image.proofs.Common.{State, Waits, [], a0, activates, after_outcome, after_step, after_steps, ap, ap₂}
+use Rattle.sc_image.proofs.Common.{are_data, arguments, arith, byte_of, call_of, called, data_of, drop}
+use Rattle.sc_image.proofs.Common.{drop-append_seam, eq-eqb, false, flat_map, get_or-set_other, get_or-set_same}
+use Rattle.sc_image.proofs.Common.{given_back, has_result, if◌then◌else◌, input, inputs_in, kept_by, length, map}
+use Rattle.sc_image.proofs.Common.{nat_eq, nat_le, nat_lt, ne_eqb, observation, observation_of, output, own, params_of}
+use Rattle.sc_image.proofs.Common.{refl, reg, returned, returned_to, saved_sp, shows_entry, sp, step, store_size}
+use Rattle.sc_image.proofs.Common.{stored, stored-apart, subst, suc, sym, true, with_pc, with_stored, zero, ℕ, ◌&&◌}
+use Rattle.sc_image.proofs.Common.{◌++◌, ◌+◌, ◌-◌, ◌<◌, ◌==◌, ◌||◌, ◌↔◌, ◌∙◌, ◌∷◌, ◌≡◌, ◌≢◌, ◌≤◌}
+use Rattle.sc_image.proofs.Cases.{crossing_to, step_of, one, other, Cases, step_both}
+use Rattle.sc_image.proofs.Memory.{allowed_data, data_bounds, few_globals}
 use Rattle.sc_image.proofs.Reached.{called_other, step_steady}
-use Rattle.sc_image.proofs.Others.{idle_both}
+
+-- The compartments' addresses are apart.
+
+pub apart : (image : ImageParts) (c d a size x : ℕ) → IsWellFormed image → c ≢ d → are_data image c a size ≡ true →
+    are_data image d x 1 ≡ true → a ≤ x → x < a + size → ⊥
+apart image c d a size x formed differ mine others from upto =
+    let m = data_bounds image c a size (omega (arith, from, upto)) mine in
+    let o = data_bounds image d x 1 (omega arith) others in
+    omega (arith, m.0, m.1, o.0, o.1, few_globals image c formed, few_globals image d formed)
+
+byte_kept : (image : ImageParts) (c d a size word x : ℕ) (memory : Memory) → IsWellFormed image → c ≢ d →
+    are_data image c a size ≡ true → (others : Bool) → are_data image d x 1 ≡ others →
+    (if others then stored memory a size word x else None) ≡ (if others then memory x else None)
+byte_kept image c d a size word x memory formed differ mine true is =
+    stored-apart memory a size word x (apart image c d a size x formed differ mine is)
+byte_kept image c d a size word x memory formed differ mine false is = refl
+
+pub data_kept : (image : ImageParts) (c d a size word : ℕ) (memory : Memory) → IsWellFormed image → c ≢ d →
+    are_data image c a size ≡ true → data_of image d (stored memory a size word) ≡ data_of image d memory
+data_kept image c d a size word memory formed differ mine =
+    λ i x. byte_kept image c d a size word x memory formed differ mine _ refl i
+
+-- who isn't active has no registers, and who is in no call has no numbers of it
+
+idle : (c d : ℕ) (running : Running) → c ≢ d → (if nat_eq c d then Some running else None) ≡ None
+idle c d running differ = rw (ne_eqb c d differ) refl
+
+pub idle_both : (c e d : ℕ) (one other : Running) → c ≢ d → e ≢ d →
+    (if nat_eq c d then Some one else None) ≡ (if nat_eq e d then Some other else None)
+idle_both c e d one other differ differs = idle c d one differ ∙ sym (idle e d other differs)
+
+not_in : (d : ℕ) (crossing : Crossing) → crossing.caller ≢ d → crossing.callee ≢ d → kept_by d crossing ≡ []
+not_in d crossing caller callee = rw (ne_eqb _ d caller, ne_eqb _ d callee) refl
+
+module _ (image : ImageParts) (inputs : List ℕ) (state : State) (d : ℕ) (formed : IsWellFormed image)
+    (h : IsSteady image state) (differ : state.active ≢ d) where
+  abbrev Kept_after : Outcome → Type 0
+  Kept_after outcome = ((after_outcome state outcome).active ≢ d) →
+      own image (after_outcome state outcome) d ≡ own image state d
+
+  -- the own parts of d after a step to a state in which they are the same
+  own_kept : (next : State) → next.active ≢ d → data_of image d next.memory ≡ data_of image d state.memory →
+      saved_sp next d ≡ saved_sp state d → flat_map (kept_by d) next.cross ≡ flat_map (kept_by d) state.cross →
+      own image next d ≡ own image state d
+  own_kept next other bytes saved calls = λ i. record {
+    bytes = bytes i;
+    saved = saved i;
+    calls = calls i;
+    running = idle_both next.active _ d (record { regs = next.regs; pc = next.pc })
+        (record { regs = state.regs; pc = state.pc }) other differ i;
+  }
+
+  return_keeps : (cross : List Crossing) → state.cross ≡ cross → Kept_after (Goes (returned image state cross))
+  return_keeps [] is = λ next. own_kept (returned image state []) next refl refl refl
+  return_keeps (x ∷ xs) is = λ next.
+      let chain : IsChain (length image.comps) state.active (x ∷ xs) =
+      subst (IsChain (length image.comps) state.active) is h.chain in
+      let callee : x.callee ≢ d = λ same. differ (sym chain.0 ∙ same) in
+      own_kept (returned image state (x ∷ xs)) next refl
+      (get_or-set_other state.saved state.active d x.saved 0 (λ same. differ (sym same)))
+      (sym (ap (flat_map (kept_by d)) is ∙ ap (λ kept. kept ++ flat_map (kept_by d) xs) (not_in d x next callee)))
+
+  pub step_keeps : Kept_after (step image inputs state)
+  step_keeps = step_of image inputs formed state Kept_after (record {
+    same = λ a owned. refl;
+    traps = λ reason next. refl;
+    quiet = λ regs pc same next. own_kept (record state { regs = regs; pc = pc }) next refl refl refl;
+    stores = λ op a word allowed next. own_kept (with_pc (with_stored state op a word) (state.pc + 4)) next
+        (data_kept image state.active d a (store_size op) word state.memory formed differ
+        (allowed_data image state.active (store_size op) a allowed)) refl refl;
+    calls = λ to index target at may next. own_kept (called state to index (params_of image to index) target) next refl
+        (get_or-set_other state.saved state.active d (reg state sp) 0 (λ same. differ (sym same)))
+        (ap (λ kept. kept ++ flat_map (kept_by d) state.cross) (not_in d (crossing_to state to index) differ next));
+    returns = return_keeps state.cross refl;
+    outputs = λ may next. own_kept (with_pc (output state) (state.pc + 4)) next refl refl refl;
+    reads = λ may next. own_kept (with_pc (input inputs state) (state.pc + 4)) next refl refl refl;
+  })
+
+-- Who is active after a step that shows no entry of d.
+
+entry_by : (to d : ℕ) → (to == d || false) ≡ false → to ≢ d
+entry_by to d none same = let yes : (to == d || false) ≡ true = rw (eq-eqb to d same) refl in let never =
+    sym yes ∙ none in cc never
+
+module _ (image : ImageParts) (inputs : List ℕ) (state : State) (d : ℕ) (formed : IsWellFormed image)
+    (differ : state.active ≢ d) where
+  abbrev Elsewhere : Outcome → Type 0
+  Elsewhere outcome = shows_entry d (observation_of state outcome) ≡ false → (after_outcome state outcome).active ≢ d
+
+  one_event : (event : Event) → shows_entry d (Adds (drop (length state.trace) (state.trace ++ event ∷ []))) ≡ false →
+      (activates d event || false) ≡ false
+  one_event event none = sym (ap (λ events. shows_entry d (Adds events)) (drop-append_seam state.trace _)) ∙ none
+
+  return_elsewhere : (cross : List Crossing) → Elsewhere (Goes (returned image state cross))
+  return_elsewhere [] none = differ
+  return_elsewhere (x ∷ xs) none = entry_by _ d (one_event _ none)
+
+  pub step_elsewhere : Elsewhere (step image inputs state)
+  step_elsewhere = step_of image inputs formed state Elsewhere (record {
+    same = λ a owned. refl;
+    traps = λ reason none. differ;
+    quiet = λ regs pc moves none. differ;
+    stores = λ op a word allowed none. differ;
+    calls = λ to index target at may none. entry_by to d (one_event _ none);
+    returns = return_elsewhere _;
+    outputs = λ may none. differ;
+    reads = λ may none. differ;
+  })
+
+pub leaves_others : LeavesOthers
+leaves_others image inputs state d formed h differ none =
+    let other : state.active ≢ d = λ same. differ (sym same) in
+    step_keeps image inputs state d formed h other (step_elsewhere image inputs state d formed other none)
+
+-- What a compartment does follows from its own parts and the events before.
 
 -- an event is no silence
 loud : (trace : List Event) (event : Event) → Adds (drop (length trace) (trace ++ event ∷ [])) ≡ Adds [] → ⊥
