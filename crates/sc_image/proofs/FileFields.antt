@@ -72,7 +72,7 @@ bit_fits : (b : Bool) → (bit b < 256) × (nat_le (bit b) 1 ≡ true)
 bit_fits true = (omega arith, refl)
 bit_fits false = (omega arith, refl)
 
-abbrev export_with : (name : List ℕ) (params result entry : ℕ) → ExportPart
+abbrev pub export_with : (name : List ℕ) (params result entry : ℕ) → ExportPart
 export_with name params result entry = record { name = name; params = params; result = result == 1; entry = entry }
 
 export_again : (export : ExportPart) → export ≡ export_with export.name export.params (bit export.result) export.entry
@@ -182,7 +182,7 @@ has_flags true false = record { within = omega arith; first = refl; second = ref
 has_flags false true = record { within = omega arith; first = refl; second = refl }
 has_flags false false = record { within = omega arith; first = refl; second = refl }
 
-abbrev comp_with : (name : List ℕ) (flags : ℕ) (exports : List ExportPart) (imports : List ImportPart)
+abbrev pub comp_with : (name : List ℕ) (flags : ℕ) (exports : List ExportPart) (imports : List ImportPart)
     (code globals : List ℕ) → CompPart
 comp_with name flags exports imports code globals = record {
   name = name;

@@ -1,11 +1,9 @@
 pub mod Common
 mod Examples
 mod ReadingRows
-mod Calling
-pub mod Seven
+pub mod OneComp
 pub mod Running
 pub mod Whole
-pub mod OneComp
 pub mod Words
 pub mod Memory
 pub mod Cases

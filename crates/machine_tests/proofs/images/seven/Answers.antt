@@ -1,7 +1,7 @@
 use Rattle.sc_base.specs.Prelude.{is_name, name_of}
-use Rattle.std.proofs.Common.{◌≡◌, ℕ, List, Option, Some, sym, ◌∙◌}
+use Rattle.std.proofs.Common.{List, Option, Some, sym, ℕ, ◌∙◌, ◌≡◌}
 use Rattle.std.specs.Prelude.{codes}
-use Rattle.sc_image.proofs.Seven.{seven_is_well_formed}
+use Rattle.sc_image.proofs.OneComp.{seven_is_well_formed}
 use Rattle.machine_tests.proofs.images.seven.Goals as goal
 
 name_is_m : (name : List ℕ) (found : Option (List ℕ)) → found ≡ Some name → found ≡ name_of (codes "M") →
