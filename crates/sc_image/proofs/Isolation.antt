@@ -4,13 +4,13 @@ use Rattle.sc_image.proofs.Common.{Goes, GoesOnSame, ImageParts, IsChain, IsSile
 use Rattle.sc_image.proofs.Common.{LeavesOthers, List, LooksSame, Memory, None, OpenCall, Outcome, Ret, Running, Some}
 use Rattle.sc_image.proofs.Common.{State, Waits, [], a0, activates, after_outcome, after_step, after_steps, ap, ap₂}
 use Rattle.sc_image.proofs.Common.{are_data, arguments, arith, byte_of, call_of, called, data_of, drop}
-use Rattle.sc_image.proofs.Common.{drop-append_seam, eq-eqb, false, flat_map, get_or-set_other, get_or-set_same}
+use Rattle.sc_image.proofs.Common.{drop-append_seam, eq-eqb, false, flat_map, get_or, get_or-set_other, get_or-set_same}
 use Rattle.sc_image.proofs.Common.{given_back, has_result, if◌then◌else◌, input, inputs_in, kept_by, length, map}
-use Rattle.sc_image.proofs.Common.{nat_eq, nat_le, nat_lt, ne_eqb, observation, observation_of, output, own, params_of}
-use Rattle.sc_image.proofs.Common.{refl, reg, returned, returned_to, saved_sp, shows_entry, sp, step, store_size}
-use Rattle.sc_image.proofs.Common.{stored, stored-apart, subst, suc, sym, true, with_pc, with_stored, zero, ℕ, ◌&&◌}
-use Rattle.sc_image.proofs.Common.{◌++◌, ◌+◌, ◌-◌, ◌<◌, ◌==◌, ◌||◌, ◌↔◌, ◌∙◌, ◌∷◌, ◌≡◌, ◌≢◌, ◌≤◌}
-use Rattle.sc_image.proofs.Cases.{crossing_to, step_of, one, other, Cases, step_both}
+use Rattle.sc_image.proofs.Common.{nat_eq, nat_le, nat_lt, ne_eqb, observation_of, output, own, params_of, refl, reg}
+use Rattle.sc_image.proofs.Common.{returned, returned_to, saved_sp, set, shows_entry, sp, step, store_size, stored}
+use Rattle.sc_image.proofs.Common.{stored-apart, subst, suc, sym, true, with_pc, with_stored, zero, ℕ, ◌&&◌, ◌++◌, ◌+◌}
+use Rattle.sc_image.proofs.Common.{◌-◌, ◌<◌, ◌==◌, ◌||◌, ◌↔◌, ◌∙◌, ◌∷◌, ◌≡◌, ◌≢◌, ◌≤◌}
+use Rattle.sc_image.proofs.Cases.{crossing_to, step_of, other, step_both}
 use Rattle.sc_image.proofs.Memory.{allowed_data, data_bounds, few_globals}
 use Rattle.sc_image.proofs.Reached.{called_other, step_steady}
 
@@ -152,52 +152,48 @@ stored_same : (image : ImageParts) (c a size word : ℕ) (memory memory' : Memor
     data_of image c (stored memory a size word) ≡ data_of image c (stored memory' a size word)
 stored_same image c a size word memory memory' same = λ i x. stored_at image c a size word x memory _ same _ refl i
 
--- The two states, as the compartment can't tell them apart.
+-- What comes next in two states of which the compartment can't tell which one it is in.
+pub record Follow (image : ImageParts) (c : ℕ) (s t : State) (x x' : Outcome) : Type 0 where
+  pub shows : observation_of s x ≡ observation_of t x'
+  pub parts : own image (after_outcome s x) c ≡ own image (after_outcome t x') c
+  pub traces : (after_outcome s x).trace ≡ (after_outcome t x').trace
+  pub stays : observation_of s x ≡ Adds [] → ((after_outcome s x).active ≡ c) × ((after_outcome t x').active ≡ c)
 
-module _ (image : ImageParts) (inputs : List ℕ) (formed : IsWellFormed image) (regs : List ℕ) (pc c place : ℕ)
-    (trace : List Event) (saved saved' : List ℕ) (memory memory' : Memory) (cross cross' : List Crossing) where
-  abbrev pub left : State
-  left = one image inputs formed regs pc c place trace saved saved' memory memory' cross cross'
+-- the saved sp of the compartment that is left
+saved_left : (image : ImageParts) (state : State) (sp : ℕ) → IsSteady image state →
+    get_or (set state.saved state.active sp) state.active 0 ≡ sp
+saved_left image state sp h = get_or-set_same state.saved state.active sp 0 (omega (arith, h.saved, h.active))
 
-  abbrev pub right : State
-  right = other image inputs formed regs pc c place trace saved saved' memory memory' cross cross'
+-- Two such states, which differ in what belongs to others.
 
-  pub record Alike : Type 0 where
-    pub left_steady : IsSteady image left
-    pub right_steady : IsSteady image right
-    pub own_parts : own image left c ≡ own image right c
+module _ (image : ImageParts) (inputs : List ℕ) (formed : IsWellFormed image) (left : State) (saved' : List ℕ)
+    (memory' : Memory) (cross' : List Crossing) where
+  abbrev c : ℕ
+  c = left.active
 
-  -- what comes next in both
-  pub record Follow (x x' : Outcome) : Type 0 where
-    pub shows : observation_of left x ≡ observation_of right x'
-    pub parts : own image (after_outcome left x) c ≡ own image (after_outcome right x') c
-    pub traces : (after_outcome left x).trace ≡ (after_outcome right x').trace
-    pub stays : observation_of left x ≡ Adds [] → ((after_outcome left x).active ≡ c) ×
-        ((after_outcome right x').active ≡ c)
+  abbrev right : State
+  right = other image inputs formed left saved' memory' cross'
 
-  module _ (h : Alike) where
-    bytes_same : data_of image c memory ≡ data_of image c memory'
+  module _ (h : LooksSame image left.active left right) where
+    bytes_same : data_of image c left.memory ≡ data_of image c memory'
     bytes_same = ap (λ o. o.bytes) h.own_parts
 
-    saved_same : saved_sp left c ≡ saved_sp right c
-    saved_same = ap (λ o. o.saved) h.own_parts
-
-    calls_same : flat_map (kept_by c) cross ≡ flat_map (kept_by c) cross'
+    calls_same : flat_map (kept_by c) left.cross ≡ flat_map (kept_by c) cross'
     calls_same = ap (λ o. o.calls) h.own_parts
 
-    shapes_same : map call_of cross ≡ map call_of cross'
-    shapes_same = h.left_steady.calls ∙ sym h.right_steady.calls
+    shapes_same : map call_of left.cross ≡ map call_of cross'
+    shapes_same = h.one_steady.calls ∙ sym h.other_steady.calls
 
     -- the same registers and pc, and perhaps one event more, with the compartment still active
     on : (regs' : List ℕ) (pc' place' : ℕ) (more : List Event) (bytes : Memory → Memory) →
-        data_of image c (bytes memory) ≡ data_of image c (bytes memory') →
-        Follow (Goes (record left { regs = regs'; pc = pc'; memory = bytes memory; input = place'; trace = more }))
+        data_of image c (bytes left.memory) ≡ data_of image c (bytes memory') → Follow image c left right
+        (Goes (record left { regs = regs'; pc = pc'; memory = bytes left.memory; input = place'; trace = more }))
         (Goes (record right { regs = regs'; pc = pc'; memory = bytes memory'; input = place'; trace = more }))
     on regs' pc' place' more bytes same = record {
       shows = refl;
       parts = λ i. record {
         bytes = same i;
-        saved = saved_same i;
+        saved = (h.own_parts i).saved;
         calls = calls_same i;
         running = if nat_eq c c then Some (record { regs = regs'; pc = pc' }) else None;
       };
@@ -208,20 +204,15 @@ module _ (image : ImageParts) (inputs : List ℕ) (formed : IsWellFormed image) 
     -- a call
     kept_of_caller : (to : ℕ) (crossing : Crossing) → crossing.caller ≡ c → crossing.callee ≢ c →
         kept_by c crossing ≡ Waits crossing.pc crossing.sp ∷ []
-    kept_of_caller to crossing caller callee = rw (
-      eq-eqb _ c caller,
-      ne_eqb _ c callee,
-    ) refl
+    kept_of_caller to crossing caller callee = rw (eq-eqb _ c caller, ne_eqb _ c callee) refl
 
-    calls_on : (to index params target : ℕ) → c ≢ to →
-        Follow (Goes (called left to index params target)) (Goes (called right to index params target))
+    calls_on : (to index params target : ℕ) → c ≢ to → Follow image c left right
+        (Goes (called left to index params target)) (Goes (called right to index params target))
     calls_on to index params target differ =
         let to_other : to ≢ c = λ same. differ (sym same) in
         let kept = ap₂ (λ k ks. k ++ ks) (kept_of_caller to (crossing_to left to index) refl to_other ∙
         sym (kept_of_caller to (crossing_to right to index) refl to_other)) calls_same in
-        let sps = get_or-set_same saved c _ 0 (omega (arith, h.left_steady.saved, h.left_steady.active)) ∙
-        sym (get_or-set_same saved' c _ 0 (omega (arith, h.right_steady.saved, h.right_steady.active))) in
-        let event = Call c to index (arguments params regs) in
+        let sps = saved_left image left _ h.one_steady ∙ sym (saved_left image right _ h.other_steady) in
         record {
           shows = refl;
           parts = λ i. record {
@@ -232,7 +223,7 @@ module _ (image : ImageParts) (inputs : List ℕ) (formed : IsWellFormed image) 
                 (record { regs = (called right to index params target).regs; pc = target }) to_other to_other i;
           };
           traces = refl;
-          stays = λ silent. absurd (loud trace event silent);
+          stays = λ silent. absurd (loud left.trace (Call c to index (arguments params left.regs)) silent);
         }
 
     -- a return
@@ -240,13 +231,11 @@ module _ (image : ImageParts) (inputs : List ℕ) (formed : IsWellFormed image) 
         kept_by c crossing ≡ Entered crossing.saved ∷ []
     kept_of_callee crossing caller callee = rw (ne_eqb _ c caller, eq-eqb _ c callee) refl
 
-    returns_on : (x x' : Crossing) (xs xs' : List Crossing) → cross ≡ x ∷ xs → cross' ≡ x' ∷ xs' →
-        Follow (Goes (returned image left (x ∷ xs))) (Goes (returned image right (x' ∷ xs')))
+    returns_on : (x x' : Crossing) (xs xs' : List Crossing) → left.cross ≡ x ∷ xs → cross' ≡ x' ∷ xs' →
+        Follow image c left right (Goes (returned image left (x ∷ xs))) (Goes (returned image right (x' ∷ xs')))
     returns_on x x' xs xs' is is' =
-        let chain : IsChain (length image.comps) c (x ∷ xs) =
-        subst (IsChain (length image.comps) c) is h.left_steady.chain in
-        let chain' : IsChain (length _) c (x' ∷ xs') =
-        subst (IsChain (length image.comps) c) is' h.right_steady.chain in
+        let chain : IsChain (length image.comps) c (x ∷ xs) = subst (IsChain _ c) is h.one_steady.chain in
+        let chain' : IsChain (length image.comps) c (x' ∷ xs') = subst (IsChain _ c) is' h.other_steady.chain in
         let caller : x.caller ≢ c = λ same. chain.1 (same ∙ sym chain.0) in
         let caller' : x'.caller ≢ c = λ same. chain'.1 (same ∙ sym chain'.0) in
         let shapes : call_of x ∷ map call_of xs ≡ call_of x' ∷ map call_of xs' =
@@ -261,11 +250,9 @@ module _ (image : ImageParts) (inputs : List ℕ) (formed : IsWellFormed image) 
         let event = λ (o : OpenCall). Ret c o.caller (given_back (has_result image o.callee o.entry) left) in
         let after = returned_to (has_result image x.callee x.entry) left x xs in
         let after' = returned_to (has_result image x'.callee x'.entry) right x' xs' in
-        let sps : saved_sp after c ≡ saved_sp after' c =
-        get_or-set_same saved c x.saved 0 (omega (arith, h.left_steady.saved, h.left_steady.active)) ∙ kept ∙
-        sym (get_or-set_same saved' c x'.saved 0 (omega (arith, h.right_steady.saved, h.right_steady.active))) in
+        let sps = saved_left image left _ h.one_steady ∙ kept ∙ sym (saved_left image right _ h.other_steady) in
         record {
-          shows = ap (λ o. Adds (drop (length trace) (trace ++ event o ∷ []))) first;
+          shows = ap (λ o. Adds (drop (length left.trace) (left.trace ++ event o ∷ []))) first;
           parts = λ i. record {
             bytes = bytes_same i;
             saved = sps i;
@@ -273,102 +260,72 @@ module _ (image : ImageParts) (inputs : List ℕ) (formed : IsWellFormed image) 
             running = idle_both x.caller x'.caller c (record { regs = after.regs; pc = after.pc })
                 (record { regs = after'.regs; pc = after'.pc }) caller caller' i;
           };
-          traces = ap (λ o. trace ++ event o ∷ []) first;
-          stays = λ silent. absurd (loud trace (event (call_of x)) silent);
+          traces = ap (λ o. left.trace ++ event o ∷ []) first;
+          stays = λ silent. absurd (loud left.trace (event (call_of x)) silent);
         }
 
-    returns_both : (xs xs' : List Crossing) → cross ≡ xs → cross' ≡ xs' →
-        Follow (Goes (returned image left xs)) (Goes (returned image right xs'))
-    returns_both [] [] is is' = on regs pc place (trace ++ End c (reg left a0) ∷ []) (λ m. m) bytes_same
-    returns_both [] (x' ∷ xs') is is' =
-        let never = sym (ap (map call_of) is) ∙ shapes_same ∙ ap (map call_of) is' in cc never
-    returns_both (x ∷ xs) [] is is' =
-        let never = sym (ap (map call_of) is) ∙ shapes_same ∙ ap (map call_of) is' in
-        cc never
+    returns_both : (xs xs' : List Crossing) → left.cross ≡ xs → cross' ≡ xs' →
+        Follow image c left right (Goes (returned image left xs)) (Goes (returned image right xs'))
     returns_both (x ∷ xs) (x' ∷ xs') is is' = returns_on x x' xs xs' is is'
+    returns_both [] [] is is' =
+        on left.regs left.pc left.input (left.trace ++ End c (reg left a0) ∷ []) (λ m. m) bytes_same
+    returns_both xs xs' is is' =
+        let never = sym (ap (map call_of) is) ∙ shapes_same ∙ ap (map call_of) is' in cc never
 
-    cases : Cases image inputs formed regs pc c place trace saved saved' memory memory' cross cross' Follow
-    cases = record {
-      same = λ a owned. same_at image c a memory memory' bytes_same owned;
+    follow : Follow image c left right (step image inputs left) (step image inputs right)
+    follow = step_both image inputs formed left saved' memory' cross' (Follow image c left right) (record {
+      same = λ a owned. same_at image c a left.memory memory' bytes_same owned;
       traps = λ reason. record { shows = refl; parts = h.own_parts; traces = refl; stays = λ silent. cc silent };
-      quiet = λ regs' pc' same. on regs' pc' place trace (λ m. m) bytes_same;
-      stores = λ op a word allowed. on regs (pc + 4) place trace (λ m. stored m a (store_size op) word)
-          (stored_same image c a _ word memory memory' (λ b owned. same_at image c b memory memory' bytes_same owned));
+      quiet = λ regs' pc' same. on regs' pc' left.input left.trace (λ m. m) bytes_same;
+      stores = λ op a word allowed. on left.regs (left.pc + 4) left.input left.trace
+          (λ m. stored m a (store_size op) word) (stored_same image c a _ word left.memory memory'
+          (λ b owned. same_at image c b left.memory memory' bytes_same owned));
       calls = λ to index target at may. calls_on to index _ target (called_other image c to index formed may);
-      returns = returns_both cross cross' refl refl;
-      outputs = λ may. on regs _ place _ (λ m. m) bytes_same;
+      returns = returns_both left.cross cross' refl refl;
+      outputs = λ may. on left.regs _ left.input _ (λ m. m) bytes_same;
       reads = λ may. on _ _ _ _ (λ m. m) bytes_same;
-    }
-
-    pub follow : Follow (step image inputs left) (step image inputs right)
-    follow = step_both image inputs formed regs pc c place trace saved saved' memory _ cross cross' Follow cases
+    })
 
 -- Any two states.
-
--- what comes next in both
-pub record Next (image : ImageParts) (inputs : List ℕ) (c : ℕ) (s t : State) : Type 0 where
-  pub shows : observation image inputs s ≡ observation image inputs t
-  pub parts : own image (after_step image inputs s) c ≡ own image (after_step image inputs t) c
-  pub traces : (after_step image inputs s).trace ≡ (after_step image inputs t).trace
-  pub stays : IsSilent image inputs s → ((after_step image inputs s).active ≡ c) ×
-      ((after_step image inputs t).active ≡ c)
-
-abbrev running : State → Running
-running state = record { regs = state.regs; pc = state.pc }
 
 running_of : (c active : ℕ) (running : Running) → active ≡ c →
     (if nat_eq active c then Some running else None) ≡ Some running
 running_of c active running same = rw (eq-eqb active c same) refl
 
-module _ (image : ImageParts) (inputs : List ℕ) (formed : IsWellFormed image) (all : All IsWord inputs) (c : ℕ) where
-  module _ (s t : State) (h : LooksSame image c s t) where
-    running_same : running s ≡ running t
-    running_same =
-        let both : Some _ ≡ Some _ = sym (running_of c _ _ h.one_active) ∙ ap (λ o. o.running) h.own_parts ∙
-        running_of c t.active (running t) h.other_active in
-        cc both
+module _ (image : ImageParts) (inputs : List ℕ) (formed : IsWellFormed image) (all : All IsWord inputs) where
+  abbrev Next : (c : ℕ) (s t : State) → Type 0
+  Next c s t = Follow image c s t (step image inputs s) (step image inputs t)
 
-    input_same : s.input ≡ t.input
-    input_same = h.one_steady.input ∙ ap inputs_in h.trace ∙ sym h.other_steady.input
+  -- the second has the registers, pc, inputs and events of the first
+  written_alike : (s t : State) → LooksSame image s.active s t →
+      t ≡ record s { saved = t.saved; memory = t.memory; cross = t.cross }
+  written_alike s t h =
+      let runs : Some (record { regs = t.regs; pc = t.pc }) ≡ Some (record { regs = s.regs; pc = s.pc }) =
+      sym (running_of s.active _ _ h.other_active) ∙ ap (λ o. o.running) (sym h.own_parts) ∙
+      running_of s.active _ _ refl in
+      let same : ◌≡◌ {A = Running} _ _ = cc runs in
+      let input : t.input ≡ s.input = h.other_steady.input ∙ ap inputs_in (sym h.trace) ∙ sym h.one_steady.input in
+      λ i. record t {
+        regs = (same i).regs;
+        pc = (same i).pc;
+        active = h.other_active i;
+        input = input i;
+        trace = sym h.trace i;
+      }
 
-    -- both with the same registers, pc, inputs and events, written alike
-    abbrev first : State
-    first = record s { active = c }
+  next_active : (s t : State) → LooksSame image s.active s t → Next s.active s t
+  next_active s t h =
+      let same = written_alike s t h in
+      subst (Next s.active s) (sym same) (follow image inputs formed s t.saved t.memory t.cross
+      (subst (LooksSame image s.active s) same h))
 
-    abbrev second : State
-    second = record t { regs = s.regs; pc = s.pc; active = c; input = s.input; trace = s.trace }
+  next_same : (c : ℕ) (s t : State) → LooksSame image c s t → Next c s t
+  next_same c s t h = subst (λ c. LooksSame image c s t → Next c s t) h.one_active (next_active s t) h
 
-    first_is : s ≡ first
-    first_is = λ i. record s { active = h.one_active i }
-
-    second_is : t ≡ second
-    second_is = λ i. record t {
-      regs = sym (ap (λ r. r.regs) running_same) i;
-      pc = sym (ap (λ r. r.pc) running_same) i;
-      active = h.other_active i;
-      input = sym input_same i;
-      trace = sym h.trace i;
-    }
-
-    next_written : Next image inputs c first second
-    next_written =
-        let alike : Alike image inputs formed s.regs s.pc c s.input s.trace s.saved t.saved _ _ s.cross
-        t.cross = record {
-          left_steady = subst (IsSteady image) first_is h.one_steady;
-          right_steady = subst (IsSteady image) second_is h.other_steady;
-          own_parts = ap (λ x. own image x c) (sym first_is) ∙ h.own_parts ∙ ap (λ x. own image x c) second_is;
-        } in
-        let f = follow image inputs formed s.regs s.pc c s.input s.trace s.saved t.saved _ _ s.cross t.cross alike in
-        record { shows = f.shows; parts = f.parts; traces = f.traces; stays = f.stays }
-
-    pub next_same : Next image inputs c s t
-    next_same = subst (λ x. Next image inputs c x t) (sym first_is)
-        (subst (λ x. Next image inputs c first x) (sym second_is) next_written)
-
-  alike_after : (s t : State) → LooksSame image c s t → IsSilent image inputs s →
+  alike_after : (c : ℕ) (s t : State) → LooksSame image c s t → IsSilent image inputs s →
       LooksSame image c (after_step image inputs s) (after_step image inputs t)
-  alike_after s t h silent =
-      let n = next_same s t h in
+  alike_after c s t h silent =
+      let n = next_same c s t h in
       let stays = n.stays silent in
       record {
         one_steady = step_steady image inputs s formed all h.one_steady;
@@ -379,17 +336,15 @@ module _ (image : ImageParts) (inputs : List ℕ) (formed : IsWellFormed image) 
         own_parts = n.parts;
       }
 
-  abbrev Goal : ℕ → State → State → Type 0
-  Goal steps s t = (AreSilent image inputs steps s ↔ AreSilent image inputs steps t) × (AreSilent image inputs steps s →
+  goes_on : (c steps : ℕ) (s t : State) → LooksSame image c s t →
+      (AreSilent image inputs steps s ↔ AreSilent image inputs steps t) × (AreSilent image inputs steps s →
       GoesOnSame image inputs c (after_steps image inputs steps s) (after_steps image inputs steps t))
-
-  goes_on : (steps : ℕ) (s t : State) → LooksSame image c s t → Goal steps s t
-  goes_on zero s t h =
-      let n = next_same s t h in
+  goes_on c zero s t h =
+      let n = next_same c s t h in
       (((λ p. tt), (λ p. tt)), λ p. record { own_parts = h.own_parts; next = n.shows; later_parts = n.parts })
-  goes_on (suc steps) s t h =
-      let n = next_same s t h in
-      let later = λ (silent : IsSilent image inputs s). goes_on steps _ _ (alike_after s t h silent) in (
+  goes_on c (suc steps) s t h =
+      let n = next_same c s t h in
+      let later = λ (silent : IsSilent image inputs s). goes_on c steps _ _ (alike_after c s t h silent) in (
         ((λ p. (sym n.shows ∙ p.0, (later p.0).0.0 p.1)), (λ p. (n.shows ∙ p.0, (later (n.shows ∙ p.0)).0.1 p.1))),
         λ p. (later p.0).1 p.1,
       )
