@@ -281,24 +281,20 @@ all_traces_legal image inputs steps events formed all = told_legal image (machin
 
 -- Legal traces don't depend on the types of scalars.
 
+or_of_map : {A B C : Type 0} (f : A → B) (g : B → C) (h : A → C) (default : C) → ((x : A) → g (f x) ≡ h x) →
+    (found : Option A) → option_map_or g (option_map f found) default ≡ option_map_or h found default
+or_of_map f g h default same None = refl
+or_of_map f g h default same (Some x) = same x
+
 module _ (interfaces : Interfaces) where
   same_comp : (comp : ℕ) →
       comp_at (word_interfaces interfaces) comp ≡ option_map word_interface (comp_at interfaces comp)
   same_comp comp = slice_get-map _ _ comp
 
-  -- imports
-
-  imports_by : (found : Option Interface) → option_map_or (λ (i : Interface). i.imports)
-      (option_map word_interface found) [] ≡ option_map_or (λ (i : Interface). i.imports) found []
-  imports_by None = refl
-  imports_by (Some i) = refl
-
   same_imports : (comp : ℕ) (is_it : Import → Bool) →
       imports (word_interfaces interfaces) comp is_it ≡ imports interfaces comp is_it
-  same_imports comp is_it = ap (list_any is_it) (ap (λ found. option_map_or (λ i. i.imports) found [])
-      (same_comp comp) ∙ imports_by (comp_at interfaces comp))
-
-  -- exports
+  same_imports comp is_it = ap (λ found. list_any is_it (option_map_or (λ i. i.imports) found [])) (same_comp comp) ∙
+      ap (list_any is_it) (or_of_map word_interface _ (λ i. i.imports) [] (λ i. refl) (comp_at interfaces comp))
 
   export_by : (index : ℕ) (found : Option Interface) →
       option_and_then (λ (i : Interface). slice_get i.exports index) (option_map word_interface found) ≡
@@ -311,34 +307,24 @@ module _ (interfaces : Interfaces) where
   same_export comp index =
       ap (λ found. option_and_then (λ i. slice_get i.exports index) found) (same_comp comp) ∙ export_by index _
 
-  takes_by : (count : ℕ) (found : Option Proto) → option_map_or (λ (p : Proto). length p.params == count)
-      (option_map word_proto found) false ≡ option_map_or (λ (p : Proto). length p.params == count) found false
-  takes_by count None = refl
-  takes_by count (Some proto) = ap (λ n. n == count) (length-map _ _)
-
   same_takes : (comp index count : ℕ) →
       takes (word_interfaces interfaces) comp index count ≡ takes interfaces comp index count
   same_takes comp index count = ap (λ found. option_map_or (λ p. length p.params == count) found false)
-      (same_export comp index) ∙ takes_by count _
+      (same_export comp index) ∙ or_of_map word_proto (λ p. length p.params == count) (λ p. length p.params == count)
+      false (λ p. ap (λ n. n == count) (length-map p.params _)) _
 
   fits_by : (result : Option Scalar) (value : Option ℕ) →
       fits_result (option_map (λ r. Int) result) value ≡ fits_result result value
-  fits_by None None = refl
-  fits_by None (Some word) = refl
+  fits_by None value = refl
   fits_by (Some type) None = refl
   fits_by (Some type) (Some word) = refl
-
-  result_by : (value : Option ℕ) (found : Option Proto) →
-      option_map_or (λ (p : Proto). fits_result p.result value) (option_map word_proto found) false ≡
-      option_map_or (λ (p : Proto). fits_result p.result value) found false
-  result_by value None = refl
-  result_by value (Some proto) = fits_by _ value
 
   same_return : (comp : ℕ) (entry : Entry) (value : Option ℕ) →
       may_return (word_interfaces interfaces) comp entry value ≡ may_return interfaces comp entry value
   same_return comp Main value = refl
   same_return comp (Export index) value = ap (λ found. option_map_or (λ p. fits_result p.result value) found false)
-      (same_export comp index) ∙ result_by value _
+      (same_export comp index) ∙ or_of_map word_proto (λ p. fits_result p.result value)
+      (λ p. fits_result p.result value) false (λ p. fits_by p.result value) _
 
   -- events
 
