@@ -12,8 +12,8 @@ pub use Rattle.std.proofs.lemmas.Option.{get_or_from_slice_get, slice_get-get_or
 pub use Rattle.std.specs.List.{slice_get}
 pub use Rattle.sc_base.specs.declared.stop.TrapReason.{TrapReason}
 pub use Rattle.sc_word.specs.Prelude.{add_word, word_of}
-pub use Rattle.sc_store.proofs.Access.{next_there, written-stored, written_more, written_nothing}
-pub use Rattle.sc_store.proofs.Parts.{one_there, written-apart, written-in}
+pub use Rattle.sc_store.proofs.Parts.{next_there, written-stored, written_more, written_nothing, one_there}
+pub use Rattle.sc_store.proofs.Parts.{written-apart, written-in}
 pub use Rattle.sc_store.specs.Prelude.{AreApart, AreBelow, HasBytes, IsIn, Memory, byte_of, is_in, load_of, stored}
 pub use Rattle.sc_store.specs.Prelude.{written, zeros}
 pub use Rattle.sc_store.specs.declared.region.Region.{Region}

@@ -11,7 +11,7 @@ use Rattle.sc_machine.proofs.Common.{◌&&◌, ◌++◌, ◌+◌, ◌-◌, ◌<�
 use Rattle.std.proofs.Common.{append_assoc}
 use Rattle.std.proofs.lemmas.List.{map-append}
 use Rattle.std.specs.Option.{option_and_then}
-use Rattle.sc_store.proofs.Regions.{in_true, in_false, in_cases}
+use Rattle.sc_store.proofs.Words.{in_true, in_false, in_cases}
 
 -- One byte.
 

@@ -1,4 +1,4 @@
-use Rattle.sc_store.proofs.OnPages.{zeros_unwritten}
+use Rattle.sc_store.proofs.Places.{zeros_unwritten}
 use Rattle.sc_store.proofs.cells.Cells.write_untaken.Goals as goal
 
 pub returns-then-are_zero-clause-bytes : goal.returns-then-are_zero-clause-bytes

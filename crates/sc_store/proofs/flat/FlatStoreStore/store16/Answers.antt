@@ -1,5 +1,5 @@
 use Rattle.sc_store.proofs.Common.{HasBytes, ap, arith, bytes_of, stored, subst, sym, ◌∙◌}
-use Rattle.sc_store.proofs.Access.{store_written}
+use Rattle.sc_store.proofs.Parts.{store_written}
 use Rattle.sc_store.proofs.flat.FlatStoreStore.store16.Goals as goal
 
 pub store_each-requires-clause-there : goal.store_each-requires-clause-there

@@ -1,5 +1,5 @@
 use Rattle.sc_store.proofs.Common.{HasBytes, ap, arith, bytes_in, stored, subst, sym, written, ◌∙◌}
-use Rattle.sc_store.proofs.Access.{first_stored}
+use Rattle.sc_store.proofs.Parts.{first_stored}
 use Rattle.sc_store.proofs.paged.PagedStoreStore.store32.Goals as goal
 
 pub store_each-requires-clause-there : goal.store_each-requires-clause-there
