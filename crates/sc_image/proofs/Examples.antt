@@ -1,12 +1,13 @@
 -- Small programs on images of one and two compartments, and the bytes of tables.
-use Rattle.sc_image.proofs.Common.{BadCall, BadJump, Bool, Breakpoint, Call, Ended, EventsOut, Export, ImageParts}
-use Rattle.sc_image.proofs.Common.{ImportPart, In, IsCall, List, Misaligned, NoImport, None, Owner, Ret, Some, State}
-use Rattle.sc_image.proofs.Common.{Trap, [], a0, are_data, bit, branch_in, branch_op_of, codes, comp_bytes, decoded}
-use Rattle.sc_image.proofs.Common.{execute_by, false, jalr_in, load_in, load_op_of, machine, op_imm_in, op_imm_op_of}
-use Rattle.sc_image.proofs.Common.{op_in, op_op_of, refl, reg, replicate, run, start_memory, step_by, stopped, store_in}
-use Rattle.sc_image.proofs.Common.{store_op_of, system_in, true, word_at, ℕ, ◌∷◌, ◌≡◌}
+use Rattle.sc_image.proofs.Common.{BadCall, BadJump, Bool, Breakpoint, Call, End, Ended, EventsOut, Export, ImageParts}
+use Rattle.sc_image.proofs.Common.{ImportPart, In, IsCall, List, Misaligned, NoImport, None, Out, Owner, Ret, Some}
+use Rattle.sc_image.proofs.Common.{State, StepsOut, Trap, [], a0, are_data, bit, branch_in, branch_op_of, codes}
+use Rattle.sc_image.proofs.Common.{comp_bytes, decoded, execute_by, false, image_bytes, jalr_in, load_in, load_op_of}
+use Rattle.sc_image.proofs.Common.{machine, op_imm_in, op_imm_op_of, op_in, op_op_of, refl, reg, replicate, run}
+use Rattle.sc_image.proofs.Common.{start_memory, step_by, stopped, store_in, store_op_of, system_in, true, word_at, ℕ}
+use Rattle.sc_image.proofs.Common.{◌∷◌, ◌≡◌}
 use Rattle.sc_image.proofs.FileFields.{comp_with, export_with}
-use Rattle.sc_image.proofs.OneComp.{only}
+use Rattle.sc_image.proofs.OneComp.{only, parts}
 
 abbrev with_code : (code globals : List ℕ) → ImageParts
 with_code code globals = only 0x01000000 (comp_with (codes "A") 0 [] [] code globals)
@@ -162,3 +163,35 @@ jumps_to_the_gate : ((machine (alone false (0x000080e7 ∷ [])) [] 9 9).stop ≡
     ((machine (alone false (0x00208067 ∷ [])) [] 9 9).stop ≡ Trap Misaligned 0x01000000)
 unfolding run step_by stopped execute_by word_at decoded jalr_in
 jumps_to_the_gate = (refl, refl, refl, refl)
+
+-- The image of a program that outputs 7 and returns 0: its bytes, and what the machine does on it.
+
+seven_bytes : image_bytes (parts (codes "M") true) ≡
+    0x53 ∷ 0x43 ∷ 0x49 ∷ 0x4d ∷ 1 ∷ 0 ∷ 1 ∷ 0 ∷ 0 ∷ 0 ∷ 0 ∷ 1 ∷ 1 ∷ 0x4d ∷ 2 ∷ 0 ∷ 0 ∷ 0 ∷ 0 ∷ 0x14 ∷ 0 ∷ 0 ∷ 0 ∷
+    0x13 ∷ 0x05 ∷ 0x70 ∷ 0 ∷ 0x93 ∷ 0x08 ∷ 0x20 ∷ 0 ∷ 0x73 ∷ 0 ∷ 0 ∷ 0 ∷ 0x13 ∷ 0x05 ∷ 0 ∷ 0 ∷ 0x67 ∷ 0x80 ∷ 0 ∷ 0 ∷ 0 ∷
+    0 ∷ 0 ∷ 0 ∷ []
+seven_bytes = refl
+
+-- five steps
+runs : ((machine (parts (codes "Main") true) [] 5 10).state.trace ≡ Out 0 7 ∷ End 0 0 ∷ []) ×
+    ((machine (parts (codes "Main") true) [] 5 10).stop ≡ Ended)
+unfolding run step_by stopped execute_by word_at decoded jalr_in op_imm_in op_imm_op_of system_in
+runs = (refl, refl)
+
+-- no steps, too few steps, more steps, and too few events
+stops : ((machine (parts (codes "Main") true) [] 0 10).stop ≡ StepsOut) ×
+    ((machine (parts (codes "Main") true) [] 0 0).stop ≡ EventsOut) ×
+    ((machine (parts (codes "Main") true) [] 4 10).stop ≡ StepsOut) ×
+    ((machine (parts (codes "Main") true) [] 9 2).stop ≡ Ended) ×
+    ((machine (parts (codes "Main") true) [] 9 1).stop ≡ EventsOut) ×
+    ((machine (parts (codes "Main") true) [] 9 1).state.pc ≡ 0x0100000c)
+unfolding run step_by stopped execute_by word_at decoded jalr_in op_imm_in op_imm_op_of system_in
+stops = (refl, refl, refl, refl, refl, refl)
+
+-- without the import of `output`
+traps : ((machine (parts (codes "Main") false) [] 3 10).stop ≡ Trap NoImport 0x01000008) ×
+    ((machine (parts (codes "Main") false) [] 100 10).stop ≡ Trap NoImport 0x01000008) ×
+    ((machine (parts (codes "Main") false) [] 100 10).state.trace ≡ []) ×
+    ((machine (parts (codes "Main") false) [] 2 10).stop ≡ StepsOut)
+unfolding run step_by stopped execute_by word_at decoded jalr_in op_imm_in op_imm_op_of system_in
+traps = (refl, refl, refl, refl)

@@ -1,10 +1,8 @@
 -- What makes an image of one compartment that takes nothing from others.
-use Rattle.sc_image.proofs.Common.{All, All-cons, All-nil, Bool, CompPart, End, Ended, EventsOut, ImageParts, IsByte}
-use Rattle.sc_image.proofs.Common.{IsComp, IsDistinct, IsExport, IsImport, IsSome, IsTrue, IsWellFormed, IsWord, List}
-use Rattle.sc_image.proofs.Common.{NoImport, Out, Some, StepsOut, Trap, [], arith, bit, codes, decoded, execute_by}
-use Rattle.sc_image.proofs.Common.{false, image_bytes, is_name, jalr_in, length, lit<, lit≤, machine, map, most_globals}
-use Rattle.sc_image.proofs.Common.{op_imm_in, op_imm_op_of, refl, run, slice_get, step_by, stopped, stretch, subst, suc}
-use Rattle.sc_image.proofs.Common.{system_in, true, word_at, zero, ℕ, ◌*◌, ◌∷◌, ◌≡◌, ◌≢◌, ◌≤◌}
+use Rattle.sc_image.proofs.Common.{All, All-cons, All-nil, Bool, CompPart, ImageParts, IsByte, IsComp, IsDistinct}
+use Rattle.sc_image.proofs.Common.{IsExport, IsImport, IsSome, IsTrue, IsWellFormed, IsWord, List, Some, [], arith, bit}
+use Rattle.sc_image.proofs.Common.{codes, is_name, length, lit<, lit≤, map, most_globals, refl, slice_get, stretch}
+use Rattle.sc_image.proofs.Common.{subst, suc, true, word_at, zero, ℕ, ◌*◌, ◌∷◌, ◌≡◌, ◌≢◌, ◌≤◌}
 use Rattle.sc_image.proofs.FileFields.{comp_with}
 
 abbrev pub only : (entry : ℕ) → CompPart → ImageParts
@@ -67,42 +65,12 @@ one_well_formed entry comp lone at = record {
 
 -- The image of a program that outputs 7 and returns 0: its bytes, and what the machine does on it.
 
-abbrev only_comp : List ℕ → Bool → CompPart
+abbrev pub only_comp : List ℕ → Bool → CompPart
 only_comp name output =
     comp_with name (2 * bit output) [] [] (0x00700513 ∷ 0x00200893 ∷ 0x00000073 ∷ 0x00000513 ∷ 0x00008067 ∷ []) []
 
-abbrev parts : List ℕ → Bool → ImageParts
+abbrev pub parts : List ℕ → Bool → ImageParts
 parts name output = only 0x01000000 (only_comp name output)
-
-seven_bytes : image_bytes (parts (codes "M") true) ≡
-    0x53 ∷ 0x43 ∷ 0x49 ∷ 0x4d ∷ 1 ∷ 0 ∷ 1 ∷ 0 ∷ 0 ∷ 0 ∷ 0 ∷ 1 ∷ 1 ∷ 0x4d ∷ 2 ∷ 0 ∷ 0 ∷ 0 ∷ 0 ∷ 0x14 ∷ 0 ∷ 0 ∷ 0 ∷
-    0x13 ∷ 0x05 ∷ 0x70 ∷ 0 ∷ 0x93 ∷ 0x08 ∷ 0x20 ∷ 0 ∷ 0x73 ∷ 0 ∷ 0 ∷ 0 ∷ 0x13 ∷ 0x05 ∷ 0 ∷ 0 ∷ 0x67 ∷ 0x80 ∷ 0 ∷ 0 ∷ 0 ∷
-    0 ∷ 0 ∷ 0 ∷ []
-seven_bytes = refl
-
--- five steps
-runs : ((machine (parts (codes "Main") true) [] 5 10).state.trace ≡ Out 0 7 ∷ End 0 0 ∷ []) ×
-    ((machine (parts (codes "Main") true) [] 5 10).stop ≡ Ended)
-unfolding run step_by stopped execute_by word_at decoded jalr_in op_imm_in op_imm_op_of system_in
-runs = (refl, refl)
-
--- no steps, too few steps, more steps, and too few events
-stops : ((machine (parts (codes "Main") true) [] 0 10).stop ≡ StepsOut) ×
-    ((machine (parts (codes "Main") true) [] 0 0).stop ≡ EventsOut) ×
-    ((machine (parts (codes "Main") true) [] 4 10).stop ≡ StepsOut) ×
-    ((machine (parts (codes "Main") true) [] 9 2).stop ≡ Ended) ×
-    ((machine (parts (codes "Main") true) [] 9 1).stop ≡ EventsOut) ×
-    ((machine (parts (codes "Main") true) [] 9 1).state.pc ≡ 0x0100000c)
-unfolding run step_by stopped execute_by word_at decoded jalr_in op_imm_in op_imm_op_of system_in
-stops = (refl, refl, refl, refl, refl, refl)
-
--- without the import of `output`
-traps : ((machine (parts (codes "Main") false) [] 3 10).stop ≡ Trap NoImport 0x01000008) ×
-    ((machine (parts (codes "Main") false) [] 100 10).stop ≡ Trap NoImport 0x01000008) ×
-    ((machine (parts (codes "Main") false) [] 100 10).state.trace ≡ []) ×
-    ((machine (parts (codes "Main") false) [] 2 10).stop ≡ StepsOut)
-unfolding run step_by stopped execute_by word_at decoded jalr_in op_imm_in op_imm_op_of system_in
-traps = (refl, refl, refl, refl)
 
 all_five : (P : ℕ → Type 0) (a b c d e : ℕ) → P a → P b → P c → P d → P e → All P (a ∷ b ∷ c ∷ d ∷ e ∷ [])
 all_five P a b c d e pa pb pc pd pe =

@@ -1,5 +1,5 @@
 use Rattle.sc_machine.proofs.Common.{Some, arith, export_at, sym, ◌∙◌, ◌≡◌}
-use Rattle.sc_machine.proofs.Crossings.{exporter_within, export_few, export_takes, takes_few}
+use Rattle.sc_machine.proofs.Callees.{exporter_within, export_few, export_takes, takes_few}
 use Rattle.sc_machine.proofs.calling.find_callee.Goals as goal
 
 pub overflow_cast-callee : goal.overflow_cast-callee

@@ -1,5 +1,5 @@
 use Rattle.sc_machine.proofs.Common.{Goes, ap, state_in, sym, ◌∙◌}
-use Rattle.sc_machine.proofs.Jumps.{jalr_returns}
+use Rattle.sc_machine.proofs.Words.{jalr_returns}
 use Rattle.sc_machine.proofs.jump.jalr.Goals as goal
 
 pub returns-clause-outcome : goal.returns-clause-outcome

@@ -1,5 +1,5 @@
 use Rattle.sc_machine.proofs.Common.{active_in, add_word, at, calls, execute_by, leaves, slice_index, word_of, ◌*◌, ◌/◌}
-use Rattle.sc_machine.proofs.Answered.{goes_if}
+use Rattle.sc_machine.proofs.Runs.{goes_if}
 use Rattle.sc_machine.proofs.quick.execute_quick.Goals as goal
 
 pub returns-in-Branch-clause-goes : goal.returns-in-Branch-clause-goes

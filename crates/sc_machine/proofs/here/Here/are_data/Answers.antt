@@ -1,5 +1,5 @@
 use Rattle.sc_machine.proofs.Common.{sym}
-use Rattle.sc_machine.proofs.Access.{looked_below, looked_data, looked_there}
+use Rattle.sc_machine.proofs.Words.{looked_below, looked_data, looked_there}
 use Rattle.sc_machine.proofs.here.Here.are_data.Goals as goal
 
 pub returns-then-address-self-clause-data : goal.returns-then-address-self-clause-data
