@@ -98,3 +98,6 @@ address_kept m a n v b has = by_access a n b (λ out. ap is_some (stored-apart m
 
 pub keeps_addresses : (m : Memory) (a n v b : ℕ) → HasBytes m a n → IsSome (stored m a n v b) ↔ IsSome (m b)
 keeps_addresses m a n v b has = (λ p. sym (address_kept m a n v b has) ∙ p, λ p. address_kept m a n v b has ∙ p)
+
+-- the laws of loads and stores
+pub ruleset laws = (load_of-stored, load_of-apart, keeps_addresses)
