@@ -1,6 +1,5 @@
 pub mod Common
 mod Known
-pub mod Numbers
 pub mod Fields
 pub mod Ops
 pub mod OneEach
