@@ -12,10 +12,10 @@ use Rattle.rv_code.proofs.Common.{system_in, true, u_imm_of, upper_opcode, word_
 use Rattle.rv_code.specs.declared.instr.Instr.{Instr}
 use Rattle.rv_code.specs.declared.instr.UpperOp.{UpperOp}
 use Rattle.std.specs.Option.{option_map, option_or}
-use Rattle.rv_code.proofs.Numbers.{IsImmediate-signed, IsBranchOffset-signed, IsJumpOffset-signed}
+use Rattle.rv_code.proofs.Fields.{IsImmediate-signed, IsBranchOffset-signed, IsJumpOffset-signed, r_fields, i_fields}
+use Rattle.rv_code.proofs.Fields.{s_fields, b_fields, u_fields, j_fields, r_joined, i_joined, s_joined, b_joined}
+use Rattle.rv_code.proofs.Fields.{u_joined, j_joined}
 use Rattle.rv_code.proofs.Ops.{branch_own, load_own, store_own, op_imm_own, shift_own, op_own, by_code, by_codes}
-use Rattle.rv_code.proofs.Fields.{r_fields, i_fields, s_fields, b_fields, u_fields, j_fields, r_joined, i_joined}
-use Rattle.rv_code.proofs.Fields.{s_joined, b_joined, u_joined, j_joined}
 
 -- an instruction's word has 32 bits, and is decoded to it
 abbrev Read : Instr → ℕ → Type 0

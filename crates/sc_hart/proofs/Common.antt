@@ -6,7 +6,7 @@ pub use Rattle.std.proofs.Common.{⊎_elim, ◌%◌, ◌&&◌, ◌*◌, ◌++◌
 pub use Rattle.std.proofs.lemmas.Bool.{and_parts, cases_lt, lt-leb}
 pub use Rattle.sc_base.specs.declared.stop.TrapReason.TheVariants.{BadJump, Owner}
 pub use Rattle.sc_store.specs.Prelude.{Memory, load_of, stored}
-pub use Rattle.sc_image.proofs.Walking.{image_in_memory, steps_by_instruction}
+pub use Rattle.sc_image.proofs.Running.{image_in_memory, steps_by_instruction}
 pub use Rattle.sc_image.specs.Prelude.{Goes, IsAt, IsSteady, IsWellFormed, IsWord, Outcome, State, Traps, Walks}
 pub use Rattle.sc_image.specs.Prelude.{after_outcome, calls, code_of, code_start, compares, computed, data_start, gives}
 pub use Rattle.sc_image.specs.Prelude.{jalr_target, jump, leaves, on_registers, refused, shift_on_registers, stack_top}

@@ -1,42 +1,24 @@
 -- What a step can come to, in two states at once that a compartment can't tell apart: the same registers, pc, inputs
 -- and events, and the same bytes at its addresses. A relation between the outcomes holds if it holds of each kind of
 -- outcome.
-use Rattle.sc_image.proofs.Common.{Auipc, BadCall, BadJump, Bool, Branch, Breakpoint, Crossing, Ebreak, Ecall, Event}
-use Rattle.sc_image.proofs.Common.{Export, Fence, Goes, HasWord, HoldsBytes, Illegal, ImageParts, Instr, IsWellFormed}
-use Rattle.sc_image.proofs.Common.{IsWord, Jal, Jalr, List, Load, LoadOp, Lui, Memory, Misaligned, NoImport, None, Op}
-use Rattle.sc_image.proofs.Common.{OpImm, Option, Outcome, Owner, Shift, ShiftOp, Some, State, Store, StoreOp}
-use Rattle.sc_image.proofs.Common.{TrapReason, Traps, Upper, a7, add_word-lt, ap, are_data, arith, by_owner, called}
-use Rattle.sc_image.proofs.Common.{calls, compares, computed, decoded, execute, execute_by, export_at, export_called}
-use Rattle.sc_image.proofs.Common.{extended, false, gives, if_decoded, if_fetched, if◌then◌else◌, input, is_some}
-use Rattle.sc_image.proofs.Common.{jalr_target, jump, leaves, length, length-set, load_of-same, load_size, loaded}
-use Rattle.sc_image.proofs.Common.{may_call, may_input, may_output, nat_eq, next, not, on_registers, output, params_of}
-use Rattle.sc_image.proofs.Common.{ra, refl, refused, reg, returned, saved_sp, set, shift_on_registers, slice_index}
-use Rattle.sc_image.proofs.Common.{sll_word-lt, sp, sra_word-lt, srl_word-lt, step, step_by, store_size, subst, true}
-use Rattle.sc_image.proofs.Common.{unless, with_pc, with_stored, word_at, word_of-lt, written, ℕ, ◌%◌, ◌+◌, ◌<◌, ◌==◌}
-use Rattle.sc_image.proofs.Common.{◌≡◌}
-use Rattle.sc_word.specs.Prelude.{add_word, word_of}
+use Rattle.sc_image.proofs.Common.{Auipc, BadCall, BadJump, Bool, Branch, Breakpoint, Crossing, Ebreak, Ecall, Export}
+use Rattle.sc_image.proofs.Common.{Fence, Goes, HasWord, HoldsBytes, Illegal, ImageParts, Instr, IsWellFormed, IsWord}
+use Rattle.sc_image.proofs.Common.{Jal, Jalr, List, Load, LoadOp, Lui, Memory, Misaligned, NoImport, None, Op, OpImm}
+use Rattle.sc_image.proofs.Common.{Option, Outcome, Shift, ShiftOp, Some, State, Store, StoreOp, TrapReason, Traps}
+use Rattle.sc_image.proofs.Common.{Upper, a7, add_word-lt, ap, are_data, by_owner, called, calls, compares, computed}
+use Rattle.sc_image.proofs.Common.{decoded, execute, execute_by, export_at, export_called, extended, false, gives}
+use Rattle.sc_image.proofs.Common.{if_decoded, if_fetched, if◌then◌else◌, input, is_some, jalr_target, jump, leaves}
+use Rattle.sc_image.proofs.Common.{length, length-set, load_of-same, load_size, loaded, may_call, may_input, may_output}
+use Rattle.sc_image.proofs.Common.{nat_eq, next, not, on_registers, output, params_of, ra, refl, refused, reg, returned}
+use Rattle.sc_image.proofs.Common.{saved_sp, set, shift_on_registers, slice_index, sll_word-lt, sp, sra_word-lt}
+use Rattle.sc_image.proofs.Common.{srl_word-lt, step, step_by, store_size, subst, true, unless, with_pc, with_stored}
+use Rattle.sc_image.proofs.Common.{word_at, word_of-lt, written, ℕ, ◌%◌, ◌+◌, ◌==◌, ◌≡◌}
+use Rattle.sc_word.specs.Prelude.{word_of}
 use Rattle.rv_code.specs.declared.instr.ShiftOp.TheVariants.{Slli, Srli, Srai}
 use Rattle.rv_code.proofs.OneEach.{HasWord-decoded}
 use Rattle.sc_image.proofs.Words.{AreWords, written_words, written_zero, computed_word, loaded_word, in_code}
 use Rattle.sc_image.proofs.Words.{code_address}
-use Rattle.sc_image.proofs.Data.{data_bounds, within_data}
-
--- each byte of an access that is the compartment's
-pub one_of : (image : ImageParts) (c a size k : ℕ) → are_data image c a size ≡ true → k < size →
-    are_data image c (a + k) 1 ≡ true
-one_of image c a size k all within =
-    let bounds = data_bounds image c a size (omega (arith, within)) all in
-    within_data image c _ 1 (omega arith) (omega (arith, bounds.0)) (omega (arith, bounds.1, within))
-
--- an access that isn't refused is of the compartment's bytes
-data_by : (aligned owned : Bool) → (if not aligned then Some Misaligned else if not owned then Some Owner else None) ≡
-    None → owned ≡ true
-data_by true true h = refl
-data_by true false h = cc h
-data_by false owned h = cc h
-
-pub allowed_data : (image : ImageParts) (c size a : ℕ) → refused image c size a ≡ None → are_data image c a size ≡ true
-allowed_data image c size a h = data_by _ _ h
+use Rattle.sc_image.proofs.Memory.{allowed_data, one_of}
 
 pub length-written : (regs : List ℕ) (r word : ℕ) → length (written regs r word) ≡ length regs
 length-written regs r word = by_zero _
@@ -69,55 +51,35 @@ AtNext P (Traps reason) = Unit {0}
 
 -- The two states.
 
-module _ (image : ImageParts) (inputs : List ℕ) (formed : IsWellFormed image) (regs : List ℕ) (pc c place : ℕ)
-    (trace : List Event) (saved saved' : List ℕ) (memory memory' : Memory) (cross cross' : List Crossing) where
-  abbrev pub one : State
-  one = record {
-    regs = regs;
-    pc = pc;
-    active = c;
-    saved = saved;
-    memory = memory;
-    cross = cross;
-    input = place;
-    trace = trace;
-  }
-
+module _ (image : ImageParts) (inputs : List ℕ) (formed : IsWellFormed image) (one : State) (saved' : List ℕ)
+    (memory' : Memory) (cross' : List Crossing) where
   abbrev pub other : State
-  other = record {
-    regs = regs;
-    pc = pc;
-    active = c;
-    saved = saved';
-    memory = memory';
-    cross = cross';
-    input = place;
-    trace = trace;
-  }
+  other = record one { saved = saved'; memory = memory'; cross = cross' }
 
   -- the registers and the pc after a step that changes nothing else
   pub record Moves (regs' : List ℕ) (pc' : ℕ) : Type 0 where
-    pub count : length regs' ≡ length regs
-    pub zero : slice_index regs 0 ≡ 0 → slice_index regs' 0 ≡ 0
-    pub words : IsWord (pc + 4) → AreWords regs → HoldsBytes memory → AreWords regs'
-    pub goes : IsWord (pc + 4) → IsWord pc'
+    pub count : length regs' ≡ length one.regs
+    pub zero : slice_index one.regs 0 ≡ 0 → slice_index regs' 0 ≡ 0
+    pub words : IsWord (one.pc + 4) → AreWords one.regs → HoldsBytes one.memory → AreWords regs'
+    pub goes : IsWord (one.pc + 4) → IsWord pc'
 
   -- a relation that holds of each kind of outcome
   pub record Cases (P : Outcome → Outcome → Type 0) : Type 0 where
-    pub same : (a : ℕ) → are_data image c a 1 ≡ true → memory a ≡ memory' a
+    pub same : (a : ℕ) → are_data image one.active a 1 ≡ true → one.memory a ≡ memory' a
     pub traps : (reason : TrapReason) → P (Traps reason) (Traps reason)
     pub quiet : (regs' : List ℕ) (pc' : ℕ) → Moves regs' pc' →
         P (Goes (record one { regs = regs'; pc = pc' })) (Goes (record other { regs = regs'; pc = pc' }))
-    pub stores : (op : StoreOp) (a word : ℕ) → refused image c (store_size op) a ≡ None →
-        P (Goes (with_pc (with_stored one op a word) (pc + 4))) (Goes (with_pc (with_stored other op a word) (pc + 4)))
-    pub calls : (to index target : ℕ) → export_at image to target ≡ Some index → may_call image c to index ≡ true →
-        P (Goes (called one to index (params_of image to index) target))
+    pub stores : (op : StoreOp) (a word : ℕ) → refused image one.active (store_size op) a ≡ None →
+        P (Goes (with_pc (with_stored one op a word) (one.pc + 4)))
+        (Goes (with_pc (with_stored other op a word) (one.pc + 4)))
+    pub calls : (to index target : ℕ) → export_at image to target ≡ Some index →
+        may_call image one.active to index ≡ true → P (Goes (called one to index (params_of image to index) target))
         (Goes (called other to index (params_of image to index) target))
-    pub returns : P (Goes (returned image one cross)) (Goes (returned image other cross'))
-    pub outputs : may_output image c ≡ true → P (Goes (with_pc (output one) (pc + 4)))
-        (Goes (with_pc (output other) (pc + 4)))
-    pub reads : may_input image c ≡ true → P (Goes (with_pc (input inputs one) (pc + 4)))
-        (Goes (with_pc (input inputs other) (pc + 4)))
+    pub returns : P (Goes (returned image one one.cross)) (Goes (returned image other cross'))
+    pub outputs : may_output image one.active ≡ true → P (Goes (with_pc (output one) (one.pc + 4)))
+        (Goes (with_pc (output other) (one.pc + 4)))
+    pub reads : may_input image one.active ≡ true → P (Goes (with_pc (input inputs one) (one.pc + 4)))
+        (Goes (with_pc (input inputs other) (one.pc + 4)))
 
   module _ (P : Outcome → Outcome → Type 0) (h : Cases P) where
     either : (b : Bool) (x x' y y' : Outcome) → P x x' → P y y' → P (if b then x else y) (if b then x' else y')
@@ -130,21 +92,22 @@ module _ (image : ImageParts) (inputs : List ℕ) (formed : IsWellFormed image) 
     where_true false x x' y y' p q = q
 
     -- rd gets a word, and the pc goes on to this address
-    moves_with : (rd word target : ℕ) → (IsWord (pc + 4) → AreWords regs → HoldsBytes memory → IsWord word) →
-        (IsWord (pc + 4) → IsWord target) → Moves (written regs rd word) target
+    moves_with : (rd word target : ℕ) →
+        (IsWord (one.pc + 4) → AreWords one.regs → HoldsBytes one.memory → IsWord word) →
+        (IsWord (one.pc + 4) → IsWord target) → Moves (written one.regs rd word) target
     moves_with rd word target is_word next = record {
-      count = length-written regs rd word;
-      zero = written_zero regs rd word;
-      words = λ here h bytes. written_words regs rd word h (is_word here h bytes);
+      count = length-written one.regs rd word;
+      zero = written_zero one.regs rd word;
+      words = λ here h bytes. written_words one.regs rd word h (is_word here h bytes);
       goes = next;
     }
 
-    gives_both : (rd word : ℕ) → (IsWord (pc + 4) → AreWords regs → HoldsBytes memory → IsWord word) →
+    gives_both : (rd word : ℕ) → (IsWord (one.pc + 4) → AreWords one.regs → HoldsBytes one.memory → IsWord word) →
         P (gives one rd word) (gives other rd word)
     gives_both rd word is_word = h.quiet _ _ (moves_with rd word _ is_word (λ here. here))
 
     next_both : P (next one) (next other)
-    next_both = h.quiet regs _ (record {
+    next_both = h.quiet one.regs _ (record {
       count = refl;
       zero = λ z. z;
       words = λ here w bytes. w;
@@ -154,15 +117,15 @@ module _ (image : ImageParts) (inputs : List ℕ) (formed : IsWellFormed image) 
     jump_both : (rd target : ℕ) (x x' : Outcome) → P x x' →
         P (jump image one rd target x) (jump image other rd target x')
     jump_both rd target x x' elsewhere = either (not (target % 4 == 0)) _ _ _ _ (h.traps Misaligned)
-        (where_true (is_some (word_at image c target)) _ _ _ _ (λ some. h.quiet _ target
-        (moves_with rd _ target (λ here w bytes. here) (λ here. code_address image formed c target some))) elsewhere)
+        (where_true (is_some (word_at image one.active target)) _ _ _ _ (λ some. h.quiet _ target
+        (moves_with rd _ target (λ here w bytes. here) (λ here. code_address image formed _ target some))) elsewhere)
 
     export_both : (to target : ℕ) (index : Option ℕ) → export_at image to target ≡ index →
         P (export_called image one to target index) (export_called image other to target index)
     export_both to target None at = h.traps BadJump
     export_both to target (Some index) at = may_by _ refl
       where
-        may_by : (may : Bool) → may_call image c to index ≡ may →
+        may_by : (may : Bool) → may_call image one.active to index ≡ may →
             P (if may then Goes (called one to index (params_of image to index) target) else Traps NoImport)
             (if may then Goes (called other to index (params_of image to index) target) else Traps NoImport)
         may_by true is = h.calls to index target at is
@@ -174,18 +137,20 @@ module _ (image : ImageParts) (inputs : List ℕ) (formed : IsWellFormed image) 
     leaves_both : (rd target : ℕ) → P (leaves image one rd target) (leaves image other rd target)
     leaves_both rd target = either _ _ _ _ _ h.returns (calls_both rd target)
 
-    loaded_same : (op : LoadOp) (a : ℕ) → refused image c (load_size op) a ≡ None → loaded one op a ≡ loaded other op a
-    loaded_same op a allowed = ap (extended op) (load_of-same memory memory' a _
-        (λ k within. h.same _ (one_of image c a _ k (allowed_data image c _ a allowed) within)))
+    loaded_same : (op : LoadOp) (a : ℕ) → refused image one.active (load_size op) a ≡ None →
+        loaded one op a ≡ loaded other op a
+    loaded_same op a allowed = ap (extended op) (load_of-same one.memory memory' a _
+        (λ k within. h.same _ (one_of image one.active a _ k (allowed_data image one.active _ a allowed) within)))
 
-    load_both : (op : LoadOp) (rd a : ℕ) (why : Option TrapReason) → refused image c (load_size op) a ≡ why →
+    load_both : (op : LoadOp) (rd a : ℕ) (why : Option TrapReason) → refused image one.active (load_size op) a ≡ why →
         P (unless why (gives one rd (loaded one op a))) (unless why (gives other rd (loaded other op a)))
     load_both op rd a (Some reason) is = h.traps reason
     load_both op rd a None is = subst (λ word. P (gives one rd (loaded one op a)) (gives other rd word))
-        (loaded_same op a is) (gives_both rd _ (λ here w bytes. loaded_word memory op a bytes))
+        (loaded_same op a is) (gives_both rd _ (λ here w bytes. loaded_word one.memory op a bytes))
 
-    store_both : (op : StoreOp) (a word : ℕ) (why : Option TrapReason) → refused image c (store_size op) a ≡ why →
-        P (unless why (next (with_stored one op a word))) (unless why (next (with_stored other op a word)))
+    store_both : (op : StoreOp) (a word : ℕ) (why : Option TrapReason) →
+        refused image one.active (store_size op) a ≡ why → P (unless why (next (with_stored one op a word)))
+        (unless why (next (with_stored other op a word)))
     store_both op a word (Some reason) is = h.traps reason
     store_both op a word None is = h.stores op a word is
 
@@ -193,7 +158,7 @@ module _ (image : ImageParts) (inputs : List ℕ) (formed : IsWellFormed image) 
         P (execute image inputs one instr) (execute image inputs other instr)
     unfolding execute_by
     execute_both (Upper Lui rd imm) word has = gives_both rd imm (λ here w bytes. has.instr.1.word)
-    execute_both (Upper Auipc rd imm) word has = gives_both rd (add_word pc imm) (λ here w bytes. add_word-lt pc imm)
+    execute_both (Upper Auipc rd imm) word has = gives_both rd _ (λ here w bytes. add_word-lt one.pc imm)
     execute_both (Jal rd imm) word has = jump_both rd _ _ _ (calls_both rd _)
     execute_both (Jalr rd rs1 imm) word has = jump_both rd _ _ _ (leaves_both rd (jalr_target _ imm))
     execute_both (Branch op rs1 rs2 imm) word has =
@@ -208,7 +173,7 @@ module _ (image : ImageParts) (inputs : List ℕ) (formed : IsWellFormed image) 
     execute_both (Fence imm rs1 rd) word has = next_both
     execute_both Ecall word has = either (nat_eq (reg one a7) 1) _ _ _ _
         (where_true _ _ _ _ _ h.reads (h.traps NoImport)) (either (nat_eq _ 2) _ _ _ _
-        (where_true (may_output image c) _ _ _ _ h.outputs (h.traps NoImport)) (h.traps BadCall))
+        (where_true (may_output image one.active) _ _ _ _ h.outputs (h.traps NoImport)) (h.traps BadCall))
     execute_both Ebreak word has = h.traps Breakpoint
 
     decoded_both : (word : ℕ) (instr : Option Instr) → IsWord word → decoded word ≡ instr →
@@ -216,10 +181,10 @@ module _ (image : ImageParts) (inputs : List ℕ) (formed : IsWellFormed image) 
     decoded_both word None bits is = h.traps Illegal
     decoded_both word (Some instr) bits is = execute_both instr word (HasWord-decoded word instr bits is)
 
-    fetched_both : (word : Option ℕ) → word_at image c pc ≡ word →
+    fetched_both : (word : Option ℕ) → word_at image one.active one.pc ≡ word →
         P (if_fetched (by_owner image inputs) one word) (if_fetched (by_owner image inputs) other word)
     fetched_both None at = h.traps BadJump
-    fetched_both (Some word) at = decoded_both word _ (in_code image formed c pc word at).bits refl
+    fetched_both (Some word) at = decoded_both word _ (in_code image formed one.active one.pc word at).bits refl
 
     -- the step
     pub step_both : P (step image inputs one) (step image inputs other)
@@ -230,8 +195,7 @@ module _ (image : ImageParts) (inputs : List ℕ) (formed : IsWellFormed image) 
 module _ (image : ImageParts) (inputs : List ℕ) (formed : IsWellFormed image) (state : State)
     (P : Outcome → Type 0) where
   abbrev pub OneCases : Type 0
-  OneCases = Cases image inputs formed state.regs state.pc state.active state.input state.trace state.saved state.saved
-      state.memory state.memory state.cross state.cross (λ x y. P x)
+  OneCases = Cases image inputs formed state state.saved state.memory state.cross (λ x y. P x)
 
   pub step_of : OneCases → P (step image inputs state)
-  step_of h = step_both image inputs formed _ _ _ _ _ _ _ _ _ _ _ _ h
+  step_of h = step_both image inputs formed state _ _ _ _ h

@@ -9,12 +9,12 @@ pub use Rattle.std.proofs.Common.{slice_set, subst, suc, suc-add, sym, take, tak
 pub use Rattle.std.proofs.Common.{true≢false, unwrap_or, zero, zero-add, ℕ, ⊎_elim, ◌%◌, ◌&&◌, ◌*◌, ◌++◌, ◌+◌, ◌-◌, ◌/◌}
 pub use Rattle.std.proofs.Common.{◌<◌, ◌==◌, ◌^◌, ◌||◌, ◌↔◌, ◌∙◌, ◌∷◌, ◌≡◌, ◌≢◌, ◌≤◌, ◌⊎◌}
 pub use Rattle.std.proofs.Math.Seq.{drop-append_seam, drop-length}
-pub use Rattle.std.proofs.lemmas.Bool.{and_from, and_parts, cases_lt, eqb-false, false_from_ne_true, lt-leb, not-true}
+pub use Rattle.std.proofs.lemmas.Bool.{and_from, and_parts, cases_lt, false_from_ne_true, lt-leb, not-true}
 pub use Rattle.std.proofs.lemmas.Bool.{not_from_false, or_from, or_left, or_parts, or_right}
 pub use Rattle.std.proofs.lemmas.Bool.Decides.{Decides-and, Decides-like, nat_tests, not_from_Decides}
 pub use Rattle.std.proofs.lemmas.Bool.Decides.{same_from_decides}
-pub use Rattle.std.proofs.lemmas.List.{drop_more, get_or-append_right, get_or_append_left, get_or_default, get_or_past}
-pub use Rattle.std.proofs.lemmas.List.{length-map, length-replicate, nil_from_length, take-replicate}
+pub use Rattle.std.proofs.lemmas.List.{drop_more, get_or_default, get_or_past, length-map, length-replicate}
+pub use Rattle.std.proofs.lemmas.List.{nil_from_length, take-replicate}
 pub use Rattle.std.proofs.lemmas.List.Elements.{All-cons, All-from_recursion, All-head, All-nil, All-tail}
 pub use Rattle.std.proofs.lemmas.List.Elements.{recursion_from_All}
 pub use Rattle.std.proofs.lemmas.List.Folds.{list_any-append}
@@ -74,12 +74,12 @@ pub use Rattle.sc_image.specs.Prelude.{input, input_at, inputs_in, interface_of,
 pub use Rattle.sc_image.specs.Prelude.{is_ended, is_entry, is_import, is_result, is_same_import, is_same_name}
 pub use Rattle.sc_image.specs.Prelude.{jalr_target, jump, keeps_rules, kept, kept_by, kept_from, leaves, load_size}
 pub use Rattle.sc_image.specs.Prelude.{loaded, machine, may_call, may_input, may_output, most_globals, name_bytes, next}
-pub use Rattle.sc_image.specs.Prelude.{number_at, number_that, observation, observation_of, on_registers, open_after}
-pub use Rattle.sc_image.specs.Prelude.{open_calls, output, own, params_of, proto_of, ra, refused, reg, returned}
-pub use Rattle.sc_image.specs.Prelude.{returned_to, saved_sp, shift_on_registers, shows_entry, sp, stack_size}
-pub use Rattle.sc_image.specs.Prelude.{stack_top, stack_tops, start, step, stops_or, store_size, stretch, then_on}
-pub use Rattle.sc_image.specs.Prelude.{unless, unless_stopped, version, walk, with_pc, with_stored, without_latest}
-pub use Rattle.sc_image.specs.Prelude.{word_interface, word_interfaces, word_proto, written, ◌>>=◌}
+pub use Rattle.sc_image.specs.Prelude.{number_at, number_that, observation_of, on_registers, open_after, open_calls}
+pub use Rattle.sc_image.specs.Prelude.{output, own, params_of, proto_of, ra, refused, reg, returned, returned_to}
+pub use Rattle.sc_image.specs.Prelude.{saved_sp, shift_on_registers, shows_entry, sp, stack_size, stack_top, stack_tops}
+pub use Rattle.sc_image.specs.Prelude.{start, step, stops_or, store_size, stretch, then_on, unless, unless_stopped}
+pub use Rattle.sc_image.specs.Prelude.{version, walk, with_pc, with_stored, without_latest, word_interface}
+pub use Rattle.sc_image.specs.Prelude.{word_interfaces, word_proto, written, ◌>>=◌}
 unfoldable pub use Rattle.sc_image.specs.Prelude.{are_data, code_at, comp_at, comp_name_at, execute_by, exports_at}
 unfoldable pub use Rattle.sc_image.specs.Prelude.{fields_at, globals_at, image_in_version, import_at, imports_at}
 unfoldable pub use Rattle.sc_image.specs.Prelude.{name_at, parts_in_version, run, start_memory, step_by, stopped}

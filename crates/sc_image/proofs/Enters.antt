@@ -1,113 +1,83 @@
 -- What belongs to a compartment that a call or a return makes active.
 use Rattle.sc_image.proofs.Common.{Adds, Bool, Call, Crossing, Entered, EntersByEvent, Event, ExportPart, Goes}
 use Rattle.sc_image.proofs.Common.{ImageParts, In, IsChain, IsSteady, IsWellFormed, Kept, List, None, Option, Out}
-use Rattle.sc_image.proofs.Common.{Outcome, Own, Ret, Some, State, Waits, [], a0, activates, after_outcome, ap}
+use Rattle.sc_image.proofs.Common.{Outcome, Own, Ret, Some, State, Waits, [], a0, activates, after_outcome, ap, ap₂}
 use Rattle.sc_image.proofs.Common.{arguments, arith, called, data_of, drop, drop-append_seam, drop-length, eq-eqb}
-use Rattle.sc_image.proofs.Common.{eqb-true, export_at, exports_of, false, flat_map, gate, get_or, get_or-append_right}
-use Rattle.sc_image.proofs.Common.{get_or-drop, get_or-set_other, get_or-take, get_or_append_left}
-use Rattle.sc_image.proofs.Common.{get_or_from_slice_get, given_back, has_result, if◌then◌else◌, input_at, is_argument}
-use Rattle.sc_image.proofs.Common.{is_result, is_some, kept, kept_by, kept_from, length, length-append, length-drop}
-use Rattle.sc_image.proofs.Common.{length-take-le, nat_eq, nat_le, nat_lt, nat_tests, ne_eqb, observation_of}
-use Rattle.sc_image.proofs.Common.{option_map_or, own, params_of, position-Some, ra, refl, reg, replicate, returned}
-use Rattle.sc_image.proofs.Common.{returned_to, saved_sp, slice_get, slice_get-get_or, slice_get_within, sp, step}
-use Rattle.sc_image.proofs.Common.{subst, suc, sym, true, unwrap_or, written, zero, ℕ, ◌&&◌, ◌++◌, ◌+◌, ◌-◌, ◌<◌, ◌==◌}
-use Rattle.sc_image.proofs.Common.{◌∙◌, ◌∷◌, ◌≡◌, ◌≢◌, ◌≤◌}
+use Rattle.sc_image.proofs.Common.{eqb-true, export_at, exports_of, false, flat_map, gate, get_or, get_or-drop}
+use Rattle.sc_image.proofs.Common.{get_or-set_other, get_or-take, get_or_from_slice_get, given_back, has_result}
+use Rattle.sc_image.proofs.Common.{if◌then◌else◌, input_at, is_argument, is_result, is_some, kept, kept_by, kept_from}
+use Rattle.sc_image.proofs.Common.{length, length-drop, length-take-le, nat_eq, nat_tests, ne_eqb, observation_of}
+use Rattle.sc_image.proofs.Common.{option_map_or, own, params_of, position-Some, ra, refl, reg, returned, returned_to}
+use Rattle.sc_image.proofs.Common.{saved_sp, slice_get, slice_get-get_or, slice_get_cases, slice_get_within, sp, step}
+use Rattle.sc_image.proofs.Common.{subst, suc, sym, true, unwrap_or, written, zero, ℕ, ⊎_elim, ◌++◌, ◌+◌, ◌-◌, ◌<◌}
+use Rattle.sc_image.proofs.Common.{◌==◌, ◌∙◌, ◌∷◌, ◌≡◌, ◌≢◌, ◌≤◌}
 use Rattle.sc_image.proofs.Cases.{crossing_to, step_of}
 use Rattle.sc_image.proofs.Words.{comp_found, no_export}
 
--- Registers that hold these words from a0 on, of which so many count.
-abbrev from_a0 : (count : ℕ) → List ℕ → List ℕ
-from_a0 count words = replicate 10 0 ++ words ++ replicate (22 - count) 0
+-- The words of so many registers from r on, with 0 in each that isn't kept.
+abbrev chosen : (keeps : ℕ → Bool) (word : ℕ → ℕ) (r count : ℕ) → List ℕ
+chosen keeps word r zero = []
+chosen keeps word r (suc count) = (if keeps r then word r else 0) ∷ chosen keeps word (suc r) count
 
 if_same : (b : Bool) (x y : ℕ) → (b ≡ true → x ≡ y) → (if b then x else 0) ≡ (if b then y else 0)
-if_same true x y h = h refl
-if_same false x y h = refl
+if_same b x y h = grind arith
 
 -- only the registers that are kept matter
-kept_same : (keeps : ℕ → Bool) (r : ℕ) (xs ys : List ℕ) → length xs ≡ length ys →
-    ((i : ℕ) → keeps (r + i) ≡ true → get_or xs i 0 ≡ get_or ys i 0) → kept_from keeps r xs ≡ kept_from keeps r ys
-kept_same keeps r [] [] same h = refl
-kept_same keeps r [] (y ∷ ys) same h = absurd (omega arith)
-kept_same keeps r (x ∷ xs) [] same h = absurd (omega arith)
-kept_same keeps r (x ∷ xs) (y ∷ ys) same h =
+kept_is : (keeps : ℕ → Bool) (word : ℕ → ℕ) (r : ℕ) (xs : List ℕ) →
+    ((i : ℕ) → keeps (r + i) ≡ true → get_or xs i 0 ≡ word (r + i)) →
+    kept_from keeps r xs ≡ chosen keeps word r (length xs)
+kept_is keeps word r [] h = refl
+kept_is keeps word r (x ∷ xs) h =
     let here : r + 0 ≡ r = omega arith in
-    let first = if_same _ x y (λ e. h 0 (ap keeps here ∙ e)) in
-    let later = kept_same keeps (suc r) xs ys (omega arith)
-    (λ i e. h (suc i) (let next : r + suc i ≡ suc r + i = omega arith in ap keeps next ∙ e)) in
-    λ i. first i ∷ later i
+    ap₂ (λ first later. first ∷ later) (if_same _ x _ (rw here at (h 0))) (kept_is keeps word (suc r) xs (λ i.
+    let next : r + suc i ≡ suc r + i = omega arith in rw next at (h (suc i))))
 
-length-zeros : (n : ℕ) → length {A = ℕ} (replicate n 0) ≡ n
-length-zeros zero = refl
-length-zeros (suc n) = ap suc (length-zeros n)
+all_kept : (keeps : ℕ → Bool) (word : ℕ → ℕ) (regs : List ℕ) → length regs ≡ 32 →
+    ((i : ℕ) → keeps i ≡ true → get_or regs i 0 ≡ word i) → kept keeps regs ≡ chosen keeps word 0 32
+all_kept keeps word regs same h = kept_is keeps word 0 regs (λ i. let here : 0 + i ≡ i = omega arith in rw here (h i)) ∙
+    ap (chosen keeps word 0) same
 
-length-from_a0 : (count : ℕ) (words : List ℕ) → count ≤ 8 → length words ≡ count → length (from_a0 count words) ≡ 32
-length-from_a0 count words few same =
-    omega (
-      arith,
-      length-append (replicate 10 0) (words ++ replicate (22 - count) 0),
-      length-append words (replicate (22 - count) 0),
-      length-zeros (22 - count),
-    )
-
-get-from_a0 : (count i : ℕ) (words : List ℕ) → length words ≡ count → 10 ≤ i → i < 10 + count →
-    get_or (from_a0 count words) i 0 ≡ get_or words (i - 10) 0
-get-from_a0 count i words same low high =
-    get_or-append_right (replicate 10 0) _ 10 i 0 refl low ∙ get_or_append_left words (replicate _ 0) 0 _ (omega arith)
-
-both_facts : (x y z w : ℕ) → (nat_le x y && nat_lt z w) ≡ true → (x ≤ y) × (z < w)
-both_facts x y z w h = (grind (arith, nat_tests), grind (arith, nat_tests))
-
--- The registers in a function that was called.
+-- the registers in a function that was called, by its arguments
 
 pub length-arguments : (params : ℕ) (regs : List ℕ) → params ≤ 8 → length regs ≡ 32 →
     length (arguments params regs) ≡ params
 length-arguments params regs few same = length-take-le params _ (omega (arith, length-drop 10 regs))
 
-argument_same : (params i : ℕ) (regs : List ℕ) → params ≤ 8 → length regs ≡ 32 → is_argument params i ≡ true →
-    get_or regs i 0 ≡ get_or (from_a0 params (arguments params regs)) i 0
-argument_same params i regs few same is =
-    let place = both_facts 10 i i _ is in
-    let at : 10 + (i - 10) ≡ i = omega (arith, place.0) in
-    sym (get-from_a0 params i _ (length-arguments params regs few same) place.0 place.1 ∙
-    get_or-take params _ _ 0 (omega (arith, place.0, place.1)) ∙ get_or-drop 10 regs _ 0 ∙ ap (λ k. get_or regs k 0) at)
+argument_is : (params i : ℕ) (regs : List ℕ) → is_argument params i ≡ true →
+    get_or regs i 0 ≡ get_or (arguments params regs) (i - 10) 0
+argument_is params i regs is =
+    let place : (10 ≤ i) × (i < 10 + params) = (grind (arith, nat_tests), grind (arith, nat_tests)) in
+    let at : 10 + (i - 10) ≡ i = omega arith in
+    rw (get_or-take params (drop 10 regs) (i - 10) 0 (omega (arith, place)), get_or-drop, at) refl
 
-arguments_same : (params : ℕ) (regs : List ℕ) → params ≤ 8 → length regs ≡ 32 →
-    kept (is_argument params) regs ≡ kept (is_argument params) (from_a0 params (arguments params regs))
-arguments_same params regs few same = kept_same _ 0 regs (from_a0 params _)
-    (same ∙ sym (length-from_a0 params _ few (length-arguments params regs few same)))
-    (λ i e. argument_same params i regs few same (let here : 0 + i ≡ i = omega arith in
-    sym (ap (is_argument params) here) ∙ e))
+abbrev regs_by : (params : ℕ) → List ℕ → List ℕ
+regs_by params args = chosen (is_argument params) (λ r. get_or args (r - 10) 0) 0 32
 
--- The registers after a return.
+arguments_same : (params : ℕ) (regs : List ℕ) → length regs ≡ 32 →
+    kept (is_argument params) regs ≡ regs_by params (arguments params regs)
+arguments_same params regs same = all_kept (is_argument params) _ regs same (λ i. argument_is params i regs)
+
+-- the registers after a return
 
 abbrev result_of : Option ℕ → List ℕ
-result_of value = kept (is_result (is_some value)) (from_a0 1 (unwrap_or value 0 ∷ []))
-
-both_true : (b : Bool) (x y : ℕ) → (b && nat_eq x y) ≡ true → (b ≡ true) × (x ≡ y)
-both_true true x y h = (refl, eqb-true x y h)
-both_true false x y h = cc h
+result_of value = chosen (is_result (is_some value)) (λ r. unwrap_or value 0) 0 32
 
 result_same : (result : Bool) (regs : List ℕ) → length regs ≡ 32 →
     kept (is_result result) regs ≡ result_of (if result then Some (get_or regs 10 0) else None)
-result_same true regs same =
-    kept_same _ 0 regs (from_a0 1 (get_or regs 10 0 ∷ [])) same (λ i e. let here : 0 + i ≡ i = omega arith in
-    let at : i ≡ 10 = (both_true true i 10 (sym (ap (is_result true) here) ∙ e)).1 in rw at refl)
-result_same false regs same = kept_same (is_result false) 0 regs (from_a0 1 (0 ∷ [])) same (λ i e. cc e)
+result_same true regs same = all_kept (is_result true) _ regs same
+    (λ i is. ap (λ k. get_or regs k 0) (eqb-true i 10 is))
+result_same false regs same = all_kept (is_result false) (λ r. 0) regs same (λ i is. cc is)
 
 -- The exports of a compartment.
 
-few_by : (image : ImageParts) (d index : ℕ) → IsWellFormed image → (found : Option ExportPart) →
-    slice_get (exports_of image d) index ≡ found → option_map_or (λ export. export.params) found 0 ≤ 8
-few_by image d index formed None at = omega arith
-few_by image d index formed (Some export) at =
-    let found = comp_found (λ comp. comp.exports) [] (λ exports. slice_get exports index ≡ Some export)
-    (λ none. cc none) _ at in
-    let within = slice_get_within _ index export found.2 in
-    subst (λ e. e.params ≤ 8) (get_or_from_slice_get _ index export export found.2)
-    ((formed.comps d found.0 found.1).exports index export within).params
-
 pub few_params : (image : ImageParts) (d index : ℕ) → IsWellFormed image → params_of image d index ≤ 8
-few_params image d index formed = few_by image d index formed _ refl
+few_params image d index formed = ⊎_elim (λ at.
+    let found = comp_found (λ comp. comp.exports) [] (λ exports. slice_get exports index ≡ Some at.0)
+    (λ none. cc none) _ at.2 in
+    let within = slice_get_within _ index at.0 found.2 in
+    rw (at.2, ← get_or_from_slice_get _ index at.0 at.0 found.2)
+    ((formed.comps d found.0 found.1).exports index at.0 within).params) (λ none. rw none.1 (omega arith))
+    (slice_get_cases (exports_of image d) index).1
 
 abbrev entry_of : ImageParts → (c index : ℕ) → ℕ
 entry_of image c index = option_map_or (λ export. export.entry) (slice_get (exports_of image c) index) 0
@@ -137,9 +107,8 @@ entered image d before (Call from to index args) = record {
   calls = Entered before.saved ∷ before.calls;
   running =
       Some (record {
-        regs = written (written (kept (is_argument (params_of image d index))
-            (from_a0 (params_of image d index) args)) ra gate) sp before.saved;
-        pc = entry_of image d index;
+        regs = written (written (regs_by (params_of image to index) args) ra gate) sp before.saved;
+        pc = entry_of image to index;
       });
 }
 entered image d before (Ret from to value) = by_return before value before.calls
@@ -159,21 +128,19 @@ module _ (image : ImageParts) (inputs : List ℕ) (state : State) (d : ℕ) (for
       own image (after_outcome state outcome) d ≡ entered image d (own image state d) event
 
   -- a call
-  enters_call : (index target : ℕ) → export_at image d target ≡ Some index →
-      own image (called state d index (params_of image d index) target) d ≡
-      entered image d (own image state d) (Call state.active d index (arguments (params_of image d index) state.regs))
-  enters_call index target at =
-      let params = params_of image d index in
-      let after = called state d index params target in
-      let kept_is : kept_by d (crossing_to state d index) ≡ Entered (saved_sp state d) ∷ [] =
-      rw (ne_eqb state.active d differ, eq-eqb d d refl) refl in
+  enters_call : (to index target : ℕ) → export_at image to target ≡ Some index → to ≡ d →
+      own image (called state to index (params_of image to index) target) d ≡
+      entered image d (own image state d) (Call state.active to index (arguments (params_of image to index) state.regs))
+  enters_call to index target at active =
+      let kept_is : kept_by d (crossing_to state to index) ≡ Entered (saved_sp state d) ∷ [] =
+      rw (ne_eqb state.active d differ, eq-eqb to d active) (ap (λ k. Entered (saved_sp state k) ∷ []) active) in
       let calls = ap (λ k. k ++ flat_map (kept_by d) state.cross) kept_is in
       let saved = get_or-set_other _ _ d _ 0 (λ same. differ (sym same)) in
-      let regs = arguments_same params _ (few_params image d index formed) h.regs in
-      let runs : (if nat_eq d d then Some _ else None) ≡ Some _ =
-      rw (eq-eqb d d refl) (λ i. Some (record {
-        regs = written (written (regs i) ra gate) sp (saved_sp state d);
-        pc = sym (entry_is image d target index at) i;
+      let regs = arguments_same (params_of image to index) _ h.regs in
+      let runs : (if nat_eq to d then Some _ else None) ≡ Some _ =
+      rw (eq-eqb to d active) (λ i. Some (record {
+        regs = written (written (regs i) ra gate) sp (saved_sp state (active i));
+        pc = sym (entry_is image to target index at) i;
       })) in
       λ i. record { bytes = data_of image d state.memory; saved = saved i; calls = calls i; running = runs i }
 
@@ -209,14 +176,10 @@ module _ (image : ImageParts) (inputs : List ℕ) (state : State) (d : ℕ) (for
     traps = λ reason active event same. absurd (differ active);
     quiet = λ regs pc len active event same. absurd (differ active);
     stores = λ op a word allowed active event same. absurd (differ active);
-    calls = λ to index target at may active event same. subst (λ k. export_at image k target ≡ Some index →
-        state.trace ++ Call state.active k index (arguments (params_of image k index) state.regs) ∷ [] ≡ state.trace ++
-        event ∷ [] →
-        own image (called state k index (params_of image k index) target) d ≡ entered image d (own image state d) event)
-        (sym active) (λ at same. subst (λ e. own image (called state d index (params_of image d index) target) d ≡
-        entered image d (own image state d) e)
-        (last_same state.trace (Call state.active d index (arguments (params_of image d index) state.regs)) event same)
-        (enters_call index target at)) at same;
+    calls = λ to index target at may active event same.
+        subst (λ e. own image (called state to index (params_of image to index) target) d ≡
+        entered image d (own image state d) e) (last_same state.trace (Call _ to index _) event same)
+        (enters_call to index target at active);
     returns = enters_return state.cross refl;
     outputs = λ may active event same. absurd (differ active);
     reads = λ may active event same. absurd (differ active);

@@ -5,7 +5,7 @@ use Rattle.sc_image.proofs.Common.{append_assoc, arith, bytes_at, cases_lt, drop
 use Rattle.sc_image.proofs.Common.{get_or, get_or-drop, get_or-take, get_or_past, if_good, inl, inr, le-leb, le_bytes_2}
 use Rattle.sc_image.proofs.Common.{le_bytes_4, leb-true, length, length-append, length-take, little_bytes}
 use Rattle.sc_image.proofs.Common.{little_number, nat_le, number_at, refl, subst, suc, sym, take, take-append-drop}
-use Rattle.sc_image.proofs.Common.{take_at, true, zero, ℕ, ◌++◌, ◌+◌, ◌<◌, ◌>>=◌, ◌^◌, ◌∙◌, ◌∷◌, ◌≡◌, ◌≤◌}
+use Rattle.sc_image.proofs.Common.{take_at, true, zero, ℕ, ◌++◌, ◌<◌, ◌>>=◌, ◌^◌, ◌∙◌, ◌∷◌, ◌≡◌}
 use Rattle.std.proofs.lemmas.List.Concat.{flat_map-cons}
 use Rattle.byteorder.specs.Numbers.{little_number-reads_back, little_from-lt, little_from-take, length-bytes_low_first}
 

@@ -1,50 +1,39 @@
 -- The fields of an image: what is read is what is written.
 use Rattle.sc_image.proofs.Common.{AllByRecursion, BadImage, Bool, CompPart, Compartment, Contents, Count, ExportPart}
-use Rattle.sc_image.proofs.Common.{Exports, ImageParts, ImportPart, Imports, List, Mark, Ok, Start, Version, []}
-use Rattle.sc_image.proofs.Common.{and_from, and_parts, ap, append_assoc, arith, bit, bytes_in_version, code_at}
-use Rattle.sc_image.proofs.Common.{code_bytes, codes, comp_at, comp_bytes, comp_name_at, eq-eqb, eqb-true, export_bytes}
-use Rattle.sc_image.proofs.Common.{exports_at, exports_bytes, false, flags, get_or, globals_at, globals_bytes}
-use Rattle.sc_image.proofs.Common.{import_at, import_bytes, imports_at, imports_bytes, is_between, is_name}
-use Rattle.sc_image.proofs.Common.{is_name_byte, is_nondigit, is_same_name, le-leb, leb-true, length, list_all}
-use Rattle.sc_image.proofs.Common.{little_bytes, lt-ltb, ltb-true, most_globals, name_at, name_bytes, nat_le, nat_lt}
-use Rattle.sc_image.proofs.Common.{nat_tests, not-true, not_from_false, number_at, parts_in_version, refl, same_text}
-use Rattle.sc_image.proofs.Common.{stretch, suc, sym, takes, true, zero, ℕ, ◌%◌, ◌&&◌, ◌*◌, ◌++◌, ◌+◌, ◌/◌, ◌<◌, ◌==◌}
-use Rattle.sc_image.proofs.Common.{◌^◌, ◌∙◌, ◌∷◌, ◌≡◌, ◌≤◌}
+use Rattle.sc_image.proofs.Common.{Exports, ImageParts, ImportPart, Imports, List, Mark, Start, Version, [], and_from}
+use Rattle.sc_image.proofs.Common.{and_parts, ap, append_assoc, arith, bit, bytes_in_version, code_at, code_bytes}
+use Rattle.sc_image.proofs.Common.{codes, comp_at, comp_bytes, comp_name_at, eq-eqb, eqb-true, export_bytes, exports_at}
+use Rattle.sc_image.proofs.Common.{exports_bytes, false, flags, globals_at, globals_bytes, import_at, import_bytes}
+use Rattle.sc_image.proofs.Common.{imports_at, imports_bytes, is_between, is_name, is_name_byte, is_nondigit}
+use Rattle.sc_image.proofs.Common.{is_same_name, le-leb, leb-true, length, list_all, little_bytes, lt-ltb, ltb-true}
+use Rattle.sc_image.proofs.Common.{most_globals, name_at, name_bytes, nat_le, nat_lt, nat_tests, not-true}
+use Rattle.sc_image.proofs.Common.{not_from_false, number_at, parts_in_version, refl, same_text, stretch, suc, sym}
+use Rattle.sc_image.proofs.Common.{true, zero, ℕ, ◌%◌, ◌&&◌, ◌*◌, ◌++◌, ◌+◌, ◌/◌, ◌<◌, ◌==◌, ◌^◌, ◌∙◌, ◌∷◌, ◌≡◌, ◌≤◌}
 use Rattle.sc_image.specs.Reading.{export_at}
-use Rattle.sc_image.proofs.Fits.{short_name}
+use Rattle.sc_base.proofs.Filled.{name_is_short}
 use Rattle.sc_image.proofs.Fields.{IsBytes, IsField, restated, made, tested, followed, bytes_field, number_field}
 use Rattle.sc_image.proofs.Fields.{byte_field, many_field, two_wide, four_wide}
 
 -- names
 
-name_byte_is_small : (b : ℕ) → is_name_byte b ≡ true → b < 256
-name_byte_is_small b h = grind (arith, nat_tests)
-
-nondigit_is_small : (b : ℕ) → is_nondigit b ≡ true → b < 256
-nondigit_is_small b h = grind (arith, nat_tests)
-
 name_bytes_are_bytes : (xs : List ℕ) → list_all is_name_byte xs ≡ true → IsBytes xs
 name_bytes_are_bytes [] all i = omega arith
-name_bytes_are_bytes (x ∷ xs) all zero = name_byte_is_small x (and_parts _ _ all).0
+name_bytes_are_bytes (x ∷ xs) all zero = let first = (and_parts (is_name_byte x) _ all).0 in grind (arith, nat_tests)
 name_bytes_are_bytes (x ∷ xs) all (suc i) = name_bytes_are_bytes xs (and_parts _ _ all).1 i
 
 pub name_is_bytes : (name : List ℕ) → is_name name ≡ true → IsBytes name
 unfolding is_name
-name_is_bytes [] named = absurd cc
-name_is_bytes (first ∷ rest) named = by_place
-  where
-    tests : (is_nondigit first ≡ true) × ((list_all is_name_byte rest && nat_lt (length rest) 63) ≡ true)
-    tests = and_parts _ _ named
-
-    by_place : (i : ℕ) → get_or (first ∷ rest) i 0 < 256
-    by_place zero = nondigit_is_small first tests.0
-    by_place (suc i) = name_bytes_are_bytes rest (and_parts _ (nat_lt (length rest) 63) tests.1).0 i
+name_is_bytes [] named i = absurd cc
+name_is_bytes (first ∷ rest) named zero =
+    let nondigit = (and_parts (is_nondigit first) _ named).0 in grind (arith, nat_tests)
+name_is_bytes (first ∷ rest) named (suc i) =
+    name_bytes_are_bytes rest (and_parts _ (nat_lt (length rest) 63) (and_parts _ _ named).1).0 i
 
 name_field : (cause : BadImage) → IsField (name_at cause) name_bytes (λ name. is_name name ≡ true)
 unfolding name_at
 name_field cause = restated (followed (byte_field cause) _ (λ size ok. tested (bytes_field cause size) cause is_name)
     (λ size name a b. b.0.0)) (λ name h. refl) (λ name h. h.1.1)
-    (λ name h. (omega (arith, short_name name h), ((refl, name_is_bytes name h), h)))
+    (λ name h. (omega (arith, name_is_short name h), ((refl, name_is_bytes name h), h)))
 
 comp_name_field : IsField comp_name_at name_bytes (λ name. (is_name name ≡ true) ×
     (is_same_name name (codes "Env") ≡ false))
@@ -64,15 +53,13 @@ bit_again true = refl
 bit_again false = refl
 
 bit_of : (n : ℕ) → n ≤ 1 → bit (n == 1) ≡ n
-bit_of zero h = refl
-bit_of (suc zero) h = refl
-bit_of (suc (suc n)) h = let never : ⊥ = omega (arith, h) in absurd never
+bit_of n h = grind (arith, nat_tests)
 
 bit_fits : (b : Bool) → (bit b < 256) × (nat_le (bit b) 1 ≡ true)
 bit_fits true = (omega arith, refl)
 bit_fits false = (omega arith, refl)
 
-abbrev export_with : (name : List ℕ) (params result entry : ℕ) → ExportPart
+abbrev pub export_with : (name : List ℕ) (params result entry : ℕ) → ExportPart
 export_with name params result entry = record { name = name; params = params; result = result == 1; entry = entry }
 
 export_again : (export : ExportPart) → export ≡ export_with export.name export.params (bit export.result) export.entry
@@ -165,11 +152,7 @@ pub record FitsComp (comps : ℕ) (comp : CompPart) : Type 0 where
   pub globals : FitsGlobals comp.globals
 
 flags_of : (f : ℕ) → f ≤ 3 → bit (f % 2 == 1) + 2 * bit (f / 2 == 1) ≡ f
-flags_of zero h = refl
-flags_of (suc zero) h = refl
-flags_of (suc (suc zero)) h = refl
-flags_of (suc (suc (suc zero))) h = refl
-flags_of (suc (suc (suc (suc f)))) h = let never : ⊥ = omega (arith, h) in absurd never
+flags_of f h = grind (arith, nat_tests)
 
 pub record HasFlags (input output : Bool) : Type 0 where
   pub within : bit input + 2 * bit output ≤ 3
@@ -177,12 +160,13 @@ pub record HasFlags (input output : Bool) : Type 0 where
   pub second : ((bit input + 2 * bit output) / 2 == 1) ≡ output
 
 has_flags : (input output : Bool) → HasFlags input output
-has_flags true true = record { within = omega arith; first = refl; second = refl }
-has_flags true false = record { within = omega arith; first = refl; second = refl }
-has_flags false true = record { within = omega arith; first = refl; second = refl }
-has_flags false false = record { within = omega arith; first = refl; second = refl }
+has_flags input output = record {
+  within = grind (arith, nat_tests);
+  first = grind (arith, nat_tests);
+  second = grind (arith, nat_tests);
+}
 
-abbrev comp_with : (name : List ℕ) (flags : ℕ) (exports : List ExportPart) (imports : List ImportPart)
+abbrev pub comp_with : (name : List ℕ) (flags : ℕ) (exports : List ExportPart) (imports : List ImportPart)
     (code globals : List ℕ) → CompPart
 comp_with name flags exports imports code globals = record {
   name = name;
@@ -197,9 +181,7 @@ comp_with name flags exports imports code globals = record {
 comp_again : (comp : CompPart) → comp ≡ comp_with comp.name
     (flags comp) comp.exports comp.imports comp.code comp.globals
 comp_again comp =
-    let h = has_flags comp.input comp.output in
-    ap (λ (b : Bool). record comp { input = b }) (sym h.first) ∙
-    ap (λ b. record comp { input = flags comp % 2 == 1; output = b }) (sym h.second)
+    let h = has_flags comp.input comp.output in λ i. record comp { input = sym h.first i; output = sym h.second i }
 
 grouped : (name exports imports code globals : List ℕ) (f : ℕ) →
     name ++ (f ∷ (exports ++ (imports ++ (code ++ globals)))) ≡ name ++ f ∷ exports ++ imports ++ code ++ globals
@@ -271,7 +253,9 @@ mark_is_bytes : IsBytes (codes "SCIM")
 unfolding is_name
 mark_is_bytes = name_is_bytes (codes "SCIM") refl
 
-parts_field : (version : ℕ) → version < 2 ^ 16 → IsField (parts_in_version version) (bytes_in_version version) FitsParts
+-- what is read is what is written, and is read again
+pub parts_field : (version : ℕ) → version < 2 ^ 16 →
+    IsField (parts_in_version version) (bytes_in_version version) FitsParts
 unfolding parts_in_version
 parts_field version low = restated
     (followed (tested (bytes_field Mark 4) Mark (λ mark. is_same_name mark (codes "SCIM")))
@@ -306,13 +290,3 @@ parts_field version low = restated
         ),
       ),
     ))
-
-pub parts_take : (version : ℕ) → version < 2 ^ 16 → (bytes : List ℕ) (parts : ImageParts) (rest : List ℕ) →
-    IsBytes bytes → parts_in_version version bytes ≡ Ok (parts, rest) →
-    (bytes ≡ bytes_in_version version parts ++ rest) × FitsParts parts
-parts_take version low bytes parts rest fits e =
-    let took = (parts_field _ low).takes bytes parts rest fits e in (took.0.parts, took.1)
-
-pub parts_again : (version : ℕ) → version < 2 ^ 16 → (parts : ImageParts) (rest : List ℕ) → FitsParts parts →
-    parts_in_version version (bytes_in_version version parts ++ rest) ≡ Ok (parts, rest)
-parts_again version low parts rest fits = (parts_field _ low).again parts rest fits

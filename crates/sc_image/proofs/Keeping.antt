@@ -1,15 +1,15 @@
 -- Whether the parts keep the rules on a whole image, as it is found out.
 use Rattle.sc_image.proofs.Common.{All, Bool, CompPart, Decides, Decides-and, Decides-like, ExportPart, ImageParts}
 use Rattle.sc_image.proofs.Common.{ImportPart, Int, IsEquivalence, IsWellFormed, List, Some, [], ap, are_distinct}
-use Rattle.sc_image.proofs.Common.{arith, comps_keep, cond, drop, drop_more, false, get_or, hash_set_len-from_list}
-use Rattle.sc_image.proofs.Common.{is_same_import, is_same_name, length, length-map, list_any, map, nat_eq, refl}
-use Rattle.sc_image.proofs.Common.{replicate, slice_get-get_or, suc, sym, take, take-replicate, true, unsigned_Decides}
-use Rattle.sc_image.proofs.Common.{ℕ, ◌&&◌, ◌+◌, ◌<◌, ◌==◌, ◌||◌, ◌∙◌, ◌∷◌, ◌≡◌, ◌≤◌}
+use Rattle.sc_image.proofs.Common.{arith, bytes_decides, comps_keep, cond, drop, drop_more, false, get_or}
+use Rattle.sc_image.proofs.Common.{hash_set_len-from_list, is_same_import, is_same_name, length, length-map, list_any}
+use Rattle.sc_image.proofs.Common.{map, nat_eq, refl, replicate, slice_get-get_or, suc, sym, take, take-replicate, true}
+use Rattle.sc_image.proofs.Common.{unsigned_Decides, ℕ, ◌&&◌, ◌+◌, ◌<◌, ◌==◌, ◌||◌, ◌∙◌, ◌∷◌, ◌≡◌, ◌≤◌}
 use Rattle.std.proofs.Math.ListN.{drop_of_length-le}
 use Rattle.std.specs.HashSet as bag
 use Rattle.std.specs.HashSet.{HashSet, hash_set_len}
 use Rattle.std.specs.Set.{unique_keys, distinct_count}
-use Rattle.sc_image.proofs.Whole.{equivalence, names_decide, entries_decide, keeps}
+use Rattle.sc_image.proofs.Whole.{equivalence, keeps}
 
 -- Compartment by compartment.
 
@@ -49,19 +49,19 @@ pub comp_names_count : {S : Type 0} (comps : List CompPart) (set : HashSet (List
     bag.IsFromIterResult is_same_name (map (λ comp. comp.name) comps) set → len ≡ hash_set_len set →
     nat_eq len (length comps) ≡ are_distinct is_same_name (map (λ comp. comp.name) comps)
 comp_names_count comps set len made len-is =
-    count_tells _ (equivalence _ names_decide) _ set len _ made len-is (sym (length-map comps _))
+    count_tells _ (equivalence _ bytes_decides) _ set len _ made len-is (sym (length-map comps _))
 
 pub export_names_count : {S : Type 0} (exports : List ExportPart) (set : HashSet (List ℕ) S) (len : ℕ) →
     bag.IsFromIterResult is_same_name (map (λ export. export.name) exports) set → len ≡ hash_set_len set →
     nat_eq len (length exports) ≡ are_distinct is_same_name (map (λ export. export.name) exports)
 export_names_count exports set len made len-is =
-    count_tells _ (equivalence _ names_decide) _ set len _ made len-is (sym (length-map _ _))
+    count_tells _ (equivalence _ bytes_decides) _ set len _ made len-is (sym (length-map _ _))
 
 pub entries_count : {S : Type 0} (exports : List ExportPart) (set : HashSet ℕ S) (len : ℕ) →
     bag.IsFromIterResult ◌==◌ (map (λ export. export.entry) exports) set → len ≡ hash_set_len set →
     nat_eq len (length exports) ≡ are_distinct ◌==◌ (map (λ export. export.entry) exports)
 entries_count exports set len made len-is =
-    count_tells ◌==◌ (equivalence ◌==◌ entries_decide) _ set len _ made len-is (sym (length-map _ _))
+    count_tells ◌==◌ (equivalence ◌==◌ unsigned_Decides) _ set len _ made len-is (sym (length-map _ _))
 
 -- imports are told apart by their numbers
 

@@ -1,8 +1,9 @@
 -- What makes an image of one compartment that takes nothing from others.
-use Rattle.sc_image.proofs.Common.{All, All-nil, CompPart, ImageParts, IsByte, IsComp, IsDistinct, IsExport, IsImport}
-use Rattle.sc_image.proofs.Common.{IsSome, IsTrue, IsWellFormed, IsWord, List, Some, [], arith, codes, is_name, length}
-use Rattle.sc_image.proofs.Common.{lit<, lit≤, map, most_globals, slice_get, stretch, subst, suc, word_at, zero, ℕ, ◌*◌}
-use Rattle.sc_image.proofs.Common.{◌∷◌, ◌≡◌, ◌≢◌, ◌≤◌}
+use Rattle.sc_image.proofs.Common.{All, All-cons, All-nil, Bool, CompPart, ImageParts, IsByte, IsComp, IsDistinct}
+use Rattle.sc_image.proofs.Common.{IsExport, IsImport, IsSome, IsTrue, IsWellFormed, IsWord, List, Some, [], arith, bit}
+use Rattle.sc_image.proofs.Common.{codes, is_name, length, lit<, lit≤, map, most_globals, refl, slice_get, stretch}
+use Rattle.sc_image.proofs.Common.{subst, suc, true, word_at, zero, ℕ, ◌*◌, ◌∷◌, ◌≡◌, ◌≢◌, ◌≤◌}
+use Rattle.sc_image.proofs.FileFields.{comp_with}
 
 abbrev pub only : (entry : ℕ) → CompPart → ImageParts
 only entry comp = record { main = 0; entry = entry; comps = comp ∷ [] }
@@ -61,3 +62,36 @@ one_well_formed entry comp lone at = record {
   comps = only_there entry comp (is_comp entry comp lone);
   names = distinct_one _;
 }
+
+-- The image of a program that outputs 7 and returns 0: its bytes, and what the machine does on it.
+
+abbrev pub only_comp : List ℕ → Bool → CompPart
+only_comp name output =
+    comp_with name (2 * bit output) [] [] (0x00700513 ∷ 0x00200893 ∷ 0x00000073 ∷ 0x00000513 ∷ 0x00008067 ∷ []) []
+
+abbrev pub parts : List ℕ → Bool → ImageParts
+parts name output = only 0x01000000 (only_comp name output)
+
+all_five : (P : ℕ → Type 0) (a b c d e : ℕ) → P a → P b → P c → P d → P e → All P (a ∷ b ∷ c ∷ d ∷ e ∷ [])
+all_five P a b c d e pa pb pc pd pe =
+    All-cons P a (b ∷ c ∷ d ∷ e ∷ []) pa (All-cons P b (c ∷ d ∷ e ∷ []) pb
+    (All-cons P c (d ∷ e ∷ []) pc (All-cons P d (e ∷ []) pd (All-cons P e [] pe (All-nil P)))))
+
+-- it is well formed, so that there is such an image
+only_is_lone : IsLone (only_comp (codes "M") true)
+unfolding is_name
+only_is_lone = record {
+  name = refl;
+  no_environment = λ same. cc same;
+  exports = refl;
+  imports = refl;
+  short_code = lit≤ tt;
+  words = all_five IsWord 0x00700513 0x00200893 0x00000073 0x00000513 0x00008067 (lit< tt) (lit< tt) (lit< tt) (lit< tt)
+      (lit< tt);
+  short_globals = lit≤ tt;
+  bytes = All-nil IsByte;
+}
+
+pub seven_is_well_formed : IsWellFormed (parts (codes "M") true)
+unfolding word_at
+seven_is_well_formed = one_well_formed 0x01000000 _ only_is_lone refl

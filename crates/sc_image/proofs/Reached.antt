@@ -13,10 +13,9 @@ use Rattle.sc_image.proofs.Common.{◌||◌, ◌∙◌, ◌∷◌, ◌≡◌, �
 use Rattle.std.proofs.lemmas.List.Sums.{fold-append}
 use Rattle.sc_image.proofs.Words.{AreWords, set_words, written_words, written_zero, kept_words, kept_zero, in_code}
 use Rattle.sc_image.proofs.Words.{code_address, comp_found, entry_address}
-use Rattle.sc_image.proofs.Bytes.{stored_bytes, start_bytes}
-use Rattle.sc_image.proofs.Stepping.{step_nowhere}
+use Rattle.sc_image.proofs.Memory.{stored_bytes, start_bytes}
+use Rattle.sc_image.proofs.Running.{step_nowhere, after_keeps, run_keeps}
 use Rattle.sc_image.proofs.Cases.{AtNext, length-written, step_of}
-use Rattle.sc_image.proofs.Running.{after_keeps, run_keeps}
 
 -- One more event.
 

@@ -6,6 +6,7 @@ use Rattle.sc_image.proofs.Common.{image_in_version, image_of, import_at, import
 use Rattle.sc_image.proofs.Common.{name_at, nat_le, number_that, parts_in_version, range_with_len, refl, replicate}
 use Rattle.sc_image.proofs.Common.{take, true, word_at, ℕ, ◌++◌, ◌∷◌, ◌≡◌}
 use Rattle.sc_image.specs.Reading.{export_at}
+use Rattle.sc_image.proofs.FileFields.{comp_with, export_with}
 
 abbrev from_start : List ℕ
 from_start = 1 ∷ 0x4d ∷ 2 ∷ 0 ∷ 0 ∷ 0 ∷ 0 ∷ 0x14 ∷ 0 ∷ 0 ∷ 0 ∷
@@ -79,26 +80,8 @@ abbrev pair : (imports : List ImportPart) → (name : List ℕ) → (first secon
 pair imports name first second = record {
   main = 0;
   entry = 0x01000000;
-  comps =
-      record {
-        name = codes "A";
-        input = false;
-        output = false;
-        exports = [];
-        imports = imports;
-        code = 0 ∷ [];
-        globals = [];
-      } ∷
-      record {
-        name = name;
-        input = true;
-        output = false;
-        exports = record { name = codes "f"; params = 0; result = true; entry = first } ∷
-            record { name = codes "g"; params = 1; result = false; entry = second } ∷ [];
-        imports = [];
-        code = 0 ∷ 0 ∷ [];
-        globals = [];
-      } ∷ [];
+  comps = comp_with (codes "A") 0 [] imports (0 ∷ []) [] ∷ comp_with name 1
+      (export_with (codes "f") 0 1 first ∷ export_with (codes "g") 1 0 second ∷ []) [] (0 ∷ 0 ∷ []) [] ∷ [];
 }
 
 abbrev import : (comp index : ℕ) → ImportPart

@@ -1,10 +1,39 @@
--- A run may be cut into pieces: it goes on from the state that it stopped in.
-use Rattle.sc_image.proofs.Common.{Bool, Ended, Event, EventsOut, Goes, ImageParts, List, None, Option, Outcome, Run}
-use Rattle.sc_image.proofs.Common.{Some, State, StepsOut, Stop, Trap, TrapReason, Traps, after, after_outcome, ap}
-use Rattle.sc_image.proofs.Common.{continued, false, if◌then◌else◌, refl, run, step, stopped, stops_or, subst, suc, sym}
-use Rattle.sc_image.proofs.Common.{true, unless_stopped, zero, zero-add, ℕ, ◌+◌, ◌∙◌, ◌≡◌}
+-- What a step is, runs and stretches of runs, and what stands in memory at the start.
+use Rattle.sc_image.proofs.Common.{BadJump, Bool, CompPart, Ended, Event, EventsOut, Goes, Illegal, ImageInMemory}
+use Rattle.sc_image.proofs.Common.{ImageParts, Instr, IsAt, IsWellFormed, IsWord, List, Memory, None, Option, Outcome}
+use Rattle.sc_image.proofs.Common.{Region, Run, Some, State, StepsByInstruction, StepsOut, Stop, Trap, TrapReason}
+use Rattle.sc_image.proofs.Common.{Traps, Walks, [], after, after_outcome, and_from, ap, are_data, arith, byte_of}
+use Rattle.sc_image.proofs.Common.{code_of, code_start, comp_of_data, continued, data_regions, data_start, decoded}
+use Rattle.sc_image.proofs.Common.{eq-eqb, execute, execute_by, false, flat_map, if◌then◌else◌, is_in, le-leb, le-ltb}
+use Rattle.sc_image.proofs.Common.{length, list_any, little_bytes, load_of, lt-ltb, nat_eq, nat_le, nat_lt, or_left}
+use Rattle.sc_image.proofs.Common.{or_right, refl, run, slice_get, slice_get_within, stack_size, stack_top}
+use Rattle.sc_image.proofs.Common.{start_memory, step, step_by, stopped, stops_or, stretch, subst, suc, suc-add, sym}
+use Rattle.sc_image.proofs.Common.{then_on, true, unless_stopped, walk, word_at, zero, zero-add, ℕ, ◌%◌, ◌*◌, ◌++◌, ◌+◌}
+use Rattle.sc_image.proofs.Common.{◌-◌, ◌/◌, ◌<◌, ◌^◌, ◌∙◌, ◌∷◌, ◌≡◌, ◌≤◌}
 use Rattle.std.proofs.Math.Nat.{suc-add}
 use Rattle.sc_image.proofs.Cases.{AtNext}
+use Rattle.sc_image.proofs.Memory.{data_byte, start_is}
+
+-- an instruction
+pub step_executes : (image : ImageParts) (inputs : List ℕ) (state : State) (word : ℕ) (instr : Instr) →
+    word_at image state.active state.pc ≡ Some word → decoded word ≡ Some instr →
+    step image inputs state ≡ execute image inputs state instr
+unfolding step_by
+step_executes image inputs state word instr at is = rw (at, is) refl
+
+-- a word that is none
+pub step_illegal : (image : ImageParts) (inputs : List ℕ) (state : State) (word : ℕ) →
+    word_at image state.active state.pc ≡ Some word → decoded word ≡ None → step image inputs state ≡ Traps Illegal
+unfolding step_by
+step_illegal image inputs state word at is = rw (at, is) refl
+
+-- no word
+pub step_nowhere : (image : ImageParts) (inputs : List ℕ) (state : State) →
+    word_at image state.active state.pc ≡ None → step image inputs state ≡ Traps BadJump
+unfolding step_by
+step_nowhere image inputs state at = rw at refl
+
+-- A run may be cut into pieces: it goes on from the state that it stopped in.
 
 -- a run that stops before another step doesn't stop for want of steps
 stays_by : (ended full : Bool) (stop : Stop) (earlier later : Run) →
@@ -103,3 +132,179 @@ module _ (image : ImageParts) (inputs : List ℕ) (events : ℕ) (P : State → 
   run_keeps zero state h = stop_keeps (stopped events _) state _ h (λ early. h)
   run_keeps (suc steps) state h = stop_keeps (stopped events _) state _ h
       (λ early. go_keeps state _ _ h (each state h early) (run_keeps steps))
+
+-- Stretches of a run, steps by their instruction, and what stands in memory at the start.
+
+-- Stretches.
+
+pub walk_one : (image : ImageParts) (inputs : List ℕ) (from to : State) → step image inputs from ≡ Goes to →
+    Walks image inputs 1 from to
+walk_one image inputs from to goes = record { by = ap (λ o. then_on o (walk image inputs 0)) goes }
+
+-- the first of some steps
+pub first_step : (later : State → Outcome) (to : State) (outcome : Outcome) → then_on outcome later ≡ Goes to →
+    (next : State) × (outcome ≡ Goes next) × (later next ≡ Goes to)
+first_step later to (Goes next) goes = (next, refl, goes)
+first_step later to (Traps reason) goes = let never = goes in cc never
+
+module _ (image : ImageParts) (inputs : List ℕ) where
+  walk_on : (m n : ℕ) (from middle : State) → walk image inputs m from ≡ Goes middle →
+      walk image inputs (m + n) from ≡ walk image inputs n middle
+  walk_on zero n from middle goes =
+      let same : from ≡ middle = cc goes in ap (λ k. walk image inputs k from) (zero-add n) ∙
+      ap (walk image inputs n) same
+  walk_on (suc m) n from middle goes =
+      let first = first_step (walk image inputs m) middle _ goes in
+      ap (λ k. walk image inputs k from) (suc-add m n) ∙ ap (λ o. then_on o (walk image inputs (m + n))) first.1 ∙
+      walk_on m n first.0 middle first.2
+
+pub walk_together : (image : ImageParts) (inputs : List ℕ) (m n : ℕ) (from middle to : State) →
+    Walks image inputs m from middle → Walks image inputs n middle to → Walks image inputs (m + n) from to
+walk_together image inputs m n from middle to first second =
+    record { by = walk_on image inputs m n from middle first.by ∙ second.by }
+
+-- Steps by their instruction.
+
+module _ (image : ImageParts) (inputs : List ℕ) (state : State) where
+  by_instr : (instr : Instr) → IsAt image state instr → step image inputs state ≡ execute image inputs state instr
+  by_instr instr at = step_executes image inputs state at.word instr at.fetched at.decodes
+
+pub steps_by_instruction : StepsByInstruction
+unfolding execute_by
+steps_by_instruction = record {
+  lui = λ image inputs state rd imm at. by_instr image inputs state _ at;
+  auipc = λ image inputs state rd imm at. by_instr image inputs state _ at;
+  jal = λ image inputs state rd imm target at same. by_instr image inputs state _ at ∙ rw same refl;
+  jalr = λ image inputs state rd rs1 imm target at same. by_instr image inputs state _ at ∙ rw same refl;
+  branch_taken = λ image inputs state op rs1 rs2 imm target at taken same. by_instr image inputs state _ at ∙
+      rw (taken, same) refl;
+  branch_not_taken = λ image inputs state op rs1 rs2 imm at taken. by_instr image inputs state _ at ∙ rw taken refl;
+  loads = λ image inputs state op rd rs1 imm _ at same. by_instr image inputs state _ at ∙ rw same refl;
+  stores = λ image inputs state op rs1 rs2 imm _ at same. by_instr image inputs state _ at ∙ rw same refl;
+  op_imm = λ image inputs state op rd rs1 imm at. by_instr image inputs state _ at;
+  shift = λ image inputs state op rd rs1 amount at. by_instr image inputs state _ at;
+  op = λ image inputs state op rd rs1 rs2 at. by_instr image inputs state _ at;
+  fence = λ image inputs state imm rs1 rd at. by_instr image inputs state _ at;
+  ecall = λ image inputs state at. by_instr image inputs state _ at;
+  ebreak = λ image inputs state at. by_instr image inputs state _ at;
+}
+
+-- Memory at the start.
+
+behind : (before : List ℕ) (word : ℕ) (after : List ℕ) → slice_get (before ++ word ∷ after) (length before) ≡ Some word
+behind [] word after = refl
+behind (x ∷ before) word after = behind before word after
+
+code_placed : (image : ImageParts) (c word : ℕ) (before after : List ℕ) → code_of image c ≡ before ++ word ∷ after →
+    word_at image c (code_start c + 4 * length before) ≡ Some word
+unfolding word_at
+code_placed image c word before after is =
+    let aligned : nat_eq ((code_start c + 4 * length before) % 4) 0 ≡ true = eq-eqb _ _ (omega arith) in
+    let from : nat_le (code_start c) (code_start c + 4 * length before) ≡ true = le-leb _ _ (omega arith) in
+    let place : (code_start c + 4 * length before - code_start c) / 4 ≡ length before = omega arith in
+    rw (aligned, from, place, is) (behind before word after)
+
+module _ (image : ImageParts) (c : ℕ) (comp : CompPart) (found : slice_get image.comps c ≡ Some comp) (offset : ℕ)
+    (within : offset < stretch) where
+  data_placed : start_memory image (data_start c + offset) ≡ data_byte offset comp
+  data_placed =
+      let from : nat_lt (data_start c + offset) (data_start 0) ≡ false = le-ltb _ _ (omega arith) in
+      let number : comp_of_data (data_start c + offset) ≡ c = omega (arith, within) in
+      let place : (data_start c + offset - data_start 0) % stretch ≡ offset = omega (arith, within) in
+      start_is (data_start c + offset) image ∙ rw (from, number, place, found) refl
+
+stack_placed : (image : ImageParts) (c : ℕ) (comp : CompPart) (k : ℕ) → slice_get image.comps c ≡ Some comp →
+    k < stack_size → start_memory image (data_start c + k) ≡ Some 0
+stack_placed image c comp k found below =
+    let low = lt-ltb _ _ below in
+    data_placed image c comp found k (omega (arith, below)) ∙ rw low refl
+
+globals_placed : (image : ImageParts) (c : ℕ) (comp : CompPart) (k : ℕ) → IsWellFormed image →
+    slice_get image.comps c ≡ Some comp → k < length comp.globals →
+    start_memory image (stack_top c + k) ≡ slice_get comp.globals k
+globals_placed image c comp k formed found below =
+    let at : stack_top c + k ≡ data_start c + (stack_size + k) = omega arith in
+    let high : nat_lt (stack_size + k) stack_size ≡ false = le-ltb _ _ (omega arith) in
+    let place : stack_size + k - stack_size ≡ k = omega arith in
+    ap (start_memory image) at ∙ data_placed image c comp found (stack_size + k)
+    (omega (arith, below, (formed.comps c comp found).short_globals)) ∙ rw (high, place) refl
+
+-- The bytes of words, one after the other.
+
+-- the bytes of the first word
+pub first_byte : (word : ℕ) (others : List ℕ) (j : ℕ) → j < 4 →
+    slice_get (little_bytes 4 word ++ others) j ≡ Some (byte_of word j)
+first_byte word others zero within = ap Some (omega arith)
+first_byte word others (suc zero) within = refl
+first_byte word others (suc (suc zero)) within = refl
+first_byte word others (suc (suc (suc zero))) within = refl
+first_byte word others (suc (suc (suc (suc j)))) within = absurd (omega (arith, within))
+
+word_byte : (words : List ℕ) (k j word : ℕ) → j < 4 → slice_get words k ≡ Some word →
+    slice_get (flat_map (little_bytes 4) words) (4 * k + j) ≡ Some (byte_of word j)
+word_byte [] k j word within at = let none = at in cc none
+word_byte (first ∷ words) zero j word within at =
+    let same : first ≡ word = cc at in
+    ap (slice_get (flat_map (little_bytes 4) (first ∷ words))) (zero-add j) ∙
+    first_byte first (flat_map (little_bytes 4) words) j within ∙ ap (λ w. Some (byte_of w j)) same
+word_byte (first ∷ words) (suc k) j word within at =
+    let place : 4 * suc k + j ≡ suc (suc (suc (suc (4 * k + j)))) = omega arith in
+    ap (slice_get (flat_map (little_bytes 4) (first ∷ words))) place ∙ word_byte words k j word within at
+
+-- four bytes are the number that they make
+four_bytes : (word : ℕ) → word < 2 ^ 32 →
+    0 + byte_of word 0 * 256 ^ 0 + byte_of word 1 * 256 ^ 1 + byte_of word 2 * 256 ^ 2 + byte_of word 3 * 256 ^ 3 ≡ word
+four_bytes word below = omega (arith, below)
+
+-- the number that four bytes in memory make
+pub load_is : (memory : Memory) (a word : ℕ) → word < 2 ^ 32 →
+    ((j : ℕ) → j < 4 → memory (a + j) ≡ Some (byte_of word j)) → load_of memory a 4 ≡ word
+load_is memory a word below bytes = rw (
+  bytes 0 (omega arith),
+  bytes 1 (omega arith),
+  bytes 2 (omega arith),
+  bytes 3 (omega arith),
+) (four_bytes word below)
+
+words_placed : (image : ImageParts) (c : ℕ) (comp : CompPart) (words : List ℕ) (k word : ℕ) → IsWellFormed image →
+    slice_get image.comps c ≡ Some comp → comp.globals ≡ flat_map (little_bytes 4) words →
+    slice_get words k ≡ Some word → IsWord word → load_of (start_memory image) (stack_top c + 4 * k) 4 ≡ word
+words_placed image c comp words k word formed found bytes at below =
+    load_is (start_memory image) _ word below (λ j within.
+    let byte : slice_get _ (4 * k + j) ≡ Some (byte_of word j) = rw bytes (word_byte words k j word within at) in
+    let place : stack_top c + 4 * k + j ≡ stack_top c + (4 * k + j) = omega arith in
+    ap (start_memory image) place ∙ globals_placed image c comp _ formed found (slice_get_within _ _ _ byte) ∙ byte)
+
+-- The addresses of a region.
+
+any_in : (regions : List Region) (number address : ℕ) (region : Region) → slice_get regions number ≡ Some region →
+    is_in region address ≡ true → list_any (λ r. is_in r address) regions ≡ true
+any_in [] number address region at within = let none = at in cc none
+any_in (first ∷ regions) zero address region at within =
+    let same : first ≡ region = cc at in
+    or_left (is_in first address) _ (subst (λ r. is_in r address ≡ true) (sym same) within)
+any_in (first ∷ regions) (suc number) address region at within =
+    or_right (is_in first address) _ (any_in regions number _ region at within)
+
+within_region : (region : Region) (address : ℕ) → region.start ≤ address → address + 1 ≤ region.start + region.bytes →
+    is_in region address ≡ true
+within_region region address low high = and_from _ _ (le-leb _ _ low) (lt-ltb _ _ (omega (arith, high)))
+
+owned : (image : ImageParts) (c number address size : ℕ) (region : Region) →
+    slice_get (data_regions image c) number ≡ Some region → region.start ≤ address →
+    address + size ≤ region.start + region.bytes → are_data image c address size ≡ true
+unfolding are_data
+owned image c number address zero region at low high = refl
+owned image c number address (suc size) region at low high =
+    and_from _ _ (owned image c number address size region at low (omega (arith, high)))
+    (any_in (data_regions image c) number (address + size) region at
+    (within_region region _ (omega (arith, low)) (omega (arith, high))))
+
+pub image_in_memory : ImageInMemory
+image_in_memory = record {
+  code = code_placed;
+  stack = stack_placed;
+  globals = globals_placed;
+  global_words = words_placed;
+  owned = owned;
+}

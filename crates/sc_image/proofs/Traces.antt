@@ -1,17 +1,18 @@
--- The trace of a run is one that the image's interfaces allow.
+-- The trace of a run is one that the image's interfaces allow, whatever the types of their scalars.
 use Rattle.sc_image.proofs.Common.{Activation, All, Bool, Call, CompPart, Crossing, End, Ended, Entry, Event, EventsOut}
 use Rattle.sc_image.proofs.Common.{Export, ExportPart, ImageParts, Import, In, Int, Interfaces, IsChain, IsSteady}
-use Rattle.sc_image.proofs.Common.{IsWellFormed, IsWord, List, Main, Memory, None, Option, Proto, Some, Standing, State}
-use Rattle.sc_image.proofs.Common.{TracesAreLegal, [], a0, and_from, and_parts, ap, arguments, arith, at_start, awaits}
-use Rattle.sc_image.proofs.Common.{comp_at, eq-eqb, export_at, exports_of, false, fits_result, given_back, has_result}
-use Rattle.sc_image.proofs.Common.{if◌then◌else◌, import_of, imports, inl, inr, interface_of, interfaces_of, is_allowed}
-use Rattle.sc_image.proofs.Common.{is_end, is_ended, is_function, is_input, is_legal_from, is_output, is_there, length}
-use Rattle.sc_image.proofs.Common.{length-append, length-replicate, list_any, list_any-append, machine, map, may_call}
-use Rattle.sc_image.proofs.Common.{may_input, may_output, may_return, option_and_then, option_map, option_map_or}
-use Rattle.sc_image.proofs.Common.{or_right, params_of, position, position-Some, proto_of, refl, reg, resumed, returned}
-use Rattle.sc_image.proofs.Common.{run, slice_get, slice_get-map, stands_after, stands_behind, start, step, stopped}
-use Rattle.sc_image.proofs.Common.{subst, sym, takes, true, true≢false, ℕ, ◌&&◌, ◌++◌, ◌-◌, ◌<◌, ◌==◌, ◌||◌, ◌∙◌, ◌∷◌}
-use Rattle.sc_image.proofs.Common.{◌≡◌, ◌⊎◌}
+use Rattle.sc_image.proofs.Common.{IsWellFormed, IsWord, LegalByWords, List, Main, Memory, None, Option, Out, Proto}
+use Rattle.sc_image.proofs.Common.{Ret, Some, Standing, State, TracesAreLegal, [], a0, and_from, and_parts, ap, ap₂}
+use Rattle.sc_image.proofs.Common.{arguments, arith, at_start, awaits, eq-eqb, exports_of, false, fits_result}
+use Rattle.sc_image.proofs.Common.{given_back, has_result, if◌then◌else◌, import_of, imports, inl, inr, interface_of}
+use Rattle.sc_image.proofs.Common.{interfaces_of, is_allowed, is_end, is_ended, is_function, is_input, is_legal_from}
+use Rattle.sc_image.proofs.Common.{is_output, is_there, length, length-append, length-map, length-replicate, list_any}
+use Rattle.sc_image.proofs.Common.{list_any-append, machine, map, may_call, may_input, may_output, may_perform}
+use Rattle.sc_image.proofs.Common.{may_return, option_and_then, option_map, option_map_or, or_right, params_of}
+use Rattle.sc_image.proofs.Common.{performer, position, position-Some, proto_of, refl, reg, resumed, returned, run}
+use Rattle.sc_image.proofs.Common.{slice_get, slice_get-map, stands_after, stands_behind, start, step, stopped, subst}
+use Rattle.sc_image.proofs.Common.{sym, takes, true, true≢false, word_interface, word_interfaces, word_proto, ℕ, ◌&&◌}
+use Rattle.sc_image.proofs.Common.{◌++◌, ◌-◌, ◌<◌, ◌==◌, ◌||◌, ◌∙◌, ◌∷◌, ◌≡◌, ◌⊎◌}
 use Rattle.sc_event.specs.declared.interface.Import.TheVariants.{Input, Output}
 use Rattle.sc_event.specs.Lookup as lookup
 use Rattle.sc_event.specs.Legal as law
@@ -20,6 +21,9 @@ use Rattle.sc_image.proofs.Words.{comp_found, no_export}
 use Rattle.sc_image.proofs.Running.{run_keeps}
 use Rattle.sc_image.proofs.Enters.{few_params, length-arguments}
 use Rattle.sc_image.proofs.Reached.{steady_start, steady_step}
+use Rattle.sc_event.specs.Prelude.{comp_at, export_at}
+use Rattle.sc_event.specs.declared.interface.Interface.{Interface}
+use Rattle.sc_event.specs.declared.interface.Scalar.{Scalar}
 
 -- One more event.
 
@@ -274,3 +278,70 @@ told_legal image state (inr over) = over.legal
 pub all_traces_legal : TracesAreLegal
 all_traces_legal image inputs steps events formed all = told_legal image (machine image inputs steps events).state
     (told_run image inputs formed all events steps _ (told_start image formed))
+
+-- Legal traces don't depend on the types of scalars.
+
+or_of_map : {A B C : Type 0} (f : A → B) (g : B → C) (h : A → C) (default : C) → ((x : A) → g (f x) ≡ h x) →
+    (found : Option A) → option_map_or g (option_map f found) default ≡ option_map_or h found default
+or_of_map f g h default same None = refl
+or_of_map f g h default same (Some x) = same x
+
+module _ (interfaces : Interfaces) where
+  same_comp : (comp : ℕ) →
+      comp_at (word_interfaces interfaces) comp ≡ option_map word_interface (comp_at interfaces comp)
+  same_comp comp = slice_get-map _ _ comp
+
+  same_imports : (comp : ℕ) (is_it : Import → Bool) →
+      imports (word_interfaces interfaces) comp is_it ≡ imports interfaces comp is_it
+  same_imports comp is_it = ap (λ found. list_any is_it (option_map_or (λ i. i.imports) found [])) (same_comp comp) ∙
+      ap (list_any is_it) (or_of_map word_interface _ (λ i. i.imports) [] (λ i. refl) (comp_at interfaces comp))
+
+  export_by : (index : ℕ) (found : Option Interface) →
+      option_and_then (λ (i : Interface). slice_get i.exports index) (option_map word_interface found) ≡
+      option_map word_proto (option_and_then (λ (i : Interface). slice_get i.exports index) found)
+  export_by index None = refl
+  export_by index (Some i) = slice_get-map _ _ index
+
+  same_export : (comp index : ℕ) →
+      export_at (word_interfaces interfaces) comp index ≡ option_map word_proto (export_at interfaces comp index)
+  same_export comp index =
+      ap (λ found. option_and_then (λ i. slice_get i.exports index) found) (same_comp comp) ∙ export_by index _
+
+  same_takes : (comp index count : ℕ) →
+      takes (word_interfaces interfaces) comp index count ≡ takes interfaces comp index count
+  same_takes comp index count = ap (λ found. option_map_or (λ p. length p.params == count) found false)
+      (same_export comp index) ∙ or_of_map word_proto (λ p. length p.params == count) (λ p. length p.params == count)
+      false (λ p. ap (λ n. n == count) (length-map p.params _)) _
+
+  fits_by : (result : Option Scalar) (value : Option ℕ) →
+      fits_result (option_map (λ r. Int) result) value ≡ fits_result result value
+  fits_by None value = refl
+  fits_by (Some type) None = refl
+  fits_by (Some type) (Some word) = refl
+
+  same_return : (comp : ℕ) (entry : Entry) (value : Option ℕ) →
+      may_return (word_interfaces interfaces) comp entry value ≡ may_return interfaces comp entry value
+  same_return comp Main value = refl
+  same_return comp (Export index) value = ap (λ found. option_map_or (λ p. fits_result p.result value) found false)
+      (same_export comp index) ∙ or_of_map word_proto (λ p. fits_result p.result value)
+      (λ p. fits_result p.result value) false (λ p. fits_by p.result value) _
+
+  -- events
+
+  same_event : (at : Standing) (event : Event) →
+      may_perform (word_interfaces interfaces) at event ≡ may_perform interfaces at event
+  same_event at (Call from to index args) = ap₂ (λ x y. x && y) (same_imports from _) (same_takes to index _)
+  same_event at (Ret from to value) = ap (λ x. awaits at.waiting to && x) (same_return from _ value)
+  same_event at (Out comp value) = same_imports comp _
+  same_event at (In comp value) = same_imports comp _
+  same_event at (End comp value) = refl
+
+  same_from : (at : Option Standing) (trace : List Event) →
+      is_legal_from (word_interfaces interfaces) at trace ≡ is_legal_from interfaces at trace
+  same_from at [] = refl
+  same_from None (event ∷ later) = refl
+  same_from (Some at) (event ∷ later) = ap₂ (λ x y. (performer event == at.active.comp && x) && y) (same_event at event)
+      (same_from (stands_after at event) later)
+
+pub legal_by_words : LegalByWords
+legal_by_words interfaces trace = same_from interfaces _ trace

@@ -6,33 +6,39 @@ ghost use Rattle.sc_image.specs.Prelude.{LeavesOthers, LegalByWords, RunsAreStea
 ghost use Rattle.sc_image.specs.Prelude.{StretchesCompose, TellingComposes, TracesAreLegal};
 
 /// Bytes are those of one image at most.
+#[tactic(auto, using(crate::proofs::Whole::one_image_each))]
 pub fn one_image()
     ensures { BytesNameOneImage }
 {}
 
 /// Bytes are bad, for one cause, or they are those of an image.
+#[tactic(auto, using(crate::proofs::Whole::bad_or_image_each))]
 pub fn bad_or_image()
     ensures { BadOrImage }
 {}
 
 /// A run's trace is one that the image's interfaces allow.
+#[tactic(auto, using(crate::proofs::Traces::all_traces_legal))]
 pub fn traces_are_legal()
     ensures { TracesAreLegal }
 {}
 
 /// Which traces are legal doesn't look at the types of scalars.
+#[tactic(auto, using(crate::proofs::Traces::legal_by_words))]
 pub fn legal_by_words()
     ensures { LegalByWords }
 {}
 
 /// A run starts in a steady state, and a step from a steady state leads to one. The laws below hold
 /// of all steady states, and so of all that a run reaches.
+#[tactic(auto, using(crate::proofs::Reached::runs_are_steady))]
 pub fn runs_are_steady()
     ensures { RunsAreSteady }
 {}
 
 /// A step leaves what belongs to every compartment but the active one, unless its event is a call
 /// or a return that makes that one active.
+#[tactic(auto, using(crate::proofs::Isolation::leaves_others))]
 pub fn leaves_others()
     ensures { LeavesOthers }
 {}
@@ -45,31 +51,37 @@ pub fn follows_from_own()
 
 /// What belongs to a compartment that a call or a return makes active follows from what belonged to
 /// it before and from that event.
+#[tactic(auto, using(crate::proofs::Enters::enters_by_event))]
 pub fn enters_by_event()
     ensures { EntersByEvent }
 {}
 
 /// Stretches of a run follow one another, and a run goes along them.
+#[tactic(auto, using(crate::proofs::Stretches::stretches_compose))]
 pub fn stretches_compose()
     ensures { StretchesCompose }
 {}
 
 /// What a step is, by the instruction at the pc.
+#[tactic(auto, using(crate::proofs::Running::steps_by_instruction))]
 pub fn steps_by_instruction()
     ensures { StepsByInstruction }
 {}
 
 /// Stretches that tell events follow one another, and a run goes along them with the trace that they tell.
+#[tactic(auto, using(crate::proofs::Stretches::telling_composes))]
 pub fn telling_composes()
     ensures { TellingComposes }
 {}
 
 /// What a call, a return, an output, an input and the end of a run tell, by the instruction at the pc.
+#[tactic(auto, using(crate::proofs::Stretches::steps_tell))]
 pub fn steps_tell()
     ensures { StepsTell }
 {}
 
 /// Where an image's words of code and bytes of data stand at the start.
+#[tactic(auto, using(crate::proofs::Running::image_in_memory))]
 pub fn image_in_memory()
     ensures { ImageInMemory }
 {}

@@ -111,7 +111,7 @@ fn append_globals(text: &mut Text, globals: &[u8]) -> Result<(), OutOfMemory>
 }
 
 // The name, after its length.
-#[tactic(auto, using(crate::proofs::Fits::short_name))]
+#[tactic(auto, using(sc_base::proofs::Filled::name_is_short))]
 fn append_name(text: &mut Text, name: &Name) -> Result<(), OutOfMemory>
     ensures { OnOk result (text.new ≡ text.old ++ name_bytes name.now) }
 {

@@ -3,8 +3,8 @@ use Rattle.sc_linker.proofs.Common.{CompPart, ImageParts, List, Some, [], ap, ar
 use Rattle.sc_linker.proofs.Common.{false, flat_map, le-ltb, length, little_bytes, load_of, most_globals, nat_lt, refl}
 use Rattle.sc_linker.proofs.Common.{slice_get, slice_get_within, stack_size, stack_top, start_memory, stretch, suc}
 use Rattle.sc_linker.proofs.Common.{zero, ℕ, ◌%◌, ◌*◌, ◌+◌, ◌-◌, ◌<◌, ◌^◌, ◌∙◌, ◌∷◌, ◌≡◌, ◌≤◌}
-use Rattle.sc_image.proofs.AtStart.{start_is}
-use Rattle.sc_image.proofs.Walking.{first_byte, load_is}
+use Rattle.sc_image.proofs.Memory.{start_is}
+use Rattle.sc_image.proofs.Running.{first_byte, load_is}
 
 -- THE BYTES OF WORDS
 

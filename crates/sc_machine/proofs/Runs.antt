@@ -1,8 +1,8 @@
--- Runs, step by step and call by call.
-use Rattle.sc_machine.proofs.Common.{Goes, ImageParts, List, None, Option, Run, Some, State, TrapReason, Traps, []}
-use Rattle.sc_machine.proofs.Common.{add-zero, add_assoc, ap, continued, fold, length, machine, refl, run, run_goes}
-use Rattle.sc_machine.proofs.Common.{run_more, run_traps, step, stopped, stops_or, suc, sum, sym, unwrap_or, ℕ, ◌+◌}
-use Rattle.sc_machine.proofs.Common.{◌<◌, ◌∙◌, ◌∷◌, ◌≡◌}
+-- Runs, step by step and call by call, and instructions that answer whether they were executed.
+use Rattle.sc_machine.proofs.Common.{Bool, Err, Goes, ImageParts, IsTrue, List, None, Ok, Option, Outcome, Result, Run}
+use Rattle.sc_machine.proofs.Common.{Some, State, TrapReason, Traps, [], add-zero, add_assoc, ap, continued, false≢true}
+use Rattle.sc_machine.proofs.Common.{fold, is_ok, length, machine, outcome_of, refl, run, run_goes, run_more, run_traps}
+use Rattle.sc_machine.proofs.Common.{step, stopped, stops_or, suc, sum, sym, unwrap_or, ℕ, ◌+◌, ◌<◌, ◌∙◌, ◌∷◌, ◌≡◌}
 use Rattle.sc_event.specs.declared.event.Event.{Event}
 use Rattle.sc_base.specs.declared.stop.Stop.{Stop}
 use Rattle.std.proofs.lemmas.List.Sums.{sum_by-cons}
@@ -52,3 +52,10 @@ module _ (image : ImageParts) (inputs : List ℕ) (events : ℕ) (state : State)
 pub any_calls : (image : ImageParts) (inputs : List ℕ) (events first : ℕ) (more : List ℕ) →
     calls image inputs events (first ∷ more) ≡ machine image inputs (first + sum more) events
 any_calls image inputs events first more = later_calls image inputs events _ first more
+
+-- Instructions that answer whether they were executed, and what the hart is after them.
+
+pub goes_if : {A : Type 0} (result : Result A TrapReason) (went : Bool) (state : State) (outcome : Outcome) →
+    went ≡ is_ok result → outcome_of result state ≡ outcome → IsTrue went → Goes state ≡ outcome
+goes_if (Ok _) went state outcome is same sure = same
+goes_if (Err reason) went state outcome is same sure = absurd (false≢true (sym is ∙ sure))

@@ -5,11 +5,13 @@ use Rattle.sc_machine.proofs.Common.{Memory, None, Option, Region, Some, [], all
 use Rattle.sc_machine.proofs.Common.{cases_lt, data_start, data_with, false, filled_with, get_or, get_or_past}
 use Rattle.sc_machine.proofs.Common.{if◌then◌else◌, is_in, length, lt-ltb, most_globals, nat_le, nat_lt, refl}
 use Rattle.sc_machine.proofs.Common.{regions_of, slice_get, slice_get-get_or, slice_index, stack_size, stack_top}
-use Rattle.sc_machine.proofs.Common.{stack_tops, start_is, start_memory, stored, stretch, subst, suc, sym, take, true}
-use Rattle.sc_machine.proofs.Common.{written, written-apart, written-in, written-stored, written_nothing, zero, zeros}
-use Rattle.sc_machine.proofs.Common.{ℕ, ⊎_elim, ◌&&◌, ◌++◌, ◌+◌, ◌-◌, ◌<◌, ◌^◌, ◌∙◌, ◌∷◌, ◌≡◌, ◌≤◌}
+use Rattle.sc_machine.proofs.Common.{stack_tops, start_is, start_memory, stored, stretch, suc, sym, take, true, written}
+use Rattle.sc_machine.proofs.Common.{written-apart, written-in, written-stored, written_nothing, zero, zeros, ℕ, ⊎_elim}
+use Rattle.sc_machine.proofs.Common.{◌&&◌, ◌++◌, ◌+◌, ◌-◌, ◌<◌, ◌^◌, ◌∙◌, ◌∷◌, ◌≡◌, ◌≤◌}
+use Rattle.std.proofs.Common.{append_assoc}
+use Rattle.std.proofs.lemmas.List.{map-append}
 use Rattle.std.specs.Option.{option_and_then}
-use Rattle.sc_store.proofs.Regions.{in_true, in_false, in_cases}
+use Rattle.sc_store.proofs.Words.{in_true, in_false, in_cases}
 
 -- One byte.
 
@@ -148,29 +150,21 @@ filled_is (filled ∷ others) low a order within = ⊎_elim (λ inside. kept_bel
 
 -- So far of the compartments: one more of them.
 
--- its regions
-regions_more : (comps : List CompPart) (c i n : ℕ) (comp : CompPart) → n ≡ c + i → slice_get comps i ≡ Some comp →
-    regions_of (all_data c (take (suc i) comps)) ≡
-    (regions_of (all_data c (take i comps)) ++ (stack comp n).region ∷ []) ++ (globals comp n).region ∷ []
-regions_more [] c i n comp place is = let never = is in cc never
-regions_more (x ∷ xs) c zero n comp place is =
+-- its data behind those before
+data_more : (comps : List CompPart) (c i n : ℕ) (comp : CompPart) → n ≡ c + i → slice_get comps i ≡ Some comp →
+    all_data c (take (suc i) comps) ≡ all_data c (take i comps) ++ stack comp n ∷ globals comp n ∷ []
+data_more [] c i n comp place is = let never = is in cc never
+data_more (x ∷ xs) c zero n comp place is =
     let first : c ≡ n = omega arith in
     let same : x ≡ comp = cc is in
-    ap₂ (λ k (y : CompPart). (stack y k).region ∷ (globals y k).region ∷ []) first same
-regions_more (x ∷ xs) c (suc i) n comp place is =
-    ap (λ rest. (stack x c).region ∷ (globals x c).region ∷ rest) (regions_more xs _ i n comp (omega arith) is)
+    ap₂ (λ k (y : CompPart). stack y k ∷ globals y k ∷ []) first same
+data_more (x ∷ xs) c (suc i) n comp place is =
+    ap (λ rest. stack x c ∷ globals x c ∷ rest) (data_more xs _ i n comp (omega arith) is)
 
--- its bytes
-filled_more : (comps : List CompPart) (c i n : ℕ) (m : Memory) (comp : CompPart) → n ≡ c + i →
-    slice_get comps i ≡ Some comp → filled_with (all_data c (take (suc i) comps)) m ≡ written
-    (filled_with (all_data c (take i comps)) m) (stack_top n) comp.globals
-filled_more [] c i n m comp place is = let never = is in cc never
-filled_more (x ∷ xs) c zero n m comp place is =
-    let first : c ≡ n = omega arith in
-    let same : x ≡ comp = cc is in
-    ap (λ k. written k (stack_top c) x.globals) (written_nothing m (data_start c)) ∙
-    ap₂ (λ k (y : CompPart). written m (stack_top k) y.globals) first same
-filled_more (x ∷ xs) c (suc i) n m comp place is = filled_more xs _ i n _ comp (omega arith) is
+filled_with_both : (all others : List Filled) (m : Memory) →
+    filled_with (all ++ others) m ≡ filled_with others (filled_with all m)
+filled_with_both [] others m = refl
+filled_with_both (filled ∷ all) others m = filled_with_both all others _
 
 -- there is memory for them
 some_by : (test : Bool) (x : ℕ) (o : Option ℕ) → IsSome o → IsSome (if test then Some x else o)
@@ -210,7 +204,9 @@ pub next_regions : (comps : List CompPart) (i : ℕ) (comp : CompPart) (regions 
     (regions ++ first ∷ []) ++ second ∷ [] ≡ regions_of (all_data 0 (take (i + 1) comps))
 next_regions comps i comp regions first second h item so_far one two =
     let more : i + 1 ≡ suc i = omega arith in
-    rw (so_far, one, two, more) (sym (regions_more comps 0 i i comp (omega arith) (item_there comps i comp h item)))
+    append_assoc regions (first ∷ []) (second ∷ []) ∙ rw (so_far, one, two, more)
+    (sym (ap regions_of (data_more comps 0 i i comp (omega arith) (item_there comps i comp h item)) ∙
+    map-append _ (all_data 0 (take i comps)) _))
 
 pub next_top : (comps : List CompPart) (i : ℕ) (tops : List ℕ) (top : ℕ) → i < length comps →
     tops ≡ stack_tops 0 (take i comps) → top ≡ stack_top i → tops ++ top ∷ [] ≡ stack_tops 0 (take (i + 1) comps)
@@ -228,8 +224,10 @@ module _ (comps : List CompPart) (i : ℕ) (comp : CompPart) (h : i < length com
       next ≡ filled_with (all_data 0 (take (i + 1) comps)) first
   next_filled next is =
       let more : i + 1 ≡ suc i = omega arith in
-      is ∙ rw (so_far, at, are, more)
-      (sym (filled_more comps 0 i i first comp (omega arith) (item_there comps i comp h item)))
+      is ∙ rw (so_far, at, are, more) (sym (ap (λ all. filled_with all first)
+      (data_more comps 0 i i comp (omega arith) (item_there comps i comp h item)) ∙
+      filled_with_both (all_data 0 (take i comps)) _ first ∙
+      ap (λ m. written m (stack_top i) comp.globals) (written_nothing _ (data_start i))))
 
 -- All together are the memory of the start.
 

@@ -97,6 +97,7 @@ impl<'a> Here<'a> {
 
     /// The word of the compartment's code at an address, if the address is that of a whole word of
     /// it.
+    #[tactic(auto, using(crate::proofs::Words::misaligned, crate::proofs::Words::looked_word))]
     pub fn word_at(&self, address: u32) -> Option<u32>
         ensures word { result ≡ word_at self.now.image self.now.comp address }
         ensures within { OnSome result (address + 4 < 2 ^ 32) }
@@ -122,6 +123,7 @@ impl<'a> Here<'a> {
     }
 
     /// Whether so many bytes from an address on all lie in the compartment's stack and globals.
+    #[tactic(auto, using(crate::proofs::Words::looked_data, crate::proofs::Words::looked_there))]
     pub fn are_data(&self, address: u32, size: u32) -> bool
         requires some { 0 < size }
         requires few { size ≤ 4 }
@@ -147,6 +149,7 @@ fn place_of(callees: &[Callee], entry: u32) -> Option<usize>
 }
 
 /// The compartment's instructions, one word each.
+#[tactic(auto, using(crate::proofs::Words::short_code))]
 fn code(image: &Image, comp: CompId) -> &[u32]
     ensures code { result.now ≡ code_of image.now comp }
     ensures short { 4 * length result.now ≤ stretch }
@@ -158,6 +161,7 @@ fn code(image: &Image, comp: CompId) -> &[u32]
 }
 
 /// What the compartment's globals hold at the start.
+#[tactic(auto, using(crate::proofs::Words::short_globals))]
 fn globals(image: &Image, comp: CompId) -> &[u8]
     ensures globals { result.now ≡ globals_of image.now comp }
     ensures short { length result.now ≤ most_globals }

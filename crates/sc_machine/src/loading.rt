@@ -41,6 +41,7 @@ pub(crate) fn start(alloc: Global, image: &Image, events: u32) -> Result<Hart, O
 }
 
 /// The tops of all stacks.
+#[tactic(auto, using(crate::proofs::Start::next_top))]
 fn stack_tops(alloc: Global, comps: &[CompPart]) -> Result<Vec<u32>, AllocError>
     requires { length comps.now ≤ 32 }
     ensures { IfOk result (λ tops. tops.items ≡ stack_tops 0 comps.now) }
@@ -64,6 +65,7 @@ pub(crate) fn start_memory<S: Store>(alloc: Global, image: &Image) -> Result<S, 
 }
 
 /// The regions of each compartment's data: its stack and its globals.
+#[tactic(auto, using(crate::proofs::Start::next_regions))]
 fn regions(alloc: Global, comps: &[CompPart]) -> Result<Vec<Region>, AllocError>
     requires count { length comps.now ≤ 32 }
     requires few { All HasFewGlobals comps.now }

@@ -63,6 +63,7 @@ impl Program {
 }
 
 /// What each compartment may call.
+#[tactic(auto, using(crate::proofs::Callees::callees_more))]
 fn all_callees(alloc: Global, image: &Image) -> Result<Vec<Callees>, AllocError>
     ensures { IfOk result (λ all. AreCallees image.now 0 all.items) }
 {

@@ -29,7 +29,7 @@ pub use Rattle.sc_laws.proofs.Growing.{turn_goes}
 pub use Rattle.sc_laws.specs.Prelude.{AllBefore, Goes, Grown, last, open_room, room_after}
 pub use Rattle.rv_code.specs.declared.instr.Instr.{Instr}
 pub use Rattle.sc_store.specs.Prelude.{Memory}
-pub use Rattle.sc_image.proofs.Bytes.{few_globals}
+pub use Rattle.sc_image.proofs.Memory.{few_globals}
 pub use Rattle.sc_image.specs.Prelude.{IsWellFormed, IsWord, Traps, Walks, data_start, stack_size, stack_top, step}
 pub use Rattle.sc_image.specs.Prelude.{word_at}
 pub use Rattle.sc_hart.proofs.Inside.{IsInside, code_inside}

@@ -8,8 +8,8 @@ use Rattle.sc_store.specs.Prelude.{Memory as Bytes, stored}
 use Rattle.sc_image.specs.Prelude.{State, called, export_at, may_call}
 use Rattle.sc_base.specs.declared.stop.TrapReason.{TrapReason}
 use Rattle.sc_store.proofs.Words.{load_of-same, stored-apart}
-use Rattle.sc_image.proofs.Data.{within_data}
-use Rattle.sc_image.proofs.Others.{apart}
+use Rattle.sc_image.proofs.Memory.{within_data}
+use Rattle.sc_image.proofs.Isolation.{apart}
 
 -- MEMORY
 

@@ -1,15 +1,19 @@
--- Where the bytes of the parts stand, and what a write to one part leaves of all.
+-- Where the bytes of the parts stand, what a write or a copy makes of them, and accesses byte by byte.
 use Rattle.sc_store.proofs.Common.{All, AreApart, Bool, HasBytes, HoldsBytes, IsIn, IsSome, IsZero, List, Memory, None}
-use Rattle.sc_store.proofs.Common.{Option, Region, Some, [], ap, arith, bytes_of, cases_lt, cond, fails_before_first}
-use Rattle.sc_store.proofs.Common.{false, get_or, get_or-set_same, is_some, length, length-set, lt-ltb, nat_le, nat_lt}
-use Rattle.sc_store.proofs.Common.{nat_tests, option_or, piece_of, position, position_or_len, refl, region_of}
-use Rattle.sc_store.proofs.Common.{regions_of, same_Some, set, spans, subst, suc, sym, true, written, zero, zeros, ℕ}
-use Rattle.sc_store.proofs.Common.{⊎_elim, ◌&&◌, ◌+◌, ◌-◌, ◌<◌, ◌↔◌, ◌∙◌, ◌∷◌, ◌≡◌, ◌≤◌}
+use Rattle.sc_store.proofs.Common.{Option, Region, Some, [], ap, arith, byte_of, bytes_of, cases_eq, cases_lt, cond}
+use Rattle.sc_store.proofs.Common.{drop, fails_before_first, false, get_or, get_or-append_right, get_or-drop}
+use Rattle.sc_store.proofs.Common.{get_or-set_same, get_or-take, get_or_append_left, is_some, length, length-append}
+use Rattle.sc_store.proofs.Common.{length-drop, length-set, length-take-le, lt-ltb, nat_le, nat_lt, nat_tests}
+use Rattle.sc_store.proofs.Common.{option_or, piece_of, position, position_or_len, put_mid, refl, region_of, regions_of}
+use Rattle.sc_store.proofs.Common.{same_Some, set, spans, stored, subst, suc, sym, take, take_at, true, written, zero}
+use Rattle.sc_store.proofs.Common.{zeros, ℕ, ⊎_elim, ◌&&◌, ◌++◌, ◌+◌, ◌-◌, ◌<◌, ◌↔◌, ◌∙◌, ◌∷◌, ◌≡◌, ◌≤◌}
 use Rattle.std.proofs.lemmas.List.Quantifiers.{position-Some}
 use Rattle.std.proofs.Math.Seq.{map-set_same}
 use Rattle.sc_store.specs.declared.part.Part.{Part}
-use Rattle.sc_store.proofs.Regions.{by_access, head_apart, in_cases, in_false, in_true, tail_apart}
+use Rattle.sc_store.proofs.Words.{by_access, head_apart, in_cases, in_false, in_true, tail_apart, stored-in}
+use Rattle.sc_store.proofs.Words.{stored-apart}
 use Rattle.sc_base.proofs.Bools.{some_value}
+use Rattle.std.specs.Int.{w32, to_le_bytes}
 
 -- ---- a part that has the addresses of an access
 spans_in : (a n b : ℕ) (p : Part) → spans a n p ≡ true → a ≤ b → b < a + n → IsIn (region_of p) b
@@ -208,3 +212,137 @@ one_fits x h (suc k) = omega arith
 
 pub byte_holds : (m : Memory) (a x : ℕ) → IsSome (m a) → x < 256 → HoldsBytes m → HoldsBytes (written m a (x ∷ []))
 byte_holds m a x some h holds = written_holds m a (x ∷ []) (one_there m a some) (one_fits x h) holds
+
+-- What a copy into the bytes of a part makes of its memory.
+
+length-put_mid : (o k : ℕ) (xs ys : List ℕ) → o + k ≤ length xs → length ys ≡ k → length (put_mid o k xs ys) ≡ length xs
+length-put_mid o k xs ys h e =
+    omega (
+      arith,
+      length-append (take o xs) (ys ++ drop k (drop o xs)),
+      length-append ys (drop k (drop o xs)),
+      length-take-le o xs (omega arith),
+      length-drop k (drop o xs),
+      length-drop o xs,
+    )
+
+pub before : (o k j : ℕ) (xs ys : List ℕ) → o + k ≤ length xs → j < o → get_or (put_mid o k xs ys) j 0 ≡ get_or xs j 0
+before o k j xs ys h l =
+    let n = length-take-le o xs (omega arith) in
+    get_or_append_left _ (ys ++ drop k _) 0 j (omega arith) ∙ get_or-take o xs j 0 l
+
+pub within : (o k j : ℕ) (xs ys : List ℕ) → o + k ≤ length xs → length ys ≡ k → o ≤ j → j < o + k →
+    get_or (put_mid o k xs ys) j 0 ≡ get_or ys (j - o) 0
+within o k j xs ys h e low high =
+    get_or-append_right _ _ o j 0 (length-take-le o xs (omega arith)) low ∙ get_or_append_left ys _ 0 _ (omega arith)
+
+pub after : (o k j : ℕ) (xs ys : List ℕ) → o + k ≤ length xs → length ys ≡ k → o + k ≤ j →
+    get_or (put_mid o k xs ys) j 0 ≡ get_or xs j 0
+after o k j xs ys h e high = get_or-append_right _ _ o j 0 (length-take-le o xs (omega arith)) (omega arith)
+    ∙ get_or-append_right ys _ k _ 0 e (omega arith) ∙ get_or-drop k _ _ 0 ∙ get_or-drop o xs _ 0
+    ∙ ap (λ i. get_or xs i 0) (let i : o + (k + (j - o - k)) ≡ j = omega arith in i)
+
+-- at one address
+copied : (s a : ℕ) (xs bs : List ℕ) → s ≤ a → a + length bs ≤ s + length xs → (b : ℕ) →
+    written (λ _. None) s (put_mid (a - s) (length bs) xs bs) b ≡ written (written (λ _. None) s xs) a bs b
+copied s a xs bs low high b =
+    let n : length (put_mid _ _ xs bs) ≡ length xs = length-put_mid (a - s) _ xs bs (omega arith) refl in
+    let new = put_mid (a - s) (length bs) xs bs in
+    let off : Memory = λ _. None in
+    let kept : (a ≤ b → b < a + length bs → ⊥) → written (written off s xs) a bs b ≡ written off s xs b =
+    written-apart (written off s xs) a bs b in
+    by_access s (length xs) b (λ out. written-apart off s new b (λ l u. out l (omega arith)) ∙
+    sym (kept (λ l u. out (omega arith) (omega arith)) ∙ written-apart off s xs b out)) (λ from inside.
+    written-in off s new b from (omega arith) ∙ ⊎_elim
+    (λ front. ap Some (before (a - s) _ (b - s) xs bs (omega arith) (omega arith)) ∙
+    sym (kept (λ l u. omega arith) ∙ written-in off s xs b from inside))
+    (λ later. ⊎_elim (λ here. ap Some (within _ _ _ xs bs (omega arith) refl (omega arith) (omega arith) ∙
+    ap (λ i. get_or bs i 0) (let i : b - s - (a - s) ≡ b - a = omega arith in i)) ∙
+    sym (written-in (written off s xs) a bs b later here))
+    (λ past. ap Some (after _ _ _ xs bs (omega arith) refl (omega arith)) ∙
+    sym (kept (λ l u. omega arith) ∙ written-in off s xs b from inside)) (cases_lt b _)) (cases_lt b a))
+
+-- the vector's elements after the copy, as the check writes them
+pub copied_piece : (s a len k : ℕ) (xs held ys bs : List ℕ) → len ≡ length xs → held ≡ xs → ys ≡ bs → k ≡ length bs →
+    s ≤ a → a + length bs ≤ s + length xs → written (λ _. None) s
+    (take len (put_mid (a - s) k held ys ++ drop (length (put_mid (a - s) k held ys)) xs)) ≡
+    written (written (λ _. None) s xs) a bs
+copied_piece s a len k xs held ys bs n same e count low high = ap
+    (λ h. written (λ _. None) s (take len (put_mid (a - s) k h ys ++ drop (length (put_mid (a - s) k h ys)) xs))) same ∙
+    ap (λ z. written (λ _. None) s (take len (put_mid (a - s) k xs z ++ drop (length (put_mid (a - s) k xs z)) xs))) e ∙
+    ap (λ z. written (λ _. None) s (take len (put_mid (a - s) z xs bs ++ drop (length (put_mid (a - s) z xs bs)) xs)))
+    count ∙ ap (λ z. written (λ _. None) s z) (take_at _ _ len (length-put_mid _ _ xs bs (omega arith) refl ∙ sym n)) ∙
+    (λ i b. copied s a xs bs low high b i)
+
+-- Accesses byte by byte, and the numbers that their bytes make.
+
+-- ---- one byte after another
+nothing_at : (m : Memory) (a b : ℕ) → written m a [] b ≡ m b
+nothing_at m a b = written-apart m a [] b (λ l u. omega arith)
+
+pub written_nothing : (m : Memory) (a : ℕ) → written m a [] ≡ m
+written_nothing m a = λ k b. nothing_at m a b k
+
+more_at : (m : Memory) (a : ℕ) (bs : List ℕ) (k : ℕ) → k < length bs → (b : ℕ) →
+    written (written m a (take k bs)) (a + k) (get_or bs k 0 ∷ []) b ≡ written m a (take (k + 1) bs) b
+more_at m a bs k h b =
+    let front : length (take k bs) ≡ k = length-take-le k bs (omega arith) in
+    let more : length (take (k + 1) bs) ≡ k + 1 = length-take-le (k + 1) bs (omega arith) in
+    ⊎_elim (λ low. written-apart (written m a (take k bs)) (a + k) (get_or bs k 0 ∷ []) b (λ l u. omega arith) ∙ ⊎_elim
+    (λ before. written-apart m a (take k bs) b (λ l u. omega arith) ∙
+    sym (written-apart m a (take (k + 1) bs) b (λ l u. omega arith))) (λ from.
+    written-in m a (take k bs) b from (omega arith)
+    ∙ ap Some (get_or-take k bs (b - a) 0 (omega arith) ∙ sym (get_or-take (k + 1) bs (b - a) 0 (omega arith)))
+    ∙ sym (written-in m a (take _ bs) b from (omega arith))) (cases_lt b a)) (λ high. ⊎_elim (λ here.
+    written-in (written m a (take k bs)) (a + k) (get_or bs k 0 ∷ []) b (omega arith) (omega arith)
+    ∙ ap (λ i. Some (get_or (get_or bs k 0 ∷ []) i 0)) (let z : b - (a + k) ≡ 0 = omega arith in z)
+    ∙ ap Some (ap (λ i. get_or bs i 0) (let z : k ≡ b - a = omega arith in z) ∙
+    sym (get_or-take (k + 1) bs (b - a) 0 (omega arith)))
+    ∙ sym (written-in m a (take (k + 1) bs) b (omega arith) (omega arith))) (λ other.
+    written-apart (written m a (take k bs)) (a + k) (get_or bs k 0 ∷ []) b (λ l u. omega arith)
+    ∙ written-apart m a (take k bs) b (λ l u. omega arith)
+    ∙ sym (written-apart m a (take (k + 1) bs) b (λ l u. omega arith))) (cases_eq b (a + k))) (cases_lt b (a + k))
+
+pub written_more : (m : Memory) (a : ℕ) (bs : List ℕ) (k : ℕ) → k < length bs →
+    written (written m a (take k bs)) (a + k) (get_or bs k 0 ∷ []) ≡ written m a (take (k + 1) bs)
+written_more m a bs k h = λ i b. more_at m a bs k h b i
+
+-- the next byte's address is as it was
+pub next_there : (m m' : Memory) (a : ℕ) (bs : List ℕ) (k : ℕ) → m' ≡ written m a (take k bs) → k < length bs →
+    HasBytes m a (length bs) → IsSome (m' (a + k))
+next_there m m' a bs k e h has =
+    let front = length-take-le k bs (omega arith) in
+    subst (λ o. IsSome o) (sym (ap (λ f. f (a + k)) e ∙ written-apart m a (take k bs) (a + k) (λ l u. omega arith)))
+    (has k h)
+
+stored_at : (m : Memory) (a : ℕ) (bs : List ℕ) (v : ℕ) → ((k : ℕ) → k < length bs → get_or bs k 0 ≡ byte_of v k) →
+    (b : ℕ) → written m a bs b ≡ stored m a (length bs) v b
+stored_at m a bs v h b = by_access a (length bs) b
+    (λ out. written-apart m a bs b out ∙ sym (stored-apart m a _ v b out))
+    (λ from below. written-in m a bs b from below ∙ ap Some (h _ (omega arith)) ∙ sym (stored-in m a _ v b from below))
+
+pub written-stored : (m : Memory) (a : ℕ) (bs : List ℕ) (v : ℕ) →
+    ((k : ℕ) → k < length bs → get_or bs k 0 ≡ byte_of v k) → written m a bs ≡ stored m a (length bs) v
+written-stored m a bs v h = λ i b. stored_at m a bs v h b i
+
+-- the bytes of a number of 32 bits, one by one
+byte_place : (v k : ℕ) → k < 4 → get_or (to_le_bytes w32 v) k 0 ≡ byte_of v k
+byte_place v zero h = omega arith
+byte_place v (suc zero) h = refl
+byte_place v (suc (suc zero)) h = refl
+byte_place v (suc (suc (suc zero))) h = refl
+byte_place v (suc (suc (suc (suc k)))) h = absurd (omega arith)
+
+pub first_stored : (m : Memory) (a v n : ℕ) → n ≤ 4 → written m a (take n (to_le_bytes w32 v)) ≡ stored m a n v
+first_stored m a v n h =
+    let len = length-take-le n (to_le_bytes w32 v) h in
+    written-stored m a _ v (λ k l. get_or-take n _ k 0 (omega arith) ∙ byte_place v k (omega arith))
+    ∙ ap (λ j. stored m a j v) len
+
+pub byte_stored : (m m' : Memory) (a v : ℕ) (bs : List ℕ) → m' ≡ written m a (get_or bs 0 0 ∷ []) →
+    bs ≡ to_le_bytes w32 v → m' ≡ stored m a 1 v
+byte_stored m m' a v bs w e = w ∙ ap (λ b. written m a (get_or b 0 0 ∷ [])) e ∙ first_stored m a v 1 (omega arith)
+
+pub store_written : (m m' : Memory) (a v n : ℕ) (bs : List ℕ) → n ≤ 4 → m' ≡ written m a (take n bs) →
+    bs ≡ to_le_bytes w32 v → m' ≡ stored m a n v
+store_written m m' a v n bs h w e = w ∙ ap (λ b. written m a (take n b)) e ∙ first_stored m a v n h

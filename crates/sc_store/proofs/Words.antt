@@ -1,10 +1,48 @@
--- What a store changes, and what a load gives after it.
-use Rattle.sc_store.proofs.Common.{HasBytes, IsSome, Memory, Some, ap, arith, byte_of, false, is_some, load_of, nat_le}
-use Rattle.sc_store.proofs.Common.{nat_lt, nat_tests, refl, stored, subst, suc, sym, true, unwrap_or, zero, ℕ, ◌%◌}
-use Rattle.sc_store.proofs.Common.{◌&&◌, ◌*◌, ◌+◌, ◌-◌, ◌<◌, ◌^◌, ◌↔◌, ◌∙◌, ◌≡◌, ◌≤◌, ◌⊎◌}
+-- Addresses in regions and where zeros stand, what a store changes, and what a load gives after it.
+use Rattle.sc_store.proofs.Common.{AreApart, AreBelow, HasBytes, HoldsBytes, IsIn, IsSome, List, Memory, Region, Some}
+use Rattle.sc_store.proofs.Common.{[], ap, arith, byte_of, cases_lt, cond, false, get_or, get_or-map, inl, inr, is_in}
+use Rattle.sc_store.proofs.Common.{is_some, length, length-map, load_of, map, nat_le, nat_lt, nat_tests, refl}
+use Rattle.sc_store.proofs.Common.{same_Some, stored, subst, suc, sym, true, unwrap_or, zero, zeros, ℕ, ⊎_elim, ◌%◌}
+use Rattle.sc_store.proofs.Common.{◌&&◌, ◌*◌, ◌+◌, ◌-◌, ◌<◌, ◌^◌, ◌↔◌, ◌∙◌, ◌∷◌, ◌≡◌, ◌≤◌, ◌⊎◌}
 use Rattle.std.proofs.Math.Arith.{mod-mul}
-use Rattle.sc_store.proofs.Regions.{by_access}
 use Rattle.std.proofs.Math.Nat.{pow-suc, pow-succ'}
+
+-- ---- an address that is apart from an access, or within it
+pub by_access : {P : Type 0} (a n b : ℕ) → ((a ≤ b → b < a + n → ⊥) → P) → (a ≤ b → b < a + n → P) → P
+by_access a n b apart within = ⊎_elim (λ low. apart (λ l u. omega arith)) (λ from. ⊎_elim (λ below. within from below)
+    (λ above. apart (λ l u. omega arith)) (cases_lt b (a + n))) (cases_lt b a)
+
+-- ---- an address in a region: the test says what the fact does
+pub in_true : (r : Region) (a : ℕ) → IsIn r a → is_in r a ≡ true
+in_true r a h = grind (arith, nat_tests)
+
+pub in_false : (r : Region) (a : ℕ) → (IsIn r a → ⊥) → is_in r a ≡ false
+in_false r a h = grind (arith, nat_tests)
+
+-- the address is in the region or not
+pub in_cases : (r : Region) (a : ℕ) → IsIn r a ⊎ (IsIn r a → ⊥)
+in_cases r a = by_access r.start r.bytes a (λ out. inr (λ i. out i.0 i.1)) (λ from below. inl (from, below))
+
+-- ---- regions apart
+pub tail_apart : (r : Region) (rs : List Region) → AreApart (r ∷ rs) → AreApart rs
+tail_apart r rs apart = λ i j d l h. apart (suc i) (suc j) d (omega arith) (omega arith)
+
+-- an address in a later one isn't in the first
+pub head_apart : {A : Type 0} (f : A → Region) (x : A) (xs : List A) (i : ℕ) (d : A) (a : ℕ) →
+    AreApart (map f (x ∷ xs)) → i < length xs → IsIn (f (get_or xs i d)) a → IsIn (f x) a → ⊥
+head_apart f x xs i d a apart h inside first =
+    apart 0 (suc i) (f d) (omega arith) (omega (arith, length-map xs f)) a first
+    (subst (λ r. IsIn r a) (sym (get_or-map f xs i d (f d) h)) inside)
+
+pub zeros_hold : (rs : List Region) → AreBelow rs → HoldsBytes (zeros rs)
+zeros_hold [] below b x e = absurd (cc)
+zeros_hold (r ∷ rs) below b x e = ⊎_elim (λ inside.
+    let zero_there : 0 ≡ x = same_Some _ _ (sym (ap (λ t. cond t (Some 0) (zeros rs b)) (in_true r b inside)) ∙ e) in
+    (omega (arith, below 0 r (omega arith)), omega arith))
+    (λ out. zeros_hold rs (λ k d h. below (suc k) d (omega arith)) b x
+    (sym (ap (λ t. cond t (Some 0) (zeros rs b)) (in_false r b out)) ∙ e)) (in_cases r b)
+
+-- What a store changes, and what a load gives after it.
 
 -- an address within the access, and one apart from it
 inside : (a n b : ℕ) → a ≤ b → b < a + n → (nat_le a b && nat_lt b (a + n)) ≡ true
@@ -60,3 +98,6 @@ address_kept m a n v b has = by_access a n b (λ out. ap is_some (stored-apart m
 
 pub keeps_addresses : (m : Memory) (a n v b : ℕ) → HasBytes m a n → IsSome (stored m a n v b) ↔ IsSome (m b)
 keeps_addresses m a n v b has = (λ p. sym (address_kept m a n v b has) ∙ p, λ p. address_kept m a n v b has ∙ p)
+
+-- the laws of loads and stores
+pub ruleset laws = (load_of-stored, load_of-apart, keeps_addresses)

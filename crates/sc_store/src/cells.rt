@@ -96,6 +96,7 @@ impl Cells {
 
     // The same on a page that isn't taken. It stays so where all bytes are 0.
     #[inline(never)]
+    #[tactic(auto, using(crate::proofs::Places::zeros_unwritten))]
     fn write_untaken(&mut self, at: usize, bytes: &[u8])
         requires free { IsNone (slice_index_or self.old.table.items (at / 4096) None) }
         requires there { at / 4096 < length self.old.table.items }

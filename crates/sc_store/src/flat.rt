@@ -48,6 +48,7 @@ impl FlatStore {
 
     // Whether the part at a place has all these addresses.
     #[inline(always)]
+    #[tactic(auto, using(crate::proofs::Parts::first_spans))]
     fn part_spans(&self, number: usize, at: u32, size: usize) -> bool
         requires some { 0 < size }
         requires few { size ≤ 4 }
@@ -71,6 +72,10 @@ impl FlatStore {
     }
 
     #[inline(always)]
+    #[tactic(
+        auto,
+        using(crate::proofs::Parts::found, crate::proofs::Parts::found_spans, crate::proofs::Parts::found_bytes)
+    )]
     fn byte(&self, at: u32) -> u8
         requires { IsSome (bytes_of self.now.parts.items at) }
         ensures { bytes_of self.now.parts.items at ≡ Some result }
@@ -80,6 +85,7 @@ impl FlatStore {
     }
 
     #[inline(always)]
+    #[tactic(auto, using(crate::proofs::Parts::found, crate::proofs::Parts::found_spans))]
     fn put(&mut self, at: u32, byte: u8)
         requires { IsSome (bytes_of self.old.parts.items at) }
         ensures { bytes_of self.new.parts.items ≡ written (bytes_of self.old.parts.items) at (byte ∷ []) }
@@ -111,6 +117,7 @@ impl FlatStore {
 
     // Reads bytes that lie in one region, and says whether they do.
     #[inline(always)]
+    #[tactic(auto, using(crate::proofs::Parts::found_spans, crate::proofs::Parts::found_bytes))]
     fn read(&self, at: u32, into: &mut [u8]) -> bool
         requires some { 0 < length into.old }
         requires size { length into.old ≤ 4 }
@@ -126,6 +133,7 @@ impl FlatStore {
 
     // Writes bytes whose addresses lie in one region, and says whether they do. If not, nothing changes.
     #[inline(always)]
+    #[tactic(auto, using(crate::proofs::Parts::found_spans))]
     fn write(&mut self, at: u32, bytes: &[u8]) -> bool
         requires some { 0 < length bytes.now }
         requires size { length bytes.now ≤ 4 }
@@ -188,6 +196,7 @@ impl Store for FlatStore {
         }
     }
 
+    #[tactic(auto, using(crate::proofs::Parts::has_found))]
     fn has(&self, at: u32) -> bool {
         self.find(at, 1).is_some()
     }

@@ -1,5 +1,5 @@
 // Laws of loads and stores, each the contract of a function with nothing to do.
-#![tactic(auto)]
+#![tactic(auto, using(crate::proofs::Words::laws))]
 
 ghost use Rattle.sc_store.specs.Laws.{GivesStored, KeepsApart, KeepsAddresses};
 

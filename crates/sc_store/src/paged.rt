@@ -92,6 +92,7 @@ impl PagedStore {
     }
 
     // The area of this number, or one without addresses where there is none.
+    #[tactic(auto, using(crate::proofs::Places::focus_at, crate::proofs::Places::focus_empty))]
     fn area(&self, number: usize) -> Area
         ensures { IsFocus result self.now.areas.items }
     {
@@ -102,6 +103,7 @@ impl PagedStore {
     }
 
     #[inline(always)]
+    #[tactic(auto, using(crate::proofs::Places::has_place))]
     fn byte(&self, at: u32) -> u8
         requires { IsSome (bytes_in self.now at) }
         ensures { bytes_in self.now at ≡ Some result }
@@ -113,6 +115,7 @@ impl PagedStore {
     }
 
     #[inline(always)]
+    #[tactic(auto, using(crate::proofs::Places::has_place))]
     fn put(&mut self, at: u32, byte: u8)
         requires { IsSome (bytes_in self.old at) }
         ensures { bytes_in self.new ≡ written (bytes_in self.old) at (byte ∷ []) }
@@ -233,6 +236,7 @@ impl Store for PagedStore {
         }
     }
 
+    #[tactic(auto, using(crate::proofs::Places::has_place))]
     fn has(&self, at: u32) -> bool {
         self.place(at, 1).is_some()
     }

@@ -8,7 +8,7 @@ use Rattle.byteorder.specs.Endian.{little_bytes}
 use Rattle.sc_image.specs.declared.parts.CompPart.{CompPart}
 use Rattle.sc_image.specs.declared.parts.ExportPart.{ExportPart}
 use Rattle.sc_image.specs.declared.parts.ImportPart.{ImportPart}
-use Rattle.sc_image.proofs.Fits.{short_name}
+use Rattle.sc_base.proofs.Filled.{name_is_short}
 
 -- pieces of at most so many bytes
 module _ {A : Type 0} (f : A → List ℕ) (most : ℕ) (bound : ℕ → ℕ)
@@ -40,7 +40,7 @@ each_at P (x ∷ xs) at = (at 0 x refl, each_at P xs (λ i y e. at (suc i) y e))
 export_is_short : (image : ImageParts) (c : ℕ) (export : ExportPart) → IsExport image c export →
     length (export_bytes export) ≤ 70
 export_is_short image c export is =
-    let name = short_name export.name is.name in
+    let name = name_is_short export.name is.name in
     let whole = length-append (name_bytes export.name)
     (export.params ∷ bit export.result ∷ little_bytes 4 export.entry) in
     omega arith
@@ -83,7 +83,7 @@ comp_is_short : (image : ImageParts) (c : ℕ) (comp : CompPart) → IsComp imag
 comp_is_short image c comp is =
     subst (λ n. n ≤ 2000000) (sym (ap suc (pieces _ _ _ _ _ _)))
     (bounded (length _) (length (exports_bytes _)) (length (imports_bytes _))
-    (length (code_bytes _)) (length (globals_bytes _)) (short_name _ is.name)
+    (length (code_bytes _)) (length (globals_bytes _)) (name_is_short _ is.name)
     (exports_are_short image c comp.exports (recursion_from_All _ _ is.exports) is.few_exports)
     (imports_are_short comp.imports is.few_imports) (code_is_short comp.code is.short_code)
     (globals_are_short comp.globals is.short_globals))

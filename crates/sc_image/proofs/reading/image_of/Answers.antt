@@ -1,5 +1,5 @@
 use Rattle.sc_image.proofs.Common.{arith}
-use Rattle.sc_image.proofs.Images.{parts_are_few}
+use Rattle.sc_image.proofs.Whole.{parts_are_few}
 use Rattle.sc_image.proofs.reading.image_of.Goals as goal
 
 pub keeps_rules-requires : goal.keeps_rules-requires

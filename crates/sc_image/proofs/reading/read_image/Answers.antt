@@ -1,5 +1,5 @@
 use Rattle.sc_image.proofs.Common.{arith}
-use Rattle.sc_image.proofs.Images.{is_read}
+use Rattle.sc_image.proofs.Whole.{is_read}
 use Rattle.sc_image.proofs.reading.read_image.Goals as goal
 
 pub new-requires : goal.new-requires

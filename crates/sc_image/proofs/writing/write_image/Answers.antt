@@ -1,4 +1,4 @@
-use Rattle.sc_image.proofs.Fits.{comps_fit}
+use Rattle.sc_image.proofs.Whole.{comps_fit}
 use Rattle.sc_image.proofs.writing.write_image.Goals as goal
 
 pub append_comps-requires : goal.append_comps-requires

@@ -1,5 +1,5 @@
 use Rattle.sc_machine.proofs.Common.{Goes, ap, state_in, sym, ◌∙◌}
-use Rattle.sc_machine.proofs.Crossings.{call_made}
+use Rattle.sc_machine.proofs.Callees.{call_made}
 use Rattle.sc_machine.proofs.calling.call_out.Goals as goal
 
 pub returns-in-Some-clause-outcome : goal.returns-in-Some-clause-outcome

@@ -1,4 +1,4 @@
-use Rattle.sc_machine.proofs.Common.{execute_by, map, refl, state_in, word_of}
+use Rattle.sc_machine.proofs.Common.{execute_by, map, state_in, word_of}
 use Rattle.sc_machine.proofs.execute.execute.Goals as goal
 
 pub returns-in-Load-clause-outcome : goal.returns-in-Load-clause-outcome
@@ -28,15 +28,6 @@ pub returns-in-Jalr-clause-outcome : goal.returns-in-Jalr-clause-outcome
 returns-in-Jalr-clause-outcome g c = rw c.in-Jalr.is (c.jalr.ensures.outcome (map word_of c.args.inputs.now)
     (g.S.Store.bytes c.args.memory.now))
 
-pub returns-in-Ecall-clause-outcome : goal.returns-in-Ecall-clause-outcome
-unfolding execute_by
-returns-in-Ecall-clause-outcome g c = rw c.in-Ecall.is
-    (c.environment_call.ensures.outcome (g.S.Store.bytes c.args.memory.now))
-
-pub returns-in-Ebreak-clause-outcome : goal.returns-in-Ebreak-clause-outcome
-unfolding execute_by
-returns-in-Ebreak-clause-outcome g c = rw c.in-Ebreak.is refl
-
 pub returns-in-Upper-clause-outcome : goal.returns-in-Upper-clause-outcome
 returns-in-Upper-clause-outcome g c =
     let state = state_in (g.S.Store.bytes c.args.memory.now) c.args.hart.now in
@@ -56,7 +47,3 @@ pub returns-in-Op-clause-outcome : goal.returns-in-Op-clause-outcome
 returns-in-Op-clause-outcome g c =
     let state = state_in (g.S.Store.bytes c.args.memory.now) c.args.hart.now in
     rw c.in-Op.is (c.op.ensures c.args.here.now.image (map word_of c.args.inputs.now) state)
-
-pub returns-in-Fence-clause-outcome : goal.returns-in-Fence-clause-outcome
-unfolding execute_by
-returns-in-Fence-clause-outcome g c = rw (c.in-Fence.is, c.advance.ensures) refl

@@ -1,5 +1,5 @@
 use Rattle.sc_machine.proofs.Common.{sym}
-use Rattle.sc_machine.proofs.Imports.{imported}
+use Rattle.sc_machine.proofs.Callees.{imported}
 use Rattle.sc_machine.proofs.program.imported.Goals as goal
 
 pub returns : goal.returns

@@ -1,21 +1,6 @@
-use Rattle.sc_machine.proofs.Common.{active_in, add_word, at, calls, execute_by, leaves, refl, slice_index, word_of}
-use Rattle.sc_machine.proofs.Common.{◌*◌, ◌/◌}
-use Rattle.sc_machine.proofs.Answered.{goes_if}
+use Rattle.sc_machine.proofs.Common.{active_in, add_word, at, calls, execute_by, leaves, slice_index, word_of, ◌*◌, ◌/◌}
+use Rattle.sc_machine.proofs.Runs.{goes_if}
 use Rattle.sc_machine.proofs.quick.execute_quick.Goals as goal
-
-pub returns-in-Load-clause-goes : goal.returns-in-Load-clause-goes
-unfolding execute_by
-returns-in-Load-clause-goes g c = λ went inputs state.
-    let there = active_in c.args.here.now.comp (g.S.Store.bytes c.args.memory.now) state in
-    goes_if c.load.result c.is_ok.result _ _ c.is_ok.ensures.value
-    (rw c.in-Load.is (rw c.displaced-address.ensures at (c.load.ensures.outcome there))) went
-
-pub returns-in-Store-clause-goes : goal.returns-in-Store-clause-goes
-unfolding execute_by
-returns-in-Store-clause-goes g c = λ went inputs state.
-    goes_if c.store.result c.is_ok-in-Store.result _ _ c.is_ok-in-Store.ensures.value
-    (rw c.in-Store.is (rw (c.displaced-address-in-Store.ensures, c.register-word.ensures) at
-    (c.store.ensures.outcome state))) went
 
 pub returns-in-Branch-clause-goes : goal.returns-in-Branch-clause-goes
 returns-in-Branch-clause-goes g c = λ went inputs state.
@@ -58,7 +43,3 @@ pub returns-in-Op-clause-goes : goal.returns-in-Op-clause-goes
 returns-in-Op-clause-goes g c = λ went inputs state.
     let there = active_in c.args.here.now.comp (g.S.Store.bytes c.args.memory.now) state in
     rw c.in-Op.is (c.op.ensures c.args.here.now.image inputs there)
-
-pub returns-in-Fence-clause-goes : goal.returns-in-Fence-clause-goes
-unfolding execute_by
-returns-in-Fence-clause-goes g c = λ went inputs state. rw (c.in-Fence.is, c.advance.ensures) refl

@@ -1,19 +1,11 @@
 use Rattle.sc_machine.proofs.Common.{sym, ◌∙◌}
-use Rattle.sc_machine.proofs.Words.{misaligned, looked_code_below, looked_word, looked_within}
+use Rattle.sc_machine.proofs.Words.{looked_code_below, looked_within}
 use Rattle.sc_machine.proofs.here.Here.word_at.Goals as goal
-
-pub returns-then-address-ne0-clause-word : goal.returns-then-address-ne0-clause-word
-returns-then-address-ne0-clause-word c = sym (misaligned _ _ _ c.if-address-ne0.true)
 
 pub returns-then-address-self-clause-word : goal.returns-then-address-self-clause-word
 returns-then-address-self-clause-word c =
     rw (← c.self.view_is) (sym (looked_code_below c.self.invariant.1 c.args.address c.if-address-ne0.false
     c.if-address-self.true))
-
-pub returns-clause-word : goal.returns-clause-word
-returns-clause-word c =
-    rw (← c.self.view_is) (c.copied.ensures ∙ c.at.ensures ∙
-    looked_word c.self.invariant.1 c.args.address c.if-address-ne0.false c.if-address-self.false)
 
 pub returns-clause-within : goal.returns-clause-within
 returns-clause-within c =

@@ -1,5 +1,5 @@
 use Rattle.sc_store.proofs.Common.{ap, not, ◌∙◌}
-use Rattle.sc_store.proofs.OnPages.{took, is_free}
+use Rattle.sc_store.proofs.Places.{took, is_free}
 use Rattle.sc_store.proofs.cells.Cells.touch.Goals as goal
 
 pub invariant_of-self : goal.invariant_of-self

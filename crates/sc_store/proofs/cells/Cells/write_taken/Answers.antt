@@ -1,5 +1,5 @@
 use Rattle.sc_store.proofs.Common.{arith, length, refl, ◌%◌, ◌+◌, ◌-◌, ◌/◌}
-use Rattle.sc_store.proofs.OnPages.{slot_is, wrote_page}
+use Rattle.sc_store.proofs.Places.{slot_is, wrote_page}
 use Rattle.sc_store.proofs.cells.Cells.write_taken.Goals as goal
 
 pub returns-clause-bytes : goal.returns-clause-bytes

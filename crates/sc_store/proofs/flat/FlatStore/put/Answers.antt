@@ -1,15 +1,6 @@
-use Rattle.sc_store.proofs.Common.{HoldsBytes, IsSome, [], arith, bytes_of, subst, sym, ◌∷◌}
-use Rattle.sc_store.proofs.Parts.{found, found_spans, found_written, found_regions, byte_holds}
+use Rattle.sc_store.proofs.Common.{HoldsBytes, [], arith, bytes_of, subst, sym, ◌∷◌}
+use Rattle.sc_store.proofs.Parts.{found_written, found_regions, byte_holds}
 use Rattle.sc_store.proofs.flat.FlatStore.put.Goals as goal
-
-pub unwrap-place-requires : goal.unwrap-place-requires
-unwrap-place-requires c = subst (λ o. IsSome o) (sym c.find.ensures)
-    (found c.args.self.now.parts.items c.args.at c.requires)
-
-pub write-requires : goal.write-requires
-write-requires c =
-    found_spans c.args.at 1 c.args.self.now.parts.items c.find.result c.unwrap-place.result c.index_mut.result.now
-    c.find.ensures c.unwrap-place.ensures c.index_mut.ensures.value
 
 pub returns : goal.returns
 returns c =

@@ -1,5 +1,5 @@
 use Rattle.sc_store.proofs.Common.{bytes_of}
-use Rattle.sc_store.proofs.Access.{store_written}
+use Rattle.sc_store.proofs.Parts.{store_written}
 use Rattle.sc_store.proofs.flat.FlatStore.store_each.Goals as goal
 
 pub returns : goal.returns

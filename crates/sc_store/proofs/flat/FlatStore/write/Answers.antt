@@ -1,12 +1,6 @@
 use Rattle.sc_store.proofs.Common.{HoldsBytes, arith, bytes_of, length, subst, sym}
-use Rattle.sc_store.proofs.Parts.{found_spans, found_written, found_regions, written_holds}
+use Rattle.sc_store.proofs.Parts.{found_written, found_regions, written_holds}
 use Rattle.sc_store.proofs.flat.FlatStore.write.Goals as goal
-
-pub write-requires : goal.write-requires
-write-requires c =
-    found_spans c.args.at (length c.args.bytes.now) c.args.self.now.parts.items c.find.result c.in-Some.place
-    c.index_mut.result.now
-    c.find.ensures c.in-Some.is c.index_mut.ensures.value
 
 pub returns-clause-written : goal.returns-clause-written
 returns-clause-written c = λ t.

@@ -1,15 +1,6 @@
-use Rattle.sc_store.proofs.Common.{HasBytes, ap, arith, bytes_of, stored, subst, sym, ◌∙◌}
-use Rattle.sc_store.proofs.Access.{store_written}
+use Rattle.sc_store.proofs.Common.{arith, bytes_of}
+use Rattle.sc_store.proofs.Parts.{store_written}
 use Rattle.sc_store.proofs.flat.FlatStoreStore.store16.Goals as goal
-
-pub store_each-requires-clause-there : goal.store_each-requires-clause-there
-store_each-requires-clause-there c =
-    subst (λ s. HasBytes (bytes_of s.parts.items) c.args.at 2) (sym (c.write.ensures.unchanged (cc))) c.requires
-
-pub returns-then-not-write : goal.returns-then-not-write
-returns-then-not-write c =
-    c.store_each.ensures
-    ∙ ap (λ s. stored (bytes_of s.parts.items) c.args.at 2 c.args.value) (c.write.ensures.unchanged (cc))
 
 pub returns-else-not-write : goal.returns-else-not-write
 returns-else-not-write c =

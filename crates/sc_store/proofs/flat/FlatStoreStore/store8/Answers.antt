@@ -1,5 +1,5 @@
 use Rattle.sc_store.proofs.Common.{bytes_of}
-use Rattle.sc_store.proofs.Access.{byte_stored}
+use Rattle.sc_store.proofs.Parts.{byte_stored}
 use Rattle.sc_store.proofs.flat.FlatStoreStore.store8.Goals as goal
 
 pub returns : goal.returns

@@ -1,6 +1,6 @@
 use Rattle.sc_store.proofs.Common.{AreApart, HoldsBytes, subst, sym}
 use Rattle.sc_store.proofs.Parts.{zeros_of}
-use Rattle.sc_store.proofs.Regions.{zeros_hold}
+use Rattle.sc_store.proofs.Words.{zeros_hold}
 use Rattle.sc_store.proofs.flat.FlatStoreStore.zeroed.Goals as goal
 
 pub invariant_of-result : goal.invariant_of-result

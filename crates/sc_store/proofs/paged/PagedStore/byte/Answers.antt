@@ -1,11 +1,6 @@
-use Rattle.sc_store.proofs.Common.{arith, cell, get_or, length, ◌∙◌}
-use Rattle.sc_store.proofs.Places.{found_page, has_place, read_first}
+use Rattle.sc_store.proofs.Common.{arith, cell, get_or, length}
+use Rattle.sc_store.proofs.Places.{found_page, read_first}
 use Rattle.sc_store.proofs.paged.PagedStore.byte.Goals as goal
-
-pub unwrap-place-requires : goal.unwrap-place-requires
-unwrap-place-requires c =
-    has_place c.args.self.now.areas.items (cell c.args.self.now.cells.table.items c.args.self.now.cells.pool)
-    c.args.at c.place.result c.place.ensures ∙ c.requires
 
 pub read-requires-clause-there : goal.read-requires-clause-there
 read-requires-clause-there c =

@@ -1,12 +1,7 @@
-use Rattle.sc_store.proofs.Common.{ArePlaced, HoldsBytes, [], arith, bytes_in, cell, length, subst, sym, ◌∙◌, ◌∷◌}
+use Rattle.sc_store.proofs.Common.{ArePlaced, HoldsBytes, [], arith, bytes_in, cell, length, subst, sym, ◌∷◌}
 use Rattle.sc_store.proofs.Parts.{byte_holds}
-use Rattle.sc_store.proofs.Places.{found_page, found_written, has_place}
+use Rattle.sc_store.proofs.Places.{found_page, found_written}
 use Rattle.sc_store.proofs.paged.PagedStore.put.Goals as goal
-
-pub unwrap-place-requires : goal.unwrap-place-requires
-unwrap-place-requires c =
-    has_place c.args.self.now.areas.items (cell c.args.self.now.cells.table.items c.args.self.now.cells.pool)
-    c.args.at c.place.result c.place.ensures ∙ c.requires
 
 pub write-requires-clause-there : goal.write-requires-clause-there
 write-requires-clause-there c =

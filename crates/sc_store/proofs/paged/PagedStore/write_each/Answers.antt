@@ -1,5 +1,5 @@
 use Rattle.sc_store.proofs.Common.{[], ap, bytes_in, get_or, written, ◌+◌, ◌∙◌, ◌∷◌}
-use Rattle.sc_store.proofs.Access.{next_there, written_more}
+use Rattle.sc_store.proofs.Parts.{next_there, written_more}
 use Rattle.sc_store.proofs.paged.PagedStore.write_each.Goals as goal
 
 pub put-requires : goal.put-requires

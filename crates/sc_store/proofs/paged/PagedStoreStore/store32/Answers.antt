@@ -1,15 +1,6 @@
-use Rattle.sc_store.proofs.Common.{HasBytes, ap, arith, bytes_in, stored, subst, sym, written, ◌∙◌}
-use Rattle.sc_store.proofs.Access.{first_stored}
+use Rattle.sc_store.proofs.Common.{ap, arith, bytes_in, written, ◌∙◌}
+use Rattle.sc_store.proofs.Parts.{first_stored}
 use Rattle.sc_store.proofs.paged.PagedStoreStore.store32.Goals as goal
-
-pub store_each-requires-clause-there : goal.store_each-requires-clause-there
-store_each-requires-clause-there c =
-    subst (λ s. HasBytes (bytes_in s) c.args.at 4) (sym (c.write.ensures.unchanged (cc))) c.requires
-
-pub returns-then-not-write : goal.returns-then-not-write
-returns-then-not-write c =
-    c.store_each.ensures
-    ∙ ap (λ s. stored (bytes_in s) c.args.at 4 c.args.value) (c.write.ensures.unchanged (cc))
 
 pub returns-else-not-write : goal.returns-else-not-write
 returns-else-not-write c =

@@ -1,5 +1,5 @@
 use Rattle.sc_store.proofs.Common.{bytes_in}
-use Rattle.sc_store.proofs.Access.{byte_stored}
+use Rattle.sc_store.proofs.Parts.{byte_stored}
 use Rattle.sc_store.proofs.paged.PagedStoreStore.store8.Goals as goal
 
 pub returns : goal.returns

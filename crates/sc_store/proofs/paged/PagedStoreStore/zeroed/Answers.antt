@@ -1,6 +1,6 @@
 use Rattle.sc_store.proofs.Common.{AreApart, ArePlaced, HoldsBytes, cell, subst, sym}
 use Rattle.sc_store.proofs.Places.{focus_empty, zeros_placed}
-use Rattle.sc_store.proofs.Regions.{zeros_hold}
+use Rattle.sc_store.proofs.Words.{zeros_hold}
 use Rattle.sc_store.proofs.paged.PagedStoreStore.zeroed.Goals as goal
 
 pub invariant_of-result : goal.invariant_of-result

@@ -1,6 +1,5 @@
 use Rattle.sc_store.proofs.Common.{arith, length}
-use Rattle.sc_store.proofs.Parts.{spans_low, spans_high}
-use Rattle.sc_store.proofs.Pieces.{copied_piece}
+use Rattle.sc_store.proofs.Parts.{spans_low, spans_high, copied_piece}
 use Rattle.sc_store.proofs.part.Part.write.Goals as goal
 
 pub returns-clause-bytes : goal.returns-clause-bytes

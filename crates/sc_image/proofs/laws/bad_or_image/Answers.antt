@@ -1,5 +1,0 @@
-use Rattle.sc_image.proofs.Images.{bad_or_image_each}
-use Rattle.sc_image.proofs.laws.bad_or_image.Goals as goal
-
-pub returns : goal.returns
-returns c = bad_or_image_each

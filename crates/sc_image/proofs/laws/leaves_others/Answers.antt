@@ -1,5 +1,0 @@
-use Rattle.sc_image.proofs.Others.{leaves_others}
-use Rattle.sc_image.proofs.laws.leaves_others.Goals as goal
-
-pub returns : goal.returns
-returns c = leaves_others

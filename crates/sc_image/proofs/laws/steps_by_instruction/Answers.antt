@@ -1,5 +1,0 @@
-use Rattle.sc_image.proofs.Walking.{steps_by_instruction}
-use Rattle.sc_image.proofs.laws.steps_by_instruction.Goals as goal
-
-pub returns : goal.returns
-returns c = steps_by_instruction

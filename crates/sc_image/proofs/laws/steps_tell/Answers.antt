@@ -1,5 +1,0 @@
-use Rattle.sc_image.proofs.Telling.{steps_tell}
-use Rattle.sc_image.proofs.laws.steps_tell.Goals as goal
-
-pub returns : goal.returns
-returns c = steps_tell

@@ -1,5 +1,0 @@
-use Rattle.sc_image.proofs.Telling.{telling_composes}
-use Rattle.sc_image.proofs.laws.telling_composes.Goals as goal
-
-pub returns : goal.returns
-returns c = telling_composes
