@@ -341,3 +341,101 @@ fn owns_its_part(rt: HostRuntime) -> Result<(), Fail> {
     assert_eq!(rt; part.byte(STACK_TOP - 1), None);
     Ok(())
 }
+
+// Whether the registers hold these words, and every other one 0.
+fn hold(machine: &Machine<FlatStore>, words: &[(u8, u32)]) -> bool {
+    (0..32).all(|register| {
+        let word = words.iter().find(|word| word.0 == register);
+        machine.register(register) == word.map_or(0, |word| word.1)
+    })
+}
+
+// A function gets its arguments, its own stack and the gate, and its caller the result and its own stack. Every other
+// register is 0.
+#[test]
+fn passes_numbers_alone(rt: HostRuntime) -> Result<(), Fail> {
+    // addi a0,x0,7; addi a1,x0,8; addi a2,x0,9; addi x5,x0,5; lui x6,0x01100; jalr x1,0(x6); ebreak
+    let caller = [
+        0x0070_0513,
+        0x0080_0593,
+        0x0090_0613,
+        0x0050_0293,
+        0x0110_0337,
+        0x0003_00e7,
+        0x0010_0073,
+    ];
+    // add a0,a0,a1; addi a1,x0,3; jalr x0,0(x1)
+    let sum = [0x00b5_0533, 0x0030_0593, 0x0000_8067];
+    let parts: [Part<'_>; 2] = [
+        (b"\x01A\0\0\0\x01\0\x01\0\0", &caller, &[]),
+        (b"\x01B\0\x01\0\x01f\x02\x01\0\0\x10\x01\0\0", &sum, &[]),
+    ];
+    let mut machine = loaded(rt.alloc(), image(rt.alloc(), &parts)?, &[], 9)?;
+    assert_eq!(rt; machine.run(6), StepsOut);
+    assert!(rt;
+        hold(
+            &machine,
+            &[(1, 0x100), (2, STACK_TOP + 0x10_0000), (10, 7), (11, 8)]
+        )
+    );
+    assert_eq!(rt; machine.run(99), trap(TrapReason::Breakpoint, 24));
+    assert!(rt; hold(&machine, &[(2, STACK_TOP), (10, 15)]));
+    Ok(())
+}
+
+// A takes 16 bytes of its stack and calls g of B, which takes 16 of its own and calls h of A. h runs below the stack that
+// A has in use, and gives back where that is.
+#[test]
+fn comes_back_below_the_stack_in_use(rt: HostRuntime) -> Result<(), Fail> {
+    // addi sp,sp,-16; lui x6,0x01100; jalr x1,0(x6); ebreak; then h: addi a0,sp,0; jalr x0,0(x1)
+    let first = [
+        0xff01_0113,
+        0x0110_0337,
+        0x0003_00e7,
+        0x0010_0073,
+        0x0001_0513,
+        0x0000_8067,
+    ];
+    // addi sp,sp,-16; sw ra,12(sp); lui x6,0x01000; jalr x1,16(x6); lw ra,12(sp); addi sp,sp,16; jalr x0,0(x1)
+    let second = [
+        0xff01_0113,
+        0x0011_2623,
+        0x0100_0337,
+        0x0103_00e7,
+        0x00c1_2083,
+        0x0101_0113,
+        0x0000_8067,
+    ];
+    let parts: [Part<'_>; 2] = [
+        (
+            b"\x01A\0\x01\0\x01h\0\x01\x10\0\0\x01\x01\0\x01\0\0",
+            &first,
+            &[],
+        ),
+        (
+            b"\x01B\0\x01\0\x01g\0\x01\0\0\x10\x01\x01\0\0\0\0",
+            &second,
+            &[],
+        ),
+    ];
+    let mut machine = loaded(rt.alloc(), image(rt.alloc(), &parts)?, &[], 9)?;
+    assert_eq!(rt; machine.run(99), trap(TrapReason::Breakpoint, 12));
+    assert!(rt; hold(&machine, &[(2, STACK_TOP - 16), (10, STACK_TOP - 16)]));
+    assert_eq!(rt; machine.trace().len(), 4);
+    Ok(())
+}
+
+// The way out of the main function: bit 0 of the address is cleared.
+#[test]
+fn ends_through_the_gate(rt: HostRuntime) -> Result<(), Fail> {
+    // jalr x0,1(x1)
+    let mut machine = loaded(
+        rt.alloc(),
+        alone(rt.alloc(), true, &[0x0010_8067], &[])?,
+        &[],
+        9,
+    )?;
+    assert_eq!(rt; machine.run(9), Ended);
+    assert_eq!(rt; machine.pc(), START);
+    Ok(())
+}
