@@ -14,7 +14,6 @@ use Rattle.sc_ast.specs.declared.stmt.SimpleKind.TheVariants as simple
 use Rattle.sc_ast.specs.declared.stmt.StmtKind.TheOpen as tree
 use Rattle.sc_ast.proofs.Induction as tree_induction
 use Rattle.sc_ast.proofs.Layers as tree_layers
-use Rattle.sc_core.specs.declared.expr.TypedKind.TheOpen as term
 use Rattle.sc_core.specs.declared.stmt.TypedStmtKind.TheOpen as layer
 use Rattle.sc_scope.specs.Names as names
 use Rattle.sc_elab_expr.specs.Expressions as elab

@@ -1,16 +1,17 @@
 -- What is found by a name among a section's declarations.
-use Rattle.sc_types.proofs.Common.{Bool, Decl, Function, FunctionTree, HeadTree, List, None, Proto, Some, [], and_first}
-use Rattle.sc_types.proofs.Common.{and_rest, ap, bytes_eq, false, false≢true, function_named, function_names}
-use Rattle.sc_types.proofs.Common.{functions_in, head_named, head_of, heads_in, if◌then◌else◌, is_numbered, list_all}
-use Rattle.sc_types.proofs.Common.{list_any, map, number_of, option_map, or_parts, proto_names, refl, same_Some}
-use Rattle.sc_types.proofs.Common.{slice_get, subst, suc, sym, true, zero, ℕ, ◌||◌, ◌∙◌, ◌∷◌, ◌≡◌}
+use Rattle.sc_types.proofs.Common.{Bool, Decl, Function, FunctionTree, HeadTree, List, None, Proto, Some, [], arith}
+use Rattle.sc_types.proofs.Common.{bytes_eq, false, function_named, function_names, functions_in, head_named, head_of}
+use Rattle.sc_types.proofs.Common.{heads_in, if◌then◌else◌, inl, inr, is_numbered, list_all, list_any, map, number_of}
+use Rattle.sc_types.proofs.Common.{option_map, proto_names, refl, slice_get, suc, sym, true, zero, ℕ, ◌||◌, ◌∙◌, ◌∷◌}
+use Rattle.sc_types.proofs.Common.{◌≡◌}
 use Rattle.std.proofs.lemmas.Cmp.{nat_list_eq_equiv}
+use Rattle.std.proofs.lemmas.Bool.{cases_Bool}
 use Rattle.sc_types.proofs.Basics.{Each, none_some, find}
 use Rattle.sc_types.proofs.Places.{Text, first_of, any_found, number_is}
 
 pub each_at : {A : Type 0} (P : A → Type 0) (xs : List A) (i : ℕ) (x : A) → Each P xs → slice_get xs i ≡ Some x → P x
 each_at P [] i x h got = none_some x got
-each_at P (y ∷ xs) zero x h got = subst P (same_Some y x got) h.0
+each_at P (y ∷ xs) zero x h got = grind arith
 each_at P (y ∷ xs) (suc i) x h got = each_at P xs i x h.1 got
 
 -- names are the same either way round
@@ -42,8 +43,7 @@ module _ {A : Type 0} (p : Text → Bool) (name_in : A → Text) (q : A → Bool
 function_first : (name : Text) (trees : List FunctionTree) →
     function_named name trees ≡ first_of (λ tree. bytes_eq tree.head.name name) trees
 function_first name [] = refl
-function_first name (tree ∷ trees) =
-    ap (λ o. if bytes_eq tree.head.name name then Some tree else o) (function_first name trees)
+function_first name (tree ∷ trees) = grind (arith, function_first name trees)
 
 pub find_function : (name : Text) (trees : List FunctionTree) → is_numbered (names_of trees) name ≡ true →
     FoundFunction name trees
@@ -63,12 +63,11 @@ find_function name trees h =
 module _ {A : Type 0} (p : A → Bool) where
   no_number : (xs : List A) → list_any p xs ≡ false → find p xs ≡ None
   no_number [] h = refl
-  no_number (x ∷ xs) h = λ i. if (or_parts (p x) _ h).0 i then Some 0 else
-      option_map suc (no_number xs (or_parts (p x) _ h).1 i)
+  no_number (x ∷ xs) h = grind (arith, no_number xs)
 
   none_first : (xs : List A) → list_any p xs ≡ false → first_of p xs ≡ None
   none_first [] h = refl
-  none_first (x ∷ xs) h = λ i. if (or_parts (p x) _ h).0 i then Some x else none_first xs (or_parts (p x) _ h).1 i
+  none_first (x ∷ xs) h = grind (arith, none_first xs)
 
 pub no_function : (name : Text) (trees : List FunctionTree) → is_numbered (names_of trees) name ≡ false →
     function_named name trees ≡ None
@@ -84,16 +83,13 @@ no_place names name h = number_is names name ∙ no_number _ names h
 pub each_function : (P : Decl → Type 0) (decls : List Decl) → Each P decls →
     Each (λ tree. P (Function tree)) (functions_in decls)
 each_function P [] h = tt
-each_function P (Function tree ∷ decls) h = (h.0, each_function P decls h.1)
-each_function P (_ ∷ decls) h = each_function P decls h.1
+each_function P (decl ∷ decls) h = grind (arith, each_function P decls)
 
 -- a test that all heads pass, functions' heads pass
 pub heads_of_functions : (p : HeadTree → Bool) (decls : List Decl) → list_all p (heads_in decls) ≡ true →
     Each (λ tree. p (head_of tree.head) ≡ true) (functions_in decls)
 heads_of_functions p [] h = tt
-heads_of_functions p (Proto head ∷ decls) h = heads_of_functions p decls (and_rest _ _ h)
-heads_of_functions p (Function tree ∷ decls) h = (and_first _ _ h, heads_of_functions p decls (and_rest _ _ h))
-heads_of_functions p (_ ∷ decls) h = heads_of_functions p decls h
+heads_of_functions p (decl ∷ decls) h = grind (arith, heads_of_functions p decls)
 
 -- the first head of a name that no function has, which is a prototype's
 pub record FoundHead (P : Decl → Type 0) (name : Text) (decls : List Decl) : Type 0 where
@@ -114,24 +110,15 @@ module _ (P : Decl → Type 0) (name : Text) where
       head_named name (heads_in more) ≡ head_named name (heads_in decls) → FoundHead P name more
   over more rest is = record { head = rest.head; first = is ∙ rest.first; named = rest.named; holds = rest.holds }
 
-  head_at : (head : HeadTree) (decls : List Decl) (b : Bool) → bytes_eq name head.name ≡ b → P (Proto head) →
-      (some_proto name decls ≡ true → FoundHead P name decls) → (b || some_proto name decls) ≡ true →
-      FoundHead P name (Proto head ∷ decls)
-  head_at head decls true q holds f h = record {
-    head = head;
-    first = ap (λ c. if c then Some head else head_named name (heads_in decls)) (same_sym _ name ∙ q);
-    named = same_sym _ name ∙ q;
-    holds = holds;
-  }
-  head_at head decls false q holds f h = over (Proto head ∷ decls) (f h)
-      (ap (λ c. if c then Some head else head_named name (heads_in decls)) (same_sym head.name name ∙ q))
-
   pub find_head : (decls : List Decl) → Each P decls → some_proto name decls ≡ true → some_function name decls ≡ false →
       FoundHead P name decls
-  find_head [] each h none = absurd (false≢true h)
-  find_head (Proto head ∷ decls) each h none = head_at head decls _ refl each.0 (λ k. find_head decls each.1 k none) h
+  find_head [] each h none = cc
+  find_head (Proto head ∷ decls) each h none = elim (cases_Bool (bytes_eq head.name name)) [
+    | inl here ↦ record { head = head; first = grind arith; named = here; holds = each.0 }
+    | inr not_here ↦ over (Proto head ∷ decls)
+      (find_head decls each.1 (grind (arith, same_sym head.name name)) none) (grind arith)
+  ]
   find_head (Function tree ∷ decls) each h none =
-      let other = or_parts (bytes_eq name tree.head.name) _ none in
-      over (Function tree ∷ decls) (find_head decls each.1 h other.1)
-      (ap (λ c. if c then Some (head_of tree.head) else head_named name (heads_in decls)) (same_sym _ name ∙ other.0))
+      over (Function tree ∷ decls) (find_head decls each.1 h (grind arith))
+      (grind (arith, same_sym tree.head.name name))
   find_head (decl ∷ decls) each h none = over (decl ∷ decls) (find_head decls each.1 h none) refl

@@ -4,7 +4,6 @@ use Rattle.sc_types.proofs.Common.{List, None, Ok, OnOk, Option, ProgramTree, Re
 use Rattle.sc_types.proofs.Common.{callees_of, concat, counts_broken, functions_in, head_of, heads_in, interface_broken}
 use Rattle.sc_types.proofs.Common.{length, length-map, line_of_text, map, most_params, names_broken, nat_le, param_of}
 use Rattle.sc_types.proofs.Common.{program_of, refused_at, subst, suc, sym, types_broken, zero, ℕ, ◌∙◌, ◌∷◌, ◌≡◌}
-use Rattle.sc_lex.specs.declared.refusal.Phase.TheVariants as phase
 use Rattle.sc_ast.specs.declared.section.Decl.TheVariants as decl
 use Rattle.sc_types.specs.Counts as counts
 use Rattle.sc_types.proofs.Basics.{Each, rule_holds, front_empty, back_empty, map_empty}

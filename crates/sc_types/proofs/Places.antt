@@ -1,10 +1,10 @@
 -- The places of names in lists of names.
-use Rattle.sc_types.proofs.Common.{Bool, Decides-eqb, List, None, Option, Some, [], ap, arith, bytes_eq, false}
-use Rattle.sc_types.proofs.Common.{false≢true, if◌then◌else◌, is_numbered, le-leb, leb-true, length, list_any}
-use Rattle.sc_types.proofs.Common.{list_any-append, lt-ltb, nat_le, nat_lt, number_of, number_or_zero, option_map}
-use Rattle.sc_types.proofs.Common.{or_left, or_parts, refl, slice_get, subst, suc, sym, true, ℕ, ◌++◌, ◌<◌, ◌==◌, ◌||◌}
-use Rattle.sc_types.proofs.Common.{◌∙◌, ◌∷◌, ◌≡◌, ◌≤◌}
+use Rattle.sc_types.proofs.Common.{Bool, Decides-eqb, List, None, Option, Some, [], arith, bytes_eq, false}
+use Rattle.sc_types.proofs.Common.{if◌then◌else◌, inl, inr, is_numbered, le-leb, leb-true, length, list_any}
+use Rattle.sc_types.proofs.Common.{list_any-append, lt-ltb, nat_le, nat_lt, number_of, number_or_zero, or_left, refl}
+use Rattle.sc_types.proofs.Common.{slice_get, subst, suc, sym, true, ℕ, ◌++◌, ◌<◌, ◌==◌, ◌∙◌, ◌∷◌, ◌≡◌, ◌≤◌}
 use Rattle.std.proofs.lemmas.Slice.Eq.{bytes_eq-Decides}
+use Rattle.std.proofs.lemmas.Bool.{cases_Bool}
 use Rattle.sc_types.proofs.Basics.{find, position_is}
 
 abbrev pub Text : Type 0
@@ -46,52 +46,39 @@ pub record Found {A : Type 0} (p : A → Bool) (xs : List A) : Type 0 where
   pub passes : p item ≡ true
 
 module _ {A : Type 0} (p : A → Bool) where
-  found_at : (x : A) (xs : List A) (b : Bool) → p x ≡ b → (list_any p xs ≡ true → Found p xs) →
-      (b || list_any p xs) ≡ true → Found p (x ∷ xs)
-  found_at x xs true q f h = record {
-    at = 0;
-    item = x;
-    is = ap (λ c. if c then Some 0 else option_map suc (find p xs)) q;
-    first = ap (λ c. if c then Some x else first_of p xs) q;
-    within = omega arith;
-    got = refl;
-    passes = q;
-  }
-  found_at x xs false q f h = let rest = f h in record {
-    at = suc rest.at;
-    item = rest.item;
-    is = ap (λ c. if c then Some 0 else option_map suc (find p xs)) q ∙ ap (option_map suc) rest.is;
-    first = ap (λ c. if c then Some x else first_of p xs) q ∙ rest.first;
-    within = omega (arith, rest.within);
-    got = rest.got;
-    passes = rest.passes;
-  }
-
   pub any_found : (xs : List A) → list_any p xs ≡ true → Found p xs
-  any_found [] h = absurd (false≢true h)
-  any_found (x ∷ xs) h = found_at x xs (p x) refl (any_found xs) h
-
-  front_at : (x : A) (xs ys : List A) (b : Bool) → (list_any p xs ≡ true → find p (xs ++ ys) ≡ find p xs) →
-      (b || list_any p xs) ≡ true → (if b then Some 0 else option_map suc (find p (xs ++ ys))) ≡
-      (if b then Some 0 else option_map suc (find p xs))
-  front_at x xs ys true f h = refl
-  front_at x xs ys false f h = ap (option_map suc) (f h)
+  any_found [] h = cc
+  any_found (x ∷ xs) h = elim (cases_Bool (p x)) [
+    | inl here ↦ record {
+      at = 0;
+      item = x;
+      is = grind arith;
+      first = grind arith;
+      within = omega arith;
+      got = refl;
+      passes = here;
+    }
+    | inr not_here ↦ let rest = any_found xs (grind arith) in record {
+      at = suc rest.at;
+      item = rest.item;
+      is = grind (arith, rest.is);
+      first = grind (arith, rest.first);
+      within = omega (arith, rest.within);
+      got = rest.got;
+      passes = rest.passes;
+    }
+  ]
 
   -- what is found in a front is found there in the whole
   pub find_front : (xs ys : List A) → list_any p xs ≡ true → find p (xs ++ ys) ≡ find p xs
-  find_front [] ys h = absurd (false≢true h)
-  find_front (x ∷ xs) ys h = front_at x xs ys (p x) (find_front xs ys) h
-
-  next_at : (x : A) (rest : Option ℕ) (n : ℕ) (b : Bool) → b ≡ false → rest ≡ Some n →
-      (if b then Some 0 else option_map suc rest) ≡ Some (suc n)
-  next_at x rest n true q h = absurd (false≢true (sym q))
-  next_at x rest n false q h = ap (option_map suc) h
+  find_front [] ys h = cc
+  find_front (x ∷ xs) ys h = grind (arith, find_front xs ys)
 
   -- the first one behind a front in which nothing is found
   pub find_next : (xs : List A) (y : A) (ys : List A) → list_any p xs ≡ false → p y ≡ true →
       find p (xs ++ y ∷ ys) ≡ Some (length xs)
-  find_next [] y ys h k = ap (λ c. if c then Some 0 else option_map suc (find p ys)) k
-  find_next (x ∷ xs) y ys h k = next_at x _ _ (p x) (or_parts (p x) _ h).0 (find_next xs y ys (or_parts (p x) _ h).1 k)
+  find_next [] y ys h k = grind arith
+  find_next (x ∷ xs) y ys h k = grind (arith, find_next xs)
 
 -- the number of a name is where it is found
 pub number_is : (names : List Text) (name : Text) → number_of names name ≡ find (bytes_eq name) names

@@ -19,8 +19,6 @@ use Rattle.sc_core.specs.declared.section.TypedFunction.{TypedFunction}
 use Rattle.sc_event.specs.declared.interface.Import.TheVariants as import
 use Rattle.sc_event.specs.declared.interface.Proto as event
 use Rattle.sc_ast.specs.declared.types.BaseTree.TheVariants as tree_base
-use Rattle.sc_core.specs.declared.ty.Ty.TheVariants as ty
-use Rattle.sc_core.specs.declared.ty.BaseTy.TheVariants as base
 use Rattle.sc_scope.specs.Declarations as decls
 use Rattle.sc_scope.specs.Names as names
 use Rattle.sc_interfaces.specs.Faces as faces
