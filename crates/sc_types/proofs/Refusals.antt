@@ -1,7 +1,7 @@
 -- Sections that break a rule are refused, and are those of no program.
 use Rattle.sc_types.proofs.Common.{Accepts, Fails, FailsRules, FailsTyped, IsTyped, List, None, Phase, ProgramTree}
-use Rattle.sc_types.proofs.Common.{Reads, SectionTree, Some, [], ap, earlier, noted_all, program_of, refl, refused_at}
-use Rattle.sc_types.proofs.Common.{same_Some, subst, sym, ℕ, ◌∙◌, ◌∷◌, ◌≡◌}
+use Rattle.sc_types.proofs.Common.{Reads, SectionTree, Some, [], ap, arith, earlier, noted_all, program_of, refl}
+use Rattle.sc_types.proofs.Common.{refused_at, subst, sym, ℕ, ◌∙◌, ◌∷◌, ◌≡◌}
 use Rattle.sc_lex.specs.declared.refusal.Phase.TheVariants as phase
 use Rattle.sc_read.specs.Reading as reading
 use Rattle.sc_types.proofs.Basics.{none_some}
@@ -23,35 +23,18 @@ none_refused : {C : Type 0} (lines : List ℕ) (line : ℕ) → lines ≡ [] →
 unfolding noted_all
 none_refused lines line h k = none_some line (sym (ap refused_at h) ∙ k)
 
+none_at_none : refused_at [] ≡ None
+unfolding noted_all
+none_at_none = refl
+
 pub typed_passes : (sections : List SectionTree) (program : ProgramTree) (in_phase : Phase) (line : ℕ) →
     IsTyped sections program → FailsRules sections in_phase line → ⊥
-typed_passes sections program phase.Lex line t f = f
-typed_passes sections program phase.Syntax line t f = f
-typed_passes sections program phase.Names line t f = none_refused _ line t.names f
-typed_passes sections program phase.Types line t f = none_refused _ line t.types f.1
-typed_passes sections program phase.Interface line t f = none_refused _ line t.interfaces f.2
-typed_passes sections program phase.Count line t f = none_refused _ line t.counts f.3
+typed_passes sections program in_phase line t f = grind (arith, none_at_none)
 
 -- an earlier phase passes where a later one fails
 pub one_refusal : (sections : List SectionTree) (p q : Phase) (line other : ℕ) → FailsRules sections p line →
     FailsRules sections q other → (p ≡ q) × (line ≡ other)
-one_refusal sections phase.Lex q line other f g = absurd f
-one_refusal sections phase.Syntax q line other f g = absurd f
-one_refusal sections p phase.Lex line other f g = absurd g
-one_refusal sections p phase.Syntax line other f g = absurd g
-one_refusal sections phase.Names phase.Names line other f g = (refl, same_Some line other (sym f ∙ g))
-one_refusal sections phase.Names q line other f g = none_refused _ line g.0 f
-one_refusal sections phase.Types phase.Names line other f g = none_refused _ other f.0 g
-one_refusal sections phase.Types phase.Types line other f g = (refl, same_Some line other (sym f.1 ∙ g.1))
-one_refusal sections phase.Types q line other f g = none_refused _ line g.1 f.1
-one_refusal sections phase.Interface phase.Names line other f g = none_refused _ other f.0 g
-one_refusal sections phase.Interface phase.Types line other f g = none_refused _ other f.1 g.1
-one_refusal sections phase.Interface phase.Interface line other f g = (refl, same_Some line other (sym f.2 ∙ g.2))
-one_refusal sections phase.Interface phase.Count line other f g = none_refused _ line g.2 f.2
-one_refusal sections phase.Count phase.Names line other f g = none_refused _ other f.0 g
-one_refusal sections phase.Count phase.Types line other f g = none_refused _ other f.1 g.1
-one_refusal sections phase.Count phase.Interface line other f g = none_refused _ other f.2 g.2
-one_refusal sections phase.Count phase.Count line other f g = (refl, same_Some line other (sym f.3 ∙ g.3))
+one_refusal sections p q line other f g = grind (arith, none_at_none)
 
 -- Texts, where reading is unique.
 
