@@ -42,8 +42,7 @@ moved k place = option_map (λ n. k + n) place
 kept : (place : Option ℕ) (same : Bool) (k : ℕ) → (same ≡ true → is_some place ≡ true) →
     place ≡ first_or place (cond same (Some k) None)
 kept (Some n) same k h = refl
-kept None true k h = cc (h refl)
-kept None false k h = refl
+kept None same k h = grind arith
 
 first_by_name-placed : (known : Placed) (other name : Text) (k : ℕ) →
     first_by_name (with_first known other k) name ≡ first_or (first_by_name known name)
@@ -61,11 +60,9 @@ first_or_none (Some n) = refl
 
 placed_turn : (item : Bool) (here : Option ℕ) (k : ℕ) (later : Option ℕ) → first_or (first_or here (cond item
     (Some k) None)) (moved (suc k) later) ≡ first_or here (moved k (cond item (Some 0) (option_map suc later)))
-placed_turn true None k later = ap Some (omega arith)
-placed_turn true (Some n) k later = refl
-placed_turn false (Some n) k later = refl
-placed_turn false None k None = refl
-placed_turn false None k (Some n) = ap Some (omega arith)
+placed_turn item None k None = grind arith
+placed_turn item None k (Some n) = grind arith
+placed_turn item (Some h) k later = grind arith
 
 all_placed_is : (items : List (Option Text)) (known : Placed) (k : ℕ) (name : Text) →
     first_by_name (all_placed known k items) name ≡ first_or (first_by_name known name)
@@ -121,16 +118,8 @@ moved_on decl decls (Some n) = refl
 function_is : (decls : List Decl) (name : Text) → option_and_then (function_there decls)
     (first_place name (map function_name decls)) ≡ function_named name (functions_in decls)
 function_is [] name = refl
-function_is (declared.Function tree ∷ decls) name =
-    ap (λ same. option_and_then (function_there (declared.Function tree ∷ decls))
-    (cond same (Some 0) (option_map suc (first_place name (map function_name decls)))))
-    (nat_list_eq_equiv.symm name tree.head.name) ∙ at (pointwise ◌==◌ _ name) (function_is decls name) where
-      at : (same : Bool) → option_and_then (function_there decls) (first_place name (map function_name decls)) ≡
-          function_named name (functions_in decls) → option_and_then (function_there (declared.Function tree ∷ decls))
-          (cond same (Some 0) (option_map suc (first_place name (map function_name decls)))) ≡
-          (if same then Some tree else function_named name (functions_in decls))
-      at true rest = refl
-      at false rest = moved_on _ decls _ ∙ rest
+function_is (declared.Function tree ∷ decls) name = grind (arith, nat_list_eq_equiv.symm name tree.head.name,
+    moved_on (declared.Function tree) decls (first_place name (map function_name decls)), function_is decls name)
 function_is (decl ∷ decls) name = moved_on decl decls _ ∙ function_is decls name
 
 function_at_is : (decls : List Decl) (name : Text) → function_at decls (function_places decls) name ≡
