@@ -1,32 +1,11 @@
 -- The lines of a section, and of all sections one by one.
-use Rattle.sc_types.proofs.Common.{Bool, BrokenLines, Callees, ExportLine, ImportLine, List, None, Option, SectionTree}
-use Rattle.sc_types.proofs.Common.{Some, [], add-one, ap, callees_of, concat, counts_broken, decls_nodes, drop}
-use Rattle.sc_types.proofs.Common.{drop-cons, drop_all, function_lines, functions_in, get_or, global_lines, globals_in}
-use Rattle.sc_types.proofs.Common.{head_lines, heads_in, length, line_beyond, line_of_some, line_of_text, lines_from}
-use Rattle.sc_types.proofs.Common.{map, most_compartments, most_exports, most_nodes, nat_le, noted_all, refl}
-use Rattle.sc_types.proofs.Common.{refused_at, slice_get, structs_from, structs_in, suc, sym, then, unless, with_lines}
-use Rattle.sc_types.proofs.Common.{ℕ, ◌&&◌, ◌+◌, ◌<◌, ◌∙◌, ◌∷◌, ◌≡◌, ◌≤◌}
+use Rattle.sc_types.proofs.Common.{BrokenLines, List, None, Option, SectionTree, Some, [], add-one, ap, callees_of}
+use Rattle.sc_types.proofs.Common.{counts_broken, drop, drop-cons, drop_all, get_or, length, line_beyond, line_of_some}
+use Rattle.sc_types.proofs.Common.{line_of_text, lines_from, most_compartments, noted_all, refl, refused_at, slice_get}
+use Rattle.sc_types.proofs.Common.{suc, sym, with_lines, ℕ, ◌+◌, ◌<◌, ◌∙◌, ◌∷◌, ◌≡◌, ◌≤◌}
 use Rattle.sc_types.specs.Prelude.{section_lines}
 use Rattle.sc_scope.proofs.Noting.{noted_all-append}
-use Rattle.sc_types.proofs.TypedNodes.{section-nodes}
 use Rattle.sc_scope.proofs.Noted.{noted-none}
-
-pub section-noted : (section : SectionTree) (callees : Callees) (sizes : SectionTree) (short : Bool)
-    (old a b c d e f g : BrokenLines) → sizes ≡ section → short ≡ (nat_le (decls_nodes section.decls) most_nodes &&
-    nat_le (length section.decls) most_nodes) → a ≡ with_lines old (unless short 1) →
-    b ≡ with_lines a (line_beyond {A = ExportLine} (λ line. line.line) most_exports section.exports) →
-    c ≡ with_lines b (line_beyond {A = ImportLine} (λ line. line.line) most_exports section.imports) →
-    d ≡ with_lines c (structs_from sizes 0 (structs_in section.decls)) →
-    e ≡ with_lines d (concat (map (global_lines sizes) (globals_in section.decls))) → f ≡ with_lines e
-    (concat (map (head_lines sizes) (heads_in section.decls))) → g ≡ with_lines f (concat (map (function_lines sizes)
-    (functions_in section.decls))) → g ≡ with_lines old (section_lines section callees)
-section-noted section callees sizes short old a b c d e f g s h p q r t u v w =
-    then old a g _ _ (p ∙ ap (λ x. with_lines old (unless x 1)) (h ∙ ap (λ n. nat_le n most_nodes &&
-    nat_le (length section.decls) most_nodes) (sym (section-nodes section callees)))) (then a b g _ _ q
-    (then b c g _ _ r (then c d g _ _ (t ∙ ap (λ x. with_lines c (structs_from x 0 (structs_in section.decls))) s)
-    (then d e g _ _ (u ∙ ap (λ x. with_lines d (concat (map (global_lines x) (globals_in section.decls)))) s)
-    (then e f g _ _ (v ∙ ap (λ x. with_lines e (concat (map (head_lines x) (heads_in section.decls)))) s)
-    (w ∙ ap (λ x. with_lines f (concat (map (function_lines x) (functions_in section.decls)))) s))))))
 
 -- The sections.
 
