@@ -5,8 +5,9 @@ use Rattle.sc_types.proofs.lines.heads_lines.Goals as goal
 pub loop-decl-preserved : goal.loop-decl-preserved
 loop-decl-preserved c =
     kind-noted head_in (head_lines c.args.sizes.now) c.as_slice-decl-items.result.now c.loop-decl.decl-index
-    c.decl-item.result _ c.loop-decl.lines _ _ c.loop-decl-test.true c.decl-item.is c.loop-decl.invariant c.if_head.ensures
+    c.decl-item.result _ c.loop-decl.lines _ _ c.loop-decl-test.true c.decl-item.is c.loop-decl.invariant
+    c.if_head.ensures
 
 pub returns : goal.returns
-returns c = kind-done head_in (head_lines c.args.sizes.now) c.as_slice-decl-items.result.now c.loop-decl.decl-index
-    _ _ _ c.loop-decl-test.false c.loop-decl.invariant
+returns c = kind-done head_in (head_lines c.args.sizes.now) c.as_slice-decl-items.result.now
+    c.loop-decl.decl-index _ _ _ c.loop-decl-test.false c.loop-decl.invariant
