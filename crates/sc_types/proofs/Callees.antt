@@ -6,11 +6,10 @@ use Rattle.sc_types.proofs.Common.{declared, export_at, false, function_names, f
 use Rattle.sc_types.proofs.Common.{head_of, heads_in, if◌then◌else◌, implied, import_named, import_names, import_of}
 use Rattle.sc_types.proofs.Common.{import_target, imported_target, input_name, interface_of, interfaces_of, is_callable}
 use Rattle.sc_types.proofs.Common.{is_environment, is_input, is_numbered, is_offered, is_output, is_some, known_in}
-use Rattle.sc_types.proofs.Common.{list_any, list_any-append, map, not, number_or_zero, offered, offering, option_map}
-use Rattle.sc_types.proofs.Common.{option_signature, or_first, or_right, output_name, promised, proto_names}
-use Rattle.sc_types.proofs.Common.{proto_signature, refl, same_import, same_text, signature_by, slice_get}
-use Rattle.sc_types.proofs.Common.{slice_get-map, subst, sym, tags, target_or, target_signature, true, typed_section, ℕ}
-use Rattle.sc_types.proofs.Common.{◌++◌, ◌||◌, ◌∙◌, ◌∷◌, ◌≡◌}
+use Rattle.sc_types.proofs.Common.{list_any, list_any-append, map, not, offered, offering, option_map, option_signature}
+use Rattle.sc_types.proofs.Common.{or_first, or_right, output_name, promised, proto_names, proto_signature, refl}
+use Rattle.sc_types.proofs.Common.{same_import, same_text, signature_by, slice_get, slice_get-map, subst, sym, tags}
+use Rattle.sc_types.proofs.Common.{target_or, target_signature, true, typed_section, ℕ, ◌++◌, ◌||◌, ◌∙◌, ◌∷◌, ◌≡◌}
 use Rattle.sc_event.specs.declared.interface.Import.{Import}
 use Rattle.sc_event.specs.declared.interface.Import.TheVariants as import
 use Rattle.sc_core.specs.declared.ty.Ty.TheVariants as ty
@@ -132,8 +131,7 @@ module _ (sections : List SectionTree) (hold : (j : ℕ) (s : SectionTree) → s
       g = find_function _ _ defined
 
       import_is : import_of sections number line ≡ import.Function o.number export.at
-      import_is = ap (λ b. import_by b (bytes_eq line.name input_name)) env
-          ∙ ap (offered line) o.is ∙ ap (λ n. import.Function o.number (number_or_zero n)) export.place
+      import_is = cc (env, o.is, export.place)
 
       with_all : agrees_with (heads_in other.decls) head ≡ true
       with_all = sym (ap (agrees_there sections number section head) o.is)
@@ -154,8 +152,7 @@ module _ (sections : List SectionTree) (hold : (j : ℕ) (s : SectionTree) → s
       head_is = or_not _ _ h.holds.0 (or_right _ _ there_name)
 
       proto_is : export_at (interfaces_of sections) o.number export.at ≡ Some (promised export_line.name (Some g.tree))
-      proto_is = export_is sections o.number other export.at export_line o.got export.got
-          ∙ ap (λ t. Some (promised export_line.name t)) g.first
+      proto_is = cc (export_is sections o.number other export.at export_line o.got export.got, g.first)
 
       other_goal : Goal (import_of sections number line)
       other_goal = subst Goal (sym import_is) (ap (λ b. allowed b

@@ -1,8 +1,8 @@
 -- The lines of a section, and of all sections one by one.
 use Rattle.sc_types.proofs.Common.{BrokenLines, List, None, Option, SectionTree, Some, [], add-one, ap, callees_of}
-use Rattle.sc_types.proofs.Common.{counts_broken, drop, drop-cons, drop_all, get_or, length, line_beyond, line_of_some}
-use Rattle.sc_types.proofs.Common.{line_of_text, lines_from, most_compartments, noted_all, refl, refused_at, slice_get}
-use Rattle.sc_types.proofs.Common.{suc, sym, with_lines, ℕ, ◌+◌, ◌<◌, ◌∙◌, ◌∷◌, ◌≡◌, ◌≤◌}
+use Rattle.sc_types.proofs.Common.{counts_broken, drop, drop-cons, drop_all, get_or, length, line_beyond, line_of_text}
+use Rattle.sc_types.proofs.Common.{lines_from, most_compartments, noted_all, refl, refused_at, slice_get, suc, sym}
+use Rattle.sc_types.proofs.Common.{with_lines, ℕ, ◌+◌, ◌<◌, ◌∙◌, ◌∷◌, ◌≡◌, ◌≤◌}
 use Rattle.sc_types.specs.Prelude.{section_lines}
 use Rattle.sc_scope.proofs.Noting.{noted_all-append}
 use Rattle.sc_scope.proofs.Noted.{noted-none}
@@ -18,19 +18,16 @@ beyond sections = line_beyond {A = SectionTree} (λ section. line_of_text sectio
 
 pub none-refused : (sections : List SectionTree) → None ≡ slice_get sections most_compartments →
     None ≡ refused_at (beyond sections)
-none-refused sections n =
-    sym (noted-none None) ∙ ap (λ s. noted_all None (line_of_some (λ section. line_of_text section.line 1) s)) n
+none-refused sections n = cc (noted-none None)
 
 pub some-refused : (sections : List SectionTree) (section : SectionTree) (line : ℕ) →
     Some section ≡ slice_get sections most_compartments → line ≡ line_of_text section.line 1 →
     Some line ≡ refused_at (beyond sections)
-some-refused sections section line n l = ap Some l
-    ∙ (sym (noted-first _) ∙ ap (λ s. noted_all None (line_of_some (λ section. line_of_text section.line 1) s)) n)
+some-refused sections section line n l = cc (noted-first line)
 
 pub counts-begun : (sections : List SectionTree) (least : Option ℕ) → least ≡ refused_at (beyond sections) →
     noted_all least (lines_from sections 0 sections) ≡ refused_at (counts_broken sections)
-counts-begun sections least h =
-    ap (λ l. noted_all l (lines_from sections 0 sections)) h ∙ sym (noted_all-append None _ _)
+counts-begun sections least h = cc (noted_all-append None (beyond sections) (lines_from sections 0 sections))
 
 pub count-noted : (sections : List SectionTree)
     (i : ℕ) (section : SectionTree) (least : Option ℕ) (lines : BrokenLines) (all : Option ℕ) → i < length sections →
@@ -44,4 +41,4 @@ count-noted sections i section least lines all lt is p q = rw add-one (ap (λ l.
 pub counts-noted : (sections : List SectionTree) (i : ℕ) (least : Option ℕ) (all : Option ℕ) → length sections ≤ i →
     noted_all least (lines_from sections i (drop i sections)) ≡ all → least ≡ all
 counts-noted sections i least all le p =
-    sym (noted-none least) ∙ (ap (λ rest. noted_all least (lines_from sections i rest)) (sym (drop_all i _ le)) ∙ p)
+    cc (noted-none least, drop_all i sections le)

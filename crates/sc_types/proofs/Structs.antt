@@ -207,8 +207,7 @@ module _ (all : List Text) where
       and_from _ _ (ap (nat_le 1) (members_length all done 0 tree.members) ∙ known.some)
       (and_from _ _ members (subst (λ o. nat_le (struct_cells o) most_cells ≡ true) got small)) where
         got : slice_get structs (length names) ≡ Some (typed_struct all done tree)
-        got = ap (λ s. slice_get s (length names)) whole ∙ ap (slice_get (done ++ typed_struct all done tree ∷ more))
-            (sym size) ∙ get_behind done (typed_struct all done tree) more
+        got = cc (get_behind done (typed_struct all done tree) more)
 
         whole_cells : nat_le (cells_from all done 0 tree.members) most_cells ≡ true
         whole_cells = subst (λ o. nat_le (struct_cells o) most_cells ≡ true) got small
@@ -219,11 +218,8 @@ module _ (all : List Text) where
 
         members : members_fit structs (length names) 0 (members_from all done 0 tree.members)
             (cells_from all done 0 tree.members) ≡ true
-        members = subst (λ s. members_fit s (length names) 0 (members_from all done 0 tree.members)
-            (cells_from all done 0 tree.members) ≡ true) (sym whole) (subst (λ a. members_fit (done ++
-            typed_struct all done tree ∷ more) (length names) 0 (members_from a done 0 tree.members)
-            (cells_from a done 0 tree.members) ≡ true) is (members_are names tree.name after known.new done
-            (typed_struct all done tree ∷ more) size 0 tree.members known.members known.sized within))
+        members = cc (members_are names tree.name after known.new done (typed_struct all done tree ∷ more) size 0
+            tree.members known.members known.sized within)
 
   rest_fit : (names : List Text) (trees : List StructTree) (done structs : List TypedStruct) →
       names ++ tags_of trees ≡ all → length done ≡ length names → structs ≡ done ++ rest_of all done trees →

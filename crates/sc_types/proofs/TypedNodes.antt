@@ -1,15 +1,16 @@
 -- What is typed has as many nodes as its tree.
 use Rattle.sc_types.proofs.Common.{BinaryOp, Bool, CallTree, Callees, Each, ExprTree, ExprTree-F, Found, FunctionTree}
 use Rattle.sc_types.proofs.Common.{Inside, List, LocalTree, None, Option, SectionTree, SimpleKind, SimpleTree, Some}
-use Rattle.sc_types.proofs.Common.{StmtKind, StmtKind-F, StmtTree, Ty, TypedExpr, TypedKind, TypedStmt, TypedStmtKind}
-use Rattle.sc_types.proofs.Common.{Under, Visible, [], ap, ap₂, beside, call_nodes, cond, decayed, decls_nodes}
-use Rattle.sc_types.proofs.Common.{expr_induction, expr_nodes, expr_step, false, found, function_nodes, going_to}
-use Rattle.sc_types.proofs.Common.{going_to_all, going_to_some, init_nodes, kind_step as typed_kind_step, length-map}
-use Rattle.sc_types.proofs.Common.{local_nodes, map, map-ExprTree, nodes, option_map, part_nodes, refl, result_of}
-use Rattle.sc_types.proofs.Common.{rules, simple_nodes, step, stmt_induction, stmt_nodes, stmt_step as typed_stmt_step}
-use Rattle.sc_types.proofs.Common.{suc, sym, the_lemmas, total, true, typed_call, typed_function, typed_init}
-use Rattle.sc_types.proofs.Common.{typed_locals, typed_section, typed_simple, typed_simple_kind, typed_stmt}
-use Rattle.sc_types.proofs.Common.{variable_typed, visible_in, visible_of, ℕ, ◌+◌, ◌∙◌, ◌∷◌, ◌≡◌}
+use Rattle.sc_types.proofs.Common.{StmtKind, StmtKind-F, StmtTree, Ty, TypedExpr, TypedKind, TypedKind-F, TypedStmt}
+use Rattle.sc_types.proofs.Common.{TypedStmtKind, TypedStmtKind-F, Under, Visible, [], ap, ap₂, beside, call_nodes}
+use Rattle.sc_types.proofs.Common.{cond, decayed, decls_nodes, expr_induction, expr_nodes, expr_step, false, found}
+use Rattle.sc_types.proofs.Common.{function_nodes, going_to, going_to_all, going_to_some, init_nodes}
+use Rattle.sc_types.proofs.Common.{kind_step as typed_kind_step, length-map, local_nodes, map, map-ExprTree, nodes}
+use Rattle.sc_types.proofs.Common.{option_map, part_nodes, refl, result_of, roll-TypedKind, roll-TypedStmtKind, rules}
+use Rattle.sc_types.proofs.Common.{simple_nodes, step, stmt_induction, stmt_nodes, stmt_step as typed_stmt_step, suc}
+use Rattle.sc_types.proofs.Common.{sym, the_lemmas, total, true, typed_call, typed_function, typed_init, typed_locals}
+use Rattle.sc_types.proofs.Common.{typed_section, typed_simple, typed_simple_kind, typed_stmt, variable_typed}
+use Rattle.sc_types.proofs.Common.{visible_in, visible_of, ℕ, ◌+◌, ◌∙◌, ◌∷◌, ◌≡◌}
 use Rattle.sc_elab_expr.specs.Prelude.{typed}
 use Rattle.sc_types.specs.Prelude.{kind_step, stmt_step}
 use Rattle.sc_base.specs.declared.op.BinaryOp.TheVariants as tree_op
@@ -17,26 +18,16 @@ use Rattle.sc_ast.specs.declared.expr.ExprTree.TheOpen as tree
 use Rattle.sc_ast.specs.declared.stmt.SimpleKind.TheVariants as simple_tree
 use Rattle.sc_ast.specs.declared.stmt.StmtKind.TheOpen as layer
 use Rattle.sc_ast.proofs.Layers as layers
-use Rattle.sc_core.specs.declared.expr.TypedKind as term
-use Rattle.sc_core.specs.declared.stmt.TypedStmtKind as kind
 use Rattle.sc_core.specs.Sizes as core
 use Rattle.sc_core.specs.declared.expr.TypedKind.TheOpen as open_term
-use Rattle.sc_core.specs.declared.expr.TypedKind.TheVariants.{rolls-Address, rolls-Arrow, rolls-Binary, rolls-Deref}
-use Rattle.sc_core.specs.declared.expr.TypedKind.TheVariants.{rolls-Index, rolls-Literal, rolls-Member, rolls-Unary}
-use Rattle.sc_core.specs.declared.expr.TypedKind.TheVariants.{rolls-Variable}
 use Rattle.sc_core.specs.declared.stmt.TypedStmtKind.TheOpen as open_kind
-use Rattle.sc_core.specs.declared.stmt.TypedStmtKind.TheVariants.{rolls-Assign, rolls-AssignCall, rolls-Break}
-use Rattle.sc_core.specs.declared.stmt.TypedStmtKind.TheVariants.{rolls-Call, rolls-Continue, rolls-Empty, rolls-For}
-use Rattle.sc_core.specs.declared.stmt.TypedStmtKind.TheVariants.{rolls-If, rolls-Return, rolls-ReturnCall}
-use Rattle.sc_core.specs.declared.stmt.TypedStmtKind.TheVariants.{rolls-ReturnValue, rolls-While}
 use Rattle.sc_core.proofs.Layers as core_layers
 
 -- The nodes of a typed expression, by the layer of its kind.
 
-node-at : (t : Ty) (x : TypedKind) (k : term.TypedKind-F TypedKind TypedExpr) → term.roll-TypedKind k ≡ x →
-    core.expr_nodes (record { ty = t; kind = x }) ≡ core_layers.term_of ℕ ℕ core.term_nodes (λ e. e.kind) k
-node-at t x k is = ap (λ x. core.expr_nodes (record { ty = t; kind = x })) (sym is) ∙
-    core_layers.expr_at ℕ ℕ core.term_nodes (λ e. e.kind) t k
+node-at : (t : Ty) (k : TypedKind-F TypedKind TypedExpr) →
+    core.expr_nodes (core_layers.typed t k) ≡ core_layers.term_of ℕ ℕ core.term_nodes (λ e. e.kind) k
+node-at t k = core_layers.expr_at ℕ ℕ core.term_nodes (λ e. e.kind) t k
 
 -- its type doesn't count
 kind-alone : (t u : Ty) (k : TypedKind) → core.expr_nodes (record { ty = t; kind = k }) ≡
@@ -72,8 +63,9 @@ beside-nodes tree_op.NotEqual other e = going other e
 beside-nodes o other e = refl
 
 variable-nodes : (f : Option Found) → core.expr_nodes (variable_typed f) ≡ 1
-variable-nodes None = node-at _ _ (open_term.Variable _) (rolls-Variable _)
-variable-nodes (Some f) = node-at _ _ (open_term.Variable _) (rolls-Variable _)
+unfolding roll-TypedKind denote.Hole.Carrier.roll
+variable-nodes None = node-at _ (open_term.Variable _)
+variable-nodes (Some f) = node-at _ (open_term.Variable _)
 
 module _ (visible : Visible) where
   abbrev AsTree : ExprTree → Type 0
@@ -81,17 +73,18 @@ module _ (visible : Visible) where
 
   step-nodes : (t : ExprTree-F ExprTree) → Under AsTree t →
       core.expr_nodes (step visible (map-ExprTree _ _ (typed visible) t)) ≡ expr_step (map-ExprTree _ _ expr_nodes t)
-  step-nodes (tree.Literal number) h = node-at _ _ (open_term.Literal _) (rolls-Literal _)
+  unfolding roll-TypedKind denote.Hole.Carrier.roll
+  step-nodes (tree.Literal number) h = node-at _ (open_term.Literal _)
   step-nodes (tree.Variable name) h = variable-nodes (found visible name)
-  step-nodes (tree.Unary o a) h = node-at _ _ (open_term.Unary o _) (rolls-Unary _ _) ∙ ap suc h
-  step-nodes (tree.Binary o a b) h =
-      node-at _ _ (open_term.Binary o _ _) (rolls-Binary _ _ _) ∙ ap₂ (λ m n. suc (m + n)) (beside-nodes o
-      (typed visible b).ty (typed visible a) ∙ h.0) (beside-nodes o (typed visible a).ty (typed visible b) ∙ h.1)
-  step-nodes (tree.Index a b) h = node-at _ _ (open_term.Index _ _) (rolls-Index _ _) ∙ ap₂ (λ m n. suc (m + n)) h.0 h.1
-  step-nodes (tree.Member a name) h = node-at _ _ (open_term.Member _ _) (rolls-Member _ _) ∙ ap suc h
-  step-nodes (tree.Arrow a name) h = node-at _ _ (open_term.Arrow _ _) (rolls-Arrow _ _) ∙ ap suc h
-  step-nodes (tree.Deref a) h = node-at _ _ (open_term.Deref _) (rolls-Deref _) ∙ ap suc h
-  step-nodes (tree.Address a) h = node-at _ _ (open_term.Address _) (rolls-Address _) ∙ ap suc h
+  step-nodes (tree.Unary o a) h = node-at _ (open_term.Unary o _) ∙ ap suc h
+  step-nodes (tree.Binary o a b) h = node-at _ (open_term.Binary o _ _) ∙
+      ap₂ (λ m n. suc (m + n)) (beside-nodes o (typed visible b).ty (typed visible a) ∙ h.0)
+      (beside-nodes o (typed visible a).ty (typed visible b) ∙ h.1)
+  step-nodes (tree.Index a b) h = node-at _ (open_term.Index _ _) ∙ ap₂ (λ m n. suc (m + n)) h.0 h.1
+  step-nodes (tree.Member a name) h = node-at _ (open_term.Member _ _) ∙ ap suc h
+  step-nodes (tree.Arrow a name) h = node-at _ (open_term.Arrow _ _) ∙ ap suc h
+  step-nodes (tree.Deref a) h = node-at _ (open_term.Deref _) ∙ ap suc h
+  step-nodes (tree.Address a) h = node-at _ (open_term.Address _) ∙ ap suc h
 
   pub typed-nodes : (e : ExprTree) → core.expr_nodes (typed visible e) ≡ expr_nodes e
   typed-nodes = expr_induction AsTree
@@ -118,11 +111,9 @@ module _ (visible : Visible) where
 
 -- The nodes of a typed statement, by the layer of its kind.
 
-stmt-node-at : (line : ℕ) (x : TypedStmtKind) (k : kind.TypedStmtKind-F TypedStmtKind TypedStmt) →
-    kind.roll-TypedStmtKind k ≡ x → core.stmt_nodes (record { line = line; kind = x }) ≡
-    core_layers.layer_of ℕ ℕ core.kind_nodes (λ s. s.kind) k
-stmt-node-at line x k is = ap (λ x. core.stmt_nodes (record { line = line; kind = x })) (sym is) ∙
-    core_layers.stmt_at ℕ ℕ core.kind_nodes (λ s. s.kind) line k
+stmt-node-at : (line : ℕ) (k : TypedStmtKind-F TypedStmtKind TypedStmt) →
+    core.stmt_nodes (core_layers.on_line line k) ≡ core_layers.layer_of ℕ ℕ core.kind_nodes (λ s. s.kind) k
+stmt-node-at line k = core_layers.stmt_at ℕ ℕ core.kind_nodes (λ s. s.kind) line k
 
 module _ (visible : Visible) (callees : Callees) (result : Option Ty) where
   abbrev StmtAsTree : StmtTree → Type 0
@@ -139,29 +130,27 @@ module _ (visible : Visible) (callees : Callees) (result : Option Ty) where
 
   layer-nodes : (line : ℕ) (k : StmtKind-F StmtKind StmtTree) → Inside StmtAsTree k →
       core.stmt_nodes (record { line = line; kind = typed_layer k }) ≡ layers.layer_of ℕ ℕ kind_step stmt_step k
-  layer-nodes line layer.Empty h = stmt-node-at line _ open_kind.Empty rolls-Empty
-  layer-nodes line (layer.Assign place value) h = stmt-node-at line _ (open_kind.Assign _ _) (rolls-Assign _ _)
+  unfolding roll-TypedStmtKind denote.Hole.Carrier.roll
+  layer-nodes line layer.Empty h = stmt-node-at line open_kind.Empty
+  layer-nodes line (layer.Assign place value) h = stmt-node-at line (open_kind.Assign _ _)
       ∙ ap₂ (λ a b. suc (a + b)) (typed-nodes visible place) (value-nodes visible callees place value)
-  layer-nodes line (layer.AssignCall place call) h = stmt-node-at line _ (open_kind.AssignCall _ _)
-      (rolls-AssignCall _ _) ∙ ap₂ (λ a b. suc (a + b)) (typed-nodes visible place) (call-nodes visible callees call)
-  layer-nodes line (layer.Call call) h =
-      stmt-node-at line _ (open_kind.Call _) (rolls-Call _) ∙ ap suc (call-nodes visible callees call)
-  layer-nodes line (layer.If c first second) h =
-      stmt-node-at line _ (open_kind.If _ _ _) (rolls-If _ _ _) ∙ ap₂ (λ a b. suc (a + b))
-      (ap₂ (λ a b. a + b) (typed-nodes visible c) (each-nodes first h.0)) (each-nodes second h.1)
-  layer-nodes line (layer.While c body) h = stmt-node-at line _
-      (open_kind.While _ _) (rolls-While _ _) ∙ ap₂ (λ a b. suc (a + b)) (typed-nodes visible c) (each-nodes body h)
-  layer-nodes line (layer.For first c next body) h =
-      stmt-node-at line _ (open_kind.For _ _ _ _) (rolls-For _ _ _ _) ∙
-      (λ i. suc (part-nodes visible callees first i + typed-nodes visible c i + part-nodes visible callees next i +
+  layer-nodes line (layer.AssignCall place call) h = stmt-node-at line (open_kind.AssignCall _ _)
+      ∙ ap₂ (λ a b. suc (a + b)) (typed-nodes visible place) (call-nodes visible callees call)
+  layer-nodes line (layer.Call call) h = stmt-node-at line (open_kind.Call _) ∙ ap suc (call-nodes visible callees call)
+  layer-nodes line (layer.If c first second) h = stmt-node-at line (open_kind.If _ _ _)
+      ∙ (λ i. suc (typed-nodes visible c i + each-nodes first h.0 i + each-nodes second h.1 i))
+  layer-nodes line (layer.While c body) h = stmt-node-at line (open_kind.While _ _)
+      ∙ (λ i. suc (typed-nodes visible c i + each-nodes body h i))
+  layer-nodes line (layer.For first c next body) h = stmt-node-at line (open_kind.For _ _ _ _)
+      ∙ (λ i. suc (part-nodes visible callees first i + typed-nodes visible c i + part-nodes visible callees next i +
       each-nodes body h i))
-  layer-nodes line layer.Break h = stmt-node-at line _ open_kind.Break rolls-Break
-  layer-nodes line layer.Continue h = stmt-node-at line _ open_kind.Continue rolls-Continue
-  layer-nodes line layer.Return h = stmt-node-at line _ open_kind.Return rolls-Return
-  layer-nodes line (layer.ReturnValue value) h = stmt-node-at line _
-      (open_kind.ReturnValue _) (rolls-ReturnValue _) ∙ ap suc (going-some result _ ∙ typed-nodes visible value)
+  layer-nodes line layer.Break h = stmt-node-at line open_kind.Break
+  layer-nodes line layer.Continue h = stmt-node-at line open_kind.Continue
+  layer-nodes line layer.Return h = stmt-node-at line open_kind.Return
+  layer-nodes line (layer.ReturnValue value) h =
+      stmt-node-at line (open_kind.ReturnValue _) ∙ ap suc (going-some result _ ∙ typed-nodes visible value)
   layer-nodes line (layer.ReturnCall call) h =
-      stmt-node-at line _ (open_kind.ReturnCall _) (rolls-ReturnCall _) ∙ ap suc (call-nodes visible callees call)
+      stmt-node-at line (open_kind.ReturnCall _) ∙ ap suc (call-nodes visible callees call)
 
   pub stmt-nodes : (s : StmtTree) → core.stmt_nodes (typed_stmt visible callees result s) ≡ stmt_nodes s
   stmt-nodes =

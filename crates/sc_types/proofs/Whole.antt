@@ -1,6 +1,6 @@
 -- A text that breaks no rule is a well-typed program.
 use Rattle.sc_types.proofs.Common.{AreLow, Bool, Callees, Decl, Function, FunctionTree, Interface, IsWellTyped, List}
-use Rattle.sc_types.proofs.Common.{None, Option, SectionTree, Some, TypedSection, [], and_first, and_from, and_rest}
+use Rattle.sc_types.proofs.Common.{Option, SectionTree, Some, TypedSection, [], and_first, and_from, and_rest}
 use Rattle.sc_types.proofs.Common.{any_passes_from_place, ap, append_assoc, are_distinct, arith, bytes_eq, callees_of}
 use Rattle.sc_types.proofs.Common.{codes, counts_broken, decl_count, defines_main, environment, false, functions_in}
 use Rattle.sc_types.proofs.Common.{get_behind, globals_in, head_of, if◌then◌else◌, interface_broken, interface_fits}
@@ -256,9 +256,7 @@ module _ (sections : List SectionTree) where
         by_case (defines_main section) (find defines_main rest) _ (main_place (suc k) rest) where
           by_case : (b : Bool) (o : Option ℕ) (m : ℕ) → m ≡ option_map_or (λ j. suc k + j) o 0 →
               (if b then k else m) ≡ option_map_or (λ j. k + j) (if b then Some 0 else option_map suc o) 0
-          by_case true o m h = plus_zero k
-          by_case false None m h = h
-          by_case false (Some j) m h = h ∙ omega arith
+          by_case b o m h = grind arith
 
     typed_from : (k : ℕ) (rest : List SectionTree) (j : ℕ) (section : SectionTree) → slice_get rest j ≡ Some section →
         slice_get (sections_from sections k rest) j ≡ Some (typed_section section (callees_of sections (k + j) section))
