@@ -1,6 +1,6 @@
 -- Agreement of heads is symmetric, and heads that agree agree with the same heads.
 use Rattle.sc_interfaces.proofs.Common.{HeadTree, List, None, Option, ParamTree, Some, TypeName, [], agree, and_parts}
-use Rattle.sc_interfaces.proofs.Common.{ap, ap₂, eqb-true, nat_eq, nat_eq_equiv, nat_list_eq_equiv, refl, same_base}
+use Rattle.sc_interfaces.proofs.Common.{ap₂, arith, eqb-true, nat_eq, nat_eq_equiv, nat_list_eq_equiv, refl, same_base}
 use Rattle.sc_interfaces.proofs.Common.{same_params, same_result, same_type, true, ◌&&◌, ◌∷◌, ◌≡◌}
 use Rattle.sc_ast.specs.declared.types.BaseTree.{BaseTree}
 use Rattle.sc_ast.specs.declared.types.BaseTree.TheVariants as base
@@ -24,8 +24,7 @@ type_symm a b = ap₂ (λ x y. x && y) (nat_eq_equiv.symm a.stars b.stars) (base
 type_left : (a b c : TypeName) → same_type a b ≡ true → same_type a c ≡ same_type b c
 type_left a b c h =
     let parts = and_parts (nat_eq a.stars b.stars) (same_base a.base b.base) h in
-    ap₂ (λ x y. x && y) (ap (λ n. nat_eq n c.stars) (eqb-true a.stars b.stars parts.0))
-    (base_left a.base b.base c.base parts.1)
+    cc (eqb-true a.stars b.stars parts.0, base_left a.base b.base c.base parts.1)
 
 result_symm : (a b : Option TypeName) → same_result a b ≡ same_result b a
 result_symm (Some a) (Some b) = type_symm a b
@@ -46,16 +45,11 @@ params_symm _ _ = refl
 params_left : (xs ys zs : List ParamTree) → same_params xs ys ≡ true → same_params xs zs ≡ same_params ys zs
 params_left [] [] zs h = refl
 params_left (a ∷ xs) (b ∷ ys) [] h = refl
-params_left (a ∷ xs) (b ∷ ys) (c ∷ zs) h =
-    let parts = and_parts (same_type a.ty b.ty) (same_params xs ys) h in
-    ap₂ (λ x y. x && y) (type_left a.ty b.ty c.ty parts.0) (params_left xs ys zs parts.1)
+params_left (a ∷ xs) (b ∷ ys) (c ∷ zs) h = grind (arith, type_left a.ty b.ty c.ty, params_left xs ys zs)
 params_left _ _ zs h = cc
 
 pub agree_symm : (a b : HeadTree) → agree a b ≡ agree b a
 agree_symm a b = ap₂ (λ x y. x && y) (result_symm a.result b.result) (params_symm a.params b.params)
 
 pub agree_left : (a b c : HeadTree) → agree a b ≡ true → agree a c ≡ agree b c
-agree_left a b c h =
-    let parts = and_parts (same_result a.result b.result) (same_params a.params b.params) h in
-    ap₂ (λ x y. x && y) (result_left a.result b.result c.result parts.0)
-    (params_left a.params b.params c.params parts.1)
+agree_left a b c h = grind (arith, result_left a.result b.result c.result, params_left a.params b.params c.params)

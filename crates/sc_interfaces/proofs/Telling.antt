@@ -1,12 +1,12 @@
 -- The rules by tables are the rules.
 use Rattle.sc_interfaces.proofs.Common.{Agreements, Bool, Decl, ExportLine, Function, HeadTree, ImportLine, List, None}
 use Rattle.sc_interfaces.proofs.Common.{Option, ParamTree, Proto, SectionTable, SectionTree, Some, Text, TypeName, []}
-use Rattle.sc_interfaces.proofs.Common.{add-one, added, agree, agrees_first, agrees_with, all_added, all_numbered}
-use Rattle.sc_interfaces.proofs.Common.{allowed, among, and-false, and-true, ap, ap₂, arith, bytes_eq, decl_told}
-use Rattle.sc_interfaces.proofs.Common.{decls_told, defines_main, drop, drop-step, environment_added, export_names}
-use Rattle.sc_interfaces.proofs.Common.{exports_told, false, filter_map-append, first_added, first_by_name, forbidden}
-use Rattle.sc_interfaces.proofs.Common.{function_names, get_or, gives_int, head_added, head_fits_by, head_in, head_of}
-use Rattle.sc_interfaces.proofs.Common.{heads_in, if◌then◌else◌, import_added, import_names, imported_by, imports_added}
+use Rattle.sc_interfaces.proofs.Common.{added, agree, agrees_first, agrees_with, all_added, all_numbered, allowed}
+use Rattle.sc_interfaces.proofs.Common.{among, and-false, and-true, ap, ap₂, arith, bytes_eq, decl_told, decls_told}
+use Rattle.sc_interfaces.proofs.Common.{defines_main, drop, drop-step, environment_added, export_names, exports_told}
+use Rattle.sc_interfaces.proofs.Common.{false, filter_map-append, first_added, first_by_name, forbidden, function_names}
+use Rattle.sc_interfaces.proofs.Common.{get_or, gives_int, head_added, head_fits_by, head_in, head_of, heads_in}
+use Rattle.sc_interfaces.proofs.Common.{if◌then◌else◌, import_added, import_names, imported_by, imports_added}
 use Rattle.sc_interfaces.proofs.Common.{imports_told, input_head, input_name, int_type, is_environment, is_input}
 use Rattle.sc_interfaces.proofs.Common.{is_offered_by, is_output, is_some, length, length-map, line_of_text, lines_told}
 use Rattle.sc_interfaces.proofs.Common.{list_all, list_all-append, list_any, list_any-append, main_name, map}
@@ -333,10 +333,7 @@ turn_lines : (sections : List SectionTree) (tables : List SectionTable)
     (lines_told tables (k + 1) (mains || among (table_of section).functions main_name) (numbered before section.name)
     (drop (k + 1) sections)) ≡ noted_all least (lines_told tables k mains before (drop k sections))
 turn_lines sections tables k mains before section least within is =
-    sym (noted_all-append least _ _) ∙ (ap (λ n. noted_all least (map (line_of_text section.line)
-    (section_told tables k (table_of section) mains before section) ++ lines_told tables n (mains ||
-    among (table_of section).functions main_name) (numbered before section.name) (drop (k + 1) sections))) (add-one k)
-    ∙ ap (λ xs. noted_all least (lines_told tables k mains before xs)) (sym (drop-step _ k section within is)))
+    grind (arith, noted_all-append, drop-step sections k section within is)
 
 turn_mains : (sections : List SectionTree) (k : ℕ) (mains : Bool) (section : SectionTree) → k < length sections →
     section ≡ get_or sections k section → ((mains || among (table_of section).functions main_name) ||
@@ -357,18 +354,9 @@ pub sections_turn : (sections : List SectionTree)
 sections_turn sections tables k mains more before after section table least later total whole within is all its told
     found added earlier =
     let table_is = table_at _ tables k section table within is all its in
-    let told_is =
-    told ∙ ap (λ t. noted_all least (map (line_of_text section.line)
-    (section_told tables k t mains before section))) table_is in
-    let found_is =
-    found ∙ ap (λ t. mains || among t.functions main_name) table_is in (
-      ap (λ l. noted_all l (lines_told tables (k + 1) more after (drop (k + 1) sections))) told_is ∙
-          (ap₂ (λ m a. noted_all (noted_all least (map (line_of_text section.line)
-          (section_told tables k (table_of section) mains before section)))
-          (lines_told tables (k + 1) m a (drop (k + 1) sections))) found_is added ∙
-          (turn_lines _ tables k mains before section least within is ∙ earlier.0)),
-      ap (λ m. m || list_any defines_main (drop (k + 1) sections)) found_is ∙
-          (turn_mains _ k mains section within is ∙ earlier.1),
+    (
+      cc (table_is, earlier.0, turn_lines sections tables k mains before section least within is),
+      cc (table_is, earlier.1, turn_mains sections k mains section within is),
     )
 
 -- no section is left
@@ -379,10 +367,6 @@ pub sections_end : (sections : List SectionTree) (tables : List SectionTable) (k
     (drop k sections)) ≡ list_any defines_main sections) → last ≡ refused_at (Faces.interface_broken sections)
 sections_end sections tables k mains before least last past all told earlier =
     let none = drop_past _ k past in
-    let least_is = sym (noted-none least)
-    ∙ (ap (λ xs. noted_all least (lines_told tables k mains before xs)) (sym none) ∙ earlier.0) in
-    let mains_is = sym (or-false mains) ∙ (ap (λ xs. mains || list_any defines_main xs) (sym none) ∙ earlier.1) in
-    let lines_are = ap (λ all_tables. lines_told all_tables 0 false [] sections) all
-    ∙ lines_told_is sections 0 false [] [] sections refl same_none in
-    told ∙ (ap₂ (λ l m. noted_all l (unless m 0)) (least_is ∙ ap (noted_all None) lines_are) mains_is
-    ∙ sym (noted_all-append None (Faces.lines_from sections 0 [] sections) (unless (list_any defines_main sections) 0)))
+    let lines_are = lines_told_is sections 0 false [] [] sections refl same_none in
+    cc (none, earlier.0, earlier.1, noted-none least, or-false mains, lines_are,
+    noted_all-append None (Faces.lines_from sections 0 [] sections) (unless (list_any defines_main sections) 0))
