@@ -4,19 +4,13 @@ use Rattle.sc_interfaces.proofs.Common.{Struct, Text, [], all_added, ap, arith, 
 use Rattle.sc_interfaces.proofs.Common.{drop_all, export_fits, exports_told, false, get_or, head_added, head_in}
 use Rattle.sc_interfaces.proofs.Common.{heads_in, import_fits, imports_told, is_offered_by, length, numbered, refl}
 use Rattle.sc_interfaces.proofs.Common.{same_params, suc, sym, unless, with_lines, with_lines-append, with_lines-nil, ℕ}
-use Rattle.sc_interfaces.proofs.Common.{◌++◌, ◌+◌, ◌<◌, ◌∙◌, ◌∷◌, ◌≡◌, ◌≤◌}
+use Rattle.sc_interfaces.proofs.Common.{◌++◌, ◌+◌, ◌<◌, ◌∷◌, ◌≡◌, ◌≤◌}
 use Rattle.sc_scope.specs.declared.broken.BrokenLines.{BrokenLines}
 use Rattle.sc_interfaces.specs.declared.imports.Imported.{Imported}
 
 pub told_back : (broken : BrokenLines) (xs ys : List ℕ) →
     with_lines (with_lines broken xs) ys ≡ with_lines broken (xs ++ ys)
 told_back broken xs ys = sym (with_lines-append broken xs ys)
-
--- first these lines, then the others
-pub told_turn : (lines now total : BrokenLines) (these others whole : List ℕ) → now ≡ with_lines lines these →
-    whole ≡ these ++ others → with_lines lines whole ≡ total → with_lines now others ≡ total
-told_turn lines now total these others whole first cut last = ap (λ later. with_lines later others) first
-    ∙ (told_back lines these others ∙ (ap (with_lines lines) (sym cut) ∙ last))
 
 pub exports_turn : (functions before after : List Text)
     (xs : List ExportLine) (i : ℕ) (x : ExportLine) (holds : Bool) (lines now total : BrokenLines) → i < length xs →
