@@ -16,7 +16,7 @@ use Rattle.sc_ast.proofs.Layers as tree_layers
 use Rattle.sc_core.specs.declared.stmt.TypedStmtKind.TheOpen as layer
 use Rattle.sc_scope.specs.Names as names
 use Rattle.sc_elab_expr.specs.Expressions as elab
-use Rattle.sc_types.proofs.Basics.{rule_holds, no_lines}
+use Rattle.sc_types.proofs.Lookups.{rule_holds, no_lines}
 use Rattle.sc_core.proofs.Judged.{judged_ty}
 
 module _ (known : Known) (visible : Visible) (callees : Callees) (scope : Scope) (callable : Callable)

@@ -13,10 +13,8 @@ use Rattle.sc_types.proofs.Common.{target_or, target_signature, true, typed_sect
 use Rattle.sc_event.specs.declared.interface.Import.{Import}
 use Rattle.sc_event.specs.declared.interface.Import.TheVariants as import
 use Rattle.sc_core.specs.declared.ty.Ty.TheVariants as ty
-use Rattle.sc_types.proofs.Basics.{or_not, each_passes}
-use Rattle.sc_types.proofs.Places.{Text, same_refl, eq_refl}
-use Rattle.sc_types.proofs.Lookups.{each_at, FoundFunction, find_function, no_function, no_place, heads_of_functions}
-use Rattle.sc_types.proofs.Lookups.{FoundHead, find_head}
+use Rattle.sc_types.proofs.Lookups.{or_not, each_passes, Text, same_refl, eq_refl, each_at, FoundFunction}
+use Rattle.sc_types.proofs.Lookups.{find_function, no_function, no_place, heads_of_functions, FoundHead, find_head}
 use Rattle.sc_types.proofs.Facts.{ExportFacts, ImportFacts, DeclFacts, FaceFacts}
 use Rattle.sc_types.proofs.Calls.{agreed_signature, input_signature, output_signature, FoundBy, own_at, FoundImport}
 use Rattle.sc_types.proofs.Calls.{find_import, Offering, find_offering, found_export, export_is}

@@ -15,9 +15,8 @@ use Rattle.sc_interfaces.specs.Prelude.{same_base}
 use Rattle.sc_elab.proofs.Programs.{comp_at as elab_comp_at}
 use Rattle.sc_ast.specs.declared.types.BaseTree.TheVariants as base_tree
 use Rattle.sc_core.specs.declared.ty.Ty.TheVariants as ty
-use Rattle.sc_types.proofs.Basics.{Each}
-use Rattle.sc_types.proofs.Places.{Text, first_of, any_found, number_is}
-use Rattle.sc_types.proofs.Lookups.{each_at, same_sym, FoundFunction, find_names, any_names}
+use Rattle.sc_types.proofs.Lookups.{Each, Text, first_of, any_found, number_is, each_at, same_sym, FoundFunction}
+use Rattle.sc_types.proofs.Lookups.{find_names, any_names}
 
 -- Types that cross.
 

@@ -8,8 +8,8 @@ use Rattle.sc_types.proofs.Common.{proto_names, refl, same_text, section_lines, 
 use Rattle.sc_types.proofs.Common.{◌≡◌}
 use Rattle.sc_scope.specs.Prelude.{are_distinct}
 use Rattle.sc_types.specs.Counts as counts
-use Rattle.sc_types.proofs.Basics.{rule_holds, front_empty, back_empty, no_lines, Each}
-use Rattle.sc_types.proofs.Places.{Text, same_refl, numbered_front}
+use Rattle.sc_types.proofs.Lookups.{rule_holds, front_empty, back_empty, no_lines, Each, Text, same_refl}
+use Rattle.sc_types.proofs.Lookups.{numbered_front}
 
 -- Names that are new one after another are distinct.
 

@@ -25,8 +25,7 @@ use Rattle.sc_core.specs.declared.ty.BaseTy.TheVariants as base
 use Rattle.sc_core.specs.declared.section.TypedLocal.{TypedLocal}
 use Rattle.sc_scope.specs.Names as names
 use Rattle.sc_types.specs.Counts as counts
-use Rattle.sc_types.proofs.Basics.{rule_holds, front_empty, back_empty, no_lines}
-use Rattle.sc_types.proofs.Places.{Text, at_most, numbered_front}
+use Rattle.sc_types.proofs.Lookups.{rule_holds, front_empty, back_empty, no_lines, Text, at_most, numbered_front}
 use Rattle.sc_types.proofs.Structs.{Known, AllKnown, AllSmall, structs_length, type_is_within, name_is_within, is_less}
 use Rattle.sc_types.proofs.Bodies.{fits}
 use Rattle.sc_types.proofs.Heights as heights

@@ -1,13 +1,166 @@
--- What is found by a name among a section's declarations.
-use Rattle.sc_types.proofs.Common.{Bool, Decl, Function, FunctionTree, HeadTree, List, None, Proto, Some, [], arith}
-use Rattle.sc_types.proofs.Common.{bytes_eq, false, function_named, function_names, functions_in, head_named, head_of}
-use Rattle.sc_types.proofs.Common.{heads_in, if◌then◌else◌, inl, inr, is_numbered, list_all, list_any, map, number_of}
-use Rattle.sc_types.proofs.Common.{option_map, proto_names, refl, slice_get, suc, sym, true, zero, ℕ, ◌||◌, ◌∙◌, ◌∷◌}
-use Rattle.sc_types.proofs.Common.{◌≡◌}
-use Rattle.std.proofs.lemmas.Cmp.{nat_list_eq_equiv}
+-- Tests that hold and lists that are empty, places in lists, and what is found by a name among declarations.
+use Rattle.sc_types.proofs.Common.{Bool, Decides-eqb, Decl, Function, FunctionTree, HeadTree, List, None, Option, Proto}
+use Rattle.sc_types.proofs.Common.{Some, [], ap, arith, bytes_eq, concat, false, function_named, function_names}
+use Rattle.sc_types.proofs.Common.{functions_in, head_named, head_of, heads_in, if◌then◌else◌, inl, inr, is_numbered}
+use Rattle.sc_types.proofs.Common.{le-leb, leb-true, length, list_all, list_any, list_any-append, lt-ltb, map, nat_le}
+use Rattle.sc_types.proofs.Common.{nat_lt, not, number_of, number_or_zero, option_map, or_left, position, proto_names}
+use Rattle.sc_types.proofs.Common.{refl, slice_get, subst, suc, sym, true, unless, zero, ℕ, ◌++◌, ◌<◌, ◌==◌, ◌||◌, ◌∙◌}
+use Rattle.sc_types.proofs.Common.{◌∷◌, ◌≡◌, ◌≤◌}
+use Rattle.sc_base.proofs.Lists.{position-cons}
+use Rattle.std.proofs.lemmas.Slice.Eq.{bytes_eq-Decides}
 use Rattle.std.proofs.lemmas.Bool.{cases_Bool}
-use Rattle.sc_types.proofs.Basics.{Each, none_some, find}
-use Rattle.sc_types.proofs.Places.{Text, first_of, any_found, number_is}
+use Rattle.std.proofs.lemmas.Cmp.{nat_list_eq_equiv}
+
+pub or_not : (a b : Bool) → (a || not b) ≡ true → b ≡ true → a ≡ true
+or_not a b h q = grind arith
+
+pub some_item : {A B : Type 0} (x : A) (xs : List A) → x ∷ xs ≡ [] → B
+some_item x xs h = cc
+
+-- a rule that is broken at no line holds
+pub rule_holds : (b : Bool) (line : ℕ) → unless b line ≡ [] → b ≡ true
+rule_holds b line h = grind arith
+
+pub front_empty : {A : Type 0} (xs ys : List A) → xs ++ ys ≡ [] → xs ≡ []
+front_empty [] ys h = refl
+front_empty (x ∷ xs) ys h = cc
+
+pub back_empty : {A : Type 0} (xs ys : List A) → xs ++ ys ≡ [] → ys ≡ []
+back_empty [] ys h = h
+back_empty (x ∷ xs) ys h = cc
+
+-- what lists of lines hold that are empty together
+pub ruleset no_lines = (rule_holds, front_empty, back_empty)
+
+pub map_empty : {A B : Type 0} (f : A → B) (xs : List A) → map f xs ≡ [] → xs ≡ []
+map_empty f [] h = refl
+map_empty f (x ∷ xs) h = cc
+
+-- P of each
+abbrev pub Each : {A : Type 0} → (A → Type 0) → List A → Type 0
+Each P [] = Unit {0}
+Each P (x ∷ xs) = P x × Each P xs
+
+pub each_empty : {A : Type 0} (f : A → List ℕ) (xs : List A) → concat (map f xs) ≡ [] → Each (λ x. f x ≡ []) xs
+each_empty f [] h = tt
+each_empty f (x ∷ xs) h = grind (arith, no_lines, each_empty f xs)
+
+pub each_passes : {A : Type 0} (p : A → Bool) (xs : List A) → list_all p xs ≡ true → Each (λ x. p x ≡ true) xs
+each_passes p [] h = tt
+each_passes p (x ∷ xs) h = grind (arith, each_passes p xs)
+
+pub none_some : {A C : Type 0} (x : A) → None ≡ Some x → C
+none_some x h = cc
+
+-- the first place at which a test passes
+abbrev pub find : {A : Type 0} → (A → Bool) → List A → Option ℕ
+find p [] = None
+find p (x ∷ xs) = if p x then Some 0 else option_map suc (find p xs)
+
+pub position_is : {A : Type 0} (p : A → Bool) (xs : List A) → position p xs ≡ find p xs
+position_is p [] = refl
+position_is p (x ∷ xs) = position-cons p x xs ∙ ap (λ rest. if p x then Some 0 else option_map suc rest)
+    (position_is p xs)
+
+abbrev pub Text : Type 0
+Text = List ℕ
+
+pub same_refl : (name : Text) → bytes_eq name name ≡ true
+same_refl name = (bytes_eq-Decides name name).1 refl
+
+pub eq_refl : (n : ℕ) → (n == n) ≡ true
+eq_refl n = (Decides-eqb n n).1 refl
+
+pub less : (a b : ℕ) → a < b → nat_lt a b ≡ true
+less a b h = lt-ltb a b h
+
+pub at_most : (a b : ℕ) → a ≤ b → nat_le a b ≡ true
+at_most a b h = le-leb a b h
+
+pub is_at_most : (a b : ℕ) → nat_le a b ≡ true → a ≤ b
+is_at_most a b h = leb-true a b h
+
+-- a name that is there, at its first place
+pub record Placed (names : List Text) (name : Text) : Type 0 where
+  pub at : ℕ
+  pub is : number_of names name ≡ Some at
+  pub within : at < length names
+
+-- the first item that passes a test, and where it stands
+abbrev pub first_of : {A : Type 0} → (A → Bool) → List A → Option A
+first_of p [] = None
+first_of p (x ∷ xs) = if p x then Some x else first_of p xs
+
+pub record Found {A : Type 0} (p : A → Bool) (xs : List A) : Type 0 where
+  pub at : ℕ
+  pub item : A
+  pub is : find p xs ≡ Some at
+  pub first : first_of p xs ≡ Some item
+  pub within : at < length xs
+  pub got : slice_get xs at ≡ Some item
+  pub passes : p item ≡ true
+
+module _ {A : Type 0} (p : A → Bool) where
+  pub any_found : (xs : List A) → list_any p xs ≡ true → Found p xs
+  any_found [] h = cc
+  any_found (x ∷ xs) h = elim (cases_Bool (p x)) [
+    | inl here ↦ record {
+      at = 0;
+      item = x;
+      is = grind arith;
+      first = grind arith;
+      within = omega arith;
+      got = refl;
+      passes = here;
+    }
+    | inr not_here ↦ let rest = any_found xs (grind arith) in record {
+      at = suc rest.at;
+      item = rest.item;
+      is = grind (arith, rest.is);
+      first = grind (arith, rest.first);
+      within = omega (arith, rest.within);
+      got = rest.got;
+      passes = rest.passes;
+    }
+  ]
+
+  -- what is found in a front is found there in the whole
+  pub find_front : (xs ys : List A) → list_any p xs ≡ true → find p (xs ++ ys) ≡ find p xs
+  find_front [] ys h = cc
+  find_front (x ∷ xs) ys h = grind (arith, find_front xs ys)
+
+  -- the first one behind a front in which nothing is found
+  pub find_next : (xs : List A) (y : A) (ys : List A) → list_any p xs ≡ false → p y ≡ true →
+      find p (xs ++ y ∷ ys) ≡ Some (length xs)
+  find_next [] y ys h k = grind arith
+  find_next (x ∷ xs) y ys h k = grind (arith, find_next xs)
+
+-- the number of a name is where it is found
+pub number_is : (names : List Text) (name : Text) → number_of names name ≡ find (bytes_eq name) names
+number_is names name = position_is _ names
+
+pub placed : (names : List Text) (name : Text) → is_numbered names name ≡ true → Placed names name
+placed names name h =
+    let f = any_found _ names h in
+    record { at = f.at; is = number_is names name ∙ f.is; within = f.within }
+
+-- the number of a name that is there
+pub number_within : (names : List Text) (name : Text) → is_numbered names name ≡ true →
+    number_or_zero (number_of names name) < length names
+number_within names name h =
+    let p = placed names name h in subst (λ o. number_or_zero o < length names) (sym p.is) p.within
+
+pub number_front : (names more : List Text) (name : Text) → is_numbered names name ≡ true →
+    number_of (names ++ more) name ≡ number_of names name
+number_front names more name h = number_is _ name ∙ find_front _ names more h ∙ sym (number_is names name)
+
+pub number_next : (names : List Text) (name : Text) (more : List Text) → is_numbered names name ≡ false →
+    number_of (names ++ name ∷ more) name ≡ Some (length names)
+number_next names name more h = number_is _ name ∙ find_next _ names name more h (same_refl name)
+
+pub numbered_front : (names more : List Text) (name : Text) → is_numbered names name ≡ true →
+    is_numbered (names ++ more) name ≡ true
+numbered_front names more name h = list_any-append _ names more ∙ or_left _ _ h
 
 pub each_at : {A : Type 0} (P : A → Type 0) (xs : List A) (i : ℕ) (x : A) → Each P xs → slice_get xs i ≡ Some x → P x
 each_at P [] i x h got = none_some x got

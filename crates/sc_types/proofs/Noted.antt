@@ -1,13 +1,23 @@
--- The loops over declarations, locals and sections, one step further.
-use Rattle.sc_types.proofs.Common.{Bool, BrokenLines, Decl, List, LocalTree, Option, SectionTree, Struct, StructTree}
-use Rattle.sc_types.proofs.Common.{[], ap, append_assoc, arith, concat, concat-append, done, drop, drop-step, drop_all}
-use Rattle.sc_types.proofs.Common.{filter_map, filter_map-append, get_or, is_small, length, local_lines, map}
-use Rattle.sc_types.proofs.Common.{map-append, struct_in, structs_from, structs_in, suc, sym, type_in, unless}
-use Rattle.sc_types.proofs.Common.{with_lines, ℕ, ◌++◌, ◌+◌, ◌<◌, ◌∙◌, ◌∷◌, ◌≡◌, ◌≤◌}
+-- The loops over declarations, locals and sections, one step further, and numbers that stop.
+use Rattle.sc_types.proofs.Common.{Bool, BrokenLines, Decl, List, LocalTree, None, Option, SectionTree, Some, Struct}
+use Rattle.sc_types.proofs.Common.{StructTree, [], add-one, ap, append_assoc, arith, callees_of, concat, concat-append}
+use Rattle.sc_types.proofs.Common.{counts_broken, done, drop, drop-cons, drop-step, drop_all, filter_map}
+use Rattle.sc_types.proofs.Common.{filter_map-append, get_or, is_small, length, limited, line_beyond, line_of_text}
+use Rattle.sc_types.proofs.Common.{lines_from, local_lines, map, map-append, most_compartments, nat_le, nat_tests}
+use Rattle.sc_types.proofs.Common.{noted_all, refl, refused_at, slice_get, struct_in, structs_from, structs_in, suc}
+use Rattle.sc_types.proofs.Common.{sym, type_in, unless, with_lines, ℕ, ◌++◌, ◌+◌, ◌<◌, ◌∙◌, ◌∷◌, ◌≡◌, ◌≤◌}
 use Rattle.sc_core.specs.declared.ty.Ty.TheVariants as ty
-use Rattle.sc_scope.proofs.Noting.{with_lines-append, with_lines-nil}
+use Rattle.sc_scope.proofs.Noting.{with_lines-append, with_lines-nil, noted_all-append}
 use Rattle.sc_types.proofs.TypedNodes.{section-nodes}
 use Rattle.sc_scope.proofs.Lines.{step}
+use Rattle.sc_types.specs.Prelude.{section_lines}
+use Rattle.sc_scope.proofs.Noted.{noted-none}
+
+-- a number that stops far above passes the same test
+pub same-test : (n : ℕ) → nat_le (limited n) 1048576 ≡ nat_le n 1048576
+same-test n = grind (arith, nat_tests)
+
+pub ruleset measures = (same-test)
 
 pub ruleset noting = (with_lines-nil, with_lines-append)
 
@@ -80,3 +90,39 @@ module _ (section : SectionTree) where
       with_lines a (concat (map (local_lines section) (drop i locals))) ≡ with_lines old all → a ≡ with_lines old all
   locals-done locals i old a all le p = done old a _ all p
       (ap (λ ls. concat (map (local_lines section) ls)) (drop_all i locals le))
+
+-- The sections.
+
+noted-first : (line : ℕ) → noted_all None (line ∷ []) ≡ Some line
+unfolding noted_all
+noted-first line = refl
+
+abbrev beyond : List SectionTree → List ℕ
+beyond sections = line_beyond {A = SectionTree} (λ section. line_of_text section.line 1) most_compartments sections
+
+pub none-refused : (sections : List SectionTree) → None ≡ slice_get sections most_compartments →
+    None ≡ refused_at (beyond sections)
+none-refused sections n = cc (noted-none None)
+
+pub some-refused : (sections : List SectionTree) (section : SectionTree) (line : ℕ) →
+    Some section ≡ slice_get sections most_compartments → line ≡ line_of_text section.line 1 →
+    Some line ≡ refused_at (beyond sections)
+some-refused sections section line n l = cc (noted-first line)
+
+pub counts-begun : (sections : List SectionTree) (least : Option ℕ) → least ≡ refused_at (beyond sections) →
+    noted_all least (lines_from sections 0 sections) ≡ refused_at (counts_broken sections)
+counts-begun sections least h = cc (noted_all-append None (beyond sections) (lines_from sections 0 sections))
+
+pub count-noted : (sections : List SectionTree)
+    (i : ℕ) (section : SectionTree) (least : Option ℕ) (lines : BrokenLines) (all : Option ℕ) → i < length sections →
+    section ≡ get_or sections i section → noted_all least (lines_from sections i (drop i sections)) ≡ all →
+    lines ≡ with_lines (record { start = section.line; least = least }) (section_lines section
+    (callees_of sections i section)) → noted_all lines.least (lines_from sections (i + 1) (drop (i + 1) sections)) ≡ all
+count-noted sections i section least lines all lt is p q = rw add-one (ap (λ l. noted_all l.least (lines_from sections
+    (suc i) (drop (suc i) sections))) q ∙ (sym (noted_all-append least _ _) ∙ (ap (λ rest. noted_all least
+    (lines_from sections i rest)) (sym (drop-cons _ i section lt ∙ ap (λ s. s ∷ drop (suc i) sections) (sym is))) ∙ p)))
+
+pub counts-noted : (sections : List SectionTree) (i : ℕ) (least : Option ℕ) (all : Option ℕ) → length sections ≤ i →
+    noted_all least (lines_from sections i (drop i sections)) ≡ all → least ≡ all
+counts-noted sections i least all le p =
+    cc (noted-none least, drop_all i sections le)

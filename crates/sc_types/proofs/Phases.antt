@@ -5,11 +5,10 @@ use Rattle.sc_types.proofs.Common.{callees_of, concat, counts_broken, functions_
 use Rattle.sc_types.proofs.Common.{length-map, line_of_text, map, names_broken, nat_tests, program_of, refused_at}
 use Rattle.sc_types.proofs.Common.{subst, suc, sym, types_broken, zero, ℕ, ◌∙◌, ◌∷◌, ◌≡◌}
 use Rattle.sc_types.specs.Counts as counts
-use Rattle.sc_types.proofs.Basics.{Each, no_lines, front_empty, back_empty, map_empty}
+use Rattle.sc_types.proofs.Lookups.{Each, no_lines, front_empty, back_empty, map_empty, is_at_most}
 use Rattle.sc_types.proofs.Facts.{count_facts}
-use Rattle.sc_types.proofs.Places.{is_at_most}
 use Rattle.sc_types.proofs.Sections.{none_beyond}
-use Rattle.sc_types.proofs.Refusals.{no_line}
+use Rattle.sc_types.proofs.Verdicts.{no_line}
 use Rattle.sc_types.proofs.Whole.{well_typed}
 
 -- where there is no line, the rules hold

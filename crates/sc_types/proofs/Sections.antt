@@ -22,9 +22,8 @@ use Rattle.sc_scope.specs.Declarations as decls
 use Rattle.sc_scope.specs.Names as names
 use Rattle.sc_interfaces.specs.Faces as faces
 use Rattle.sc_types.specs.Counts as counts
-use Rattle.sc_types.proofs.Basics.{or_not, back_empty, no_lines, Each}
-use Rattle.sc_types.proofs.Places.{Text, same_refl}
-use Rattle.sc_types.proofs.Lookups.{each_at, each_function, FoundFunction, find_function}
+use Rattle.sc_types.proofs.Lookups.{or_not, back_empty, no_lines, Each, Text, same_refl, each_at, each_function}
+use Rattle.sc_types.proofs.Lookups.{FoundFunction, find_function}
 use Rattle.sc_types.proofs.Facts.{Fresh, fresh_distinct, ExportFacts, ImportFacts, DeclFacts, FaceFacts, CountFacts}
 use Rattle.sc_types.proofs.Calls.{agreed_signature, own_signature, Offering, find_offering, found_export, export_is}
 

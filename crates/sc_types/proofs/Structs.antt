@@ -13,7 +13,7 @@ use Rattle.sc_ast.specs.declared.types.BaseTree.TheVariants as base_tree
 use Rattle.sc_core.specs.declared.ty.Ty.TheVariants as ty
 use Rattle.sc_core.specs.declared.ty.BaseTy.TheVariants as base
 use Rattle.sc_core.specs.declared.section.TypedStruct.{TypedStruct}
-use Rattle.sc_types.proofs.Places.{Text, eq_refl, less, at_most, is_at_most, number_within, number_front, number_next}
+use Rattle.sc_types.proofs.Lookups.{Text, eq_refl, less, at_most, is_at_most, number_within, number_front, number_next}
 use Rattle.sc_types.proofs.Calls.{length_snoc}
 
 -- Tags.

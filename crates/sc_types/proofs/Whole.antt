@@ -17,11 +17,10 @@ use Rattle.sc_scope.specs.Names as names
 use Rattle.sc_elab.specs.Sections as elab
 use Rattle.sc_interfaces.specs.Faces as faces
 use Rattle.sc_types.specs.Counts as counts
-use Rattle.sc_types.proofs.Basics.{rule_holds, front_empty, back_empty, map_empty, Each, each_empty, each_passes, find}
-use Rattle.sc_types.proofs.Basics.{none_some}
-use Rattle.sc_types.proofs.Places.{Text, any_found}
+use Rattle.sc_types.proofs.Lookups.{rule_holds, front_empty, back_empty, map_empty, Each, each_empty, each_passes, find}
+use Rattle.sc_types.proofs.Lookups.{none_some, Text, any_found, each_at, each_function, same_sym, FoundFunction}
+use Rattle.sc_types.proofs.Lookups.{find_function}
 use Rattle.sc_types.proofs.Structs.{AllSmall, structs_all_fit, structs_length}
-use Rattle.sc_types.proofs.Lookups.{each_at, each_function, same_sym, FoundFunction, find_function}
 use Rattle.sc_types.proofs.Facts.{Fresh, fresh_distinct, DeclFacts, FaceFacts, face_facts, decls_hold, CountFacts}
 use Rattle.sc_types.proofs.Facts.{count_facts}
 use Rattle.sc_types.proofs.Calls.{input_signature, length_snoc, own_signature, plus_none, plus_zero}
