@@ -203,10 +203,7 @@ offered_is sections line (Some found) h count few = ap₂ (λ comp index. import
 
       place_there : option_and_then (λ known. first_by_name known line.name)
           (slice_get (map export_places sections) found.0) ≡ number_of (export_names found.1) line.name
-      place_there = ap (λ k. option_and_then (λ known. first_by_name known line.name)
-          (slice_get (map export_places sections) k)) is_place
-          ∙ (ap (option_and_then (λ known. first_by_name known line.name)) (slice_get-map export_places sections h.0
-          ∙ ap (option_map export_places) h.2) ∙ export_place_is found.1 line.name)
+      place_there = cc (is_place, slice_get-map export_places sections h.0, h.2, export_place_is found.1 line.name)
 
 module _ (sections : List SectionTree) (count : length sections ≤ 32) (few : All HasFewExports sections) where
   import_is : (number : ℕ) (line : ImportLine) → import_by (map table_of sections)

@@ -7,15 +7,15 @@ use Rattle.sc_interfaces.proofs.Common.{defines_main, drop, drop-step, environme
 use Rattle.sc_interfaces.proofs.Common.{false, filter_map-append, first_added, first_by_name, forbidden, function_names}
 use Rattle.sc_interfaces.proofs.Common.{get_or, gives_int, head_added, head_fits_by, head_in, head_of, heads_in}
 use Rattle.sc_interfaces.proofs.Common.{if◌then◌else◌, import_added, import_names, imported_by, imports_added}
-use Rattle.sc_interfaces.proofs.Common.{imports_told, input_head, input_name, int_type, is_environment, is_input}
-use Rattle.sc_interfaces.proofs.Common.{is_offered_by, is_output, is_some, length, length-map, line_of_text, lines_told}
-use Rattle.sc_interfaces.proofs.Common.{list_all, list_all-append, list_any, list_any-append, main_name, map}
-use Rattle.sc_interfaces.proofs.Common.{map-append, no_heads, not, noted_all, noted_all-append, numbered, offering}
-use Rattle.sc_interfaces.proofs.Common.{offering_number, offering_table, offers, option_and_then, option_map, or-false}
-use Rattle.sc_interfaces.proofs.Common.{others_added, output_head, output_name, proto_names, refl, refused_at}
-use Rattle.sc_interfaces.proofs.Common.{same_params, same_result, same_text, section_told, slice_get, slice_get-map}
-use Rattle.sc_interfaces.proofs.Common.{slice_get_read, suc, sym, table_of, takes_int, takes_nothing, true, unless, ℕ}
-use Rattle.sc_interfaces.proofs.Common.{◌&&◌, ◌++◌, ◌+◌, ◌<◌, ◌==◌, ◌||◌, ◌∙◌, ◌∷◌, ◌≡◌, ◌≤◌}
+use Rattle.sc_interfaces.proofs.Common.{imports_told, input_head, input_name, int_type, is_input, is_offered_by}
+use Rattle.sc_interfaces.proofs.Common.{is_output, is_some, length, length-map, line_of_text, lines_told, list_all}
+use Rattle.sc_interfaces.proofs.Common.{list_all-append, list_any, list_any-append, main_name, map, map-append}
+use Rattle.sc_interfaces.proofs.Common.{no_heads, not, noted_all, noted_all-append, numbered, offering, offering_number}
+use Rattle.sc_interfaces.proofs.Common.{offering_table, offers, option_and_then, option_map, or-false, others_added}
+use Rattle.sc_interfaces.proofs.Common.{output_head, output_name, proto_names, refl, refused_at, same_params}
+use Rattle.sc_interfaces.proofs.Common.{same_result, same_text, section_told, slice_get, slice_get-map, slice_get_read}
+use Rattle.sc_interfaces.proofs.Common.{suc, sym, table_of, takes_int, takes_nothing, true, unless, ℕ, ◌&&◌, ◌++◌, ◌+◌}
+use Rattle.sc_interfaces.proofs.Common.{◌<◌, ◌==◌, ◌||◌, ◌∙◌, ◌∷◌, ◌≡◌, ◌≤◌}
 use Rattle.sc_interfaces.specs.Faces
 use Rattle.sc_interfaces.proofs.Agreeing.{type_symm}
 use Rattle.sc_interfaces.proofs.Allowing.{is_numbered-numbered, all_numbered_same, allowed_forbidden, allowed_added}
@@ -187,17 +187,14 @@ others_added_allows : (number : ℕ) (known : Agreements) (name : Text) (head : 
     allowed (others_added known name (option_map table_of (section_in found))) head ≡
     (allowed known head && (not (bytes_eq name head.name) || Faces.agrees_there sections number section head found))
 others_added_allows number known name head sections section None = or_free _ _
-others_added_allows number known name head sections section (Some found) =
-    table_asks _ known name head ∙ ap (λ holds. allowed known head && holds) (guarded (bytes_eq name _) (not _ &&
-    agrees_first _ head) (agrees_with _ head) (λ same. ap (λ text. not (among (heads_of found.1).conflicts text) &&
-    agrees_first (first_by_name (heads_of found.1).firsts text) head) (same_text name _ same) ∙ allowed_same _ head))
+others_added_allows number known name head sections section (Some found) = grind (arith, same_text name head.name,
+    table_asks (heads_of found.1) known name head, allowed_same (heads_in found.1.decls) head)
 
 module _ (sections : List SectionTree) (number : ℕ) (section : SectionTree) where
   is_offered_is : (line : ImportLine) → is_offered_by (map table_of sections) number line ≡
       Faces.is_offered sections number section line
   is_offered_is line =
-      ap (λ found. if is_environment line then bytes_eq line.name input_name || bytes_eq line.name output_name else
-      found) (ap is_some (offering_number_is number line 0 _) ∙ is_some-number_in (offering number line 0 _))
+      cc (offering_number_is number line 0 sections, is_some-number_in (offering number line 0 sections))
 
   imports_told_is : (functions protos seen before : List Text) (lines : List ImportLine) →
       Same functions (function_names section.decls) → Same protos (proto_names section.decls) → Same seen before →
@@ -212,15 +209,9 @@ module _ (sections : List SectionTree) (number : ℕ) (section : SectionTree) wh
   import_added_allows : (known : Agreements) (line : ImportLine) (head : HeadTree) →
       allowed (import_added (map table_of sections) number known line) head ≡
       (allowed known head && (not (bytes_eq line.name head.name) || Faces.agrees_as sections number section head line))
-  import_added_allows known line head = at (is_environment line) where
-    at : (env : Bool) → allowed (if env then environment_added known line.name else others_added known line.name
-        (offering_table (map table_of sections) number line)) head ≡ (allowed known head &&
-        (not (bytes_eq line.name head.name) ||
-        (if env then environment_asks head.name head else Faces.agrees_there sections number section head
-        (offering number line 0 sections))))
-    at true = environment_added_allows known line.name head
-    at false = ap (λ table. allowed (others_added known line.name table) head) (offering_table_is sections number line)
-        ∙ others_added_allows number known line.name head sections section (offering number line 0 sections)
+  import_added_allows known line head = grind (arith, environment_added_allows known line.name head,
+      offering_table_is sections number line,
+      others_added_allows number known line.name head sections section (offering number line 0 sections))
 
   imports_added_allows : (known : Agreements) (lines : List ImportLine) (head : HeadTree) →
       allowed (imports_added (map table_of sections) number known lines) head ≡
