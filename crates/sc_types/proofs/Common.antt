@@ -64,7 +64,7 @@ pub use Rattle.sc_interfaces.specs.Prelude.{head_fits, imported_agrees, imports_
 pub use Rattle.sc_interfaces.specs.Prelude.{is_input, is_int, is_offered, is_output, is_plain, main_holds, output_name}
 pub use Rattle.sc_interfaces.specs.Prelude.{result_crosses, same_params, same_result, same_type, section_lines}
 pub use Rattle.sc_interfaces.specs.Prelude.{takes_int, takes_nothing}
-pub use Rattle.sc_core.proofs.Layers.{expr_at, layer_of, on_line, stmt_at, term_of, typed}
+pub use Rattle.sc_core.proofs.Layers.{layer_of, on_line, stmt_at}
 pub use Rattle.sc_core.specs.Prelude.{Callable, IsWellTyped, Scope, Signature, allowed, are_distinct, assign_call_fits}
 pub use Rattle.sc_core.specs.Prelude.{base_cells, base_within, body_fits, call_fits, call_height, callable_in, cells_of}
 pub use Rattle.sc_core.specs.Prelude.{decayed, decl_count, export_fits, export_name, expr_height, function_fits}

@@ -28,7 +28,7 @@ use Rattle.sc_types.specs.Counts as counts
 use Rattle.sc_types.proofs.Lookups.{rule_holds, front_empty, back_empty, no_lines, Text, at_most, numbered_front}
 use Rattle.sc_types.proofs.Structs.{Known, AllKnown, AllSmall, structs_length, type_is_within, name_is_within, is_less}
 use Rattle.sc_types.proofs.Bodies.{fits}
-use Rattle.sc_types.proofs.Heights as heights
+use Rattle.sc_types.proofs.TypedNodes as heights
 
 low_left : (a b n : ℕ) → nat_le (max a b) n ≡ true → nat_le a n ≡ true
 low_left a b n h = grind (arith, nat_tests)

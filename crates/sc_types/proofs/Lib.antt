@@ -5,7 +5,6 @@ pub mod Calls
 pub mod Examples
 pub mod Facts
 pub mod Functions
-mod Heights
 pub mod Lookups
 pub mod Noted
 mod Phases
