@@ -24,9 +24,9 @@ pub use Rattle.sc_ast.specs.declared.types.TypeName.{TypeName}
 pub use Rattle.sc_scope.proofs.Noting.{noted_all-append, with_lines-append, with_lines-nil}
 pub use Rattle.sc_scope.specs.Prelude.{Text, among, defines_main, export_names, function_in, function_named}
 pub use Rattle.sc_scope.specs.Prelude.{function_names, functions_in, head_in, heads_in, import_names, import_of}
-pub use Rattle.sc_scope.specs.Prelude.{interface_of, interfaces_from, interfaces_of, is_environment, line_of_text}
-pub use Rattle.sc_scope.specs.Prelude.{main_from, main_name, number_or_zero, offered, offering, offers, promised}
-pub use Rattle.sc_scope.specs.Prelude.{proto_names, proto_of, refused_at, scalar_of, unless, with_lines}
+pub use Rattle.sc_scope.specs.Prelude.{interface_of, interfaces_from, interfaces_of, line_of_text, main_from, main_name}
+pub use Rattle.sc_scope.specs.Prelude.{number_or_zero, offered, offering, offers, promised, proto_names, proto_of}
+pub use Rattle.sc_scope.specs.Prelude.{refused_at, scalar_of, unless, with_lines}
 unfoldable pub use Rattle.sc_scope.specs.Prelude.{noted_all}
 pub use Rattle.sc_interfaces.specs.Common.{Decl, ExportLine, Function, HeadTree, ImportLine, Proto, SectionTable}
 pub use Rattle.sc_interfaces.specs.Common.{SectionTree}

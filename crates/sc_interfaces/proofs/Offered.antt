@@ -5,14 +5,13 @@ use Rattle.sc_interfaces.proofs.Common.{Placed, SectionTable, SectionTree, Some,
 use Rattle.sc_interfaces.proofs.Common.{cond, export_by, export_name, export_names, export_places, false, first_by_name}
 use Rattle.sc_interfaces.proofs.Common.{function_at, function_in, function_name, function_named, function_names}
 use Rattle.sc_interfaces.proofs.Common.{function_places, functions_in, get_or_from_slice_get, if◌then◌else◌, import_by}
-use Rattle.sc_interfaces.proofs.Common.{import_of, input_name, inr, interface_by, interface_of, interfaces_by}
-use Rattle.sc_interfaces.proofs.Common.{interfaces_from, interfaces_of, is_environment, is_some, length, length-map}
-use Rattle.sc_interfaces.proofs.Common.{main_by, main_from, main_name, map, min, nat_list_eq_equiv, number_of}
-use Rattle.sc_interfaces.proofs.Common.{number_or_zero, offered, offered_by, offering, option_and_then, option_map}
-use Rattle.sc_interfaces.proofs.Common.{pointwise, position-cons, promised, promised_by, proto_of, refl, same_text}
-use Rattle.sc_interfaces.proofs.Common.{scalar_of, slice_get, slice_get-map, slice_get_within, subst, suc, sym}
-use Rattle.sc_interfaces.proofs.Common.{table_of, take_all, true, with_first, ℕ, ◌++◌, ◌+◌, ◌<◌, ◌==◌, ◌∙◌, ◌∷◌, ◌≡◌}
-use Rattle.sc_interfaces.proofs.Common.{◌≤◌, ◌⊎◌}
+use Rattle.sc_interfaces.proofs.Common.{import_of, inr, interface_by, interface_of, interfaces_by, interfaces_from}
+use Rattle.sc_interfaces.proofs.Common.{interfaces_of, is_some, length, length-map, main_by, main_from, main_name, map}
+use Rattle.sc_interfaces.proofs.Common.{min, nat_list_eq_equiv, number_of, number_or_zero, offered, offered_by}
+use Rattle.sc_interfaces.proofs.Common.{offering, option_and_then, option_map, pointwise, position-cons, promised}
+use Rattle.sc_interfaces.proofs.Common.{promised_by, proto_of, refl, same_text, scalar_of, slice_get, slice_get-map}
+use Rattle.sc_interfaces.proofs.Common.{slice_get_within, subst, suc, sym, table_of, take_all, true, with_first, ℕ}
+use Rattle.sc_interfaces.proofs.Common.{◌++◌, ◌+◌, ◌<◌, ◌==◌, ◌∙◌, ◌∷◌, ◌≡◌, ◌≤◌, ◌⊎◌}
 use Rattle.sc_event.specs.declared.interface.Scalar.{Scalar}
 use Rattle.sc_event.specs.declared.interface.Proto.{Proto}
 use Rattle.sc_event.specs.declared.interface.Import.{Import}
@@ -208,10 +207,8 @@ offered_is sections line (Some found) h count few = ap₂ (λ comp index. import
 module _ (sections : List SectionTree) (count : length sections ≤ 32) (few : All HasFewExports sections) where
   import_is : (number : ℕ) (line : ImportLine) → import_by (map table_of sections)
       (map export_places sections) number line ≡ import_of sections number line
-  import_is number line =
-      ap (λ there. if is_environment line then (if pointwise ◌==◌ line.name input_name then import.Input else
-      import.Output) else there) (ap (offered_by (map _ _) line) (offering_number_is number line 0 sections) ∙
-      offered_is _ line (offering number line 0 sections) (offering_stands number line 0 sections) count few)
+  import_is number line = cc (offering_number_is number line 0 sections, offered_is sections line
+      (offering number line 0 sections) (offering_stands number line 0 sections) count few)
 
   interface_is : (number : ℕ) (section : SectionTree) → All HasFewParams (functions_in section.decls) →
       interface_by (map table_of sections) (map export_places sections) number section ≡

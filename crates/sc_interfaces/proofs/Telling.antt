@@ -17,9 +17,8 @@ use Rattle.sc_interfaces.proofs.Common.{same_result, same_text, section_told, sl
 use Rattle.sc_interfaces.proofs.Common.{suc, sym, table_of, takes_int, takes_nothing, true, unless, ℕ, ◌&&◌, ◌++◌, ◌+◌}
 use Rattle.sc_interfaces.proofs.Common.{◌<◌, ◌==◌, ◌||◌, ◌∙◌, ◌∷◌, ◌≡◌, ◌≤◌}
 use Rattle.sc_interfaces.specs.Faces
-use Rattle.sc_interfaces.proofs.Agreeing.{type_symm}
-use Rattle.sc_interfaces.proofs.Allowing.{is_numbered-numbered, all_numbered_same, allowed_forbidden, allowed_added}
-use Rattle.sc_interfaces.proofs.Allowing.{allowed_same}
+use Rattle.sc_interfaces.proofs.Allowing.{type_symm, is_numbered-numbered, all_numbered_same, allowed_forbidden}
+use Rattle.sc_interfaces.proofs.Allowing.{allowed_added, allowed_same}
 use Rattle.sc_interfaces.proofs.Steps.{drop_past}
 use Rattle.sc_scope.proofs.Noted.{noted-none}
 

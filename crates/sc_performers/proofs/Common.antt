@@ -58,7 +58,7 @@ pub use Rattle.sc_scope.specs.Prelude.{interfaces_of, is_callable, is_environmen
 pub use Rattle.sc_scope.specs.Prelude.{main_name, number_or_zero, offered, offering, offers, promised, proto_known}
 pub use Rattle.sc_scope.specs.Prelude.{proto_names, protos_in, result_known, scalar_of, stmt_lines, struct_names}
 pub use Rattle.sc_scope.specs.Prelude.{structs_in, unless}
-pub use Rattle.sc_interfaces.proofs.Agreeing.{agree_left, agree_symm}
+pub use Rattle.sc_interfaces.proofs.Allowing.{agree_left, agree_symm}
 pub use Rattle.sc_interfaces.specs.Prelude.{agree, agrees_as, agrees_there, agrees_with, crosses, decls_from}
 pub use Rattle.sc_interfaces.specs.Prelude.{environment_offers, export_holds, exports_from, head_crosses, head_holds}
 pub use Rattle.sc_interfaces.specs.Prelude.{import_fits, import_holds, imported_agrees, imports_from, input_name}
