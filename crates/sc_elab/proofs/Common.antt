@@ -12,7 +12,7 @@ pub use Rattle.sc_base.proofs.Lists.{drop-step, map_twice, position-cons, take-s
 pub use Rattle.sc_ast.specs.Prelude.{head_of, param_of}
 pub use Rattle.sc_ast.specs.declared.expr.ExprTree.{ExprTree}
 pub use Rattle.sc_ast.specs.declared.section.GlobalTree.{GlobalTree}
-pub use Rattle.sc_scope.proofs.Noting.{noted_all-append, with_lines-append, with_lines-nil}
+pub use Rattle.sc_scope.proofs.Lines.{noted_all-append, with_lines-append, with_lines-nil}
 pub use Rattle.sc_scope.specs.Prelude.{function_in, function_named, function_names, functions_in, global_in, globals_in}
 pub use Rattle.sc_scope.specs.Prelude.{head_in, heads_in, import_of, interface_of, interfaces_from, interfaces_of}
 pub use Rattle.sc_scope.specs.Prelude.{line_of_text, noted, noted_all, refused_at, struct_in, struct_names, structs_in}

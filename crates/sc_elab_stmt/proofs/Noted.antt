@@ -6,7 +6,7 @@ use Rattle.sc_elab_stmt.proofs.Common.{length, lines_at, map, part_lines, return
 use Rattle.sc_elab_stmt.proofs.Common.{stmt_lines, sym, unless, with_lines, ℕ, ◌++◌, ◌+◌, ◌<◌, ◌∙◌, ◌≡◌, ◌≤◌}
 use Rattle.std.proofs.Common.{arith}
 use Rattle.sc_scope.specs.declared.broken.BrokenLines.{BrokenLines}
-use Rattle.sc_scope.proofs.Noting.{with_lines-append, with_lines-nil}
+use Rattle.sc_scope.proofs.Lines.{with_lines-append, with_lines-nil}
 use Rattle.sc_ast.specs.declared.stmt.StmtTree as trees
 use Rattle.sc_ast.specs.declared.stmt.StmtKind as tree
 

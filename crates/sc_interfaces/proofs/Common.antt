@@ -21,7 +21,7 @@ pub use Rattle.sc_ast.specs.declared.section.Decl.TheVariants.{Struct}
 pub use Rattle.sc_ast.specs.declared.section.FunctionParam.{FunctionParam}
 pub use Rattle.sc_ast.specs.declared.section.ParamTree.{ParamTree}
 pub use Rattle.sc_ast.specs.declared.types.TypeName.{TypeName}
-pub use Rattle.sc_scope.proofs.Noting.{noted_all-append, with_lines-append, with_lines-nil}
+pub use Rattle.sc_scope.proofs.Lines.{noted_all-append, with_lines-append, with_lines-nil}
 pub use Rattle.sc_scope.specs.Prelude.{Text, among, defines_main, export_names, function_in, function_named}
 pub use Rattle.sc_scope.specs.Prelude.{function_names, functions_in, head_in, heads_in, import_names, import_of}
 pub use Rattle.sc_scope.specs.Prelude.{interface_of, interfaces_from, interfaces_of, line_of_text, main_from, main_name}

@@ -3,6 +3,5 @@ pub mod Examples
 pub mod Heads
 pub mod Lines
 pub mod Noted
-pub mod Noting
 pub mod OneMore
 pub mod Statements

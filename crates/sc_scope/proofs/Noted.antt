@@ -7,10 +7,9 @@ use Rattle.sc_scope.proofs.Common.{map-append, names_broken, noted_all, param_na
 use Rattle.sc_scope.proofs.Common.{take, unless, with_decl, with_lines, ℕ, ◌++◌, ◌+◌, ◌<◌, ◌∙◌, ◌∷◌, ◌≡◌, ◌≤◌}
 use Rattle.std.proofs.lemmas.List.Elements.{filter_map-append}
 use Rattle.sc_scope.specs.declared.section_names.SectionNames.{SectionNames}
-use Rattle.sc_scope.proofs.Lines.{done}
+use Rattle.sc_scope.proofs.Lines.{done, noted_all-append, with_lines-append}
 use Rattle.sc_scope.proofs.Statements.{body-lines}
 use Rattle.std.proofs.Common.{arith}
-use Rattle.sc_scope.proofs.Noting.{noted_all-append, with_lines-append}
 use Rattle.sc_base.proofs.Lists.{drop-step, take-step}
 
 -- what is there and what is left to add, one item further

@@ -5,10 +5,9 @@ use Rattle.sc_scope.proofs.Common.{part_lines, refl, rules, stmt_lines, suc, sym
 use Rattle.sc_scope.proofs.Common.{◌+◌, ◌<◌, ◌∙◌, ◌∷◌, ◌≡◌, ◌≤◌}
 use Rattle.std.proofs.Common.{arith}
 use Rattle.sc_ast.specs.declared.stmt.StmtKind.{StmtKind, the_lemmas}
-use Rattle.sc_scope.proofs.Noting.{with_lines-append}
+use Rattle.sc_scope.proofs.Lines.{with_lines-append, nothing, step, done}
 use Rattle.sc_ast.specs.declared.stmt.SimpleTree.{SimpleTree}
 use Rattle.sc_ast.specs.declared.stmt.StmtKind as kinds
-use Rattle.sc_scope.proofs.Lines.{nothing, step, done}
 
 module _ (known : Known) (looping : Bool) (line : ℕ) where
   pub empty-at : stmt_lines known (record { line = line; kind = kinds.Empty }) looping ≡ []

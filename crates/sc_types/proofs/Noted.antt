@@ -7,9 +7,8 @@ use Rattle.sc_types.proofs.Common.{lines_from, local_lines, map, map-append, mos
 use Rattle.sc_types.proofs.Common.{noted_all, refl, refused_at, slice_get, struct_in, structs_from, structs_in, suc}
 use Rattle.sc_types.proofs.Common.{sym, type_in, unless, with_lines, ℕ, ◌++◌, ◌+◌, ◌<◌, ◌∙◌, ◌∷◌, ◌≡◌, ◌≤◌}
 use Rattle.sc_core.specs.declared.ty.Ty.TheVariants as ty
-use Rattle.sc_scope.proofs.Noting.{with_lines-append, with_lines-nil, noted_all-append}
+use Rattle.sc_scope.proofs.Lines.{with_lines-append, with_lines-nil, noted_all-append, step}
 use Rattle.sc_types.proofs.TypedNodes.{section-nodes}
-use Rattle.sc_scope.proofs.Lines.{step}
 use Rattle.sc_types.specs.Prelude.{section_lines}
 use Rattle.sc_scope.proofs.Noted.{noted-none}
 
