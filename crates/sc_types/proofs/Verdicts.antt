@@ -20,15 +20,12 @@ unfolding noted_all
 no_line [] h = refl
 no_line (line ∷ lines) h = some_noted line lines h
 
--- no rule is broken where there is a line
-none_refused : {C : Type 0} (lines : List ℕ) (line : ℕ) → lines ≡ [] → refused_at lines ≡ Some line → C
-unfolding noted_all
-none_refused lines line h k = none_some line (sym (ap refused_at h) ∙ k)
-
+-- where there is no line, none is refused
 none_at_none : refused_at [] ≡ None
 unfolding noted_all
 none_at_none = refl
 
+-- no phase fails where all rules hold
 pub typed_passes : (sections : List SectionTree) (program : ProgramTree) (in_phase : Phase) (line : ℕ) →
     IsTyped sections program → FailsRules sections in_phase line → ⊥
 typed_passes sections program in_phase line t f = grind (arith, none_at_none)
