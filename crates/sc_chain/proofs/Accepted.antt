@@ -19,7 +19,7 @@ use Rattle.sc_performers.specs.Recomposed.{IsPerformable}
 use Rattle.sc_performers.proofs.PartsPerform.{parts_perform}
 use Rattle.sc_performers.proofs.Recomposed.{recomposed_hold}
 use Rattle.sc_types.proofs.Sources.{interfaces_length}
-use Rattle.sc_types.proofs.Readings.{reads_low}
+use Rattle.sc_types.proofs.Verdicts.{reads_low}
 
 -- what names of trees that were read are
 from_so : (lines : List ImportLine) → AllByRecursion IsNamedImport lines → AllByRecursion IsFromSo lines

@@ -1,11 +1,12 @@
 -- Tables of names give what the names of calls stand for.
 use Rattle.sc_elab.proofs.Common.{Bool, Callees, CallsIn, FunctionTree, HeadTree, Import, ImportLine, List, None}
 use Rattle.sc_elab.proofs.Common.{Option, SectionTree, Some, [], ap, bytes_eq, called, called_head, callees_of}
-use Rattle.sc_elab.proofs.Common.{calling_heads, cond, false, function_named, function_names, head_name, head_named}
-use Rattle.sc_elab.proofs.Common.{head_of, if◌then◌else◌, import_line_name, import_named, import_of, import_target}
-use Rattle.sc_elab.proofs.Common.{imported, imported_target, map, map_twice, option_and_then, option_map, or_first}
-use Rattle.sc_elab.proofs.Common.{or_first_own, position-cons, refl, signature_by, slice_get, struct_names, suc, sym}
-use Rattle.sc_elab.proofs.Common.{target_or, true, ℕ, ◌++◌, ◌==◌, ◌∙◌, ◌∷◌, ◌≡◌}
+use Rattle.sc_elab.proofs.Common.{calling_heads, function_named, function_names, head_name, head_named, head_of}
+use Rattle.sc_elab.proofs.Common.{if◌then◌else◌, import_line_name, import_named, import_of, import_target, imported}
+use Rattle.sc_elab.proofs.Common.{imported_target, map, map_twice, option_and_then, option_map, or_first, or_first_own}
+use Rattle.sc_elab.proofs.Common.{position-cons, refl, signature_by, slice_get, struct_names, suc, sym, target_or, ℕ}
+use Rattle.sc_elab.proofs.Common.{◌++◌, ◌==◌, ◌∙◌, ◌∷◌, ◌≡◌}
+use Rattle.std.proofs.Common.{arith}
 use Rattle.sc_base.specs.Prelude.{number_of}
 use Rattle.std.proofs.lemmas.Cmp.{nat_list_eq_equiv}
 use Rattle.std.specs.Cmp.Lexicographic.{pointwise}
@@ -25,15 +26,9 @@ module _ {A : Type 0} (name_of : A → List ℕ) (name : List ℕ) (find : List 
   pub first_found : (xs : List A) → option_and_then (slice_get (map f xs)) (number_of (map name_of xs) name) ≡
       option_map f (find xs)
   first_found [] = ap (option_map f) (sym find-nil)
-  first_found (x ∷ xs) = ap (option_and_then (slice_get (f x ∷ map f xs)))
-      (position-cons (same name) (name_of x) (map name_of xs)) ∙ ap (λ b. option_and_then (slice_get (f x ∷ map f xs))
-      (cond b (Some 0) (option_map suc (number_of (map name_of xs) name)))) (nat_list_eq_equiv.symm name (name_of x))
-      ∙ by (first_found xs) (bytes_eq (name_of x) name) ∙ ap (option_map f) (sym (find-cons x xs)) where
-        by : option_and_then (slice_get (map f xs)) (number_of (map name_of xs) name) ≡ option_map f (find xs) →
-            (b : Bool) → option_and_then (slice_get (f x ∷ map f xs)) (cond b
-            (Some 0) (option_map suc (number_of (map name_of xs) name))) ≡ option_map f (if b then Some x else find xs)
-        by h true = refl
-        by h false = after_suc (f x) _ (number_of _ name) ∙ h
+  first_found (x ∷ xs) = grind (arith, position-cons (same name) (name_of x) (map name_of xs),
+      nat_list_eq_equiv.symm name (name_of x), after_suc (f x) (map f xs) (number_of (map name_of xs) name),
+      find-cons x xs, first_found xs)
 
 module _ (name : List ℕ) where
   -- the first of the heads of functions and of others
@@ -41,14 +36,7 @@ module _ (name : List ℕ) where
       head_named name (map (λ (tree : FunctionTree). head_of tree.head) trees ++ heads) ≡
       or_first (function_named name trees) (head_named name heads)
   head_found [] heads = refl
-  head_found (tree ∷ trees) heads = by (head_found trees heads) _ where
-    by : head_named name (map (λ (tree : FunctionTree). head_of tree.head) trees ++ heads) ≡
-        or_first (function_named name trees) (head_named name heads) → (b : Bool) →
-        (if b then Some (head_of tree.head) else head_named name
-        (map (λ (tree : FunctionTree). head_of tree.head) trees ++ heads)) ≡
-        or_first (if b then Some tree else function_named name trees) (head_named name heads)
-    by h true = refl
-    by h false = h
+  head_found (tree ∷ trees) heads = grind (arith, head_found trees heads)
 
   signature_found : (tags : List (List ℕ)) (section : SectionTree) →
       option_and_then (slice_get (map (signature_by tags) (calling_heads section.decls))) (number_of (map head_name
@@ -70,9 +58,8 @@ module _ (section : SectionTree) (imports : List Import) (callees : Callees)
     (calls : CallsIn (struct_names section.decls) section imports callees) where
   signature_is : (name : List ℕ) → option_and_then (slice_get callees.signatures) (number_of callees.heads name) ≡
       option_map (signature_by (struct_names section.decls)) (called_head section name)
-  signature_is name = ap (λ s. option_and_then (slice_get s) (number_of callees.heads name)) calls.signatures
-      ∙ ap (λ h. option_and_then (slice_get (map (signature_by (struct_names section.decls))
-      (calling_heads section.decls))) (number_of h name)) calls.heads ∙ signature_found name _ section
+  signature_is name =
+      cc (calls.signatures, calls.heads, signature_found name (struct_names section.decls) section)
 
   pub signatures_kept : (called callees).signature ≡ (callees_of [] 0 section).signature
   signatures_kept = λ j name. signature_is name j
@@ -87,13 +74,7 @@ module _ (sections : List SectionTree) (number : ℕ) (section : SectionTree) (i
       target_or (number_of (function_names section.decls) name)
       (imported_target sections number (import_named name section.imports))
   target_is name =
-      ap (λ f. target_or (number_of f name) (or_first_own (imported callees name))) calls.functions
-      ∙ ap (λ t. target_or (number_of (function_names section.decls) name)
-      (or_first_own (option_and_then (slice_get t) (number_of callees.imports name)))) targets_are
-      ∙ ap (λ i. target_or (number_of (function_names section.decls) name)
-      (or_first_own (option_and_then (slice_get (map
-      (λ line. import_target (import_of sections number line)) section.imports)) (number_of i name)))) calls.imports
-      ∙ ap (target_or (number_of _ name)) (target_found name _ number section.imports)
+      cc (calls.functions, targets_are, calls.imports, target_found name sections number section.imports)
 
   -- What a section calls by its tables is what its program calls.
   pub called_kept : called callees ≡ callees_of sections number section

@@ -1,9 +1,8 @@
 -- The names that several proofs of this crate cite, passed on from one place. Declares nothing.
 pub use Rattle.std.proofs.Common.{Bool, IfOk, IsSome, List, None, OnOk, Option, Result, Some, [], add-one, ap}
-pub use Rattle.std.proofs.Common.{append-nil, append_assoc, arith, bytes_eq, codes, cond, drop, false, filter_map}
-pub use Rattle.std.proofs.Common.{get_or, if◌then◌else◌, is_some, length, map, ne_eqb, option_copied, option_map}
-pub use Rattle.std.proofs.Common.{position, refl, slice_get, subst, suc, sym, take, true, true≢false, zero, ℕ, ◌&&◌}
-pub use Rattle.std.proofs.Common.{◌++◌, ◌+◌, ◌<◌, ◌==◌, ◌||◌, ◌∙◌, ◌∷◌, ◌≡◌, ◌≤◌}
+pub use Rattle.std.proofs.Common.{append-nil, append_assoc, arith, bytes_eq, codes, drop, false, filter_map, get_or}
+pub use Rattle.std.proofs.Common.{if◌then◌else◌, length, map, ne_eqb, option_map, position, refl, slice_get, subst, suc}
+pub use Rattle.std.proofs.Common.{sym, take, true, zero, ℕ, ◌&&◌, ◌++◌, ◌+◌, ◌<◌, ◌==◌, ◌∙◌, ◌∷◌, ◌≡◌, ◌≤◌}
 pub use Rattle.std.proofs.lemmas.List.{drop_all, map-append}
 pub use Rattle.std.proofs.lemmas.Option.{get_or_from_slice_get, same_Some, slice_get-get_or, slice_get-map}
 pub use Rattle.std.proofs.lemmas.Option.{slice_get_within}
@@ -13,7 +12,7 @@ pub use Rattle.sc_base.proofs.Lists.{drop-step, map_twice, position-cons, take-s
 pub use Rattle.sc_ast.specs.Prelude.{head_of, param_of}
 pub use Rattle.sc_ast.specs.declared.expr.ExprTree.{ExprTree}
 pub use Rattle.sc_ast.specs.declared.section.GlobalTree.{GlobalTree}
-pub use Rattle.sc_scope.proofs.Noting.{noted_all-append, with_lines-append, with_lines-nil}
+pub use Rattle.sc_scope.proofs.Lines.{noted_all-append, with_lines-append, with_lines-nil}
 pub use Rattle.sc_scope.specs.Prelude.{function_in, function_named, function_names, functions_in, global_in, globals_in}
 pub use Rattle.sc_scope.specs.Prelude.{head_in, heads_in, import_of, interface_of, interfaces_from, interfaces_of}
 pub use Rattle.sc_scope.specs.Prelude.{line_of_text, noted, noted_all, refused_at, struct_in, struct_names, structs_in}
@@ -36,9 +35,8 @@ pub use Rattle.sc_elab.specs.Prelude.{CallsIn, SectionTree, Stands, StandsIn, ca
 pub use Rattle.sc_elab.specs.Prelude.{cells_from, decl_lines, end_of_member, function_lines, function_name}
 pub use Rattle.sc_elab.specs.Prelude.{function_signature, global_lines, global_variable, head_name, head_named}
 pub use Rattle.sc_elab.specs.Prelude.{import_line_name, import_named, import_target, imported_target, init_holds}
-pub use Rattle.sc_elab.specs.Prelude.{is_sized, local_holds, local_in, local_variable, locals_from, members_from}
-pub use Rattle.sc_elab.specs.Prelude.{or_first, param_ty, scope_in, section_lines, sections_from, signature_by}
-pub use Rattle.sc_elab.specs.Prelude.{struct_name, tags, type_of, type_of_name, type_with, typed_function, typed_global}
-pub use Rattle.sc_elab.specs.Prelude.{typed_init, typed_local, typed_param, typed_section, typed_struct, types_broken}
-pub use Rattle.sc_elab.specs.Prelude.{visible_in, word_of_const}
+pub use Rattle.sc_elab.specs.Prelude.{is_sized, local_in, local_variable, locals_from, members_from, or_first, param_ty}
+pub use Rattle.sc_elab.specs.Prelude.{scope_in, section_lines, sections_from, signature_by, struct_name, tags, type_of}
+pub use Rattle.sc_elab.specs.Prelude.{type_of_name, type_with, typed_function, typed_global, typed_init, typed_local}
+pub use Rattle.sc_elab.specs.Prelude.{typed_param, typed_section, typed_struct, types_broken, visible_in, word_of_const}
 unfoldable pub use Rattle.sc_elab.specs.Prelude.{typed_locals, typed_structs}

@@ -2,10 +2,10 @@
 use Rattle.sc_elab.proofs.Common.{BrokenLines, ExprTree, FunctionScope, FunctionTree, GlobalTree, List, LocalTree, None}
 use Rattle.sc_elab.proofs.Common.{OnOk, Option, Result, SectionScope, SectionTree, Some, Stands, StandsIn, Suits, Ty}
 use Rattle.sc_elab.proofs.Common.{add-one, ap, concat, drop, drop-step, drop_all, function_lines, get_or, global_lines}
-use Rattle.sc_elab.proofs.Common.{init_fits, init_goes, init_holds, is_sized, length, local_holds, locals_from, map}
-use Rattle.sc_elab.proofs.Common.{on_ok, refl, scope_in, stmt_lines, subst, suc, sym, tags, type_of, typed_init, unless}
-use Rattle.sc_elab.proofs.Common.{visible, with_lines, with_lines-append, with_lines-nil, ℕ, ◌&&◌, ◌++◌, ◌+◌, ◌<◌, ◌∙◌}
-use Rattle.sc_elab.proofs.Common.{◌≡◌, ◌≤◌}
+use Rattle.sc_elab.proofs.Common.{init_fits, init_goes, init_holds, is_sized, length, locals_from, map, on_ok, refl}
+use Rattle.sc_elab.proofs.Common.{scope_in, stmt_lines, subst, suc, sym, tags, type_of, typed_init, unless, visible}
+use Rattle.sc_elab.proofs.Common.{with_lines, with_lines-append, with_lines-nil, ℕ, ◌&&◌, ◌+◌, ◌<◌, ◌∙◌, ◌≡◌, ◌≤◌}
+use Rattle.std.proofs.Common.{arith}
 use Rattle.sc_elab_expr.specs.Calls as calls
 use Rattle.sc_elab.proofs.Functions.{seen}
 use Rattle.sc_elab.proofs.Suiting.{suiting}
@@ -39,12 +39,8 @@ module _ (scope : SectionScope) (section : SectionTree) (stands : Stands scope s
         (a b whole : BrokenLines) → b ≡ with_lines a (unless (is_sized local.ty && init_goes (visible scope function)
         (scope_in section tree) (type_of scope.tags local.ty) local.init) local.line) →
         with_lines a (after i) ≡ whole → with_lines b (after (i + 1)) ≡ whole
-    local_noted i local function h e within a b whole noted so = ap (λ b. with_lines b (after (i + 1)))
-        (noted ∙ ap (λ holds. with_lines a (unless (is_sized local.ty && holds) local.line)) holds)
-        ∙ sym (with_lines-append a (unless (local_holds section callees tree i local) local.line) (after (i + 1)))
-        ∙ ap (λ n. with_lines a (unless (local_holds section callees tree i local) local.line ++
-        locals_from section callees tree n (drop (i + 1) tree.locals))) (add-one i)
-        ∙ ap (λ l. with_lines a (locals_from section callees tree i l)) (sym (drop-step tree.locals i local h e)) ∙ so
+    local_noted i local function h e within a b whole noted so =
+        grind (arith, with_lines-append, add-one i, drop-step tree.locals i local h e, holds)
       where
         at : StandsIn section tree (suc i) function
         at = subst (λ n. StandsIn section tree n function) (add-one i) within
@@ -58,8 +54,7 @@ module _ (scope : SectionScope) (section : SectionTree) (stands : Stands scope s
 
     pub locals_noted : (i : ℕ) (a whole : BrokenLines) → length tree.locals ≤ i → with_lines a (after i) ≡ whole →
         a ≡ whole
-    locals_noted i a whole done so = sym (with_lines-nil a)
-        ∙ ap (λ l. with_lines a (locals_from section callees tree i l)) (sym (drop_all i _ done)) ∙ so
+    locals_noted i a whole done so = cc (with_lines-nil a, drop_all i tree.locals done)
 
     pub function_noted : {E T : Type 0} (r : Result T E) (function : FunctionScope) →
         StandsIn section tree (length tree.locals) function → (a b c : BrokenLines) →

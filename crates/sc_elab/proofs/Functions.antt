@@ -2,10 +2,11 @@
 use Rattle.sc_elab.proofs.Common.{ExprTree, FunctionScope, FunctionTree, List, LocalTree, None, Option, SectionScope}
 use Rattle.sc_elab.proofs.Common.{SectionTree, Some, Stands, StandsIn, Ty, TypedLocal, [], add-one, ap, called, drop}
 use Rattle.sc_elab.proofs.Common.{drop-step, get_or, going_to, length, local_in, local_variable, map, map-append, refl}
-use Rattle.sc_elab.proofs.Common.{stmt_in, suc, sym, tags, take, take-step, type_of, type_of_name, typed}
-use Rattle.sc_elab.proofs.Common.{typed_function, typed_init, typed_local, typed_locals, typed_param, typed_stmt}
-use Rattle.sc_elab.proofs.Common.{value_in, visible, visible_in, ℕ, ◌++◌, ◌+◌, ◌<◌, ◌∙◌, ◌∷◌, ◌≡◌}
+use Rattle.sc_elab.proofs.Common.{stmt_in, suc, tags, take, take-step, type_of, type_of_name, typed, typed_function}
+use Rattle.sc_elab.proofs.Common.{typed_init, typed_local, typed_locals, typed_param, typed_stmt, value_in, visible}
+use Rattle.sc_elab.proofs.Common.{visible_in, ℕ, ◌++◌, ◌+◌, ◌<◌, ◌∙◌, ◌∷◌, ◌≡◌}
 use Rattle.std.specs.Option.{option_map}
+use Rattle.std.proofs.Common.{subst}
 use Rattle.sc_core.specs.declared.section.TypedFunction.{TypedFunction}
 use Rattle.sc_elab_stmt.proofs.Loops.{one_more, all_done}
 
@@ -27,17 +28,8 @@ module _ (scope : SectionScope) (section : SectionTree) (stands : Stands scope s
 
   pub local_kept : (place : ℕ) (function : FunctionScope) → StandsIn section tree (suc place) function →
       (local : LocalTree) → local_in scope function local ≡ typed_local section tree place local
-  local_kept place function within local = ap (λ t. record {
-    name = local.name;
-    ty = type_of t local.ty;
-    init = option_map (value_in scope function (type_of t local.ty)) local.init;
-    line = local.line;
-  }) stands.tags ∙ ap (λ i. record {
-    name = local.name;
-    ty = type_of (tags section) local.ty;
-    init = i;
-    line = local.line;
-  }) (init_kept place _ within _ _)
+  local_kept place function within local =
+      cc (stands.tags, init_kept place function within (type_of (tags section) local.ty) local.init)
 
   pub head_kept : (function : FunctionScope) → function ≡ record {
     params = map (typed_param scope.tags) tree.head.params;
@@ -45,9 +37,9 @@ module _ (scope : SectionScope) (section : SectionTree) (stands : Stands scope s
     result = option_map (type_of_name scope.tags) tree.head.result;
   } → StandsIn section tree 0 function
   head_kept function e = record {
-    params = ap (λ f. f.params) e ∙ ap (λ t. map (typed_param t) tree.head.params) stands.tags;
-    locals = ap (λ f. f.locals) e;
-    result = ap (λ f. f.result) e ∙ ap (λ t. option_map (type_of_name t) tree.head.result) stands.tags;
+    params = cc (stands.tags);
+    locals = cc;
+    result = cc (stands.tags);
   }
 
   -- one more local stands there
@@ -58,11 +50,10 @@ module _ (scope : SectionScope) (section : SectionTree) (stands : Stands scope s
         result = function.result;
       } → StandsIn section tree (i + 1) more
   more_stands i local function more h e within m = record {
-    params = ap (λ f. f.params) m ∙ within.params;
-    locals = ap (λ f. f.locals) m ∙ ap (λ l. l ++ local_variable scope.tags local ∷ []) within.locals
-        ∙ ap (λ t. map (local_variable (tags section)) (take i tree.locals) ++ local_variable t local ∷ []) stands.tags
-        ∙ sym (map-append (local_variable _) (take i _) (local ∷ [])) ∙ ap (map _) (sym (take-step _ i local h e));
-    result = ap (λ f. f.result) m ∙ within.result;
+    params = cc (within.params);
+    locals = cc (within.locals, stands.tags, take-step tree.locals i local h e,
+        map-append (local_variable (tags section)) (take i tree.locals) (local ∷ []));
+    result = cc (within.result);
   }
 
   locals-nil : (place : ℕ) → typed_locals section tree place [] ≡ []
@@ -83,19 +74,12 @@ module _ (scope : SectionScope) (section : SectionTree) (stands : Stands scope s
   more_built i local function done more whole built h e within b m k = one_more done more (typed_locals section tree i
       (drop i tree.locals)) (typed_locals section tree (i + 1) (drop (i + 1) tree.locals)) whole built m step k where
         at : StandsIn section tree (suc i) function
-        at = record {
-          params = within.params;
-          locals = within.locals ∙ ap (λ n. map (local_variable (tags section)) (take n tree.locals)) (add-one i);
-          result = within.result;
-        }
+        at = subst (λ n. StandsIn section tree n function) (add-one i) within
 
         step : typed_locals section tree i (drop i tree.locals) ≡ built ∷
             typed_locals section tree (i + 1) (drop (i + 1) tree.locals)
-        step = ap (typed_locals section tree i)
-            (drop-step tree.locals i local h e) ∙ locals-cons i local (drop (i + 1) tree.locals) ∙
-            ap (λ x. x ∷ typed_locals section tree (suc i) (drop (i + 1) tree.locals))
-            (sym (b ∙ local_kept i _ at local)) ∙
-            ap (λ n. built ∷ typed_locals section tree n (drop (i + 1) tree.locals)) (sym (add-one i))
+        step = cc (drop-step tree.locals i local h e, locals-cons i local (drop (i + 1) tree.locals),
+            local_kept i function at local, add-one i)
 
   -- all are built
   pub all_built : (i : ℕ) (done whole : List TypedLocal) → drop i tree.locals ≡ [] →

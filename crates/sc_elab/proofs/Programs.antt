@@ -55,7 +55,5 @@ module _ (sections : List SectionTree) where
       built ++ sections_from sections i (drop i sections) ≡ sections_from sections 0 sections →
       (built ++ it ∷ []) ++ sections_from sections (i + 1) (drop (i + 1) sections) ≡ sections_from sections 0 sections
   built_more built i section it at is before =
-      let rest = drop (i + 1) sections in
-      append_assoc built _ _ ∙ ap (λ x. built ++ x ∷ sections_from sections (i + 1) rest) is
-      ∙ ap (λ k. built ++ typed_section section (callees_of sections i section) ∷ sections_from sections k rest)
-      (add-one i) ∙ ap (λ xs. built ++ sections_from sections i xs) (sym (left_from _ i section at)) ∙ before
+      cc (append_assoc built (it ∷ []) (sections_from sections (i + 1) (drop (i + 1) sections)), add-one i,
+      left_from sections i section at)

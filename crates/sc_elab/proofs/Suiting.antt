@@ -1,16 +1,15 @@
 -- What a function sees suits the scope that its statements are judged in.
 use Rattle.sc_elab.proofs.Common.{Bool, Found, FunctionTree, GlobalTree, List, None, Option, Scope, SectionTree, Some}
 use Rattle.sc_elab.proofs.Common.{StructTree, Suits, Ty, TypedStruct, Visible, [], ap, arith, bytes_eq, end_of_member}
-use Rattle.sc_elab.proofs.Common.{false, found_in, globals_in, has_member, is_some, is_type, list_any, map, map_twice}
+use Rattle.sc_elab.proofs.Common.{false, found_in, globals_in, has_member, is_type, list_any, map, map_twice}
 use Rattle.sc_elab.proofs.Common.{members_from, ne_eqb, no_ty, option_and_then, or_else, position, refl, same_base}
-use Rattle.sc_elab.proofs.Common.{same_ty, scope_in, slice_get, slice_get-map, starred, suc, sym, take, true}
-use Rattle.sc_elab.proofs.Common.{true≢false, type_of, type_with, typed_struct, typed_structs, variable_ty, visible_in}
-use Rattle.sc_elab.proofs.Common.{zero, ℕ, ◌&&◌, ◌++◌, ◌==◌, ◌||◌, ◌∙◌, ◌∷◌, ◌≡◌}
+use Rattle.sc_elab.proofs.Common.{same_ty, scope_in, slice_get, slice_get-map, starred, suc, sym, take, true, type_of}
+use Rattle.sc_elab.proofs.Common.{type_with, typed_struct, typed_structs, variable_ty, visible_in, zero, ℕ, ◌&&◌, ◌++◌}
+use Rattle.sc_elab.proofs.Common.{◌==◌, ◌∙◌, ◌∷◌, ◌≡◌}
 use Rattle.sc_core.specs.declared.ty.BaseTy.{BaseTy}
 use Rattle.sc_core.specs.declared.section.TypedMember.{TypedMember}
 use Rattle.sc_core.specs.declared.section.TypedParam.{TypedParam}
 use Rattle.sc_core.specs.declared.expr.VarRef.{VarRef}
-use Rattle.std.proofs.Math.Bool.{and-false}
 use Rattle.std.specs.Option.{option_map}
 use Rattle.sc_ast.specs.declared.section.MemberTree.{MemberTree}
 use Rattle.sc_ast.specs.declared.types.TypeTree.{TypeTree}
@@ -42,9 +41,8 @@ module _ (tags : List (List ℕ)) where
   members-some : (structs : List TypedStruct) (offset : ℕ) (members : List MemberTree) →
       list_any {X = TypedMember} has_none (members_from tags structs offset members) ≡ false
   members-some structs offset [] = refl
-  members-some structs offset (m ∷ members) = (λ j. offset == 0 &&
-      type-some m.ty j || list_any has_none (members_from tags structs (end_of_member tags structs offset m) members))
-      ∙ (λ j. and-false (offset == 0) j || members-some structs (end_of_member tags structs offset m) members j)
+  members-some structs offset (m ∷ members) =
+      grind (arith, type-some m.ty, members-some structs (end_of_member tags structs offset m) members)
 
   abbrev AreSome : List TypedStruct → Type 0
   AreSome structs = (n : ℕ) → has_member (slice_get structs n) 0 no_ty ≡ false
@@ -75,34 +73,21 @@ module _ (reference : ℕ → VarRef) (variables : List TypedParam) (name : List
       (place : ℕ) × (f.variable ≡ reference place) ×
       (slice_get (map (λ variable. variable.ty) variables) place ≡ Some f.ty)
   found-place f is = by place_of is where
-    variable_or : Option Found → VarRef
-    variable_or None = f.variable
-    variable_or (Some f) = f.variable
-
-    ty_or : Option Found → Ty
-    ty_or None = f.ty
-    ty_or (Some f) = f.ty
-
     at : (place : ℕ) (v : Option TypedParam) → slice_get variables place ≡ v → option_map (found_at place) v ≡ Some f →
         (place : ℕ) × (f.variable ≡ reference place) ×
         (slice_get (map (λ variable. variable.ty) variables) place ≡ Some f.ty)
-    at place None got is = absurd (true≢false (sym (ap is_some is)))
-    at place (Some v) got is = (
-      place,
-      sym (ap variable_or is),
-      slice_get-map (λ variable. variable.ty) variables place ∙
-          ap (option_map (λ variable. variable.ty)) got ∙ ap (λ o. Some (ty_or o)) is,
-    )
+    at place None got is = absurd (cc)
+    at place (Some v) got is = (place, cc, cc (slice_get-map (λ variable. variable.ty) variables place))
 
     by : (p : Option ℕ) → option_and_then (λ place. option_map (found_at place) (slice_get variables place)) p ≡
         Some f → (place : ℕ) × (f.variable ≡ reference place) ×
         (slice_get (map (λ variable. variable.ty) variables) place ≡ Some f.ty)
-    by None is = absurd (true≢false (sym (ap is_some is)))
+    by None is = absurd (cc)
     by (Some place) is = at place (slice_get variables place) refl is
 
 take-get : {A : Type 0} (g : A → Ty) (k : ℕ) (xs : List A) (place : ℕ) (t : Ty) →
     slice_get (map g (take k xs)) place ≡ Some t → slice_get (map g xs) place ≡ Some t
-take-get g zero xs place t is = absurd (true≢false (sym (ap is_some is)))
+take-get g zero xs place t is = cc
 take-get g (suc k) [] place t is = is
 take-get g (suc k) (x ∷ xs) zero t is = is
 take-get g (suc k) (x ∷ xs) (suc place) t is = take-get g k xs place t is
@@ -120,27 +105,22 @@ module _ (section : SectionTree) (tree : FunctionTree) (count : ℕ) where
   abbrev Known : Found → Type 0
   Known f = is_type (variable_ty scope f.variable) f.ty ≡ true
 
-  typed-at : (f : Found) (t : Option Ty) → t ≡ Some f.ty → is_type t f.ty ≡ true
-  typed-at f t is = ap (λ t. is_type t f.ty) is ∙ same_ty-refl f.ty
+  -- what stands at a place with the type that was found
+  known-at : (f : Found) (t : Option Ty) → variable_ty scope f.variable ≡ t → t ≡ Some f.ty → Known f
+  known-at f t is same = cc (same_ty-refl f.ty)
 
   local-known : (name : List ℕ) (f : Found) → found_in var.Local seen.locals name ≡ Some f → Known f
-  local-known name f is =
-      let at = found-place _ _ name f is in
-      ap (λ v. is_type (variable_ty scope v) f.ty) at.1 ∙ typed-at f (slice_get scope.locals at.0) (take-get
-      (λ local. type_of tags _) count tree.locals at.0 f.ty (ap (λ types. slice_get types at.0) (sym (map_twice _ _
-      _)) ∙ at.2))
+  local-known name f is = let at = found-place _ _ name f is in
+      known-at f _ (ap (variable_ty scope) at.1) (take-get (λ local. type_of tags _) count tree.locals at.0 f.ty
+      (ap (λ types. slice_get types at.0) (sym (map_twice _ _ _)) ∙ at.2))
 
   param-known : (name : List ℕ) (f : Found) → found_in var.Param seen.params name ≡ Some f → Known f
-  param-known name f is =
-      let at = found-place _ _ name f is in
-      ap (λ v. is_type (variable_ty scope v) f.ty) at.1 ∙
-      typed-at f (slice_get scope.params at.0) (ap (λ types. slice_get types at.0) (sym (map_twice _ _ _)) ∙ at.2)
+  param-known name f is = let at = found-place _ _ name f is in
+      known-at f _ (ap (variable_ty scope) at.1) (ap (λ types. slice_get types at.0) (sym (map_twice _ _ _)) ∙ at.2)
 
   global-known : (name : List ℕ) (f : Found) → found_in var.Global seen.globals name ≡ Some f → Known f
-  global-known name f is =
-      let at = found-place _ _ name f is in
-      ap (λ v. is_type (variable_ty scope v) f.ty) at.1 ∙
-      typed-at f (slice_get scope.globals at.0) (ap (λ types. slice_get types at.0) (sym (map_twice _ _ _)) ∙ at.2)
+  global-known name f is = let at = found-place _ _ name f is in
+      known-at f _ (ap (variable_ty scope) at.1) (ap (λ types. slice_get types at.0) (sym (map_twice _ _ _)) ∙ at.2)
 
   either-known : (x y : Option Found) (f : Found) → (x ≡ Some f → Known f) → (y ≡ Some f → Known f) →
       or_else x y ≡ Some f → Known f

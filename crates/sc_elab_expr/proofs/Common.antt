@@ -1,7 +1,7 @@
 -- The names that several proofs of this crate cite, passed on from one place. Declares nothing.
 pub use Rattle.std.proofs.Common.{Bool, Err, IfOk, List, None, Ok, Option, Result, Some, [], ap, arith, bytes_eq, codes}
-pub use Rattle.std.proofs.Common.{eq-eqb, false, is_some, position, refl, rules, slice_get, subst, suc, sym, true}
-pub use Rattle.std.proofs.Common.{true≢false, zero, ℕ, ◌&&◌, ◌==◌, ◌||◌, ◌∙◌, ◌∷◌, ◌≡◌}
+pub use Rattle.std.proofs.Common.{eq-eqb, false, is_some, position, refl, rules, slice_get, suc, sym, true, zero, ℕ}
+pub use Rattle.std.proofs.Common.{◌&&◌, ◌==◌, ◌∙◌, ◌∷◌, ◌≡◌}
 pub use Rattle.std.specs.Option.{option_and_then, option_map}
 pub use Rattle.sc_core.specs.Prelude.{Judged, Scope, binary_fits, decayed, has_member, is_address, is_int, is_pointer}
 pub use Rattle.sc_core.specs.Prelude.{is_type, judged, literal_fits, member_of, pointer_to, same_base, same_ty, target}

@@ -4,13 +4,13 @@ use Rattle.sc_elab_expr.proofs.Common.{Some, Suits, Ty, TypedExpr, TypedMember, 
 use Rattle.sc_elab_expr.proofs.Common.{binary_fits, bytes_eq, decayed, eq-eqb, false, found, has_member, is_address}
 use Rattle.sc_elab_expr.proofs.Common.{is_int, is_pointer, is_some, is_type, is_zero, judged, literal_fits}
 use Rattle.sc_elab_expr.proofs.Common.{member_named, member_of, member_offset, member_ty, no_ty, option_and_then}
-use Rattle.sc_elab_expr.proofs.Common.{pointer_to, position, refl, same_base, same_ty, slice_get, struct_of, subst, suc}
-use Rattle.sc_elab_expr.proofs.Common.{sym, target, term_judged, true, true≢false, unary_fits, variable_typed, zero}
-use Rattle.sc_elab_expr.proofs.Common.{zero_step, ℕ, ◌&&◌, ◌==◌, ◌||◌, ◌∙◌, ◌∷◌, ◌≡◌}
+use Rattle.sc_elab_expr.proofs.Common.{pointer_to, position, refl, same_base, same_ty, slice_get, struct_of, suc, sym}
+use Rattle.sc_elab_expr.proofs.Common.{target, term_judged, true, unary_fits, variable_typed, zero, zero_step, ℕ, ◌&&◌}
+use Rattle.sc_elab_expr.proofs.Common.{◌==◌, ◌∙◌, ◌∷◌, ◌≡◌}
 use Rattle.sc_core.specs.declared.ty.BaseTy.{BaseTy}
+use Rattle.std.proofs.Common.{arith}
 use Rattle.sc_core.proofs.Judged.{judged_ty}
 use Rattle.std.specs.List.{list_any}
-use Rattle.std.proofs.Math.Bool.{or-true}
 use Rattle.sc_base.specs.declared.op.BinaryOp.{BinaryOp}
 use Rattle.sc_base.specs.declared.op.UnaryOp.{UnaryOp}
 use Rattle.sc_core.specs.declared.ty.Ty.TheVariants as ty
@@ -31,36 +31,24 @@ same_base-refl _ = refl
 
 pub same_ty-refl : (t : Ty) → same_ty t t ≡ true
 same_ty-refl (ty.Struct n) = eq-eqb n n refl
-same_ty-refl (ty.Pointer s b) = λ j. eq-eqb s s refl j && same_base-refl b j
-same_ty-refl (ty.Array s b k) = λ j. eq-eqb s s refl j && (same_base-refl b j && eq-eqb k k refl j)
+same_ty-refl (ty.Pointer s b) = cc (eq-eqb s s refl, same_base-refl b)
+same_ty-refl (ty.Array s b k) = cc (eq-eqb s s refl, same_base-refl b, eq-eqb k k refl)
 same_ty-refl _ = refl
 
 -- the member of a name is one of the struct's members
 has_named : (xs : List TypedMember) (i : ℕ) (m : TypedMember) → slice_get xs i ≡ Some m →
     list_any {X = TypedMember} (λ x. x.offset == m.offset && same_ty x.ty m.ty) xs ≡ true
-has_named [] i m is = absurd (true≢false (sym (ap is_some is)))
-has_named (x ∷ xs) zero m is = (λ j. (eq-eqb _ _ (ap offset_or is) j && same (ap ty_or is) j) ||
-    list_any {X = TypedMember} (λ x. x.offset == m.offset && same_ty x.ty m.ty) xs) where
-      offset_or : Option TypedMember → ℕ
-      offset_or None = 0
-      offset_or (Some m) = m.offset
-
-      ty_or : Option TypedMember → Ty
-      ty_or None = ty.Int
-      ty_or (Some m) = m.ty
-
-      same : {t u : Ty} → t ≡ u → same_ty t u ≡ true
-      same {t} is = subst (λ u. same_ty t u ≡ true) is (same_ty-refl t)
-has_named (x ∷ xs) (suc i) m is = ap (λ b. (x.offset == m.offset && same_ty x.ty m.ty) || b) (has_named xs i m is) ∙
-    or-true _
+has_named [] i m is = cc
+has_named (x ∷ xs) zero m is = grind (arith, eq-eqb m.offset m.offset refl, same_ty-refl m.ty)
+has_named (x ∷ xs) (suc i) m is = grind (arith, has_named xs i m)
 
 has_found : (name : List ℕ) (s : Option TypedStruct) (m : TypedMember) → member_named name s ≡ Some m →
     has_member s m.offset m.ty ≡ true
-has_found name None m is = absurd (true≢false (sym (ap is_some is)))
+has_found name None m is = cc
 has_found name (Some s) m is = at (position (λ member. bytes_eq name _) s.members) is where
   at : (place : Option ℕ) → option_and_then (slice_get s.members) place ≡ Some m →
       has_member (Some s) m.offset m.ty ≡ true
-  at None is = absurd (true≢false (sym (ap is_some is)))
+  at None is = cc
   at (Some i) is = has_named _ i m is
 
 abbrev pub value : Ty → Bool → Judged
@@ -94,37 +82,35 @@ module _ (scope : Scope) where
 
   pub unary_judged : (o : UnaryOp) (e : TypedExpr) (j : Judged) (t : Ty) → j ≡ judged scope e →
       value t (unary_fits o j t) ≡ judged scope (record { ty = t; kind = TypedKind.Unary o e })
-  unary_judged o e j t is = ap (λ j. value t (unary_fits o j t)) is ∙
-      sym (as_kind t _ (term.Unary o e) (rolls-Unary _ _))
+  unary_judged o e j t is = cc (as_kind t (TypedKind.Unary o e) (term.Unary o e) (rolls-Unary o e))
 
   pub binary_judged : (o : BinaryOp) (a b : TypedExpr) (j k : Judged) (t : Ty) → j ≡ judged scope a →
       k ≡ judged scope b → value t (binary_fits o j k t) ≡
       judged scope (record { ty = t; kind = TypedKind.Binary o a b })
   binary_judged o a b j k t first second =
-      (λ i. value t (binary_fits o (first i) (second i) t)) ∙ sym (as_kind t _ (term.Binary o a b) (rolls-Binary _ _ _))
+      cc (as_kind t (TypedKind.Binary o a b) (term.Binary o a b) (rolls-Binary o a b))
 
   pub index_judged : (a b : TypedExpr) (j k : Judged) (t : Ty) → j ≡ judged scope a → k ≡ judged scope b →
       place t (is_address j && (is_int k && is_type (target (decayed a.ty)) t)) ≡
       judged scope (record { ty = t; kind = TypedKind.Index a b })
-  index_judged a b j k t first second = (λ i. place t (is_address (first i) && (is_int (second i) &&
-      is_type (target (decayed (sym (judged_ty scope a) i))) t))) ∙ sym (as_kind t _ (term.Index a b) (rolls-Index _ _))
+  index_judged a b j k t first second =
+      cc (judged_ty scope a, as_kind t (TypedKind.Index a b) (term.Index a b) (rolls-Index a b))
 
   pub deref_judged : (a : TypedExpr) (j : Judged) (t : Ty) → j ≡ judged scope a → place t
       (is_address j && is_type (target (decayed a.ty)) t) ≡ judged scope (record { ty = t; kind = TypedKind.Deref a })
-  deref_judged a j t is = (λ i. place t (is_address (is i) && is_type (target (decayed (sym (judged_ty scope a) i))) t))
-      ∙ sym (as_kind t _ (term.Deref a) (rolls-Deref _))
+  deref_judged a j t is = cc (judged_ty scope a, as_kind t (TypedKind.Deref a) (term.Deref a) (rolls-Deref a))
 
   pub address_judged : (a : TypedExpr) (j : Judged) (t : Ty) → j ≡ judged scope a → value t (j.fits &&
       (j.place && is_type (pointer_to a.ty) t)) ≡ judged scope (record { ty = t; kind = TypedKind.Address a })
-  address_judged a j t is = (λ i. value t ((is i).fits && ((is i).place &&
-      is_type (pointer_to (sym (judged_ty scope a) i)) t))) ∙ sym (as_kind t _ (term.Address a) (rolls-Address _))
+  address_judged a j t is =
+      cc (judged_ty scope a, as_kind t (TypedKind.Address a) (term.Address a) (rolls-Address a))
 
   -- Null pointers.
 
   null_at : (k : TypedKind-F TypedKind.TypedKind TypedExpr) (t u : Ty) → is_zero (typed_as u k) ≡ true →
       judged scope (typed_as t k) ≡ record { ty = t; fits = literal_fits 0 t; place = false; null = is_pointer t }
   null_at (term.Literal zero) t u h = at t (term.Literal zero)
-  null_at k t u h = absurd (true≢false (sym h ∙ zero_at u k))
+  null_at k t u h = cc (zero_at u k)
 
   null_is : (e : TypedExpr) (t : Ty) → is_zero e ≡ true → judged scope (record {
     ty = t;
@@ -142,7 +128,7 @@ module _ (scope : Scope) where
   } ≡ judged scope (record { ty = decayed t; kind = e.kind })
   null_judged (ty.Pointer s b) e h is = sym (null_is e _ is)
   null_judged (ty.Array s b k) e h is = sym (null_is e _ is)
-  null_judged _ e h is = absurd (true≢false (sym h))
+  null_judged _ e h is = cc
 
   -- Names.
   module _ (visible : Visible) (suits : Suits visible scope) where
@@ -176,11 +162,9 @@ module _ (scope : Scope) where
           ty = member_ty (named name (Some a.ty));
           kind = TypedKind.Member a (member_offset (named name (Some a.ty)));
         })
-    member_judged name a j is = (λ i. place (member_ty (named name (Some a.ty))) ((is i).fits &&
-        ((is i).place && member_is name (Some a.ty) i))) ∙ (λ i. place (member_ty (named name (Some a.ty)))
-        ((judged scope a).fits && ((judged scope a).place && member_of scope (Some (sym (judged_ty scope a) i))
-        (member_offset (named name (Some a.ty))) (member_ty (named name (Some a.ty))))))
-        ∙ sym (as_kind _ _ (term.Member a (member_offset (named name (Some a.ty)))) (rolls-Member _ _))
+    member_judged name a j is = cc (member_is name (Some a.ty), judged_ty scope a,
+        as_kind (member_ty (named name (Some a.ty))) (TypedKind.Member a (member_offset (named name (Some a.ty))))
+        (term.Member a (member_offset (named name (Some a.ty)))) (rolls-Member _ _))
 
     pub arrow_judged : (name : List ℕ) (a : TypedExpr) (j : Judged) →
         j ≡ judged scope a → place (member_ty (named name (target (decayed a.ty))))
@@ -188,11 +172,10 @@ module _ (scope : Scope) where
           ty = member_ty (named name (target (decayed a.ty)));
           kind = TypedKind.Arrow a (member_offset (named name (target (decayed a.ty))));
         })
-    arrow_judged name a j is = (λ i. place (member_ty (named name (target (decayed a.ty)))) (is_address (is i) &&
-        member_is name (target (decayed a.ty)) i)) ∙ (λ i. place (member_ty (named name (target (decayed a.ty))))
-        (is_address (judged scope a) && member_of scope (target (decayed (sym (judged_ty scope a) i)))
-        (member_offset (named name (target (decayed a.ty)))) (member_ty (named name (target (decayed a.ty))))))
-        ∙ sym (as_kind _ _ (term.Arrow a (member_offset (named name _))) (rolls-Arrow _ _))
+    arrow_judged name a j is =
+        let m : Option TypedMember = named name (target (decayed a.ty)) in
+        cc (member_is name (target (decayed a.ty)), judged_ty scope a, as_kind (member_ty m)
+        (TypedKind.Arrow a (member_offset m)) (term.Arrow a (member_offset m)) (rolls-Arrow _ _))
 
 -- what holds of a result that is there, by what else holds of it
 pub if_ok : {A E : Type 0} (P Q R : A → Type 0) (r : Result A E) → ((x : A) → P x → Q x → R x) → IfOk r P → IfOk r Q →
@@ -205,8 +188,7 @@ pub variable_built : (scope : Scope) (visible : Visible) → Suits visible scope
     (b : Built) → f ≡ found visible name → b.expr ≡ variable_typed f →
     b.judged ≡ place (variable_typed f).ty (is_some f) → b.judged ≡ judged scope b.expr
 variable_built scope visible suits name f b is typed told =
-    told ∙ (λ i. place (variable_typed (is i)).ty (is_some (is i))) ∙ variable_judged scope visible suits name
-    ∙ (λ i. judged scope (variable_typed (sym is i))) ∙ (λ i. judged scope (sym typed i))
+    cc (variable_judged scope visible suits name)
 
 module _ (scope : Scope) (visible : Visible) (suits : Suits visible scope) (name : List ℕ) (a : TypedExpr) (j : Judged)
     (m : Option TypedMember) {E : Type 0} (r : Result Built E) (is : j ≡ judged scope a) where
@@ -216,22 +198,10 @@ module _ (scope : Scope) (visible : Visible) (suits : Suits visible scope) (name
   }) → IfOk r (λ b. b.judged ≡ place (member_ty m)
       (j.fits && (j.place && is_some m))) → IfOk r (λ b. b.judged ≡ judged scope b.expr)
   member_built found = if_ok (λ b. b.expr ≡ record { ty = member_ty m; kind = TypedKind.Member a (member_offset m) })
-      (λ b. b.judged ≡ place _ _) _ r (λ b e p. p ∙ (λ i. place (member_ty (found i)) (j.fits &&
-      (j.place && is_some (found i)))) ∙ member_judged scope _ suits name a j is ∙ (λ i. judged scope (record {
-        ty = member_ty (sym found i);
-        kind = TypedKind.Member a (member_offset (sym found i));
-      }))
-      ∙ (λ i. judged scope (sym e i)))
+      (λ b. b.judged ≡ place (member_ty m) (j.fits && (j.place && is_some m))) _ r
+      (λ b e p. cc (member_judged scope visible suits name a j is))
 
   pub arrow_built : (t : Option Ty) → t ≡ target (decayed a.ty) → m ≡ member_named name (struct_of visible.structs t) →
       IfOk r (λ b. b.expr ≡ record { ty = member_ty m; kind = TypedKind.Arrow a (member_offset m) }) → IfOk r
       (λ b. b.judged ≡ place (member_ty m) (is_address j && is_some m)) → IfOk r (λ b. b.judged ≡ judged scope b.expr)
-  arrow_built t points is_found =
-      let found : m ≡ member_named name (struct_of visible.structs (target (decayed a.ty))) =
-      is_found ∙ (λ i. member_named name (struct_of visible.structs (points i))) in
-      if_ok _ _ _ r (λ b e p. p ∙ (λ i. place (member_ty (found i)) (is_address j && is_some (found i)))
-      ∙ arrow_judged scope _ suits name a j is ∙ (λ i. judged scope (record {
-        ty = member_ty (sym found i);
-        kind = TypedKind.Arrow a (member_offset (sym found i));
-      }))
-      ∙ (λ i. judged scope (sym e i)))
+  arrow_built t points is_found = if_ok _ _ _ r (λ b e p. cc (arrow_judged scope visible suits name a j is))

@@ -4,11 +4,11 @@ use Rattle.sc_elab_stmt.proofs.Common.{SimpleTree, StmtKind, StmtTree, Ty, Visib
 use Rattle.sc_elab_stmt.proofs.Common.{assign_holds, call_holds, concat, cond_holds, drop, drop-step, drop_all, get_or}
 use Rattle.sc_elab_stmt.proofs.Common.{length, lines_at, map, part_lines, return_call_holds, return_value_holds, rules}
 use Rattle.sc_elab_stmt.proofs.Common.{stmt_lines, sym, unless, with_lines, ℕ, ◌++◌, ◌+◌, ◌<◌, ◌∙◌, ◌≡◌, ◌≤◌}
+use Rattle.std.proofs.Common.{arith}
 use Rattle.sc_scope.specs.declared.broken.BrokenLines.{BrokenLines}
-use Rattle.sc_scope.proofs.Noting.{with_lines-append, with_lines-nil}
+use Rattle.sc_scope.proofs.Lines.{with_lines-append, with_lines-nil}
 use Rattle.sc_ast.specs.declared.stmt.StmtTree as trees
 use Rattle.sc_ast.specs.declared.stmt.StmtKind as tree
-use Rattle.sc_scope.proofs.Lines.{then}
 
 module _ (visible : Visible) (callees : Callees) (scope : Scope) (result : Option Ty) where
   abbrev at : StmtKind → ℕ → List ℕ
@@ -66,24 +66,20 @@ module _ (visible : Visible) (callees : Callees) (scope : Scope) (result : Optio
         kind ≡ tree.If cond xs ys → holds ≡ cond_is cond → b ≡ with_lines a (unless holds line) →
         c ≡ with_lines b (all xs) → d ≡ with_lines c (all ys) → d ≡ with_lines a here
     noted-if a b c d cond xs ys holds is tested first second third =
-        then a b d (unless (cond_is cond) line) _ (first ∙ ap (λ h. with_lines a (unless h line)) tested)
-        (then b c d _ _ second third) ∙ ap (with_lines a) (sym (kind-if cond xs ys line) ∙ ap (λ k. at k line) (sym is))
+        grind (arith, kind-if cond xs ys line, with_lines-append)
 
     pub noted-while : (a b c : BrokenLines) (cond : ExprTree) (xs : List StmtTree) (holds : Bool) →
         kind ≡ tree.While cond xs → holds ≡ cond_is cond → b ≡ with_lines a (unless holds line) →
         c ≡ with_lines b (all xs) → c ≡ with_lines a here
     noted-while a b c cond xs holds is tested first second =
-        then a b c (unless (cond_is cond) line) _ (first ∙ ap (λ h. with_lines a (unless h line)) tested) second
-        ∙ ap (with_lines a) (sym (kind-while cond xs line) ∙ ap (λ k. at k line) (sym is))
+        grind (arith, kind-while cond xs line, with_lines-append)
 
     pub noted-for : (a b c d e : BrokenLines) (begin : Option SimpleTree) (cond : ExprTree) (next : Option SimpleTree)
         (xs : List StmtTree) (holds : Bool) → kind ≡ tree.For begin cond next xs → b ≡ with_lines a (part begin) →
         holds ≡ cond_is cond → c ≡ with_lines b (unless holds line) → d ≡ with_lines c (part next) →
         e ≡ with_lines d (all xs) → e ≡ with_lines a here
     noted-for a b c d e begin cond next xs holds is first tested second third fourth =
-        then a b e _ _ first (then b c e (unless (cond_is cond) line) _
-        (second ∙ ap (λ h. with_lines b (unless h line)) tested) (then c d e _ _ third fourth))
-        ∙ ap (with_lines a) (sym (kind-for begin cond next xs line) ∙ ap (λ k. at k line) (sym is))
+        grind (arith, kind-for begin cond next xs line, with_lines-append)
 
     quiet : (a : BrokenLines) (k : StmtKind) → kind ≡ k → at k line ≡ [] → a ≡ with_lines a here
     quiet a k is none = sym (with_lines-nil a) ∙ ap (with_lines a) (sym (ap (λ k. at k line) is ∙ none))
@@ -101,14 +97,11 @@ module _ (visible : Visible) (callees : Callees) (scope : Scope) (result : Optio
 module _ {A : Type 0} (f : A → List ℕ) (items : List A) (i : ℕ) (whole : BrokenLines) where
   pub noted-next : (a b : BrokenLines) (x : A) → i < length items → x ≡ get_or items i x → b ≡ with_lines a (f x) →
       with_lines a (concat (map f (drop i items))) ≡ whole → with_lines b (concat (map f (drop (i + 1) items))) ≡ whole
-  noted-next a b x within is noted so = ap (λ b. with_lines b (concat (map f (drop (i + 1) items)))) noted
-      ∙ sym (with_lines-append a (f x) (concat (map f (drop (i + 1) items))))
-      ∙ ap (λ xs. with_lines a (concat (map f xs))) (sym (drop-step items i x within is)) ∙ so
+  noted-next a b x within is noted so = grind (arith, with_lines-append, drop-step items i x within is)
 
   pub noted-all : (a : BrokenLines) → length items ≤ i → with_lines a (concat (map f (drop i items))) ≡ whole →
       a ≡ whole
-  noted-all a done so = sym (with_lines-nil a) ∙ (λ j. with_lines a (concat (map f (sym (drop_all i items done) j)))) ∙
-      so
+  noted-all a done so = cc (drop_all i items done, with_lines-nil a)
 
 pub on_ok : {A E : Type 0} {P Q : Type 0} (r : Result A E) → (P → Q) → OnOk r P → OnOk r Q
 on_ok (Ok x) f p = f p

@@ -4,8 +4,8 @@ use Rattle.sc_elab_stmt.proofs.Common.{Some, Ty, TypedExpr, Visible, [], add-one
 use Rattle.sc_elab_stmt.proofs.Common.{assign_fits, drop, false, get_or, goes_in, goes_into, going_to_all, is_target}
 use Rattle.sc_elab_stmt.proofs.Common.{judged, length, map, params_of, refl, suc, sym, true, typed, ℕ, ◌&&◌, ◌+◌, ◌<◌}
 use Rattle.sc_elab_stmt.proofs.Common.{◌∙◌, ◌∷◌, ◌≡◌, ◌≢◌}
+use Rattle.std.proofs.Common.{arith}
 use Rattle.std.proofs.Math.Seq.{drop-cons}
-use Rattle.std.proofs.Math.Bool.{and-false}
 use Rattle.sc_core.proofs.Judged.{judged_ty}
 
 module _ (goes : Ty → ExprTree → Bool) where
@@ -14,8 +14,7 @@ module _ (goes : Ty → ExprTree → Bool) where
   all_go-lengths [] [] other = absurd (other refl)
   all_go-lengths [] (x ∷ args) other = refl
   all_go-lengths (t ∷ types) [] other = refl
-  all_go-lengths (t ∷ types) (x ∷ args) other =
-      ap (λ b. goes t x && b) (all_go-lengths types args (λ same. other (ap suc same))) ∙ and-false (goes t x)
+  all_go-lengths (t ∷ types) (x ∷ args) other = grind (arith, all_go-lengths types args (λ same. other (ap suc same)))
 
   module _ (types : List Ty) (args : List ExprTree) (i : ℕ) (t : Ty) (x : ExprTree) (within : i < length types)
       (with : i < length args) (is : x ≡ get_or args i x) where
@@ -30,11 +29,11 @@ module _ (goes : Ty → ExprTree → Bool) where
 
     pub all_go-not : (whole holds : Bool) → holds ≡ goes (get_or types i t) x → holds ≡ false →
         all_go goes (drop i types) (drop i args) ≡ whole → false ≡ whole
-    all_go-not whole holds told fails so = (λ j. (sym fails ∙ told) j && rest) ∙ sym all_go-at ∙ so
+    all_go-not whole holds told fails so = cc all_go-at
 
     pub all_go-next : (whole holds : Bool) → holds ≡ goes (get_or types i t) x → holds ≡ true →
         all_go goes (drop i types) (drop i args) ≡ whole → rest ≡ whole
-    all_go-next whole holds told fits so = (λ j. (sym fits ∙ told) j && rest) ∙ sym all_go-at ∙ so
+    all_go-next whole holds told fits so = cc all_go-at
 
 pub ruleset arguments = (all_go-lengths)
 
@@ -44,27 +43,23 @@ module _ (visible : Visible) (scope : Scope) where
   all_go-is [] [] = refl
   all_go-is [] (arg ∷ args) = refl
   all_go-is (t ∷ types) [] = refl
-  all_go-is (t ∷ types) (arg ∷ args) = ap (λ b. goes_in visible scope t arg && b) (all_go-is types args)
+  all_go-is (t ∷ types) (arg ∷ args) = cc (all_go-is types args)
 
   pub args_go : (s : Option Signature) (types : List Ty) (args : List ExprTree) → (gone : Bool) →
       gone ≡ all_go (goes_in visible scope) types args → (signature : Signature) → s ≡ Some signature →
       types ≡ signature.params → gone ≡ args_fit s (map (judged scope)
       (going_to_all (params_of s) (map (typed visible) args)))
-  args_go s types args gone is signature there same = is ∙ (λ j. all_go (goes_in visible scope) (same j) args)
-      ∙ all_go-is signature.params args ∙ (λ j. args_fit (sym there j)
-      (map (judged scope) (going_to_all (params_of (sym there j)) (map (typed visible) args))))
+  args_go s types args gone is signature there same = cc (all_go-is types args)
 
   -- what a place takes
   pub takes_is : (p : TypedExpr) (j : Judged) (goes holds : Bool) (value : Judged) → j ≡ judged scope p →
       goes ≡ goes_into p.ty value → holds ≡ (is_target j && goes) → holds ≡ assign_fits (judged scope p) value
-  takes_is p j goes holds value is told so = so ∙ (λ i. is_target (is i) && told i)
-      ∙ (λ i. is_target (judged scope p) && goes_into (sym (judged_ty scope p) i) value)
+  takes_is p j goes holds value is told so = cc (judged_ty scope p)
 
   pub takes_call_is : (p e : TypedExpr) (j : Judged) (gives holds : Bool) (fits : Bool) (result : Ty → Bool) →
       j ≡ judged scope p → p ≡ e → gives ≡ (fits && result p.ty) → holds ≡ (is_target j && gives) →
       holds ≡ (is_target (judged scope e) && (fits && result e.ty))
-  takes_call_is p e j gives holds fits result is same told so =
-      so ∙ (λ i. is_target (is i) && told i) ∙ (λ i. is_target (judged scope (same i)) && (fits && result (same i).ty))
+  takes_call_is p e j gives holds fits result is same told so = cc
 
 pub ok_map : {A E : Type 0} (P Q : A → Type 0) (r : Result A E) → ((x : A) → P x → Q x) → IfOk r P → IfOk r Q
 ok_map P Q (Ok x) f p = f x p

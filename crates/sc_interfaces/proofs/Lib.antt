@@ -1,5 +1,4 @@
 pub mod Common
-pub mod Agreeing
 pub mod Allowing
 pub mod Bare
 pub mod Offered

@@ -2,15 +2,14 @@
 use Rattle.sc_interfaces.proofs.Common.{All, All-get_or, All-head, All-tail, Bool, Decl, ExportLine, FunctionParam}
 use Rattle.sc_interfaces.proofs.Common.{HasFewExports, HasFewParams, ImportLine, IsWithinCounts, List, None, Option}
 use Rattle.sc_interfaces.proofs.Common.{Placed, SectionTable, SectionTree, Some, Text, [], all_placed, ap, ap₂, arith}
-use Rattle.sc_interfaces.proofs.Common.{cond, defines_main, export_by, export_name, export_names, export_places, false}
-use Rattle.sc_interfaces.proofs.Common.{first_by_name, function_at, function_in, function_name, function_named}
-use Rattle.sc_interfaces.proofs.Common.{function_names, function_places, functions_in, get_or_from_slice_get}
-use Rattle.sc_interfaces.proofs.Common.{if◌then◌else◌, import_by, import_of, inl, input_name, inr, interface_by}
-use Rattle.sc_interfaces.proofs.Common.{interface_of, interfaces_by, interfaces_from, interfaces_of, is_environment}
-use Rattle.sc_interfaces.proofs.Common.{is_some, length, length-map, main_by, main_from, main_name, map, min}
-use Rattle.sc_interfaces.proofs.Common.{nat_list_eq_equiv, number_of, number_or_zero, offered, offered_by, offering}
-use Rattle.sc_interfaces.proofs.Common.{option_and_then, option_map, pointwise, position-cons, promised, promised_by}
-use Rattle.sc_interfaces.proofs.Common.{proto_of, refl, same_text, scalar_of, slice_get, slice_get-map}
+use Rattle.sc_interfaces.proofs.Common.{cond, export_by, export_name, export_names, export_places, false, first_by_name}
+use Rattle.sc_interfaces.proofs.Common.{function_at, function_in, function_name, function_named, function_names}
+use Rattle.sc_interfaces.proofs.Common.{function_places, functions_in, get_or_from_slice_get, if◌then◌else◌, import_by}
+use Rattle.sc_interfaces.proofs.Common.{import_of, inr, interface_by, interface_of, interfaces_by, interfaces_from}
+use Rattle.sc_interfaces.proofs.Common.{interfaces_of, is_some, length, length-map, main_by, main_from, main_name, map}
+use Rattle.sc_interfaces.proofs.Common.{min, nat_list_eq_equiv, number_of, number_or_zero, offered, offered_by}
+use Rattle.sc_interfaces.proofs.Common.{offering, option_and_then, option_map, pointwise, position-cons, promised}
+use Rattle.sc_interfaces.proofs.Common.{promised_by, proto_of, refl, same_text, scalar_of, slice_get, slice_get-map}
 use Rattle.sc_interfaces.proofs.Common.{slice_get_within, subst, suc, sym, table_of, take_all, true, with_first, ℕ}
 use Rattle.sc_interfaces.proofs.Common.{◌++◌, ◌+◌, ◌<◌, ◌==◌, ◌∙◌, ◌∷◌, ◌≡◌, ◌≤◌, ◌⊎◌}
 use Rattle.sc_event.specs.declared.interface.Scalar.{Scalar}
@@ -42,8 +41,7 @@ moved k place = option_map (λ n. k + n) place
 kept : (place : Option ℕ) (same : Bool) (k : ℕ) → (same ≡ true → is_some place ≡ true) →
     place ≡ first_or place (cond same (Some k) None)
 kept (Some n) same k h = refl
-kept None true k h = cc (h refl)
-kept None false k h = refl
+kept None same k h = grind arith
 
 first_by_name-placed : (known : Placed) (other name : Text) (k : ℕ) →
     first_by_name (with_first known other k) name ≡ first_or (first_by_name known name)
@@ -51,8 +49,7 @@ first_by_name-placed : (known : Placed) (other name : Text) (k : ℕ) →
 first_by_name-placed known other name k = at (is_some (first_by_name known other)) refl where
   at : (there : Bool) → is_some (first_by_name known other) ≡ there → first_by_name (if there then known else known ++
       (other, k) ∷ []) name ≡ first_or (first_by_name known name) (cond (pointwise ◌==◌ name other) (Some k) None)
-  at true there = kept (first_by_name known name) (pointwise ◌==◌ name other) k
-      (λ same. ap (λ text. is_some (first_by_name known text)) (same_text name other same) ∙ there)
+  at true there = kept (first_by_name known name) (pointwise ◌==◌ name other) k (λ same. cc (same_text name other same))
   at false absent = first_by_name-last known other name k
 
 first_or_none : (place : Option ℕ) → first_or place None ≡ place
@@ -61,11 +58,9 @@ first_or_none (Some n) = refl
 
 placed_turn : (item : Bool) (here : Option ℕ) (k : ℕ) (later : Option ℕ) → first_or (first_or here (cond item
     (Some k) None)) (moved (suc k) later) ≡ first_or here (moved k (cond item (Some 0) (option_map suc later)))
-placed_turn true None k later = ap Some (omega arith)
-placed_turn true (Some n) k later = refl
-placed_turn false (Some n) k later = refl
-placed_turn false None k None = refl
-placed_turn false None k (Some n) = ap Some (omega arith)
+placed_turn item None k None = grind arith
+placed_turn item None k (Some n) = grind arith
+placed_turn item (Some h) k later = grind arith
 
 all_placed_is : (items : List (Option Text)) (known : Placed) (k : ℕ) (name : Text) →
     first_by_name (all_placed known k items) name ≡ first_or (first_by_name known name)
@@ -121,16 +116,8 @@ moved_on decl decls (Some n) = refl
 function_is : (decls : List Decl) (name : Text) → option_and_then (function_there decls)
     (first_place name (map function_name decls)) ≡ function_named name (functions_in decls)
 function_is [] name = refl
-function_is (declared.Function tree ∷ decls) name =
-    ap (λ same. option_and_then (function_there (declared.Function tree ∷ decls))
-    (cond same (Some 0) (option_map suc (first_place name (map function_name decls)))))
-    (nat_list_eq_equiv.symm name tree.head.name) ∙ at (pointwise ◌==◌ _ name) (function_is decls name) where
-      at : (same : Bool) → option_and_then (function_there decls) (first_place name (map function_name decls)) ≡
-          function_named name (functions_in decls) → option_and_then (function_there (declared.Function tree ∷ decls))
-          (cond same (Some 0) (option_map suc (first_place name (map function_name decls)))) ≡
-          (if same then Some tree else function_named name (functions_in decls))
-      at true rest = refl
-      at false rest = moved_on _ decls _ ∙ rest
+function_is (declared.Function tree ∷ decls) name = grind (arith, nat_list_eq_equiv.symm name tree.head.name,
+    moved_on (declared.Function tree) decls (first_place name (map function_name decls)), function_is decls name)
 function_is (decl ∷ decls) name = moved_on decl decls _ ∙ function_is decls name
 
 function_at_is : (decls : List Decl) (name : Text) → function_at decls (function_places decls) name ≡
@@ -215,18 +202,13 @@ offered_is sections line (Some found) h count few = ap₂ (λ comp index. import
 
       place_there : option_and_then (λ known. first_by_name known line.name)
           (slice_get (map export_places sections) found.0) ≡ number_of (export_names found.1) line.name
-      place_there = ap (λ k. option_and_then (λ known. first_by_name known line.name)
-          (slice_get (map export_places sections) k)) is_place
-          ∙ (ap (option_and_then (λ known. first_by_name known line.name)) (slice_get-map export_places sections h.0
-          ∙ ap (option_map export_places) h.2) ∙ export_place_is found.1 line.name)
+      place_there = cc (is_place, slice_get-map export_places sections h.0, h.2, export_place_is found.1 line.name)
 
 module _ (sections : List SectionTree) (count : length sections ≤ 32) (few : All HasFewExports sections) where
   import_is : (number : ℕ) (line : ImportLine) → import_by (map table_of sections)
       (map export_places sections) number line ≡ import_of sections number line
-  import_is number line =
-      ap (λ there. if is_environment line then (if pointwise ◌==◌ line.name input_name then import.Input else
-      import.Output) else there) (ap (offered_by (map _ _) line) (offering_number_is number line 0 sections) ∙
-      offered_is _ line (offering number line 0 sections) (offering_stands number line 0 sections) count few)
+  import_is number line = cc (offering_number_is number line 0 sections, offered_is sections line
+      (offering number line 0 sections) (offering_stands number line 0 sections) count few)
 
   interface_is : (number : ℕ) (section : SectionTree) → All HasFewParams (functions_in section.decls) →
       interface_by (map table_of sections) (map export_places sections) number section ≡
@@ -251,25 +233,16 @@ module _ (sections : List SectionTree) (count : length sections ≤ 32) (few : A
 
 main_is : (k : ℕ) (sections : List SectionTree) → main_by k (map table_of sections) ≡ main_from k sections
 main_is k [] = refl
-main_is k (section ∷ sections) = ap₂ (λ here later. if here then k else later)
-    (all_numbered_same (function_names section.decls) main_name) (main_is (suc k) sections)
+main_is k (section ∷ sections) =
+    cc (all_numbered_same (function_names section.decls) main_name, main_is (suc k) sections)
 
 main_within : (k : ℕ) (sections : List SectionTree) →
     (main_from k sections < k + length sections) ⊎ (main_from k sections ≡ 0)
 main_within k [] = inr refl
-main_within k (section ∷ sections) = at (defines_main section) (main_within (suc k) sections) where
-  at : (here : Bool) → (main_from (suc k) sections < suc k + length sections) ⊎ (main_from (suc k) sections ≡ 0) →
-      ((if here then k else main_from (suc k) sections) < k + suc (length sections)) ⊎
-      ((if here then k else main_from (suc k) sections) ≡ 0)
-  at true rest = inl (omega arith)
-  at false (inl h) = inl (omega arith)
-  at false (inr h) = inr h
+main_within k (section ∷ sections) = grind (arith, main_within (suc k) sections)
 
 main_small : (sections : List SectionTree) → length sections ≤ 32 → main_from 0 sections ≤ 31
-main_small sections count = at (main_within 0 _) where
-  at : (main_from 0 sections < 0 + length sections) ⊎ (main_from 0 sections ≡ 0) → main_from 0 sections ≤ 31
-  at (inl h) = omega arith
-  at (inr h) = omega arith
+main_small sections count = grind (arith, main_within 0 sections)
 
 -- what is built by tables
 pub built : (sections : List SectionTree) (tables : List SectionTable) (places : List Placed) (comps : List Interface)
@@ -277,8 +250,5 @@ pub built : (sections : List SectionTree) (tables : List SectionTable) (places :
     comps ≡ interfaces_by tables places 0 sections → main ≡ min (main_by 0 tables) 31 →
     ◌≡◌ {A = Interfaces} (record { comps = comps; main = main }) (interfaces_of sections)
 built sections tables places comps main counts tables_are places_are comps_are main_is_min =
-    ap₂ (λ list (number : ℕ). record { comps = list; main = number })
-    (comps_are ∙ (ap₂ (λ t p. interfaces_by t p 0 sections) tables_are places_are ∙
-    interfaces_are _ counts.sections counts.exports 0 _ counts.params))
-    (main_is_min ∙ (ap (λ t. min (main_by 0 t) 31) tables_are ∙ (ap (λ number. min number 31) (main_is 0 sections) ∙
-    min_within _ 31 (main_small sections counts.sections))))
+    cc (interfaces_are sections counts.sections counts.exports 0 sections counts.params, main_is 0 sections,
+    min_within (main_from 0 sections) 31 (main_small sections counts.sections))

@@ -1,10 +1,10 @@
 -- One turn of a loop.
 use Rattle.sc_interfaces.proofs.Common.{Agreements, Bool, Decl, ExportLine, ImportLine, List, ParamTree, SectionTable}
-use Rattle.sc_interfaces.proofs.Common.{Struct, Text, [], all_added, and_right, ap, decl_told, decls_told, drop}
-use Rattle.sc_interfaces.proofs.Common.{drop-step, drop_all, export_fits, exports_told, false, get_or, head_added}
-use Rattle.sc_interfaces.proofs.Common.{head_in, heads_in, import_fits, imports_told, is_offered_by, length, numbered}
-use Rattle.sc_interfaces.proofs.Common.{refl, same_params, same_type, suc, sym, unless, with_lines, with_lines-append}
-use Rattle.sc_interfaces.proofs.Common.{with_lines-nil, ℕ, ◌++◌, ◌+◌, ◌<◌, ◌∙◌, ◌∷◌, ◌≡◌, ◌≤◌}
+use Rattle.sc_interfaces.proofs.Common.{Struct, Text, [], all_added, ap, arith, decl_told, decls_told, drop, drop-step}
+use Rattle.sc_interfaces.proofs.Common.{drop_all, export_fits, exports_told, false, get_or, head_added, head_in}
+use Rattle.sc_interfaces.proofs.Common.{heads_in, import_fits, imports_told, is_offered_by, length, numbered, refl}
+use Rattle.sc_interfaces.proofs.Common.{same_params, suc, sym, unless, with_lines, with_lines-append, with_lines-nil, ℕ}
+use Rattle.sc_interfaces.proofs.Common.{◌++◌, ◌+◌, ◌<◌, ◌∷◌, ◌≡◌, ◌≤◌}
 use Rattle.sc_scope.specs.declared.broken.BrokenLines.{BrokenLines}
 use Rattle.sc_interfaces.specs.declared.imports.Imported.{Imported}
 
@@ -12,21 +12,13 @@ pub told_back : (broken : BrokenLines) (xs ys : List ℕ) →
     with_lines (with_lines broken xs) ys ≡ with_lines broken (xs ++ ys)
 told_back broken xs ys = sym (with_lines-append broken xs ys)
 
--- first these lines, then the others
-pub told_turn : (lines now total : BrokenLines) (these others whole : List ℕ) → now ≡ with_lines lines these →
-    whole ≡ these ++ others → with_lines lines whole ≡ total → with_lines now others ≡ total
-told_turn lines now total these others whole first cut last = ap (λ later. with_lines later others) first
-    ∙ (told_back lines these others ∙ (ap (with_lines lines) (sym cut) ∙ last))
-
 pub exports_turn : (functions before after : List Text)
     (xs : List ExportLine) (i : ℕ) (x : ExportLine) (holds : Bool) (lines now total : BrokenLines) → i < length xs →
     x ≡ get_or xs i x → holds ≡ export_fits functions before x → now ≡ with_lines lines (unless holds x.line) →
     after ≡ numbered before x.name → with_lines lines (exports_told functions before (drop i xs)) ≡ total →
     with_lines now (exports_told functions after (drop (i + 1) xs)) ≡ total
 exports_turn functions before after xs i x holds lines now total within is fits told added earlier =
-    ap (λ names. with_lines now (exports_told functions names (drop (i + 1) xs))) added ∙ told_turn lines now total
-    (unless (export_fits _ before x) x.line) (exports_told functions (numbered before x.name) (drop _ xs)) _ (told ∙
-    ap (λ b. with_lines lines (unless b x.line)) fits) (ap (exports_told _ before) (drop-step xs i x within is)) earlier
+    grind (arith, with_lines-append, drop-step xs i x within is)
 
 pub imports_turn : (tables : List SectionTable) (importer : ℕ) (functions protos before after : List Text)
     (xs : List ImportLine) (i : ℕ) (x : ImportLine) (holds : Bool) (lines now total : BrokenLines) → i < length xs →
@@ -35,12 +27,7 @@ pub imports_turn : (tables : List SectionTable) (importer : ℕ) (functions prot
     with_lines lines (imports_told tables importer functions protos before (drop i xs)) ≡ total →
     with_lines now (imports_told tables importer functions protos after (drop (i + 1) xs)) ≡ total
 imports_turn tables importer functions protos before after xs i x holds lines now total within is fits told added
-    earlier =
-    ap (λ names. with_lines now (imports_told tables importer functions protos names (drop (i + 1) xs))) added ∙
-    told_turn lines now total (unless (import_fits _ _ protos before x) x.line)
-    (imports_told tables importer functions protos (numbered before x.name) (drop _ xs)) _
-    (told ∙ ap (λ b. with_lines lines (unless b x.line)) fits)
-    (ap (imports_told tables _ _ protos before) (drop-step xs i x within is)) earlier
+    earlier = grind (arith, with_lines-append, drop-step xs i x within is)
 
 pub decls_turn : (table : SectionTable) (imported : Imported) (mains : Bool) (known after : Agreements)
     (xs : List Decl) (i : ℕ) (x : Decl) (lines now total : BrokenLines) → i < length xs → x ≡ get_or xs i x →
@@ -48,14 +35,12 @@ pub decls_turn : (table : SectionTable) (imported : Imported) (mains : Bool) (kn
     with_lines lines (decls_told table imported mains known (drop i xs)) ≡ total →
     with_lines now (decls_told table imported mains after (drop (i + 1) xs)) ≡ total
 decls_turn table imported mains known after xs i x lines now total within is told added earlier =
-    ap (λ heads. with_lines now (decls_told table imported mains heads (drop (i + 1) xs))) added ∙
-    told_turn lines now total _ (decls_told table imported mains (head_added known _) (drop _ xs)) _ told
-    (ap (decls_told table _ mains known) (drop-step xs i x within is)) earlier
+    grind (arith, with_lines-append, drop-step xs i x within is)
 
 -- nothing is left
 pub told_end : (lines total : BrokenLines) (others : List ℕ) → others ≡ [] → with_lines lines others ≡ total →
     lines ≡ total
-told_end lines total others none last = sym (with_lines-nil lines) ∙ (ap (with_lines lines) (sym none) ∙ last)
+told_end lines total others none last = cc (with_lines-nil lines)
 
 pub drop_past : {A : Type 0} → (xs : List A) (i : ℕ) → length xs ≤ i → drop i xs ≡ []
 drop_past xs i past = drop_all i xs past
@@ -71,8 +56,8 @@ pub same_params_lengths : (params others : List ParamTree) → (length params �
 same_params_lengths [] [] differ = absurd (differ refl)
 same_params_lengths [] (b ∷ others) differ = refl
 same_params_lengths (a ∷ params) [] differ = refl
-same_params_lengths (a ∷ params) (b ∷ others) differ = and_right (same_type a.ty b.ty)
-    (same_params params others) (same_params_lengths params others (λ same. differ (ap (λ n. suc n) same)))
+same_params_lengths (a ∷ params) (b ∷ others) differ =
+    grind (arith, same_params_lengths params others (λ same. differ (ap (λ n. suc n) same)))
 
 pub told_none : (broken : BrokenLines) → with_lines broken [] ≡ broken
 told_none broken = with_lines-nil broken

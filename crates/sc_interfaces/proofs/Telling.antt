@@ -1,27 +1,24 @@
 -- The rules by tables are the rules.
-use Rattle.sc_interfaces.proofs.Common.{Agreements, Bool, Decl, ExportLine, Function, Global, HeadTree, ImportLine}
-use Rattle.sc_interfaces.proofs.Common.{List, None, Option, ParamTree, Proto, SectionTable, SectionTree, Some, Struct}
-use Rattle.sc_interfaces.proofs.Common.{Text, TypeName, [], add-one, added, agree, agrees_first, agrees_with, all_added}
-use Rattle.sc_interfaces.proofs.Common.{all_numbered, allowed, among, and-false, and-true, and_assoc, ap, ap₂, arith}
-use Rattle.sc_interfaces.proofs.Common.{bytes_eq, decl_told, decls_told, defines_main, drop, drop-step, environment}
-use Rattle.sc_interfaces.proofs.Common.{environment_added, export_names, exports_told, false, filter_map-append}
-use Rattle.sc_interfaces.proofs.Common.{first_added, first_by_name, forbidden, function_names, get_or, gives_int}
-use Rattle.sc_interfaces.proofs.Common.{head_added, head_crosses, head_fits_by, head_in, head_of, heads_in}
+use Rattle.sc_interfaces.proofs.Common.{Agreements, Bool, Decl, ExportLine, Function, HeadTree, ImportLine, List, None}
+use Rattle.sc_interfaces.proofs.Common.{Option, ParamTree, Proto, SectionTable, SectionTree, Some, Text, TypeName, []}
+use Rattle.sc_interfaces.proofs.Common.{added, agree, agrees_first, agrees_with, all_added, all_numbered, allowed}
+use Rattle.sc_interfaces.proofs.Common.{among, and-false, and-true, ap, ap₂, arith, bytes_eq, decl_told, decls_told}
+use Rattle.sc_interfaces.proofs.Common.{defines_main, drop, drop-step, environment_added, export_names, exports_told}
+use Rattle.sc_interfaces.proofs.Common.{false, filter_map-append, first_added, first_by_name, forbidden, function_names}
+use Rattle.sc_interfaces.proofs.Common.{get_or, gives_int, head_added, head_fits_by, head_in, head_of, heads_in}
 use Rattle.sc_interfaces.proofs.Common.{if◌then◌else◌, import_added, import_names, imported_by, imports_added}
-use Rattle.sc_interfaces.proofs.Common.{imports_told, input_head, input_name, int_type, is_environment, is_input}
-use Rattle.sc_interfaces.proofs.Common.{is_offered_by, is_output, is_plain, is_some, length, length-map, line_of_text}
-use Rattle.sc_interfaces.proofs.Common.{lines_told, list_all, list_all-append, list_any, list_any-append, main_holds}
-use Rattle.sc_interfaces.proofs.Common.{main_name, map, map-append, no_heads, not, noted_all, noted_all-append}
-use Rattle.sc_interfaces.proofs.Common.{numbered, offering, offering_number, offering_table, offers, option_and_then}
-use Rattle.sc_interfaces.proofs.Common.{option_map, or-false, or_assoc, others_added, output_head, output_name}
-use Rattle.sc_interfaces.proofs.Common.{proto_names, refl, refused_at, same_params, same_result, same_text}
-use Rattle.sc_interfaces.proofs.Common.{section_told, slice_get, slice_get-map, slice_get_read, suc, sym, table_of}
-use Rattle.sc_interfaces.proofs.Common.{takes_int, takes_nothing, true, unless, ℕ, ◌&&◌, ◌++◌, ◌+◌, ◌<◌, ◌==◌, ◌||◌}
-use Rattle.sc_interfaces.proofs.Common.{◌∙◌, ◌∷◌, ◌≡◌, ◌≤◌}
+use Rattle.sc_interfaces.proofs.Common.{imports_told, input_head, input_name, int_type, is_input, is_offered_by}
+use Rattle.sc_interfaces.proofs.Common.{is_output, is_some, length, length-map, line_of_text, lines_told, list_all}
+use Rattle.sc_interfaces.proofs.Common.{list_all-append, list_any, list_any-append, main_name, map, map-append}
+use Rattle.sc_interfaces.proofs.Common.{no_heads, not, noted_all, noted_all-append, numbered, offering, offering_number}
+use Rattle.sc_interfaces.proofs.Common.{offering_table, offers, option_and_then, option_map, or-false, others_added}
+use Rattle.sc_interfaces.proofs.Common.{output_head, output_name, proto_names, refl, refused_at, same_params}
+use Rattle.sc_interfaces.proofs.Common.{same_result, same_text, section_told, slice_get, slice_get-map, slice_get_read}
+use Rattle.sc_interfaces.proofs.Common.{suc, sym, table_of, takes_int, takes_nothing, true, unless, ℕ, ◌&&◌, ◌++◌, ◌+◌}
+use Rattle.sc_interfaces.proofs.Common.{◌<◌, ◌==◌, ◌||◌, ◌∙◌, ◌∷◌, ◌≡◌, ◌≤◌}
 use Rattle.sc_interfaces.specs.Faces
-use Rattle.sc_interfaces.proofs.Agreeing.{type_symm}
-use Rattle.sc_interfaces.proofs.Allowing.{is_numbered-numbered, all_numbered_same, allowed_forbidden, allowed_added}
-use Rattle.sc_interfaces.proofs.Allowing.{allowed_same}
+use Rattle.sc_interfaces.proofs.Allowing.{type_symm, is_numbered-numbered, all_numbered_same, allowed_forbidden}
+use Rattle.sc_interfaces.proofs.Allowing.{allowed_added, allowed_same}
 use Rattle.sc_interfaces.proofs.Steps.{drop_past}
 use Rattle.sc_scope.proofs.Noted.{noted-none}
 
@@ -32,8 +29,8 @@ record Same (names others : List Text) : Type 0 where
 same_numbered : (names others : List Text) (name : Text) → Same names others →
     Same (numbered names name) (others ++ name ∷ [])
 same_numbered names others name same = record {
-  at = λ k. is_numbered-numbered names name k ∙ (ap (λ first. first || bytes_eq k name) (same.at k) ∙
-      (ap (λ last. among others k || last) (sym (or-false _)) ∙ sym (list_any-append _ others _)));
+  at = λ k. grind (arith, is_numbered-numbered names name k, same.at k,
+      list_any-append (bytes_eq k) others (name ∷ []));
 }
 
 same_all : (names : List Text) → Same (all_numbered [] names) names
@@ -50,17 +47,15 @@ module _ (sections : List SectionTree) (number : ℕ) (section : SectionTree) wh
       exports_told functions seen lines ≡ Faces.exports_from sections number section before lines
   exports_told_is functions seen before [] known same = refl
   exports_told_is functions seen before (line ∷ lines) known same =
-      ap₂ (λ these others. these ++ others) (ap (λ holds. unless holds line.line) (ap₂ (λ defined twice. defined &&
-      (not twice && (not (bytes_eq line.name main_name) && is_plain line.name))) (known.at _) (same.at _)))
-      (exports_told_is _ (numbered seen _) (before ++ line.name ∷ []) lines known (same_numbered seen before _ same))
+      cc (known.at line.name, same.at line.name, exports_told_is functions (numbered seen line.name)
+      (before ++ line.name ∷ []) lines known (same_numbered seen before line.name same))
 
 -- Who offers an import.
 
 offers_is : (importer : ℕ) (line : ImportLine) (k : ℕ) (section : SectionTree) →
     (bytes_eq (table_of section).name line.comp && (not (k == importer) &&
     among (table_of section).exports line.name)) ≡ offers importer line k section
-offers_is importer line k section = ap (λ exported. bytes_eq section.name line.comp &&
-    (not (k == importer) && exported)) (all_numbered_same (export_names section) line.name)
+offers_is importer line k section = cc (all_numbered_same (export_names section) line.name)
 
 abbrev pub number_in : Option (ℕ × SectionTree) → Option ℕ
 number_in None = None
@@ -74,15 +69,7 @@ pub offering_number_is : (importer : ℕ) (line : ImportLine) (k : ℕ) (section
     offering_number importer line k (map table_of sections) ≡ number_in (offering importer line k sections)
 offering_number_is importer line k [] = refl
 offering_number_is importer line k (section ∷ sections) =
-    ap (λ here. if here then Some k else offering_number importer line (suc k) (map table_of sections))
-    (offers_is _ line k section) ∙
-    at (offers importer line k section) (offering_number_is importer line (suc k) sections) where
-      at : (here : Bool) → offering_number importer line (suc k) (map table_of sections) ≡
-          number_in (offering importer line (suc k) sections) →
-          (if here then Some k else offering_number importer line (suc k) (map table_of sections)) ≡
-          number_in (if here then Some (k, section) else offering importer line (suc k) sections)
-      at true rest = refl
-      at false rest = rest
+    grind (arith, offers_is importer line k section, offering_number_is importer line (suc k) sections)
 
 -- where it is found, from number k on
 abbrev pub Stands : (k : ℕ) → List SectionTree → Option (ℕ × SectionTree) → Type 0
@@ -128,9 +115,7 @@ and_end : (a : Bool) → a ≡ (a && true)
 and_end a = sym (and-true a)
 
 or_free : (a e : Bool) → a ≡ (a && (not e || true))
-or_free true true = refl
-or_free true false = refl
-or_free false e = refl
+or_free a e = grind arith
 
 -- the environment's heads
 input_agrees : (head : HeadTree) → agree input_head head ≡ is_input head
@@ -160,8 +145,7 @@ environment_asks name head = if bytes_eq name input_name then is_input head else
     is_output head else true
 
 guarded : (e x y : Bool) → (e ≡ true → x ≡ y) → (not e || x) ≡ (not e || y)
-guarded true x y h = h refl
-guarded false x y h = refl
+guarded e x y h = grind arith
 
 environment_added_allows : (known : Agreements) (name : Text) (head : HeadTree) →
     allowed (environment_added known name) head ≡ (allowed known head &&
@@ -181,12 +165,6 @@ environment_added_allows known name head = first (bytes_eq name input_name) (byt
         ap (λ agrees. allowed known head && (not (bytes_eq name head.name) || agrees)) (output_agrees head)
     first false false = or_free (allowed known head) (bytes_eq name head.name)
 
-no_conflict : (conflict same : Bool) (x agrees : Bool) → conflict ≡ true →
-    (x && not same) ≡ (x && (not same || (not conflict && agrees)))
-no_conflict true true x agrees h = refl
-no_conflict true false x agrees h = refl
-no_conflict false same x agrees h = cc
-
 -- what a table of heads asks of a name
 table_asks : (heads : Agreements) (known : Agreements) (name : Text) (head : HeadTree) →
     allowed (if among heads.conflicts name then forbidden known name else first_added known name
@@ -196,7 +174,7 @@ table_asks heads known name head = at (among _ name) _ where
   at : (conflict : Bool) (found : Option HeadTree) →
       allowed (if conflict then forbidden known name else first_added known name found) head ≡
       (allowed known head && (not (bytes_eq name head.name) || (not conflict && agrees_first found head)))
-  at true found = allowed_forbidden known name head ∙ no_conflict true _ _ (agrees_first found head) refl
+  at true found = grind (arith, allowed_forbidden known name head)
   at false None = or_free _ _
   at false (Some first) = allowed_added known name first head
 
@@ -208,17 +186,14 @@ others_added_allows : (number : ℕ) (known : Agreements) (name : Text) (head : 
     allowed (others_added known name (option_map table_of (section_in found))) head ≡
     (allowed known head && (not (bytes_eq name head.name) || Faces.agrees_there sections number section head found))
 others_added_allows number known name head sections section None = or_free _ _
-others_added_allows number known name head sections section (Some found) =
-    table_asks _ known name head ∙ ap (λ holds. allowed known head && holds) (guarded (bytes_eq name _) (not _ &&
-    agrees_first _ head) (agrees_with _ head) (λ same. ap (λ text. not (among (heads_of found.1).conflicts text) &&
-    agrees_first (first_by_name (heads_of found.1).firsts text) head) (same_text name _ same) ∙ allowed_same _ head))
+others_added_allows number known name head sections section (Some found) = grind (arith, same_text name head.name,
+    table_asks (heads_of found.1) known name head, allowed_same (heads_in found.1.decls) head)
 
 module _ (sections : List SectionTree) (number : ℕ) (section : SectionTree) where
   is_offered_is : (line : ImportLine) → is_offered_by (map table_of sections) number line ≡
       Faces.is_offered sections number section line
   is_offered_is line =
-      ap (λ found. if is_environment line then bytes_eq line.name input_name || bytes_eq line.name output_name else
-      found) (ap is_some (offering_number_is number line 0 _) ∙ is_some-number_in (offering number line 0 _))
+      cc (offering_number_is number line 0 sections, is_some-number_in (offering number line 0 sections))
 
   imports_told_is : (functions protos seen before : List Text) (lines : List ImportLine) →
       Same functions (function_names section.decls) → Same protos (proto_names section.decls) → Same seen before →
@@ -226,33 +201,24 @@ module _ (sections : List SectionTree) (number : ℕ) (section : SectionTree) wh
       Faces.imports_from sections number section before lines
   imports_told_is functions protos seen before [] defined declared same = refl
   imports_told_is functions protos seen before (line ∷ lines) defined declared same =
-      ap₂ (λ these others. these ++ others) (ap (λ holds. unless holds line.line) (ap₂ (λ offered rest. offered && rest)
-      (is_offered_is line) (ap₂ (λ twice rest. not twice && rest) (same.at _) (ap₂ (λ here declares. not here &&
-      (declares && is_plain line.name)) (defined.at _) (declared.at _))))) (imports_told_is _ protos
-      (numbered seen _) (before ++ line.name ∷ []) lines defined declared (same_numbered seen before _ same))
+      cc (is_offered_is line, same.at line.name, defined.at line.name, declared.at line.name,
+      imports_told_is functions protos (numbered seen line.name) (before ++ line.name ∷ []) lines defined declared
+      (same_numbered seen before line.name same))
 
   import_added_allows : (known : Agreements) (line : ImportLine) (head : HeadTree) →
       allowed (import_added (map table_of sections) number known line) head ≡
       (allowed known head && (not (bytes_eq line.name head.name) || Faces.agrees_as sections number section head line))
-  import_added_allows known line head = at (is_environment line) where
-    at : (env : Bool) → allowed (if env then environment_added known line.name else others_added known line.name
-        (offering_table (map table_of sections) number line)) head ≡ (allowed known head &&
-        (not (bytes_eq line.name head.name) ||
-        (if env then environment_asks head.name head else Faces.agrees_there sections number section head
-        (offering number line 0 sections))))
-    at true = environment_added_allows known line.name head
-    at false = ap (λ table. allowed (others_added known line.name table) head) (offering_table_is sections number line)
-        ∙ others_added_allows number known line.name head sections section (offering number line 0 sections)
+  import_added_allows known line head = grind (arith, environment_added_allows known line.name head,
+      offering_table_is sections number line,
+      others_added_allows number known line.name head sections section (offering number line 0 sections))
 
   imports_added_allows : (known : Agreements) (lines : List ImportLine) (head : HeadTree) →
       allowed (imports_added (map table_of sections) number known lines) head ≡
       (allowed known head && list_all {X = ImportLine}
       (λ line. not (bytes_eq line.name head.name) || Faces.agrees_as sections number section head line) lines)
   imports_added_allows known [] head = and_end _
-  imports_added_allows known (line ∷ lines) head = imports_added_allows (import_added _ number known line) lines head
-      ∙ (ap (λ first. first && list_all (λ other. not (bytes_eq other.name head.name) ||
-      Faces.agrees_as sections number section head other) lines) (import_added_allows known line head)
-      ∙ and_assoc (allowed known head) (not _ || Faces.agrees_as _ number section head line) (list_all _ lines))
+  imports_added_allows known (line ∷ lines) head = grind (arith, import_added_allows known line head,
+      imports_added_allows (import_added (map table_of sections) number known line) lines head)
 
   -- what the section imports, by its table, is what it imports
   imported_agrees_is : (head : HeadTree) → allowed (imported_by (map table_of sections) number section).heads head ≡
@@ -267,19 +233,14 @@ record Allows (known : Agreements) (decls : List Decl) : Type 0 where
 
 head_added_allows : (known : Agreements) (decl : Decl) (head : HeadTree) →
     allowed (head_added known (head_in decl)) head ≡ (allowed known head && agrees_with (heads_in (decl ∷ [])) head)
-head_added_allows known (Struct tree) head = and_end _
-head_added_allows known (Global tree) head = and_end _
-head_added_allows known (Proto other) head =
-    allowed_added known _ other head ∙ ap (λ last. allowed known head && last) (and_end _)
-head_added_allows known (Function tree) head =
-    allowed_added known _ _ head ∙ ap (λ last. allowed known head && last) (and_end _)
+head_added_allows known decl head = grind (arith, allowed_added)
 
 allows_more : (known : Agreements) (before : List Decl) (decl : Decl) → Allows known before →
     Allows (head_added known (head_in decl)) (before ++ decl ∷ [])
 allows_more known before decl allows = record {
-  at = λ head. head_added_allows known decl head ∙ (ap (λ first. first && agrees_with (heads_in (decl ∷ [])) head)
-      (allows.at head) ∙ (sym (list_all-append (λ other. not _ || agree other head) (heads_in before)
-      (heads_in (decl ∷ []))) ∙ ap (λ heads. agrees_with heads head) (sym (filter_map-append head_in before _))));
+  at = λ head. grind (arith, head_added_allows known decl head, allows.at head, filter_map-append head_in before
+      (decl ∷ []), list_all-append (λ other. not (bytes_eq other.name head.name) || agree other head) (heads_in before)
+      (heads_in (decl ∷ [])));
 }
 
 allows_none : Allows no_heads []
@@ -289,37 +250,33 @@ module _ (sections : List SectionTree) (number : ℕ) (section : SectionTree) (m
   head_holds_is : (known : Agreements) (before : List Decl) (head : HeadTree) → Allows known before →
       head_fits_by (table_of section) (imported_by (map table_of sections) number section) known head ≡
       Faces.head_holds sections number section before head
-  head_holds_is known before head allows = ap₂ (λ agrees fits. agrees && (head_crosses head || not fits))
-      (allows.at head) (ap₂ (λ exported imported. exported || imported)
-      (all_numbered_same (export_names section) _) (all_numbered_same (import_names section) head.name))
+  head_holds_is known before head allows = cc (allows.at head,
+      all_numbered_same (export_names section) head.name, all_numbered_same (import_names section) head.name)
 
   decl_told_is : (known : Agreements) (before : List Decl) (decl : Decl) → Allows known before →
       decl_told (table_of section) (imported_by (map table_of sections) number section) mains known decl ≡
       Faces.decl_lines sections number section mains before decl
-  decl_told_is known before (Struct tree) allows = refl
-  decl_told_is known before (Global tree) allows = refl
-  decl_told_is known before (Proto head) allows = ap (λ holds. unless holds head.line)
-      (ap₂ (λ x y. x && y) (head_holds_is known before head allows) (imported_agrees_is _ number section head))
-  decl_told_is known before (Function tree) allows = ap (λ holds. unless (holds &&
-      main_holds mains (head_of tree.head)) tree.head.line) (head_holds_is known before (head_of _) allows)
+  decl_told_is known before (Proto head) allows =
+      cc (head_holds_is known before head allows, imported_agrees_is sections number section head)
+  decl_told_is known before (Function tree) allows = cc (head_holds_is known before (head_of tree.head) allows)
+  decl_told_is known before _ allows = refl
 
   decls_told_is : (known : Agreements) (before decls : List Decl) → Allows known before →
       decls_told (table_of section) (imported_by (map table_of sections) number section) mains known decls ≡
       Faces.decls_from sections number section mains before decls
   decls_told_is known before [] allows = refl
   decls_told_is known before (decl ∷ decls) allows =
-      ap₂ (λ these others. these ++ others) (decl_told_is known before decl allows)
-      (decls_told_is (head_added known _) _ decls (allows_more known before decl allows))
+      cc (decl_told_is known before decl allows, decls_told_is (head_added known (head_in decl)) (before ++ decl ∷ [])
+      decls (allows_more known before decl allows))
 
   section_told_is : (seen : List Text) (before : List SectionTree) →
       Same seen (map {A = SectionTree} (λ other. other.name) before) → section_told (map table_of sections) number
       (table_of section) mains seen section ≡ Faces.section_lines sections number section mains before
-  section_told_is seen before same = ap₂ (λ these others. these ++ others) (ap (λ twice. unless (not twice &&
-      not (bytes_eq section.name environment)) 1) (same.at section.name)) (ap₂ (λ these others. these ++ others)
-      (exports_told_is sections number section (all_numbered [] (function_names section.decls)) [] [] section.exports
-      (same_all _) same_none) (ap₂ (λ these others. these ++ others) (imports_told_is sections number section
-      (all_numbered [] (function_names section.decls)) (all_numbered [] (proto_names section.decls))
-      [] [] section.imports (same_all _) (same_all _) same_none) (decls_told_is no_heads [] section.decls allows_none)))
+  section_told_is seen before same = cc (same.at section.name, exports_told_is sections number section
+      (all_numbered [] (function_names section.decls)) [] [] section.exports (same_all (function_names section.decls))
+      same_none, imports_told_is sections number section (all_numbered [] (function_names section.decls))
+      (all_numbered [] (proto_names section.decls)) [] [] section.imports (same_all (function_names section.decls))
+      (same_all (proto_names section.decls)) same_none, decls_told_is no_heads [] section.decls allows_none)
 
 -- Sections.
 
@@ -332,8 +289,8 @@ same_sections seen before section same = record {
 
 mains_more : (mains : Bool) (before : List SectionTree) (section : SectionTree) → mains ≡ list_any defines_main before →
     (mains || among (table_of section).functions main_name) ≡ list_any defines_main (before ++ section ∷ [])
-mains_more mains before section same = ap₂ (λ x y. x || y) same
-    (all_numbered_same (function_names section.decls) main_name ∙ sym (or-false _)) ∙ sym (list_any-append _ before _)
+mains_more mains before section same = grind (arith,
+    all_numbered_same (function_names section.decls) main_name, list_any-append defines_main before (section ∷ []))
 
 lines_told_is : (sections : List SectionTree) (k : ℕ) (mains : Bool) (seen : List Text)
     (before rest : List SectionTree) → mains ≡ list_any defines_main before →
@@ -366,17 +323,13 @@ turn_lines : (sections : List SectionTree) (tables : List SectionTable)
     (lines_told tables (k + 1) (mains || among (table_of section).functions main_name) (numbered before section.name)
     (drop (k + 1) sections)) ≡ noted_all least (lines_told tables k mains before (drop k sections))
 turn_lines sections tables k mains before section least within is =
-    sym (noted_all-append least _ _) ∙ (ap (λ n. noted_all least (map (line_of_text section.line)
-    (section_told tables k (table_of section) mains before section) ++ lines_told tables n (mains ||
-    among (table_of section).functions main_name) (numbered before section.name) (drop (k + 1) sections))) (add-one k)
-    ∙ ap (λ xs. noted_all least (lines_told tables k mains before xs)) (sym (drop-step _ k section within is)))
+    grind (arith, noted_all-append, drop-step sections k section within is)
 
 turn_mains : (sections : List SectionTree) (k : ℕ) (mains : Bool) (section : SectionTree) → k < length sections →
     section ≡ get_or sections k section → ((mains || among (table_of section).functions main_name) ||
     list_any defines_main (drop (k + 1) sections)) ≡ (mains || list_any defines_main (drop k sections))
-turn_mains sections k mains section within is = or_assoc mains _ _ ∙ (ap (λ here. mains || (here ||
-    list_any defines_main (drop (k + 1) sections))) (all_numbered_same (function_names section.decls) main_name)
-    ∙ ap (λ xs. mains || list_any defines_main xs) (sym (drop-step _ k section within is)))
+turn_mains sections k mains section within is = grind (arith, drop-step sections k section within is,
+    all_numbered_same (function_names section.decls) main_name)
 
 -- one section more
 pub sections_turn : (sections : List SectionTree)
@@ -391,18 +344,9 @@ pub sections_turn : (sections : List SectionTree)
 sections_turn sections tables k mains more before after section table least later total whole within is all its told
     found added earlier =
     let table_is = table_at _ tables k section table within is all its in
-    let told_is =
-    told ∙ ap (λ t. noted_all least (map (line_of_text section.line)
-    (section_told tables k t mains before section))) table_is in
-    let found_is =
-    found ∙ ap (λ t. mains || among t.functions main_name) table_is in (
-      ap (λ l. noted_all l (lines_told tables (k + 1) more after (drop (k + 1) sections))) told_is ∙
-          (ap₂ (λ m a. noted_all (noted_all least (map (line_of_text section.line)
-          (section_told tables k (table_of section) mains before section)))
-          (lines_told tables (k + 1) m a (drop (k + 1) sections))) found_is added ∙
-          (turn_lines _ tables k mains before section least within is ∙ earlier.0)),
-      ap (λ m. m || list_any defines_main (drop (k + 1) sections)) found_is ∙
-          (turn_mains _ k mains section within is ∙ earlier.1),
+    (
+      cc (table_is, earlier.0, turn_lines sections tables k mains before section least within is),
+      cc (table_is, earlier.1, turn_mains sections k mains section within is),
     )
 
 -- no section is left
@@ -413,10 +357,6 @@ pub sections_end : (sections : List SectionTree) (tables : List SectionTable) (k
     (drop k sections)) ≡ list_any defines_main sections) → last ≡ refused_at (Faces.interface_broken sections)
 sections_end sections tables k mains before least last past all told earlier =
     let none = drop_past _ k past in
-    let least_is = sym (noted-none least)
-    ∙ (ap (λ xs. noted_all least (lines_told tables k mains before xs)) (sym none) ∙ earlier.0) in
-    let mains_is = sym (or-false mains) ∙ (ap (λ xs. mains || list_any defines_main xs) (sym none) ∙ earlier.1) in
-    let lines_are = ap (λ all_tables. lines_told all_tables 0 false [] sections) all
-    ∙ lines_told_is sections 0 false [] [] sections refl same_none in
-    told ∙ (ap₂ (λ l m. noted_all l (unless m 0)) (least_is ∙ ap (noted_all None) lines_are) mains_is
-    ∙ sym (noted_all-append None (Faces.lines_from sections 0 [] sections) (unless (list_any defines_main sections) 0)))
+    let lines_are = lines_told_is sections 0 false [] [] sections refl same_none in
+    cc (none, earlier.0, earlier.1, noted-none least, or-false mains, lines_are,
+    noted_all-append None (Faces.lines_from sections 0 [] sections) (unless (list_any defines_main sections) 0))

@@ -58,7 +58,7 @@ pub use Rattle.sc_scope.specs.Prelude.{interfaces_of, is_callable, is_environmen
 pub use Rattle.sc_scope.specs.Prelude.{main_name, number_or_zero, offered, offering, offers, promised, proto_known}
 pub use Rattle.sc_scope.specs.Prelude.{proto_names, protos_in, result_known, scalar_of, stmt_lines, struct_names}
 pub use Rattle.sc_scope.specs.Prelude.{structs_in, unless}
-pub use Rattle.sc_interfaces.proofs.Agreeing.{agree_left, agree_symm}
+pub use Rattle.sc_interfaces.proofs.Allowing.{agree_left, agree_symm}
 pub use Rattle.sc_interfaces.specs.Prelude.{agree, agrees_as, agrees_there, agrees_with, crosses, decls_from}
 pub use Rattle.sc_interfaces.specs.Prelude.{environment_offers, export_holds, exports_from, head_crosses, head_holds}
 pub use Rattle.sc_interfaces.specs.Prelude.{import_fits, import_holds, imported_agrees, imports_from, input_name}
@@ -83,11 +83,10 @@ pub use Rattle.sc_elab.specs.Prelude.{callees_of, decl_lines, function_lines, gl
 pub use Rattle.sc_elab.specs.Prelude.{import_target, imported_target, or_first, param_ty, program_of, result_of}
 pub use Rattle.sc_elab.specs.Prelude.{scope_in, sections_from, signature_by, structs, type_of, type_of_name}
 pub use Rattle.sc_elab.specs.Prelude.{typed_function, typed_global, typed_param, typed_section, visible_of}
-pub use Rattle.sc_types.proofs.Basics.{Each, back_empty, each_empty, front_empty, map_empty, none_some, rule_holds}
-pub use Rattle.sc_types.proofs.Basics.{some_item}
 pub use Rattle.sc_types.proofs.Calls.{FoundBy, Offering, comp_is, export_is, find_offering, found_by}
 pub use Rattle.sc_types.proofs.Facts.{DeclFacts, ExportFacts, FaceFacts, Fresh, ImportFacts, fresh_distinct}
-pub use Rattle.sc_types.proofs.Lookups.{FoundFunction, each_at}
+pub use Rattle.sc_types.proofs.Lookups.{Each, FoundFunction, back_empty, each_at, each_empty, front_empty, map_empty}
+pub use Rattle.sc_types.proofs.Lookups.{none_some, rule_holds, some_item}
 pub use Rattle.sc_types.proofs.Sections.{agrees, both_distinct, crossing, g, none_beyond, promised_name}
 pub use Rattle.sc_types.specs.Prelude.{IsTyped, counts_broken, global_lines, head_lines, line_beyond, line_of_some}
 pub use Rattle.sc_types.specs.Prelude.{param_small, section_nodes, structs_from}

@@ -20,7 +20,7 @@ use Rattle.sc_event.specs.declared.interface.Import.TheVariants as import
 use Rattle.sc_ast.specs.declared.section.Decl.TheVariants as decl
 use Rattle.sc_interfaces.specs.Faces as faces
 use Rattle.sc_types.specs.Counts as counts
-use Rattle.sc_types.proofs.Places.{is_at_most}
+use Rattle.sc_types.proofs.Lookups.{is_at_most}
 use Rattle.sc_types.proofs.Whole.{count_at, hold}
 use Rattle.sc_performers.proofs.Agreeing.{AreAgreed, all_agree, are_agreed, promise_declared}
 use Rattle.sc_performers.proofs.BackTree.{head_at}

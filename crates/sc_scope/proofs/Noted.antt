@@ -4,19 +4,18 @@ use Rattle.sc_scope.proofs.Common.{Proto, SectionTree, Struct, Text, [], all_in,
 use Rattle.sc_scope.proofs.Common.{decl_lines, declared, drop, drop_all, false, filter_map, function_lines, get_or}
 use Rattle.sc_scope.proofs.Common.{head_of_known, known, length, lines_from, local_known, local_names, locals_from, map}
 use Rattle.sc_scope.proofs.Common.{map-append, names_broken, noted_all, param_names, refl, section_lines, stmt_lines}
-use Rattle.sc_scope.proofs.Common.{sym, take, unless, with_decl, with_lines, ℕ, ◌++◌, ◌+◌, ◌<◌, ◌∙◌, ◌∷◌, ◌≡◌, ◌≤◌}
+use Rattle.sc_scope.proofs.Common.{take, unless, with_decl, with_lines, ℕ, ◌++◌, ◌+◌, ◌<◌, ◌∙◌, ◌∷◌, ◌≡◌, ◌≤◌}
 use Rattle.std.proofs.lemmas.List.Elements.{filter_map-append}
 use Rattle.sc_scope.specs.declared.section_names.SectionNames.{SectionNames}
-use Rattle.sc_scope.proofs.Lines.{step, done, then}
+use Rattle.sc_scope.proofs.Lines.{done, noted_all-append, with_lines-append}
 use Rattle.sc_scope.proofs.Statements.{body-lines}
-use Rattle.sc_scope.proofs.Noting.{noted_all-append}
+use Rattle.std.proofs.Common.{arith}
 use Rattle.sc_base.proofs.Lists.{drop-step, take-step}
 
 -- what is there and what is left to add, one item further
 pub pushed : {A B : Type 0} (f : A → B) (xs : List A) (i : ℕ) (x : A) (a b all : List B) → i < length xs →
     x ≡ get_or xs i x → a ++ map f (drop i xs) ≡ all → b ≡ a ++ f x ∷ [] → b ++ map f (drop (i + 1) xs) ≡ all
-pushed f xs i x a b all lt is p q = ap (λ c. c ++ map f (drop (i + 1) xs)) q
-    ∙ (append_assoc a (f x ∷ []) (map f (drop _ xs)) ∙ (ap (λ ys. a ++ map f ys) (sym (drop-step xs i x lt is)) ∙ p))
+pushed f xs i x a b all lt is p q = cc (append_assoc a (f x ∷ []) (map f (drop (i + 1) xs)), drop-step xs i x lt is)
 
 -- Locals.
 
@@ -27,10 +26,7 @@ pub local-noted : (names : SectionNames) (own more : List Text) (locals : List L
     b ≡ with_lines a (unless holds local.line) → with_lines b
     (locals_from names.structs names.globals more (drop (i + 1) locals)) ≡ with_lines old all
 local-noted names own more locals i local holds old a b all lt is p h m q =
-    ap (λ o. with_lines b (locals_from names.structs names.globals o (drop (i + 1) locals))) m
-    ∙ step old a b (unless (local_known names.structs names.globals own local) local.line) _ all
-    (ap (λ rest. with_lines a (locals_from names.structs names.globals own rest))
-    (sym (drop-step locals i local lt is)) ∙ p) (q ∙ ap (λ v. with_lines a (unless v local.line)) h)
+    grind (arith, with_lines-append, drop-step locals i local lt is)
 
 pub locals-noted : (names : SectionNames) (own : List Text) (locals : List LocalTree) (i : ℕ) (old a : BrokenLines)
     (all : List ℕ) → length locals ≤ i → with_lines a (locals_from names.structs names.globals own (drop i locals)) ≡
@@ -51,9 +47,7 @@ module _ (names : SectionNames) (tree : FunctionTree) where
       a ≡ with_lines old (unless holds tree.head.line) → b ≡ with_lines a (local_part own) →
       c ≡ with_lines b (body_of all) → c ≡ with_lines old (function_lines names tree)
   function-noted holds own all old a b c h o l p q r =
-      let all-is = l ∙ ap (λ x. x ++ local_names tree) o in
-      then old a c _ _ (p ∙ ap (λ v. with_lines old (unless v tree.head.line)) h) (then a b c _ _
-      (q ∙ ap (λ x. with_lines a (local_part x)) o) (r ∙ ap (with_lines b) (ap body_of all-is ∙ body-lines _ _)))
+      grind (arith, with_lines-append, body-lines (known names all) tree.body)
 
 -- Declarations.
 
@@ -83,8 +77,8 @@ declared-more section before (Function tree) = made _ _ _ _ _ (names-more _ _ be
 pub declared-step : (section : SectionTree) (decls : List Decl) (i : ℕ) (decl : Decl) (names more : SectionNames) →
     i < length decls → decl ≡ get_or decls i decl → names ≡ declared section (take i decls) →
     more ≡ with_decl names decl → more ≡ declared section (take (i + 1) decls)
-declared-step section decls i decl names more lt is n m = m ∙ (ap (λ x. with_decl x decl) n
-    ∙ (sym (declared-more section (take i decls) decl) ∙ ap (declared section) (sym (take-step decls i decl lt is))))
+declared-step section decls i decl names more lt is n m =
+    cc (declared-more section (take i decls) decl, take-step decls i decl lt is)
 
 pub decl-noted : (section : SectionTree) (decls : List Decl) (i : ℕ) (decl : Decl) (names : SectionNames)
     (old a b : BrokenLines) (all : List ℕ) → i < length decls → decl ≡ get_or decls i decl →
@@ -92,9 +86,7 @@ pub decl-noted : (section : SectionTree) (decls : List Decl) (i : ℕ) (decl : D
     with_lines old all → b ≡ with_lines a (decl_lines names decl) →
     with_lines b (lines_from section (take (i + 1) decls) (drop (i + 1) decls)) ≡ with_lines old all
 decl-noted section decls i decl names old a b all lt is n p q =
-    ap (λ before. with_lines b (lines_from section before (drop (i + 1) decls))) (take-step decls i decl lt is) ∙
-    step old a b (decl_lines (declared section (take i decls)) decl) _ all (ap (λ rest. with_lines a (lines_from section
-    (take i decls) rest)) (sym (drop-step decls i decl lt is)) ∙ p) (q ∙ ap (λ x. with_lines a (decl_lines x decl)) n)
+    grind (arith, with_lines-append, drop-step decls i decl lt is, take-step decls i decl lt is)
 
 pub decls-noted : (section : SectionTree) (decls : List Decl) (i : ℕ) (old a : BrokenLines) (all : List ℕ) →
     length decls ≤ i → with_lines a (lines_from section (take i decls) (drop i decls)) ≡ with_lines old all →
@@ -112,10 +104,9 @@ pub section-noted : (sections : List SectionTree) (i : ℕ) (section : SectionTr
     (names_broken (drop i sections)) ≡ all → lines ≡ with_lines (record { start = section.line; least = least })
     (section_lines section) → noted_all lines.least (names_broken (drop (i + 1) sections)) ≡ all
 section-noted sections i section least lines all lt is p q =
-    ap (λ l. noted_all l.least (names_broken (drop (i + 1) sections))) q ∙ (sym (noted_all-append least _ _)
-    ∙ (ap (λ rest. noted_all least (names_broken rest)) (sym (drop-step _ i section lt is)) ∙ p))
+    grind (arith, noted_all-append, drop-step sections i section lt is)
 
 pub sections-noted : (sections : List SectionTree) (i : ℕ) (least : Option ℕ) (all : Option ℕ) → length sections ≤ i →
     noted_all least (names_broken (drop i sections)) ≡ all → least ≡ all
 sections-noted sections i least all le p =
-    sym (noted-none least) ∙ (ap (λ rest. noted_all least (names_broken rest)) (sym (drop_all i _ le)) ∙ p)
+    cc (noted-none least, drop_all i sections le)

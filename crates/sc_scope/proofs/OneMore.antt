@@ -1,16 +1,13 @@
 -- Names of which no two are the same, one more at the end.
-use Rattle.sc_scope.proofs.Common.{Bool, List, Text, [], among, ap, are_distinct, false, nat_eq, not, refl, true, ◌&&◌}
-use Rattle.sc_scope.proofs.Common.{◌++◌, ◌||◌, ◌∙◌, ◌∷◌, ◌≡◌}
+use Rattle.sc_scope.proofs.Common.{Bool, List, Text, [], among, ap, are_distinct, false, nat_eq, not, refl, ◌&&◌, ◌++◌}
+use Rattle.sc_scope.proofs.Common.{◌||◌, ◌∙◌, ◌∷◌, ◌≡◌}
+use Rattle.std.proofs.Common.{arith}
 use Rattle.std.specs.Cmp.Lexicographic.{pointwise}
 use Rattle.std.proofs.lemmas.Cmp.{nat_list_eq_equiv}
 use Rattle.sc_scope.proofs.Lines.{among-append}
 
 regroup : (a e d b : Bool) → (not (a || (e || false)) && (d && not b)) ≡ ((not a && d) && not (e || b))
-regroup true e d b = refl
-regroup false true true true = refl
-regroup false true true false = refl
-regroup false true false b = refl
-regroup false false d b = refl
+regroup a e d b = grind arith
 
 pub distinct-more : (names : List Text) (name : Text) →
     are_distinct (names ++ name ∷ []) ≡ (are_distinct names && not (among names name))

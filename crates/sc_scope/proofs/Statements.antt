@@ -3,10 +3,11 @@ use Rattle.sc_scope.proofs.Common.{Bool, BrokenLines, ExprTree, Known, List, Opt
 use Rattle.sc_scope.proofs.Common.{body_lines, drop, drop-cons, drop_all, expr_known, false, get_or, length, map}
 use Rattle.sc_scope.proofs.Common.{part_lines, refl, rules, stmt_lines, suc, sym, true, unless, with_lines, ℕ, ◌++◌}
 use Rattle.sc_scope.proofs.Common.{◌+◌, ◌<◌, ◌∙◌, ◌∷◌, ◌≡◌, ◌≤◌}
+use Rattle.std.proofs.Common.{arith}
+use Rattle.sc_ast.specs.declared.stmt.StmtKind.{StmtKind, the_lemmas}
+use Rattle.sc_scope.proofs.Lines.{with_lines-append, nothing, step, done}
 use Rattle.sc_ast.specs.declared.stmt.SimpleTree.{SimpleTree}
 use Rattle.sc_ast.specs.declared.stmt.StmtKind as kinds
-use Rattle.sc_ast.specs.declared.stmt.StmtKind.{the_lemmas}
-use Rattle.sc_scope.proofs.Lines.{nothing, then, step, done}
 
 module _ (known : Known) (looping : Bool) (line : ℕ) where
   pub empty-at : stmt_lines known (record { line = line; kind = kinds.Empty }) looping ≡ []
@@ -43,43 +44,41 @@ all-more known looping stmts i stmt lt is = rw (add-one, drop-cons stmts i stmt)
 pub body-lines : (known : Known) (body : List StmtTree) →
     all_in known false (map (stmt_lines known) body) ≡ body_lines known body
 body-lines known [] = refl
-body-lines known (s ∷ body) = ap (λ rest. stmt_lines known s false ++ rest) (body-lines known body)
+body-lines known (s ∷ body) = cc (body-lines known body)
 
 module _ (known : Known) (looping : Bool) (s : StmtTree) (old : BrokenLines) where
+  -- its lines, as what it is
+  is-kind : (kind : StmtKind) → s.kind ≡ kind →
+      stmt_lines known s looping ≡ stmt_lines known (record { line = s.line; kind = kind }) looping
+  is-kind kind e = ap (λ kind. stmt_lines known (record { line = s.line; kind = kind }) looping) e
+
   pub empty-noted : s.kind ≡ kinds.Empty → old ≡ with_lines old (stmt_lines known s looping)
-  empty-noted e = nothing old _ (ap (λ kind. stmt_lines known (record { line = s.line; kind = kind }) looping) e ∙
-      empty-at known looping s.line)
+  empty-noted e = nothing old _ (is-kind _ e ∙ empty-at known looping s.line)
 
   pub return-noted : s.kind ≡ kinds.Return → old ≡ with_lines old (stmt_lines known s looping)
-  return-noted e = nothing old _ (ap (λ kind. stmt_lines known (record { line = s.line; kind = kind }) looping) e ∙
-      return-at known looping s.line)
+  return-noted e = nothing old _ (is-kind _ e ∙ return-at known looping s.line)
 
   pub if-noted : (cond : ExprTree) (first second : List StmtTree) (holds : Bool) (a b c : BrokenLines) →
       s.kind ≡ kinds.If cond first second → holds ≡ expr_known known cond → a ≡ with_lines old (unless holds s.line) →
       b ≡ with_lines a (all_in known looping (map (stmt_lines known) first)) → c ≡ with_lines b
       (all_in known looping (map (stmt_lines known) second)) → c ≡ with_lines old (stmt_lines known s looping)
-  if-noted cond first second holds a b c e h p q r = then old a c _ _ p (then a b c _ _ q r) ∙ ap (with_lines old)
-      (ap (λ t. unless t s.line ++ (all_in known looping (map (stmt_lines known) first) ++ all_in known looping
-      (map (stmt_lines known) second))) h ∙ sym (ap (λ kind. stmt_lines known
-      (record { line = s.line; kind = kind }) looping) e ∙ if-at known looping s.line cond first second))
+  if-noted cond first second holds a b c e h p q r =
+      grind (arith, with_lines-append, is-kind _ e ∙ if-at known looping s.line cond first second)
 
   pub while-noted : (cond : ExprTree) (body : List StmtTree) (holds : Bool) (a b : BrokenLines) →
       s.kind ≡ kinds.While cond body → holds ≡ expr_known known cond → a ≡ with_lines old (unless holds s.line) →
       b ≡ with_lines a (all_in known true (map (stmt_lines known) body)) →
       b ≡ with_lines old (stmt_lines known s looping)
-  while-noted cond body holds a b e h p q = then old a b _ _ p q ∙ ap (with_lines old) (ap (λ t. unless t s.line ++
-      all_in known true (map (stmt_lines known) body)) h ∙ sym (ap (λ kind. stmt_lines known
-      (record { line = s.line; kind = kind }) looping) e ∙ while-at known looping s.line cond body))
+  while-noted cond body holds a b e h p q =
+      grind (arith, with_lines-append, is-kind _ e ∙ while-at known looping s.line cond body)
 
   pub for-noted : (first : Option SimpleTree) (cond : ExprTree) (next : Option SimpleTree) (body : List StmtTree)
       (holds : Bool) (a b c d : BrokenLines) → s.kind ≡ kinds.For first cond next body → holds ≡ expr_known known cond →
       a ≡ with_lines old (part_lines known first) → b ≡ with_lines a (unless holds s.line) →
       c ≡ with_lines b (part_lines known next) → d ≡ with_lines c (all_in known true (map (stmt_lines known) body)) →
       d ≡ with_lines old (stmt_lines known s looping)
-  for-noted first cond next body holds a b c d e h p q r t = then old a d _ _ p (then a b d _ _ q (then b c d _ _ r t))
-      ∙ ap (with_lines old) (ap (λ v. part_lines known first ++ (unless v s.line ++
-      (part_lines known next ++ all_in known true (map (stmt_lines known) body)))) h ∙ sym (ap (λ kind. stmt_lines known
-      (record { line = s.line; kind = kind }) looping) e ∙ for-at known looping s.line first cond next body))
+  for-noted first cond next body holds a b c d e h p q r t =
+      grind (arith, with_lines-append, is-kind _ e ∙ for-at known looping s.line first cond next body)
 
 -- one statement more of a list
 pub more-noted : (known : Known) (looping : Bool) (stmts : List StmtTree) (i : ℕ) (stmt : StmtTree)

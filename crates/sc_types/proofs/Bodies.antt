@@ -2,23 +2,21 @@
 use Rattle.sc_types.proofs.Common.{Bool, CallTree, Callable, Callees, ExprTree, Inside, Known, List, None, Option}
 use Rattle.sc_types.proofs.Common.{Scope, SimpleKind, SimpleTree, Some, StmtKind, StmtKind-F, StmtTree, Ty, TypedStmt}
 use Rattle.sc_types.proofs.Common.{TypedStmtKind, TypedStmtKind-F, Visible, [], and_first, and_from, and_rest, ap}
-use Rattle.sc_types.proofs.Common.{args_fit, assign_call_fits, assign_call_holds, call_fits, call_holds, call_known}
-use Rattle.sc_types.proofs.Common.{concat, cond_holds, expr_known, going_to_some, is_callable, is_target, judged}
-use Rattle.sc_types.proofs.Common.{kind_fits, kind_lines, kind_step, layer_of, list_all, map, on_line, option_map}
-use Rattle.sc_types.proofs.Common.{part_fits, part_lines, refl, result_goes, return_call_holds, returned_call_fits}
-use Rattle.sc_types.proofs.Common.{roll-TypedStmtKind, simple_fits, simple_holds, simple_known, stmt_at, stmt_fits}
-use Rattle.sc_types.proofs.Common.{stmt_induction, stmt_lines, stmt_step, sym, target_signature, true, typed_args}
-use Rattle.sc_types.proofs.Common.{typed_call, typed_simple, typed_simple_kind, typed_stmt, typed_value, unless, ℕ}
-use Rattle.sc_types.proofs.Common.{◌&&◌, ◌++◌, ◌∙◌, ◌∷◌, ◌≡◌}
+use Rattle.sc_types.proofs.Common.{arith, assign_call_fits, assign_call_holds, call_fits, call_holds, call_known}
+use Rattle.sc_types.proofs.Common.{concat, expr_known, going_to_some, is_callable, judged, kind_fits, kind_lines}
+use Rattle.sc_types.proofs.Common.{kind_step, layer_of, list_all, map, on_line, option_map, part_fits, part_lines, refl}
+use Rattle.sc_types.proofs.Common.{result_goes, return_call_holds, returned_call_fits, roll-TypedStmtKind, simple_fits}
+use Rattle.sc_types.proofs.Common.{simple_holds, simple_known, stmt_at, stmt_fits, stmt_induction, stmt_lines}
+use Rattle.sc_types.proofs.Common.{stmt_step, sym, target_signature, true, typed_call, typed_simple, typed_simple_kind}
+use Rattle.sc_types.proofs.Common.{typed_stmt, typed_value, ℕ, ◌&&◌, ◌∙◌, ◌∷◌, ◌≡◌}
 use Rattle.sc_ast.specs.declared.stmt.SimpleKind.TheVariants as simple
 use Rattle.sc_ast.specs.declared.stmt.StmtKind.TheOpen as tree
 use Rattle.sc_ast.proofs.Induction as tree_induction
 use Rattle.sc_ast.proofs.Layers as tree_layers
-use Rattle.sc_core.specs.declared.expr.TypedKind.TheOpen as term
 use Rattle.sc_core.specs.declared.stmt.TypedStmtKind.TheOpen as layer
 use Rattle.sc_scope.specs.Names as names
 use Rattle.sc_elab_expr.specs.Expressions as elab
-use Rattle.sc_types.proofs.Basics.{rule_holds, front_empty, back_empty}
+use Rattle.sc_types.proofs.Lookups.{rule_holds, no_lines}
 use Rattle.sc_core.proofs.Judged.{judged_ty}
 
 module _ (known : Known) (visible : Visible) (callees : Callees) (scope : Scope) (callable : Callable)
@@ -29,24 +27,14 @@ module _ (known : Known) (visible : Visible) (callees : Callees) (scope : Scope)
   call_is : (call : CallTree) → call_known known call ≡ true → call_holds visible callees scope result call ≡ true →
       call_fits callable (typed_call visible callees call).target
       (map (judged scope) (typed_call visible callees call).args) ≡ true
-  call_is call in_names holds = ap (λ signature. args_fit signature
-      (map (judged scope) (typed_args visible callees call))) (same call.name (and_first _ _ in_names)) ∙ holds
+  call_is call in_names holds = grind (arith, same call.name)
 
   assign_call_is : (place : ExprTree) (call : CallTree) → (expr_known known place && call_known known call) ≡ true →
       assign_call_holds visible callees scope result place call ≡ true →
       assign_call_fits callable (judged scope (elab.typed visible place)) (typed_call visible callees call).target
       (map (judged scope) (typed_call visible callees call).args) ≡ true
   assign_call_is place call in_names holds =
-      let called : call_known known call ≡ true = and_rest (expr_known known place) (call_known known call) in_names in
-      let rest : (call_holds visible callees scope result call && result_goes (callees.signature call.name)
-      (elab.typed visible place).ty) ≡ true = and_rest (is_target (judged scope _)) _ holds in
-      let goes : result_goes (target_signature callable (callees.target call.name))
-      (judged scope (elab.typed visible place)).ty ≡ result_goes (callees.signature call.name)
-      (elab.typed visible place).ty = λ i. result_goes (same call.name (and_first (is_callable known _) _ called) i)
-      (judged_ty scope (elab.typed visible place) i) in
-      and_from (is_target (judged scope (elab.typed visible place))) _
-      (and_first (is_target (judged scope _)) _ holds) (and_from _ _ (call_is call called (and_first _ _ rest))
-      (goes ∙ and_rest (call_holds visible callees scope result call) _ rest))
+      grind (arith, call_is call, same call.name, judged_ty scope (elab.typed visible place))
 
   return_call_is : (present : Option Ty) (call : CallTree) → call_known known call ≡ true →
       return_call_holds visible callees scope result present call ≡ true → returned_call_fits callable present
@@ -81,8 +69,7 @@ module _ (known : Known) (visible : Visible) (callees : Callees) (scope : Scope)
       (λ s. s looping) (map (stmt_fits scope callable result) (map (typed_stmt visible callees result) stmts)) ≡ true
   all_fit looping [] each in_names holds = refl
   all_fit looping (s ∷ stmts) each in_names holds =
-      and_from _ _ (each.0 looping (front_empty _ _ in_names) (front_empty _ _ holds))
-      (all_fit looping stmts each.1 (back_empty (names.stmt_lines known s looping) _ in_names) (back_empty _ _ holds))
+      grind (arith, no_lines, each.0 looping, all_fit looping stmts each.1)
 
   -- the layer of a statement, where the statements inside have their types
   abbrev Layer : Type 0
@@ -121,42 +108,15 @@ module _ (known : Known) (visible : Visible) (callees : Callees) (scope : Scope)
       call_is call (rule_holds _ line in_names) (rule_holds _ line holds)
   by_kind line (tree.If cond first second) under looping in_names holds =
       fits_at line (layer.If (elab.typed visible cond) (map (typed_stmt visible callees result) first)
-      (map (typed_stmt visible callees result) second)) looping ∙ and_from _ _ (rule_holds _ line
-      (front_empty (unless _ line) _ holds)) (and_from _ _ (all_fit looping first under.0 (front_empty _ _ names_inside)
-      (front_empty _ _ inside)) (all_fit looping second under.1 (back_empty (names.all_in known looping
-      (map _ first)) _ names_inside) (back_empty (concat (map _ first)) _ inside))) where
-        names_inside : names.all_in known looping (map (names.stmt_lines known) first) ++
-            names.all_in known looping (map (names.stmt_lines known) second) ≡ []
-        names_inside = back_empty (unless (expr_known known cond) line) _ in_names
-
-        inside : concat (map (stmt_lines visible callees scope result) first) ++
-            concat (map (stmt_lines visible callees scope result) second) ≡ []
-        inside = back_empty (unless (cond_holds visible callees scope result cond) line) _ holds
+      (map (typed_stmt visible callees result) second)) looping
+      ∙ grind (arith, no_lines, all_fit looping first under.0, all_fit looping second under.1)
   by_kind line (tree.While cond body) under looping in_names holds =
       fits_at line (layer.While (elab.typed visible cond) (map (typed_stmt visible callees result) body)) looping
-      ∙ and_from _ _ (rule_holds _ line (front_empty (unless _ line) _ holds))
-      (all_fit true body under (back_empty (unless (expr_known known cond) line) _ in_names)
-      (back_empty (unless (cond_holds visible callees scope result cond) line) _ holds))
+      ∙ grind (arith, no_lines, all_fit true body under)
   by_kind line (tree.For first cond next body) under looping in_names holds =
       fits_at line (layer.For (option_map (typed_simple visible callees) first) (elab.typed visible cond)
       (option_map (typed_simple visible callees) next) (map (typed_stmt visible callees result) body)) looping
-      ∙ and_from _ _ (part_is first (front_empty (names.part_lines known first) _ in_names)
-      (front_empty (part_lines visible callees scope result first) _ holds))
-      (and_from _ _ (rule_holds _ line (front_empty (unless _ line) _ behind_first))
-      (and_from _ _ (part_is next (front_empty _ _ names_behind) (front_empty _ _ behind)) (all_fit true body under
-      (back_empty (names.part_lines known next) _ names_behind) (back_empty _ _ behind)))) where
-        names_behind : names.part_lines known next ++ names.all_in known true (map (names.stmt_lines known) body) ≡ []
-        names_behind = back_empty (unless (expr_known known cond) line) _
-            (back_empty (names.part_lines known first) _ in_names)
-
-        behind_first : unless (cond_holds visible callees scope result cond) line ++
-            (part_lines visible callees scope result next ++
-            concat (map (stmt_lines visible callees scope result) body)) ≡ []
-        behind_first = back_empty (part_lines visible callees scope result first) _ holds
-
-        behind : part_lines visible callees scope result next ++
-            concat (map (stmt_lines visible callees scope result) body) ≡ []
-        behind = back_empty (unless (cond_holds visible callees scope result cond) line) _ behind_first
+      ∙ grind (arith, no_lines, part_is first, part_is next, all_fit true body under)
   by_kind line tree.Break under looping in_names holds =
       fits_at line layer.Break looping ∙ rule_holds looping line in_names
   by_kind line tree.Continue under looping in_names holds =

@@ -1,35 +1,32 @@
 -- In a text that breaks no rule of interfaces, a call by its name is typed as the call of its target.
 use Rattle.sc_types.proofs.Common.{Bool, Callable, Callees, Decl, ExportLine, FunctionTree, HeadTree, ImportLine, List}
 use Rattle.sc_types.proofs.Common.{None, SectionTree, Some, [], agree, agrees_as, agrees_there, agrees_with, allowed}
-use Rattle.sc_types.proofs.Common.{and_first, and_rest, any_passes_from_place, ap, bytes_eq, callable_in, callees_of}
-use Rattle.sc_types.proofs.Common.{declared, export_at, false, false≢true, function_names, functions_in, head_crosses}
-use Rattle.sc_types.proofs.Common.{head_named, head_of, heads_in, if◌then◌else◌, implied, import_named, import_names}
-use Rattle.sc_types.proofs.Common.{import_of, import_target, imported_target, input_name, interface_of, interfaces_of}
-use Rattle.sc_types.proofs.Common.{is_callable, is_environment, is_input, is_numbered, is_offered, is_output, is_some}
-use Rattle.sc_types.proofs.Common.{known_in, list_any, list_any-append, map, not, number_or_zero, offered, offering}
-use Rattle.sc_types.proofs.Common.{option_map, option_signature, or_first, or_right, output_name, promised, proto_names}
-use Rattle.sc_types.proofs.Common.{proto_signature, refl, same_import, same_text, signature_by, slice_get}
-use Rattle.sc_types.proofs.Common.{slice_get-map, subst, sym, tags, target_or, target_signature, true, typed_section, ℕ}
-use Rattle.sc_types.proofs.Common.{◌&&◌, ◌++◌, ◌==◌, ◌||◌, ◌∙◌, ◌∷◌, ◌≡◌}
+use Rattle.sc_types.proofs.Common.{and_first, any_passes_from_place, ap, arith, bytes_eq, callable_in, callees_of}
+use Rattle.sc_types.proofs.Common.{declared, export_at, false, function_names, functions_in, head_crosses, head_named}
+use Rattle.sc_types.proofs.Common.{head_of, heads_in, if◌then◌else◌, implied, import_named, import_names, import_of}
+use Rattle.sc_types.proofs.Common.{import_target, imported_target, input_name, interface_of, interfaces_of, is_callable}
+use Rattle.sc_types.proofs.Common.{is_environment, is_input, is_numbered, is_offered, is_output, is_some, known_in}
+use Rattle.sc_types.proofs.Common.{list_any, list_any-append, map, not, offered, offering, option_map, option_signature}
+use Rattle.sc_types.proofs.Common.{or_first, or_right, output_name, promised, proto_names, proto_signature, refl}
+use Rattle.sc_types.proofs.Common.{same_import, same_text, signature_by, slice_get, slice_get-map, subst, sym, tags}
+use Rattle.sc_types.proofs.Common.{target_or, target_signature, true, typed_section, ℕ, ◌++◌, ◌||◌, ◌∙◌, ◌∷◌, ◌≡◌}
 use Rattle.sc_event.specs.declared.interface.Import.{Import}
 use Rattle.sc_event.specs.declared.interface.Import.TheVariants as import
 use Rattle.sc_core.specs.declared.ty.Ty.TheVariants as ty
-use Rattle.sc_types.proofs.Basics.{or_not, each_passes}
-use Rattle.sc_types.proofs.Places.{Text, same_refl, eq_refl}
-use Rattle.sc_types.proofs.Lookups.{each_at, FoundFunction, find_function, no_function, no_place, heads_of_functions}
-use Rattle.sc_types.proofs.Lookups.{FoundHead, find_head}
+use Rattle.sc_types.proofs.Lookups.{or_not, each_passes, Text, same_refl, eq_refl, each_at, FoundFunction}
+use Rattle.sc_types.proofs.Lookups.{find_function, no_function, no_place, heads_of_functions, FoundHead, find_head}
 use Rattle.sc_types.proofs.Facts.{ExportFacts, ImportFacts, DeclFacts, FaceFacts}
-use Rattle.sc_types.proofs.Calls.{agreed_signature, input_signature, output_signature, FoundBy, found_by, own_at}
-use Rattle.sc_types.proofs.Calls.{FoundImport, find_import, Offering, find_offering, export_is}
+use Rattle.sc_types.proofs.Calls.{agreed_signature, input_signature, output_signature, FoundBy, own_at, FoundImport}
+use Rattle.sc_types.proofs.Calls.{find_import, Offering, find_offering, found_export, export_is}
 
 same_import_refl : (i : Import) → same_import i i ≡ true
 same_import_refl import.Input = refl
 same_import_refl import.Output = refl
-same_import_refl (import.Function comp index) = λ i. eq_refl comp i && eq_refl index i
+same_import_refl (import.Function comp index) = cc (eq_refl comp, eq_refl index)
 
 names_append : (a b : List Text) (name : Text) → is_numbered (a ++ b) name ≡ true → is_numbered a name ≡ false →
     is_numbered b name ≡ true
-names_append a b name h q = ap (λ c. c || is_numbered b name) (sym q) ∙ sym (list_any-append _ a b) ∙ h
+names_append a b name h q = grind (arith, list_any-append (bytes_eq name) a b)
 
 module _ (sections : List SectionTree) (hold : (j : ℕ) (s : SectionTree) → slice_get sections j ≡ Some s →
     FaceFacts sections j s) (number : ℕ) (section : SectionTree)
@@ -103,7 +100,7 @@ module _ (sections : List SectionTree) (hold : (j : ℕ) (s : SectionTree) → s
     env_goal true false true e i o off agrees f =
         let is : import_of sections number line ≡ import.Output = λ k. import_by (e k) (i k) in
         subst Goal (sym is) (output_goal is agrees)
-    env_goal true false false e i o off agrees f = absurd (false≢true off)
+    env_goal true false false e i o off agrees f = cc
     env_goal false input output e i o off agrees f = f refl
 
     -- another section's
@@ -114,9 +111,8 @@ module _ (sections : List SectionTree) (hold : (j : ℕ) (s : SectionTree) → s
       abbrev there_facts : FaceFacts sections o.number other
       there_facts = hold o.number other o.got
 
-      export : FoundBy {A = ExportLine} (λ line. line.name) line.name other.exports
-      export =
-          found_by _ _ _ (and_rest (not (o.number == number)) _ (and_rest (bytes_eq other.name line.comp) _ o.offers))
+      abbrev export : FoundBy {A = ExportLine} (λ line. line.name) line.name other.exports
+      export = found_export number line o
 
       abbrev export_line : ExportLine
       export_line = export.item
@@ -133,8 +129,7 @@ module _ (sections : List SectionTree) (hold : (j : ℕ) (s : SectionTree) → s
       g = find_function _ _ defined
 
       import_is : import_of sections number line ≡ import.Function o.number export.at
-      import_is = ap (λ b. import_by b (bytes_eq line.name input_name)) env
-          ∙ ap (offered line) o.is ∙ ap (λ n. import.Function o.number (number_or_zero n)) export.place
+      import_is = cc (env, o.is, export.place)
 
       with_all : agrees_with (heads_in other.decls) head ≡ true
       with_all = sym (ap (agrees_there sections number section head) o.is)
@@ -155,8 +150,7 @@ module _ (sections : List SectionTree) (hold : (j : ℕ) (s : SectionTree) → s
       head_is = or_not _ _ h.holds.0 (or_right _ _ there_name)
 
       proto_is : export_at (interfaces_of sections) o.number export.at ≡ Some (promised export_line.name (Some g.tree))
-      proto_is = export_is sections o.number other export.at export_line o.got export.got
-          ∙ ap (λ t. Some (promised export_line.name t)) g.first
+      proto_is = cc (export_is sections o.number other export.at export_line o.got export.got, g.first)
 
       other_goal : Goal (import_of sections number line)
       other_goal = subst Goal (sym import_is) (ap (λ b. allowed b

@@ -1,35 +1,33 @@
 -- A call by its name in a section is the call of its target in the program.
-use Rattle.sc_types.proofs.Common.{BaseTree, Bool, Callees, Decides-eqb, ExportLine, FunctionParam, FunctionTree}
-use Rattle.sc_types.proofs.Common.{HeadTree, ImportLine, List, None, Option, ParamTree, SectionTree, Some, TypeName}
-use Rattle.sc_types.proofs.Common.{TypedParam, [], agree, and_first, and_rest, ap, arith, base_of, base_scalar}
-use Rattle.sc_types.proofs.Common.{bytes_eq, crosses, export_at, false, false≢true, functions_in, gives_int}
-use Rattle.sc_types.proofs.Common.{head_crosses, head_of, if◌then◌else◌, import_named, interface_of, interfaces_of}
-use Rattle.sc_types.proofs.Common.{is_input, is_int, is_numbered, is_output, is_some, length, list_all, list_any, map}
-use Rattle.sc_types.proofs.Common.{nat_eq, not, number_of, offering, offers, option_and_then, option_map, param_of}
-use Rattle.sc_types.proofs.Common.{param_ty, promised, proto_of, proto_signature, refl, result_crosses, result_of}
-use Rattle.sc_types.proofs.Common.{result_ty, same_params, same_result, same_type, scalar_of, scalar_ty, signature_by}
-use Rattle.sc_types.proofs.Common.{signature_of, slice_get, slice_get-map, starred, suc, sym, tags, takes_int}
-use Rattle.sc_types.proofs.Common.{takes_nothing, true, type_of_name, typed_function, typed_param, ℕ, ◌++◌, ◌+◌, ◌||◌}
-use Rattle.sc_types.proofs.Common.{◌∙◌, ◌∷◌, ◌≡◌}
+use Rattle.sc_types.proofs.Common.{BaseTree, Bool, Callees, ExportLine, FunctionParam, FunctionTree, HeadTree}
+use Rattle.sc_types.proofs.Common.{ImportLine, List, None, Option, ParamTree, SectionTree, Some, TypeName, TypedParam}
+use Rattle.sc_types.proofs.Common.{[], agree, and_first, and_rest, ap, arith, base_of, base_scalar, bytes_eq, crosses}
+use Rattle.sc_types.proofs.Common.{export_at, false, functions_in, gives_int, head_crosses, head_of, if◌then◌else◌}
+use Rattle.sc_types.proofs.Common.{import_named, interface_of, interfaces_of, is_input, is_int, is_numbered, is_output}
+use Rattle.sc_types.proofs.Common.{is_some, length, list_all, list_any, map, nat_eq, nat_tests, not, number_of}
+use Rattle.sc_types.proofs.Common.{offering, offers, option_and_then, option_map, param_of, param_ty, promised}
+use Rattle.sc_types.proofs.Common.{proto_of, proto_signature, refl, result_crosses, result_of, result_ty, same_params}
+use Rattle.sc_types.proofs.Common.{same_result, same_type, scalar_of, scalar_ty, signature_by, signature_of, slice_get}
+use Rattle.sc_types.proofs.Common.{slice_get-map, starred, suc, sym, tags, takes_int, takes_nothing, true, type_of_name}
+use Rattle.sc_types.proofs.Common.{typed_function, typed_param, ℕ, ◌++◌, ◌+◌, ◌==◌, ◌||◌, ◌∙◌, ◌∷◌, ◌≡◌}
 use Rattle.sc_event.specs.Prelude.{comp_at}
 use Rattle.sc_interfaces.specs.Prelude.{same_base}
 use Rattle.sc_elab.proofs.Programs.{comp_at as elab_comp_at}
 use Rattle.sc_ast.specs.declared.types.BaseTree.TheVariants as base_tree
 use Rattle.sc_core.specs.declared.ty.Ty.TheVariants as ty
-use Rattle.sc_types.proofs.Basics.{Each}
-use Rattle.sc_types.proofs.Places.{Text, first_of, any_found, number_is}
-use Rattle.sc_types.proofs.Lookups.{each_at, same_sym, FoundFunction, find_names, any_names}
+use Rattle.sc_types.proofs.Lookups.{Each, Text, first_of, any_found, number_is, each_at, same_sym, FoundFunction}
+use Rattle.sc_types.proofs.Lookups.{find_names, any_names}
 
 -- Types that cross.
 
 zero_is : (n : ℕ) → nat_eq n 0 ≡ true → n ≡ 0
-zero_is n h = (Decides-eqb n 0).0 h
+zero_is n h = grind (arith, nat_tests)
 
 crossing_base : (tags : List Text) (b : BaseTree) → (same_base b base_tree.Int || same_base b base_tree.Unsigned) ≡
     true → starred 0 (base_of tags b) ≡ scalar_ty (base_scalar b)
 crossing_base tags base_tree.Int h = refl
 crossing_base tags base_tree.Unsigned h = refl
-crossing_base tags (base_tree.Struct tag) h = absurd (false≢true h)
+crossing_base tags (base_tree.Struct tag) h = cc
 
 pub crossing_ty : (tags : List Text) (t : TypeName) → crosses t ≡ true → type_of_name tags t ≡ scalar_ty (scalar_of t)
 crossing_ty tags t h = ap (λ stars. starred stars (base_of tags t.base))
@@ -41,7 +39,7 @@ same_scalar base_tree.Int (base_tree.Struct tag) h = refl
 same_scalar base_tree.Unsigned base_tree.Unsigned h = refl
 same_scalar (base_tree.Struct tag) base_tree.Int h = refl
 same_scalar (base_tree.Struct tag) (base_tree.Struct other) h = refl
-same_scalar _ _ h = absurd (false≢true h)
+same_scalar _ _ h = cc
 
 -- a type that crosses and agrees with another
 agreed_ty : (tags : List Text) (a b : TypeName) → same_type a b ≡ true → crosses b ≡ true →
@@ -51,20 +49,19 @@ agreed_ty tags a b same h = crossing_ty tags b h ∙ ap scalar_ty (sym (same_sca
 agreed_params : (tags : List Text) (a b : List ParamTree) → same_params a b ≡ true → list_all {X = ParamTree}
     (λ param. crosses param.ty) b ≡ true → map (param_ty tags) b ≡ map scalar_ty (map (λ param. scalar_of param.ty) a)
 agreed_params tags [] [] same h = refl
-agreed_params tags (p ∷ a) (q ∷ b) same h = λ i. agreed_ty tags p.ty q.ty (and_first _ _ same) (and_first _ _ h) i ∷
-    agreed_params tags a b (and_rest _ _ same) (and_rest _ _ h) i
-agreed_params tags _ _ same h = absurd (false≢true same)
+agreed_params tags (p ∷ a) (q ∷ b) same h = grind (arith, agreed_ty tags p.ty q.ty, agreed_params tags a b)
+agreed_params tags _ _ same h = cc
 
 agreed_result : (tags : List Text) (a b : Option TypeName) → same_result a b ≡ true → result_crosses b ≡ true →
     option_map (type_of_name tags) b ≡ result_ty (option_map scalar_of a)
 agreed_result tags None None same h = refl
 agreed_result tags (Some t) (Some u) same h = ap Some (agreed_ty tags t u same h)
-agreed_result tags _ _ same h = absurd (false≢true same)
+agreed_result tags _ _ same h = cc
 
 scalars_of : (params : List FunctionParam) → map {A = ParamTree} (λ param. scalar_of param.ty) (map param_of params) ≡
     map {A = FunctionParam} (λ param. scalar_of param.ty) params
 scalars_of [] = refl
-scalars_of (p ∷ params) = ap (λ rest. scalar_of p.ty ∷ rest) (scalars_of params)
+scalars_of (p ∷ params) = cc (scalars_of params)
 
 -- the signature of a head that agrees with a function and whose types cross
 pub agreed_signature : (tags : List Text) (name : Text) (tree : FunctionTree) (head : HeadTree) →
@@ -79,29 +76,29 @@ agreed_signature tags name tree head same h = λ i. record {
 int_by : (tags : List Text) (stars : ℕ) (b : BaseTree) → nat_eq stars 0 ≡ true → same_base b base_tree.Int ≡ true →
     starred stars (base_of tags b) ≡ ty.Int
 int_by tags stars base_tree.Int h k = ap (λ n. starred n (base_of tags base_tree.Int)) (zero_is stars h)
-int_by tags stars _ h k = absurd (false≢true k)
+int_by tags stars _ h k = cc
 
 pub int_ty : (tags : List Text) (t : TypeName) → is_int t ≡ true → type_of_name tags t ≡ ty.Int
 int_ty tags t h = int_by tags t.stars t.base (and_first _ _ h) (and_rest _ _ h)
 
 int_result : (tags : List Text) (result : Option TypeName) → gives_int result ≡ true →
     option_map (type_of_name tags) result ≡ Some ty.Int
-int_result tags None h = absurd (false≢true h)
+int_result tags None h = cc
 int_result tags (Some t) h = ap Some (int_ty tags t h)
 
 no_result : (tags : List Text) (result : Option TypeName) → not (is_some result) ≡ true →
     option_map (type_of_name tags) result ≡ None
 no_result tags None h = refl
-no_result tags (Some t) h = absurd (false≢true h)
+no_result tags (Some t) h = cc
 
 no_params : (tags : List Text) (params : List ParamTree) → takes_nothing params ≡ true → map (param_ty tags) params ≡ []
 no_params tags [] h = refl
-no_params tags (p ∷ params) h = absurd (false≢true h)
+no_params tags (p ∷ params) h = cc
 
 int_params : (tags : List Text) (params : List ParamTree) → takes_int params ≡ true →
     map (param_ty tags) params ≡ ty.Int ∷ []
 int_params tags (p ∷ []) h = ap (λ t. t ∷ []) (int_ty tags p.ty h)
-int_params tags _ h = absurd (false≢true h)
+int_params tags _ h = cc
 
 pub input_signature : (tags : List Text) (head : HeadTree) → is_input head ≡ true →
     signature_by tags head ≡ record { params = []; result = Some ty.Int }
@@ -144,7 +141,7 @@ found_by name_in name xs h =
 types_of_params : (tags : List Text) (params : List FunctionParam) →
     map {A = TypedParam} (λ p. p.ty) (map (typed_param tags) params) ≡ map (param_ty tags) (map param_of params)
 types_of_params tags [] = refl
-types_of_params tags (p ∷ params) = ap (λ rest. type_of_name tags p.ty ∷ rest) (types_of_params tags params)
+types_of_params tags (p ∷ params) = cc (types_of_params tags params)
 
 module _ (section : SectionTree) (callees : Callees) where
   -- a typed function has the signature of its head
@@ -174,7 +171,7 @@ pub record FoundImport (P : ImportLine → Type 0) (name : Text) (lines : List I
 import_first : (name : Text) (lines : List ImportLine) →
     import_named name lines ≡ first_of (λ line. bytes_eq line.name name) lines
 import_first name [] = refl
-import_first name (line ∷ lines) = ap (λ o. if bytes_eq line.name name then Some line else o) (import_first name lines)
+import_first name (line ∷ lines) = grind (arith, import_first name lines)
 
 pub find_import : (P : ImportLine → Type 0) (name : Text) (lines : List ImportLine) → Each P lines →
     list_any (bytes_eq name) (map {A = ImportLine} (λ line. line.name) lines) ≡ true → FoundImport P name lines
@@ -245,7 +242,7 @@ module _ (importer : ℕ) (line : ImportLine) where
 
   offering_from : (k : ℕ) (sections : List SectionTree) → is_some (offering importer line k sections) ≡ true →
       OfferingFrom k sections
-  offering_from k [] h = absurd (false≢true h)
+  offering_from k [] h = cc
   offering_from k (section ∷ rest) h = offering_at k section rest _ refl (offering_from _ rest) h
 
   pub find_offering : (sections : List SectionTree) → is_some (offering importer line 0 sections) ≡ true →
@@ -257,6 +254,12 @@ module _ (importer : ℕ) (line : ImportLine) where
     got = ap (slice_get sections) (f.counted ∙ plus_none f.at) ∙ f.got;
     offers = f.offers;
   }
+
+  -- the export line of what is imported
+  pub found_export : {sections : List SectionTree} (o : Offering importer line sections) →
+      FoundBy {A = ExportLine} (λ other. other.name) line.name o.section.exports
+  found_export o = found_by _ _ _ (and_rest (not (o.number == importer)) _
+      (and_rest (bytes_eq o.section.name line.comp) _ o.offers))
 
 -- Interfaces by their numbers.
 

@@ -3,9 +3,9 @@ pub use Rattle.std.proofs.Common.{Bool, Err, IfOk, List, None, Ok, OnOk, Option,
 pub use Rattle.std.proofs.Common.{append-nil, append_assoc, ap₂, arith, bytes_eq, codes, cond, drop, drop-cons, false}
 pub use Rattle.std.proofs.Common.{flat_map, get_or, if◌then◌else◌, inl, inr, is_some, le-leb, leb-true, length, lt-ltb}
 pub use Rattle.std.proofs.Common.{ltb-true, map, max, nat_eq, nat_le, nat_lt, not, position, refl, replicate, rules}
-pub use Rattle.std.proofs.Common.{slice_get, slice_range, subst, suc, sym, take, true, zero, ℕ, ◌%◌, ◌&&◌, ◌*◌, ◌++◌}
-pub use Rattle.std.proofs.Common.{◌+◌, ◌-◌, ◌<◌, ◌==◌, ◌^◌, ◌||◌, ◌∙◌, ◌∷◌, ◌≡◌, ◌≤◌, ◌⊎◌}
-pub use Rattle.std.proofs.lemmas.Bool.{and_from, false≢true, not-true, or_from, or_left, or_parts, or_right}
+pub use Rattle.std.proofs.Common.{slice_get, slice_range, subst, suc, sym, take, true, zero, ℕ, ◌&&◌, ◌*◌, ◌++◌, ◌+◌}
+pub use Rattle.std.proofs.Common.{◌-◌, ◌<◌, ◌==◌, ◌||◌, ◌∙◌, ◌∷◌, ◌≡◌, ◌≤◌, ◌⊎◌}
+pub use Rattle.std.proofs.lemmas.Bool.{and_from, or_from, or_left, or_right}
 pub use Rattle.std.proofs.lemmas.Bool.Decides.{Decides-eqb, nat_tests}
 pub use Rattle.std.proofs.lemmas.List.{drop_all, length-map, map-append, take_more}
 pub use Rattle.std.proofs.lemmas.List.Elements.{filter_map-append}
@@ -13,7 +13,7 @@ pub use Rattle.std.proofs.lemmas.List.Folds.{concat-append, list_any-append}
 pub use Rattle.std.proofs.lemmas.Map.Keys.{any_passes_from_place}
 pub use Rattle.std.proofs.lemmas.Option.{same_Some, slice_get-map}
 pub use Rattle.std.proofs.lemmas.Result.{err_from_is_err_and}
-pub use Rattle.std.specs.List.{All, AllZip, concat, filter_map, list_all, list_any, position_from}
+pub use Rattle.std.specs.List.{All, AllZip, concat, filter_map, list_all, list_any}
 pub use Rattle.std.specs.Option.{option_and_then, option_map, option_map_or}
 pub use Rattle.sc_base.proofs.Bools.{and_first, and_rest, implied}
 pub use Rattle.sc_base.proofs.Lists.{drop-step, get_behind, get_front, map_twice}
@@ -46,7 +46,7 @@ pub use Rattle.sc_ast.specs.declared.types.TypeName.{TypeName}
 pub use Rattle.sc_ast.specs.declared.types.TypeTree.{TypeTree}
 pub use Rattle.sc_read.proofs.Steps.{as_many, heading_fails}
 pub use Rattle.sc_read.specs.Reading.{IsRead, Part, Reads, part_of}
-pub use Rattle.sc_scope.proofs.Lines.{done, nothing, then}
+pub use Rattle.sc_scope.proofs.Lines.{done}
 pub use Rattle.sc_scope.specs.Prelude.{Known, Text, among, base_known, base_scalar, call_known, declared, defines_main}
 pub use Rattle.sc_scope.specs.Prelude.{earlier, environment, export_names, expr_known, function_in, function_named}
 pub use Rattle.sc_scope.specs.Prelude.{function_names, functions_in, global_in, global_names, globals_in, head_in}
@@ -60,25 +60,24 @@ unfoldable pub use Rattle.sc_scope.specs.Prelude.{noted_all}
 pub use Rattle.sc_scope.specs.declared.broken.BrokenLines.{BrokenLines}
 pub use Rattle.sc_interfaces.specs.Prelude.{HasFewExports, HasFewParams, IsWithinCounts, agree, agrees_as, agrees_there}
 pub use Rattle.sc_interfaces.specs.Prelude.{agrees_with, crosses, decls_from, exports_from, gives_int, head_crosses}
-pub use Rattle.sc_interfaces.specs.Prelude.{head_fits, head_holds, imported_agrees, imports_from, input_name}
-pub use Rattle.sc_interfaces.specs.Prelude.{interface_broken, is_input, is_int, is_offered, is_output, is_plain}
-pub use Rattle.sc_interfaces.specs.Prelude.{main_holds, name_holds, output_name, result_crosses, same_params}
-pub use Rattle.sc_interfaces.specs.Prelude.{same_result, same_type, section_lines, takes_int, takes_nothing}
-pub use Rattle.sc_core.proofs.Layers.{expr_at, layer_of, on_line, stmt_at, term_of, typed}
-pub use Rattle.sc_core.specs.Prelude.{Callable, IsWellTyped, Scope, Signature, allowed, are_distinct, args_fit}
-pub use Rattle.sc_core.specs.Prelude.{assign_call_fits, base_cells, base_within, body_fits, call_fits, call_height}
-pub use Rattle.sc_core.specs.Prelude.{callable_in, cells_of, decayed, decl_count, export_fits, export_name, expr_height}
-pub use Rattle.sc_core.specs.Prelude.{function_fits, global_fits, highest, import_fits, import_name, init_height}
-pub use Rattle.sc_core.specs.Prelude.{interface_fits, is_array, is_main, is_plain_name, is_pointer, is_target}
-pub use Rattle.sc_core.specs.Prelude.{is_well_typed, judged, kind_fits, kind_height, local_fits, main_fits, mains_in}
-pub use Rattle.sc_core.specs.Prelude.{members_fit, most_cells, most_compartments, most_exports, most_height, most_nodes}
-pub use Rattle.sc_core.specs.Prelude.{most_params, nodes, option_signature, part_fits, part_height, passed_fits}
-pub use Rattle.sc_core.specs.Prelude.{proto_signature, result_fits, result_goes, result_ty, returned_call_fits}
-pub use Rattle.sc_core.specs.Prelude.{same_base, same_import, same_results, same_signature, same_types, scalar_ty}
-pub use Rattle.sc_core.specs.Prelude.{scope_of, section_fits, sections_fit, signature_of, simple_fits, simple_height}
-pub use Rattle.sc_core.specs.Prelude.{starred, starred_cells, starred_within, stmt_fits, stmt_height, struct_cells}
-pub use Rattle.sc_core.specs.Prelude.{struct_fits, structs_fit, target_signature, term_height, total, truth}
-pub use Rattle.sc_core.specs.Prelude.{type_within, variable_fits, words_fit}
+pub use Rattle.sc_interfaces.specs.Prelude.{head_fits, imported_agrees, imports_from, input_name, interface_broken}
+pub use Rattle.sc_interfaces.specs.Prelude.{is_input, is_int, is_offered, is_output, is_plain, main_holds, output_name}
+pub use Rattle.sc_interfaces.specs.Prelude.{result_crosses, same_params, same_result, same_type, section_lines}
+pub use Rattle.sc_interfaces.specs.Prelude.{takes_int, takes_nothing}
+pub use Rattle.sc_core.proofs.Layers.{layer_of, on_line, stmt_at}
+pub use Rattle.sc_core.specs.Prelude.{Callable, IsWellTyped, Scope, Signature, allowed, are_distinct, assign_call_fits}
+pub use Rattle.sc_core.specs.Prelude.{base_cells, base_within, body_fits, call_fits, call_height, callable_in, cells_of}
+pub use Rattle.sc_core.specs.Prelude.{decayed, decl_count, export_fits, export_name, expr_height, function_fits}
+pub use Rattle.sc_core.specs.Prelude.{global_fits, highest, import_fits, import_name, init_height, interface_fits}
+pub use Rattle.sc_core.specs.Prelude.{is_array, is_main, is_pointer, is_well_typed, judged, kind_fits, kind_height}
+pub use Rattle.sc_core.specs.Prelude.{local_fits, main_fits, mains_in, members_fit, most_cells, most_compartments}
+pub use Rattle.sc_core.specs.Prelude.{most_exports, most_height, most_nodes, most_params, nodes, option_signature}
+pub use Rattle.sc_core.specs.Prelude.{part_fits, part_height, passed_fits, proto_signature, result_fits, result_goes}
+pub use Rattle.sc_core.specs.Prelude.{result_ty, returned_call_fits, same_base, same_import, same_results}
+pub use Rattle.sc_core.specs.Prelude.{same_signature, same_types, scalar_ty, scope_of, section_fits, sections_fit}
+pub use Rattle.sc_core.specs.Prelude.{signature_of, simple_fits, simple_height, starred, starred_cells, starred_within}
+pub use Rattle.sc_core.specs.Prelude.{stmt_fits, stmt_height, struct_cells, struct_fits, structs_fit, target_signature}
+pub use Rattle.sc_core.specs.Prelude.{term_height, total, truth, type_within, variable_fits, words_fit}
 pub use Rattle.sc_core.specs.declared.expr.TypedExpr.{TypedExpr, fold-roll-TypedExpr}
 pub use Rattle.sc_core.specs.declared.expr.TypedKind.{TypedKind, TypedKind-F, the_lemmas}
 unfoldable pub use Rattle.sc_core.specs.declared.expr.TypedKind.{roll-TypedKind}
@@ -91,22 +90,22 @@ pub use Rattle.sc_core.specs.declared.ty.BaseTy.{BaseTy}
 pub use Rattle.sc_core.specs.declared.ty.Ty.{Ty}
 pub use Rattle.sc_elab_expr.specs.Prelude.{Callees, Found, Visible, beside, found, going_to, is_zero, step, target_or}
 pub use Rattle.sc_elab_expr.specs.Prelude.{variable_typed}
-pub use Rattle.sc_elab_stmt.specs.Prelude.{assign_call_holds, call_holds, cond_holds, going_to_all, going_to_some}
-pub use Rattle.sc_elab_stmt.specs.Prelude.{kind_lines, kind_step, part_lines, return_call_holds, simple_holds}
-pub use Rattle.sc_elab_stmt.specs.Prelude.{stmt_lines, stmt_step, typed_args, typed_call, typed_simple}
-pub use Rattle.sc_elab_stmt.specs.Prelude.{typed_simple_kind, typed_stmt, typed_value}
+pub use Rattle.sc_elab_stmt.specs.Prelude.{assign_call_holds, call_holds, going_to_all, going_to_some, kind_lines}
+pub use Rattle.sc_elab_stmt.specs.Prelude.{kind_step, part_lines, return_call_holds, simple_holds, stmt_lines}
+pub use Rattle.sc_elab_stmt.specs.Prelude.{stmt_step, typed_call, typed_simple, typed_simple_kind, typed_stmt}
+pub use Rattle.sc_elab_stmt.specs.Prelude.{typed_value}
 pub use Rattle.sc_elab.specs.Prelude.{base_of, callees_of, cells_from, decl_lines, end_of_member, head_named}
-pub use Rattle.sc_elab.specs.Prelude.{import_named, import_target, imported_target, init_holds, init_words, is_null}
-pub use Rattle.sc_elab.specs.Prelude.{is_sized, local_holds, locals_from, members_from, or_first, param_ty, program_of}
-pub use Rattle.sc_elab.specs.Prelude.{result_of, scope_in, sections_from, signature_by, struct_lines, structs, tags}
-pub use Rattle.sc_elab.specs.Prelude.{type_of, type_of_name, type_with, typed_function, typed_global, typed_init}
-pub use Rattle.sc_elab.specs.Prelude.{typed_local, typed_param, typed_section, typed_struct, types_broken, visible_in}
-pub use Rattle.sc_elab.specs.Prelude.{visible_of, word_of_const}
+pub use Rattle.sc_elab.specs.Prelude.{import_named, import_target, imported_target, init_holds, init_words, is_sized}
+pub use Rattle.sc_elab.specs.Prelude.{local_holds, locals_from, members_from, or_first, param_ty, program_of, result_of}
+pub use Rattle.sc_elab.specs.Prelude.{scope_in, sections_from, signature_by, struct_lines, structs, tags, type_of}
+pub use Rattle.sc_elab.specs.Prelude.{type_of_name, type_with, typed_function, typed_global, typed_init, typed_local}
+pub use Rattle.sc_elab.specs.Prelude.{typed_param, typed_section, typed_struct, types_broken, visible_in, visible_of}
+pub use Rattle.sc_elab.specs.Prelude.{word_of_const}
 unfoldable pub use Rattle.sc_elab.specs.Prelude.{typed_locals, typed_structs}
 pub use Rattle.sc_types.specs.Common.{FunctionTree, LocalTree, ProgramTree, Section, SectionTree}
 pub use Rattle.sc_types.specs.Prelude.{Accepts, AreLow, AreStarts, Fails, FailsRules, FailsTyped, IsKept, IsSource}
 pub use Rattle.sc_types.specs.Prelude.{IsTyped, call_nodes, counts_broken, decls_nodes, expr_nodes, expr_step}
 pub use Rattle.sc_types.specs.Prelude.{first_start, function_lines, function_nodes, global_lines, head_lines}
-pub use Rattle.sc_types.specs.Prelude.{init_nodes, is_small, line_beyond, line_of_some, lines_from, local_lines}
-pub use Rattle.sc_types.specs.Prelude.{local_nodes, param_small, part_nodes, parts_from, simple_nodes, source_of}
-pub use Rattle.sc_types.specs.Prelude.{start_of, stmt_nodes, stmts_nodes, structs_from, type_in}
+pub use Rattle.sc_types.specs.Prelude.{init_nodes, is_small, line_beyond, lines_from, local_lines, local_nodes}
+pub use Rattle.sc_types.specs.Prelude.{part_nodes, parts_from, simple_nodes, source_of, start_of, stmt_nodes}
+pub use Rattle.sc_types.specs.Prelude.{stmts_nodes, structs_from, type_in}

@@ -1,27 +1,22 @@
 -- Functions, globals and structs of a section that breaks no rule are well typed.
-use Rattle.sc_types.proofs.Common.{BaseTree, BaseTy, Bool, Callable, Callees, Decl, ExprTree, Function, FunctionParam}
-use Rattle.sc_types.proofs.Common.{FunctionTree, Global, GlobalTree, List, LocalTree, None, Option, ParamTree, Proto}
-use Rattle.sc_types.proofs.Common.{SectionTree, Some, StmtTree, Struct, StructTree, Ty, TypeName, TypeTree, TypedParam}
-use Rattle.sc_types.proofs.Common.{TypedStmt, [], and_first, and_from, and_rest, ap, append-nil, append_assoc, arith}
-use Rattle.sc_types.proofs.Common.{base_known, body_fits, concat, decl_lines, false, false≢true, filter_map-append}
-use Rattle.sc_types.proofs.Common.{function_fits, function_names, functions_in, global_fits, global_names, globals_in}
-use Rattle.sc_types.proofs.Common.{head_of, heads_in, if◌then◌else◌, import_names, init_height, init_holds, init_words}
-use Rattle.sc_types.proofs.Common.{is_array, is_callable, is_null, is_numbered, is_sized, is_small, known_in, length}
-use Rattle.sc_types.proofs.Common.{length-map, list_all, local_fits, local_holds, locals_from, map, map-append}
-use Rattle.sc_types.proofs.Common.{map_twice, max, most_cells, most_height, most_params, nat_eq, nat_le, not, not-true}
-use Rattle.sc_types.proofs.Common.{option_map, param_names, param_of, passed_fits, proto_names, refl, result_fits}
-use Rattle.sc_types.proofs.Common.{result_known, result_of, scope_in, scope_of, slice_get, starred, stmt_height}
-use Rattle.sc_types.proofs.Common.{stmt_lines, struct_cells, struct_lines, struct_names, structs, structs_from}
-use Rattle.sc_types.proofs.Common.{structs_in, subst, suc, sym, tags, target_signature, true, type_of, type_of_name}
-use Rattle.sc_types.proofs.Common.{type_within, typed_function, typed_global, typed_init, typed_local, typed_locals}
-use Rattle.sc_types.proofs.Common.{typed_param, typed_section, typed_stmt, unless, variable_fits, visible_in}
-use Rattle.sc_types.proofs.Common.{visible_of, word_of_const, words_fit, zero, ℕ, ◌%◌, ◌&&◌, ◌++◌, ◌+◌, ◌-◌, ◌<◌, ◌==◌}
-use Rattle.sc_types.proofs.Common.{◌^◌, ◌∙◌, ◌∷◌, ◌≡◌}
-use Rattle.sc_scope.specs.Prelude.{are_distinct}
+use Rattle.sc_types.proofs.Common.{BaseTree, BaseTy, Callable, Callees, Decl, ExprTree, FunctionParam, FunctionTree}
+use Rattle.sc_types.proofs.Common.{Global, GlobalTree, List, LocalTree, None, Option, ParamTree, SectionTree, Some}
+use Rattle.sc_types.proofs.Common.{StmtTree, Struct, StructTree, Ty, TypeName, TypeTree, TypedParam, TypedStmt, []}
+use Rattle.sc_types.proofs.Common.{and_first, and_from, and_rest, ap, append-nil, append_assoc, arith, base_known}
+use Rattle.sc_types.proofs.Common.{body_fits, concat, decl_lines, false, filter_map-append, function_fits, functions_in}
+use Rattle.sc_types.proofs.Common.{global_fits, global_names, globals_in, head_of, heads_in, init_height, init_holds}
+use Rattle.sc_types.proofs.Common.{init_words, is_array, is_callable, is_sized, is_small, known_in, length, length-map}
+use Rattle.sc_types.proofs.Common.{list_all, local_fits, local_holds, locals_from, map, map-append, map_twice, max}
+use Rattle.sc_types.proofs.Common.{most_cells, most_height, most_params, nat_le, nat_tests, not, option_map}
+use Rattle.sc_types.proofs.Common.{param_names, param_of, passed_fits, refl, result_fits, result_known, result_of}
+use Rattle.sc_types.proofs.Common.{scope_in, scope_of, slice_get, starred, stmt_height, stmt_lines, struct_cells}
+use Rattle.sc_types.proofs.Common.{struct_lines, struct_names, structs, structs_from, structs_in, subst, suc, sym, tags}
+use Rattle.sc_types.proofs.Common.{target_signature, true, type_of, type_of_name, type_within, typed_function}
+use Rattle.sc_types.proofs.Common.{typed_global, typed_init, typed_local, typed_locals, typed_param, typed_section}
+use Rattle.sc_types.proofs.Common.{typed_stmt, unless, variable_fits, visible_in, visible_of, word_of_const, words_fit}
+use Rattle.sc_types.proofs.Common.{zero, ℕ, ◌&&◌, ◌++◌, ◌+◌, ◌<◌, ◌∙◌, ◌∷◌, ◌≡◌}
 use Rattle.sc_elab.specs.Prelude.{function_lines}
-use Rattle.std.proofs.Math.Nat.{le-max_left, le-max_right}
 use Rattle.sc_ast.specs.declared.types.BaseTree.TheVariants as base_tree
-use Rattle.sc_ast.specs.declared.section.ConstTree.{ConstTree}
 use Rattle.sc_ast.specs.declared.section.InitTree.{InitTree}
 use Rattle.sc_ast.specs.declared.section.InitTree.TheVariants.{Absent, One, Many}
 use Rattle.sc_ast.specs.Height as surface
@@ -30,17 +25,16 @@ use Rattle.sc_core.specs.declared.ty.BaseTy.TheVariants as base
 use Rattle.sc_core.specs.declared.section.TypedLocal.{TypedLocal}
 use Rattle.sc_scope.specs.Names as names
 use Rattle.sc_types.specs.Counts as counts
-use Rattle.sc_types.proofs.Basics.{rule_holds, front_empty, back_empty}
-use Rattle.sc_types.proofs.Places.{Text, is_at_most, at_most, numbered_front}
+use Rattle.sc_types.proofs.Lookups.{rule_holds, front_empty, back_empty, no_lines, Text, at_most, numbered_front}
 use Rattle.sc_types.proofs.Structs.{Known, AllKnown, AllSmall, structs_length, type_is_within, name_is_within, is_less}
 use Rattle.sc_types.proofs.Bodies.{fits}
-use Rattle.sc_types.proofs.Heights as heights
+use Rattle.sc_types.proofs.TypedNodes as heights
 
 low_left : (a b n : ℕ) → nat_le (max a b) n ≡ true → nat_le a n ≡ true
-low_left a b n h = at_most a n (omega (arith, le-max_left a b, is_at_most _ n h))
+low_left a b n h = grind (arith, nat_tests)
 
 low_right : (a b n : ℕ) → nat_le (max a b) n ≡ true → nat_le b n ≡ true
-low_right a b n h = at_most b n (omega (arith, le-max_right a b, is_at_most _ n h))
+low_right a b n h = grind (arith, nat_tests)
 
 -- Tags.
 
@@ -130,29 +124,22 @@ module _ (section : SectionTree) where
 
   -- Globals.
 
-  first_null : (const : ConstTree) → is_null const ≡ true → (word_of_const const == 0) ≡ true
-  first_null const h = by_sign const.negative const.literal.value h where
-    by_sign : (negative : Bool) (value : ℕ) → (not negative && nat_eq value 0) ≡ true →
-        ((if negative then (2 ^ 32 - value) % 2 ^ 32 else value) == 0) ≡ true
-    by_sign true value h = absurd (false≢true h)
-    by_sign false value h = h
-
   words_are : (t : Ty) (init : InitTree) → init_holds t init ≡ true → words_fit t (init_words init) ≡ true
   words_are ty.Int (One const) h = refl
   words_are ty.Unsigned (One const) h = refl
-  words_are (ty.Pointer stars b) (One const) h = ap (λ c. c && true) (first_null const h)
+  words_are (ty.Pointer stars b) (One const) h = grind arith
   words_are (ty.Array zero base.Int count) Absent h = at_most 0 count (omega arith)
-  words_are (ty.Array zero base.Int count) (Many consts) h = ap (λ n. nat_le n count) (length-map consts _) ∙ h
+  words_are (ty.Array zero base.Int count) (Many consts) h = grind (arith, length-map consts word_of_const)
   words_are (ty.Array zero base.Unsigned count) Absent h = at_most 0 count (omega arith)
-  words_are (ty.Array zero base.Unsigned count) (Many consts) h = ap (λ n. nat_le n count) (length-map consts _) ∙ h
+  words_are (ty.Array zero base.Unsigned count) (Many consts) h = grind (arith, length-map consts word_of_const)
   words_are _ Absent h = refl
-  words_are _ _ h = absurd (false≢true h)
+  words_are _ _ h = cc
 
   pub global_is : (tree : GlobalTree) → base_known (tags section) tree.ty.base ≡ true →
       (is_sized tree.ty && init_holds (type_of (tags section) tree.ty) tree.init) ≡ true → is_small section
       (type_of (tags section) tree.ty) ≡ true → global_fits (structs section) (typed_global (tags section) tree) ≡ true
-  global_is tree known holds small = and_from _ _ (tree_fits tree.ty (and_first _ _ holds) known small)
-      (words_are (type_of _ tree.ty) tree.init (and_rest _ _ holds))
+  global_is tree known holds small =
+      grind (arith, tree_fits tree.ty, words_are (type_of (tags section) tree.ty) tree.init)
 
   -- A function's variables.
 
@@ -160,8 +147,7 @@ module _ (section : SectionTree) where
       (typed_locals section tree place locals) ≡ map {A = LocalTree} (λ local. type_of (tags section) local.ty) locals
   unfolding typed_locals
   local_types tree place [] = refl
-  local_types tree place (local ∷ locals) = ap (λ rest. type_of (tags section) local.ty ∷ rest)
-      (local_types tree (suc place) locals)
+  local_types tree place (local ∷ locals) = cc (local_types tree (suc place) locals)
 
   pub scope_is : (callees : Callees) (tree : FunctionTree) →
       scope_of (typed_section section callees) (typed_function section callees tree) ≡ scope_in section tree
@@ -183,8 +169,7 @@ module _ (section : SectionTree) where
       is_small section (type_of (tags section) local.ty) ≡ true → nat_le (surface.local_height local) 256 ≡ true →
       local_fits (scope_in section tree) (typed_local section tree place local) ≡ true
   local_is callees tree place local holds known small low =
-      and_from _ _ (tree_fits _ (and_first _ _ holds) known small) (and_from _ _ (and_rest (is_sized local.ty) _ holds)
-      (ap (λ n. nat_le n most_height) (init_low tree place _ _) ∙ low))
+      grind (arith, tree_fits local.ty, init_low tree place (type_of (tags section) local.ty) local.init)
 
   locals_are : (callees : Callees) (before decls : List Decl) → before ++ decls ≡ section.decls →
       (globals own : List Text) (tree : FunctionTree) (place : ℕ) (locals : List LocalTree) →
@@ -195,12 +180,9 @@ module _ (section : SectionTree) where
   unfolding typed_locals
   locals_are callees before decls whole globals own tree place [] holds known small low = refl
   locals_are callees before decls whole globals own tree place (local ∷ locals) holds known small low =
-      let in_names = rule_holds _ local.line (front_empty _ _ known) in
-      and_from _ _ (local_is callees tree place local (rule_holds _ local.line (front_empty _ _ holds))
-      (known_whole before decls whole _ (and_first _ _ (and_rest (not _) _ in_names)))
-      (rule_holds _ local.line (front_empty _ _ small)) (low_left _ _ 256 low))
-      (locals_are callees before decls whole globals (own ++ local.name ∷ []) tree _ locals
-      (back_empty _ _ holds) (back_empty _ _ known) (back_empty _ _ small) (low_right _ _ 256 low))
+      grind (arith, no_lines, known_whole before decls whole local.ty.base, local_is callees tree place local,
+      low_left, low_right,
+      locals_are callees before decls whole globals (own ++ local.name ∷ []) tree (suc place) locals)
 
   -- All declarations, those before one after another.
 
@@ -228,18 +210,16 @@ module _ (section : SectionTree) where
         (result_of section tree)) body) ≡ [] → body_fits (scope_in section tree) callable (result_of section tree)
         (map (typed_stmt (visible_of section tree) callees (result_of section tree)) body) ≡ true
     body_is before tree [] known holds = refl
-    body_is before tree (s ∷ body) known holds =
-        and_from _ _ (fits (known_in (names.declared section before) tree) (visible_of section tree) callees
-        _ callable (same before tree) (result_of section tree) s false (front_empty _ _ known)
-        (front_empty _ _ holds)) (body_is before tree body (back_empty _ _ known) (back_empty _ _ holds))
+    body_is before tree (s ∷ body) known holds = grind (arith, no_lines, fits (known_in (names.declared section before)
+        tree) (visible_of section tree) callees (scope_in section tree) callable (same before tree)
+        (result_of section tree) s false, body_is before tree body)
 
     body_low : (tree : FunctionTree) (body : List StmtTree) → nat_le (surface.stmts_height body) 256 ≡ true →
         list_all {X = TypedStmt} (λ s. nat_le (stmt_height s) most_height)
         (map (typed_stmt (visible_of section tree) callees (result_of section tree)) body) ≡ true
     body_low tree [] low = refl
-    body_low tree (s ∷ body) low =
-        and_from _ _ (ap (λ n. nat_le n most_height) (heights.stmt_is (visible_of section tree) callees
-        (result_of section tree) s) ∙ low_left _ _ 256 low) (body_low tree body (low_right _ _ 256 low))
+    body_low tree (s ∷ body) low = grind (arith, low_left, low_right, body_low tree body,
+        heights.stmt_is (visible_of section tree) callees (result_of section tree) s)
 
     result_whole : (before decls : List Decl) → before ++ decls ≡ section.decls → (result : Option TypeName) →
         result_known (struct_names before) result ≡ true → result_known (tags section) result ≡ true
@@ -250,8 +230,20 @@ module _ (section : SectionTree) where
         list_all {X = ParamTree} (λ param. base_known (struct_names before) param.ty.base) params ≡ true →
         list_all {X = ParamTree} (λ param. base_known (tags section) param.ty.base) params ≡ true
     params_whole before decls whole [] h = refl
-    params_whole before decls whole (p ∷ params) h = and_from _ _
-        (known_whole before decls whole _ (and_first _ _ h)) (params_whole before decls whole params (and_rest _ _ h))
+    params_whole before decls whole (p ∷ params) h =
+        grind (arith, known_whole before decls whole p.ty.base, params_whole before decls whole params)
+
+    -- what the rules of names say of a function's head and of what follows it
+    record FunctionKnown (before : List Decl) (tree : FunctionTree) : Type 0 where
+      result : result_known (struct_names before) tree.head.result ≡ true
+      params : list_all {X = ParamTree} (λ param. base_known (struct_names before) param.ty.base)
+          (map param_of tree.head.params) ≡ true
+      locals : names.locals_from (struct_names before) (global_names before) (param_names tree) tree.locals ≡ []
+      body : names.body_lines (known_in (names.declared section before) tree) tree.body ≡ []
+
+    function_known : (before : List Decl) (tree : FunctionTree) →
+        names.function_lines (names.declared section before) tree ≡ [] → FunctionKnown before tree
+    function_known before tree in_names = grind (arith, no_lines)
 
     function_is : (before decls : List Decl) → before ++ decls ≡ section.decls →
         AllSmall (structs section) 0 (structs_in section.decls) → (tree : FunctionTree) →
@@ -260,25 +252,17 @@ module _ (section : SectionTree) where
         nat_le (surface.function_height tree) 256 ≡ true →
         function_fits callable (typed_section section callees) (typed_function section callees tree) ≡ true
     function_is before decls whole small tree in_names holds sizes count low =
-        let head = rule_holds _ tree.head.line (front_empty _ _ in_names) in
-        let behind_head =
-        back_empty (unless (names.head_of_known (names.declared section before) tree) tree.head.line) _ in_names in
-        let tags_known = and_first _ _ (and_rest (not (is_numbered (function_names before) tree.head.name)) _
-        (and_rest (not (is_numbered (global_names before) tree.head.name)) _ head)) in
-        and_from _ _ (ap (λ n. nat_le n most_params)
-        (length-map tree.head.params (typed_param _) ∙ sym (length-map _ _)) ∙ rule_holds _ _ count) (and_from _ _
-        (params_passed small tree.head.params (params_whole before decls whole (map param_of tree.head.params)
-        (and_rest (result_known (struct_names before) tree.head.result) _ tags_known))) (and_from _ _
-        (result_passed small tree.head.result (result_whole before decls whole _ (and_first _ _ tags_known)))
-        (and_from _ _ (subst (λ scope. list_all (local_fits scope) (typed_locals section tree 0 tree.locals) ≡ true)
-        (sym (scope_is callees tree)) (locals_are callees before decls whole (global_names before)
-        (param_names tree) tree 0 tree.locals (front_empty _ _ holds) (front_empty _ _ behind_head)
-        (back_empty _ _ sizes) (low_left _ _ 256 low))) (and_from _ _ (subst (λ scope. body_fits scope callable
-        (result_of section tree) (map (typed_stmt (visible_of section tree) callees
-        (result_of section tree)) tree.body) ≡ true) (sym (scope_is callees tree))
-        (body_is before tree tree.body (back_empty (names.locals_from (struct_names before)
-        (global_names before) (param_names tree) tree.locals) _ behind_head) (back_empty _ _ holds)))
-        (body_low tree tree.body (low_right _ _ 256 low))))))
+        let known = function_known before tree in_names in
+        let few : nat_le (length (typed_function section callees tree).params) most_params ≡ true =
+        ap (λ n. nat_le n most_params) (length-map tree.head.params (typed_param _) ∙ sym (length-map _ _)) ∙
+        rule_holds _ _ count in
+        let locals = locals_are callees before decls whole (global_names before) (param_names tree) tree 0 tree.locals
+        (front_empty _ _ holds) known.locals (back_empty _ _ sizes) (low_left _ _ 256 low) in
+        let body = body_is before tree tree.body known.body (back_empty _ _ holds) in
+        cc (scope_is callees tree, params_passed small tree.head.params (params_whole before decls whole
+        (map param_of tree.head.params) known.params), result_passed small tree.head.result
+        (result_whole before decls whole tree.head.result known.result),
+        body_low tree tree.body (low_right _ _ 256 low))
 
     pub functions_are : AllSmall (structs section) 0 (structs_in section.decls) → (before decls : List Decl) →
         Behind callees before decls → concat (map (counts.head_lines section) (heads_in decls)) ≡ [] →
@@ -286,14 +270,8 @@ module _ (section : SectionTree) where
         nat_le (surface.decls_height decls) 256 ≡ true → list_all (function_fits callable
         (typed_section section callees)) (map (typed_function section callees) (functions_in decls)) ≡ true
     functions_are small before [] b heads sizes low = refl
-    functions_are small before (Proto head ∷ decls) b heads sizes low =
-        functions_are small _ decls (next b) (back_empty _ _ heads) sizes (low_right 0 _ 256 low)
-    functions_are small before (Function tree ∷ decls) b heads sizes low =
-        and_from _ _ (function_is before _ b.whole small tree (front_empty _ _ b.in_names) (front_empty _ _ b.holds)
-        (front_empty _ _ sizes) (front_empty _ _ heads) (low_left _ _ 256 low))
-        (functions_are small _ decls (next b) (back_empty _ _ heads) (back_empty _ _ sizes) (low_right _ _ 256 low))
-    functions_are small before (_ ∷ decls) b heads sizes low =
-        functions_are small _ decls (next b) heads sizes (low_right 0 _ 256 low)
+    functions_are small before (decl ∷ decls) b heads sizes low = grind (arith, no_lines, low_left, low_right,
+        function_is before (decl ∷ decls) b.whole small, functions_are small (before ++ decl ∷ []) decls (next b))
 
   module _ (callees : Callees) where
     pub globals_are : (before decls : List Decl) → Behind callees before decls →
@@ -301,28 +279,13 @@ module _ (section : SectionTree) where
         list_all (global_fits (structs section)) (map (typed_global (tags section)) (globals_in decls)) ≡ true
     globals_are before [] b sizes = refl
     globals_are before (Global tree ∷ decls) b sizes =
-        let known = rule_holds _ tree.line (front_empty _ _ b.in_names) in
-        let tag = and_rest (not (is_numbered (import_names section) tree.name)) _
-        (and_rest (not (is_numbered (proto_names before) tree.name)) _
-        (and_rest (not (is_numbered (function_names before) tree.name)) _
-        (and_rest (not (is_numbered (global_names before) tree.name)) _ known))) in
-        and_from _ _ (global_is tree (known_whole before _ b.whole _ tag)
-        (rule_holds _ tree.line (front_empty _ _ b.holds)) (rule_holds _ tree.line (front_empty _ _ sizes)))
-        (globals_are _ decls (next b) (back_empty _ _ sizes))
+        grind (arith, no_lines, known_whole before _ b.whole tree.ty.base, global_is tree, b.in_names, b.holds,
+        globals_are (before ++ Global tree ∷ []) decls (next b))
     globals_are before (_ ∷ decls) b sizes = globals_are _ decls (next b) sizes
 
     struct_is : (before : List Decl) (tree : StructTree) → names.decl_lines (names.declared section before)
         (Struct tree) ≡ [] → struct_lines section tree ≡ [] → Known (struct_names before) tree
-    struct_is before tree in_names holds =
-        let known = rule_holds _ tree.line in_names in
-        let shape = rule_holds _ _ holds in
-        record {
-          new = not-true _ (and_first _ _ known);
-          members = and_rest (are_distinct (map (λ member. member.name) tree.members)) _
-              (and_rest (not (is_numbered (struct_names before) tree.name)) _ known);
-          sized = and_rest _ _ shape;
-          some = and_first _ _ shape;
-        }
+    struct_is before tree in_names holds = grind (arith, rule_holds)
 
     same_names : (before : List Decl) (decl : Decl) (decls : List Decl) → struct_names (decl ∷ []) ≡ [] →
         AllKnown (struct_names (before ++ decl ∷ [])) (structs_in decls) →

@@ -1,16 +1,170 @@
--- What is found by a name among a section's declarations.
-use Rattle.sc_types.proofs.Common.{Bool, Decl, Function, FunctionTree, HeadTree, List, None, Proto, Some, [], and_first}
-use Rattle.sc_types.proofs.Common.{and_rest, ap, bytes_eq, false, false≢true, function_named, function_names}
-use Rattle.sc_types.proofs.Common.{functions_in, head_named, head_of, heads_in, if◌then◌else◌, is_numbered, list_all}
-use Rattle.sc_types.proofs.Common.{list_any, map, number_of, option_map, or_parts, proto_names, refl, same_Some}
-use Rattle.sc_types.proofs.Common.{slice_get, subst, suc, sym, true, zero, ℕ, ◌||◌, ◌∙◌, ◌∷◌, ◌≡◌}
+-- Tests that hold and lists that are empty, places in lists, and what is found by a name among declarations.
+use Rattle.sc_types.proofs.Common.{Bool, Decides-eqb, Decl, Function, FunctionTree, HeadTree, List, None, Option, Proto}
+use Rattle.sc_types.proofs.Common.{Some, [], ap, arith, bytes_eq, concat, false, function_named, function_names}
+use Rattle.sc_types.proofs.Common.{functions_in, head_named, head_of, heads_in, if◌then◌else◌, inl, inr, is_numbered}
+use Rattle.sc_types.proofs.Common.{le-leb, leb-true, length, list_all, list_any, list_any-append, lt-ltb, map, nat_le}
+use Rattle.sc_types.proofs.Common.{nat_lt, not, number_of, number_or_zero, option_map, or_left, position, proto_names}
+use Rattle.sc_types.proofs.Common.{refl, slice_get, subst, suc, sym, true, unless, zero, ℕ, ◌++◌, ◌<◌, ◌==◌, ◌||◌, ◌∙◌}
+use Rattle.sc_types.proofs.Common.{◌∷◌, ◌≡◌, ◌≤◌}
+use Rattle.sc_base.proofs.Lists.{position-cons}
+use Rattle.std.proofs.lemmas.Slice.Eq.{bytes_eq-Decides}
+use Rattle.std.proofs.lemmas.Bool.{cases_Bool}
 use Rattle.std.proofs.lemmas.Cmp.{nat_list_eq_equiv}
-use Rattle.sc_types.proofs.Basics.{Each, none_some, find}
-use Rattle.sc_types.proofs.Places.{Text, first_of, any_found, number_is}
+
+pub or_not : (a b : Bool) → (a || not b) ≡ true → b ≡ true → a ≡ true
+or_not a b h q = grind arith
+
+pub some_item : {A B : Type 0} (x : A) (xs : List A) → x ∷ xs ≡ [] → B
+some_item x xs h = cc
+
+-- a rule that is broken at no line holds
+pub rule_holds : (b : Bool) (line : ℕ) → unless b line ≡ [] → b ≡ true
+rule_holds b line h = grind arith
+
+pub front_empty : {A : Type 0} (xs ys : List A) → xs ++ ys ≡ [] → xs ≡ []
+front_empty [] ys h = refl
+front_empty (x ∷ xs) ys h = cc
+
+pub back_empty : {A : Type 0} (xs ys : List A) → xs ++ ys ≡ [] → ys ≡ []
+back_empty [] ys h = h
+back_empty (x ∷ xs) ys h = cc
+
+-- what lists of lines hold that are empty together
+pub ruleset no_lines = (rule_holds, front_empty, back_empty)
+
+pub map_empty : {A B : Type 0} (f : A → B) (xs : List A) → map f xs ≡ [] → xs ≡ []
+map_empty f [] h = refl
+map_empty f (x ∷ xs) h = cc
+
+-- P of each
+abbrev pub Each : {A : Type 0} → (A → Type 0) → List A → Type 0
+Each P [] = Unit {0}
+Each P (x ∷ xs) = P x × Each P xs
+
+pub each_empty : {A : Type 0} (f : A → List ℕ) (xs : List A) → concat (map f xs) ≡ [] → Each (λ x. f x ≡ []) xs
+each_empty f [] h = tt
+each_empty f (x ∷ xs) h = grind (arith, no_lines, each_empty f xs)
+
+pub each_passes : {A : Type 0} (p : A → Bool) (xs : List A) → list_all p xs ≡ true → Each (λ x. p x ≡ true) xs
+each_passes p [] h = tt
+each_passes p (x ∷ xs) h = grind (arith, each_passes p xs)
+
+pub none_some : {A C : Type 0} (x : A) → None ≡ Some x → C
+none_some x h = cc
+
+-- the first place at which a test passes
+abbrev pub find : {A : Type 0} → (A → Bool) → List A → Option ℕ
+find p [] = None
+find p (x ∷ xs) = if p x then Some 0 else option_map suc (find p xs)
+
+pub position_is : {A : Type 0} (p : A → Bool) (xs : List A) → position p xs ≡ find p xs
+position_is p [] = refl
+position_is p (x ∷ xs) = position-cons p x xs ∙ ap (λ rest. if p x then Some 0 else option_map suc rest)
+    (position_is p xs)
+
+abbrev pub Text : Type 0
+Text = List ℕ
+
+pub same_refl : (name : Text) → bytes_eq name name ≡ true
+same_refl name = (bytes_eq-Decides name name).1 refl
+
+pub eq_refl : (n : ℕ) → (n == n) ≡ true
+eq_refl n = (Decides-eqb n n).1 refl
+
+pub less : (a b : ℕ) → a < b → nat_lt a b ≡ true
+less a b h = lt-ltb a b h
+
+pub at_most : (a b : ℕ) → a ≤ b → nat_le a b ≡ true
+at_most a b h = le-leb a b h
+
+pub is_at_most : (a b : ℕ) → nat_le a b ≡ true → a ≤ b
+is_at_most a b h = leb-true a b h
+
+-- a name that is there, at its first place
+pub record Placed (names : List Text) (name : Text) : Type 0 where
+  pub at : ℕ
+  pub is : number_of names name ≡ Some at
+  pub within : at < length names
+
+-- the first item that passes a test, and where it stands
+abbrev pub first_of : {A : Type 0} → (A → Bool) → List A → Option A
+first_of p [] = None
+first_of p (x ∷ xs) = if p x then Some x else first_of p xs
+
+pub record Found {A : Type 0} (p : A → Bool) (xs : List A) : Type 0 where
+  pub at : ℕ
+  pub item : A
+  pub is : find p xs ≡ Some at
+  pub first : first_of p xs ≡ Some item
+  pub within : at < length xs
+  pub got : slice_get xs at ≡ Some item
+  pub passes : p item ≡ true
+
+module _ {A : Type 0} (p : A → Bool) where
+  pub any_found : (xs : List A) → list_any p xs ≡ true → Found p xs
+  any_found [] h = cc
+  any_found (x ∷ xs) h = elim (cases_Bool (p x)) [
+    | inl here ↦ record {
+      at = 0;
+      item = x;
+      is = grind arith;
+      first = grind arith;
+      within = omega arith;
+      got = refl;
+      passes = here;
+    }
+    | inr not_here ↦ let rest = any_found xs (grind arith) in record {
+      at = suc rest.at;
+      item = rest.item;
+      is = grind (arith, rest.is);
+      first = grind (arith, rest.first);
+      within = omega (arith, rest.within);
+      got = rest.got;
+      passes = rest.passes;
+    }
+  ]
+
+  -- what is found in a front is found there in the whole
+  pub find_front : (xs ys : List A) → list_any p xs ≡ true → find p (xs ++ ys) ≡ find p xs
+  find_front [] ys h = cc
+  find_front (x ∷ xs) ys h = grind (arith, find_front xs ys)
+
+  -- the first one behind a front in which nothing is found
+  pub find_next : (xs : List A) (y : A) (ys : List A) → list_any p xs ≡ false → p y ≡ true →
+      find p (xs ++ y ∷ ys) ≡ Some (length xs)
+  find_next [] y ys h k = grind arith
+  find_next (x ∷ xs) y ys h k = grind (arith, find_next xs)
+
+-- the number of a name is where it is found
+pub number_is : (names : List Text) (name : Text) → number_of names name ≡ find (bytes_eq name) names
+number_is names name = position_is _ names
+
+pub placed : (names : List Text) (name : Text) → is_numbered names name ≡ true → Placed names name
+placed names name h =
+    let f = any_found _ names h in
+    record { at = f.at; is = number_is names name ∙ f.is; within = f.within }
+
+-- the number of a name that is there
+pub number_within : (names : List Text) (name : Text) → is_numbered names name ≡ true →
+    number_or_zero (number_of names name) < length names
+number_within names name h =
+    let p = placed names name h in subst (λ o. number_or_zero o < length names) (sym p.is) p.within
+
+pub number_front : (names more : List Text) (name : Text) → is_numbered names name ≡ true →
+    number_of (names ++ more) name ≡ number_of names name
+number_front names more name h = number_is _ name ∙ find_front _ names more h ∙ sym (number_is names name)
+
+pub number_next : (names : List Text) (name : Text) (more : List Text) → is_numbered names name ≡ false →
+    number_of (names ++ name ∷ more) name ≡ Some (length names)
+number_next names name more h = number_is _ name ∙ find_next _ names name more h (same_refl name)
+
+pub numbered_front : (names more : List Text) (name : Text) → is_numbered names name ≡ true →
+    is_numbered (names ++ more) name ≡ true
+numbered_front names more name h = list_any-append _ names more ∙ or_left _ _ h
 
 pub each_at : {A : Type 0} (P : A → Type 0) (xs : List A) (i : ℕ) (x : A) → Each P xs → slice_get xs i ≡ Some x → P x
 each_at P [] i x h got = none_some x got
-each_at P (y ∷ xs) zero x h got = subst P (same_Some y x got) h.0
+each_at P (y ∷ xs) zero x h got = grind arith
 each_at P (y ∷ xs) (suc i) x h got = each_at P xs i x h.1 got
 
 -- names are the same either way round
@@ -42,8 +196,7 @@ module _ {A : Type 0} (p : Text → Bool) (name_in : A → Text) (q : A → Bool
 function_first : (name : Text) (trees : List FunctionTree) →
     function_named name trees ≡ first_of (λ tree. bytes_eq tree.head.name name) trees
 function_first name [] = refl
-function_first name (tree ∷ trees) =
-    ap (λ o. if bytes_eq tree.head.name name then Some tree else o) (function_first name trees)
+function_first name (tree ∷ trees) = grind (arith, function_first name trees)
 
 pub find_function : (name : Text) (trees : List FunctionTree) → is_numbered (names_of trees) name ≡ true →
     FoundFunction name trees
@@ -63,12 +216,11 @@ find_function name trees h =
 module _ {A : Type 0} (p : A → Bool) where
   no_number : (xs : List A) → list_any p xs ≡ false → find p xs ≡ None
   no_number [] h = refl
-  no_number (x ∷ xs) h = λ i. if (or_parts (p x) _ h).0 i then Some 0 else
-      option_map suc (no_number xs (or_parts (p x) _ h).1 i)
+  no_number (x ∷ xs) h = grind (arith, no_number xs)
 
   none_first : (xs : List A) → list_any p xs ≡ false → first_of p xs ≡ None
   none_first [] h = refl
-  none_first (x ∷ xs) h = λ i. if (or_parts (p x) _ h).0 i then Some x else none_first xs (or_parts (p x) _ h).1 i
+  none_first (x ∷ xs) h = grind (arith, none_first xs)
 
 pub no_function : (name : Text) (trees : List FunctionTree) → is_numbered (names_of trees) name ≡ false →
     function_named name trees ≡ None
@@ -84,16 +236,13 @@ no_place names name h = number_is names name ∙ no_number _ names h
 pub each_function : (P : Decl → Type 0) (decls : List Decl) → Each P decls →
     Each (λ tree. P (Function tree)) (functions_in decls)
 each_function P [] h = tt
-each_function P (Function tree ∷ decls) h = (h.0, each_function P decls h.1)
-each_function P (_ ∷ decls) h = each_function P decls h.1
+each_function P (decl ∷ decls) h = grind (arith, each_function P decls)
 
 -- a test that all heads pass, functions' heads pass
 pub heads_of_functions : (p : HeadTree → Bool) (decls : List Decl) → list_all p (heads_in decls) ≡ true →
     Each (λ tree. p (head_of tree.head) ≡ true) (functions_in decls)
 heads_of_functions p [] h = tt
-heads_of_functions p (Proto head ∷ decls) h = heads_of_functions p decls (and_rest _ _ h)
-heads_of_functions p (Function tree ∷ decls) h = (and_first _ _ h, heads_of_functions p decls (and_rest _ _ h))
-heads_of_functions p (_ ∷ decls) h = heads_of_functions p decls h
+heads_of_functions p (decl ∷ decls) h = grind (arith, heads_of_functions p decls)
 
 -- the first head of a name that no function has, which is a prototype's
 pub record FoundHead (P : Decl → Type 0) (name : Text) (decls : List Decl) : Type 0 where
@@ -114,24 +263,15 @@ module _ (P : Decl → Type 0) (name : Text) where
       head_named name (heads_in more) ≡ head_named name (heads_in decls) → FoundHead P name more
   over more rest is = record { head = rest.head; first = is ∙ rest.first; named = rest.named; holds = rest.holds }
 
-  head_at : (head : HeadTree) (decls : List Decl) (b : Bool) → bytes_eq name head.name ≡ b → P (Proto head) →
-      (some_proto name decls ≡ true → FoundHead P name decls) → (b || some_proto name decls) ≡ true →
-      FoundHead P name (Proto head ∷ decls)
-  head_at head decls true q holds f h = record {
-    head = head;
-    first = ap (λ c. if c then Some head else head_named name (heads_in decls)) (same_sym _ name ∙ q);
-    named = same_sym _ name ∙ q;
-    holds = holds;
-  }
-  head_at head decls false q holds f h = over (Proto head ∷ decls) (f h)
-      (ap (λ c. if c then Some head else head_named name (heads_in decls)) (same_sym head.name name ∙ q))
-
   pub find_head : (decls : List Decl) → Each P decls → some_proto name decls ≡ true → some_function name decls ≡ false →
       FoundHead P name decls
-  find_head [] each h none = absurd (false≢true h)
-  find_head (Proto head ∷ decls) each h none = head_at head decls _ refl each.0 (λ k. find_head decls each.1 k none) h
+  find_head [] each h none = cc
+  find_head (Proto head ∷ decls) each h none = elim (cases_Bool (bytes_eq head.name name)) [
+    | inl here ↦ record { head = head; first = grind arith; named = here; holds = each.0 }
+    | inr not_here ↦ over (Proto head ∷ decls)
+      (find_head decls each.1 (grind (arith, same_sym head.name name)) none) (grind arith)
+  ]
   find_head (Function tree ∷ decls) each h none =
-      let other = or_parts (bytes_eq name tree.head.name) _ none in
-      over (Function tree ∷ decls) (find_head decls each.1 h other.1)
-      (ap (λ c. if c then Some (head_of tree.head) else head_named name (heads_in decls)) (same_sym _ name ∙ other.0))
+      over (Function tree ∷ decls) (find_head decls each.1 h (grind arith))
+      (grind (arith, same_sym tree.head.name name))
   find_head (decl ∷ decls) each h none = over (decl ∷ decls) (find_head decls each.1 h none) refl

@@ -1,17 +1,14 @@
 -- What the phases give to one another.
 use Rattle.sc_types.proofs.Common.{All, AreLow, Decl, Err, HasFewExports, HasFewParams, IsWellTyped, IsWithinCounts}
-use Rattle.sc_types.proofs.Common.{List, None, Ok, OnOk, Option, ProgramTree, Result, SectionTree, [], ap, arith}
-use Rattle.sc_types.proofs.Common.{callees_of, concat, counts_broken, functions_in, head_of, heads_in, interface_broken}
-use Rattle.sc_types.proofs.Common.{length, length-map, line_of_text, map, most_params, names_broken, nat_le, param_of}
-use Rattle.sc_types.proofs.Common.{program_of, refused_at, subst, suc, sym, types_broken, zero, ℕ, ◌∙◌, ◌∷◌, ◌≡◌}
-use Rattle.sc_lex.specs.declared.refusal.Phase.TheVariants as phase
-use Rattle.sc_ast.specs.declared.section.Decl.TheVariants as decl
+use Rattle.sc_types.proofs.Common.{List, None, Ok, OnOk, Option, ProgramTree, Result, SectionTree, [], arith}
+use Rattle.sc_types.proofs.Common.{callees_of, concat, counts_broken, functions_in, heads_in, interface_broken}
+use Rattle.sc_types.proofs.Common.{length-map, line_of_text, map, names_broken, nat_tests, program_of, refused_at}
+use Rattle.sc_types.proofs.Common.{subst, suc, sym, types_broken, zero, ℕ, ◌∙◌, ◌∷◌, ◌≡◌}
 use Rattle.sc_types.specs.Counts as counts
-use Rattle.sc_types.proofs.Basics.{Each, rule_holds, front_empty, back_empty, map_empty}
+use Rattle.sc_types.proofs.Lookups.{Each, no_lines, front_empty, back_empty, map_empty, is_at_most}
 use Rattle.sc_types.proofs.Facts.{count_facts}
-use Rattle.sc_types.proofs.Places.{is_at_most}
 use Rattle.sc_types.proofs.Sections.{none_beyond}
-use Rattle.sc_types.proofs.Refusals.{no_line}
+use Rattle.sc_types.proofs.Verdicts.{no_line}
 use Rattle.sc_types.proofs.Whole.{well_typed}
 
 -- where there is no line, the rules hold
@@ -41,13 +38,7 @@ all_of P (x ∷ xs) h (suc k) d less = all_of P xs h.1 k d (omega (arith, less))
 few_params : (section : SectionTree) (decls : List Decl) →
     concat (map (counts.head_lines section) (heads_in decls)) ≡ [] → Each HasFewParams (functions_in decls)
 few_params section [] h = tt
-few_params section (decl.Proto head ∷ decls) h = few_params section decls (back_empty _ _ h)
-few_params section (decl.Function tree ∷ decls) h = (
-  is_at_most (length tree.head.params) most_params (ap (λ n. nat_le n most_params)
-      (sym (length-map tree.head.params param_of)) ∙ rule_holds _ tree.head.line (front_empty _ _ h)),
-  few_params section decls (back_empty (counts.head_lines section (head_of tree.head)) _ h),
-)
-few_params section (_ ∷ decls) h = few_params section decls h
+few_params section (decl ∷ decls) h = grind (arith, no_lines, nat_tests, few_params section decls, length-map)
 
 abbrev Params : SectionTree → Type 0
 Params section = All HasFewParams (functions_in section.decls)

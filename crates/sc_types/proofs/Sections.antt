@@ -1,41 +1,37 @@
 -- Sections that break no rule are well typed, and have the interfaces of the text.
 use Rattle.sc_types.proofs.Common.{BaseTree, Bool, Callees, Decides-eqb, Decl, ExportLine, Function, FunctionTree}
 use Rattle.sc_types.proofs.Common.{HeadTree, ImportLine, Interface, List, None, Option, ParamTree, Proto, SectionTree}
-use Rattle.sc_types.proofs.Common.{Signature, Some, Struct, Ty, TypeName, TypedSection, [], agree, and_first, and_from}
-use Rattle.sc_types.proofs.Common.{and_rest, any_passes_from_place, ap, append-nil, append_assoc, are_distinct, arith}
-use Rattle.sc_types.proofs.Common.{bytes_eq, callees_of, export_at, export_fits, export_name, export_names, false}
-use Rattle.sc_types.proofs.Common.{false≢true, filter_map-append, function_named, function_names, functions_in}
-use Rattle.sc_types.proofs.Common.{get_behind, head_crosses, head_fits, head_of, if◌then◌else◌, import_fits}
-use Rattle.sc_types.proofs.Common.{import_name, import_names, import_of, input_name, interface_fits, interface_of}
-use Rattle.sc_types.proofs.Common.{interfaces_of, is_numbered, is_plain_name, is_some, length, length-map, list_all}
-use Rattle.sc_types.proofs.Common.{list_any, list_any-append, main_name, map, map-append, map_twice, most_exports}
-use Rattle.sc_types.proofs.Common.{nat_le, not, not-true, number_or_zero, offered, offering, option_map, or_from}
-use Rattle.sc_types.proofs.Common.{or_left, output_name, promised, proto_of, proto_signature, refl, same_base}
-use Rattle.sc_types.proofs.Common.{same_results, same_signature, same_text, same_type, same_types, signature_of}
-use Rattle.sc_types.proofs.Common.{slice_get, slice_get-map, subst, suc, sym, true, typed_function, typed_section, zero}
-use Rattle.sc_types.proofs.Common.{ℕ, ◌&&◌, ◌++◌, ◌==◌, ◌||◌, ◌∙◌, ◌∷◌, ◌≡◌, ◌≤◌}
+use Rattle.sc_types.proofs.Common.{Signature, Some, Struct, Ty, TypeName, TypedSection, [], agree, and_from}
+use Rattle.sc_types.proofs.Common.{any_passes_from_place, ap, append-nil, append_assoc, are_distinct, arith, bytes_eq}
+use Rattle.sc_types.proofs.Common.{callees_of, export_at, export_fits, export_name, export_names, false}
+use Rattle.sc_types.proofs.Common.{filter_map-append, function_named, function_names, functions_in, get_behind}
+use Rattle.sc_types.proofs.Common.{head_crosses, head_fits, head_of, if◌then◌else◌, import_fits, import_name}
+use Rattle.sc_types.proofs.Common.{import_names, import_of, input_name, interface_fits, interface_of, interfaces_of}
+use Rattle.sc_types.proofs.Common.{is_numbered, is_some, length, length-map, list_all, list_any, list_any-append, map}
+use Rattle.sc_types.proofs.Common.{map-append, map_twice, most_exports, nat_le, nat_tests, number_or_zero, offered}
+use Rattle.sc_types.proofs.Common.{offering, option_map, or_from, or_left, output_name, promised, proto_of}
+use Rattle.sc_types.proofs.Common.{proto_signature, refl, same_base, same_results, same_signature, same_text, same_type}
+use Rattle.sc_types.proofs.Common.{same_types, signature_of, slice_get, slice_get-map, subst, suc, sym, true}
+use Rattle.sc_types.proofs.Common.{typed_function, typed_section, zero, ℕ, ◌&&◌, ◌++◌, ◌||◌, ◌∙◌, ◌∷◌, ◌≡◌, ◌≤◌}
 use Rattle.sc_elab_expr.proofs.Parts.{same_ty-refl}
 use Rattle.sc_core.specs.declared.section.TypedFunction.{TypedFunction}
 use Rattle.sc_event.specs.declared.interface.Import.TheVariants as import
 use Rattle.sc_event.specs.declared.interface.Proto as event
 use Rattle.sc_ast.specs.declared.types.BaseTree.TheVariants as tree_base
-use Rattle.sc_core.specs.declared.ty.Ty.TheVariants as ty
-use Rattle.sc_core.specs.declared.ty.BaseTy.TheVariants as base
 use Rattle.sc_scope.specs.Declarations as decls
 use Rattle.sc_scope.specs.Names as names
 use Rattle.sc_interfaces.specs.Faces as faces
 use Rattle.sc_types.specs.Counts as counts
-use Rattle.sc_types.proofs.Basics.{or_not, rule_holds, front_empty, back_empty, Each, none_some, some_item}
-use Rattle.sc_types.proofs.Places.{Text, same_refl, at_most}
-use Rattle.sc_types.proofs.Lookups.{each_at, each_function, FoundFunction, find_function}
+use Rattle.sc_types.proofs.Lookups.{or_not, back_empty, no_lines, Each, Text, same_refl, each_at, each_function}
+use Rattle.sc_types.proofs.Lookups.{FoundFunction, find_function}
 use Rattle.sc_types.proofs.Facts.{Fresh, fresh_distinct, ExportFacts, ImportFacts, DeclFacts, FaceFacts, CountFacts}
-use Rattle.sc_types.proofs.Calls.{agreed_signature, found_by, own_signature, Offering, find_offering, export_is}
+use Rattle.sc_types.proofs.Calls.{agreed_signature, own_signature, Offering, find_offering, found_export, export_is}
 
 -- Signatures are the same as themselves.
 
 types_refl : (types : List Ty) → same_types types types ≡ true
 types_refl [] = refl
-types_refl (t ∷ types) = and_from _ _ (same_ty-refl t) (types_refl types)
+types_refl (t ∷ types) = cc (same_ty-refl t, types_refl types)
 
 result_refl : (result : Option Ty) → same_results result result ≡ true
 result_refl None = refl
@@ -66,17 +62,12 @@ agrees head = and_from _ _ (result_agrees head.result) (params_agree head.params
 
 within : {A : Type 0} (xs : List A) (n : ℕ) → slice_get xs n ≡ None → length xs ≤ n
 within [] n h = omega arith
-within (x ∷ xs) zero h = none_some x (sym h)
+within (x ∷ xs) zero h = cc
 within (x ∷ xs) (suc n) h = omega (arith, within xs n h)
-
-by_item : {A : Type 0} (line_of : A → ℕ) (most : ℕ) (items : List A) (o : Option A) → slice_get items most ≡ o →
-    counts.line_of_some line_of o ≡ [] → nat_le (length items) most ≡ true
-by_item line_of most items None q h = at_most _ most (within items most q)
-by_item line_of most items (Some x) q h = some_item _ [] h
 
 pub none_beyond : {A : Type 0} (line_of : A → ℕ) (most : ℕ) (items : List A) →
     counts.line_beyond line_of most items ≡ [] → nat_le (length items) most ≡ true
-none_beyond line_of most items h = by_item line_of most items _ refl h
+none_beyond line_of most items h = grind (arith, nat_tests, within items most)
 
 -- Names that a list doesn't have are distinct from its own.
 
@@ -87,8 +78,7 @@ not_in_append name xs ys h k = list_any-append _ xs ys ∙ or_from _ _ h k
 pub both_distinct : (xs ys : List Text) → decls.are_distinct xs ≡ true → Each (λ x. is_numbered ys x ≡ false) xs →
     decls.are_distinct ys ≡ true → decls.are_distinct (xs ++ ys) ≡ true
 both_distinct [] ys h none k = k
-both_distinct (x ∷ xs) ys h none k = and_from _ _ (ap not (not_in_append x xs ys (not-true _ (and_first _ _ h)) none.0))
-    (both_distinct xs ys (and_rest _ _ h) none.1 k)
+both_distinct (x ∷ xs) ys h none k = grind (arith, not_in_append x xs ys, both_distinct xs ys)
 
 -- Functions are distinct.
 
@@ -103,12 +93,8 @@ names_same before decl h = names_append before _ ∙ ap (λ more. function_names
 pub functions_fresh : (section : SectionTree) (before rest : List Decl) → names.lines_from section before rest ≡ [] →
     Fresh (function_names before) (function_names rest)
 functions_fresh section before [] h = tt
-functions_fresh section before (Function tree ∷ rest) h =
-    let known = rule_holds _ tree.head.line (front_empty _ _ (front_empty _ _ h)) in (
-      not-true _ (and_first _ _ (and_rest _ _ known)),
-      subst (λ all. Fresh all (function_names rest)) (names_append before (Function tree ∷ []))
-          (functions_fresh section (before ++ Function tree ∷ []) rest (back_empty _ _ h)),
-    )
+functions_fresh section before (Function tree ∷ rest) h = grind (arith, no_lines,
+    names_append before (Function tree ∷ []), functions_fresh section (before ++ Function tree ∷ []) rest)
 functions_fresh section before (decl ∷ rest) h = subst (λ all. Fresh all (function_names rest))
     (names_same before decl refl) (functions_fresh section (before ++ decl ∷ []) rest (back_empty _ _ h))
 
@@ -137,8 +123,7 @@ module _ (sections : List SectionTree) (hold : (j : ℕ) (s : SectionTree) → s
   other_name : (line : ImportLine) → Offering number line sections →
       import_name (interfaces_of sections) (offered line (offering number line 0 sections)) ≡ line.name
   other_name line o =
-      let export = found_by (λ line. line.name) line.name o.section.exports
-      (and_rest (not (o.number == number)) _ (and_rest (bytes_eq o.section.name line.comp) _ o.offers)) in
+      let export = found_export number line o in
       ap (λ found. import_name (interfaces_of sections) (offered line found)) o.is
       ∙ ap (λ index. export_name (export_at (interfaces_of sections) o.number (number_or_zero index))) export.place
       ∙ ap export_name (export_is sections o.number _ export.at export.item o.got export.got) ∙ promised_name _
@@ -151,7 +136,7 @@ module _ (sections : List SectionTree) (hold : (j : ℕ) (s : SectionTree) → s
       offered line (offering number line 0 sections)) ≡ line.name
   name_by line true true output i o h = sym (same_text _ _ i)
   name_by line true false true i o h = sym (same_text _ _ o)
-  name_by line true false false i o h = absurd (false≢true h)
+  name_by line true false false i o h = cc
   name_by line false input output i o h = other_name line (find_offering number line _ h)
 
   import_named_is : (line : ImportLine) → ImportFacts sections number section line →
@@ -162,7 +147,7 @@ module _ (sections : List SectionTree) (hold : (j : ℕ) (s : SectionTree) → s
       map (import_name (interfaces_of sections)) (map (import_of sections number) lines) ≡
       map {A = ImportLine} (λ line. line.name) lines
   imports_named [] each = refl
-  imports_named (line ∷ lines) each = λ i. import_named_is line each.0 i ∷ imports_named lines each.1 i
+  imports_named (line ∷ lines) each = cc (import_named_is line each.0, imports_named lines each.1)
 
   not_defined : (lines : List ImportLine) → Each (ImportFacts sections number section) lines →
       Each (λ name. is_numbered (function_names section.decls) name ≡ false)
@@ -188,7 +173,7 @@ module _ (sections : List SectionTree) (hold : (j : ℕ) (s : SectionTree) → s
       map {A = ExportLine} (λ line. line.name) lines
   exports_named [] = refl
   exports_named (line ∷ lines) =
-      λ i. promised_name line.name (function_named line.name (functions_in section.decls)) i ∷ exports_named lines i
+      cc (promised_name line.name (function_named line.name (functions_in section.decls)), exports_named lines)
 
   exports_distinct : are_distinct (map {A = event.Proto} (λ p. p.name) interface.exports) ≡ true
   exports_distinct = subst (λ all. are_distinct all ≡ true)
@@ -222,15 +207,13 @@ module _ (sections : List SectionTree) (hold : (j : ℕ) (s : SectionTree) → s
         same_signature (signature_of f) (proto_signature (proto_of section line))) typed.functions ≡ true
     is_function = any_passes_from_place (λ f. bytes_eq f.name (proto_of section line).name &&
         same_signature (signature_of f) (proto_signature (proto_of section line))) typed.functions g.at
-        (typed_function section callees g.tree) (slice_get-map _ _ g.at ∙ ap (option_map _) g.got) (and_from _ _
-        (ap (bytes_eq g.tree.head.name) (promised_name _ (function_named line.name (functions_in section.decls)))
-        ∙ g.named) (ap (λ s. same_signature s (proto_signature (proto_of section line))) signatures
-        ∙ signature_refl (proto_signature (proto_of section line))))
+        (typed_function section callees g.tree) (slice_get-map _ _ g.at ∙ ap (option_map _) g.got)
+        (cc (g.named, signatures, promised_name line.name (function_named line.name (functions_in section.decls)),
+        signature_refl (proto_signature (proto_of section line))))
 
     export_is_function : export_fits typed.functions (proto_of section line) ≡ true
-    export_is_function = and_from _ _ (ap is_plain_name (promised_name _ (function_named line.name
-        (functions_in section.decls))) ∙ f.plain) (and_from _ _ (ap not (ap (λ n. bytes_eq n main_name)
-        (promised_name _ (function_named line.name (functions_in section.decls))) ∙ f.no_main)) is_function)
+    export_is_function = grind (arith, is_function, f.plain, f.no_main,
+        promised_name line.name (function_named line.name (functions_in section.decls)))
 
   exports_are : (before lines : List ExportLine) → before ++ lines ≡ section.exports →
       Each (ExportFacts sections number section) lines →
@@ -245,13 +228,9 @@ module _ (sections : List SectionTree) (hold : (j : ℕ) (s : SectionTree) → s
   other_fits : (line : ImportLine) → Offering number line sections →
       import_fits (interfaces_of sections) number (offered line (offering number line 0 sections)) ≡ true
   other_fits line o =
-      let export = found_by (λ line. line.name) line.name o.section.exports
-      (and_rest (not (o.number == number)) _ (and_rest (bytes_eq o.section.name line.comp) _ o.offers)) in
-      ap (λ found. import_fits (interfaces_of sections) number (offered line found)) o.is
-      ∙ ap (λ index. import_fits (interfaces_of sections) number
-      (import.Function o.number (number_or_zero index))) export.place
-      ∙ and_from _ _ (and_first _ _ (and_rest (bytes_eq o.section.name line.comp) _ o.offers))
-      (ap is_some (export_is sections o.number _ export.at export.item o.got export.got))
+      let export = found_export number line o in
+      grind (arith, o.is, o.offers, export.place,
+      export_is sections o.number o.section export.at export.item o.got export.got)
 
   fits_by : (line : ImportLine) (env input output : Bool) →
       (if env then input || output else is_some (offering number line 0 sections)) ≡ true →
@@ -265,16 +244,15 @@ module _ (sections : List SectionTree) (hold : (j : ℕ) (s : SectionTree) → s
       list_all (import_fits (interfaces_of sections) number) (map (import_of sections number) lines) ≡ true
   imports_are [] each = refl
   imports_are (line ∷ lines) each =
-      and_from _ _ (fits_by line _ _ (bytes_eq line.name output_name) each.0.offered) (imports_are lines each.1)
+      cc (fits_by line _ _ (bytes_eq line.name output_name) each.0.offered, imports_are lines each.1)
 
   -- Counts.
 
   pub interface_is : names.section_lines section ≡ [] → CountFacts section callees →
       interface_fits (interfaces_of sections) number interface typed ≡ true
   interface_is in_names f =
-      and_from _ _ (all_distinct in_names) (and_from _ _ exports_distinct
-      (and_from _ _ (exports_are [] _ refl facts.exports) (and_from _ _ (imports_are section.imports facts.imports)
-      (and_from _ _ (ap (λ n. nat_le n most_exports) (length-map _ _) ∙
-      none_beyond {A = ExportLine} (λ line. line.line) most_exports section.exports f.exports)
-      (ap (λ n. nat_le n most_exports) (length-map _ (import_of _ number)) ∙
-      none_beyond {A = ImportLine} (λ line. line.line) most_exports section.imports f.imports)))))
+      cc (all_distinct in_names, exports_distinct, exports_are [] section.exports refl facts.exports,
+      imports_are section.imports facts.imports,
+      length-map section.exports (proto_of section), length-map section.imports (import_of sections number),
+      none_beyond {A = ExportLine} (λ line. line.line) most_exports section.exports f.exports,
+      none_beyond {A = ImportLine} (λ line. line.line) most_exports section.imports f.imports)

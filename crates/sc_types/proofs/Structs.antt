@@ -2,19 +2,18 @@
 use Rattle.sc_types.proofs.Common.{BaseTree, BaseTy, List, None, Option, Some, StructTree, Ty, TypeName, TypeTree, []}
 use Rattle.sc_types.proofs.Common.{and_first, and_from, and_rest, ap, append-nil, append_assoc, arith, base_cells}
 use Rattle.sc_types.proofs.Common.{base_known, base_of, base_within, bytes_eq, cells_from, cells_of, end_of_member}
-use Rattle.sc_types.proofs.Common.{false, false≢true, get_behind, get_front, is_numbered, is_sized, length, length-map}
-use Rattle.sc_types.proofs.Common.{list_all, ltb-true, map, member_known, members_fit, members_from, most_cells, nat_le}
-use Rattle.sc_types.proofs.Common.{nat_lt, number_of, number_or_zero, option_map_or, pointed_known, refl, same_text}
-use Rattle.sc_types.proofs.Common.{slice_get, starred, starred_cells, starred_within, struct_cells, struct_fits}
-use Rattle.sc_types.proofs.Common.{structs_fit, subst, suc, sym, true, type_of, type_of_name, type_with, type_within}
-use Rattle.sc_types.proofs.Common.{typed_struct, typed_structs, zero, ℕ, ◌*◌, ◌++◌, ◌+◌, ◌<◌, ◌==◌, ◌∙◌, ◌∷◌, ◌≡◌, ◌≤◌}
+use Rattle.sc_types.proofs.Common.{false, get_behind, get_front, is_numbered, is_sized, length, length-map, list_all}
+use Rattle.sc_types.proofs.Common.{ltb-true, map, member_known, members_fit, members_from, most_cells, nat_le, nat_lt}
+use Rattle.sc_types.proofs.Common.{number_of, number_or_zero, option_map_or, pointed_known, refl, same_text, slice_get}
+use Rattle.sc_types.proofs.Common.{starred, starred_cells, starred_within, struct_cells, struct_fits, structs_fit}
+use Rattle.sc_types.proofs.Common.{subst, suc, sym, true, type_of, type_of_name, type_with, type_within, typed_struct}
+use Rattle.sc_types.proofs.Common.{typed_structs, zero, ℕ, ◌*◌, ◌++◌, ◌+◌, ◌<◌, ◌∙◌, ◌∷◌, ◌≡◌, ◌≤◌}
 use Rattle.sc_ast.specs.declared.section.MemberTree.{MemberTree}
 use Rattle.sc_ast.specs.declared.types.BaseTree.TheVariants as base_tree
 use Rattle.sc_core.specs.declared.ty.Ty.TheVariants as ty
 use Rattle.sc_core.specs.declared.ty.BaseTy.TheVariants as base
 use Rattle.sc_core.specs.declared.section.TypedStruct.{TypedStruct}
-use Rattle.sc_types.proofs.Basics.{either}
-use Rattle.sc_types.proofs.Places.{Text, eq_refl, less, at_most, is_at_most, number_within, number_front, number_next}
+use Rattle.sc_types.proofs.Lookups.{Text, eq_refl, less, at_most, is_at_most, number_within, number_front, number_next}
 use Rattle.sc_types.proofs.Calls.{length_snoc}
 
 -- Tags.
@@ -82,14 +81,13 @@ module _ (names : List Text) (self : Text) (more : List Text) (new : is_numbered
 
   pointed_within : (stars : ℕ) (b : BaseTree) → pointed_known self stars b ≡ true →
       starred_within k (suc k) stars (base_of tags b) ≡ true
-  pointed_within zero (base_tree.Struct tag) h = absurd (false≢true (and_rest _ false h))
+  pointed_within zero (base_tree.Struct tag) h = grind arith
   pointed_within (suc stars) (base_tree.Struct tag) h = less _ _ (omega (arith, self_number tag (and_first _ _ h)))
-  pointed_within stars _ h = absurd (false≢true h)
+  pointed_within stars _ h = cc
 
   member_starred : (m : MemberTree) → member_known names self m ≡ true →
       starred_within k (suc k) m.ty.stars (base_of tags m.ty.base) ≡ true
-  member_starred m h =
-      either (base_known names _) (pointed_known self _ _) h (known_within _ _) (λ no. pointed_within _ _)
+  member_starred m h = grind (arith, known_within m.ty.stars m.ty.base, pointed_within m.ty.stars m.ty.base)
 
   member_within : (m : MemberTree) → member_known names self m ≡ true → is_sized m.ty ≡ true →
       type_within k (suc k) (type_of tags m.ty) ≡ true
@@ -155,24 +153,21 @@ module _ (names : List Text) (self : Text) (after : List Text) (new : is_numbere
       Fits (end offset m) members → Fits offset (m ∷ members)
   member_is offset m members known sized same rest =
       let within = member_within names self after new m known sized in
-      and_from (offset == offset) _
-      (eq_refl offset) (and_from _ _ within (subst (λ start. members_fit (done ++ more) (length names) start
-      (members_from every done (end offset m) members) (cells_from every done (end offset m) members) ≡ true)
-      (same ∙ ap (λ cells. offset + cells) (sym (cells_same done more _ size _ _ within))) rest))
+      grind (arith, within, eq_refl offset, cells_same done more (length names) size (suc (length names))
+      (type_of every m.ty) within)
 
   members_are : (offset : ℕ) (members : List MemberTree) → list_all (member_known names self) members ≡ true →
       list_all {X = MemberTree} (λ member. is_sized member.ty) members ≡ true →
       cells_from every done offset members ≤ 1048576 → Fits offset members
   members_are offset [] known sized small = eq_refl offset
   members_are offset (m ∷ members) known sized small =
-      member_is offset m members (and_first _ _ known) (and_first _ _ sized) (exact offset m members small)
-      (members_are (end offset m) members (and_rest _ _ known) (and_rest _ _ sized) small)
+      grind (arith, member_is offset m members, exact offset m members, members_are (end offset m) members)
 
 members_length : (all : List Text) (structs : List TypedStruct) (offset : ℕ) (members : List MemberTree) →
     length (members_from all structs offset members) ≡ length members
 members_length all structs offset [] = refl
-members_length all structs offset (m ∷ members) = ap suc
-    (members_length all structs (end_of_member all structs offset m) members)
+members_length all structs offset (m ∷ members) = cc (members_length all structs (end_of_member all structs offset m)
+    members)
 
 -- All structs.
 
@@ -212,8 +207,7 @@ module _ (all : List Text) where
       and_from _ _ (ap (nat_le 1) (members_length all done 0 tree.members) ∙ known.some)
       (and_from _ _ members (subst (λ o. nat_le (struct_cells o) most_cells ≡ true) got small)) where
         got : slice_get structs (length names) ≡ Some (typed_struct all done tree)
-        got = ap (λ s. slice_get s (length names)) whole ∙ ap (slice_get (done ++ typed_struct all done tree ∷ more))
-            (sym size) ∙ get_behind done (typed_struct all done tree) more
+        got = cc (get_behind done (typed_struct all done tree) more)
 
         whole_cells : nat_le (cells_from all done 0 tree.members) most_cells ≡ true
         whole_cells = subst (λ o. nat_le (struct_cells o) most_cells ≡ true) got small
@@ -224,11 +218,8 @@ module _ (all : List Text) where
 
         members : members_fit structs (length names) 0 (members_from all done 0 tree.members)
             (cells_from all done 0 tree.members) ≡ true
-        members = subst (λ s. members_fit s (length names) 0 (members_from all done 0 tree.members)
-            (cells_from all done 0 tree.members) ≡ true) (sym whole) (subst (λ a. members_fit (done ++
-            typed_struct all done tree ∷ more) (length names) 0 (members_from a done 0 tree.members)
-            (cells_from a done 0 tree.members) ≡ true) is (members_are names tree.name after known.new done
-            (typed_struct all done tree ∷ more) size 0 tree.members known.members known.sized within))
+        members = cc (members_are names tree.name after known.new done (typed_struct all done tree ∷ more) size 0
+            tree.members known.members known.sized within)
 
   rest_fit : (names : List Text) (trees : List StructTree) (done structs : List TypedStruct) →
       names ++ tags_of trees ≡ all → length done ≡ length names → structs ≡ done ++ rest_of all done trees →

@@ -1,15 +1,18 @@
--- What is typed has as many nodes as its tree.
+-- What is typed has as many nodes as its tree, and is as high.
 use Rattle.sc_types.proofs.Common.{BinaryOp, Bool, CallTree, Callees, Each, ExprTree, ExprTree-F, Found, FunctionTree}
 use Rattle.sc_types.proofs.Common.{Inside, List, LocalTree, None, Option, SectionTree, SimpleKind, SimpleTree, Some}
-use Rattle.sc_types.proofs.Common.{StmtKind, StmtKind-F, StmtTree, Ty, TypedExpr, TypedKind, TypedStmt, TypedStmtKind}
-use Rattle.sc_types.proofs.Common.{Under, Visible, [], ap, ap₂, beside, call_nodes, cond, decayed, decls_nodes}
-use Rattle.sc_types.proofs.Common.{expr_induction, expr_nodes, expr_step, false, found, function_nodes, going_to}
-use Rattle.sc_types.proofs.Common.{going_to_all, going_to_some, init_nodes, kind_step as typed_kind_step, length-map}
-use Rattle.sc_types.proofs.Common.{local_nodes, map, map-ExprTree, nodes, option_map, part_nodes, refl, result_of}
-use Rattle.sc_types.proofs.Common.{rules, simple_nodes, step, stmt_induction, stmt_nodes, stmt_step as typed_stmt_step}
-use Rattle.sc_types.proofs.Common.{suc, sym, the_lemmas, total, true, typed_call, typed_function, typed_init}
+use Rattle.sc_types.proofs.Common.{StmtKind, StmtKind-F, StmtTree, Ty, TypedExpr, TypedKind, TypedKind-F, TypedStmt}
+use Rattle.sc_types.proofs.Common.{TypedStmtKind, TypedStmtKind-F, Under, Visible, [], ap, ap₂, arith, beside}
+use Rattle.sc_types.proofs.Common.{call_height, call_nodes, cond, decayed, decls_nodes, expr_height, expr_induction}
+use Rattle.sc_types.proofs.Common.{expr_nodes, expr_step, false, fold-roll-TypedExpr, found, function_nodes, going_to}
+use Rattle.sc_types.proofs.Common.{going_to_all, going_to_some, highest, if◌then◌else◌, init_nodes, is_pointer, is_zero}
+use Rattle.sc_types.proofs.Common.{kind_height, kind_step as typed_kind_step, length-map, local_nodes, map}
+use Rattle.sc_types.proofs.Common.{map-ExprTree, max, nodes, option_map, part_height, part_nodes, refl, result_of}
+use Rattle.sc_types.proofs.Common.{roll-TypedKind, roll-TypedStmtKind, rules, simple_height, simple_nodes, step}
+use Rattle.sc_types.proofs.Common.{stmt_height, stmt_induction, stmt_nodes, stmt_step as typed_stmt_step, suc, sym}
+use Rattle.sc_types.proofs.Common.{term_height, the_lemmas, total, true, typed_call, typed_function, typed_init}
 use Rattle.sc_types.proofs.Common.{typed_locals, typed_section, typed_simple, typed_simple_kind, typed_stmt}
-use Rattle.sc_types.proofs.Common.{variable_typed, visible_in, visible_of, ℕ, ◌+◌, ◌∙◌, ◌∷◌, ◌≡◌}
+use Rattle.sc_types.proofs.Common.{typed_value, variable_typed, visible_in, visible_of, ℕ, ◌&&◌, ◌+◌, ◌∙◌, ◌∷◌, ◌≡◌}
 use Rattle.sc_elab_expr.specs.Prelude.{typed}
 use Rattle.sc_types.specs.Prelude.{kind_step, stmt_step}
 use Rattle.sc_base.specs.declared.op.BinaryOp.TheVariants as tree_op
@@ -17,26 +20,17 @@ use Rattle.sc_ast.specs.declared.expr.ExprTree.TheOpen as tree
 use Rattle.sc_ast.specs.declared.stmt.SimpleKind.TheVariants as simple_tree
 use Rattle.sc_ast.specs.declared.stmt.StmtKind.TheOpen as layer
 use Rattle.sc_ast.proofs.Layers as layers
-use Rattle.sc_core.specs.declared.expr.TypedKind as term
-use Rattle.sc_core.specs.declared.stmt.TypedStmtKind as kind
 use Rattle.sc_core.specs.Sizes as core
 use Rattle.sc_core.specs.declared.expr.TypedKind.TheOpen as open_term
-use Rattle.sc_core.specs.declared.expr.TypedKind.TheVariants.{rolls-Address, rolls-Arrow, rolls-Binary, rolls-Deref}
-use Rattle.sc_core.specs.declared.expr.TypedKind.TheVariants.{rolls-Index, rolls-Literal, rolls-Member, rolls-Unary}
-use Rattle.sc_core.specs.declared.expr.TypedKind.TheVariants.{rolls-Variable}
 use Rattle.sc_core.specs.declared.stmt.TypedStmtKind.TheOpen as open_kind
-use Rattle.sc_core.specs.declared.stmt.TypedStmtKind.TheVariants.{rolls-Assign, rolls-AssignCall, rolls-Break}
-use Rattle.sc_core.specs.declared.stmt.TypedStmtKind.TheVariants.{rolls-Call, rolls-Continue, rolls-Empty, rolls-For}
-use Rattle.sc_core.specs.declared.stmt.TypedStmtKind.TheVariants.{rolls-If, rolls-Return, rolls-ReturnCall}
-use Rattle.sc_core.specs.declared.stmt.TypedStmtKind.TheVariants.{rolls-ReturnValue, rolls-While}
 use Rattle.sc_core.proofs.Layers as core_layers
+use Rattle.sc_ast.specs.Height as surface
 
 -- The nodes of a typed expression, by the layer of its kind.
 
-node-at : (t : Ty) (x : TypedKind) (k : term.TypedKind-F TypedKind TypedExpr) → term.roll-TypedKind k ≡ x →
-    core.expr_nodes (record { ty = t; kind = x }) ≡ core_layers.term_of ℕ ℕ core.term_nodes (λ e. e.kind) k
-node-at t x k is = ap (λ x. core.expr_nodes (record { ty = t; kind = x })) (sym is) ∙
-    core_layers.expr_at ℕ ℕ core.term_nodes (λ e. e.kind) t k
+node-at : (t : Ty) (k : TypedKind-F TypedKind TypedExpr) →
+    core.expr_nodes (core_layers.typed t k) ≡ core_layers.term_of ℕ ℕ core.term_nodes (λ e. e.kind) k
+node-at t k = core_layers.expr_at ℕ ℕ core.term_nodes (λ e. e.kind) t k
 
 -- its type doesn't count
 kind-alone : (t u : Ty) (k : TypedKind) → core.expr_nodes (record { ty = t; kind = k }) ≡
@@ -72,8 +66,9 @@ beside-nodes tree_op.NotEqual other e = going other e
 beside-nodes o other e = refl
 
 variable-nodes : (f : Option Found) → core.expr_nodes (variable_typed f) ≡ 1
-variable-nodes None = node-at _ _ (open_term.Variable _) (rolls-Variable _)
-variable-nodes (Some f) = node-at _ _ (open_term.Variable _) (rolls-Variable _)
+unfolding roll-TypedKind denote.Hole.Carrier.roll
+variable-nodes None = node-at _ (open_term.Variable _)
+variable-nodes (Some f) = node-at _ (open_term.Variable _)
 
 module _ (visible : Visible) where
   abbrev AsTree : ExprTree → Type 0
@@ -81,17 +76,18 @@ module _ (visible : Visible) where
 
   step-nodes : (t : ExprTree-F ExprTree) → Under AsTree t →
       core.expr_nodes (step visible (map-ExprTree _ _ (typed visible) t)) ≡ expr_step (map-ExprTree _ _ expr_nodes t)
-  step-nodes (tree.Literal number) h = node-at _ _ (open_term.Literal _) (rolls-Literal _)
+  unfolding roll-TypedKind denote.Hole.Carrier.roll
+  step-nodes (tree.Literal number) h = node-at _ (open_term.Literal _)
   step-nodes (tree.Variable name) h = variable-nodes (found visible name)
-  step-nodes (tree.Unary o a) h = node-at _ _ (open_term.Unary o _) (rolls-Unary _ _) ∙ ap suc h
-  step-nodes (tree.Binary o a b) h =
-      node-at _ _ (open_term.Binary o _ _) (rolls-Binary _ _ _) ∙ ap₂ (λ m n. suc (m + n)) (beside-nodes o
-      (typed visible b).ty (typed visible a) ∙ h.0) (beside-nodes o (typed visible a).ty (typed visible b) ∙ h.1)
-  step-nodes (tree.Index a b) h = node-at _ _ (open_term.Index _ _) (rolls-Index _ _) ∙ ap₂ (λ m n. suc (m + n)) h.0 h.1
-  step-nodes (tree.Member a name) h = node-at _ _ (open_term.Member _ _) (rolls-Member _ _) ∙ ap suc h
-  step-nodes (tree.Arrow a name) h = node-at _ _ (open_term.Arrow _ _) (rolls-Arrow _ _) ∙ ap suc h
-  step-nodes (tree.Deref a) h = node-at _ _ (open_term.Deref _) (rolls-Deref _) ∙ ap suc h
-  step-nodes (tree.Address a) h = node-at _ _ (open_term.Address _) (rolls-Address _) ∙ ap suc h
+  step-nodes (tree.Unary o a) h = node-at _ (open_term.Unary o _) ∙ ap suc h
+  step-nodes (tree.Binary o a b) h = node-at _ (open_term.Binary o _ _) ∙
+      ap₂ (λ m n. suc (m + n)) (beside-nodes o (typed visible b).ty (typed visible a) ∙ h.0)
+      (beside-nodes o (typed visible a).ty (typed visible b) ∙ h.1)
+  step-nodes (tree.Index a b) h = node-at _ (open_term.Index _ _) ∙ ap₂ (λ m n. suc (m + n)) h.0 h.1
+  step-nodes (tree.Member a name) h = node-at _ (open_term.Member _ _) ∙ ap suc h
+  step-nodes (tree.Arrow a name) h = node-at _ (open_term.Arrow _ _) ∙ ap suc h
+  step-nodes (tree.Deref a) h = node-at _ (open_term.Deref _) ∙ ap suc h
+  step-nodes (tree.Address a) h = node-at _ (open_term.Address _) ∙ ap suc h
 
   pub typed-nodes : (e : ExprTree) → core.expr_nodes (typed visible e) ≡ expr_nodes e
   typed-nodes = expr_induction AsTree
@@ -118,11 +114,9 @@ module _ (visible : Visible) where
 
 -- The nodes of a typed statement, by the layer of its kind.
 
-stmt-node-at : (line : ℕ) (x : TypedStmtKind) (k : kind.TypedStmtKind-F TypedStmtKind TypedStmt) →
-    kind.roll-TypedStmtKind k ≡ x → core.stmt_nodes (record { line = line; kind = x }) ≡
-    core_layers.layer_of ℕ ℕ core.kind_nodes (λ s. s.kind) k
-stmt-node-at line x k is = ap (λ x. core.stmt_nodes (record { line = line; kind = x })) (sym is) ∙
-    core_layers.stmt_at ℕ ℕ core.kind_nodes (λ s. s.kind) line k
+stmt-node-at : (line : ℕ) (k : TypedStmtKind-F TypedStmtKind TypedStmt) →
+    core.stmt_nodes (core_layers.on_line line k) ≡ core_layers.layer_of ℕ ℕ core.kind_nodes (λ s. s.kind) k
+stmt-node-at line k = core_layers.stmt_at ℕ ℕ core.kind_nodes (λ s. s.kind) line k
 
 module _ (visible : Visible) (callees : Callees) (result : Option Ty) where
   abbrev StmtAsTree : StmtTree → Type 0
@@ -139,29 +133,27 @@ module _ (visible : Visible) (callees : Callees) (result : Option Ty) where
 
   layer-nodes : (line : ℕ) (k : StmtKind-F StmtKind StmtTree) → Inside StmtAsTree k →
       core.stmt_nodes (record { line = line; kind = typed_layer k }) ≡ layers.layer_of ℕ ℕ kind_step stmt_step k
-  layer-nodes line layer.Empty h = stmt-node-at line _ open_kind.Empty rolls-Empty
-  layer-nodes line (layer.Assign place value) h = stmt-node-at line _ (open_kind.Assign _ _) (rolls-Assign _ _)
+  unfolding roll-TypedStmtKind denote.Hole.Carrier.roll
+  layer-nodes line layer.Empty h = stmt-node-at line open_kind.Empty
+  layer-nodes line (layer.Assign place value) h = stmt-node-at line (open_kind.Assign _ _)
       ∙ ap₂ (λ a b. suc (a + b)) (typed-nodes visible place) (value-nodes visible callees place value)
-  layer-nodes line (layer.AssignCall place call) h = stmt-node-at line _ (open_kind.AssignCall _ _)
-      (rolls-AssignCall _ _) ∙ ap₂ (λ a b. suc (a + b)) (typed-nodes visible place) (call-nodes visible callees call)
-  layer-nodes line (layer.Call call) h =
-      stmt-node-at line _ (open_kind.Call _) (rolls-Call _) ∙ ap suc (call-nodes visible callees call)
-  layer-nodes line (layer.If c first second) h =
-      stmt-node-at line _ (open_kind.If _ _ _) (rolls-If _ _ _) ∙ ap₂ (λ a b. suc (a + b))
-      (ap₂ (λ a b. a + b) (typed-nodes visible c) (each-nodes first h.0)) (each-nodes second h.1)
-  layer-nodes line (layer.While c body) h = stmt-node-at line _
-      (open_kind.While _ _) (rolls-While _ _) ∙ ap₂ (λ a b. suc (a + b)) (typed-nodes visible c) (each-nodes body h)
-  layer-nodes line (layer.For first c next body) h =
-      stmt-node-at line _ (open_kind.For _ _ _ _) (rolls-For _ _ _ _) ∙
-      (λ i. suc (part-nodes visible callees first i + typed-nodes visible c i + part-nodes visible callees next i +
+  layer-nodes line (layer.AssignCall place call) h = stmt-node-at line (open_kind.AssignCall _ _)
+      ∙ ap₂ (λ a b. suc (a + b)) (typed-nodes visible place) (call-nodes visible callees call)
+  layer-nodes line (layer.Call call) h = stmt-node-at line (open_kind.Call _) ∙ ap suc (call-nodes visible callees call)
+  layer-nodes line (layer.If c first second) h = stmt-node-at line (open_kind.If _ _ _)
+      ∙ (λ i. suc (typed-nodes visible c i + each-nodes first h.0 i + each-nodes second h.1 i))
+  layer-nodes line (layer.While c body) h = stmt-node-at line (open_kind.While _ _)
+      ∙ (λ i. suc (typed-nodes visible c i + each-nodes body h i))
+  layer-nodes line (layer.For first c next body) h = stmt-node-at line (open_kind.For _ _ _ _)
+      ∙ (λ i. suc (part-nodes visible callees first i + typed-nodes visible c i + part-nodes visible callees next i +
       each-nodes body h i))
-  layer-nodes line layer.Break h = stmt-node-at line _ open_kind.Break rolls-Break
-  layer-nodes line layer.Continue h = stmt-node-at line _ open_kind.Continue rolls-Continue
-  layer-nodes line layer.Return h = stmt-node-at line _ open_kind.Return rolls-Return
-  layer-nodes line (layer.ReturnValue value) h = stmt-node-at line _
-      (open_kind.ReturnValue _) (rolls-ReturnValue _) ∙ ap suc (going-some result _ ∙ typed-nodes visible value)
+  layer-nodes line layer.Break h = stmt-node-at line open_kind.Break
+  layer-nodes line layer.Continue h = stmt-node-at line open_kind.Continue
+  layer-nodes line layer.Return h = stmt-node-at line open_kind.Return
+  layer-nodes line (layer.ReturnValue value) h =
+      stmt-node-at line (open_kind.ReturnValue _) ∙ ap suc (going-some result _ ∙ typed-nodes visible value)
   layer-nodes line (layer.ReturnCall call) h =
-      stmt-node-at line _ (open_kind.ReturnCall _) (rolls-ReturnCall _) ∙ ap suc (call-nodes visible callees call)
+      stmt-node-at line (open_kind.ReturnCall _) ∙ ap suc (call-nodes visible callees call)
 
   pub stmt-nodes : (s : StmtTree) → core.stmt_nodes (typed_stmt visible callees result s) ≡ stmt_nodes s
   stmt-nodes =
@@ -193,3 +185,141 @@ module _ (section : SectionTree) where
     -- the nodes of a section's typed functions are those of its trees, whoever is called
     pub section-nodes : total (map nodes (typed_section section callees).functions) ≡ decls_nodes section.decls
     section-nodes = total-same nodes (typed_function section callees) function_nodes function-nodes _
+
+-- Heights.
+
+one_more : (n : ℕ) → suc n ≡ n + 1
+one_more n = omega arith
+
+-- the height doesn't depend on the type
+type_aside : (t u : Ty) (k : TypedKind) → expr_height (record { ty = t; kind = k }) ≡
+    expr_height (record { ty = u; kind = k })
+type_aside t u k = fold-roll-TypedExpr ℕ ℕ _ _ _ ∙ sym (fold-roll-TypedExpr ℕ ℕ _ _ _)
+
+going_by : (b : Bool) (t : Ty) (e : TypedExpr) → expr_height (if b then record { ty = t; kind = e.kind } else e) ≡
+    expr_height e
+going_by true t e = type_aside t e.ty e.kind
+going_by false t e = refl
+
+pub going_height : (place : Ty) (e : TypedExpr) → expr_height (going_to place e) ≡ expr_height e
+going_height place e = going_by (is_pointer place && is_zero e) _ e
+
+beside_height : (o : BinaryOp) (other : Ty) (e : TypedExpr) → expr_height (beside o other e) ≡ expr_height e
+beside_height tree_op.Equal other e = going_height other e
+beside_height tree_op.NotEqual other e = going_height other e
+beside_height o other e = refl
+
+-- an expression of this layer
+height_at : (t : Ty) (k : TypedKind-F TypedKind TypedExpr) →
+    expr_height (core_layers.typed t k) ≡ core_layers.term_of ℕ ℕ term_height (λ e. e.kind) k
+height_at t k = core_layers.expr_at ℕ ℕ _ _ t k
+
+module _ (visible : Visible) where
+  abbrev Same : ExprTree → Type 0
+  Same e = expr_height (typed visible e) ≡ surface.expr_height e
+
+  variable_height : (o : Option Found) → expr_height (variable_typed o) ≡ 1
+  unfolding roll-TypedKind denote.Hole.Carrier.roll
+  variable_height None = height_at _ (open_term.Variable _)
+  variable_height (Some f) = height_at _ (open_term.Variable _)
+
+  -- by the layer of the tree
+  by_term : (t : ExprTree-F ExprTree) → Under Same t → expr_height (step visible
+      (map-ExprTree _ _ (typed visible) t)) ≡ surface.expr_step (map-ExprTree _ _ surface.expr_height t)
+  unfolding roll-TypedKind denote.Hole.Carrier.roll
+  by_term (tree.Literal number) under = height_at _ (open_term.Literal _)
+  by_term (tree.Variable name) under = variable_height (found visible name)
+  by_term (tree.Unary o e) under = height_at _ (open_term.Unary o _) ∙ ap suc under ∙ one_more _
+  by_term (tree.Binary o a b) under = height_at _ (open_term.Binary o _ _)
+      ∙ (λ i. suc (max ((beside_height o (typed visible b).ty (typed visible a) ∙ under.0) i)
+      ((beside_height o (typed visible a).ty (typed visible b) ∙ under.1) i))) ∙ one_more _
+  by_term (tree.Index a b) under =
+      height_at _ (open_term.Index _ _) ∙ (λ i. suc (max (under.0 i) (under.1 i))) ∙ one_more _
+  by_term (tree.Member e name) under = height_at _ (open_term.Member _ _) ∙ ap suc under ∙ one_more _
+  by_term (tree.Arrow e name) under = height_at _ (open_term.Arrow _ _) ∙ ap suc under ∙ one_more _
+  by_term (tree.Deref e) under = height_at _ (open_term.Deref _) ∙ ap suc under ∙ one_more _
+  by_term (tree.Address e) under = height_at _ (open_term.Address _) ∙ ap suc under ∙ one_more _
+
+  pub typed_height : (e : ExprTree) → Same e
+  typed_height = expr_induction Same
+      (λ t under. ap expr_height (layers.expr_at _ t) ∙ by_term t under ∙ sym (layers.expr_at _ t))
+
+  module _ (callees : Callees) where
+    args_height : (types : List Ty) (args : List ExprTree) → highest (map expr_height
+        (going_to_all types (map (typed visible) args))) ≡ surface.highest (map surface.expr_height args)
+    args_height [] [] = refl
+    args_height [] (e ∷ args) = λ i. max (typed_height e i) (args_height [] args i)
+    args_height (t ∷ types) [] = refl
+    args_height (t ∷ types) (e ∷ args) = λ i. max ((going_height t _ ∙ typed_height e) i) (args_height types args i)
+
+    call_is : (call : CallTree) → call_height (typed_call visible callees call) ≡ surface.call_height call
+    call_is call = args_height _ _
+
+    value_is : (place value : ExprTree) → expr_height (typed_value visible callees place value) ≡
+        surface.expr_height value
+    value_is place value = going_height _ _ ∙ typed_height value
+
+    simple_is : (s : SimpleKind) → simple_height (typed_simple_kind visible callees s) ≡ surface.simple_kind_height s
+    simple_is (simple_tree.Assign place value) = λ i. max (typed_height place i) (value_is place value i)
+    simple_is (simple_tree.AssignCall place call) = λ i. max (typed_height place i) (call_is call i)
+    simple_is (simple_tree.Call call) = call_is call
+
+    part_is : (part : Option SimpleTree) → part_height (option_map (typed_simple visible callees) part) ≡
+        surface.option_height part
+    part_is None = refl
+    part_is (Some s) = ap suc (simple_is s.kind) ∙ one_more _
+
+    module _ (result : Option Ty) where
+      some_height : (place : Option Ty) (e : TypedExpr) → expr_height (going_to_some place e) ≡ expr_height e
+      some_height None e = refl
+      some_height (Some t) e = going_height t e
+
+      abbrev SameStmt : StmtTree → Type 0
+      SameStmt s = stmt_height (typed_stmt visible callees result s) ≡ surface.stmt_height s
+
+      all_heights : (stmts : List StmtTree) → Each SameStmt stmts → highest (map stmt_height
+          (map (typed_stmt visible callees result) stmts)) ≡ surface.highest (map surface.stmt_height stmts)
+      all_heights [] each = refl
+      all_heights (s ∷ stmts) each = λ i. max (each.0 i) (all_heights stmts each.1 i)
+
+      abbrev Layer : Type 0
+      Layer = StmtKind-F StmtKind StmtTree
+
+      abbrev typed_kind : Layer → TypedStmtKind
+      typed_kind k = layers.layer_of TypedStmtKind TypedStmt (typed_kind_step visible callees result)
+          (typed_stmt_step visible callees result) k
+
+      abbrev height_of : Layer → ℕ
+      height_of k = layers.layer_of ℕ ℕ surface.kind_step surface.stmt_step k
+
+      -- a statement of this layer
+      stmt_of : (line : ℕ) (k : TypedStmtKind-F TypedStmtKind TypedStmt) →
+          stmt_height (core_layers.on_line line k) ≡ suc (core_layers.layer_of ℕ ℕ kind_height (λ s. suc s.kind) k)
+      stmt_of line k = core_layers.stmt_at ℕ ℕ _ _ line k
+
+      by_kind : (line : ℕ) (k : Layer) → Inside SameStmt k →
+          stmt_height (record { line = line; kind = typed_kind k }) ≡ suc (height_of k)
+      unfolding roll-TypedStmtKind denote.Hole.Carrier.roll
+      by_kind line layer.Empty inside = stmt_of line open_kind.Empty
+      by_kind line (layer.Assign place value) inside =
+          stmt_of line (open_kind.Assign _ _) ∙ (λ i. suc (max (typed_height place i) (value_is place value i)))
+      by_kind line (layer.AssignCall place call) inside =
+          stmt_of line (open_kind.AssignCall _ _) ∙ (λ i. suc (max (typed_height place i) (call_is call i)))
+      by_kind line (layer.Call call) inside = stmt_of line (open_kind.Call _) ∙ ap suc (call_is call)
+      by_kind line (layer.If cond first second) inside = stmt_of line (open_kind.If _ _ _)
+          ∙ (λ i. suc (max (typed_height cond i) (max (all_heights first inside.0 i) (all_heights second inside.1 i))))
+      by_kind line (layer.While cond body) inside =
+          stmt_of line (open_kind.While _ _) ∙ (λ i. suc (max (typed_height cond i) (all_heights body inside i)))
+      by_kind line (layer.For first cond next body) inside =
+          stmt_of line (open_kind.For _ _ _ _) ∙ (λ i. suc (max (max (part_is first i) (part_is next i))
+          (max (typed_height cond i) (all_heights body inside i))))
+      by_kind line layer.Break inside = stmt_of line open_kind.Break
+      by_kind line layer.Continue inside = stmt_of line open_kind.Continue
+      by_kind line layer.Return inside = stmt_of line open_kind.Return
+      by_kind line (layer.ReturnValue value) inside =
+          stmt_of line (open_kind.ReturnValue _) ∙ ap suc (some_height result _ ∙ typed_height value)
+      by_kind line (layer.ReturnCall call) inside = stmt_of line (open_kind.ReturnCall _) ∙ ap suc (call_is call)
+
+      pub stmt_is : (s : StmtTree) → SameStmt s
+      stmt_is = stmt_induction SameStmt (λ line k inside. ap stmt_height (layers.stmt_at _ _ _ _ line k)
+          ∙ by_kind line k inside ∙ one_more _ ∙ sym (layers.stmt_at _ _ _ _ line k))

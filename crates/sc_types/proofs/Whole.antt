@@ -1,28 +1,26 @@
 -- A text that breaks no rule is a well-typed program.
-use Rattle.sc_types.proofs.Common.{AreLow, Bool, Callees, Decl, Function, FunctionTree, Global, Interface, IsWellTyped}
-use Rattle.sc_types.proofs.Common.{List, None, Option, Proto, SectionTree, Some, Struct, TypedSection, [], and_first}
-use Rattle.sc_types.proofs.Common.{and_from, and_rest, any_passes_from_place, ap, append_assoc, are_distinct, arith}
-use Rattle.sc_types.proofs.Common.{bytes_eq, callees_of, codes, counts_broken, decl_count, defines_main, environment}
-use Rattle.sc_types.proofs.Common.{false, false≢true, functions_in, get_behind, globals_in, head_of, if◌then◌else◌}
-use Rattle.sc_types.proofs.Common.{interface_broken, interface_fits, interface_of, interfaces_from, interfaces_of}
-use Rattle.sc_types.proofs.Common.{is_main, is_numbered, is_well_typed, length, length-map, line_of_text, list_any}
-use Rattle.sc_types.proofs.Common.{list_any-append, main_fits, main_from, main_name, mains_in, map, map-append}
-use Rattle.sc_types.proofs.Common.{most_compartments, most_nodes, names_broken, nat_le, not, not-true, option_map}
-use Rattle.sc_types.proofs.Common.{option_map_or, program_of, refl, same_Some, same_signature, section_fits}
-use Rattle.sc_types.proofs.Common.{section_height, sections_fit, sections_from, signature_of, slice_get, slice_get-map}
-use Rattle.sc_types.proofs.Common.{structs, structs_in, subst, suc, sym, tags, true, truth, typed_function}
-use Rattle.sc_types.proofs.Common.{typed_global, typed_section, types_broken, zero, ℕ, ◌&&◌, ◌++◌, ◌+◌, ◌==◌, ◌||◌, ◌∙◌}
-use Rattle.sc_types.proofs.Common.{◌∷◌, ◌≡◌, ◌≤◌}
+use Rattle.sc_types.proofs.Common.{AreLow, Bool, Callees, Decl, Function, FunctionTree, Interface, IsWellTyped, List}
+use Rattle.sc_types.proofs.Common.{Option, SectionTree, Some, TypedSection, [], and_first, and_from, and_rest}
+use Rattle.sc_types.proofs.Common.{any_passes_from_place, ap, append_assoc, are_distinct, arith, bytes_eq, callees_of}
+use Rattle.sc_types.proofs.Common.{codes, counts_broken, decl_count, defines_main, environment, false, functions_in}
+use Rattle.sc_types.proofs.Common.{get_behind, globals_in, head_of, if◌then◌else◌, interface_broken, interface_fits}
+use Rattle.sc_types.proofs.Common.{interface_of, interfaces_from, interfaces_of, is_main, is_numbered, is_well_typed}
+use Rattle.sc_types.proofs.Common.{length, length-map, line_of_text, list_any, list_any-append, main_fits, main_from}
+use Rattle.sc_types.proofs.Common.{main_name, mains_in, map, map-append, most_compartments, most_nodes, names_broken}
+use Rattle.sc_types.proofs.Common.{nat_le, nat_tests, not, option_map, option_map_or, program_of, refl, same_Some}
+use Rattle.sc_types.proofs.Common.{same_signature, section_fits, section_height, sections_fit, sections_from}
+use Rattle.sc_types.proofs.Common.{signature_of, slice_get, slice_get-map, structs, structs_in, subst, suc, sym, tags}
+use Rattle.sc_types.proofs.Common.{true, truth, typed_function, typed_global, typed_section, types_broken, zero, ℕ}
+use Rattle.sc_types.proofs.Common.{◌&&◌, ◌++◌, ◌+◌, ◌==◌, ◌||◌, ◌∙◌, ◌∷◌, ◌≡◌, ◌≤◌}
 use Rattle.sc_core.specs.declared.ty.Ty.TheVariants as ty
 use Rattle.sc_scope.specs.Names as names
 use Rattle.sc_elab.specs.Sections as elab
 use Rattle.sc_interfaces.specs.Faces as faces
 use Rattle.sc_types.specs.Counts as counts
-use Rattle.sc_types.proofs.Basics.{rule_holds, front_empty, back_empty, map_empty, Each, each_empty, each_passes}
-use Rattle.sc_types.proofs.Basics.{none_some, find}
-use Rattle.sc_types.proofs.Places.{Text, any_found, at_most, is_at_most}
+use Rattle.sc_types.proofs.Lookups.{rule_holds, front_empty, back_empty, map_empty, Each, each_empty, each_passes, find}
+use Rattle.sc_types.proofs.Lookups.{none_some, Text, any_found, each_at, each_function, same_sym, FoundFunction}
+use Rattle.sc_types.proofs.Lookups.{find_function}
 use Rattle.sc_types.proofs.Structs.{AllSmall, structs_all_fit, structs_length}
-use Rattle.sc_types.proofs.Lookups.{each_at, each_function, same_sym, FoundFunction, find_function}
 use Rattle.sc_types.proofs.Facts.{Fresh, fresh_distinct, DeclFacts, FaceFacts, face_facts, decls_hold, CountFacts}
 use Rattle.sc_types.proofs.Facts.{count_facts}
 use Rattle.sc_types.proofs.Calls.{input_signature, length_snoc, own_signature, plus_none, plus_zero}
@@ -33,46 +31,21 @@ use Rattle.std.proofs.Math.Bool.{or-false}
 
 -- The structs, globals and functions among declarations are no more than these.
 
-first_more : (a b c n : ℕ) → a + (b + c) ≤ n → suc a + (b + c) ≤ suc n
-first_more a b c n h = omega (arith, h)
-
-second_more : (a b c n : ℕ) → a + (b + c) ≤ n → a + (suc b + c) ≤ suc n
-second_more a b c n h = omega (arith, h)
-
-third_more : (a b c n : ℕ) → a + (b + c) ≤ n → a + (b + suc c) ≤ suc n
-third_more a b c n h = omega (arith, h)
-
-no_more : (a b c n : ℕ) → a + (b + c) ≤ n → a + (b + c) ≤ suc n
-no_more a b c n h = omega (arith, h)
-
-none_of_none : 0 + (0 + 0) ≤ 0
-none_of_none = omega arith
-
 kept_in : (decls : List Decl) →
     length (structs_in decls) + (length (globals_in decls) + length (functions_in decls)) ≤ length decls
-kept_in [] = none_of_none
-kept_in (Struct tree ∷ decls) = first_more _ _ _ _ (kept_in decls)
-kept_in (Global tree ∷ decls) = second_more _ _ _ _ (kept_in decls)
-kept_in (Proto head ∷ decls) = no_more _ _ _ _ (kept_in decls)
-kept_in (Function tree ∷ decls) = third_more _ _ _ _ (kept_in decls)
-
-within_more : (a b c : ℕ) → a ≤ b → b ≤ c → a ≤ c
-within_more a b c h k = omega (arith, h, k)
+kept_in [] = omega arith
+kept_in (decl ∷ decls) = grind (arith, kept_in decls)
 
 decl_count_is : (section : SectionTree) (callees : Callees) → decl_count (typed_section section callees) ≡
     length (structs_in section.decls) + (length (globals_in section.decls) + length (functions_in section.decls))
-decl_count_is section callees = λ i. structs_are i + (length-map (globals_in section.decls)
-    (typed_global (tags section)) i + length-map (functions_in section.decls) (typed_function section callees) i) where
-      structs_are : length (structs section) ≡ length (structs_in section.decls)
-      structs_are = structs_length _ ∙ length-map _ _
+decl_count_is section callees = cc (structs_length (structs_in section.decls), length-map (structs_in section.decls)
+    (λ tree. tree.name), length-map (globals_in section.decls) (typed_global (tags section)),
+    length-map (functions_in section.decls) (typed_function section callees))
 
 few_kept : (section : SectionTree) (callees : Callees) → nat_le (length section.decls) most_nodes ≡ true →
     nat_le (decl_count (typed_section section callees)) most_nodes ≡ true
-few_kept section callees few = ap (λ n. nat_le n most_nodes) (decl_count_is section callees) ∙
-    at_most kept most_nodes (within_more kept (length _) most_nodes (kept_in _) (is_at_most (length _) most_nodes few))
-  where
-    kept : ℕ
-    kept = length (structs_in section.decls) + (length (globals_in section.decls) + length (functions_in section.decls))
+few_kept section callees few =
+    grind (arith, nat_tests, decl_count_is section callees, kept_in section.decls)
 
 -- What each section keeps.
 
@@ -86,8 +59,8 @@ EachFrom P k (x ∷ xs) = P k x × EachFrom P (suc k) xs
 
 each_from : {A : Type 0} (P : ℕ → A → Type 0) (k : ℕ) (xs : List A) (j : ℕ) (x : A) → EachFrom P k xs →
     slice_get xs j ≡ Some x → P (k + j) x
-each_from P k [] j x each got = none_some x got
-each_from P k (y ∷ xs) zero x each got = subst (λ n. P n x) (plus_zero k) (subst (P k) (same_Some y x got) each.0)
+each_from P k [] j x each got = cc
+each_from P k (y ∷ xs) zero x each got = rw (← plus_zero k) (subst (P k) (same_Some y x got) each.0)
 each_from P k (y ∷ xs) (suc j) x each got = subst (λ n. P n x) (plus_one k j) (each_from P _ xs j x each.1 got) where
   plus_one : (n m : ℕ) → suc n + m ≡ n + suc m
   plus_one n m = omega arith
@@ -186,25 +159,20 @@ module _ (sections : List SectionTree) where
         Each (λ name. bytes_eq name environment ≡ false) (map name_of rest)
     compartments k before [] h = (tt, tt)
     compartments k before (section ∷ rest) h =
-        let holds = rule_holds _ 1 (front_empty _ _ (map_empty _ _ (front_empty _ _ h))) in
-        let next = compartments (suc k) (before ++ section ∷ []) rest (back_empty _ _ h) in (
-          (
-            not-true _ (and_first _ _ holds),
-            subst (λ all. Fresh all (map name_of rest)) (map-append name_of before (section ∷ [])) next.0,
-          ),
-          (not-true _ (and_rest _ _ holds), next.1),
-        )
+        let next = compartments (suc k) (before ++ section ∷ []) rest (back_empty _ _ h) in
+        let holds : (not (is_numbered (map name_of before) section.name) && not (bytes_eq section.name environment)) ≡
+        true = rule_holds _ 1 (front_empty _ _ (map_empty _ _ (front_empty _ _ h))) in
+        grind (arith, next, map-append name_of before (section ∷ []))
 
     no_environment : (all : List Text) → Each (λ name. bytes_eq name environment ≡ false) all →
         is_numbered all environment ≡ false
     no_environment [] each = refl
-    no_environment (name ∷ all) each =
-        ap (λ b. b || is_numbered all environment) (same_sym _ name ∙ each.0) ∙ no_environment all each.1
+    no_environment (name ∷ all) each = grind (arith, same_sym environment name, no_environment all)
 
     interface_names : (k : ℕ) (rest : List SectionTree) →
         map {A = Interface} (λ i. i.name) (interfaces_from sections k rest) ≡ map name_of rest
     interface_names k [] = refl
-    interface_names k (section ∷ rest) = ap (λ more. section.name ∷ more) (interface_names (suc k) rest)
+    interface_names k (section ∷ rest) = cc (interface_names (suc k) rest)
 
     names_distinct : are_distinct (codes "Env" ∷ map {A = Interface} (λ i. i.name) (interfaces_of sections).comps) ≡
         true
@@ -219,7 +187,7 @@ module _ (sections : List SectionTree) where
         list_any is_main (map (typed_function section of) trees) ≡
         is_numbered (map {A = FunctionTree} (λ tree. tree.head.name) trees) main_name
     mains_same section of [] = refl
-    mains_same section of (tree ∷ trees) = λ i. same_sym tree.head.name main_name i || mains_same section of trees i
+    mains_same section of (tree ∷ trees) = cc (same_sym tree.head.name main_name, mains_same section of trees)
 
     section_mains : (section : SectionTree) (callees : Callees) →
         list_any is_main (typed_section section callees).functions ≡ defines_main section
@@ -236,11 +204,7 @@ module _ (sections : List SectionTree) where
           (functions_in section.decls) main_found.at main_found.tree (each_function _ _ each) main_found.got).1
 
       main_alone : (not mains && faces.is_main (head_of main_found.tree.head)) ≡ true
-      main_alone = by_name (bytes_eq main_found.tree.head.name main_name) main_found.named main_rule where
-        by_name : (b : Bool) → b ≡ true → (not b || (not mains && faces.is_main (head_of main_found.tree.head))) ≡
-            true → (not mains && faces.is_main (head_of main_found.tree.head)) ≡ true
-        by_name true q h = h
-        by_name false q h = absurd (false≢true q)
+      main_alone = grind (arith, main_found.named, main_rule)
 
     main_typed : (k : ℕ) (section : SectionTree) → slice_get sections k ≡ Some section → defines_main section ≡ true →
         main_fits (Some (typed_section section (callees_of sections k section))) ≡ true
@@ -261,14 +225,10 @@ module _ (sections : List SectionTree) where
 
     count_by : (b d more : Bool) (n : ℕ) → (d ≡ true → not b ≡ true) → n ≡ (if b || d then 0 else truth more) →
         truth d + n ≡ (if b then 0 else truth (d || more))
-    count_by true true more n alone h = absurd (false≢true (alone refl))
-    count_by true false more n alone h = ap (λ m. 0 + m) h ∙ omega arith
-    count_by false true more n alone h = ap (λ m. 1 + m) h ∙ omega arith
-    count_by false false more n alone h = ap (λ m. 0 + m) h ∙ plus_none _
+    count_by b d more n alone h = grind arith
 
     none_more : (b : Bool) → truth false ≡ (if b then 0 else truth false)
-    none_more true = refl
-    none_more false = refl
+    none_more b = grind arith
 
     mains_count : (k : ℕ) (before rest : List SectionTree) → faces.lines_from sections k before rest ≡ [] →
         mains_in (sections_from sections k rest) ≡ (if list_any defines_main before then 0 else
@@ -295,9 +255,7 @@ module _ (sections : List SectionTree) where
         by_case (defines_main section) (find defines_main rest) _ (main_place (suc k) rest) where
           by_case : (b : Bool) (o : Option ℕ) (m : ℕ) → m ≡ option_map_or (λ j. suc k + j) o 0 →
               (if b then k else m) ≡ option_map_or (λ j. k + j) (if b then Some 0 else option_map suc o) 0
-          by_case true o m h = plus_zero k
-          by_case false None m h = h
-          by_case false (Some j) m h = h ∙ omega arith
+          by_case b o m h = grind arith
 
     typed_from : (k : ℕ) (rest : List SectionTree) (j : ℕ) (section : SectionTree) → slice_get rest j ≡ Some section →
         slice_get (sections_from sections k rest) j ≡ Some (typed_section section (callees_of sections (k + j) section))

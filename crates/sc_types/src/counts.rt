@@ -50,6 +50,7 @@ fn section_beyond(sections: &[SectionTree]) -> Option<u32>
 }
 
 // Whoever is called, a function has the same nodes.
+#[tactic(auto, using(crate::proofs::Noted::noting, crate::proofs::Noted::sized))]
 fn section_lines(
     alloc: Global,
     section: &SectionTree,

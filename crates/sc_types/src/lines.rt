@@ -20,6 +20,7 @@ const MOST_PARAMS: usize = 8;
 const MOST_EXPORTS: usize = 4096;
 
 /// Notes the first export beyond their count.
+#[tactic(auto, using(crate::proofs::Noted::noting))]
 pub fn export_lines(exports: &ExportLines, lines: &mut BrokenLines)
     ensures { lines.new ≡ with_lines lines.old (line_beyond {A = ExportLine}
         (λ line. line.line) most_exports exports.now) }
@@ -31,6 +32,7 @@ pub fn export_lines(exports: &ExportLines, lines: &mut BrokenLines)
 }
 
 /// Notes the first import beyond their count.
+#[tactic(auto, using(crate::proofs::Noted::noting))]
 pub fn import_lines(imports: &ImportLines, lines: &mut BrokenLines)
     ensures { lines.new ≡ with_lines lines.old (line_beyond {A = ImportLine}
         (λ line. line.line) most_exports imports.now) }
@@ -57,6 +59,7 @@ pub fn structs_lines(
 }
 
 // A struct of this number, where it is one. The number of the next struct is handed back.
+#[tactic(auto, using(crate::proofs::Noted::noting))]
 fn struct_lines(
     sizes: &Sizes,
     number: u32,
@@ -88,6 +91,7 @@ pub fn globals_lines(sizes: &Sizes, decls: &Decls, lines: &mut BrokenLines)
     }
 }
 
+#[tactic(auto, using(crate::proofs::Noted::noting))]
 fn if_global(sizes: &Sizes, decl: &Decl, lines: &mut BrokenLines)
     ensures { lines.new ≡ with_lines lines.old (concat (map (global_lines sizes.now) (globals_in (decl.now ∷ [])))) }
 {
@@ -106,6 +110,7 @@ pub fn heads_lines(sizes: &Sizes, decls: &Decls, lines: &mut BrokenLines)
     }
 }
 
+#[tactic(auto, using(crate::proofs::Noted::noting))]
 fn if_head(sizes: &Sizes, decl: &Decl, lines: &mut BrokenLines)
     ensures { lines.new ≡ with_lines lines.old (concat (map (head_lines sizes.now) (heads_in (decl.now ∷ [])))) }
 {
@@ -127,6 +132,7 @@ pub fn functions_lines(sizes: &Sizes, decls: &Decls, lines: &mut BrokenLines)
     }
 }
 
+#[tactic(auto, using(crate::proofs::Noted::noting))]
 fn if_function(sizes: &Sizes, decl: &Decl, lines: &mut BrokenLines)
     ensures { lines.new ≡ with_lines lines.old (concat
         (map (function_lines sizes.now) (functions_in (decl.now ∷ [])))) }
@@ -137,6 +143,7 @@ fn if_function(sizes: &Sizes, decl: &Decl, lines: &mut BrokenLines)
     }
 }
 
+#[tactic(auto, using(crate::proofs::Noted::noting))]
 fn function_lines(sizes: &Sizes, tree: &FunctionTree, lines: &mut BrokenLines)
     ensures { lines.new ≡ with_lines lines.old (function_lines sizes.now tree.now) }
 {

@@ -55,7 +55,7 @@ impl<'a> Sizes<'a> {
     }
 
     // Whether a variable of this type has no more cells than are allowed.
-    #[tactic(auto, using(crate::proofs::Measures::measures))]
+    #[tactic(auto, using(crate::proofs::Noted::measures))]
     fn is_within(&self, ty: Ty) -> bool
         ensures { result ≡ is_small self.now ty }
     {
@@ -63,7 +63,7 @@ impl<'a> Sizes<'a> {
     }
 
     /// Whether a variable of this type has no more cells than are allowed.
-    #[tactic(auto, using(crate::proofs::Measures::measures))]
+    #[tactic(auto, using(crate::proofs::Noted::measures))]
     pub fn is_small(&self, ty: &TypeTree) -> bool
         ensures { result ≡ is_small self.now (type_in self.now ty.now) }
     {
@@ -71,7 +71,7 @@ impl<'a> Sizes<'a> {
     }
 
     /// Whether a parameter of this type has no more cells than are allowed.
-    #[tactic(auto, using(crate::proofs::Measures::measures))]
+    #[tactic(auto, using(crate::proofs::Noted::measures))]
     pub fn is_small_param(&self, ty: &TypeName) -> bool
         ensures { result ≡ is_small self.now (type_of_name (struct_names self.now.decls) ty.now) }
     {

@@ -1,5 +1,5 @@
 -- The first section that is left is the one of the number of those that are built.
-use Rattle.sc_elab.proofs.Common.{Some, ap, drop, slice_get, sym, ◌∙◌, ◌≡◌}
+use Rattle.sc_elab.proofs.Common.{ap, drop, slice_get, sym, ◌∙◌}
 use Rattle.sc_elab.proofs.Programs.{at_front, built_more, is_there, left_from}
 use Rattle.sc_elab.proofs.program.into_sections.Goals as goal
 

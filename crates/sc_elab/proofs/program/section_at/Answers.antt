@@ -1,5 +1,5 @@
 -- A section's interface stands at the section's number.
-use Rattle.sc_elab.proofs.Common.{ap, option_copied, sym, ◌∙◌}
+use Rattle.sc_elab.proofs.Common.{sym, ◌∙◌}
 use Rattle.sc_elab.proofs.Programs.{imports_at}
 use Rattle.sc_elab.proofs.program.section_at.Goals as goal
 

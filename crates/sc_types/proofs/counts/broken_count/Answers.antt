@@ -1,5 +1,5 @@
 use Rattle.sc_types.proofs.Common.{callees_of}
-use Rattle.sc_types.proofs.Phase.{counts-begun, count-noted, counts-noted}
+use Rattle.sc_types.proofs.Noted.{counts-begun, count-noted, counts-noted}
 use Rattle.sc_types.proofs.counts.broken_count.Goals as goal
 
 pub loop-section-init : goal.loop-section-init

@@ -1,4 +1,4 @@
-use Rattle.sc_types.proofs.Phase.{none-refused, some-refused}
+use Rattle.sc_types.proofs.Noted.{none-refused, some-refused}
 use Rattle.sc_types.proofs.counts.section_beyond.Goals as goal
 
 pub returns-in-None : goal.returns-in-None

@@ -1,4 +1,4 @@
-use Rattle.sc_types.proofs.Readings.{accepted_or_fails_of}
+use Rattle.sc_types.proofs.Verdicts.{accepted_or_fails_of}
 use Rattle.sc_types.proofs.laws.accepted_or_fails.Goals as goal
 
 pub returns : goal.returns

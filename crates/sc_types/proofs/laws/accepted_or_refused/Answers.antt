@@ -1,4 +1,4 @@
-use Rattle.sc_types.proofs.Refusals.{accepted_or_refused_of}
+use Rattle.sc_types.proofs.Verdicts.{accepted_or_refused_of}
 use Rattle.sc_types.proofs.laws.accepted_or_refused.Goals as goal
 
 pub returns : goal.returns

@@ -1,4 +1,4 @@
-use Rattle.sc_types.proofs.Refusals.{one_program_of}
+use Rattle.sc_types.proofs.Verdicts.{one_program_of}
 use Rattle.sc_types.proofs.laws.one_program.Goals as goal
 
 pub returns : goal.returns

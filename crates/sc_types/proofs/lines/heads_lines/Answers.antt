@@ -1,11 +1,13 @@
-use Rattle.sc_types.proofs.Noted.{heads-noted, heads-done}
+use Rattle.sc_types.proofs.Common.{head_in, head_lines}
+use Rattle.sc_types.proofs.Noted.{kind-noted, kind-done}
 use Rattle.sc_types.proofs.lines.heads_lines.Goals as goal
 
 pub loop-decl-preserved : goal.loop-decl-preserved
 loop-decl-preserved c =
-    heads-noted c.args.sizes.now c.as_slice-decl-items.result.now c.loop-decl.decl-index c.decl-item.result _
-    c.loop-decl.lines _ _ c.loop-decl-test.true c.decl-item.is c.loop-decl.invariant c.if_head.ensures
+    kind-noted head_in (head_lines c.args.sizes.now) c.as_slice-decl-items.result.now c.loop-decl.decl-index
+    c.decl-item.result _ c.loop-decl.lines _ _ c.loop-decl-test.true c.decl-item.is c.loop-decl.invariant
+    c.if_head.ensures
 
 pub returns : goal.returns
-returns c = heads-done c.args.sizes.now c.as_slice-decl-items.result.now c.loop-decl.decl-index _ _ _
-    c.loop-decl-test.false c.loop-decl.invariant
+returns c = kind-done head_in (head_lines c.args.sizes.now) c.as_slice-decl-items.result.now
+    c.loop-decl.decl-index _ _ _ c.loop-decl-test.false c.loop-decl.invariant

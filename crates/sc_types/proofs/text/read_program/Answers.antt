@@ -1,5 +1,5 @@
 use Rattle.sc_types.proofs.Common.{Err, Refused, ap, err_from_is_err_and, ◌≡◌}
-use Rattle.sc_types.proofs.Readings.{reads_low, unread_fails, untyped_fails, typed_accepted}
+use Rattle.sc_types.proofs.Verdicts.{reads_low, unread_fails, untyped_fails, typed_accepted}
 use Rattle.sc_types.proofs.text.read_program.Goals as goal
 
 pub returns-in_err-trees-clause-refused : goal.returns-in_err-trees-clause-refused

@@ -1,5 +1,5 @@
 use Rattle.sc_types.proofs.Common.{Err, Refused, ap, err_from_is_err_and, heading_fails, ◌≡◌}
-use Rattle.sc_types.proofs.Readings.{unread_fails}
+use Rattle.sc_types.proofs.Verdicts.{unread_fails}
 use Rattle.sc_types.proofs.text.section_starts.Goals as goal
 
 pub returns-in_err-sections-clause-refused : goal.returns-in_err-sections-clause-refused
