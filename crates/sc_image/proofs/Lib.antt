@@ -1,7 +1,5 @@
 pub mod Common
-mod Examples
 mod ReadingRows
-pub mod OneComp
 pub mod Running
 pub mod Whole
 pub mod Words
