@@ -1,6 +1,5 @@
 pub mod Common
 pub mod Calling
-pub mod Computed
 pub mod FunctionLines
 pub mod Functions
 pub mod Gathered

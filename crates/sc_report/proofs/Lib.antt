@@ -1,4 +1,3 @@
 pub mod Common
 pub mod Counting
-mod Examples
 pub mod Pieces

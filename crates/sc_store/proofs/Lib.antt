@@ -2,4 +2,3 @@ pub mod Common
 pub mod Words
 pub mod Parts
 pub mod Places
-mod Examples
