@@ -86,10 +86,20 @@ int main(void) { return 0; }
         ),
     ];
     for (text, err) in cases {
-        for word in ["check", "meaning", "run"] {
+        for word in ["check", "meaning", "run", "explain"] {
             let ran = Run::new(word, text).run(rt.alloc())?;
             assert!(rt; ran.wrote(3, b"", err));
         }
     }
+    Ok(())
+}
+
+#[test]
+fn a_text_is_too_long_above_its_limit(rt: HostRuntime) -> Result<(), Fail> {
+    let text = vec![in rt.alloc(); b' '; 1_048_577]?;
+    let ran = Run::new("run", &text).run(rt.alloc())?;
+    assert!(rt; ran.wrote(5, b"", b"secomp: too long 1048576\n"));
+    let ran = Run::new("run", &text[1..]).run(rt.alloc())?;
+    assert!(rt; ran.err.as_slice() == b"secomp: refused interface line 0\n".as_slice());
     Ok(())
 }

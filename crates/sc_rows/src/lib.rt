@@ -14,8 +14,6 @@ mod machine;
 #[cfg(test)]
 mod meaning;
 #[cfg(test)]
-mod refusal;
-#[cfg(test)]
 mod runs;
 #[cfg(test)]
 mod words;

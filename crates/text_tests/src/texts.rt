@@ -69,28 +69,6 @@ fn the_heights_of_sections(rt: HostRuntime) -> Result<(), Fail> {
     Ok(())
 }
 
-// A function with so many `while`, each within the one before.
-fn nested(alloc: Global, depth: usize) -> Result<Vec<u8>, Fail> {
-    let mut text = Vec::from_slice(alloc, b"void f(void) { ")?;
-    for _ in 0..depth {
-        text.extend_from_slice(b"while (a) {")?;
-    }
-    for _ in 0..depth {
-        text.push(b'}')?;
-    }
-    text.push(b'}')?;
-    Ok(text)
-}
-
-#[test]
-fn a_section_is_at_most_256_high(rt: HostRuntime) -> Result<(), Fail> {
-    let highest = nested(rt.alloc(), 255)?;
-    assert_eq!(rt; height_of(rt.alloc(), &highest)?, Some(256));
-    let higher = nested(rt.alloc(), 256)?;
-    assert_eq!(rt; height_of(rt.alloc(), &higher)?, None);
-    Ok(())
-}
-
 const NO_ELEMENT: &[u8] = b"#pragma compartment Main
 int
 a[0];

@@ -4,27 +4,28 @@ use std::test::Fail;
 
 type Answer = Result<u32, WordFault>;
 
-const INT_MAX: u32 = 0x7FFF_FFFF;
+const MAX: u32 = 0x7FFF_FFFF;
 
-const INT_MIN: u32 = 0x8000_0000;
+const MIN: u32 = 0x8000_0000;
 
-const MINUS_ONE: u32 = 0xFFFF_FFFF;
+// -1
+const ONES: u32 = 0xFFFF_FFFF;
+
+const OVER: Answer = Err(Overflow);
+
+const NO_DIVISOR: [Answer; 4] = [Err(ZeroDivisor); 4];
 
 // a, b, and a + b, a - b, a * b of `int`
 const SUMS: [(u32, u32, [Answer; 3]); 6] = [
-    (2, 3, [Ok(5), Ok(MINUS_ONE), Ok(6)]),
-    (INT_MAX, 1, [Err(Overflow), Ok(0x7FFF_FFFE), Ok(INT_MAX)]),
-    (INT_MIN, 1, [Ok(0x8000_0001), Err(Overflow), Ok(INT_MIN)]),
-    (
-        INT_MIN,
-        MINUS_ONE,
-        [Err(Overflow), Ok(0x8000_0001), Err(Overflow)],
-    ),
-    (0x1_0000, 0x8000, [Ok(0x1_8000), Ok(0x8000), Err(Overflow)]),
+    (2, 3, [Ok(5), Ok(ONES), Ok(6)]),
+    (MAX, 1, [OVER, Ok(0x7FFF_FFFE), Ok(MAX)]),
+    (MIN, 1, [Ok(0x8000_0001), OVER, Ok(MIN)]),
+    (MIN, ONES, [OVER, Ok(0x8000_0001), OVER]),
+    (0x1_0000, 0x8000, [Ok(0x1_8000), Ok(0x8000), OVER]),
     (
         0xFFFF_0000,
         0x8000,
-        [Ok(0xFFFF_8000), Ok(0xFFFE_8000), Ok(INT_MIN)],
+        [Ok(0xFFFF_8000), Ok(0xFFFE_8000), Ok(MIN)],
     ),
 ];
 
@@ -34,76 +35,59 @@ const QUOTIENTS: [(u32, u32, [Answer; 4]); 4] = [
     (
         0xFFFF_FFF9,
         2,
-        [Ok(0xFFFF_FFFD), Ok(MINUS_ONE), Ok(0x7FFF_FFFC), Ok(1)],
+        [Ok(0xFFFF_FFFD), Ok(ONES), Ok(0x7FFF_FFFC), Ok(1)],
     ),
-    (
-        INT_MIN,
-        MINUS_ONE,
-        [Err(Overflow), Err(Overflow), Ok(0), Ok(INT_MIN)],
-    ),
-    (
-        5,
-        0,
-        [
-            Err(ZeroDivisor),
-            Err(ZeroDivisor),
-            Err(ZeroDivisor),
-            Err(ZeroDivisor),
-        ],
-    ),
+    (MIN, ONES, [OVER, OVER, Ok(0), Ok(MIN)]),
+    (5, 0, NO_DIVISOR),
 ];
 
-const BAD: [Answer; 4] = [Err(BadShift), Err(BadShift), Err(BadShift), Err(BadShift)];
+const BAD: [Answer; 4] = [Err(BadShift); 4];
 
 // a, b, and a << b, a >> b of `int` and of `unsigned int`
 const SHIFTS: [(u32, u32, [Answer; 4]); 9] = [
     (1, 0, [Ok(1), Ok(1), Ok(1), Ok(1)]),
     (1, 30, [Ok(0x4000_0000), Ok(0), Ok(0x4000_0000), Ok(0)]),
-    (1, 31, [Err(Overflow), Ok(0), Ok(INT_MIN), Ok(0)]),
-    (
-        MINUS_ONE,
-        0,
-        [Err(Overflow), Ok(MINUS_ONE), Ok(MINUS_ONE), Ok(MINUS_ONE)],
-    ),
-    (INT_MIN, 31, [Err(Overflow), Ok(MINUS_ONE), Ok(0), Ok(1)]),
+    (1, 31, [OVER, Ok(0), Ok(MIN), Ok(0)]),
+    (ONES, 0, [OVER, Ok(ONES), Ok(ONES), Ok(ONES)]),
+    (MIN, 31, [OVER, Ok(ONES), Ok(0), Ok(1)]),
     (1, 32, BAD),
-    (MINUS_ONE, 32, BAD),
+    (ONES, 32, BAD),
     (1, 33, BAD),
-    (INT_MIN, MINUS_ONE, BAD),
+    (MIN, ONES, BAD),
 ];
 
 // the two registers, and ADD, SUB, SLT, SLTU
 const MACHINE_SUMS: [(u32, u32, [u32; 4]); 4] = [
-    (MINUS_ONE, 1, [0, 0xFFFF_FFFE, 1, 0]),
-    (0, MINUS_ONE, [MINUS_ONE, 1, 0, 1]),
-    (INT_MIN, INT_MAX, [MINUS_ONE, 1, 1, 0]),
+    (ONES, 1, [0, 0xFFFF_FFFE, 1, 0]),
+    (0, ONES, [ONES, 1, 0, 1]),
+    (MIN, MAX, [ONES, 1, 1, 0]),
     (3, 3, [6, 0, 0, 0]),
 ];
 
 // the two registers, and SLL, SRL, SRA
 const MACHINE_SHIFTS: [(u32, u32, [u32; 3]); 5] = [
     (0x8000_0001, 0, [0x8000_0001, 0x8000_0001, 0x8000_0001]),
-    (0x8000_0001, 31, [INT_MIN, 1, MINUS_ONE]),
+    (0x8000_0001, 31, [MIN, 1, ONES]),
     (0x8000_0001, 32, [0x8000_0001, 0x8000_0001, 0x8000_0001]),
     (0x8000_0001, 33, [2, 0x4000_0000, 0xC000_0000]),
-    (0x8000_0001, MINUS_ONE, [INT_MIN, 1, MINUS_ONE]),
+    (0x8000_0001, ONES, [MIN, 1, ONES]),
 ];
 
 // the two registers, and MUL, MULH, MULHSU, MULHU
 const MACHINE_PRODUCTS: [(u32, u32, [u32; 4]); 5] = [
     (7, 6, [42, 0, 0, 0]),
-    (INT_MIN, INT_MIN, [0, 0x4000_0000, 0xC000_0000, 0x4000_0000]),
-    (MINUS_ONE, MINUS_ONE, [1, 0, MINUS_ONE, 0xFFFF_FFFE]),
-    (INT_MIN, MINUS_ONE, [INT_MIN, 0, INT_MIN, INT_MAX]),
-    (MINUS_ONE, INT_MIN, [INT_MIN, 0, MINUS_ONE, INT_MAX]),
+    (MIN, MIN, [0, 0x4000_0000, 0xC000_0000, 0x4000_0000]),
+    (ONES, ONES, [1, 0, ONES, 0xFFFF_FFFE]),
+    (MIN, ONES, [MIN, 0, MIN, MAX]),
+    (ONES, MIN, [MIN, 0, ONES, MAX]),
 ];
 
 // the two registers, and DIV, REM, DIVU, REMU
 const MACHINE_QUOTIENTS: [(u32, u32, [u32; 4]); 4] = [
-    (0xFFFF_FFF9, 2, [0xFFFF_FFFD, MINUS_ONE, 0x7FFF_FFFC, 1]),
+    (0xFFFF_FFF9, 2, [0xFFFF_FFFD, ONES, 0x7FFF_FFFC, 1]),
     (7, 0xFFFF_FFFE, [0xFFFF_FFFD, 1, 0, 7]),
-    (5, 0, [MINUS_ONE, 5, MINUS_ONE, 5]),
-    (INT_MIN, MINUS_ONE, [INT_MIN, 0, 0, INT_MIN]),
+    (5, 0, [ONES, 5, ONES, 5]),
+    (MIN, ONES, [MIN, 0, 0, MIN]),
 ];
 
 #[test]
@@ -113,7 +97,7 @@ fn c_operators(rt: HostRuntime) {
         assert_eq!(rt; got, want);
     }
     assert_eq!(rt; neg_signed(5), Ok(0xFFFF_FFFB));
-    assert_eq!(rt; neg_signed(INT_MIN), Err(Overflow));
+    assert_eq!(rt; neg_signed(MIN), OVER);
 }
 
 #[test]
