@@ -444,7 +444,7 @@ int main(void) { return 0; }
 ];
 
 // Each stands behind a compartment line, and before `main`.
-const IN_A_SECTION: [Row; 60] = [
+const IN_A_SECTION: [Row; 54] = [
     // The environment offers `input` and `output`.
     b"#pragma import Env input
 #pragma import Env output
@@ -519,22 +519,16 @@ int g(void) { return 0; }
     // All prototypes and the definition of one function agree.
     b"int f(int a);\nint f(int);\nint f(int b) { return b; }\nsigned f(signed int c);\n",
     b"unsigned f(unsigned a, int *b);\nunsigned int f(unsigned int, signed *);\n",
-    b"int f(int a);\n@int f(unsigned int a);\n",
-    b"int f(int a);\n@int f(void);\n",
-    b"int f(void);\n@int f(int a);\n",
-    b"int f(int a, int b);\n@int f(int a);\n",
-    b"int f(int a, int *b);\n@int f(int *a, int b);\n",
-    b"int f(void);\n@void f(void);\n",
-    b"int f(void);\n@unsigned int f(void);\n",
-    b"int f(void);\n@int *f(void);\n",
-    b"int *f(int *a);\n@int *f(int **a);\n",
-    b"struct S { int a; }; struct T { int a; };\nvoid f(struct S *s);\n@void f(struct T *s);\n",
-    b"struct S { int a; }; struct T { int a; };\nstruct S f(struct T t);\n@struct T f(struct T t);\n",
-    b"int f(int a);\n\n@int f(void) { return 0; }\n",
-    b"int f(void) { return 0; }\n@int f(int a);\n",
-    b"int f(int a);\nint f(int a);\n@int f(void);\nint f(int a) { return a; }\n",
-    b"int f(int a);\n@int f(void);\nint f(int a) { return a; }\n",
-    b"int f(int a);\nint g(void);\n@int g(int a);\nint f(void);\n",
+    b"int f(int a); `int` f(unsigned int a); @@ int f(int a); `int` f(void); @@ int f(void); `int` f(int a);",
+    b"int f(int a, int b); `int` f(int a); @@ int f(int a, int *b); `int` f(int *a, int b);",
+    b"int f(void); `void` f(void); @@ int f(void); `unsigned` int f(void); @@ int f(void); `int` *f(void);",
+    b"int *f(int *a); `int` *f(int **a);",
+    b"struct S { int a; }; struct T { int a; }; void f(struct S *s); `void` f(struct T *s);",
+    b"struct S { int a; }; struct T { int a; }; struct S f(struct T t); `struct` T f(struct T t);",
+    b"int f(int a); `int` f(void) { return 0; } @@ int f(void) { return 0; } `int` f(int a);",
+    b"int f(int a); int f(int a); `int` f(void); int f(int a) { return a; }",
+    b"int f(int a); `int` f(void); int f(int a) { return a; }",
+    b"int f(int a); int g(void); `int` g(int a); int f(void);",
     // Exported functions take and give integers alone.
     b"#pragma export f
 #pragma export g

@@ -100,34 +100,29 @@ const MOVES: [Row; 31] = [
 ];
 
 // Each stands behind a compartment line, and before `main`.
-const DECLARED: [Row; 54] = [
+const DECLARED: [Row; 43] = [
     // A global begins with an integer if it is one.
     b"int x = 5, y = -5, z = 4294967295u, w = 0xffffffff; unsigned int u = -1, v = 1;\n",
     b"@int x = { 1 }; @@int x = { 0 };",
     // A pointer begins with a literal of value 0.
     b"int *p = 0, **q = 0u, *r = 0x0; struct S { int a; }; struct S *s = 00;\n",
     b"@int *p = 1; @@int *p = -0; @@int *p = { 0 };",
-    b"int x;\n@int y,\n  *p = 1;\n",
-    b"@int x = 1, *p = 0, *q = 2;\n",
+    b"int x; `int` y, *p = 1; @@ `int` x = 1, *p = 0, *q = 2;",
     // An array of integers begins with a list no longer than itself.
     b"int a[3] = { 1, -2, 3 }, b[3] = { 1 }, c[2] = { 1, 2, }; unsigned int d[1] = { -1 };\n",
     b"@int a[2] = { 1, 2, 3 }; @@int a[1] = { 0, 0, }; @@int a[1] = 1; @@int a[2] = 0; @@int *a[2] = { 0, 0 };",
     b"@int *a[1] = { 0 }; @@int *a[1] = 0;",
     // Structs have no initialiser.
-    b"struct S { int a; };\n@struct S s = { 1 };\n",
-    b"struct S { int a; };\n@struct S s = 0;\n",
-    b"struct S { int a; };\n@struct S s[1] = { 0 };\n",
+    b"struct S { int a; }; `struct` S s = { 1 }; @@ struct S { int a; }; `struct` S s = 0;",
+    b"struct S { int a; }; `struct` S s[1] = { 0 };",
     // `return` has a value exactly in a function with a result.
     b"void f(void) { return; }
 void g(int a) { if (a) { return; } }
 int h(void) { }
 int *i(int a) { while (a) { return 0; } }
 ",
-    b"int f(void) {\n@  return;\n}\n",
-    b"void f(void) {\n@  return 1;\n}\n",
-    b"void f(void) {\n@  return 0;\n}\n",
-    b"int *f(int a) {\n  if (a) {\n    return 0;\n  }\n@  return;\n}\n",
-    b"struct S { int a; };\nstruct S f(void) {\n@  return;\n}\n",
+    b"int f(void) { `return`; } @@ void f(void) { `return` 1; } @@ void f(void) { `return` 0; }",
+    b"int *f(int a) { if (a) { return 0; } `return`; } @@ struct S { int a; }; struct S f(void) { `return`; }",
     // The value goes into the result.
     b"int f(unsigned int a) { return a; }
 unsigned int g(void) { return -1; }
@@ -135,36 +130,31 @@ int *h(int a) { return &a; }
 int *i(void) { return 0; }
 int *j(void) { int a[2]; return a; }
 ",
-    b"int *f(void) {\n@  return 1;\n}\n",
-    b"int *f(void) {\n@  return -0;\n}\n",
-    b"int f(int *p) {\n@  return p;\n}\n",
-    b"int *f(int a) {\n@  return a;\n}\n",
-    b"int *f(unsigned int *p) {\n@  return p;\n}\n",
-    b"int *f(int **p) {\n@  return p;\n}\n",
-    b"struct S { int a; };\nstruct S f(struct S s) {\n@  return s;\n}\n",
-    b"struct S { int a; };\nstruct S f(void) {\n@  return 0;\n}\n",
+    b"int *f(void) { `return` 1; } @@ int *f(void) { `return` -0; } @@ int f(int *p) { `return` p; }",
+    b"int *f(int a) { `return` a; } @@ int *f(unsigned int *p) { `return` p; } @@ int *f(int **p) { `return` p; }",
+    b"struct S { int a; }; struct S f(struct S s) { `return` s; }",
+    b"struct S { int a; }; struct S f(void) { `return` 0; }",
     // Behind `return` a called function has a result, which goes into this one.
     b"int f(void) { return g(1); }\nunsigned int g(int a) { return f(); }\nint *h(void) { return h(); }\n",
-    b"void f(void) {\n@  return f();\n}\n",
-    b"void g(void) { }\nint f(void) {\n@  return g();\n}\n",
-    b"int g(void) { return 1; }\nvoid f(void) {\n@  return g();\n}\n",
-    b"int *g(void) { return 0; }\nint f(void) {\n@  return g();\n}\n",
-    b"int g(void) { return 0; }\nint *f(void) {\n@  return g();\n}\n",
-    b"int g(int a) { return 0; }\nint f(void) {\n@  return g();\n}\n",
-    b"struct S { int a; };\nstruct S f(void) {\n@  return f();\n}\n",
+    b"void f(void) { `return` f(); } @@ void g(void) { } int f(void) { `return` g(); }",
+    b"int g(void) { return 1; } void f(void) { `return` g(); }",
+    b"int *g(void) { return 0; } int f(void) { `return` g(); }",
+    b"int g(void) { return 0; } int *f(void) { `return` g(); }",
+    b"int g(int a) { return 0; } int f(void) { `return` g(); }",
+    b"struct S { int a; }; struct S f(void) { `return` f(); }",
     // Structs may be parameters and results, but no call passes one.
     b"struct S { int a; };
 int f(struct S s) { return s.a; }
 struct S g(struct S *s) { s->a = 1; }
 void h(struct S *s) { g(s); }
 ",
-    b"struct S { int a; };\nint f(struct S s) { return s.a; }\nint g(void) {\n  struct S s;\n@  return f(s);\n}\n",
-    b"struct S { int a; };\nint f(struct S s) {\n@  f(s);\n  return 0;\n}\n",
-    b"struct S { int a; };\nint f(struct S s) {\n@  return f(0);\n}\n",
+    b"struct S { int a; }; int f(struct S s) { return s.a; } int g(void) { struct S s; `return` f(s); }",
+    b"struct S { int a; }; int f(struct S s) { `f`(s); return 0; }",
+    b"struct S { int a; }; int f(struct S s) { `return` f(0); }",
     // A call is typed by the definition of the function in its section, also where that stands later.
     b"int f(void) {\n  return g(1);\n}\nint g(int a) { return a; }\n",
-    b"int f(void) {\n@  return g();\n}\nint g(int a) { return a; }\n",
-    b"int g(int a);\nint f(void) {\n@  return g(1);\n}\nint g(void) { return 1; }\n",
+    b"int f(void) { `return` g(); } int g(int a) { return a; }",
+    b"int g(int a); int f(void) { `return` g(1); } int g(void) { return 1; }",
     // A call of an import is typed by its first prototype there; without one it has no type.
     b"#pragma import Env output
 int f(void) {
@@ -200,16 +190,15 @@ void output(int v);
 int input(void);
 ",
     // The line is that of the innermost statement, or of the local.
-    b"int f(int a) {\n  int *p;\n  while (a) {\n    if (a) {\n@      p\n        = 1;\n    }\n  }\n  return 0;\n}\n",
-    b"int f(int a) {\n@  int b,\n    *p = a;\n  return 0;\n}\n",
-    b"int f(int a) {\n  int *p;\n  for (a = 0;\n    a < 3;\n@    p = a) {\n  }\n  return 0;\n}\n",
-    b"int f(int a) {\n  int *p;\n@  for (a = 0;\n    p < a;\n    a++) {\n  }\n  return 0;\n}\n",
+    b"int f(int a) { int *p; while (a) { if (a) { `p` = 1; } } return 0; }",
+    b"int f(int a) { `int` b, *p = a; return 0; }",
+    b"int f(int a) { int *p; for (a = 0; a < 3; `p` = a) { } return 0; }",
+    b"int f(int a) { int *p; `for`(a = 0; p < a; a++) { } return 0; }",
     b"int f(int a) {\n  int *p;\n  if (a) {\n@  } else if\n    (p < a) {\n    p = a;\n  }\n  return 0;\n}\n",
     // The least line at which a rule is broken.
-    b"int f(int a) {\n  while (a) {\n@    return;\n  }\n}\nint *p = 1;\n",
-    b"@int *p = 1;\nint f(int a) {\n  return;\n}\nint x = { 1 };\n",
+    b"int f(int a) { while (a) { `return`; } } int *p = 1; @@ `int` *p = 1; int f(int a) { return; } int x = { 1 };",
     // Also in functions that nobody calls.
-    b"int x;\nint f(void) {\n@  int *p = x;\n  return 0;\n}\n",
+    b"int x; int f(void) { `int` *p = x; return 0; }",
 ];
 
 // Each text is whole.
