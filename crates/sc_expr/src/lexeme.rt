@@ -1,4 +1,4 @@
-ghost use Rattle.sc_expr.specs.Prelude.{Agrees, AreSpans, behind, is_mark, lexeme_of};
+ghost use Rattle.sc_expr.specs.Prelude.{Agrees, AreSpans, behind, is_mark, lexeme_of, name_by};
 ghost use Rattle.std.specs.Prelude.{◌≡◌, ◌+◌, ◌++◌, [], ◌∷◌, length, map, IfOk, OnOk};
 ghost use Rattle.sc_expr.specs.declared.fault.SyntaxFault.TheVariants.{Refused};
 
@@ -58,12 +58,23 @@ pub fn refused_before(lexemes: &[Lexeme]) -> SyntaxFault
     }
 }
 
-fn is_mark(symbol: &Symbol, mark: Mark) -> bool
+/// Whether a symbol is this mark.
+pub fn is_mark(mark: Mark, symbol: &Symbol) -> bool
     ensures { result ≡ is_mark mark symbol.now }
 {
     match symbol {
         Symbol::Mark(other) => *other == mark,
         _ => false,
+    }
+}
+
+/// The identifier that a symbol is.
+pub fn name_by(symbol: &Symbol) -> Option<Ident>
+    ensures { result ≡ name_by symbol.now }
+{
+    match symbol {
+        Symbol::Ident(name) => Some(*name),
+        _ => None,
     }
 }
 
@@ -74,7 +85,7 @@ pub fn expect(mark: Mark, lexemes: &[Lexeme]) -> Result<&[Lexeme], SyntaxFault>
     let [first, rest @ ..] = lexemes else {
         return Err(refused(lexemes));
     };
-    if is_mark(&first.symbol, mark) {
+    if is_mark(mark, &first.symbol) {
         Ok(rest)
     } else {
         Err(refused(lexemes))

@@ -12,7 +12,9 @@ mod parser;
 mod reading;
 
 pub use fault::SyntaxFault;
-pub use lexeme::{Lexeme, Lexemes, Symbol, expect, lexemes, refused, refused_before};
+pub use lexeme::{
+    Lexeme, Lexemes, Symbol, expect, is_mark, lexemes, name_by, refused, refused_before,
+};
 pub use mark::{Keyword, Mark};
 pub use operator::{Extension, Prefix};
 pub use parser::{Built, one_expr, one_front, parse_expr, parse_level, parse_unary};

@@ -1,7 +1,7 @@
 //! Reading an expression: an operand, then in one loop all that goes on behind it.
 
 ghost use Rattle.sc_expr.specs.Prelude.{Agrees, IsFront, Spells, extended_with, extension_by, extension_within, found};
-ghost use Rattle.sc_expr.specs.Prelude.{joined_with, lead_by, lead_of, leaf_at, leaf_of, loosest_level, name_by};
+ghost use Rattle.sc_expr.specs.Prelude.{joined_with, lead_by, lead_of, leaf_at, leaf_of, loosest_level};
 ghost use Rattle.sc_expr.specs.Prelude.{named_with, operand_with, paren_with, prefix_with, read, read_expr};
 ghost use Rattle.sc_expr.specs.Prelude.{read_nested, unary_level};
 ghost use Rattle.sc_ast.specs.Prelude.{expr_height};
@@ -14,12 +14,12 @@ ghost use Rattle.sc_expr.specs.declared.fault.SyntaxFault.TheVariants.{Refused};
 ghost use Rattle.sc_expr.specs.declared.lexeme.Lexeme.{Lexeme};
 
 use crate::fault::SyntaxFault;
-use crate::lexeme::{Lexeme, Symbol, expect, refused, refused_before};
+use crate::lexeme::{Lexeme, Symbol, expect, name_by, refused, refused_before};
 use crate::mark::Mark;
 use crate::operator::{
     Extension, Prefix, extension_level, extension_of, prefix_of, prefixed, right_level_of,
 };
-use sc_ast::{ExprTree, Ident};
+use sc_ast::ExprTree;
 use sc_base::{BinaryOp, LOOSEST, MAX_BRACKETS, MAX_HEIGHT, UNARY};
 use sqlite_items::Boxed;
 use std::alloc::Global;
@@ -116,15 +116,6 @@ fn leaf_of(symbol: &Symbol) -> Option<ExprTree>
     match symbol {
         Symbol::Integer(literal) => Some(ExprTree::Literal(*literal)),
         Symbol::Ident(name) => Some(ExprTree::Variable(*name)),
-        _ => None,
-    }
-}
-
-fn name_by(symbol: &Symbol) -> Option<Ident>
-    ensures { result ≡ name_by symbol.now }
-{
-    match symbol {
-        Symbol::Ident(name) => Some(*name),
         _ => None,
     }
 }

@@ -3,21 +3,12 @@
 //! A parser takes the lexemes that are left by `&mut`, and leaves those behind what it read.
 
 ghost use Rattle.sc_parse.specs.Prelude.{Agrees, begins_call, begins_with, behind, behind_inner_comma, ended_by};
-ghost use Rattle.sc_parse.specs.Prelude.{first_line, integer_by, is_base, is_else, is_mark, is_void, keyword_at};
-ghost use Rattle.sc_parse.specs.Prelude.{keyword_by, name_at, name_by, past_int, star_count};
+ghost use Rattle.sc_parse.specs.Prelude.{first_line, integer_by, is_base, is_else, is_void, keyword_at};
+ghost use Rattle.sc_parse.specs.Prelude.{keyword_by, name_at, past_int, star_count};
 ghost use Rattle.std.specs.Prelude.{◌≡◌, ◌≤◌, length, drop, IsSome, true, false, Some, None};
 
 use sc_ast::{Ident, Literal};
-use sc_expr::{Keyword, Lexeme, Mark, Symbol, SyntaxFault, expect, refused};
-
-fn is_mark(mark: Mark, symbol: &Symbol) -> bool
-    ensures { result ≡ is_mark mark symbol.now }
-{
-    match symbol {
-        Symbol::Mark(other) => *other == mark,
-        _ => false,
-    }
-}
+use sc_expr::{Keyword, Lexeme, Mark, Symbol, SyntaxFault, expect, is_mark, name_by, refused};
 
 /// Whether a mark stands at the front.
 pub fn begins_with(mark: Mark, rest: &[Lexeme]) -> bool
@@ -163,16 +154,6 @@ pub fn integer_by(symbol: &Symbol) -> Option<Literal>
 {
     match symbol {
         Symbol::Integer(literal) => Some(*literal),
-        _ => None,
-    }
-}
-
-/// The identifier that a symbol is.
-pub fn name_by(symbol: &Symbol) -> Option<Ident>
-    ensures { result ≡ name_by symbol.now }
-{
-    match symbol {
-        Symbol::Ident(name) => Some(*name),
         _ => None,
     }
 }

@@ -6,12 +6,11 @@ ghost use Rattle.sc_parse.specs.Prelude.{star_count};
 ghost use Rattle.std.specs.Prelude.{◌≡◌, ℕ, ◌+◌, List, [], length, drop, true, false, None, Some};
 
 use crate::front::{
-    begins_call, first_line, is_void, keyword_at, name_at, name_by, past, past_int, skip,
-    star_count, take,
+    begins_call, first_line, is_void, keyword_at, name_at, past, past_int, skip, star_count, take,
 };
 use crate::types::type_name_at;
 use sc_ast::{HeadTree, Ident, ParamTree, ParamTrees, TypeName};
-use sc_expr::{Keyword, Lexeme, Mark, SyntaxFault, refused};
+use sc_expr::{Keyword, Lexeme, Mark, SyntaxFault, name_by, refused};
 use sqlite_items::Items;
 use std::alloc::Global;
 

@@ -7,14 +7,14 @@ ghost use Rattle.sc_parse.specs.Prelude.{names_struct, section_at, struct_decl_a
 ghost use Rattle.std.specs.Prelude.{◌≡◌, ◌≤◌, ◌+◌, ◌-◌, ℕ, List, [], length, drop, true, false, IsSome, IfOk};
 ghost use Rattle.sc_expr.specs.declared.lexeme.Lexeme.{Lexeme};
 
-use crate::front::{begins_with, keyword_at, name_by, past};
+use crate::front::{begins_with, keyword_at, past};
 use crate::functions::headed_at;
 use crate::globals::globals_at;
 use crate::heads::begins_head;
 use crate::members::struct_at;
 use sc_ast::{Decl, Decls, ExportLine, ExportLines, ImportLine, ImportLines, SectionTree};
 use sc_base::Name;
-use sc_expr::{Keyword, Lexeme, Mark, Symbol, SyntaxFault, refused};
+use sc_expr::{Keyword, Lexeme, Mark, Symbol, SyntaxFault, name_by, refused};
 use sqlite_items::Items;
 use std::alloc::{AllocError, Global};
 
