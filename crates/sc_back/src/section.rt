@@ -3,7 +3,6 @@
 ghost use Rattle.sc_back.specs.Prelude.{HasNext, back_text, declarations_text, directives_text, export_text};
 ghost use Rattle.sc_back.specs.Prelude.{functions_text, import_line, import_text, main_text, proto_line, proto_text};
 ghost use Rattle.sc_back.specs.Prelude.{section_text};
-ghost use Rattle.sc_event.specs.Prelude.{comp_name};
 ghost use Rattle.std.specs.Prelude.{◌≡◌, ◌≤◌, ◌++◌, All, codes, flat_map, length, IfOk, OnOk};
 ghost use Rattle.std.specs.Option.{option_copied, option_map_or};
 ghost use Rattle.sc_event.specs.declared.interface.Import.TheVariants.{Function};
@@ -31,16 +30,6 @@ fn append_exports(text: &mut Text, exports: &[Proto]) -> Result<(), OutOfMemory>
     Ok(())
 }
 
-// The name of a compartment, empty where there is none of this number.
-fn comp_name(interfaces: &Interfaces, comp: CompId) -> &[u8]
-    ensures { result.now ≡ comp_name interfaces.now comp }
-{
-    match interfaces.comp(comp) {
-        None => &[],
-        Some(found) => found.name.as_bytes(),
-    }
-}
-
 fn append_import_line(text: &mut Text, owner: &[u8], name: &[u8]) -> Result<(), OutOfMemory>
     ensures { OnOk result (text.new ≡ text.old ++ import_line owner.now name.now) }
 {
@@ -63,7 +52,7 @@ fn append_import(
         Import::Output => append_import_line(text, b"Env", b"output"),
         Import::Function { comp, index } => match interfaces.export(comp, index) {
             None => text.append(b""),
-            Some(f) => append_import_line(text, comp_name(interfaces, comp), f.name.as_bytes()),
+            Some(f) => append_import_line(text, interfaces.comp_name(comp), f.name.as_bytes()),
         },
     }
 }

@@ -1,5 +1,5 @@
-ghost use Rattle.sc_event.specs.Prelude.{comp_at, export_at, fits_result, imports, imports_of, is_function, is_input};
-ghost use Rattle.sc_event.specs.Prelude.{is_output, may_return, takes};
+ghost use Rattle.sc_event.specs.Prelude.{comp_at, comp_name, export_at, fits_result, imports, imports_of, is_function};
+ghost use Rattle.sc_event.specs.Prelude.{is_input, is_output, may_return, takes};
 ghost use Rattle.std.specs.Prelude.{◌≡◌};
 ghost use Rattle.sc_event.specs.declared.row.Entry.TheVariants.{Export};
 ghost use Rattle.std.specs.Option.{option_copied};
@@ -64,6 +64,16 @@ impl Interfaces {
         ensures { option_copied result ≡ comp_at self.now comp }
     {
         self.comps.get(comp.number() as usize)
+    }
+
+    /// The name of a compartment, empty where there is none of this number.
+    pub fn comp_name(&self, comp: CompId) -> &[u8]
+        ensures { result.now ≡ comp_name self.now comp }
+    {
+        match self.comp(comp) {
+            None => &[],
+            Some(found) => found.name.as_bytes(),
+        }
     }
 
     /// The export of a compartment at this place.

@@ -2,7 +2,6 @@ ghost use Rattle.sc_event.specs.Prelude.{IsKnown};
 ghost use Rattle.std.specs.Prelude.{◌≡◌, ◌++◌, All, IfOk, OnOk, codes, flat_map, length};
 ghost use Rattle.sc_report.specs.Report.{cause_at_line, chain_text, explain_text, link_end, link_line, number_end};
 
-use crate::names::comp_name;
 use crate::run::{append_count, append_number, cause_word, run_text};
 use itoa::Buffer;
 use sc_base::{OutOfMemory, Text};
@@ -50,7 +49,7 @@ fn append_link(text: &mut Text, interfaces: &Interfaces, link: &Link) -> Result<
     ensures { OnOk result (text.new ≡ text.old ++ link_line interfaces.now link.now) }
 {
     text.append(b"replace ")?;
-    text.append(comp_name(interfaces, link.comp))?;
+    text.append(interfaces.comp_name(link.comp))?;
     append_link_end(text, link)
 }
 

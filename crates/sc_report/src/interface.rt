@@ -4,7 +4,6 @@ ghost use Rattle.sc_event.specs.declared.interface.Import.TheVariants.{Function}
 ghost use Rattle.sc_report.specs.Check.{scalar_word, result_word, params_end, types_end, function_end, export_line};
 ghost use Rattle.sc_report.specs.Check.{function_line, import_line, comp_line, interface_text, main_line, check_text};
 
-use crate::names::comp_name;
 use sc_base::{OutOfMemory, Text};
 use sc_event::{CompId, Import, Interface, Interfaces, Proto, Scalar};
 use std::alloc::Global;
@@ -18,7 +17,7 @@ pub fn check_text(alloc: Global, interfaces: &Interfaces) -> Result<Text, OutOfM
     for comp in interfaces.comps.as_slice() {
         append_interface(&mut text, interfaces, comp)?;
     }
-    append_main(&mut text, comp_name(interfaces, interfaces.main))?;
+    append_main(&mut text, interfaces.comp_name(interfaces.main))?;
     Ok(text)
 }
 
@@ -103,7 +102,7 @@ fn append_imported(
 {
     match interfaces.export(comp, index) {
         None => text.append(b""),
-        Some(export) => append_function_of(text, comp_name(interfaces, comp), export),
+        Some(export) => append_function_of(text, interfaces.comp_name(comp), export),
     }
 }
 

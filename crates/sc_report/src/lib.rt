@@ -4,7 +4,6 @@
 mod chain;
 mod interface;
 mod make;
-mod names;
 mod run;
 mod summary;
 

@@ -4,7 +4,6 @@ ghost use Rattle.sc_base.specs.declared.stop.Stop.TheVariants.{Trap};
 ghost use Rattle.sc_report.specs.Report.{events_text, cause_word, number_end, cause_end, blame_line, end_line};
 ghost use Rattle.sc_report.specs.Report.{meaning_text, reason_word, address_end, stop_line, run_text};
 
-use crate::names::comp_name;
 use itoa::Buffer;
 use sc_base::{OutOfMemory, Stop, Text, TrapReason};
 use sc_core::{Cause, RunEnd, SourceRun};
@@ -61,7 +60,7 @@ fn append_end(text: &mut Text, interfaces: &Interfaces, end: RunEnd) -> Result<(
     match end {
         RunEnd::Ended => text.append(b"stop ended\n"),
         RunEnd::Blamed { comp, cause, line } => {
-            append_blame(text, comp_name(interfaces, comp), cause, line)
+            append_blame(text, interfaces.comp_name(comp), cause, line)
         }
         RunEnd::TurnsOut => text.append(b"stop turns\n"),
         RunEnd::EventsOut => text.append(b"stop events\n"),
