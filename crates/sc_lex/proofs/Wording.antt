@@ -135,6 +135,8 @@ front_byte text front i h k = sym (get_or-take _ text i 0 k) ∙ ap (λ t. get_o
 pub heading_fits : (text : List ℕ) → begins_heading text ≡ true → 20 ≤ length text
 heading_fits text h = (begins_with text (codes "#pragma compartment ") h).fits
 
+pub ruleset heading = (heading_fits, take_rest)
+
 -- the words behind the first one
 pub word-next : (line rest word : List ℕ) (k : ℕ) → words rest ≡ drop 1 (words line) → word ≡ get_or (words rest) k [] →
     word ≡ get_or (words line) (k + 1) []

@@ -62,7 +62,7 @@ fn blank_stands_at(line: &[u8], at: usize) -> bool
 }
 
 /// The name that a compartment line gives, `None` where the line is bad.
-#[tactic(auto, using(crate::proofs::Wording::heading_fits, std::proofs::lemmas::List::take_rest), unfolding(crate::specs::Headings::heading_name))]
+#[tactic(auto, using(crate::proofs::Wording::heading), unfolding(crate::specs::Headings::heading_name))]
 pub fn heading_name(line: &[u8]) -> Option<Name>
     ensures { result ≡ heading_name line.now }
 {
