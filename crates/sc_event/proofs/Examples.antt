@@ -1,6 +1,7 @@
 -- Traces that are legal and traces that are not, and what one compartment does in a trace that comes back to it.
 use Rattle.sc_event.proofs.Common.{Call, End, Event, In, Interfaces, List, None, Out, Ret, Some, [], codes, count_of}
 use Rattle.sc_event.proofs.Common.{event_line, false, legal, part, refl, true, ℕ, ◌++◌, ◌∷◌, ◌≡◌}
+use Rattle.std.proofs.Common.{map, replicate}
 use Rattle.std.specs.Fmt.{digits}
 use Rattle.sc_event.specs.declared.interface.Import.TheVariants.{Output, Function}
 use Rattle.sc_event.specs.declared.interface.Proto.{Proto}
@@ -35,57 +36,36 @@ calls = Call 0 1 0 (2 ∷ []) ∷ Call 1 2 0 (5 ∷ []) ∷ Call 2 1 1 (6 ∷ []
 abbrev ends : List Event
 ends = Ret 1 2 (Some 11) ∷ Ret 2 1 (Some 11) ∷ Ret 1 0 (Some 22) ∷ Out 0 22 ∷ End 0 0 ∷ []
 
-comes_back : legal three (calls ++ ends) ≡ true
-comes_back = refl
+abbrev legal_traces : List (List Event)
+legal_traces =
+    (calls ++ ends) ∷  -- comes back
+    [] ∷  -- nothing yet
+    (Call 0 1 0 (2 ∷ []) ∷ Call 1 2 0 (5 ∷ []) ∷ Call 2 1 2 [] ∷ Ret 1 2 None ∷ []) ∷  -- without value
+    []
 
-nothing_yet : legal three [] ≡ true
-nothing_yet = refl
+all_legal : map (legal three) legal_traces ≡ replicate 3 true
+all_legal = refl
 
-without_value : legal three (Call 0 1 0 (2 ∷ []) ∷ Call 1 2 0 (5 ∷ []) ∷ Call 2 1 2 [] ∷ Ret 1 2 None ∷ []) ≡ true
-without_value = refl
+abbrev other_traces : List (List Event)
+other_traces =
+    (Call 1 2 0 (5 ∷ []) ∷ []) ∷  -- begins elsewhere
+    (Call 0 1 0 (2 ∷ []) ∷ Out 0 7 ∷ []) ∷  -- not the active one
+    (Call 0 7 0 [] ∷ []) ∷  -- no such compartment
+    (Call 0 1 1 (2 ∷ []) ∷ []) ∷  -- call not imported
+    (Call 0 1 0 (2 ∷ []) ∷ Out 1 7 ∷ []) ∷  -- output not imported
+    (In 0 7 ∷ []) ∷  -- input not imported
+    (Call 0 1 0 (2 ∷ 3 ∷ []) ∷ []) ∷  -- too many arguments
+    (Call 0 1 0 [] ∷ []) ∷  -- too few arguments
+    (calls ++ Ret 1 2 None ∷ []) ∷  -- result missing
+    (Call 0 1 0 (2 ∷ []) ∷ Call 1 2 0 (5 ∷ []) ∷ Call 2 1 2 [] ∷ Ret 1 2 (Some 1) ∷ []) ∷  -- result not promised
+    (calls ++ Ret 1 0 (Some 11) ∷ []) ∷  -- returns past its caller
+    (Ret 0 1 (Some 0) ∷ []) ∷  -- main returns to nobody
+    (calls ++ End 1 0 ∷ []) ∷  -- ends in a call
+    (calls ++ (ends ++ Out 0 1 ∷ [])) ∷  -- goes on after the end
+    []
 
-begins_elsewhere : legal three (Call 1 2 0 (5 ∷ []) ∷ []) ≡ false
-begins_elsewhere = refl
-
-not_the_active_one : legal three (Call 0 1 0 (2 ∷ []) ∷ Out 0 7 ∷ []) ≡ false
-not_the_active_one = refl
-
-no_such_compartment : legal three (Call 0 7 0 [] ∷ []) ≡ false
-no_such_compartment = refl
-
-call_not_imported : legal three (Call 0 1 1 (2 ∷ []) ∷ []) ≡ false
-call_not_imported = refl
-
-output_not_imported : legal three (Call 0 1 0 (2 ∷ []) ∷ Out 1 7 ∷ []) ≡ false
-output_not_imported = refl
-
-input_not_imported : legal three (In 0 7 ∷ []) ≡ false
-input_not_imported = refl
-
-too_many_arguments : legal three (Call 0 1 0 (2 ∷ 3 ∷ []) ∷ []) ≡ false
-too_many_arguments = refl
-
-too_few_arguments : legal three (Call 0 1 0 [] ∷ []) ≡ false
-too_few_arguments = refl
-
-result_missing : legal three (calls ++ Ret 1 2 None ∷ []) ≡ false
-result_missing = refl
-
-result_not_promised : legal three (Call 0 1 0 (2 ∷ []) ∷ Call 1 2 0 (5 ∷ []) ∷ Call 2 1 2 [] ∷ Ret 1 2 (Some 1) ∷ []) ≡
-    false
-result_not_promised = refl
-
-returns_past_its_caller : legal three (calls ++ Ret 1 0 (Some 11) ∷ []) ≡ false
-returns_past_its_caller = refl
-
-main_returns_to_nobody : legal three (Ret 0 1 (Some 0) ∷ []) ≡ false
-main_returns_to_nobody = refl
-
-ends_in_a_call : legal three (calls ++ End 1 0 ∷ []) ≡ false
-ends_in_a_call = refl
-
-goes_on_after_the_end : legal three (calls ++ (ends ++ Out 0 1 ∷ [])) ≡ false
-goes_on_after_the_end = refl
+none_legal : map (legal three) other_traces ≡ replicate 14 false
+none_legal = refl
 
 part_of_a : part 0 1 (calls ++ ends) ≡
     record { entry = Export 0; number = 0; action = actions.Call 2 0 (5 ∷ []) } ∷
@@ -102,17 +82,9 @@ part_of_main = refl
 events_of_a : count_of 1 (calls ++ ends) ≡ 3
 events_of_a = refl
 
-line_of_a_call : event_line three (Call 2 1 1 (4294967295 ∷ 6 ∷ [])) ≡ codes "call B A h -1 6\n"
+lines_of_events : (event_line three (Call 2 1 1 (4294967295 ∷ 6 ∷ [])) ≡ codes "call B A h -1 6\n") ×
+    (event_line three (Ret 1 2 (Some 11)) ≡ codes "ret A B 11\n") ×
+    (event_line three (Ret 1 2 None) ≡ codes "ret A B\n") ×
+    (event_line three (Out 0 2147483648) ≡ codes "out Main -2147483648\n")
 unfolding digits
-line_of_a_call = refl
-
-line_of_a_return : event_line three (Ret 1 2 (Some 11)) ≡ codes "ret A B 11\n"
-unfolding digits
-line_of_a_return = refl
-
-line_of_a_return_alone : event_line three (Ret 1 2 None) ≡ codes "ret A B\n"
-line_of_a_return_alone = refl
-
-line_of_an_output : event_line three (Out 0 2147483648) ≡ codes "out Main -2147483648\n"
-unfolding digits
-line_of_an_output = refl
+lines_of_events = (refl, refl, refl, refl)
