@@ -1,16 +1,16 @@
 -- Words that stand apart from the text behind them.
-use Rattle.sc_print.proofs.Common.{BinaryOp, Bool, IsToken, Keyword, List, Some, TokenKind, [], and_from, and_parts, ap}
-use Rattle.sc_print.proofs.Common.{arith, begins_block_comment, begins_line_comment, binary_text, codes, drop, eq-eqb}
-use Rattle.sc_print.proofs.Common.{false, false≢true, is_mark, is_name_byte, is_reserved, le-leb, length, length-append}
-use Rattle.sc_print.proofs.Common.{list_all, mark_one, mark_two, marks, nat_le, prefix_len, refl, slice_index, sym}
-use Rattle.sc_print.proofs.Common.{take, take-append_seam, true, word_found, word_kind, word_run, ℕ, ◌&&◌, ◌++◌, ◌<◌}
-use Rattle.sc_print.proofs.Common.{◌==◌, ◌||◌, ◌∙◌, ◌∷◌, ◌≡◌}
+use Rattle.sc_print.proofs.Common.{BinaryOp, Bool, IsToken, Keyword, List, Mark, Some, TokenKind, [], and_from}
+use Rattle.sc_print.proofs.Common.{and_parts, ap, arith, begins_block_comment, begins_line_comment, binary_text, codes}
+use Rattle.sc_print.proofs.Common.{drop, eq-eqb, false, false≢true, is_mark, is_name_byte, is_reserved, le-leb, length}
+use Rattle.sc_print.proofs.Common.{length-append, list_all, mark_one, mark_two, marks, nat_le, prefix_len, refl}
+use Rattle.sc_print.proofs.Common.{slice_index, sym, take, take-append_seam, true, word_found, word_kind, word_run, ℕ}
+use Rattle.sc_print.proofs.Common.{◌&&◌, ◌++◌, ◌<◌, ◌==◌, ◌||◌, ◌∙◌, ◌∷◌, ◌≡◌}
 use Rattle.std.proofs.Math.Bool.{and-false}
 use Rattle.sc_lex.specs.declared.token.TokenKind.TheVariants as kind
 use Rattle.sc_base.specs.declared.op.BinaryOp.TheVariants as binary
 use Rattle.sc_print.proofs.Literals.{no_table}
 use Rattle.sc_expr.specs.declared.mark.Keyword.TheVariants as keyword
-use Rattle.sc_print.proofs.Tables.{keyword_text}
+use Rattle.sc_print.proofs.Tables.{Lone, arrow, keyword_text, plus_plus}
 
 -- The text is the token at the front, where this stands behind it.
 pub record IsWord (text rest : List ℕ) : Type 0 where
@@ -96,34 +96,12 @@ two_word c e rest is name line block comment three =
           (le-leb 2 _ (omega arith)) is) (λ b. false≢true (sym block ∙ b)) (λ b. false≢true (sym comment ∙ b)) here;
     }
 
--- brackets and what else no longer mark begins with
-pub open_paren : (rest : List ℕ) → IsWord (codes "(") rest
+-- a mark that no longer mark begins with
+pub lone_word : {text : List ℕ} {m : Mark} → Lone text m → (rest : List ℕ) → IsWord text rest
 unfolding is_mark
-open_paren rest = one_word 40 rest refl refl refl refl refl refl (λ d. refl)
-
-pub close_paren : (rest : List ℕ) → IsWord (codes ")") rest
-unfolding is_mark
-close_paren rest = one_word 41 rest refl refl refl refl refl refl (λ d. refl)
-
-pub open_square : (rest : List ℕ) → IsWord (codes "[") rest
-unfolding is_mark
-open_square rest = one_word 91 rest refl refl refl refl refl refl (λ d. refl)
-
-pub close_square : (rest : List ℕ) → IsWord (codes "]") rest
-unfolding is_mark
-close_square rest = one_word 93 rest refl refl refl refl refl refl (λ d. refl)
-
-pub dot : (rest : List ℕ) → IsWord (codes ".") rest
-unfolding is_mark
-dot rest = one_word 46 rest refl refl refl refl refl refl (λ d. refl)
-
-pub arrow : (rest : List ℕ) → IsWord (codes "->") rest
-unfolding is_mark
-arrow rest = two_word 45 62 rest refl refl refl refl refl refl
-
-pub plus_plus : (rest : List ℕ) → IsWord (codes "++") rest
-unfolding is_mark
-plus_plus rest = two_word 43 43 rest refl refl refl refl refl refl
+lone_word arrow rest = two_word 45 62 rest refl refl refl refl refl refl
+lone_word plus_plus rest = two_word 43 43 rest refl refl refl refl refl refl
+lone_word _ rest = one_word _ rest refl refl refl refl refl refl (λ d. refl)
 
 -- an operator before a blank
 pub binary_word : (op : BinaryOp) (rest : List ℕ) → IsWord (binary_text op) (32 ∷ rest)
@@ -188,22 +166,6 @@ pub prefix_word : {c : ℕ} → IsPrefix c → (rest : List ℕ) → Opens (c �
 unfolding is_mark
 prefix_word (signed plus) rest o = sign_word (signed plus) rest refl refl refl refl refl o
 prefix_word p rest o = sign_word p rest refl refl refl refl refl o
-
-pub semicolon : (rest : List ℕ) → IsWord (codes ";") rest
-unfolding is_mark
-semicolon rest = one_word 59 rest refl refl refl refl refl refl (λ d. refl)
-
-pub comma_word : (rest : List ℕ) → IsWord (codes ",") rest
-unfolding is_mark
-comma_word rest = one_word 44 rest refl refl refl refl refl refl (λ d. refl)
-
-pub open_curly : (rest : List ℕ) → IsWord (codes "{") rest
-unfolding is_mark
-open_curly rest = one_word 123 rest refl refl refl refl refl refl (λ d. refl)
-
-pub close_curly : (rest : List ℕ) → IsWord (codes "}") rest
-unfolding is_mark
-close_curly rest = one_word 125 rest refl refl refl refl refl refl (λ d. refl)
 
 pub equal_word : (rest : List ℕ) → IsWord (codes "=") (32 ∷ rest)
 unfolding is_mark

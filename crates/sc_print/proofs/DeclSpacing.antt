@@ -18,12 +18,13 @@ use Rattle.sc_ast.specs.declared.section.Decl.TheVariants as decl
 use Rattle.sc_lex.specs.declared.token.TokenKind.TheVariants as kind
 use Rattle.sc_print.proofs.Literals.{name_kind, name_some, literal_kind, literal_some}
 use Rattle.sc_print.proofs.Apart.{IsWord, Calm, Quiet, quiet, plain_word, prefix_word, signed, minus, asterisk}
-use Rattle.sc_print.proofs.Apart.{open_paren, close_paren, open_square, close_square, semicolon, open_curly}
-use Rattle.sc_print.proofs.Apart.{close_curly, equal_word, keyword_word}
-use Rattle.sc_print.proofs.Spacing.{Tidy, none, gap, next, at_level, line_end, tidy_append, Sound, word_quiet}
+use Rattle.sc_print.proofs.Apart.{equal_word, keyword_word}
+use Rattle.sc_print.proofs.Spacing.{Tidy, none, gap, next, at_level, line_end, tidy_append, Sound, word_quiet, lone}
 use Rattle.sc_print.proofs.StmtSpacing.{Free, ended_tidy, expr_tidy, joined_tidy, stmts_tidy}
 use Rattle.sc_print.proofs.Sections.{length_fits}
 use Rattle.sc_expr.specs.declared.mark.Keyword.TheVariants as keyword
+use Rattle.sc_print.proofs.Tables.{open_paren, close_paren, open_square, close_square, semicolon, open_curly}
+use Rattle.sc_print.proofs.Tables.{close_curly}
 
 name_tidy : (name : List ℕ) → IsTrue (is_ident name) → (rest : List ℕ) → Calm rest → IsWord name rest
 name_tidy name ident rest calm = plain_word name rest kind.Ident (name_some name ident) (name_kind name ident) calm
@@ -57,8 +58,8 @@ length_tidy : (name : List ℕ) (len : Option ℕ) → IsTrue (is_ident name) �
 length_tidy name None ident k rest calm = next (name_tidy name ident _ calm) none
 length_tidy name (Some elements) ident k rest calm =
     let high = leb-true elements 4294967295 (and_parts (nat_le 1 _) _ k).1 in
-    next (name_tidy name ident _ refl) (next (open_square _)
-    (next (literal_tidy _ (length_fits _ high) _ refl) (next (close_square _) none)))
+    next (name_tidy name ident _ refl) (lone open_square
+    (next (literal_tidy _ (length_fits _ high) _ refl) (lone close_square none)))
 
 declared_tidy : (ty : TypeTree) (name : List ℕ) → IsTrue (kept_type ty) → IsTrue (is_ident name) →
     Sound (declared_words ty name)
@@ -87,9 +88,9 @@ struct_tidy : (tree : StructTree) → IsTrue (kept_struct tree) → Free (struct
 struct_tidy tree k rest =
     let parts = and_parts (is_ident tree.name) (some_kept kept_member tree.members) k in
     next (keyword_word keyword.Struct _ refl) (gap (next (name_tidy tree.name parts.0 _ refl)
-    (gap (next (open_curly _) (line_end (tidy_append (flat_map member_line tree.members) (word (codes "}") ∷
+    (gap (lone open_curly (line_end (tidy_append (flat_map member_line tree.members) (word (codes "}") ∷
     word (codes ";") ∷ newline ∷ []) rest (each_tidy member_line kept_member member_tidy tree.members
-    (all_of tree.members parts.1) _) (next (close_curly _) (next (semicolon _) (line_end none)))))))))
+    (all_of tree.members parts.1) _) (lone close_curly (lone semicolon (line_end none)))))))))
   where
     all_of : (ms : List MemberTree) → IsTrue (some_kept kept_member ms) → list_all kept_member ms ≡ true
     all_of [] h = absurd (false≢true h)
@@ -109,10 +110,10 @@ init_tidy (init.One c) k rest calm = gap (next (equal_word _) (gap (const_from c
 init_tidy (init.Many []) k rest calm = absurd (false≢true k)
 init_tidy (init.Many (c ∷ cs)) k rest calm =
     let parts = and_parts (kept_const c) (list_all kept_const cs) k in
-    gap (next (equal_word _) (gap (next (open_curly _)
+    gap (next (equal_word _) (gap (lone open_curly
     (tidy_append (join_by const_words comma (c ∷ cs)) (word (codes "}") ∷ []) rest
     (joined_tidy const_words kept_const Calm (λ r. refl) (λ x. const_from x.negative x.literal) c cs parts.0 parts.1 _
-    refl) (next (close_curly _) none)))))
+    refl) (lone close_curly none)))))
 
 both_tidy : (a b : List Piece) → Sound a → Sound b → ((rest : List ℕ) → Calm rest → Calm (text_of b ++ rest)) →
     Sound (a ++ b)
@@ -197,18 +198,18 @@ head_tidy head k rest =
     let more = and_parts (is_ident head.name) (list_all kept_param head.params) parts.1 in
     tidy_append (result_words head.result) _ rest (result_tidy head.result parts.0 _
     (name_first head.name (word (codes "(") ∷ (params_words head.params ++ word (codes ")") ∷ [])) more.0 rest))
-    (next (name_tidy head.name more.0 _ refl) (next (open_paren _)
+    (next (name_tidy head.name more.0 _ refl) (lone open_paren
     (tidy_append (params_words head.params) (word (codes ")") ∷ []) rest
-    (params_tidy head.params more.1 _ refl refl) (next (close_paren _) none))))
+    (params_tidy head.params more.1 _ refl refl) (lone close_paren none))))
 
 function_tidy : (f : FunctionTree) → IsTrue (kept_function f) → Free (function_words f)
 function_tidy f k rest =
     let parts = and_parts _ _ k in
     let more = and_parts _ _ parts.1 in
     let body = tidy_append _ (word (codes "}") ∷ newline ∷ []) rest
-    (stmts_tidy f.body more.1 1 _) (next (close_curly _) (line_end none)) in
+    (stmts_tidy f.body more.1 1 _) (lone close_curly (line_end none)) in
     line_end (tidy_append (head_words (head_of f.head)) _ rest (head_tidy (head_of f.head) parts.0 _)
-    (gap (next (open_curly _) (line_end (tidy_append _ _ rest
+    (gap (lone open_curly (line_end (tidy_append _ _ rest
     (each_tidy local_line kept_local local_tidy f.locals more.0 _) body)))))
 
 pub decl_tidy : (d : Decl) → IsTrue (is_kept_decl d) → Free (decl_words d)

@@ -1,21 +1,21 @@
 -- The words of an expression stand apart.
-use Rattle.sc_print.proofs.Common.{BinaryOp, Bool, ExprTree, ExprTree-F, IsTrue, List, Piece, Printed, Some, TokenKind}
-use Rattle.sc_print.proofs.Common.{UnaryOp, Under, [], and_parts, ap, append-nil, append_assoc, arith, binary_text}
-use Rattle.sc_print.proofs.Common.{binary_words, blank, bytes_eq, codes, expr_at, expr_induction, expr_step, false}
-use Rattle.sc_print.proofs.Common.{false≢true, flat_map-append, if◌then◌else◌, in_parens, indent, is_doubled, is_ident}
-use Rattle.sc_print.proofs.Common.{is_kept, is_name_byte, kept_step, length, lt-ltb, map-ExprTree, nat_lt, ne_eqb}
-use Rattle.sc_print.proofs.Common.{newline, prefix_words, refl, slice_index, subst, sym, text_of, true, unary_text}
-use Rattle.sc_print.proofs.Common.{word, word_kind, word_run, words_at, ℕ, ◌&&◌, ◌++◌, ◌-◌, ◌<◌, ◌==◌, ◌∙◌, ◌∷◌, ◌≡◌}
-use Rattle.sc_print.proofs.Common.{◌≤◌}
+use Rattle.sc_print.proofs.Common.{BinaryOp, Bool, ExprTree, ExprTree-F, IsTrue, List, Mark, Piece, Printed, Some}
+use Rattle.sc_print.proofs.Common.{TokenKind, UnaryOp, Under, [], and_parts, ap, append-nil, append_assoc, arith}
+use Rattle.sc_print.proofs.Common.{binary_text, binary_words, blank, bytes_eq, codes, expr_at, expr_induction}
+use Rattle.sc_print.proofs.Common.{expr_step, false, false≢true, flat_map-append, if◌then◌else◌, in_parens, indent}
+use Rattle.sc_print.proofs.Common.{is_doubled, is_ident, is_kept, is_name_byte, kept_step, length, lt-ltb, map-ExprTree}
+use Rattle.sc_print.proofs.Common.{nat_lt, ne_eqb, newline, prefix_words, refl, slice_index, subst, sym, text_of, true}
+use Rattle.sc_print.proofs.Common.{unary_text, word, word_kind, word_run, words_at, ℕ, ◌&&◌, ◌++◌, ◌-◌, ◌<◌, ◌==◌, ◌∙◌}
+use Rattle.sc_print.proofs.Common.{◌∷◌, ◌≡◌, ◌≤◌}
 use Rattle.sc_base.specs.Levels as levels
 use Rattle.sc_base.specs.declared.op.UnaryOp.TheVariants as unary
 use Rattle.sc_ast.specs.declared.expr.ExprTree.TheOpen as term
 use Rattle.sc_lex.specs.declared.token.TokenKind.TheVariants as kind
-use Rattle.sc_print.proofs.Tables.{at_least_2}
+use Rattle.sc_print.proofs.Tables.{at_least_2, Lone, open_paren, close_paren, open_square, close_square, dot, arrow}
 use Rattle.sc_print.proofs.Literals.{name_kind, name_some, literal_kind, literal_some}
-use Rattle.sc_print.proofs.Apart.{IsWord, Calm, starts, plain_word, open_paren, close_paren, open_square, close_square}
-use Rattle.sc_print.proofs.Apart.{dot, arrow, binary_word, is_loud, Quiet, IsSign, plus, minus, ampersand, Opens, quiet}
-use Rattle.sc_print.proofs.Apart.{IsPrefix, signed, bang, asterisk, tilde, prefix_word, sign}
+use Rattle.sc_print.proofs.Apart.{IsWord, Calm, starts, plain_word, binary_word, is_loud, Quiet, IsSign, plus, minus}
+use Rattle.sc_print.proofs.Apart.{ampersand, Opens, quiet, IsPrefix, signed, bang, asterisk, tilde, prefix_word, sign}
+use Rattle.sc_print.proofs.Apart.{lone_word}
 
 -- Each word among the pieces is the token at its place, where this stands behind the pieces.
 pub data Tidy : List Piece → List ℕ → Type 0 where
@@ -25,6 +25,11 @@ pub data Tidy : List Piece → List ℕ → Type 0 where
   line_end : {pieces : List Piece} {rest : List ℕ} → Tidy pieces rest → Tidy (newline ∷ pieces) rest
   next : {text : List ℕ} {pieces : List Piece} {rest : List ℕ} → IsWord text (text_of pieces ++ rest) →
       Tidy pieces rest → Tidy (word text ∷ pieces) rest
+
+-- a mark that no longer mark begins with, whatever is behind it
+pub lone : {text : List ℕ} {m : Mark} {pieces : List Piece} {rest : List ℕ} → Lone text m → Tidy pieces rest →
+    Tidy (word text ∷ pieces) rest
+lone is t = next (lone_word is _) t
 
 behind : (a b : List Piece) (rest : List ℕ) → text_of (a ++ b) ++ rest ≡ text_of a ++ (text_of b ++ rest)
 behind a b rest = ap (λ x. x ++ rest) (flat_map-append _ a b) ∙ append_assoc _ _ rest
@@ -76,8 +81,8 @@ abbrev pub Sound : List Piece → Type 0
 Sound pieces = (rest : List ℕ) → Calm rest → Tidy pieces rest
 
 parens_tidy : (wanted : Bool) (pieces : List Piece) → Sound pieces → Sound (in_parens wanted pieces)
-parens_tidy true pieces t rest calm = next (open_paren _) (tidy_append pieces (word (codes ")") ∷ []) rest
-    (t (text_of (word (codes ")") ∷ []) ++ rest) refl) (next (close_paren _) none))
+parens_tidy true pieces t rest calm = lone open_paren (tidy_append pieces (word (codes ")") ∷ []) rest
+    (t (text_of (word (codes ")") ∷ []) ++ rest) refl) (lone close_paren none))
 parens_tidy false pieces t rest calm = subst (λ x. Tidy x rest) (sym (append-nil pieces)) (t rest calm)
 
 abbrev Fits : Printed → Type 0
@@ -185,15 +190,15 @@ form (term.Index base place) u k =
     let parts = and_parts (is_kept base) (is_kept place) k in
     behind_tidy (words_at base) _ (u.0 parts.0) (λ r c. (
       refl,
-      next (open_square _) (tidy_append (words_at place [] 11) (word (codes "]") ∷ []) r
-          (u.1 parts.1 [] 11 _ refl).0 (next (close_square _) none)),
+      lone open_square (tidy_append (words_at place [] 11) (word (codes "]") ∷ []) r
+          (u.1 parts.1 [] 11 _ refl).0 (lone close_square none)),
     ))
 form (term.Member base name) u k =
     let parts = and_parts (is_kept base) (is_ident name) k in
-    behind_tidy (words_at base) _ (u parts.0) (named_tidy (codes ".") name dot (λ r. refl) parts.1)
+    behind_tidy (words_at base) _ (u parts.0) (named_tidy (codes ".") name (lone_word dot) (λ r. refl) parts.1)
 form (term.Arrow base name) u k =
     let parts = and_parts (is_kept base) (is_ident name) k in
-    behind_tidy (words_at base) _ (u parts.0) (named_tidy (codes "->") name arrow (λ r. refl) parts.1)
+    behind_tidy (words_at base) _ (u parts.0) (named_tidy (codes "->") name (lone_word arrow) (λ r. refl) parts.1)
 form (term.Deref of) u k = prefix_tidy asterisk (words_at of) (u k)
 form (term.Address of) u k = prefix_tidy (signed ampersand) (words_at of) (u k)
 

@@ -13,10 +13,10 @@ use Rattle.sc_lex.specs.declared.token.TokenKind.TheVariants as kind
 use Rattle.sc_print.specs.KeptStmts as kept
 use Rattle.sc_print.proofs.Each.{all_at, kept_each, each_kept, Of, Forms, by_forms}
 use Rattle.sc_print.proofs.Literals.{name_kind, name_some}
-use Rattle.sc_print.proofs.Apart.{IsWord, Calm, plain_word, open_paren, close_paren, semicolon, comma_word, open_curly}
-use Rattle.sc_print.proofs.Apart.{close_curly, equal_word, keyword_word}
-use Rattle.sc_print.proofs.Spacing.{Tidy, none, gap, next, at_level, line_end, tidy_append, Sound, tidy_at}
+use Rattle.sc_print.proofs.Apart.{IsWord, Calm, plain_word, equal_word, keyword_word, lone_word}
+use Rattle.sc_print.proofs.Spacing.{Tidy, none, gap, next, at_level, line_end, tidy_append, Sound, tidy_at, lone}
 use Rattle.sc_expr.specs.declared.mark.Keyword.TheVariants as keyword
+use Rattle.sc_print.proofs.Tables.{open_paren, close_paren, semicolon, comma_mark, open_curly, close_curly}
 
 -- pieces that stand apart whatever is behind them
 abbrev pub Free : List Piece → Type 0
@@ -44,7 +44,7 @@ module _ {A : Type 0} (words : A → List Piece) (kept : A → Bool) (Fine : Lis
   joined_tidy x (y ∷ ys) k all rest fine =
       let parts = and_parts (kept y) (list_all kept ys) all in
       tidy_append (words x) (word _ ∷ blank ∷ join_by words comma (y ∷ ys)) rest (t x k _ (comma_fine _))
-      (next (comma_word _) (gap (joined_tidy y ys parts.0 parts.1 rest fine)))
+      (lone comma_mark (gap (joined_tidy y ys parts.0 parts.1 rest fine)))
 
 args_tidy : (args : List ExprTree) → list_all is_kept args ≡ true → Sound (join_by expr_words comma args)
 args_tidy [] all = λ rest calm. none
@@ -55,7 +55,7 @@ pub call_tidy : (c : CallTree) → IsTrue (kept_call c) → Free (call_words c)
 call_tidy c k rest =
     let parts = and_parts (is_ident c.name) (list_all is_kept c.args) k in
     next (plain_word c.name _ kind.Ident (name_some c.name parts.0) (name_kind c.name parts.0) refl)
-    (next (open_paren _) (closing _ (codes ")") (args_tidy c.args parts.1) (λ r. refl) close_paren rest))
+    (lone open_paren (closing _ (codes ")") (args_tidy c.args parts.1) (λ r. refl) (lone_word close_paren) rest))
 
 pub assigned_tidy : (place : ExprTree) (value : List Piece) → IsTrue (kept_place place) → Sound value →
     Sound (place_words place ++ (equals ++ value))
@@ -70,13 +70,13 @@ simple_tidy (simple.AssignCall place call) k = let parts = and_parts _ _ k in
 simple_tidy (simple.Call call) k = λ rest calm. call_tidy call k rest
 
 pub ended_tidy : (pieces : List Piece) → Sound pieces → Free (ended pieces)
-ended_tidy pieces t = closing pieces _ t (λ r. refl) semicolon
+ended_tidy pieces t = closing pieces _ t (λ r. refl) (lone_word semicolon)
 
 pub condition_tidy : (keyword : List ℕ) (cond : ExprTree) → ((rest : List ℕ) → Calm rest → IsWord keyword rest) →
     IsTrue (is_kept cond) → Free (condition_words keyword cond)
 condition_tidy keyword cond w k rest = next (w _ refl)
-    (gap (next (open_paren _) (tidy_append (expr_words cond) (word (codes ")") ∷ blank ∷ []) rest
-    (expr_tidy cond k _ refl) (next (close_paren _) (gap none)))))
+    (gap (lone open_paren (tidy_append (expr_words cond) (word (codes ")") ∷ blank ∷ []) rest
+    (expr_tidy cond k _ refl) (lone close_paren (gap none)))))
 
 pub return_tidy : (value : List Piece) → Sound value → Free (return_words value)
 return_tidy value t rest = next (keyword_word keyword.Return _ refl) (gap (ended_tidy value t rest))
@@ -93,10 +93,10 @@ for_tidy : (f : Option SimpleTree) (c : ExprTree) (n : Option SimpleTree) → Is
     IsTrue (is_kept c) → IsTrue (kept_option n) → Free (for_words f c n)
 for_tidy f c n kf kc kn rest =
     let turn = tidy_append _ (word (codes ")") ∷ blank ∷ []) rest (next_tidy n kn _ refl)
-    (next (close_paren _) (gap none)) in
-    let test = tidy_append (expr_words c) _ rest (expr_tidy c kc _ refl) (next (semicolon _) turn) in
-    next (keyword_word keyword.For _ refl) (gap (next (open_paren _) (tidy_append (first_words f) _ rest
-    (first_tidy f kf _ refl) (next (semicolon _) (gap test)))))
+    (lone close_paren (gap none)) in
+    let test = tidy_append (expr_words c) _ rest (expr_tidy c kc _ refl) (lone semicolon turn) in
+    next (keyword_word keyword.For _ refl) (gap (lone open_paren (tidy_append (first_words f) _ rest
+    (first_tidy f kf _ refl) (lone semicolon (gap test)))))
 
 abbrev Apart : Layout → StmtKind → Type 0
 Apart layout k = (depth : ℕ) → Free (layout.words depth)
@@ -108,9 +108,9 @@ lines_tidy depth (s ∷ stmts) each rest = tidy_append (line_of depth _) (lines_
     (lines_tidy depth stmts each.1 rest)
 
 block_tidy : (depth : ℕ) (stmts : List StmtTree) → Each (Of Apart) stmts → Free (block_words depth (layouts stmts))
-block_tidy depth stmts each rest = next (open_curly _)
+block_tidy depth stmts each rest = lone open_curly
     (line_end (tidy_append (lines_at (deeper depth) _) (indent depth ∷ word (codes "}") ∷ []) rest
-    (lines_tidy (deeper depth) stmts each _) (at_level depth (next (close_curly _) none))))
+    (lines_tidy (deeper depth) stmts each _) (at_level depth (lone close_curly none))))
 
 chain_tidy : (depth : ℕ) (stmts : List StmtTree) → Each (Of Apart) stmts → Free (chain_words depth (layouts stmts))
 chain_tidy depth [] each rest = none
@@ -130,7 +130,7 @@ else_tidy depth stmts each =
     (block_tidy depth stmts each) rest))))
 
 form : Forms Apart
-form layer.Empty inside k depth rest = next (semicolon _) none
+form layer.Empty inside k depth rest = lone semicolon none
 form (layer.Assign place value) inside k depth rest = ended_tidy _ (simple_tidy (simple.Assign place value) k) rest
 form (layer.AssignCall place call) inside k depth rest =
     ended_tidy _ (simple_tidy (simple.AssignCall place call) k) rest
@@ -152,9 +152,9 @@ form (layer.For first cond after body) inside k depth rest =
     let last = and_parts (kept_option after) (all_kept (map _ body)) more.1 in
     tidy_append (for_words first cond after) _ rest (for_tidy first cond after parts.0 more.0 last.0 _)
     (block_tidy depth body (kept_each _ body inside (all_at body last.1)) rest)
-form layer.Break inside k depth rest = next (keyword_word keyword.Break _ refl) (next (semicolon _) none)
-form layer.Continue inside k depth rest = next (keyword_word keyword.Continue _ refl) (next (semicolon _) none)
-form layer.Return inside k depth rest = next (keyword_word keyword.Return _ refl) (next (semicolon _) none)
+form layer.Break inside k depth rest = next (keyword_word keyword.Break _ refl) (lone semicolon none)
+form layer.Continue inside k depth rest = next (keyword_word keyword.Continue _ refl) (lone semicolon none)
+form layer.Return inside k depth rest = next (keyword_word keyword.Return _ refl) (lone semicolon none)
 form (layer.ReturnValue value) inside k depth rest = return_tidy _ (expr_tidy value k) rest
 form (layer.ReturnCall call) inside k depth rest = return_tidy (call_words call) (λ r calm. call_tidy call k r) rest
 

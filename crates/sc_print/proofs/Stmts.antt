@@ -25,6 +25,7 @@ use Rattle.sc_ast.specs.declared.stmt.StmtKind.TheOpen as layer
 use Rattle.sc_ast.specs.declared.stmt.StmtKind.TheVariants as stmt
 use Rattle.sc_print.proofs.Each.{all_at, kept_each, each_kept, Kept, Of, Forms, by_forms, bare_if, bare_while, bare_for}
 use Rattle.sc_expr.specs.declared.mark.Keyword.TheVariants as keyword
+use Rattle.sc_print.proofs.Tables.{lone_says, open_paren, close_paren, semicolon, open_curly, close_curly}
 
 pub expr_reads : (e : ExprTree) → IsTrue (is_kept e) → Reading (expr_words e) (λ ts. Spells loosest_level ts e)
 expr_reads e k ts h = spelled_at e k [] 11 ts h
@@ -41,7 +42,7 @@ call_reads c k =
     let parts = and_parts (is_ident c.name) (list_all is_kept c.args) k in
     reads (written c.name ∷ written (codes "(") ∷ part (join_by _ comma c.args) ∷ written (codes ")") ∷ []) _
     (λ t is u opens args said v closes. spell.call t u v c.name (is ∙ name_says c.name parts.0)
-    (opens ∙ tables.open_paren) (closes ∙ tables.close_paren) (args_read c.args parts.1 args said))
+    (opens ∙ lone_says open_paren) (closes ∙ lone_says close_paren) (args_read c.args parts.1 args said))
 
 -- a place, and behind `=` what is assigned
 assigned : (place : ExprTree) (value : List Piece) (P : List Lexeme → Type 0) → IsTrue (kept_place place) →
@@ -70,7 +71,7 @@ in_brackets cond = word (codes "(") ∷ (expr_words cond ++ word (codes ")") ∷
 pub condition_reads : (cond : ExprTree) → IsTrue (is_kept cond) →
     Reading (in_brackets cond) (λ ts. SpellsCondition ts cond)
 condition_reads cond k = reads (written (codes "(") ∷ part (expr_words cond) ∷ written (codes ")") ∷ fixed blank ∷ []) _
-    (λ t opens ts said u closes. spell.condition t u (opens ∙ tables.open_paren) (closes ∙ tables.close_paren)
+    (λ t opens ts said u closes. spell.condition t u (opens ∙ lone_says open_paren) (closes ∙ lone_says close_paren)
     (expr_reads cond k ts said))
 
 -- The lexemes spell a statement, which is an `if` where that is told, and which is this one, lines aside.
@@ -125,7 +126,7 @@ block_reads depth stmts each =
     let inner = lines_read _ stmts each ts said in
     record {
       others = inner.others;
-      spelled = spell.block t u (opens ∙ tables.open_curly) (closes ∙ tables.close_curly) inner.spelled;
+      spelled = spell.block t u (opens ∙ lone_says open_curly) (closes ∙ lone_says close_curly) inner.spelled;
       same = inner.same;
     })
 
@@ -215,21 +216,21 @@ simply k d = record { kind = k; spelled = d; chained = λ q. absurd (false≢tru
 plain_reads : (k : SimpleKind) → IsTrue (kept_simple k) →
     Reading (ended (simple_words k)) (λ ts. SpellsStmtKind ts (kind_of k))
 plain_reads k kept_k = reads (part (simple_words k) ∷ written (codes ";") ∷ []) _
-    (λ ts said t ends. spell.plain t (ends ∙ tables.semicolon) (simple_reads k kept_k ts said))
+    (λ ts said t ends. spell.plain t (ends ∙ lone_says semicolon) (simple_reads k kept_k ts said))
 
 -- one reserved word and `;`
 two_words : (w : Keyword) (k : StmtKind) →
     ((t u : Lexeme) → IsKeyword w t → IsMark mark.Semicolon u → SpellsStmtKind (t ∷ u ∷ []) k) →
     Reading (ended (word (tables.keyword_text w) ∷ [])) (λ ts. Spelled ts false k)
 two_words w k spells = reads (written _ ∷ written _ ∷ []) _
-    (λ t is u ends. simply k (spells t u (is ∙ tables.keyword_says w) (ends ∙ tables.semicolon)))
+    (λ t is u ends. simply k (spells t u (is ∙ tables.keyword_says w) (ends ∙ lone_says semicolon)))
 
 -- `return`, what is returned, and `;`
 returned : (value : List Piece) (k : StmtKind) → ((t : Lexeme) (ts : List Lexeme) (u : Lexeme) →
     IsKeyword keyword.Return t → IsMark mark.Semicolon u → Say (symbols value) ts →
     SpellsStmtKind (t ∷ (ts ++ u ∷ [])) k) → Reading (return_words value) (λ ts. Spelled ts false k)
 returned value k spells = reads (written _ ∷ part value ∷ written _ ∷ []) _
-    (λ t is ts said u ends. simply k (spells t ts u (is ∙ tables.keyword_says _) (ends ∙ tables.semicolon) said))
+    (λ t is ts said u ends. simply k (spells t ts u (is ∙ tables.keyword_says _) (ends ∙ lone_says semicolon) said))
 
 -- a part of a `for`
 pub record Part (ts : List Lexeme) (part : Option SimpleTree) : Type 0 where
@@ -268,8 +269,8 @@ for_with f c n b turn kept_f kept_c read_turn at_b kept_b depth =
     let body = block_reads depth b (kept_each _ b at_b kept_b) ds inner in
     record {
       kind = stmt.For first.other c next.other body.others;
-      spelled = spell.for_loop t u v w x (is ∙ tables.keyword_says keyword.For) (opens ∙ tables.open_paren)
-          (ends ∙ tables.semicolon) (ends_too ∙ tables.semicolon) (closes ∙ tables.close_paren) first.spelled
+      spelled = spell.for_loop t u v w x (is ∙ tables.keyword_says keyword.For) (opens ∙ lone_says open_paren)
+          (ends ∙ lone_says semicolon) (ends_too ∙ lone_says semicolon) (closes ∙ lone_says close_paren) first.spelled
           (spell.a_test (expr_reads c kept_c bs test)) next.spelled body.spelled;
       chained = λ q. absurd (false≢true q);
       same = bare_for first.other c next.other body.others ∙
@@ -295,7 +296,7 @@ for_reads f c n b kept_f kept_c kept_n at_b kept_b depth ts h =
 form : Forms Reads
 unfolding roll-StmtKind denote.Hole.Carrier.roll
 form layer.Empty inside k depth ts h = reads (written _ ∷ []) (λ us. Spelled us false stmt.Empty)
-    (λ t is. simply _ (spell.empty t (is ∙ tables.semicolon))) ts h
+    (λ t is. simply _ (spell.empty t (is ∙ lone_says semicolon))) ts h
 form (layer.Assign place value) inside k depth ts h = simply _ (plain_reads (simple.Assign place value) k ts h)
 form (layer.AssignCall place call) inside k depth ts h = simply _ (plain_reads (simple.AssignCall place call) k ts h)
 form (layer.Call call) inside k depth ts h = simply _ (plain_reads (simple.Call call) k ts h)
