@@ -63,29 +63,25 @@ joins : (name value : Text) (now : List Row) → has_row name now ≡ false → 
 joins name value now none = ap (λ rs. with_values name AsWritten CommandLine (value ∷ []) rs)
     (joined name (λ _. []) [] now none ∙ append-nil now) ∙ joined name (more_values CommandLine _) _ now none
 
-pub used_valued : (r : Bool) (name value : Text) (now : List Row) → has_row name now ≡ false
-    → used (ready_valued r name) (value ∷ []) now ≡ now ++ plain_row name value ∷ []
-used_valued r name value now none = joins name value now none
+-- what one use of an option does: a row more where the option is new, and a fault where it is given again
+pub record Uses (a : Rule) (values : List Text) (name value : Text) : Type 0 where
+  pub adds : (now : List Row) → has_row name now ≡ false → used a values now ≡ now ++ plain_row name value ∷ []
+  pub new : (now : List Row) → has_row name now ≡ false → use_fault false a values now ≡ []
+  pub again : (now : List Row) → has_row name now ≡ true → use_fault false a values now ≡ [] → ⊥
 
-pub used_alone : (name : Text) (now : List Row) → has_row name now ≡ false →
-    used (ready_alone name) [] now ≡ now ++ plain_row name (codes "true") ∷ []
-used_alone name now none = joins name (codes "true") now none
+pub valued_uses : (r : Bool) (name value : Text) → Uses (ready_valued r name) (value ∷ []) name value
+valued_uses r name value = record {
+  adds = λ now none. joins name value now none;
+  new = λ now none. rw none refl;
+  again = λ now some. rw some (λ e. not_empty _ _ e);
+}
 
-pub new_valued : (r : Bool) (name value : Text) (now : List Row) → has_row name now ≡ false →
-    use_fault false (ready_valued r name) (value ∷ []) now ≡ []
-new_valued r name value now none = rw none refl
-
-pub again_valued : (r : Bool) (name value : Text) (now : List Row) → has_row name now ≡ true →
-    use_fault false (ready_valued r name) (value ∷ []) now ≡ [] → ⊥
-again_valued r name value now some = rw some (λ e. not_empty _ _ e)
-
-pub new_alone : (name : Text) (now : List Row) → has_row name now ≡ false →
-    use_fault false (ready_alone name) [] now ≡ []
-new_alone name now none = rw none refl
-
-pub again_alone : (name : Text) (now : List Row) → has_row name now ≡ true →
-    use_fault false (ready_alone name) [] now ≡ [] → ⊥
-again_alone name now some = rw some (λ e. not_empty _ _ e)
+pub alone_uses : (name : Text) → Uses (ready_alone name) [] name (codes "true")
+alone_uses name = record {
+  adds = λ now none. joins name (codes "true") now none;
+  new = λ now none. rw none refl;
+  again = λ now some. rw some (λ e. not_empty _ _ e);
+}
 
 -- ---- what is found at the end
 
