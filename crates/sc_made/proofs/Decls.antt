@@ -10,7 +10,7 @@ use Rattle.std.specs.List.{flat_map}
 use Rattle.sc_ast.specs.declared.section.Decl.TheVariants as decl
 use Rattle.sc_parse.specs.Lists as lists
 use Rattle.sc_print.proofs.Tables.{close_curly, open_curly}
-use Rattle.sc_print.proofs.DeclSpacing.{each_tidy, head_tidy, local_tidy}
+use Rattle.sc_print.proofs.TreeSpacing.{each_tidy, head_tidy, local_tidy}
 use Rattle.sc_print.proofs.Sections.{decl_reads, function_with}
 use Rattle.sc_made.proofs.Lines.{AreLines}
 

@@ -18,8 +18,8 @@ use Rattle.sc_ast.specs.declared.stmt.StmtKind as kinds
 use Rattle.sc_expr.specs.declared.mark.Keyword.TheVariants as keyword
 use Rattle.sc_expr.specs.declared.mark.Mark.TheVariants as mark
 use Rattle.sc_parse.specs.Statements as spell
-use Rattle.sc_print.proofs.Apart as apart
-use Rattle.sc_print.proofs.Each.{all_at}
+use Rattle.sc_print.proofs.Spacing as apart
+use Rattle.sc_print.proofs.Stmts.{all_at}
 use Rattle.sc_print.proofs.Spelling.{spelled_at}
 use Rattle.sc_print.proofs.Tables as tables
 use Rattle.sc_made.proofs.Spelled.{literal_number}

@@ -19,9 +19,7 @@ use Rattle.sc_print.proofs.Common.{value_words, word, zero, ℕ, ⊎_elim, ◌&&
 use Rattle.sc_base.specs.declared.op.BinaryOp.TheVariants as binary
 use Rattle.sc_base.specs.declared.op.UnaryOp.TheVariants as unary
 use Rattle.sc_ast.specs.declared.types.BaseTree.TheVariants as base
-use Rattle.sc_ast.specs.declared.section.ConstTree.{ConstTree}
 use Rattle.sc_ast.specs.declared.section.InitTree.TheVariants as init
-use Rattle.sc_expr.specs.declared.mark.Mark.TheVariants as mark
 use Rattle.sc_parse.specs.Types as types
 use Rattle.sc_parse.specs.Declarations as decls
 use Rattle.sc_print.proofs.Tables as tables
@@ -31,8 +29,7 @@ use Rattle.sc_print.proofs.Reading.{line_symbols, joined_symbols, Say}
 use Rattle.sc_expr.specs.declared.mark.Keyword.TheVariants as keyword
 use Rattle.sc_ast.specs.declared.section.Decl.TheVariants as decl
 use Rattle.sc_parse.specs.Lists as lists
-use Rattle.sc_print.proofs.Each.{each_kept}
-use Rattle.sc_print.proofs.Stmts.{expr_reads, Lines, lines_read, stmt_holds}
+use Rattle.sc_print.proofs.Stmts.{each_kept, expr_reads, Lines, lines_read, stmt_holds}
 use Rattle.sc_print.proofs.Tables.{lone_says, open_paren, close_paren, open_square, close_square, semicolon, open_curly}
 use Rattle.sc_print.proofs.Tables.{close_curly}
 
@@ -84,24 +81,18 @@ pub declarator_reads : (ty : TypeTree) (name : List ℕ) → IsTrue (kept_type t
     Reading (declarator_words ty name) (λ ts. SpellsDeclarator ty.base ts ty name)
 declarator_reads ty name k ident = declarator_from ty.base _ _ name (and_parts _ _ k).1 ident
 
-minus_says : tables.SaysMark (codes "-") mark.Minus
-minus_says = tables.unary_says unary.Minus
-
 const_from : (negative : Bool) (literal : Number) → IsTrue (fits literal) →
     Reading (minus_words negative ++ word (literal_text literal) ∷ [])
     (λ ts. SpellsConst ts (record { negative = negative; literal = literal }))
 const_from true literal k = reads (written _ ∷ written _ ∷ []) _
-    (λ t is u number. decls.negated t u literal (is ∙ minus_says) (number ∙ literal_says literal k))
+    (λ t is u number. decls.negated t u literal (is ∙ tables.unary_says unary.Minus) (number ∙ literal_says literal k))
 const_from false literal k =
     reads (written _ ∷ []) _ (λ t number. decls.plain t literal (number ∙ literal_says literal k))
-
-const_reads : (c : ConstTree) → IsTrue (kept_const c) → Reading (const_words c) (λ ts. SpellsConst ts c)
-const_reads c k = const_from _ _ k
 
 pub init_reads : (i : InitTree) → IsTrue (kept_init i) → Reading (init_words i) (λ ts. SpellsInit ts i)
 init_reads init.Absent k = reads [] (λ ts. SpellsInit ts init.Absent) decls.absent
 init_reads (init.One c) k = reads (written (codes "=") ∷ part (const_words c) ∷ []) (λ ts. SpellsInit ts (init.One c))
-    (λ t is ts said. decls.one t (is ∙ tables.equal) (const_reads c k ts said))
+    (λ t is ts said. decls.one t (is ∙ tables.equal) (const_from _ _ k ts said))
 init_reads (init.Many []) k = absurd (false≢true k)
 init_reads (init.Many (c ∷ cs)) k =
     let parts = and_parts (kept_const c) (list_all kept_const cs) k in
@@ -109,7 +100,7 @@ init_reads (init.Many (c ∷ cs)) k =
     written (codes "}") ∷ []) (λ ts. SpellsInit ts (init.Many (c ∷ cs)))
     (λ t is u opens ts said v closes.
     decls.many t u v (is ∙ tables.equal) (opens ∙ lone_says open_curly) (closes ∙ lone_says close_curly)
-    (separated const_words kept_const SpellsConst const_reads c cs parts.0 parts.1 ts said))
+    (separated const_words kept_const SpellsConst (λ c k. const_from _ _ k) c cs parts.0 parts.1 ts said))
 
 -- one declarator behind its base, on a line of its own
 single : {A : Type 0} (Item : BaseTree → ℕ → List Lexeme → A → Type 0) (depth : ℕ) (b : BaseTree) (behind : List Piece)
@@ -234,16 +225,13 @@ param_from ty (Some name) gap k ident =
     (said ∙ joined_symbols (blank_if gap) (star_words _ ++ word name ∷ []) ∙
     ap (λ x. x ++ symbols (star_words ty.stars ++ word name ∷ [])) (blank_symbols gap)))
 
-param_reads : (p : ParamTree) → IsTrue (kept_param p) → Reading (param_words p) (λ ts. SpellsParam ts p)
-param_reads p k = let parts = and_parts _ _ k in
-    param_from p.ty p.name _ parts.0 parts.1
-
 params_read : (ps : List ParamTree) → list_all kept_param ps ≡ true →
     Reading (params_words ps) (λ ts. SpellsParams ts ps)
 params_read [] all ts h = reads (written _ ∷ []) (λ us. SpellsParams us [])
     (λ t is. decls.no_params t (is ∙ tables.keyword_says _)) ts h
 params_read (p ∷ ps) all ts h = let parts = and_parts (kept_param p) _ all in
-    decls.some_params (separated param_words _ SpellsParam param_reads p ps parts.0 parts.1 ts h)
+    decls.some_params (separated param_words _ SpellsParam
+    (λ p k. let both = and_parts _ _ k in param_from p.ty p.name _ both.0 both.1) p ps parts.0 parts.1 ts h)
 
 -- a head that is spelled, with the line at which it stands
 record Head (ts : List Lexeme) (head : HeadTree) : Type 0 where

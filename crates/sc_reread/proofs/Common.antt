@@ -46,7 +46,7 @@ pub use Rattle.sc_expr.specs.declared.lexeme.Lexeme.{Lexeme}
 pub use Rattle.sc_expr.specs.declared.lexeme.Symbol.{Symbol}
 pub use Rattle.sc_parse.specs.Prelude.{Grouped, IsParsed, SpellsDecl, SpellsDirectives, SpellsFunction, SpellsHead}
 pub use Rattle.sc_parse.specs.Prelude.{SpellsSection, lexemes_of}
-pub use Rattle.sc_print.proofs.DeclSpacing.{decl_tidy, head_tidy}
+pub use Rattle.sc_print.proofs.TreeSpacing.{decl_tidy, head_tidy}
 pub use Rattle.sc_print.proofs.DirectiveWords.{export_says, heading_begins, heading_is, heading_line_is, heading_says}
 pub use Rattle.sc_print.proofs.DirectiveWords.{import_says}
 pub use Rattle.sc_print.proofs.Lined.{Found, Lined, found_lines, line, tidy}

@@ -13,7 +13,7 @@ use Rattle.sc_ast.specs.declared.stmt.StmtTree as stmts
 use Rattle.sc_ast.specs.declared.stmt.StmtKind as kinds
 use Rattle.sc_ast.specs.declared.stmt.StmtKind.TheVariants as stmt
 use Rattle.sc_expr.specs.declared.mark.Keyword.TheVariants as keyword
-use Rattle.sc_print.proofs.Apart as apart
+use Rattle.sc_print.proofs.Spacing as apart
 use Rattle.sc_print.proofs.Tables as tables
 use Rattle.sc_print.proofs.Spacing.{none}
 use Rattle.sc_reread.proofs.Nesting.{Nested, even_keyword, even_literal, nested_append, nested_blank, nested_curly}

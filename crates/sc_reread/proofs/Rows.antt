@@ -15,10 +15,10 @@ use Rattle.sc_ast.specs.declared.stmt.StmtTree as stmts
 use Rattle.sc_ast.specs.declared.stmt.StmtKind as kinds
 use Rattle.sc_ast.specs.declared.stmt.StmtKind.TheVariants as stmt
 use Rattle.sc_expr.specs.declared.mark.Keyword.TheVariants as keyword
-use Rattle.sc_print.proofs.Apart as apart
+use Rattle.sc_print.proofs.Spacing as apart
 use Rattle.sc_print.proofs.Tables as tables
 use Rattle.sc_print.proofs.Spacing.{none}
-use Rattle.sc_print.proofs.StmtSpacing.{Free, stmt_holds}
+use Rattle.sc_print.proofs.TreeSpacing.{Free, stmt_holds}
 use Rattle.sc_lex.specs.declared.token.TokenKind.TheVariants as kind
 use Rattle.sc_reread.proofs.Nesting.{Nested, even_binary, even_equal, even_ident, even_keyword, even_literal}
 use Rattle.sc_reread.proofs.Nesting.{even_semicolon, nested_append, nested_blank, nested_curly, nested_even}
