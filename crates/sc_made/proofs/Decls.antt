@@ -3,14 +3,14 @@ use Rattle.sc_made.proofs.Common.{Alike, AllAlike, Decl, Free, FunctionTree, Lis
 use Rattle.sc_made.proofs.Common.{[], ap, append_assoc, ap₂, arith, blank, codes, decl_height, decl_symbols}
 use Rattle.sc_made.proofs.Common.{decls_height, dense_decl, dense_tidy, flat_map-append, gap, head_of, head_words}
 use Rattle.sc_made.proofs.Common.{is_kept_decl, kept_head, kept_local, line_end, lineless_decl, list_all, local_line}
-use Rattle.sc_made.proofs.Common.{locals_height, nested_append, nested_blank, nested_curly, nested_line, nested_more}
-use Rattle.sc_made.proofs.Common.{nested_none, newline, next, none, part, piece_text, reads, refl, subst, text_of}
-use Rattle.sc_made.proofs.Common.{tidy_append, true, word, ℕ, ◌++◌, ◌∙◌, ◌∷◌, ◌≡◌, ◌≤◌}
+use Rattle.sc_made.proofs.Common.{locals_height, lone, nested_append, nested_blank, nested_curly, nested_line}
+use Rattle.sc_made.proofs.Common.{nested_more, nested_none, newline, next, none, part, piece_text, reads, refl, subst}
+use Rattle.sc_made.proofs.Common.{text_of, tidy_append, true, word, ℕ, ◌++◌, ◌∙◌, ◌∷◌, ◌≡◌, ◌≤◌}
 use Rattle.std.specs.List.{flat_map}
 use Rattle.sc_ast.specs.declared.section.Decl.TheVariants as decl
 use Rattle.sc_parse.specs.Lists as lists
-use Rattle.sc_print.proofs.Apart.{close_curly, open_curly}
-use Rattle.sc_print.proofs.DeclSpacing.{each_tidy, head_tidy, local_tidy}
+use Rattle.sc_print.proofs.Tables.{close_curly, open_curly}
+use Rattle.sc_print.proofs.TreeSpacing.{each_tidy, head_tidy, local_tidy}
 use Rattle.sc_print.proofs.Sections.{decl_reads, function_with}
 use Rattle.sc_made.proofs.Lines.{AreLines}
 
@@ -51,9 +51,9 @@ function_decl f head locals lines kept kept_locals low spelled nested named nest
       read = function_with f body.pieces kept kept_locals body.read;
       low = let height = body.low in omega arith;
       tidy = λ rest. tidy_append words block rest (head_tidy (head_of f.head) kept _)
-          (gap (next (open_curly _) (line_end (tidy_append first (body.pieces ++ end) rest
+          (gap (lone open_curly (line_end (tidy_append first (body.pieces ++ end) rest
           (each_tidy local_line kept_local local_tidy f.locals kept_locals _)
-          (tidy_append body.pieces end rest (body.tidy _) (next (close_curly _) (line_end none)))))));
+          (tidy_append body.pieces end rest (body.tidy _) (lone close_curly (line_end none)))))));
       spelled = flat_map-append piece_text words block ∙ ap₂ (λ a b. a ++ (codes " {\n" ++ b)) spelled
           (flat_map-append piece_text first (body.pieces ++ end) ∙ ap₂ (λ a b. a ++ b) named
           (flat_map-append piece_text body.pieces end ∙ ap (λ a. a ++ codes "}\n") body.spelled));

@@ -4,7 +4,7 @@ use Rattle.sc_made.proofs.Common.{and_from, ap, are_kept, arith, at_level, below
 use Rattle.sc_made.proofs.Common.{even_binary, even_equal, even_ident, even_keyword, even_literal, even_semicolon}
 use Rattle.sc_made.proofs.Common.{even_step, everywhere, expr_tidy, expr_words, first_line, first_words, fixed}
 use Rattle.sc_made.proofs.Common.{for_with, gap, indent, is_ident, is_kept, is_kept_stmt, is_place, kept_option}
-use Rattle.sc_made.proofs.Common.{layouts, line_end, line_of, line_symbols, lines_at, literal_text, loop_kind}
+use Rattle.sc_made.proofs.Common.{layouts, line_end, line_of, line_symbols, lines_at, literal_text, lone, loop_kind}
 use Rattle.sc_made.proofs.Common.{nested_blank, nested_curly, nested_even, nested_level, nested_line, nested_more}
 use Rattle.sc_made.proofs.Common.{nested_none, nested_parens, nested_square, newline, next, next_at, no_lines, none}
 use Rattle.sc_made.proofs.Common.{part, place_words, reads, refl, rules, simple_tidy, start_at, stmt_at, stmt_height}
@@ -18,8 +18,8 @@ use Rattle.sc_ast.specs.declared.stmt.StmtKind as kinds
 use Rattle.sc_expr.specs.declared.mark.Keyword.TheVariants as keyword
 use Rattle.sc_expr.specs.declared.mark.Mark.TheVariants as mark
 use Rattle.sc_parse.specs.Statements as spell
-use Rattle.sc_print.proofs.Apart as apart
-use Rattle.sc_print.proofs.Each.{all_at}
+use Rattle.sc_print.proofs.Spacing as apart
+use Rattle.sc_print.proofs.Stmts.{all_at}
 use Rattle.sc_print.proofs.Spelling.{spelled_at}
 use Rattle.sc_print.proofs.Tables as tables
 use Rattle.sc_made.proofs.Spelled.{literal_number}
@@ -123,7 +123,7 @@ turn_reads = reads (fixed blank ∷ part (place_words i_tree) ∷ written (codes
     record {
       other = Some (next_at (first_line (ts ++ t ∷ [])));
       spelled = spell.a_part (
-        spell.step_behind t mark.PlusPlus binary.Add (is ∙ tables.plus_plus) refl
+        spell.step_behind t mark.PlusPlus binary.Add (is ∙ tables.lone_says tables.plus_plus) refl
             (spelled_at i_tree (i_kept i_ident) [] 1 ts said, i_place),
         refl,
       );
@@ -163,23 +163,23 @@ loop_low : stmt_height loop ≤ 8
 loop_low = search (arith, rules, exprs.the_lemmas, kinds.the_lemmas, stmts.the_lemmas)
 
 block_tidy : Free (block_words 1 (layouts body))
-block_tidy rest = next (apart.open_curly _) (line_end (tidy_append (lines_at 2 (layouts body))
+block_tidy rest = lone tables.open_curly (line_end (tidy_append (lines_at 2 (layouts body))
     (indent 1 ∷ word (codes "}") ∷ []) rest (stmts_tidy body body_kept 2 _)
-    (at_level 1 (next (apart.close_curly _) none))))
+    (at_level 1 (lone tables.close_curly none))))
 
 turn_tidy : Free turn
 turn_tidy rest = gap (tidy_append (place_words i_tree) (word (codes "++") ∷ []) rest
-    (tidy_at i_tree (i_kept i_ident) [] 1 _ refl).0 (next (apart.plus_plus _) none))
+    (tidy_at i_tree (i_kept i_ident) [] 1 _ refl).0 (lone tables.plus_plus none))
 
 loop_tidy : Free loop_words
 loop_tidy rest =
     let behind : List Piece = word (codes ")") ∷ blank ∷ block_words 1 (layouts body) in
     let test : List Piece = word (codes ";") ∷ (turn ++ behind) in
-    next (apart.keyword_word keyword.For _ refl) (gap (next (apart.open_paren _)
+    next (apart.keyword_word keyword.For _ refl) (gap (lone tables.open_paren
     (tidy_append (first_words (Some (start_at 0))) (word (codes ";") ∷ blank ∷ (expr_words below ++ test)) rest
-    (simple_tidy (start_at 0).kind (start_kept i_ident) _ refl) (next (apart.semicolon _) (gap
+    (simple_tidy (start_at 0).kind (start_kept i_ident) _ refl) (lone tables.semicolon (gap
     (tidy_append (expr_words below) test rest (expr_tidy below (below_kept i_ident) _ refl)
-    (next (apart.semicolon _) (tidy_append turn behind rest (turn_tidy _) (next (apart.close_paren _)
+    (lone tables.semicolon (tidy_append turn behind rest (turn_tidy _) (lone tables.close_paren
     (gap (block_tidy rest)))))))))))
 
 element_nested : {more : List Piece} → Nested 1 more → Nested 1 (element_pieces more)

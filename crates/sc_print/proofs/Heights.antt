@@ -10,7 +10,7 @@ use Rattle.sc_ast.specs.declared.stmt.StmtTree as trees
 use Rattle.sc_ast.specs.declared.stmt.StmtKind as kinds
 use Rattle.sc_ast.specs.declared.stmt.StmtKind.TheOpen as layer
 use Rattle.sc_ast.specs.declared.section.Decl.TheVariants as decl
-use Rattle.sc_print.proofs.Each.{bare_if, bare_while, bare_for}
+use Rattle.sc_print.proofs.Stmts.{bare_if, bare_while, bare_for}
 
 bare_option : (s : Option SimpleTree) → option_height (lineless_option s) ≡ option_height s
 bare_option None = refl

@@ -1,8 +1,5 @@
 pub mod Common
-pub mod Apart
-pub mod DeclSpacing
 pub mod DirectiveWords
-pub mod Each
 pub mod Heights
 pub mod Lined
 pub mod Literals
@@ -11,8 +8,7 @@ pub mod Sections
 pub mod Some
 pub mod Spacing
 pub mod Spelling
-pub mod StmtSpacing
 pub mod Stmts
 pub mod Tables
-pub mod Theorem
+pub mod TreeSpacing
 pub mod Whole

@@ -8,8 +8,7 @@ use Rattle.sc_print.proofs.Common.{slice_index, slice_range, subst, suc, sym, sy
 use Rattle.sc_print.proofs.Common.{take-append_seam, text_of, token, token_at, true, white_space, word, word_symbol}
 use Rattle.sc_print.proofs.Common.{zero, ℕ, ◌*◌, ◌++◌, ◌+◌, ◌-◌, ◌<◌, ◌==◌, ◌∙◌, ◌∷◌, ◌≡◌}
 use Rattle.sc_print.proofs.Spacing as spacing
-use Rattle.sc_print.proofs.Spacing.{Tidy}
-use Rattle.sc_print.proofs.Apart.{run_is}
+use Rattle.sc_print.proofs.Spacing.{Tidy, run_is}
 use Rattle.sc_print.proofs.DirectiveWords.{IsLine, kind_of_line}
 
 -- From a place on the bytes are cut into tokens that say this.

@@ -114,7 +114,7 @@ module _ {A : Type 0} (say : A → List Piece) (kept : A → Bool) (Item : List 
   separated x (y ∷ ys) k all ts h =
       let parts = and_parts (kept y) _ all in
       reads (part (say x) ∷ written _ ∷ fixed blank ∷ part _ ∷ []) (λ us. Separated Item us (x ∷ y ∷ ys))
-      (λ front said t is back behind. more t (is ∙ tables.comma_mark) (item x k front said)
+      (λ front said t is back behind. more t (is ∙ tables.lone_says tables.comma_mark) (item x k front said)
       (separated y ys parts.0 parts.1 back behind)) ts h
 
 -- An item that is spelled, and is this one, lines aside; and items one behind another.

@@ -16,11 +16,10 @@ use Rattle.sc_print.proofs.Common.{literal_text, local_line, lt-ltb, map, member
 use Rattle.sc_print.proofs.Common.{nat_lt, newline, one, or_right, param_words, params_words, refl, result_words}
 use Rattle.sc_print.proofs.Common.{some_kept, star_words, struct_words, subst, suc, symbols, true, type_name}
 use Rattle.sc_print.proofs.Common.{value_words, word, zero, ℕ, ⊎_elim, ◌&&◌, ◌++◌, ◌+◌, ◌||◌, ◌∙◌, ◌∷◌, ◌≡◌, ◌≤◌}
+use Rattle.sc_base.specs.declared.op.BinaryOp.TheVariants as binary
 use Rattle.sc_base.specs.declared.op.UnaryOp.TheVariants as unary
 use Rattle.sc_ast.specs.declared.types.BaseTree.TheVariants as base
-use Rattle.sc_ast.specs.declared.section.ConstTree.{ConstTree}
 use Rattle.sc_ast.specs.declared.section.InitTree.TheVariants as init
-use Rattle.sc_expr.specs.declared.mark.Mark.TheVariants as mark
 use Rattle.sc_parse.specs.Types as types
 use Rattle.sc_parse.specs.Declarations as decls
 use Rattle.sc_print.proofs.Tables as tables
@@ -30,8 +29,9 @@ use Rattle.sc_print.proofs.Reading.{line_symbols, joined_symbols, Say}
 use Rattle.sc_expr.specs.declared.mark.Keyword.TheVariants as keyword
 use Rattle.sc_ast.specs.declared.section.Decl.TheVariants as decl
 use Rattle.sc_parse.specs.Lists as lists
-use Rattle.sc_print.proofs.Each.{each_kept}
-use Rattle.sc_print.proofs.Stmts.{expr_reads, Lines, lines_read, stmt_holds}
+use Rattle.sc_print.proofs.Stmts.{each_kept, expr_reads, Lines, lines_read, stmt_holds}
+use Rattle.sc_print.proofs.Tables.{lone_says, open_paren, close_paren, open_square, close_square, semicolon, open_curly}
+use Rattle.sc_print.proofs.Tables.{close_curly}
 
 pub base_reads : (b : BaseTree) → IsTrue (kept_base b) → Reading (base_words b) (λ ts. SpellsBase ts b)
 base_reads base.Int k = reads (written _ ∷ []) _ (λ t is. types.int t (is ∙ tables.keyword_says _))
@@ -45,7 +45,8 @@ stars_read zero = reads [] _ types.none
 stars_read (suc n) =
     let plus : n + 1 ≡ suc n = omega arith in
     reads (written _ ∷ part (star_words n) ∷ []) _
-    (λ t is ts said. subst (λ m. SpellsStars (t ∷ ts) m) plus (types.star t (is ∙ tables.star) (stars_read n ts said)))
+    (λ t is ts said. subst (λ m. SpellsStars (t ∷ ts) m) plus
+    (types.star t (is ∙ tables.binary_says binary.Mul) (stars_read n ts said)))
 
 -- the length of an array is a number of its type
 pub length_fits : (elements : ℕ) → elements ≤ 4294967295 → IsTrue (fits (length_number elements))
@@ -73,39 +74,33 @@ declarator_from b stars (Some elements) name k ident =
     reads (part (star_words stars) ∷ written name ∷ written (codes "[") ∷ written size ∷ written (codes "]") ∷ [])
     (λ ts. SpellsDeclarator b ts _ name) (λ ts said t is u opens v number w closes.
     types.array t u v w name (length_number _) elements (is ∙ name_says name ident)
-    (opens ∙ tables.open_square) (number ∙ literal_says (length_number _) (length_fits _ high))
-    (closes ∙ tables.close_square) is_length (stars_read stars ts said))
+    (opens ∙ lone_says open_square) (number ∙ literal_says (length_number _) (length_fits _ high))
+    (closes ∙ lone_says close_square) is_length (stars_read stars ts said))
 
 pub declarator_reads : (ty : TypeTree) (name : List ℕ) → IsTrue (kept_type ty) → IsTrue (is_ident name) →
     Reading (declarator_words ty name) (λ ts. SpellsDeclarator ty.base ts ty name)
 declarator_reads ty name k ident = declarator_from ty.base _ _ name (and_parts _ _ k).1 ident
 
-minus_says : tables.SaysMark (codes "-") mark.Minus
-minus_says = tables.unary_says unary.Minus
-
 const_from : (negative : Bool) (literal : Number) → IsTrue (fits literal) →
     Reading (minus_words negative ++ word (literal_text literal) ∷ [])
     (λ ts. SpellsConst ts (record { negative = negative; literal = literal }))
 const_from true literal k = reads (written _ ∷ written _ ∷ []) _
-    (λ t is u number. decls.negated t u literal (is ∙ minus_says) (number ∙ literal_says literal k))
+    (λ t is u number. decls.negated t u literal (is ∙ tables.unary_says unary.Minus) (number ∙ literal_says literal k))
 const_from false literal k =
     reads (written _ ∷ []) _ (λ t number. decls.plain t literal (number ∙ literal_says literal k))
-
-const_reads : (c : ConstTree) → IsTrue (kept_const c) → Reading (const_words c) (λ ts. SpellsConst ts c)
-const_reads c k = const_from _ _ k
 
 pub init_reads : (i : InitTree) → IsTrue (kept_init i) → Reading (init_words i) (λ ts. SpellsInit ts i)
 init_reads init.Absent k = reads [] (λ ts. SpellsInit ts init.Absent) decls.absent
 init_reads (init.One c) k = reads (written (codes "=") ∷ part (const_words c) ∷ []) (λ ts. SpellsInit ts (init.One c))
-    (λ t is ts said. decls.one t (is ∙ tables.equal) (const_reads c k ts said))
+    (λ t is ts said. decls.one t (is ∙ tables.equal) (const_from _ _ k ts said))
 init_reads (init.Many []) k = absurd (false≢true k)
 init_reads (init.Many (c ∷ cs)) k =
     let parts = and_parts (kept_const c) (list_all kept_const cs) k in
     reads (written (codes "=") ∷ written (codes "{") ∷ part (join_by const_words comma (c ∷ cs)) ∷
     written (codes "}") ∷ []) (λ ts. SpellsInit ts (init.Many (c ∷ cs)))
     (λ t is u opens ts said v closes.
-    decls.many t u v (is ∙ tables.equal) (opens ∙ tables.open_curly) (closes ∙ tables.close_curly)
-    (separated const_words kept_const SpellsConst const_reads c cs parts.0 parts.1 ts said))
+    decls.many t u v (is ∙ tables.equal) (opens ∙ lone_says open_curly) (closes ∙ lone_says close_curly)
+    (separated const_words kept_const SpellsConst (λ c k. const_from _ _ k) c cs parts.0 parts.1 ts said))
 
 -- one declarator behind its base, on a line of its own
 single : {A : Type 0} (Item : BaseTree → ℕ → List Lexeme → A → Type 0) (depth : ℕ) (b : BaseTree) (behind : List Piece)
@@ -115,7 +110,7 @@ single Item depth b behind entry k item ts h =
     reads (part (base_words b) ∷ fixed blank ∷ part behind ∷ written (codes ";") ∷ [])
     (λ us. (line : ℕ) × Declares Item us (entry line ∷ [])) (λ front base back said t is. (
       first_line front,
-      decls.declares t (is ∙ tables.semicolon) (base_reads b k front base) (one (item _ back said)),
+      decls.declares t (is ∙ lone_says semicolon) (base_reads b k front base) (one (item _ back said)),
     )) ts (h ∙ line_symbols depth (ended (base_words b ++ blank ∷ behind)) ∙
     ap symbols (append_assoc (base_words b) _ _))
 
@@ -166,8 +161,8 @@ struct_reads name line (m ∷ ms) k ts h =
     record {
       other = decl.Struct _;
       spelled = decls.a_struct (decls.struct t u v w x name (is ∙ tables.keyword_says keyword.Struct)
-          (named ∙ name_says name parts.0) (opens ∙ tables.open_curly) (closes ∙ tables.close_curly)
-          (ends ∙ tables.semicolon) (member_reads m both.0 front said) (members_read ms both.1 back behind));
+          (named ∙ name_says name parts.0) (opens ∙ lone_says open_curly) (closes ∙ lone_says close_curly)
+          (ends ∙ lone_says semicolon) (member_reads m both.0 front said) (members_read ms both.1 back behind));
       same = refl;
     }) ts (h ∙ ap (λ pieces. symbols (word (codes "struct") ∷ word name ∷ word (codes "{") ∷ pieces))
     (append_assoc (member_line m) (flat_map member_line ms) tail))
@@ -230,16 +225,13 @@ param_from ty (Some name) gap k ident =
     (said ∙ joined_symbols (blank_if gap) (star_words _ ++ word name ∷ []) ∙
     ap (λ x. x ++ symbols (star_words ty.stars ++ word name ∷ [])) (blank_symbols gap)))
 
-param_reads : (p : ParamTree) → IsTrue (kept_param p) → Reading (param_words p) (λ ts. SpellsParam ts p)
-param_reads p k = let parts = and_parts _ _ k in
-    param_from p.ty p.name _ parts.0 parts.1
-
 params_read : (ps : List ParamTree) → list_all kept_param ps ≡ true →
     Reading (params_words ps) (λ ts. SpellsParams ts ps)
 params_read [] all ts h = reads (written _ ∷ []) (λ us. SpellsParams us [])
     (λ t is. decls.no_params t (is ∙ tables.keyword_says _)) ts h
 params_read (p ∷ ps) all ts h = let parts = and_parts (kept_param p) _ all in
-    decls.some_params (separated param_words _ SpellsParam param_reads p ps parts.0 parts.1 ts h)
+    decls.some_params (separated param_words _ SpellsParam
+    (λ p k. let both = and_parts _ _ k in param_from p.ty p.name _ both.0 both.1) p ps parts.0 parts.1 ts h)
 
 -- a head that is spelled, with the line at which it stands
 record Head (ts : List Lexeme) (head : HeadTree) : Type 0 where
@@ -254,8 +246,8 @@ head_reads head k =
     written (codes ")") ∷ []) (λ ts. Head ts head) (λ front result t is u opens back params v closes.
     record {
       line = first_line front;
-      spelled = decls.head t u v _ (is ∙ name_says _ rest.0) (opens ∙ tables.open_paren)
-          (closes ∙ tables.close_paren) (result_reads _ parts.0 front result) (params_read _ rest.1 back params);
+      spelled = decls.head t u v _ (is ∙ name_says _ rest.0) (opens ∙ lone_says open_paren)
+          (closes ∙ lone_says close_paren) (result_reads _ parts.0 front result) (params_read _ rest.1 back params);
     })
 
 proto_reads : (head : HeadTree) → IsTrue (kept_head head) →
@@ -265,7 +257,7 @@ proto_reads head k ts h = reads (part (head_words head) ∷ written (codes ";") 
     let d = head_reads head k front said in
     record {
       other = decl.Proto _;
-      spelled = decls.prototype t (ends ∙ tables.semicolon) d.spelled;
+      spelled = decls.prototype t (ends ∙ lone_says semicolon) d.spelled;
       same = refl;
     }) ts (h ∙ line_symbols 0 (ended (head_words head)))
 
@@ -288,7 +280,7 @@ function_with f body kept_h kept_ls read = reads (part (head_words (head_of f.he
     } in
     record {
       other = decl.Function tree;
-      spelled = decls.a_function (decls.function t u (opens ∙ tables.open_curly) (closes ∙ tables.close_curly)
+      spelled = decls.a_function (decls.function t u (opens ∙ lone_says open_curly) (closes ∙ lone_says close_curly)
           hd.spelled ls.spelled b.spelled);
       same = same_function f tree refl ls.same b.same;
     })

@@ -7,6 +7,7 @@ use Rattle.sc_print.proofs.Common.{joined, kept_step, literal, ltb-false, map-Ex
 use Rattle.sc_print.proofs.Common.{prefix_of, prefix_words, prefixed, refl, roll-ExprTree, subst, sym, symbols, true}
 use Rattle.sc_print.proofs.Common.{variable, word, word_symbol, words_at, «prefix», ℕ, ◌&&◌, ◌++◌, ◌-◌, ◌∙◌, ◌∷◌, ◌≡◌}
 use Rattle.sc_print.proofs.Common.{◌≤◌}
+use Rattle.sc_base.specs.declared.op.BinaryOp.TheVariants as binary
 use Rattle.sc_base.specs.Levels as levels
 use Rattle.sc_ast.specs.declared.expr.ExprTree.TheOpen as term
 use Rattle.sc_ast.specs.declared.expr.ExprTree.TheVariants as expr
@@ -16,6 +17,7 @@ use Rattle.sc_expr.specs.declared.operator.Prefix.TheVariants as prefix
 use Rattle.sc_print.proofs.Tables as tables
 use Rattle.sc_print.proofs.Reading.{Say, up_to, joined_symbols, fixed, part, written, reads}
 use Rattle.sc_print.proofs.Literals.{name_says, literal_says}
+use Rattle.sc_print.proofs.Tables.{lone_says, open_paren, close_paren, open_square, close_square, dot}
 
 -- Whatever the lexemes that say the pieces, they spell the expression at this level.
 abbrev pub AtLevel : ℕ → List Piece → ExprTree → Type 0
@@ -29,8 +31,8 @@ module _ (e : ExprTree) where
     where
       go : (wanted : Bool) → nat_lt level own ≡ wanted → Say (symbols (in_parens wanted pieces)) ts → Spells level ts e
       go true q k = reads (written (codes "(") ∷ part pieces ∷ written (codes ")") ∷ []) (λ us. Spells level us e)
-          (λ t opens us said u closes. up_to 0 level _ e (omega arith) (parenthesised t u (opens ∙ tables.open_paren)
-          (closes ∙ tables.close_paren) (up_to own 11 us e low (inner us said)))) ts k
+          (λ t opens us said u closes. up_to 0 level _ e (omega arith) (parenthesised t u (opens ∙ lone_says open_paren)
+          (closes ∙ lone_says close_paren) (up_to own 11 us e low (inner us said)))) ts k
       go false q k =
           let le : own ≤ level = ltb-false level own q in
           up_to own level ts e le (inner ts (k ∙ ap symbols (append-nil pieces)))
@@ -75,7 +77,8 @@ index_at : (e f : ExprTree) (base place : List Piece) → AtLevel 0 base e → A
 index_at e f base place at_base at_place level =
     reads (part base ∷ written (codes "[") ∷ part place ∷ written (codes "]") ∷ []) _
     (λ ts said t opens us inside u closes. up_to 0 level _ _ (omega arith)
-    (index t u (opens ∙ tables.open_square) (closes ∙ tables.close_square) (at_base ts said) (at_place us inside)))
+    (index t u (opens ∙ lone_says open_square) (closes ∙ lone_says close_square) (at_base ts said)
+    (at_place us inside)))
 
 -- a base, and behind a mark a name
 named_at : (kind name : List ℕ) (base : List Piece) (e of : ExprTree) → AtLevel 0 base of →
@@ -106,15 +109,15 @@ form (term.Index base place) u k before level ts h =
 form (term.Member base name) u k before level ts h =
     let parts = and_parts (is_kept base) (is_ident name) k in
     named_at (codes ".") name (words_at base [] 0) _ base (u parts.0 [] 0)
-    (λ us t v is named d. member t v name (is ∙ tables.dot) (named ∙ name_says name parts.1) d) level ts h
+    (λ us t v is named d. member t v name (is ∙ lone_says dot) (named ∙ name_says name parts.1) d) level ts h
 form (term.Arrow base name) u k before level ts h =
     let parts = and_parts (is_kept base) (is_ident name) k in
     named_at (codes "->") name (words_at base [] 0) _ base (u parts.0 [] 0)
-    (λ us t v is named d. arrow t v name (is ∙ tables.arrow) (named ∙ name_says name parts.1) d) level ts h
-form (term.Deref of) u k before level ts h = prefixed_at _ mark.Star prefix.Dereference tables.star refl of
-    (words_at of) (u k) before level ts h
-form (term.Address of) u k before level ts h = prefixed_at _ mark.And prefix.Address tables.ampersand refl of
-    (words_at of) (u k) before level ts h
+    (λ us t v is named d. arrow t v name (is ∙ lone_says tables.arrow) (named ∙ name_says name parts.1) d) level ts h
+form (term.Deref of) u k before level ts h = prefixed_at _ mark.Star prefix.Dereference (tables.binary_says binary.Mul)
+    refl of (words_at of) (u k) before level ts h
+form (term.Address of) u k before level ts h = prefixed_at _ mark.And prefix.Address (tables.binary_says binary.BitAnd)
+    refl of (words_at of) (u k) before level ts h
 
 pub spelled_at : (e : ExprTree) → Holds e
 spelled_at = expr_induction Holds (λ t u kept before level ts h. form t u (subst (λ b. IsTrue b) (expr_at _ t) kept)

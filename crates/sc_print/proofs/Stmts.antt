@@ -1,30 +1,82 @@
--- The words of statements spell them, lines aside.
-use Rattle.sc_print.proofs.Common.{Bool, CallTree, Each, ExprTree, IsKeyword, IsMark, IsTrue, Keyword, Layout, Lexeme}
-use Rattle.sc_print.proofs.Common.{List, None, Option, Piece, SimpleKind, SimpleTree, Some, Spells, SpellsArgs}
+-- Statements without their lines, what each of those that are kept is, and that their words spell them.
+use Rattle.sc_print.proofs.Common.{Bool, CallTree, Each, ExprTree, Inside, IsKeyword, IsMark, IsTrue, Keyword, Layout}
+use Rattle.sc_print.proofs.Common.{Lexeme, List, None, Option, Piece, SimpleKind, SimpleTree, Some, Spells, SpellsArgs}
 use Rattle.sc_print.proofs.Common.{SpellsBlock, SpellsCall, SpellsCondition, SpellsIf, SpellsKind, SpellsPart}
-use Rattle.sc_print.proofs.Common.{SpellsPlace, SpellsStmtKind, SpellsStmts, StmtKind, StmtTree, StmtsSpell, []}
-use Rattle.sc_print.proofs.Common.{all_kept, and_parts, ap, append-nil, append_assoc, ap₂, are_kept, arith, bare_stmt}
-use Rattle.sc_print.proofs.Common.{behind_else, blank, block_words, call_words, chain_words, codes, comma}
+use Rattle.sc_print.proofs.Common.{SpellsPlace, SpellsStmtKind, SpellsStmts, StmtKind, StmtKind-F, StmtTree, StmtsSpell}
+use Rattle.sc_print.proofs.Common.{[], all_kept, and_parts, ap, append-nil, append_assoc, ap₂, are_kept, arith}
+use Rattle.sc_print.proofs.Common.{bare_stmt, behind_else, blank, block_words, call_words, chain_words, codes, comma}
 use Rattle.sc_print.proofs.Common.{condition_words, deeper, else_words, ended, eqb-true, equals}
 use Rattle.sc_print.proofs.Common.{everywhere as everywhere_holds, expr_words, false, false≢true, first_line}
 use Rattle.sc_print.proofs.Common.{first_words, for_words, if_words, if◌then◌else◌, indent, is_chain, is_ident, is_kept}
-use Rattle.sc_print.proofs.Common.{is_kept_stmt, join_by, kept_call, kept_option, kept_place, kept_simple, layouts}
-use Rattle.sc_print.proofs.Common.{length, line_of, lineless_kind, lineless_option, lineless_stmt, lineless_stmts}
-use Rattle.sc_print.proofs.Common.{lines_at, list_all, loosest_level, map, ne_eqb, newline, next_words, no_args}
-use Rattle.sc_print.proofs.Common.{place_words, refl, return_words, roll-StmtKind, simple_words, some_args, stmt_layout}
-use Rattle.sc_print.proofs.Common.{subst, sym, symbols, true, word, word_symbol, ℕ, ◌&&◌, ◌++◌, ◌==◌, ◌∙◌, ◌∷◌, ◌≡◌}
-use Rattle.sc_ast.specs.Prelude.{kind_of}
+use Rattle.sc_print.proofs.Common.{is_kept_stmt, join_by, kept_call, kept_kind, kept_option, kept_place, kept_simple}
+use Rattle.sc_print.proofs.Common.{kind_layout, layouts, length, line_of, lineless_kind, lineless_option, lineless_stmt}
+use Rattle.sc_print.proofs.Common.{lineless_stmts, lines_at, list_all, loosest_level, map, map-StmtKind, ne_eqb}
+use Rattle.sc_print.proofs.Common.{newline, next_words, no_args, place_words, refl, return_words, roll-StmtKind, rules}
+use Rattle.sc_print.proofs.Common.{simple_words, some_args, stmt_at, stmt_induction, stmt_layout, subst, sym, symbols}
+use Rattle.sc_print.proofs.Common.{true, word, word_symbol, ℕ, ◌&&◌, ◌++◌, ◌==◌, ◌∙◌, ◌∷◌, ◌≡◌}
+use Rattle.sc_ast.specs.StmtWords as printing
+use Rattle.sc_ast.specs.declared.stmt.StmtTree as trees
+use Rattle.sc_ast.specs.declared.stmt.StmtKind as kinds
+use Rattle.sc_ast.specs.declared.stmt.StmtKind.TheVariants as stmt
+use Rattle.sc_print.specs.KeptStmts as kept
 use Rattle.sc_ast.specs.declared.stmt.SimpleKind.TheVariants as simple
 use Rattle.sc_expr.specs.declared.mark.Mark.TheVariants as mark
 use Rattle.sc_parse.specs.Statements as spell
 use Rattle.sc_print.proofs.Tables as tables
+use Rattle.sc_ast.specs.declared.stmt.StmtKind.TheOpen as layer
+use Rattle.sc_expr.specs.declared.mark.Keyword.TheVariants as keyword
+use Rattle.sc_ast.specs.Prelude.{kind_of}
 use Rattle.sc_print.proofs.Reading.{Say, Reading, fixed, part, written, reads, separated, line_symbols}
 use Rattle.sc_print.proofs.Literals.{name_says}
 use Rattle.sc_print.proofs.Spelling.{spelled_at}
-use Rattle.sc_ast.specs.declared.stmt.StmtKind.TheOpen as layer
-use Rattle.sc_ast.specs.declared.stmt.StmtKind.TheVariants as stmt
-use Rattle.sc_print.proofs.Each.{all_at, kept_each, each_kept, Kept, Of, Forms, by_forms, bare_if, bare_while, bare_for}
-use Rattle.sc_expr.specs.declared.mark.Keyword.TheVariants as keyword
+use Rattle.sc_print.proofs.Tables.{lone_says, open_paren, close_paren, semicolon, open_curly, close_curly}
+
+pub all_at : (stmts : List StmtTree) → all_kept (map is_kept_stmt stmts) ≡ true → list_all is_kept_stmt stmts ≡ true
+all_at [] h = refl
+all_at (s ∷ stmts) h =
+    let parts = and_parts _ (all_kept (map _ stmts)) h in
+    rw (parts.0, all_at stmts parts.1)
+
+-- what holds of a statement that is kept
+abbrev pub Kept : (StmtTree → Type 0) → StmtTree → Type 0
+Kept P s = IsTrue (is_kept_stmt s) → P s
+
+pub kept_each : (P : StmtTree → Type 0) (stmts : List StmtTree) → Each (Kept P) stmts →
+    list_all is_kept_stmt stmts ≡ true → Each P stmts
+kept_each P [] each k = tt
+kept_each P (s ∷ stmts) each k =
+    let parts = and_parts (is_kept_stmt s) _ k in
+    (each.0 parts.0, kept_each P stmts each.1 parts.1)
+
+pub each_kept : (P : StmtTree → Type 0) (stmts : List StmtTree) → ((s : StmtTree) → Kept P s) →
+    all_kept (map is_kept_stmt stmts) ≡ true → Each P stmts
+each_kept P stmts all k = kept_each P stmts (everywhere_holds _ all stmts) (all_at stmts k)
+
+abbrev pub Of : (Layout → StmtKind → Type 0) → StmtTree → Type 0
+Of P s = P (stmt_layout s) s.kind
+
+-- P of the words of each kind of statement, from that of the statements inside
+abbrev pub Forms : (Layout → StmtKind → Type 0) → Type 0
+Forms P = (k : StmtKind-F StmtKind StmtTree) → Inside (Kept (Of P)) k →
+    IsTrue (kept.kind_step (map-StmtKind _ _ _ _ kept_kind is_kept_stmt k)) →
+    P (printing.kind_step (map-StmtKind _ _ _ _ kind_layout stmt_layout k)) (roll-StmtKind k)
+
+pub by_forms : (P : Layout → StmtKind → Type 0) → Forms P → (s : StmtTree) → Kept (Of P) s
+by_forms P form = stmt_induction (Kept (Of P)) (λ line k inside kept_s.
+    subst (λ l. P l (roll-StmtKind k)) (sym (stmt_at Layout Layout printing.kind_step printing.stmt_step line k))
+    (form k inside (subst (λ x. IsTrue x) (stmt_at Bool Bool kept.kind_step kept.stmt_step line k) kept_s)))
+
+-- without lines, by the parts
+pub bare_if : (c : ExprTree) (t e : List StmtTree) → lineless_kind (stmt.If c t e) ≡
+    stmt.If c (lineless_stmts t) (lineless_stmts e)
+bare_if c t e = search (rules, kinds.the_lemmas, trees.the_lemmas)
+
+pub bare_while : (c : ExprTree) (b : List StmtTree) → lineless_kind (stmt.While c b) ≡ stmt.While c (lineless_stmts b)
+bare_while c b = search (rules, kinds.the_lemmas, trees.the_lemmas)
+
+pub bare_for : (f : Option SimpleTree) (c : ExprTree) (n : Option SimpleTree) (b : List StmtTree) →
+    lineless_kind (stmt.For f c n b) ≡ stmt.For (lineless_option f) c (lineless_option n) (lineless_stmts b)
+bare_for f c n b = search (rules, kinds.the_lemmas, trees.the_lemmas)
 
 pub expr_reads : (e : ExprTree) → IsTrue (is_kept e) → Reading (expr_words e) (λ ts. Spells loosest_level ts e)
 expr_reads e k ts h = spelled_at e k [] 11 ts h
@@ -41,7 +93,7 @@ call_reads c k =
     let parts = and_parts (is_ident c.name) (list_all is_kept c.args) k in
     reads (written c.name ∷ written (codes "(") ∷ part (join_by _ comma c.args) ∷ written (codes ")") ∷ []) _
     (λ t is u opens args said v closes. spell.call t u v c.name (is ∙ name_says c.name parts.0)
-    (opens ∙ tables.open_paren) (closes ∙ tables.close_paren) (args_read c.args parts.1 args said))
+    (opens ∙ lone_says open_paren) (closes ∙ lone_says close_paren) (args_read c.args parts.1 args said))
 
 -- a place, and behind `=` what is assigned
 assigned : (place : ExprTree) (value : List Piece) (P : List Lexeme → Type 0) → IsTrue (kept_place place) →
@@ -70,7 +122,7 @@ in_brackets cond = word (codes "(") ∷ (expr_words cond ++ word (codes ")") ∷
 pub condition_reads : (cond : ExprTree) → IsTrue (is_kept cond) →
     Reading (in_brackets cond) (λ ts. SpellsCondition ts cond)
 condition_reads cond k = reads (written (codes "(") ∷ part (expr_words cond) ∷ written (codes ")") ∷ fixed blank ∷ []) _
-    (λ t opens ts said u closes. spell.condition t u (opens ∙ tables.open_paren) (closes ∙ tables.close_paren)
+    (λ t opens ts said u closes. spell.condition t u (opens ∙ lone_says open_paren) (closes ∙ lone_says close_paren)
     (expr_reads cond k ts said))
 
 -- The lexemes spell a statement, which is an `if` where that is told, and which is this one, lines aside.
@@ -125,7 +177,7 @@ block_reads depth stmts each =
     let inner = lines_read _ stmts each ts said in
     record {
       others = inner.others;
-      spelled = spell.block t u (opens ∙ tables.open_curly) (closes ∙ tables.close_curly) inner.spelled;
+      spelled = spell.block t u (opens ∙ lone_says open_curly) (closes ∙ lone_says close_curly) inner.spelled;
       same = inner.same;
     })
 
@@ -215,21 +267,21 @@ simply k d = record { kind = k; spelled = d; chained = λ q. absurd (false≢tru
 plain_reads : (k : SimpleKind) → IsTrue (kept_simple k) →
     Reading (ended (simple_words k)) (λ ts. SpellsStmtKind ts (kind_of k))
 plain_reads k kept_k = reads (part (simple_words k) ∷ written (codes ";") ∷ []) _
-    (λ ts said t ends. spell.plain t (ends ∙ tables.semicolon) (simple_reads k kept_k ts said))
+    (λ ts said t ends. spell.plain t (ends ∙ lone_says semicolon) (simple_reads k kept_k ts said))
 
 -- one reserved word and `;`
 two_words : (w : Keyword) (k : StmtKind) →
     ((t u : Lexeme) → IsKeyword w t → IsMark mark.Semicolon u → SpellsStmtKind (t ∷ u ∷ []) k) →
     Reading (ended (word (tables.keyword_text w) ∷ [])) (λ ts. Spelled ts false k)
 two_words w k spells = reads (written _ ∷ written _ ∷ []) _
-    (λ t is u ends. simply k (spells t u (is ∙ tables.keyword_says w) (ends ∙ tables.semicolon)))
+    (λ t is u ends. simply k (spells t u (is ∙ tables.keyword_says w) (ends ∙ lone_says semicolon)))
 
 -- `return`, what is returned, and `;`
 returned : (value : List Piece) (k : StmtKind) → ((t : Lexeme) (ts : List Lexeme) (u : Lexeme) →
     IsKeyword keyword.Return t → IsMark mark.Semicolon u → Say (symbols value) ts →
     SpellsStmtKind (t ∷ (ts ++ u ∷ [])) k) → Reading (return_words value) (λ ts. Spelled ts false k)
 returned value k spells = reads (written _ ∷ part value ∷ written _ ∷ []) _
-    (λ t is ts said u ends. simply k (spells t ts u (is ∙ tables.keyword_says _) (ends ∙ tables.semicolon) said))
+    (λ t is ts said u ends. simply k (spells t ts u (is ∙ tables.keyword_says _) (ends ∙ lone_says semicolon) said))
 
 -- a part of a `for`
 pub record Part (ts : List Lexeme) (part : Option SimpleTree) : Type 0 where
@@ -268,8 +320,8 @@ for_with f c n b turn kept_f kept_c read_turn at_b kept_b depth =
     let body = block_reads depth b (kept_each _ b at_b kept_b) ds inner in
     record {
       kind = stmt.For first.other c next.other body.others;
-      spelled = spell.for_loop t u v w x (is ∙ tables.keyword_says keyword.For) (opens ∙ tables.open_paren)
-          (ends ∙ tables.semicolon) (ends_too ∙ tables.semicolon) (closes ∙ tables.close_paren) first.spelled
+      spelled = spell.for_loop t u v w x (is ∙ tables.keyword_says keyword.For) (opens ∙ lone_says open_paren)
+          (ends ∙ lone_says semicolon) (ends_too ∙ lone_says semicolon) (closes ∙ lone_says close_paren) first.spelled
           (spell.a_test (expr_reads c kept_c bs test)) next.spelled body.spelled;
       chained = λ q. absurd (false≢true q);
       same = bare_for first.other c next.other body.others ∙
@@ -295,7 +347,7 @@ for_reads f c n b kept_f kept_c kept_n at_b kept_b depth ts h =
 form : Forms Reads
 unfolding roll-StmtKind denote.Hole.Carrier.roll
 form layer.Empty inside k depth ts h = reads (written _ ∷ []) (λ us. Spelled us false stmt.Empty)
-    (λ t is. simply _ (spell.empty t (is ∙ tables.semicolon))) ts h
+    (λ t is. simply _ (spell.empty t (is ∙ lone_says semicolon))) ts h
 form (layer.Assign place value) inside k depth ts h = simply _ (plain_reads (simple.Assign place value) k ts h)
 form (layer.AssignCall place call) inside k depth ts h = simply _ (plain_reads (simple.AssignCall place call) k ts h)
 form (layer.Call call) inside k depth ts h = simply _ (plain_reads (simple.Call call) k ts h)

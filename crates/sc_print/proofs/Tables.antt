@@ -15,41 +15,24 @@ use Rattle.sc_expr.specs.declared.lexeme.Symbol.TheVariants as symbol
 abbrev pub SaysMark : List ℕ → Mark → Type 0
 SaysMark text m = word_symbol text ≡ symbol.Mark m
 
-pub open_paren : SaysMark (codes "(") mark.OpenParen
-unfolding word_symbol kind_of word_kind is_reserved is_name is_integer is_number is_mark says mark_of
-open_paren = refl
+-- the marks that no longer mark begins with
+pub data Lone : List ℕ → Mark → Type 0 where
+  open_paren : Lone (codes "(") mark.OpenParen
+  close_paren : Lone (codes ")") mark.CloseParen
+  open_square : Lone (codes "[") mark.OpenSquare
+  close_square : Lone (codes "]") mark.CloseSquare
+  dot : Lone (codes ".") mark.Dot
+  arrow : Lone (codes "->") mark.Arrow
+  plus_plus : Lone (codes "++") mark.PlusPlus
+  semicolon : Lone (codes ";") mark.Semicolon
+  comma_mark : Lone (codes ",") mark.Comma
+  open_curly : Lone (codes "{") mark.OpenCurly
+  close_curly : Lone (codes "}") mark.CloseCurly
 
-pub close_paren : SaysMark (codes ")") mark.CloseParen
+pub lone_says : {text : List ℕ} {m : Mark} → Lone text m → SaysMark text m
 unfolding word_symbol kind_of word_kind is_reserved is_name is_integer is_number is_mark says mark_of
-close_paren = refl
-
-pub open_square : SaysMark (codes "[") mark.OpenSquare
-unfolding word_symbol kind_of word_kind is_reserved is_name is_integer is_number is_mark says mark_of
-open_square = refl
-
-pub close_square : SaysMark (codes "]") mark.CloseSquare
-unfolding word_symbol kind_of word_kind is_reserved is_name is_integer is_number is_mark says mark_of
-close_square = refl
-
-pub dot : SaysMark (codes ".") mark.Dot
-unfolding word_symbol kind_of word_kind is_reserved is_name is_integer is_number is_mark says mark_of
-dot = refl
-
-pub arrow : SaysMark (codes "->") mark.Arrow
-unfolding word_symbol kind_of word_kind is_reserved is_name is_integer is_number is_mark says mark_of
-arrow = refl
-
-pub plus_plus : SaysMark (codes "++") mark.PlusPlus
-unfolding word_symbol kind_of word_kind is_reserved is_name is_integer is_number is_mark says mark_of
-plus_plus = refl
-
-pub star : SaysMark (codes "*") mark.Star
-unfolding word_symbol kind_of word_kind is_reserved is_name is_integer is_number is_mark says mark_of
-star = refl
-
-pub ampersand : SaysMark (codes "&") mark.And
-unfolding word_symbol kind_of word_kind is_reserved is_name is_integer is_number is_mark says mark_of
-ampersand = refl
+lone_says open_paren = refl
+lone_says _ = refl
 
 abbrev pub unary_mark : UnaryOp → Mark
 unary_mark unary.Minus = mark.Minus
@@ -111,22 +94,6 @@ at_least_2 _ = omega arith
 pub equal : SaysMark (codes "=") mark.Equal
 unfolding word_symbol kind_of word_kind is_reserved is_name is_integer is_number is_mark says mark_of
 equal = refl
-
-pub semicolon : SaysMark (codes ";") mark.Semicolon
-unfolding word_symbol kind_of word_kind is_reserved is_name is_integer is_number is_mark says mark_of
-semicolon = refl
-
-pub comma_mark : SaysMark (codes ",") mark.Comma
-unfolding word_symbol kind_of word_kind is_reserved is_name is_integer is_number is_mark says mark_of
-comma_mark = refl
-
-pub open_curly : SaysMark (codes "{") mark.OpenCurly
-unfolding word_symbol kind_of word_kind is_reserved is_name is_integer is_number is_mark says mark_of
-open_curly = refl
-
-pub close_curly : SaysMark (codes "}") mark.CloseCurly
-unfolding word_symbol kind_of word_kind is_reserved is_name is_integer is_number is_mark says mark_of
-close_curly = refl
 
 -- the word says this reserved word
 abbrev pub SaysKeyword : List ℕ → Keyword → Type 0

@@ -1,23 +1,25 @@
--- The words of whole sections spell them, and their text is cut into them.
-use Rattle.sc_print.proofs.Common.{Decl, IsTrue, Lexeme, List, Piece, SameButLines, SaysAll, SectionSpells, SectionTree}
-use Rattle.sc_print.proofs.Common.{SpellsDecl, SpellsDirectives, SpellsSection, [], and_parts, ap, append_assoc, ap₂}
-use Rattle.sc_print.proofs.Common.{decl_words, dense_decl, dense_text, dense_words, export_words, flat_map}
-use Rattle.sc_print.proofs.Common.{heading_words, import_words, is_kept_decl, is_name, kept_export, kept_import}
-use Rattle.sc_print.proofs.Common.{kept_section, lineless_decl, lineless_export, lineless_import, list_all, map}
-use Rattle.sc_print.proofs.Common.{newline, printed, refl, section_words, sym, symbols, text_of, true, word, ℕ, ◌++◌}
-use Rattle.sc_print.proofs.Common.{◌∙◌, ◌∷◌, ◌≡◌}
+-- The words of whole sections spell them, their text is cut into them, and what is printed reads back.
+use Rattle.sc_print.proofs.Common.{Decl, DeclsReadAs, ExprTree, IsTrue, Lexeme, List, Piece, ReadsAs, SameButLines}
+use Rattle.sc_print.proofs.Common.{SaysAll, SectionReadsAs, SectionSpells, SectionTree, SpellsDecl, SpellsDirectives}
+use Rattle.sc_print.proofs.Common.{SpellsSection, StmtTree, StmtsReadAs, Token, [], and_parts, ap, append_assoc, ap₂}
+use Rattle.sc_print.proofs.Common.{are_kept, decl_words, decls_text, dense_decl, dense_text, dense_words, export_words}
+use Rattle.sc_print.proofs.Common.{expr_text, flat_map, heading_words, import_words, is_kept, is_kept_decl, is_name}
+use Rattle.sc_print.proofs.Common.{kept_export, kept_import, kept_section, lexeme_of, lineless_decl, lineless_export}
+use Rattle.sc_print.proofs.Common.{lineless_import, lines_at, list_all, map, newline, printed, refl, section_words}
+use Rattle.sc_print.proofs.Common.{stmts_text, sym, symbol_of, symbols, text_of, true, word, ℕ, ◌++◌, ◌∙◌, ◌∷◌, ◌≡◌}
 use Rattle.sc_ast.specs.declared.section.Decl.TheVariants as decl
+use Rattle.sc_parse.specs.Sections as spell
 use Rattle.sc_print.proofs.Reading.{joined_symbols, AllAlike, Reading, part, written, reads}
-use Rattle.sc_print.proofs.Spacing.{Tidy, line_end}
-use Rattle.sc_print.proofs.StmtSpacing.{Free}
-use Rattle.sc_print.proofs.DeclSpacing.{decl_tidy, each_tidy, decls_tidy}
+use Rattle.sc_print.proofs.Spacing.{Tidy, line_end, tidy_at}
+use Rattle.sc_print.proofs.TreeSpacing.{Free, decl_tidy, each_tidy, decls_tidy, stmts_tidy}
 use Rattle.sc_ast.specs.declared.section.ExportLine.{ExportLine}
 use Rattle.sc_ast.specs.declared.section.ImportLine.{ImportLine}
-use Rattle.sc_parse.specs.Sections as spell
 use Rattle.sc_print.proofs.DirectiveWords.{export_says, export_line_is, import_text, import_says, import_line_is}
 use Rattle.sc_print.proofs.DirectiveWords.{heading_text, heading_says, heading_line_is, heading_begins}
-use Rattle.sc_print.proofs.Lined.{Lined, tidy, line, found_lines, Found}
+use Rattle.sc_print.proofs.Lined.{Lined, tidy, line, found_lines, Found, cut_of}
 use Rattle.sc_print.proofs.Sections.{decls_read}
+use Rattle.sc_print.proofs.Spelling.{words_spell}
+use Rattle.sc_print.proofs.Stmts.{stmts_spell}
 
 -- Directives that are spelled and are the same, lines aside.
 record Directed (ts : List Lexeme) (exports : List ExportLine) (imports : List ImportLine) : Type 0 where
@@ -163,10 +165,8 @@ without_line : {pieces : List Piece} {rest : List ℕ} → Tidy (newline ∷ pie
 without_line (line_end t) = t
 
 pub dense_tidy : (d : Decl) → IsTrue (is_kept_decl d) → Free (dense_decl d)
-dense_tidy (decl.Struct tree) k rest = decl_tidy (decl.Struct tree) k rest
-dense_tidy (decl.Global tree) k rest = decl_tidy (decl.Global tree) k rest
-dense_tidy (decl.Proto tree) k rest = decl_tidy (decl.Proto tree) k rest
 dense_tidy (decl.Function tree) k rest = without_line (decl_tidy (decl.Function tree) k rest)
+dense_tidy d k rest = decl_tidy d k rest
 
 pub decl_symbols : (d : Decl) → symbols (dense_decl d) ≡ symbols (decl_words d)
 decl_symbols (decl.Struct tree) = refl
@@ -194,3 +194,32 @@ pub dense_cut : (tree : SectionTree) → IsTrue (kept_section tree) →
 dense_cut tree k =
     let found = cut_with tree k _ (each_tidy dense_decl is_kept_decl dense_tidy tree.decls (keeps tree k).decls []) in
     record { tokens = found.tokens; cut = found.cuts; says = found.says ∙ section_symbols tree }
+
+said : (bytes : List ℕ) (tokens : List Token) → map (λ t. t.symbol) (map (λ token. lexeme_of bytes token) tokens) ≡
+    map (λ t. symbol_of bytes t) tokens
+said bytes [] = refl
+said bytes (t ∷ ts) = ap (λ x. symbol_of bytes t ∷ x) (said bytes ts)
+
+pub reads_back : (expr : ExprTree) → IsTrue (is_kept expr) → ReadsAs (expr_text expr) expr
+reads_back expr kept =
+    let found = cut_of _ (tidy_at expr kept [] 11 [] refl).0 in
+    record { tokens = found.tokens; cut = found.cuts; spelled = words_spell expr kept _ (said _ _ ∙ found.says) }
+
+pub stmts_read_back : (stmts : List StmtTree) → IsTrue (are_kept stmts) → (depth : ℕ) →
+    StmtsReadAs (stmts_text depth stmts) stmts
+stmts_read_back stmts kept depth =
+    let found = cut_of (lines_at depth _) (stmts_tidy stmts kept depth []) in
+    let spelled = stmts_spell stmts kept depth _ (said _ _ ∙ found.says) in
+    record { tokens = found.tokens; cut = found.cuts; others = spelled.0; spelled = spelled.1; same = spelled.2 }
+
+pub decls_read_back : (ds : List Decl) → IsTrue (list_all is_kept_decl ds) → DeclsReadAs (decls_text ds) ds
+decls_read_back ds kept =
+    let found = cut_of (flat_map _ ds) (decls_tidy ds kept []) in
+    let read = decls_read ds kept _ (said _ _ ∙ found.says) in
+    record { tokens = found.tokens; cut = found.cuts; others = read.others; spelled = read.spelled; same = read.same }
+
+pub section_reads_back : (tree : SectionTree) → IsTrue (kept_section tree) → SectionReadsAs (printed tree) tree
+section_reads_back tree kept =
+    let found = section_cut tree kept in
+    let spelled = section_reads tree kept _ (said _ _ ∙ found.says) in
+    record { tokens = found.tokens; cut = found.cuts; other = spelled.0; spelled = spelled.1; same = spelled.2 }

@@ -5,7 +5,7 @@ use Rattle.sc_reread.proofs.Common.{blank, body_tree, codes, digits, false, filt
 use Rattle.sc_reread.proofs.Common.{function_head, function_height, function_text, function_tree, function_words, gap}
 use Rattle.sc_reread.proofs.Common.{head_of, head_tidy, head_words, if◌then◌else◌, indent, is_kept_stmt, is_of}
 use Rattle.sc_reread.proofs.Common.{joined_symbols, kept_function, kept_head, layouts, line_end, line_of, lines_at}
-use Rattle.sc_reread.proofs.Common.{literal, literal_text, newline, next, piece_text, proto_head, refl, row_kind}
+use Rattle.sc_reread.proofs.Common.{literal, literal_text, lone, newline, next, piece_text, proto_head, refl, row_kind}
 use Rattle.sc_reread.proofs.Common.{row_text, rules, stmt_height, stmt_layout, stmts_height, subst, sym, symbols}
 use Rattle.sc_reread.proofs.Common.{text_of, tidy_append, true, unlined, word, word_symbol, ℕ, ◌++◌, ◌∙◌, ◌∷◌, ◌≡◌, ◌≤◌}
 use Rattle.sc_ast.specs.declared.expr.ExprTree as exprs
@@ -13,7 +13,8 @@ use Rattle.sc_ast.specs.declared.stmt.StmtTree as stmts
 use Rattle.sc_ast.specs.declared.stmt.StmtKind as kinds
 use Rattle.sc_ast.specs.declared.stmt.StmtKind.TheVariants as stmt
 use Rattle.sc_expr.specs.declared.mark.Keyword.TheVariants as keyword
-use Rattle.sc_print.proofs.Apart as apart
+use Rattle.sc_print.proofs.Spacing as apart
+use Rattle.sc_print.proofs.Tables as tables
 use Rattle.sc_print.proofs.Spacing.{none}
 use Rattle.sc_reread.proofs.Nesting.{Nested, even_keyword, even_literal, nested_append, nested_blank, nested_curly}
 use Rattle.sc_reread.proofs.Nesting.{nested_even, nested_level, nested_line, nested_more, nested_none, nested_parens}
@@ -60,9 +61,9 @@ forever_text = refl
 
 forever_same : Same 2 (line_of 1 ((stmt_layout forever).words 1)) forever_pieces (codes "  while (1) { }\n")
 forever_same = record {
-  tidy = λ rest. at_level 1 (next (apart.keyword_word keyword.While _ refl) (gap (next (apart.open_paren _)
-      (next (literal_word (literal_number 1) refl _ refl) (next (apart.close_paren _) (gap (next (apart.open_curly _)
-      (gap (next (apart.close_curly _) (line_end none))))))))));
+  tidy = λ rest. at_level 1 (next (apart.keyword_word keyword.While _ refl) (gap (lone tables.open_paren
+      (next (literal_word (literal_number 1) refl _ refl) (lone tables.close_paren (gap (lone tables.open_curly
+      (gap (lone tables.close_curly (line_end none))))))))));
   spelled = forever_text;
   says = sym (ap (λ ps. symbols (line_of 1 ps)) forever_laid);
   nested = nested_level 1 (nested_even (even_keyword keyword.While) (nested_blank (nested_parens
@@ -156,8 +157,8 @@ function_is interfaces rows entry f called h =
         low = let low = body.low in omega arith;
         same = record {
           tidy = λ rest. tidy_append words (block b.0) rest (head_tidy (proto_head f) head.kept _)
-              (gap (next (apart.open_curly _) (line_end (tidy_append b.0 (word (codes "}") ∷ newline ∷ []) rest
-              (body.same.tidy _) (next (apart.close_curly _) (line_end none))))));
+              (gap (lone tables.open_curly (line_end (tidy_append b.0 (word (codes "}") ∷ newline ∷ []) rest
+              (body.same.tidy _) (lone tables.close_curly (line_end none))))));
           spelled = flat_map-append piece_text words (block b.0) ∙
               ap₂ (λ x y. x ++ (codes " {\n" ++ y)) head.spelled ending;
           says = joined_symbols words (block b.0) ∙

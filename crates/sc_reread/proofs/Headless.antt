@@ -16,7 +16,7 @@ use Rattle.sc_event.specs.declared.row.Entry.TheVariants as entry
 unfoldable use Rattle.sc_lex.specs.Prelude.{heading_name, is_mark, kind_of, line_kind, word_kind, words}
 use Rattle.sc_lex.specs.declared.token.TokenKind.TheVariants as kind
 use Rattle.sc_lex.proofs.Texts.{word_run}
-use Rattle.sc_print.proofs.Apart.{IsWord, run_is}
+use Rattle.sc_print.proofs.Spacing.{IsWord, run_is}
 use Rattle.sc_print.proofs.Spacing as spacing
 use Rattle.sc_reread.proofs.Headings.{last, last_append, mark, to_begins}
 use Rattle.sc_reread.proofs.Performing.{decls_are, ident_name}

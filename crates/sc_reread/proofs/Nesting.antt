@@ -101,16 +101,16 @@ pub even_keyword : (w : Keyword) → Even (word_symbol (tables.keyword_text w))
 even_keyword w count = ap (λ s. open_after s count) (tables.keyword_says w)
 
 pub even_semicolon : Even (word_symbol (codes ";"))
-even_semicolon count = ap (λ s. open_after s count) tables.semicolon
+even_semicolon count = ap (λ s. open_after s count) (tables.lone_says tables.semicolon)
 
 pub even_comma : Even (word_symbol (codes ","))
-even_comma count = ap (λ s. open_after s count) tables.comma_mark
+even_comma count = ap (λ s. open_after s count) (tables.lone_says tables.comma_mark)
 
 pub even_equal : Even (word_symbol (codes "="))
 even_equal count = ap (λ s. open_after s count) tables.equal
 
 pub even_step : Even (word_symbol (codes "++"))
-even_step count = ap (λ s. open_after s count) tables.plus_plus
+even_step count = ap (λ s. open_after s count) (tables.lone_says tables.plus_plus)
 
 pub even_binary : (op : BinaryOp) → Even (word_symbol (binary_text op))
 even_binary op count = ap (λ s. open_after s count) (tables.binary_says op) ∙ by op
@@ -120,22 +120,22 @@ even_binary op count = ap (λ s. open_after s count) (tables.binary_says op) ∙
     by _ = refl
 
 open_paren : Opens (word_symbol (codes "("))
-open_paren count = ap (λ s. open_after s count) tables.open_paren
+open_paren count = ap (λ s. open_after s count) (tables.lone_says tables.open_paren)
 
 close_paren : Closes (word_symbol (codes ")"))
-close_paren count = ap (λ s. open_after s count) tables.close_paren
+close_paren count = ap (λ s. open_after s count) (tables.lone_says tables.close_paren)
 
 open_square : Opens (word_symbol (codes "["))
-open_square count = ap (λ s. open_after s count) tables.open_square
+open_square count = ap (λ s. open_after s count) (tables.lone_says tables.open_square)
 
 close_square : Closes (word_symbol (codes "]"))
-close_square count = ap (λ s. open_after s count) tables.close_square
+close_square count = ap (λ s. open_after s count) (tables.lone_says tables.close_square)
 
 open_curly : Opens (word_symbol (codes "{"))
-open_curly count = ap (λ s. open_after s count) tables.open_curly
+open_curly count = ap (λ s. open_after s count) (tables.lone_says tables.open_curly)
 
 close_curly : Closes (word_symbol (codes "}"))
-close_curly count = ap (λ s. open_after s count) tables.close_curly
+close_curly count = ap (λ s. open_after s count) (tables.lone_says tables.close_curly)
 
 pub nested_parens : {depth : ℕ} {inner pieces : List Piece} → Nested depth inner → Nested (suc depth) pieces →
     Nested (suc depth) (word (codes "(") ∷ (inner ++ word (codes ")") ∷ pieces))

@@ -4,10 +4,10 @@ use Rattle.sc_reread.proofs.Common.{Row, Scalar, StmtTree, Tidy, [], action_kind
 use Rattle.sc_reread.proofs.Common.{arith, at_level, blank, block_words, codes, condition_words, counter_name}
 use Rattle.sc_reread.proofs.Common.{expr_height, expr_words, fits, flat_map-append, gap, indent, is_ident, is_kept}
 use Rattle.sc_reread.proofs.Common.{is_kept_stmt, is_name, is_reserved, line_end, line_of, literal_kind, literal_some}
-use Rattle.sc_reread.proofs.Common.{literal_text, max, name_kind, name_some, newline, next, piece_symbols, piece_text}
-use Rattle.sc_reread.proofs.Common.{refl, row_kind, row_text, rules, stmt_height, stmt_layout, subst, suc, sym, symbols}
-use Rattle.sc_reread.proofs.Common.{text_of, tidy_append, true, unlined, word, word_symbol, ℕ, ◌++◌, ◌+◌, ◌<◌, ◌^◌, ◌∙◌}
-use Rattle.sc_reread.proofs.Common.{◌∷◌, ◌≡◌, ◌≤◌}
+use Rattle.sc_reread.proofs.Common.{literal_text, lone, max, name_kind, name_some, newline, next, piece_symbols}
+use Rattle.sc_reread.proofs.Common.{piece_text, refl, row_kind, row_text, rules, stmt_height, stmt_layout, subst, suc}
+use Rattle.sc_reread.proofs.Common.{sym, symbols, text_of, tidy_append, true, unlined, word, word_symbol, ℕ, ◌++◌, ◌+◌}
+use Rattle.sc_reread.proofs.Common.{◌<◌, ◌^◌, ◌∙◌, ◌∷◌, ◌≡◌, ◌≤◌}
 use Rattle.sc_base.specs.declared.op.BinaryOp.TheVariants as binary
 use Rattle.sc_ast.specs.declared.expr.ExprTree as exprs
 use Rattle.sc_ast.specs.declared.expr.ExprTree.TheVariants as expr
@@ -15,9 +15,10 @@ use Rattle.sc_ast.specs.declared.stmt.StmtTree as stmts
 use Rattle.sc_ast.specs.declared.stmt.StmtKind as kinds
 use Rattle.sc_ast.specs.declared.stmt.StmtKind.TheVariants as stmt
 use Rattle.sc_expr.specs.declared.mark.Keyword.TheVariants as keyword
-use Rattle.sc_print.proofs.Apart as apart
+use Rattle.sc_print.proofs.Spacing as apart
+use Rattle.sc_print.proofs.Tables as tables
 use Rattle.sc_print.proofs.Spacing.{none}
-use Rattle.sc_print.proofs.StmtSpacing.{Free, stmt_holds}
+use Rattle.sc_print.proofs.TreeSpacing.{Free, stmt_holds}
 use Rattle.sc_lex.specs.declared.token.TokenKind.TheVariants as kind
 use Rattle.sc_reread.proofs.Nesting.{Nested, even_binary, even_equal, even_ident, even_keyword, even_literal}
 use Rattle.sc_reread.proofs.Nesting.{even_semicolon, nested_append, nested_blank, nested_curly, nested_even}
@@ -144,12 +145,12 @@ literal_word n k rest calm = apart.plain_word (literal_text n) rest kind.Integer
 row_tidy : (n m : Number) (action : List Piece) → fits n ≡ true → fits m ≡ true → Free action →
     Free (row_pieces n m action)
 row_tidy n m action k l free rest =
-    at_level 1 (next (apart.keyword_word keyword.If _ refl) (gap (next (apart.open_paren _)
+    at_level 1 (next (apart.keyword_word keyword.If _ refl) (gap (lone tables.open_paren
     (next (counter_word _ refl) (gap (next (apart.binary_word binary.Equal _) (gap (next (literal_word n k _ refl)
-    (next (apart.close_paren _) (gap (next (apart.open_curly _) (gap (next (counter_word _ refl)
-    (gap (next (apart.equal_word _) (gap (next (literal_word m l _ refl) (next (apart.semicolon _) (gap
+    (lone tables.close_paren (gap (lone tables.open_curly (gap (next (counter_word _ refl)
+    (gap (next (apart.equal_word _) (gap (next (literal_word m l _ refl) (lone tables.semicolon (gap
     (tidy_append action (blank ∷ word (codes "}") ∷ newline ∷ []) rest (free _)
-    (gap (next (apart.close_curly _) (line_end none)))))))))))))))))))))))
+    (gap (lone tables.close_curly (line_end none)))))))))))))))))))))))
 
 row_nested : (n m : Number) (action : List Piece) → fits n ≡ true → fits m ≡ true → Nested 1 action →
     Nested 2 (row_pieces n m action)

@@ -99,16 +99,10 @@ module _ (b : ℕ) (rest : List ℕ) where
       let one : 1 + position_or_len is_comma rest ≡ suc (position_or_len is_comma rest) = omega arith in
       rw (e, one) refl
 
-  first_here : is_comma b ≡ true → first_piece (b ∷ rest) ≡ []
-  first_here e = rw e refl
-
   after_past : is_comma b ≡ false → after_first is_comma (b ∷ rest) ≡ after_first is_comma rest
   after_past e =
       let one : 1 + position_or_len is_comma rest + 1 ≡ suc (position_or_len is_comma rest + 1) = omega arith in
       rw (e, one) refl
-
-  after_here : is_comma b ≡ true → after_first is_comma (b ∷ rest) ≡ rest
-  after_here e = rw e refl
 
 none_passes : (text : List ℕ) → position_or_len is_comma text ≡ length text → list_any is_comma text ≡ false
 none_passes [] e = refl
@@ -143,9 +137,7 @@ more_pieces (b ∷ rest) e = go (is_comma b) refl (more_pieces rest)
     go : (x : Bool) → is_comma b ≡ x → (list_any is_comma rest ≡ true →
         pieces rest ≡ first_piece rest ∷ pieces (after_first is_comma rest))
         → pieces (b ∷ rest) ≡ first_piece (b ∷ rest) ∷ pieces (after_first is_comma (b ∷ rest))
-    go true is later =
-        let step : pieces (b ∷ rest) ≡ [] ∷ pieces rest = rw is refl in
-        step ∙ ap₂ (λ x y. x ∷ pieces y) (sym (first_here b rest is)) (sym (after_here b rest is))
+    go true is later = rw is refl
     go false is later =
         let step : pieces (b ∷ rest) ≡ onto_first b (pieces rest) = rw is refl in
         step ∙ (ap (onto_first b) (later (rw is at e)) ∙

@@ -14,8 +14,8 @@ use Rattle.sc_words.proofs.Basics.{by_hyphens, first_fails, first_plain, first_n
 use Rattle.sc_words.proofs.Basics.{second_fails}
 use Rattle.sc_words.proofs.Lookup.{by_id, by_index, by_long, lookup, lookup_other, lookup_valued, ready, ready_alone}
 use Rattle.sc_words.proofs.Lookup.{ready_rules, ready_valued}
-use Rattle.sc_words.proofs.Rows.{again_alone, again_valued, check, check_is, final, has_row_rows, new_alone, new_valued}
-use Rattle.sc_words.proofs.Rows.{no_default_fails, once_more, plain_row, repeated, row, rows, used_alone, used_valued}
+use Rattle.sc_words.proofs.Rows.{Uses, alone_uses, check, check_is, final, has_row_rows, no_default_fails, once_more}
+use Rattle.sc_words.proofs.Rows.{plain_row, repeated, row, rows, valued_uses}
 
 -- ---- the walk over the words of one command
 
@@ -212,30 +212,28 @@ module _ (title : Text) (form : Form) where
   LongAgrees h before word name v words a =
       GoesBy h before word words a v (named_option form (Some (name, v)) (λ waiting. settings form waiting words))
 
-  valued_row : (name value : Text) → has_value form name ≡ true → row form (name, value) ≡ plain_row name value
-  valued_row name value has = rw has refl
-
-  alone_row : (name : Text) → has_value form name ≡ false → row form (name, []) ≡ plain_row name (codes "true")
-  alone_row name has = rw has refl
-
-  rows_more : (before : List Setting) (o : Setting) → rows form before ++ row form o ∷ [] ≡ rows form (before ++ o ∷ [])
-  rows_more before o = sym (map-append _ before _)
-
-  -- one option more, which nothing waits for any longer
-  one_more : (h : Held) (before : List Setting) (name value : Text) (words : List Text) (k : Kinds)
-      (behind : Option (List Setting)) → (has_option name before ≡ true → k ≡ [] → ⊥) →
-      (has_option name before ≡ false → k ≡ []) → each_once before ≡ true →
-      (has_option name before ≡ false → each_once (before ++ (name, value) ∷ []) ≡ true →
-      GoesAs (at idle h) words (accepted (before ++ (name, value) ∷ []) behind)) →
-      Agrees (or_else k (faults (at idle h) words)) (ends (at idle h) words) (accepted before (more name value behind))
-  one_more h before name value words k behind again new once later = go (has_option name before) refl
+  -- one option more, which nothing waits for any longer: a fault where it is given again, otherwise all goes on
+  one_more : (next : Held) (before : List Setting) (name value : Text) (words : List Text) (k : Kinds) →
+      each_once before ≡ true → IdleAgrees words →
+      (has_option name before ≡ true → or_else k (faults (at idle next) words) ≡ [] → ⊥) →
+      (has_option name before ≡ false → (k ≡ []) × (settle_fault rs false next ≡ []) ×
+      ((settled rs next).rows ≡ rows form before ++ row form (name, value) ∷ [])) →
+      Agrees (or_else k (faults (at idle next) words)) (ends (at idle next) words)
+      (accepted before (more name value (settings form None words)))
+  one_more next before name value words k once idles again new = go (has_option name before) refl
     where
-      go : (b : Bool) → has_option name before ≡ b → Agrees (or_else k (faults (at idle h) words))
-          (ends (at idle h) words) (accepted before (more name value behind))
-      go true e = subst (Agrees _ _) (sym (accepted_again before name value behind e)) (first_fails k _ (again e))
-      go false e = subst (λ x. Agrees (or_else x (faults (at idle h) words)) (ends (at idle h) words)
-          (accepted before (more name value behind))) (sym (new e)) (subst (GoesAs (at idle h) words)
-          (sym (accepted_more before name value behind)) (later e (once_more before name value once e)))
+      behind : Option (List Setting)
+      behind = settings form None words
+
+      go : (b : Bool) → has_option name before ≡ b → Agrees (or_else k (faults (at idle next) words))
+          (ends (at idle next) words) (accepted before (more name value behind))
+      go true e = subst (Agrees _ _) (sym (accepted_again before name value behind e)) (again e)
+      go false e =
+          let fine = new e in
+          subst (λ x. Agrees (or_else x (faults (at idle next) words)) (ends (at idle next) words)
+          (accepted before (more name value behind))) (sym fine.0) (subst (GoesAs (at idle next) words)
+          (sym (accepted_more before name value behind)) (idles next (before ++ (name, value) ∷ []) fine.1
+          (fine.2 ∙ sym (map-append _ before _)) (once_more before name value once e)))
 
   module _ (h : Held) (before : List Setting) (word name : Text) (words : List Text)
       (settles : settle_fault rs false h ≡ [])
@@ -250,20 +248,23 @@ module _ (title : Text) (form : Form) where
         GoesBy h before word words a v o → LongAgrees h before word name v words a
     by_option a v o is agrees = subst (GoesBy h before word words a v) (sym is) agrees
 
+    taken : (a : Rule) (values : List Text) (value given : Text) → Uses a values name given →
+        row form (name, value) ≡ plain_row name given → (next : Held) → settle_fault rs false next ≡ [] →
+        (settled rs next).rows ≡ used a values (settled rs h).rows → Agrees (or_else (or_else (or_else
+        (settle_fault rs false h) (use_fault false a values (settled rs h).rows)) []) (faults (at idle next) words))
+        (ends (at idle next) words) (accepted before (more name value (settings form None words)))
+    taken a values value given uses is next settles_next adds = one_more next before name value words _ once idles
+        (λ some. first_fails _ _ (first_fails _ [] (second_fails (settle_fault rs false h) _
+        (uses.again _ (has_now ∙ some)))))
+        (λ none. (λ i. or_else (or_else (settles i) (uses.new _ (has_now ∙ none) i)) [], settles_next,
+        adds ∙ (uses.adds _ (has_now ∙ none) ∙ ap₂ (λ x y. x ++ y ∷ []) now (sym is))))
+
     valued_agrees : has_value form name ≡ true → (r : Bool) (v : Option Text) →
         LongAgrees h before word name v words (Some (ready_valued r name))
     valued_agrees has r (Some value) =
-        let next : Held = reacted rs (ready_valued r name) (value ∷ []) h in
-        let fault : Kinds = or_else (or_else (settle_fault rs false h)
-        (use_fault false (ready_valued r name) (value ∷ []) (settled rs h).rows)) [] in
-        by_option (Some (ready_valued r name)) (Some value) (more name value (settings form None words)) (rw has refl)
-        (one_more next before name value words fault (settings form None words)
-        (λ some. first_fails _ [] (second_fails (settle_fault rs false h) _
-        (again_valued r name value (settled rs h).rows (has_now ∙ some))))
-        (λ none. λ i. or_else (or_else (settles i) (new_valued r name value (settled rs h).rows (has_now ∙ none) i)) [])
-        once (λ none once_now. idles next (before ++ (name, value) ∷ []) refl
-        (used_valued r name value (settled rs h).rows (has_now ∙ none)
-        ∙ (ap₂ (λ x y. x ++ y ∷ []) now (sym (valued_row name value has)) ∙ rows_more before (name, value))) once_now))
+        let rule = ready_valued r name in
+        by_option (Some rule) (Some value) (more name value (settings form None words)) (rw has refl)
+        (taken rule _ value value (valued_uses r name value) (rw has refl) (reacted rs rule (value ∷ []) h) refl refl)
     valued_agrees has r None =
         let next : Walk = at (option name) (holding name [] (settled rs h).rows h.skip) in
         let later = waits name (settled rs h).rows h.skip before has now once in
@@ -276,17 +277,9 @@ module _ (title : Text) (form : Form) where
     alone_agrees has alone (Some value) =
         by_option (Some (ready_alone name)) (Some value) None (rw has refl) (λ e. not_empty _ _ e)
     alone_agrees has alone None =
-        let next : Held = reacted rs (ready_alone name) [] h in
-        let fault : Kinds = or_else (or_else (settle_fault rs false h)
-        (use_fault false (ready_alone name) [] (settled rs h).rows)) [] in
-        by_option (Some (ready_alone name)) None (more name [] (settings form None words)) (rw (has, alone) refl)
-        (one_more next before name [] words fault (settings form None words)
-        (λ some. first_fails _ [] (second_fails (settle_fault rs false h) _
-        (again_alone name (settled rs h).rows (has_now ∙ some))))
-        (λ none. λ i. or_else (or_else (settles i) (new_alone name (settled rs h).rows (has_now ∙ none) i)) []) once
-        (λ none once_now. idles next (before ++ (name, []) ∷ []) refl
-        (used_alone name (settled rs h).rows (has_now ∙ none)
-        ∙ (ap₂ (λ x y. x ++ y ∷ []) now (sym (alone_row name has)) ∙ rows_more before (name, []))) once_now))
+        let rule = ready_alone name in
+        by_option (Some rule) None (more name [] (settings form None words)) (rw (has, alone) refl)
+        (taken rule [] [] (codes "true") (alone_uses name) (rw has refl) (reacted rs rule [] h) refl refl)
 
     none_agrees : has_value form name ≡ false → is_among form.alone name ≡ false → (v : Option Text) →
         LongAgrees h before word name v words None
@@ -375,26 +368,20 @@ module _ (title : Text) (form : Form) where
       has_now : has_row name now ≡ has_option name before
       has_now = ap (has_row name) is ∙ has_row_rows form name before
 
-      value_taken : (w : Text) (b : Bool) → has_option name before ≡ b
-          → GoesAs (at idle (holding name (w ∷ []) now skip)) words (accepted before (taken w))
-      value_taken w true some = subst (GoesAs (at idle (holding name (w ∷ []) now skip)) words)
-          (sym (accepted_again before name w (settings form None words) some))
-          (idle_fails words all (holding name (w ∷ []) now skip)
-          (λ none. again_valued r name w now (has_now ∙ some) (sym (fault_held name now skip has w) ∙ none)))
-      value_taken w false none = subst (GoesAs (at idle (holding name (w ∷ []) now skip)) words)
-          (sym (accepted_more before name w (settings form None words)))
-          (idles (holding name (w ∷ []) now skip) (before ++ (name, w) ∷ [])
-          (fault_held name now skip has w ∙ new_valued r name w now (has_now ∙ none))
-          (rows_held name now skip has w ∙ (used_valued r name w now (has_now ∙ none)
-          ∙ (ap₂ (λ x y. x ++ y ∷ []) is (sym (valued_row name w has)) ∙ rows_more before (name, w))))
-          (once_more before name w once none))
+      value_taken : (w : Text) → GoesAs (at idle (holding name (w ∷ []) now skip)) words (accepted before (taken w))
+      value_taken w =
+          let uses = valued_uses r name w in
+          one_more (holding name (w ∷ []) now skip) before name w words [] once idles
+          (λ some. idle_fails words all (holding name (w ∷ []) now skip)
+          (λ none. uses.again now (has_now ∙ some) (sym (fault_held name now skip has w) ∙ none)))
+          (λ none. (refl, fault_held name now skip has w ∙ uses.new now (has_now ∙ none),
+          rows_held name now skip has w ∙ (uses.adds now (has_now ∙ none) ∙ ap₂ (λ x y. x ++ y ∷ []) is (rw has refl))))
 
       plain : (w : Text) → begins_with_hyphen w ≡ false →
           GoesAs (waiting_for name now skip) (w ∷ words) (given w (begins_with_hyphen w))
       plain w e = goes_on (waiting_for name now skip) (at idle (holding name (w ∷ []) now skip)) w words [] _
           (passes_plain name now skip has w e) (takes_plain name now skip has w e)
-          (subst (λ b. GoesAs (at idle (holding name (w ∷ []) now skip)) words (given w b)) (sym e)
-          (value_taken w (has_option name before) refl))
+          (subst (λ b. GoesAs (at idle (holding name (w ∷ []) now skip)) words (given w b)) (sym e) (value_taken w))
 
       long : (x : ℕ) (xs : Text) → GoesAs (waiting_for name now skip) ((45 ∷ 45 ∷ x ∷ xs) ∷ words)
           (given (45 ∷ 45 ∷ x ∷ xs) (begins_with_hyphen (45 ∷ 45 ∷ x ∷ xs)))

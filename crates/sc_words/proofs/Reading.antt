@@ -1,12 +1,12 @@
 -- The command that a parse which succeeds comes to.
 use Rattle.sc_words.proofs.Common.{App, Bool, Box, ErrorKind, Exec, Explain, Form, HasMatchesOf, IsAmong, IsReading}
-use Rattle.sc_words.proofs.Common.{List, Make, Meaning, None, Option, Row, Run, Setting, Some, Tells, Text, Values, []}
-use Rattle.sc_words.proofs.Common.{ap, application, bytes_eq, codes, command, command_with, commands, events, false}
+use Rattle.sc_words.proofs.Common.{List, Make, Meaning, None, Option, Row, Run, Setting, Some, Tells, Text, [], ap}
+use Rattle.sc_words.proofs.Common.{application, bytes_eq, codes, command, command_with, commands, events, false}
 use Rattle.sc_words.proofs.Common.{fault_of, first_of, first_value-rows, flag_text, form_of, has_option, has_value}
-use Rattle.sc_words.proofs.Common.{inputs, is_among, is_bare, is_simple, limit, list_any, make, make_form, meaning}
-use Rattle.sc_words.proofs.Common.{number_within, one_of, one_text-rows, option_and_then, option_map, parsed, refl}
-use Rattle.sc_words.proofs.Common.{rows_of, run, same_text, subcommand_of, subcommand_rows, subcommand_rows_of, subst}
-use Rattle.sc_words.proofs.Common.{sym, text_to_show, true, value_of, ◌∙◌, ◌≡◌}
+use Rattle.sc_words.proofs.Common.{inputs, is_among, is_bare, is_simple, limit, list_any, make_form, number_within}
+use Rattle.sc_words.proofs.Common.{one_of, one_text-rows, option_and_then, option_map, parsed, refl, rows_of, run}
+use Rattle.sc_words.proofs.Common.{same_text, subcommand_of, subcommand_rows, subcommand_rows_of, subst, sym}
+use Rattle.sc_words.proofs.Common.{text_to_show, true, value_of, ◌∙◌, ◌≡◌}
 use Rattle.std.specs.Box.{box_value}
 use Rattle.clap.specs.Matches.{first_value, one_text, subcommand_name_of}
 use Rattle.clap.specs.declared.parser.matches.ArgMatches.{ArgMatches}
@@ -18,22 +18,6 @@ use Rattle.sc_words.proofs.Top.{Reads, has_matches, words_agree}
 
 -- each command reads the options of its form alone
 
-meaning_same : (v w : Values) → v (codes "turns") ≡ w (codes "turns") → v (codes "events") ≡ w (codes "events") →
-    v (codes "in") ≡ w (codes "in") → meaning v ≡ meaning w
-meaning_same v w a b c = λ i. option_and_then (λ turns. option_and_then (λ events. option_map (λ inputs.
-    record { turns = turns; events = events; inputs = inputs }) (inputs (c i))) (events (b i))) (limit (a i))
-
-run_same : (v w : Values) → v (codes "steps") ≡ w (codes "steps") → v (codes "events") ≡ w (codes "events") →
-    v (codes "in") ≡ w (codes "in") → run v ≡ run w
-run_same v w a b c = λ i. option_and_then (λ steps. option_and_then (λ events. option_map (λ inputs.
-    record { steps = steps; events = events; inputs = inputs }) (inputs (c i))) (events (b i))) (limit (a i))
-
-make_same : (v w : Values) (summary : Bool) → v (codes "size") ≡ w (codes "size") →
-    v (codes "seed") ≡ w (codes "seed") → make v summary ≡ make w summary
-make_same v w summary a b = λ i. option_and_then (λ size.
-    option_map (λ seed. record { size = size; seed = seed; summary = summary })
-    (option_and_then (number_within 0 4294967295) (b i))) (option_and_then (number_within 1 1000) (a i))
-
 abbrev Same : Text → Form → Type 0
 Same name form = (settings : List Setting) (rows : List Row) (summary : Bool) → Tells form settings rows
     → command_with name (λ n. first_of n rows) summary ≡ command_with name (λ n. value_of n settings) summary
@@ -42,9 +26,10 @@ Same name form = (settings : List Setting) (rows : List Row) (summary : Bool) �
 runs_same : (form : Form) (settings : List Setting) (rows : List Row) → Tells form settings rows →
     has_value form (codes "steps") ≡ true → has_value form (codes "events") ≡ true →
     has_value form (codes "in") ≡ true → form.alone ≡ [] → run (λ n. first_of n rows) ≡ run (λ n. value_of n settings)
-runs_same form settings rows tells steps events inputs none =
-    run_same (λ n. first_of n rows) (λ n. value_of n settings) (given _ steps)
-    (given (codes "events") events) (given (codes "in") inputs) where
+runs_same form settings rows tells has_steps has_events has_inputs none =
+    λ i. option_and_then (λ steps. option_and_then (λ events. option_map (λ inputs.
+    record { steps = steps; events = events; inputs = inputs }) (inputs (given (codes "in") has_inputs i)))
+    (events (given (codes "events") has_events i))) (limit (given (codes "steps") has_steps i)) where
       given : (name : Text) → has_value form name ≡ true → first_of name rows ≡ value_of name settings
       given name has = tells.values name has (ap (λ alone. is_among alone name) none)
 
@@ -52,9 +37,10 @@ pub values_same : (name : Text) (form : Form) → form_of name ≡ Some form →
 values_same = by_command Same commands (
   (λ settings rows summary tells. refl),
   (
-    (λ settings rows summary tells. ap (option_map Meaning)
-        (meaning_same (λ n. first_of n rows) (λ n. value_of n settings) (tells.values (codes "turns") refl refl)
-        (tells.values (codes "events") refl refl) (tells.values (codes "in") refl refl))),
+    (λ settings rows summary tells i. option_map Meaning (option_and_then (λ turns. option_and_then (λ events.
+        option_map (λ inputs. record { turns = turns; events = events; inputs = inputs })
+        (inputs (tells.values (codes "in") refl refl i))) (events (tells.values (codes "events") refl refl i)))
+        (limit (tells.values (codes "turns") refl refl i)))),
     (
       (λ settings rows summary tells. refl),
       (
@@ -66,9 +52,10 @@ values_same = by_command Same commands (
                 (text_to_show (tells.values (codes "show") refl refl i)))
                 (runs_same _ settings rows tells refl refl refl refl i)),
             (
-              (λ settings rows summary tells. ap (option_map Make)
-                  (make_same (λ n. first_of n rows) (λ n. value_of n settings) summary
-                  (tells.values (codes "size") refl refl) (tells.values (codes "seed") refl refl))),
+              (λ settings rows summary tells i. option_map Make (option_and_then (λ size.
+                  option_map (λ seed. record { size = size; seed = seed; summary = summary })
+                  (option_and_then (number_within 0 4294967295) (tells.values (codes "seed") refl refl i)))
+                  (option_and_then (number_within 1 1000) (tells.values (codes "size") refl refl i)))),
               tt,
             ),
           ),

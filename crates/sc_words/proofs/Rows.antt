@@ -63,29 +63,25 @@ joins : (name value : Text) (now : List Row) → has_row name now ≡ false → 
 joins name value now none = ap (λ rs. with_values name AsWritten CommandLine (value ∷ []) rs)
     (joined name (λ _. []) [] now none ∙ append-nil now) ∙ joined name (more_values CommandLine _) _ now none
 
-pub used_valued : (r : Bool) (name value : Text) (now : List Row) → has_row name now ≡ false
-    → used (ready_valued r name) (value ∷ []) now ≡ now ++ plain_row name value ∷ []
-used_valued r name value now none = joins name value now none
+-- what one use of an option does: a row more where the option is new, and a fault where it is given again
+pub record Uses (a : Rule) (values : List Text) (name value : Text) : Type 0 where
+  pub adds : (now : List Row) → has_row name now ≡ false → used a values now ≡ now ++ plain_row name value ∷ []
+  pub new : (now : List Row) → has_row name now ≡ false → use_fault false a values now ≡ []
+  pub again : (now : List Row) → has_row name now ≡ true → use_fault false a values now ≡ [] → ⊥
 
-pub used_alone : (name : Text) (now : List Row) → has_row name now ≡ false →
-    used (ready_alone name) [] now ≡ now ++ plain_row name (codes "true") ∷ []
-used_alone name now none = joins name (codes "true") now none
+pub valued_uses : (r : Bool) (name value : Text) → Uses (ready_valued r name) (value ∷ []) name value
+valued_uses r name value = record {
+  adds = λ now none. joins name value now none;
+  new = λ now none. rw none refl;
+  again = λ now some. rw some (λ e. not_empty _ _ e);
+}
 
-pub new_valued : (r : Bool) (name value : Text) (now : List Row) → has_row name now ≡ false →
-    use_fault false (ready_valued r name) (value ∷ []) now ≡ []
-new_valued r name value now none = rw none refl
-
-pub again_valued : (r : Bool) (name value : Text) (now : List Row) → has_row name now ≡ true →
-    use_fault false (ready_valued r name) (value ∷ []) now ≡ [] → ⊥
-again_valued r name value now some = rw some (λ e. not_empty _ _ e)
-
-pub new_alone : (name : Text) (now : List Row) → has_row name now ≡ false →
-    use_fault false (ready_alone name) [] now ≡ []
-new_alone name now none = rw none refl
-
-pub again_alone : (name : Text) (now : List Row) → has_row name now ≡ true →
-    use_fault false (ready_alone name) [] now ≡ [] → ⊥
-again_alone name now some = rw some (λ e. not_empty _ _ e)
+pub alone_uses : (name : Text) → Uses (ready_alone name) [] name (codes "true")
+alone_uses name = record {
+  adds = λ now none. joins name (codes "true") now none;
+  new = λ now none. rw none refl;
+  again = λ now some. rw some (λ e. not_empty _ _ e);
+}
 
 -- ---- what is found at the end
 
@@ -130,7 +126,8 @@ found_final : (names : List Text) (now : List Row) (name : Text)
     → find (by_name name) (fold with_default now (map ready_alone names ++ [])) ≡
     option_or (find (by_name name) now) (default_of names name)
 found_final [] now name = sym (or_none (find (by_name name) now))
-found_final (n ∷ names) now name = go (has_row n now) refl (bytes_eq n name) refl (λ rs. found_final names rs name)
+found_final (n ∷ names) now name =
+    found_final names (with_default now (ready_alone n)) name ∙ go (has_row n now) refl (bytes_eq n name) refl
   where
     known : (o : Option Row) (d e : Option Row) → is_some o ≡ true → option_or o d ≡ option_or o e
     known None d e some = absurd (true≢false (sym some))
@@ -143,34 +140,21 @@ found_final (n ∷ names) now name = go (has_row n now) refl (bytes_eq n name) r
     chosen None true is = ap (λ t. Some (default_row t)) (same_text n name is)
     chosen None false is = refl
 
-    stays : has_row n now ≡ true → find (by_name name)
-        (fold with_default now (ready_alone n ∷ (map ready_alone names ++ [])))
-        ≡ find (by_name name) (fold with_default now (map ready_alone names ++ []))
-    stays some =
-        let one : with_default now (ready_alone n) ≡ now = rw some refl in
-        ap (λ rs. find (by_name name) (fold with_default rs (map ready_alone names ++ []))) one
-
     go : (has : Bool) → has_row n now ≡ has → (same : Bool) → bytes_eq n name ≡ same
-        → ((rs : List Row) → find (by_name name) (fold with_default rs (map ready_alone names ++ [])) ≡
-        option_or (find (by_name name) rs) (default_of names name))
-        → find (by_name name) (fold with_default now (ready_alone n ∷ (map ready_alone names ++ [])))
+        → option_or (find (by_name name) (with_default now (ready_alone n))) (default_of names name)
         ≡ option_or (find (by_name name) now) (cond (same || is_among names name) (Some (default_row name)) None)
-    go true some true same later =
-        let is_name : n ≡ name = same_text n name same in
+    go true some true same =
         let some_name : is_some (find (by_name name) now) ≡ true =
-        found_any (by_name name) now ∙ (ap (λ t. has_row t now) (sym is_name) ∙ some) in
-        stays some ∙ (later now ∙ known (find (by_name name) now) (default_of names name)
-        (Some (default_row name)) some_name)
-    go true some false same later = stays some ∙ later now
-    go false none same is later =
+        found_any (by_name name) now ∙ (ap (λ t. has_row t now) (sym (same_text n name same)) ∙ some) in
+        rw some (known (find (by_name name) now) (default_of names name) (Some (default_row name)) some_name)
+    go true some false same = rw some refl
+    go false none same is =
         let one : with_default now (ready_alone n) ≡ now ++ default_row n ∷ []
         = rw none (joined n (more_values DefaultValue (codes "false" ∷ [])) (default_row n ∷ []) now none) in
-        let joins = ap (λ rs. fold with_default rs (map ready_alone names ++ [])) one in
         let here : find (by_name name) (default_row n ∷ []) ≡ cond same (Some (default_row n)) None = rw is refl in
-        ap (find (by_name name)) joins ∙ (later (now ++ default_row n ∷ [])
-        ∙ (ap (λ o. option_or o (default_of names name))
-        (find-append (by_name name) now (default_row n ∷ []) ∙ ap (option_or (find _ now)) here)
-        ∙ chosen (find (by_name name) now) same is))
+        ap (λ rs. option_or (find (by_name name) rs) (default_of names name)) one
+        ∙ (ap (λ o. option_or o (default_of names name)) (find-append (by_name name) now (default_row n ∷ [])
+        ∙ ap (option_or (find _ now)) here) ∙ chosen (find (by_name name) now) same is)
 
 found_at_end : (form : Form) (all : List Setting) (name : Text)
     → find (by_name name) (final form all) ≡ option_or (option_map (row form) (option_named name all))
@@ -178,12 +162,9 @@ found_at_end : (form : Form) (all : List Setting) (name : Text)
 found_at_end form all name = ap (find _) (final_is form all) ∙ (found_final form.alone (rows form all) name
     ∙ ap (λ o. option_or o (default_of form.alone name)) (sym (find-map _ _ all)))
 
-has_is_some : (name : Text) (all : List Setting) → is_some (option_named name all) ≡ has_option name all
-has_is_some name all = found_any _ all
-
 given_at_end : (form : Form) (all : List Setting) (name : Text) → is_given name (final form all) ≡ has_option name all
 given_at_end form all name = ap (λ o. option_map_or (λ r. explicit_source r.source) o false)
-    (found_at_end form all name) ∙ (go _ (is_among _ name) ∙ has_is_some name all)
+    (found_at_end form all name) ∙ (go _ (is_among _ name) ∙ found_any _ all)
   where
     go : (o : Option Setting) (b : Bool) → option_map_or (λ (r : Row). explicit_source r.source)
         (option_or (option_map (row form) o) (cond b (Some (default_row name)) None)) false ≡ is_some o
@@ -195,7 +176,7 @@ pub tells : (form : Form) (all : List Setting) → Tells form all (final form al
 tells form all = record {
   values = λ name has alone. ap (option_and_then _) (found_at_end form all name) ∙ value_at name has alone _ refl;
   alone = λ name has alone. ap (option_and_then _) (found_at_end form all name)
-      ∙ (flag_at name has alone _ refl ∙ ap (λ b. Some (flag_text b)) (has_is_some name all));
+      ∙ (flag_at name has alone _ refl ∙ ap (λ b. Some (flag_text b)) (found_any _ all));
 }
   where
     value_at : (name : Text) → has_value form name ≡ true → is_among form.alone name ≡ false → (o : Option Setting) →

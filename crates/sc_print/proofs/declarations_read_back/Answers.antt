@@ -1,4 +1,4 @@
-use Rattle.sc_print.proofs.Theorem.{decls_read_back}
+use Rattle.sc_print.proofs.Whole.{decls_read_back}
 use Rattle.sc_print.proofs.declarations_read_back.Goals as goal
 
 pub returns : goal.returns

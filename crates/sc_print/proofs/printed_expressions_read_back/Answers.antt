@@ -1,4 +1,4 @@
-use Rattle.sc_print.proofs.Theorem.{reads_back}
+use Rattle.sc_print.proofs.Whole.{reads_back}
 use Rattle.sc_print.proofs.printed_expressions_read_back.Goals as goal
 
 pub returns : goal.returns

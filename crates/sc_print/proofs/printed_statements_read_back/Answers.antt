@@ -1,4 +1,4 @@
-use Rattle.sc_print.proofs.Theorem.{stmts_read_back}
+use Rattle.sc_print.proofs.Whole.{stmts_read_back}
 use Rattle.sc_print.proofs.printed_statements_read_back.Goals as goal
 
 pub returns : goal.returns

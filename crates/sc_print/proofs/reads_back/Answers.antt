@@ -1,4 +1,4 @@
-use Rattle.sc_print.proofs.Theorem as theorem
+use Rattle.sc_print.proofs.Whole as theorem
 use Rattle.sc_print.proofs.reads_back.Goals as goal
 
 pub returns : goal.returns
