@@ -1,6 +1,4 @@
 pub mod Common
-pub mod Accounts
-pub mod Causes
 pub mod Induction
 pub mod Judged
 pub mod Keeping
@@ -10,4 +8,3 @@ pub mod Plans
 pub mod Programs
 pub mod Rows
 pub mod Shapes
-pub mod Typed

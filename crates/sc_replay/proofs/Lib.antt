@@ -11,4 +11,3 @@ pub mod Runs
 pub mod Entries
 pub mod Rows
 pub mod Replays
-pub mod Example
