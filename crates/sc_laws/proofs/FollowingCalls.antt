@@ -396,8 +396,7 @@ module _ (L : Library) (main : ℕ) (t : List Event) (S S' : ℕ → Bool) (larg
 
       if_follows : (b : Bool) (st : Standing) (o o' p p' : Piece (Option Value)) → F st o o' → F st p p' →
           F st (if b then o else p) (if b then o' else p')
-      if_follows true st o o' p p' h k = h
-      if_follows false st o o' p p' h k = k
+      if_follows b st o o' p p' h k = grind (arith, h, k)
 
       -- with its turn
       turned_follows : (from to index : ℕ) (args : List Value) (st : Standing) (s s' : State) → N st s s' →
@@ -725,13 +724,10 @@ module _ (L : Library) (main : ℕ) (t : List Event) (S S' : ℕ → Bool) (larg
         step_resumes : (number comp mine k theirs : ℕ) (st : Standing) (left : Piece (Option Value)) (s : State) →
             S' comp ≡ true → L.entered comp st.active.entry ≡ Some k → Held st k comp theirs left s →
             P st k comp theirs left (first_step a number (at comp mine) s)
-        step_resumes number comp mine k theirs st left s set is_k h = by_role (S comp) where
-          by_role : (b : Bool) → P st k comp theirs left (if b then performs L a
-              (rows_left (roles_in main S t) comp s.trace) number (at comp mine) s else
-              run_step L a number (at comp mine) s)
-          by_role true = performs_perform st k comp theirs left set is_k _ number mine s h
-          by_role false = function_performs st k comp theirs left set is_k (function L comp number) _
-              ((perform_twins st left _ _ (held_passes st k comp theirs left set)).functions comp number) mine s h
+        step_resumes number comp mine k theirs st left s set is_k h = grind (arith,
+            performs_perform st k comp theirs left set is_k (rows_left (roles_in main S t) comp s.trace) number mine s h,
+            function_performs st k comp theirs left set is_k (function L comp number) (function L comp number)
+            ((perform_twins st left _ _ (held_passes st k comp theirs left set)).functions comp number) mine s h)
 
         pub step_bodies : Bodies (first_step a)
         step_bodies = record {

@@ -26,14 +26,8 @@ same s = record { events = front_same s.trace; frames = front_same _; late = tt;
 pub from_less : (events more : ℕ) → events ≤ more → (changes : List FrameChange) → AllFrom more changes →
     AllFrom events changes
 from_less events more le [] h = tt
-from_less events more le (Opened told c room ∷ changes) h = (
-  (let first : more ≤ told = h.0 in omega (arith, le, first)),
-  from_less events more le changes h.1,
-)
-from_less events more le (Closed told c room ∷ changes) h = (
-  (let first : more ≤ told = h.0 in omega (arith, le, first)),
-  from_less events more le changes h.1,
-)
+from_less events more le (Opened told c room ∷ changes) h = grind (arith, from_less events more le changes h.1, h.0, le)
+from_less events more le (Closed told c room ∷ changes) h = grind (arith, from_less events more le changes h.1, h.0, le)
 
 pub from_append : (events : ℕ) (first second : List FrameChange) → AllFrom events first → AllFrom events second →
     AllFrom events (first ++ second)

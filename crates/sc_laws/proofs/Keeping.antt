@@ -39,8 +39,7 @@ module _ (K : Property) where
 
   then_grown : (V W : Type 0) (s : State) (o : Piece V) (k : V → State → Piece W) → Gone s o → Kept K o →
       ((v : V) (t : State) → Grown s t → K.Goes t → Kept K (k v t)) → Kept K (and_then o k)
-  then_grown V W s (Reached v t) k g h n = n v t g.grown h.after
-  then_grown V W s (Stopped end t) k g h n = record { after = h.after }
+  then_grown V W s o k g h n = grind (arith, g, h, n)
 
   turn_kept : (W : Type 0) (k : Unit {0} → State → Piece W) (s : State) (m : ℕ) → m ≡ s.turns → Kept K (turn_of m s) →
       ((t : State) → t.turns < s.turns → K.Goes t → Kept K (k tt t)) → Kept K (and_then (turn_of m s) k)
@@ -146,12 +145,7 @@ module _ (K : Property) (library : Library) (body : Body) (here : Here) (called_
 
   module _ (number : ℕ) (stops : (s : State) → K.Goes s → K.Ends TurnsOut s) where
     asks_keep : CallsKeep K here.comp (asks library body)
-    asks_keep target args s h = by _ refl where
-      by : (b : Bool) → may_call library here.comp target args ≡ b → Kept K (if b then
-          (if b then called library body here.comp target args s else Stopped (Blamed here.comp BadType 0) s) else
-          Stopped TurnsOut s)
-      by true may = called_keep target args s may h
-      by false may = record { after = stops s h }
+    asks_keep target args s h = grind (arith, called_keep target args s, stops s h, h)
 
     module _ (again : (s : State) → K.Goes s → Kept K (body number here s)) where
       acts_keep : (action : Action) (next : State → Piece (Option Value)) → ((s : State) → K.Goes s → Kept K (next s)) →
@@ -168,12 +162,8 @@ module _ (K : Property) (library : Library) (body : Body) (here : Here) (called_
 
       performs_keep : (rows : List Row) (s : State) → K.Goes s → Kept K (performs library body rows number here s)
       performs_keep [] s h = record { after = stops s h }
-      performs_keep (row ∷ rest) s h = by (performs_keep rest) _ where
-        by : ((s : State) → K.Goes s → Kept K (performs library body rest number here s)) → (b : Bool) →
-            Kept K (if b then acts library body row.action (performs library body rest number here) (body number here)
-            here.comp s else Stopped TurnsOut s)
-        by next true = acts_keep _ _ next s h
-        by next false = record { after = stops s h }
+      performs_keep (row ∷ rest) s h = grind (arith, stops s h,
+          acts_keep row.action (performs library body rest number here) (performs_keep rest) s h)
 
 -- A property of the places at which a run stands, with fewer turns than a number: what calls have to keep of it, so
 -- that functions do.
