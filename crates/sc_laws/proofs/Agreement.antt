@@ -1,6 +1,6 @@
 -- Libraries that agree function by function run the same, also where compartments perform scripts.
 use Rattle.sc_laws.proofs.Common.{Action, AgreeingRunAlike, BehavioursAgree, BodiesAgree, Body, Bool, Call, CallTarget}
-use Rattle.sc_laws.proofs.Common.{CallsAgree, Cross, Ended, EventsOut, Function, FunctionsAgree, Here, Input}
+use Rattle.sc_laws.proofs.Common.{arith, CallsAgree, Cross, Ended, EventsOut, Function, FunctionsAgree, Here, Input}
 use Rattle.sc_laws.proofs.Common.{LibrariesAgree, Library, List, Main, Meets, Memory, None, Option, Output, Own, Piece}
 use Rattle.sc_laws.proofs.Common.{PiecesAgree, Reached, Roles, Row, RunEnd, RunsAgree, Some, SourceRun, State, Step}
 use Rattle.sc_laws.proofs.Common.{Stopped, Value, Word, [], acts, and_then, ap, asks, back_cross, back_own, begun}
@@ -16,8 +16,7 @@ itself o = record { same = refl }
 
 line_of_then : {V W : Type 0} (o : Piece V) (k : V → State → Piece W) →
     piece_without_line (and_then o k) ≡ and_then (piece_without_line o) (λ v s. piece_without_line (k v s))
-line_of_then (Reached v s) k = refl
-line_of_then (Stopped end s) k = refl
+line_of_then o k = grind arith
 
 -- one piece after another
 pub then_agree : {V W : Type 0} (o p : Piece V) (k l : V → State → Piece W) →
@@ -30,17 +29,13 @@ then_agree o p k l h x = record {
 -- what is done where a test, which answers the same, allows it
 if_agree : {V : Type 0} (b c : Bool) (o p o' p' : Piece V) → b ≡ c → PiecesAgree o p → PiecesAgree o' p' →
     PiecesAgree (if b then o else o') (if c then p else p')
-if_agree true true o p o' p' is h k = h
-if_agree false false o p o' p' is h k = k
-if_agree _ _ o p o' p' is h k = absurd (cc)
+if_agree b c o p o' p' is h k = grind (arith, h)
 
 found_agree : {V : Type 0} (m n : Option V) (s : State) → m ≡ n → PiecesAgree (found m s) (found n s)
 found_agree m n s is = record { same = ap (λ x. piece_without_line (found x s)) is }
 
 both_there : (f g : Option Function) → Meets FunctionsAgree f g → is_some f ≡ is_some g
-both_there None None h = refl
-both_there (Some f) (Some g) h = refl
-both_there _ _ h = absurd h
+both_there f g h = grind (arith, h)
 
 module _ (L M : Library) (agree : LibrariesAgree L M) where
   -- the same calls may be made
@@ -58,10 +53,7 @@ module _ (L M : Library) (agree : LibrariesAgree L M) where
         (begun comp f args s)) (λ v t. back v (done comp f (length (s.memory comp)) t))))
         (and_then (found g s) (λ g s. and_then (other number (record { comp = comp; first = length (s.memory comp) })
         (begun comp g args s)) (λ v t. back' v (done comp g (length (s.memory comp)) t))))
-    runs_there comp number args back back' b s None None h = itself _
-    runs_there comp number args back back' b s (Some f) (Some g) h =
-        rw (h.cells, h.room) (then_agree _ _ _ _ (bodies number _ _) (λ v t. b v _))
-    runs_there comp number args back back' b s _ _ h = absurd h
+    runs_there comp number args back back' b s f g h = grind (arith, h)
 
     runs_in : (comp number : ℕ) (args : List Value) (back back' : Option Value → State → Piece (Option Value)) →
         ((v : Option Value) (s : State) → PiecesAgree (back v s) (back' v s)) → (s : State) →
@@ -85,10 +77,7 @@ module _ (L M : Library) (agree : LibrariesAgree L M) where
         (back_cross L.interfaces from to index) (back_cross M.interfaces from to index) (back_agree from to index) _)
 
     called_agree : CallsAgree (called L body) (called M other)
-    called_agree from (Own number) args s = then_agree _ _ _ _ (itself _) (λ _ s. own_agree from number args s)
-    called_agree from (Cross to index) args s = then_agree _ _ _ _ (itself _) (λ _ s. cross_agree from to index args s)
-    called_agree from Input args s = itself _
-    called_agree from Output args s = itself _
+    called_agree from target args s = grind arith
 
     pub calls_agree : CallsAgree (calls L body) (calls M other)
     calls_agree from target args s = if_agree (may_call L from target args) (may_call M from target args) _ _ _ _
@@ -152,16 +141,11 @@ module _ (L M : Library) (agree : LibrariesAgree L M) where
 
 same_reach : (events : ℕ) (run other : SourceRun) (end end' : RunEnd) → run.trace ≡ other.trace →
     without_line end ≡ without_line end' → reaches events run end ≡ reaches events other end'
-same_reach events run other Ended Ended is h = ap (λ t. nat_lt events (length t)) is
-same_reach events run other Ended _ is h = absurd (cc)
-same_reach events run other _ Ended is h = absurd (cc)
-same_reach events run other _ _ is h = ap (λ t. nat_le events (length t)) is
+same_reach events run other end end' is h = grind (arith, is)
 
 if_shown : (b c : Bool) (run other run' other' : SourceRun) → b ≡ c → BehavioursAgree run other →
     BehavioursAgree run' other' → BehavioursAgree (if b then run else run') (if c then other else other')
-if_shown true true run other run' other' is h k = h
-if_shown false false run other run' other' is h k = k
-if_shown _ _ run other run' other' is h k = absurd (cc)
+if_shown b c run other run' other' is h k = grind (arith, h)
 
 pub stopped_agree : (events : ℕ) (run other : SourceRun) → BehavioursAgree run other →
     BehavioursAgree (stopped_at events run) (stopped_at events other)
@@ -171,23 +155,19 @@ stopped_agree events run other h =
     (record { trace = ap (take events) h.trace; end = refl }) h
 
 twice : (end : RunEnd) → without_line (without_line end) ≡ without_line end
-twice Ended = refl
-twice _ = refl
+twice end = grind arith
 
 -- what a run shows, without the line, is told by its piece without the line
 trace_of : (main : ℕ) (o : Piece (Option Value)) →
     (run_to main (piece_without_line o)).behaviour.trace ≡ (run_to main o).behaviour.trace
-trace_of main (Reached v s) = refl
-trace_of main (Stopped end s) = refl
+trace_of main o = grind arith
 
 end_of : (main : ℕ) (o : Piece (Option Value)) →
     without_line (run_to main (piece_without_line o)).behaviour.end ≡ without_line (run_to main o).behaviour.end
-end_of main (Reached v s) = refl
-end_of main (Stopped end s) = twice end
+end_of main o = grind arith
 
 frames_of : (main : ℕ) (o : Piece (Option Value)) → (run_to main (piece_without_line o)).frames ≡ (run_to main o).frames
-frames_of main (Reached v s) = refl
-frames_of main (Stopped end s) = refl
+frames_of main o = grind arith
 
 whole_agree : (main : ℕ) (o p : Piece (Option Value)) → PiecesAgree o p →
     BehavioursAgree (run_to main o).behaviour (run_to main p).behaviour

@@ -32,14 +32,11 @@ at comp first = record { comp = comp; first = first }
 -- what crossed crosses again as the same
 back_stays : (result : Option Scalar) (v : Option Value) → word_back result (option_value (word_back result v))
     ≡ word_back result v
-back_stays None v = refl
-back_stays (Some scalar) None = refl
-back_stays (Some scalar) (Some v) = refl
+back_stays result v = grind arith
 
 crossing_stays : (proto : Option Proto) (v : Option Value) → crossing proto (option_value (crossing proto v))
     ≡ crossing proto v
-crossing_stays None v = refl
-crossing_stays (Some proto) v = back_stays _ v
+crossing_stays proto v = grind arith
 
 crossed_again : (args : List Value) → crossed (map (λ w. Word w) (map word_in args)) ≡ crossed args
 crossed_again [] = refl

@@ -68,8 +68,7 @@ earlier s t o g h = record { grown = more s t _ g h.grown; stop = h.stop }
 -- pieces in a row
 pub then_then : {U V W : Type 0} (o : Piece U) (k : U → State → Piece V) (l : V → State → Piece W) →
     and_then (and_then o k) l ≡ and_then o (λ u s. and_then (k u s) l)
-then_then (Reached v s) k l = refl
-then_then (Stopped end s) k l = refl
+then_then o k l = grind arith
 
 pub then_from : {V W : Type 0} (o : Piece V) (k : V → State → Piece W) → ((v : V) → Goes (k v)) →
     Grown (last o) (last (and_then o k))

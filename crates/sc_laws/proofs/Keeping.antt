@@ -43,8 +43,7 @@ module _ (K : Property) where
 
   turn_kept : (W : Type 0) (k : Unit {0} → State → Piece W) (s : State) (m : ℕ) → m ≡ s.turns → Kept K (turn_of m s) →
       ((t : State) → t.turns < s.turns → K.Goes t → Kept K (k tt t)) → Kept K (and_then (turn_of m s) k)
-  turn_kept W k s zero is h n = record { after = h.after }
-  turn_kept W k s (suc m) is h n = n _ (omega (arith, is)) h.after
+  turn_kept W k s m is h n = grind (arith, is, h)
 
   module _ (here : Here) (kept : IsKept K here) where
     one_kept : RelationKept One Pieces
@@ -60,8 +59,7 @@ module _ (K : Property) where
 
     computed_kept : (V : Type 0) (at : Here) → IsKept K at → (line : ℕ) (r : Result V Cause) (s : State) → K.Goes s →
         Kept K (computed at line r s)
-    computed_kept V at is line (Ok v) s h = record { after = h }
-    computed_kept V at is line (Err cause) s h = record { after = is.blamed s cause line h }
+    computed_kept V at is line r s h = grind (arith, is, h)
 
     one_at : (at : Here) → IsKept K at → KeptAt One Pieces Never at
     one_at at is = record {
@@ -100,8 +98,7 @@ function_keeps library obedient comp number f is K here kept by goes keeps s at 
 -- what is looked up is there, or that it isn't allows to stop
 looked_up : {V W : Type 0} (K : Property) (o : Option V) (s : State) (go : V → State → Piece W) →
     (o ≡ None → K.Ends TurnsOut s) → ((v : V) → o ≡ Some v → Kept K (go v s)) → Kept K (and_then (found o s) go)
-looked_up K None s go none h = record { after = none refl }
-looked_up K (Some v) s go none h = h v refl
+looked_up K o s go none h = grind (arith, none, h)
 
 -- what is looked up and there
 pub there : {V W : Type 0} (K : Property) (o : Option V) (s : State) (go : V → State → Piece W) → is_some o ≡ true →
@@ -129,19 +126,14 @@ led library from to index args may =
 pub then_other : {V W : Type 0} (K L : Property) (piece : Piece V) (go : V → State → Piece W) →
     ((end : RunEnd) (s : State) → K.Ends end s → L.Ends end s) → Kept K piece →
     ((v : V) (s : State) → K.Goes s → Kept L (go v s)) → Kept L (and_then piece go)
-then_other K L (Reached v s) go ends h k = k v s h.after
-then_other K L (Stopped end s) go ends h k = record { after = ends end s h.after }
+then_other K L piece go ends h k = grind (arith, ends, h)
 
 -- A function of a library, and the rows that its compartment performs, keep a property that its calls keep.
 module _ (K : Property) (library : Library) (body : Body) (here : Here) (called_keep : (target : CallTarget)
     (args : List Value) (s : State) → may_call library here.comp target args ≡ true → K.Goes s →
     Kept K (called library body here.comp target args s)) where
   pub calls_keep : IsKept K here → CallsKeep K here.comp (calls library body)
-  calls_keep kept target args s h = by _ refl where
-    by : (b : Bool) → may_call library here.comp target args ≡ b → Kept K
-        (if b then called library body here.comp target args s else Stopped (Blamed here.comp BadType 0) s)
-    by true may = called_keep target args s may h
-    by false may = record { after = kept.blamed s BadType 0 h }
+  calls_keep kept target args s h = grind (arith, called_keep target args s, kept.blamed s BadType 0 h, h)
 
   module _ (number : ℕ) (stops : (s : State) → K.Goes s → K.Ends TurnsOut s) where
     asks_keep : CallsKeep K here.comp (asks library body)
@@ -209,20 +201,17 @@ module _ (library : Library) (walk : Walk library) where
       Kept (place n i) (body number here s)
 
   pub raise : {V : Type 0} (n : ℕ) (i : walk.Place) (o : Piece V) → Kept (place n i) o → Kept (place (suc n) i) o
-  raise n i (Reached v s) h = record { after = walk.raised n i s h.after }
-  raise n i (Stopped end s) h = record { after = h.after }
+  raise n i o h = grind (arith, h)
 
   -- a turn, and then what has one turn less
   after_turn : {V : Type 0} (n m : ℕ) (i : walk.Place) (s : State) (k : State → Piece V) → m ≡ s.turns →
       walk.At (suc n) i s → ((t : State) → walk.At n i t → Kept (place n i) (k t)) →
       Kept (place n i) (and_then (turn_of m s) (λ _. k))
-  after_turn n zero i s k is at h = record { after = walk.spent n i s (sym is) at }
-  after_turn n (suc m) i s k is at h = h _ (walk.less n m i s is at)
+  after_turn n m i s k is at h = grind (arith, is, h)
 
   turned : (n m : ℕ) (i : walk.Place) (s : State) → m ≡ s.turns → walk.At (suc n) i s →
       Kept (place (suc n) i) (turn_of m s)
-  turned n zero i s is at = record { after = walk.spent n i s (sym is) at }
-  turned n (suc m) i s is at = record { after = walk.raised n i _ (walk.less n m i s is at) }
+  turned n m i s is at = grind (arith, is)
 
   module _ (n : ℕ) (body : Body) (walks : BodyWalks n body) where
     run_walks : (i j : walk.Place) (comp number : ℕ) (args : List Value)

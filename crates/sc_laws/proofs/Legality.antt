@@ -45,15 +45,12 @@ module _ (library : Library) where
       }
 
   fits_back : (result : Option Scalar) (v : Option Value) → fits_result result (word_back result v) ≡ true
-  fits_back None v = refl
-  fits_back (Some scalar) None = refl
-  fits_back (Some scalar) (Some v) = refl
+  fits_back result v = grind arith
 
   back_fits : (o : Option Proto) (count : ℕ) (v : Option Value) →
       option_map_or (λ found. length found.params == count) o false ≡ true →
       option_map_or (λ found. fits_result found.result (crossing o v)) o false ≡ true
-  back_fits None count v h = cc h
-  back_fits (Some proto) count v h = fits_back _ v
+  back_fits o count v h = grind (arith, h)
 
   abbrev entered_at : Standing → ℕ → ℕ → Standing
   entered_at st to index =

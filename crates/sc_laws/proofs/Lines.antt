@@ -11,7 +11,7 @@ use Rattle.sc_laws.proofs.Common.{first_blocks, fold-TypedStmt, fold-TypedStmtKi
 use Rattle.sc_laws.proofs.Common.{functions_in, globals_of, if◌then◌else◌, in_loop, in_order, init_does, inits_do}
 use Rattle.sc_laws.proofs.Common.{kind_nodes, kind_step, layer_of, leave, length, length-map, library_of, local_nodes}
 use Rattle.sc_laws.proofs.Common.{loop, main_name, map, map-TypedStmtKind, nat_lt, nodes, not, on_line, option_map}
-use Rattle.sc_laws.proofs.Common.{part_does, part_nodes, place_named, place_of_export, position_or_len, refl}
+use Rattle.sc_laws.proofs.Common.{arith, part_does, part_nodes, place_named, place_of_export, position_or_len, refl}
 use Rattle.sc_laws.proofs.Common.{roll-TypedStmtKind, rounds, run_by, run_of, run_step, simple_does, slice_get}
 use Rattle.sc_laws.proofs.Common.{slice_get-map, stmt_at, stmt_does, stmt_induction, stmt_nodes, stmt_step, store}
 use Rattle.sc_laws.proofs.Common.{store_at, store_result, subst, suc, sym, test, total, true, turn, variable_at}
@@ -28,23 +28,18 @@ use Rattle.sc_laws.proofs.Statements.{Pairs, meets_at, lists_at}
 -- WORDS
 computed_agree : {V : Type 0} (here : Here) (line other : ℕ) (r : Result V Cause) (s : State) →
     PiecesAgree (computed here line r s) (computed here other r s)
-computed_agree here line other (Ok v) s = itself _
-computed_agree here line other (Err cause) s = record { same = refl }
+computed_agree here line other r s = grind arith
 
 choose_agree : {V : Type 0} (v : Value) (o p o' p' : Piece V) → PiecesAgree o p → PiecesAgree o' p' →
     PiecesAgree (choose v o o') (choose v p p')
-choose_agree {V} v o p o' p' h k = by _ where
-  by : (b : Bool) → PiecesAgree (if b then o else o') (if b then p else p')
-  by true = h
-  by false = k
+choose_agree {V} v o p o' p' h k = grind (arith, h, k)
 
 -- doings that agree
 abbrev DoesAgree : {A : Type 0} → Does A → Does A → Type 0
 DoesAgree {A} f g = (a : A) (s : State) → PiecesAgree (f a s) (g a s)
 
 take_agree : {A : Type 0} (route : Route) (f g : Does A) → DoesAgree f g → DoesAgree (take route f) (take route g)
-take_agree On f g h a s = h a s
-take_agree (Out exit) f g h a s = itself _
+take_agree route f g h a s = grind (arith, h)
 
 follow_agree : {A : Type 0} (route : Exit → Route) (o p : Piece (Left A)) (f g : Does A) → PiecesAgree o p →
     DoesAgree f g → PiecesAgree (follow route o f) (follow route p g)
@@ -85,8 +80,7 @@ module _ (line_of : ℕ → ℕ) where
   list_nodes (stmt ∷ rest) h = ap₂ (λ n ns. n ∷ ns) h.0 (list_nodes rest h.1)
 
   same_part : (part : Option TypedSimple) → part_nodes (option_map (simple_lined line_of) part) ≡ part_nodes part
-  same_part None = refl
-  same_part (Some p) = refl
+  same_part part = grind arith
 
   abbrev nodes_of : TypedStmtKind-F TypedStmtKind TypedStmt → ℕ
   nodes_of = layer_of ℕ ℕ kind_nodes (λ s. s.kind)
@@ -240,13 +234,11 @@ module _ (here : Here) where
 
   brace_agree : (has_result is_main : Bool) (line other : ℕ) (s : State) →
       PiecesAgree (at_brace has_result is_main line here s) (at_brace has_result is_main other here s)
-  brace_agree true false line other s = record { same = refl }
-  brace_agree _ _ line other s = itself _
+  brace_agree has_result is_main line other s = grind arith
 
   closed_agree : (exit : Exit) (has_result is_main : Bool) (line other : ℕ) (s : State) →
       PiecesAgree (closed exit has_result is_main line here s) (closed exit has_result is_main other here s)
-  closed_agree (Return v) has_result is_main line other s = itself _
-  closed_agree _ has_result is_main line other s = brace_agree _ is_main line other s
+  closed_agree exit has_result is_main line other s = grind arith
 
 -- FUNCTIONS AND LIBRARIES
 pairs_map : {A A' B : Type 0} (Q : B → B → Type 0) (f : A → B) (g : A' → B) (h : A → A') →
@@ -307,8 +299,7 @@ libraries_agree arith line_of program = record {
 -- the globals have no lines
 same_blocks : (line_of : ℕ → ℕ) (section : Option TypedSection) →
     first_blocks section ≡ first_blocks (option_map (section_lined line_of) section)
-same_blocks line_of None = refl
-same_blocks line_of (Some section) = refl
+same_blocks line_of section = grind arith
 
 same_globals : (line_of : ℕ → ℕ) (sections : List TypedSection) (comp : ℕ) →
     globals_of sections comp ≡ globals_of (map (section_lined line_of) sections) comp

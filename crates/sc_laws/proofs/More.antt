@@ -36,8 +36,7 @@ module _ (d : ℕ) (one other : Run) (events more_events : ℕ) (le : events ≤
   final_at false is final (goes.goes_past end ends stop passes front ended frames late) =
       absurd (no_end end passes (subst IsFinal ends final)) where
         no_end : (end : RunEnd) → Passes d Never (Unit {0}) end → IsFinal end → ⊥
-        no_end TurnsOut passes final = final
-        no_end _ passes final = passes
+        no_end end passes final = grind arith
 
   extends : RunsBelow d Never (Unit {0}) one other → Extends (stopped_at events shorter) (stopped_at more_events longer)
   extends below =

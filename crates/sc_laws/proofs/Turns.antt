@@ -63,9 +63,7 @@ module _ (library : Library) where
     stops : (globals : Memory) (inputs : List ℕ) (turns : ℕ) (o : Piece (Option Value)) →
         main_call library globals inputs turns ≡ o → Kept (spending (suc turns)) o →
         (run_to main o).behaviour.end ≡ TurnsOut → StopsSpent library globals inputs turns
-    stops globals inputs turns (Stopped TurnsOut s) is h ends = record { state = s; stopped = is; spent = h.after }
-    stops globals inputs turns (Reached v s) is h ends = absurd (cc)
-    stops globals inputs turns (Stopped _ s) is h ends = absurd (cc)
+    stops globals inputs turns end is h ends = grind (arith, is, h)
 
     pub spends_turns : SpendsTurns library
     spends_turns = record {

@@ -4,7 +4,7 @@ use Rattle.sc_laws.proofs.Common.{Entry, Export, Function, Goes, Gone, Grown, He
 use Rattle.sc_laws.proofs.Common.{Option, Output, Own, Piece, Reached, Result, Some, State, Stopped, Value, and_then}
 use Rattle.sc_laws.proofs.Common.{ap, computed, function, imports, is_function, is_input, is_output, is_some, is_word}
 use Rattle.sc_laws.proofs.Common.{leads, length, list_all, may_call, refl, takes, turn, with_blocks, ℕ, ◌&&◌, ◌<◌, ◌==◌}
-use Rattle.sc_laws.proofs.Common.{◌∙◌, ◌≡◌}
+use Rattle.sc_laws.proofs.Common.{arith, ◌∙◌, ◌≡◌}
 use Rattle.sc_laws.proofs.Growing.{then_goes}
 use Rattle.sc_laws.proofs.Expressions.{Keeps}
 
@@ -66,20 +66,11 @@ module _ (L M : Library) (interfaces : M.interfaces ≡ L.interfaces)
     (entered : (comp : ℕ) (entry : Entry) → M.entered comp entry ≡ L.entered comp entry)
     (there : (comp number : ℕ) → is_some (function M comp number) ≡ is_some (function L comp number)) where
   leads_same : (comp : ℕ) (number : Option ℕ) → leads M comp number ≡ leads L comp number
-  leads_same comp None = refl
-  leads_same comp (Some number) = there comp number
+  leads_same comp number = grind arith
 
   pub may_call_same : (from : ℕ) (target : CallTarget) (args : List Value) →
       may_call M from target args ≡ may_call L from target args
-  may_call_same from (Own number) args = there from number
-  may_call_same from (Cross to index) args =
-      ap (λ i. imports i from (is_function to index) && (takes i to index (length args)
-      && (list_all is_word args && leads M to (M.entered to (Export index))))) interfaces
-      ∙ ap (λ b. imports L.interfaces from (is_function to index) && (takes L.interfaces to index (length args)
-      && (list_all is_word args && b))) (ap (leads M to) (entered to _) ∙ leads_same to (L.entered to _))
-  may_call_same from Input args = ap (λ i. imports i from is_input) interfaces
-  may_call_same from Output args =
-      ap (λ i. imports i from is_output && (length args == 1 && list_all is_word args)) interfaces
+  may_call_same from target args = grind arith
 
 -- a relation that is kept in these calls
 module _ (P : State → State → Type 0) (R : (V : Type 0) → Piece V → Piece V → Type 0) (Good : Here → Type 0) where
@@ -105,9 +96,7 @@ module _ (P : State → State → Type 0) (R : (V : Type 0) → Piece V → Piec
     function_twins = twins.functions
 
     some_same : (f g : Option Function) → Meets FunctionTwins f g → is_some g ≡ is_some f
-    some_same None None h = refl
-    some_same (Some f) (Some g) h = refl
-    some_same _ _ h = absurd h
+    some_same f g h = grind (arith, h)
 
     -- the same calls may be made
     pub may_same : (from : ℕ) (target : CallTarget) (args : List Value) →
