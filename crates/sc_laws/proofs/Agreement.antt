@@ -1,13 +1,13 @@
 -- Libraries that agree function by function run the same, also where compartments perform scripts.
-use Rattle.sc_laws.proofs.Common.{Action, AgreeingRunAlike, BehavioursAgree, BodiesAgree, Body, Bool, Call, CallTarget}
-use Rattle.sc_laws.proofs.Common.{arith, CallsAgree, Cross, Ended, EventsOut, Function, FunctionsAgree, Here, Input}
-use Rattle.sc_laws.proofs.Common.{LibrariesAgree, Library, List, Main, Meets, Memory, None, Option, Output, Own, Piece}
-use Rattle.sc_laws.proofs.Common.{PiecesAgree, Reached, Roles, Row, RunEnd, RunsAgree, Some, SourceRun, State, Step}
-use Rattle.sc_laws.proofs.Common.{Stopped, Value, Word, [], acts, and_then, ap, asks, back_cross, back_own, begun}
-use Rattle.sc_laws.proofs.Common.{call_cross, call_own, called, calls, done, false, first_state, found, function}
-use Rattle.sc_laws.proofs.Common.{if◌then◌else◌, is_number, is_some, length, map, may_call, nat_le, nat_lt, performs}
+use Rattle.sc_laws.proofs.Common.{Action, AgreeingRunAlike, BehavioursAgree, BodiesAgree, Body, Bool, CallTarget}
+use Rattle.sc_laws.proofs.Common.{arith, CallsAgree, Cross, EventsOut, Function, FunctionsAgree, Here, Input}
+use Rattle.sc_laws.proofs.Common.{LibrariesAgree, Library, List, Main, Meets, Memory, None, Option, Output, Piece}
+use Rattle.sc_laws.proofs.Common.{PiecesAgree, Roles, Row, RunEnd, RunsAgree, Some, SourceRun, State, Step}
+use Rattle.sc_laws.proofs.Common.{Value, Word, [], acts, and_then, ap, asks, back_own, begun}
+use Rattle.sc_laws.proofs.Common.{call_own, called, calls, done, first_state, found, function}
+use Rattle.sc_laws.proofs.Common.{if◌then◌else◌, is_number, is_some, length, map, may_call, performs}
 use Rattle.sc_laws.proofs.Common.{piece_without_line, reaches, refl, run_by, run_in, run_step, run_to, scripted_step}
-use Rattle.sc_laws.proofs.Common.{stopped_at, subst, suc, sym, take, true, within, without_line, zero, ℕ, ◌∙◌, ◌∷◌, ◌≡◌}
+use Rattle.sc_laws.proofs.Common.{stopped_at, subst, suc, sym, take, within, without_line, zero, ℕ, ◌∙◌, ◌∷◌, ◌≡◌}
 use Rattle.sc_event.specs.declared.row.Action.TheVariants as act
 use Rattle.sc_laws.proofs.Twins.{may_call_same}
 
@@ -64,17 +64,6 @@ module _ (L M : Library) (agree : LibrariesAgree L M) where
     pub own_agree : (comp number : ℕ) (args : List Value) (s : State) →
         PiecesAgree (call_own L body comp number args s) (call_own M other comp number args s)
     own_agree comp number args s = runs_in comp number args back_own back_own (λ v s. itself _) s
-
-    back_agree : (from to index : ℕ) (v : Option Value) (s : State) →
-        PiecesAgree (back_cross L.interfaces from to index v s) (back_cross M.interfaces from to index v s)
-    back_agree from to index v s =
-        record { same = ap (λ i. piece_without_line (back_cross i from to index v s)) agree.interfaces }
-
-    pub cross_agree : (from to index : ℕ) (args : List Value) (s : State) →
-        PiecesAgree (call_cross L body from to index args s) (call_cross M other from to index args s)
-    cross_agree from to index args s =
-        then_agree _ _ _ _ (found_agree _ _ s (agree.entered to _)) (λ number s. runs_in to number _
-        (back_cross L.interfaces from to index) (back_cross M.interfaces from to index) (back_agree from to index) _)
 
     called_agree : CallsAgree (called L body) (called M other)
     called_agree from target args s = grind arith
@@ -153,9 +142,6 @@ stopped_agree events run other h =
     if_shown (reaches events run run.end) (reaches events other _) (record { trace = take events _; end = EventsOut })
     (record { trace = take events _; end = EventsOut }) run other (same_reach events run other run.end _ h.trace h.end)
     (record { trace = ap (take events) h.trace; end = refl }) h
-
-twice : (end : RunEnd) → without_line (without_line end) ≡ without_line end
-twice end = grind arith
 
 -- what a run shows, without the line, is told by its piece without the line
 trace_of : (main : ℕ) (o : Piece (Option Value)) →

@@ -1,8 +1,8 @@
 -- No compartment that performs is blamed, whatever the trace is, and only compartments that there are.
 use Rattle.sc_laws.proofs.Common.{is_some, AreFresh, Blamed, Bool, Cause, ChainRises, Ended, Event, EventsOut, Function}
 use Rattle.sc_laws.proofs.Common.{HasChain, IsBlamedOutside, IsChain, IsRising, IsWithin, Kept, Library, Link, List}
-use Rattle.sc_laws.proofs.Common.{Memory, Obedient, Option, PassesBlame, Piece, Reached, Roles, RunEnd, Set, SourceRun}
-use Rattle.sc_laws.proofs.Common.{Stopped, TurnsOut, Value, [], ap, arith, cases_eq, eq-eqb, false, first_state}
+use Rattle.sc_laws.proofs.Common.{Memory, Obedient, Option, PassesBlame, Piece, Roles, RunEnd, Set, SourceRun}
+use Rattle.sc_laws.proofs.Common.{TurnsOut, Value, [], ap, arith, cases_eq, eq-eqb, false, first_state}
 use Rattle.sc_laws.proofs.Common.{function, if◌then◌else◌, leb-false, length, length-append, longer, nat_le, ne_eqb}
 use Rattle.sc_laws.proofs.Common.{nobody, performed_by, reaches, refl, roles_in, roles_run, run_step, run_to}
 use Rattle.sc_laws.proofs.Common.{scripted_step, slice_get, slice_index_or, stopped_at, subst, suc, sym, true, turnless}

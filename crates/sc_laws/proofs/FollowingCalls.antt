@@ -1,7 +1,7 @@
 -- Calls in two runs along one trace, of which the second has more compartments that perform their parts of it.
 use Rattle.sc_laws.proofs.Common.{arith, Action, BadType, Body, Bool, Call, CallTarget, Cross, Event, Export, Front}
 use Rattle.sc_laws.proofs.Common.{Function, Goes, Gone, Here, In, Input, IsFixed, Library, List, Meets, None, Option}
-use Rattle.sc_laws.proofs.Common.{Output, Own, Piece, Proto, Reached, Ret, Row, Scalar, Some, Standing, State, Step}
+use Rattle.sc_laws.proofs.Common.{Output, Own, Piece, Proto, Reached, Ret, Row, Some, Standing, State, Step}
 use Rattle.sc_laws.proofs.Common.{Stopped, TurnsOut, Value, Word, [], action_of, acts, and_from, and_parts, and_then}
 use Rattle.sc_laws.proofs.Common.{ap, ap₂, asks, at_start, back_cross, begun, blocks_for, both_ways, call_cross}
 use Rattle.sc_laws.proofs.Common.{call_own, called, calls, crossed, crossing, done, drop, ended, eq-eqb, export_at}
@@ -9,7 +9,7 @@ use Rattle.sc_laws.proofs.Common.{false, first_word, found, function, if◌then�
 use Rattle.sc_laws.proofs.Common.{is_word, last, length, list_all, map, may_call, next_input, now, option_value}
 use Rattle.sc_laws.proofs.Common.{performer, performs, read_input, refl, roles_in, rows_left, run_in, run_step}
 use Rattle.sc_laws.proofs.Common.{scripted_step, stands_after, stands_behind, subst, suc, sym, takes, tell, true, turn}
-use Rattle.sc_laws.proofs.Common.{turn_of, within, word_back, word_in, zero, ℕ, ◌++◌, ◌∙◌, ◌∷◌, ◌≡◌}
+use Rattle.sc_laws.proofs.Common.{turn_of, within, word_in, zero, ℕ, ◌++◌, ◌∙◌, ◌∷◌, ◌≡◌}
 use Rattle.sc_event.specs.declared.event.Event.TheVariants.{Out}
 use Rattle.sc_event.specs.declared.row.Action.TheVariants as act
 use Rattle.sc_laws.proofs.Growing.{front_same, front_more, more, reached, stays, no_turn, earlier, then_goes, BodyGoes}
@@ -30,10 +30,6 @@ abbrev pub at : (comp first : ℕ) → Here
 at comp first = record { comp = comp; first = first }
 
 -- what crossed crosses again as the same
-back_stays : (result : Option Scalar) (v : Option Value) → word_back result (option_value (word_back result v))
-    ≡ word_back result v
-back_stays result v = grind arith
-
 crossing_stays : (proto : Option Proto) (v : Option Value) → crossing proto (option_value (crossing proto v))
     ≡ crossing proto v
 crossing_stays proto v = grind arith

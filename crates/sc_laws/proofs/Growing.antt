@@ -1,7 +1,7 @@
 -- Each word of the meaning only goes on: events are appended, and no turns come back.
 use Rattle.sc_laws.proofs.Common.{Action, AllFrom, Body, Bool, Call, CallTarget, Calls, Closed, Cross, Does, Event}
 use Rattle.sc_laws.proofs.Common.{Exit, FrameChange, Front, Function, Goes, Gone, Grown, Here, In, Input, Interfaces}
-use Rattle.sc_laws.proofs.Common.{Left, Library, List, None, On, Opened, Option, Out, Output, Own, Piece, Reached, Ret}
+use Rattle.sc_laws.proofs.Common.{Left, Library, List, None, On, Opened, Option, Out, Output, Own, Piece, Reached}
 use Rattle.sc_laws.proofs.Common.{Roles, Route, Row, Some, State, Step, Stopped, TurnsOut, Value, Word, [], acts}
 use Rattle.sc_laws.proofs.Common.{and_then, ap, append-nil, append_assoc, arith, asks, back_cross, back_own, begun}
 use Rattle.sc_laws.proofs.Common.{call_cross, call_own, called, calls, done, false, follow, found, function}

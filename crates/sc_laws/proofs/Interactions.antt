@@ -4,7 +4,7 @@
 use Rattle.sc_laws.proofs.Common.{Alike, Asks, Blames, Blocks, Bool, CallTarget, Calls, Cause, Does, Doing, Each, Err}
 use Rattle.sc_laws.proofs.Common.{Exit, Gives, GoFrom, Goes, Gone, Grown, Halts, Here, Interaction, Lasts, Left, List}
 use Rattle.sc_laws.proofs.Common.{Match, Next, Ok, On, Out, Piece, Plays, Reached, Reads, Result, Route, Spends, State}
-use Rattle.sc_laws.proofs.Common.{Stopped, Stores, Value, [], all_do, and_then, ap, arith, computed, false, follow}
+use Rattle.sc_laws.proofs.Common.{Stores, Value, [], all_do, and_then, ap, arith, computed, false, follow}
 use Rattle.sc_laws.proofs.Common.{if◌then◌else◌, in_loop, in_order, inl, inr, leave, loop, map, played, refl, rounds}
 use Rattle.sc_laws.proofs.Common.{store, stored, subst, suc, sym, true, turn, turn_of, with_memory, zero, ℕ, ◌<◌, ◌∙◌}
 use Rattle.sc_laws.proofs.Common.{◌∷◌, ◌≡◌, ◌≤◌}

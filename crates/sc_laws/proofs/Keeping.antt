@@ -1,9 +1,9 @@
 -- To show that the functions of a library keep a property of states, show it of what changes memory, of turns and of
 -- calls.
 use Rattle.sc_laws.proofs.Common.{Action, BadType, Blamed, Blocks, Body, Bool, Call, CallTarget, Calls, Cause, Cross}
-use Rattle.sc_laws.proofs.Common.{Err, Export, Function, Gone, Grown, Here, Input, Kept, Library, List, Main, Meets}
-use Rattle.sc_laws.proofs.Common.{Memory, Never, None, Obedient, Ok, Option, Output, Own, Piece, Property, Reached}
-use Rattle.sc_laws.proofs.Common.{Result, Ret, Roles, Row, RunEnd, Some, State, Stopped, TurnsOut, Value, Word, []}
+use Rattle.sc_laws.proofs.Common.{Export, Function, Gone, Grown, Here, Input, Kept, Library, List, Main, Meets}
+use Rattle.sc_laws.proofs.Common.{Memory, Never, None, Obedient, Option, Output, Own, Piece, Property}
+use Rattle.sc_laws.proofs.Common.{Result, Ret, Roles, Row, RunEnd, Some, State, TurnsOut, Value, Word, []}
 use Rattle.sc_laws.proofs.Common.{acts, and_parts, and_then, ap, arith, asks, back_cross, back_own, begun, call_own}
 use Rattle.sc_laws.proofs.Common.{called, calls, computed, crossing, done, export_at, false, first_word, found}
 use Rattle.sc_laws.proofs.Common.{function, if◌then◌else◌, imports, is_some, is_word, leads, length, list_all, map}

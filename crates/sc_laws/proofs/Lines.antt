@@ -1,12 +1,12 @@
 -- A program whose trees stand on other lines does the same up to the lines of blames.
-use Rattle.sc_laws.proofs.Common.{Acts, Arith, Bool, CallTarget, Calls, CallsAgree, Cause, Does, Each, Entry, Err, Exit}
+use Rattle.sc_laws.proofs.Common.{Acts, Arith, Bool, CallTarget, Calls, CallsAgree, Cause, Does, Each, Entry, Exit}
 use Rattle.sc_laws.proofs.Common.{Export, FunctionsAgree, Here, Inside, Left, LibrariesAgree, List, Local, Main, Next}
-use Rattle.sc_laws.proofs.Common.{None, Ok, On, Option, OtherLinesAgree, Out, Piece, PiecesAgree, ProgramTree, Proto}
-use Rattle.sc_laws.proofs.Common.{Result, Return, Route, RunsAgree, Some, State, TypedExpr, TypedFunction, TypedLocal}
+use Rattle.sc_laws.proofs.Common.{None, Ok, Option, OtherLinesAgree, Piece, PiecesAgree, ProgramTree, Proto}
+use Rattle.sc_laws.proofs.Common.{Result, Route, RunsAgree, Some, State, TypedExpr, TypedFunction, TypedLocal}
 use Rattle.sc_laws.proofs.Common.{TypedSection, TypedSimple, TypedSimpleKind, TypedStmt, TypedStmt-F, TypedStmtKind}
 use Rattle.sc_laws.proofs.Common.{TypedStmtKind-F, TypedStruct, Value, Want, Ways, [], all_do, ap, ap₂, assign}
-use Rattle.sc_laws.proofs.Common.{at_brace, at_place, block_does, body_does, bytes_eq, call, cells_of, choose, closed}
-use Rattle.sc_laws.proofs.Common.{computed, cond, entry_in, evaluated, everywhere, export_at, expr_nodes, false}
+use Rattle.sc_laws.proofs.Common.{at_place, block_does, body_does, bytes_eq, call, cells_of, choose, closed}
+use Rattle.sc_laws.proofs.Common.{computed, cond, entry_in, evaluated, everywhere, export_at, expr_nodes}
 use Rattle.sc_laws.proofs.Common.{first_blocks, fold-TypedStmt, fold-TypedStmtKind, follow, frame_bound, function_of}
 use Rattle.sc_laws.proofs.Common.{functions_in, globals_of, if◌then◌else◌, in_loop, in_order, init_does, inits_do}
 use Rattle.sc_laws.proofs.Common.{kind_nodes, kind_step, layer_of, leave, length, length-map, library_of, local_nodes}
@@ -14,7 +14,7 @@ use Rattle.sc_laws.proofs.Common.{loop, main_name, map, map-TypedStmtKind, nat_l
 use Rattle.sc_laws.proofs.Common.{arith, part_does, part_nodes, place_named, place_of_export, position_or_len, refl}
 use Rattle.sc_laws.proofs.Common.{roll-TypedStmtKind, rounds, run_by, run_of, run_step, simple_does, slice_get}
 use Rattle.sc_laws.proofs.Common.{slice_get-map, stmt_at, stmt_does, stmt_induction, stmt_nodes, stmt_step, store}
-use Rattle.sc_laws.proofs.Common.{store_at, store_result, subst, suc, sym, test, total, true, turn, variable_at}
+use Rattle.sc_laws.proofs.Common.{store_at, store_result, subst, suc, sym, test, total, turn, variable_at}
 use Rattle.sc_laws.proofs.Common.{variables, ways, zero, ℕ, ◌++◌, ◌+◌, ◌∙◌, ◌∷◌, ◌≡◌}
 use Rattle.sc_core.specs.Prelude.{take}
 use Rattle.sc_core.specs.declared.stmt.TypedSimpleKind.TheVariants as simple
@@ -231,10 +231,6 @@ module _ (here : Here) where
           (body_does arith structs here params D (function_lined line_of f))
       body_agree f a s = follow_agree in_order _ _ _ _ (inits_agree 0 f.locals a s)
           (block_agree f.body (everywhere Agrees stmt_agree f.body))
-
-  brace_agree : (has_result is_main : Bool) (line other : ℕ) (s : State) →
-      PiecesAgree (at_brace has_result is_main line here s) (at_brace has_result is_main other here s)
-  brace_agree has_result is_main line other s = grind arith
 
   closed_agree : (exit : Exit) (has_result is_main : Bool) (line other : ℕ) (s : State) →
       PiecesAgree (closed exit has_result is_main line here s) (closed exit has_result is_main other here s)

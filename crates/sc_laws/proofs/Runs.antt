@@ -3,8 +3,8 @@ use Rattle.sc_laws.proofs.Common.{roles_run, AllFrom, Blamed, Bool, Cause, End, 
 use Rattle.sc_laws.proofs.Common.{Front, HasFixedPoint, Here, IsFixed, IsSteady, IsStop, LibrariesMatch, Library, List}
 use Rattle.sc_laws.proofs.Common.{Main, Memory, Never, None, Obedient, Option, Piece, Reached, Roles, Run, RunEnd, Some}
 use Rattle.sc_laws.proofs.Common.{SourceRun, State, Step, Stopped, StopsSo, TurnsOut, Value, [], and_then, ap, arith}
-use Rattle.sc_laws.proofs.Common.{call_own, exit_word, false, first_state, found, if◌then◌else◌, inl, last, le-ltb}
-use Rattle.sc_laws.proofs.Common.{leb-false, length, length-append, lt-leb, ltb-false, now, reaches, refl, run_step}
+use Rattle.sc_laws.proofs.Common.{call_own, exit_word, false, first_state, found, if◌then◌else◌, inl, last}
+use Rattle.sc_laws.proofs.Common.{length, length-append, now, reaches, refl, run_step}
 use Rattle.sc_laws.proofs.Common.{run_to, scripted_step, stopped_at, subst, suc, sym, take, take_all, true, within}
 use Rattle.sc_laws.proofs.Common.{zero, ℕ, ◌++◌, ◌+◌, ◌<◌, ◌∙◌, ◌∷◌, ◌≡◌, ◌≤◌, ◌⊎◌}
 use Rattle.sc_laws.proofs.Growing.{front_more, front_no_longer, StepGoes, within_goes, run_step_goes, scripted_goes}

@@ -8,7 +8,7 @@ use Rattle.sc_laws.proofs.Common.{action_of, acts, and_from, and_parts, and_then
 use Rattle.sc_laws.proofs.Common.{count_of, drop, eq-eqb, eqb-true, false, false≢true, first_state, function}
 use Rattle.sc_laws.proofs.Common.{if◌then◌else◌, imports, is_allowed, is_legal_from, is_number, is_some, is_word, leads}
 use Rattle.sc_laws.proofs.Common.{legal, length-map, list_all, map, may_call, may_perform, part, performer, performs}
-use Rattle.sc_laws.proofs.Common.{refl, roles_in, rows_left, run_step, same_Some, scripted_call, scripted_step}
+use Rattle.sc_laws.proofs.Common.{refl, roles_in, rows_left, run_step, scripted_call, scripted_step}
 use Rattle.sc_laws.proofs.Common.{stands_after, stands_behind, subst, suc, sym, takes, tell, then_kept, true, within}
 use Rattle.sc_laws.proofs.Common.{zero, ℕ, ◌++◌, ◌<◌, ◌∙◌, ◌∷◌, ◌≡◌}
 use Rattle.sc_event.specs.declared.event.Event.TheVariants.{Out}

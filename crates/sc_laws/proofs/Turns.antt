@@ -1,6 +1,6 @@
 -- A run that is out of turns has none left, where all functions that are called are there.
 use Rattle.sc_laws.proofs.Common.{Blamed, Ended, EventsOut, Kept, Library, List, Main, Memory, Obedient, Option, Piece}
-use Rattle.sc_laws.proofs.Common.{Property, Reached, RunEnd, SpendsTurns, State, Stopped, StopsSpent, TurnsOut, Value}
+use Rattle.sc_laws.proofs.Common.{Property, RunEnd, SpendsTurns, State, StopsSpent, TurnsOut, Value}
 use Rattle.sc_laws.proofs.Common.{arith, first_state, leads, main_call, refl, run_step, run_to, subst, suc, true}
 use Rattle.sc_laws.proofs.Common.{within, zero, ℕ, ◌<◌, ◌≡◌}
 use Rattle.sc_laws.proofs.Growing.{within_goes}

@@ -1,10 +1,10 @@
 -- Two runs side by side: which relations of them the words of the meaning keep.
-use Rattle.sc_laws.proofs.Common.{Bool, true, false, if◌then◌else◌, Blamed, Blocks, CallTarget, Calls, Cause, Cross}
-use Rattle.sc_laws.proofs.Common.{Entry, Export, Function, Goes, Gone, Grown, Here, Input, Library, List, Meets, None}
-use Rattle.sc_laws.proofs.Common.{Option, Output, Own, Piece, Reached, Result, Some, State, Stopped, Value, and_then}
-use Rattle.sc_laws.proofs.Common.{ap, computed, function, imports, is_function, is_input, is_output, is_some, is_word}
-use Rattle.sc_laws.proofs.Common.{leads, length, list_all, may_call, refl, takes, turn, with_blocks, ℕ, ◌&&◌, ◌<◌, ◌==◌}
-use Rattle.sc_laws.proofs.Common.{arith, ◌∙◌, ◌≡◌}
+use Rattle.sc_laws.proofs.Common.{Bool, true, false, if◌then◌else◌, Blamed, Blocks, CallTarget, Calls, Cause}
+use Rattle.sc_laws.proofs.Common.{Entry, Function, Goes, Gone, Grown, Here, Library, List, Meets}
+use Rattle.sc_laws.proofs.Common.{Option, Piece, Reached, Result, State, Stopped, Value, and_then}
+use Rattle.sc_laws.proofs.Common.{computed, function, is_some}
+use Rattle.sc_laws.proofs.Common.{may_call, turn, with_blocks, ℕ, ◌<◌}
+use Rattle.sc_laws.proofs.Common.{arith, ◌≡◌}
 use Rattle.sc_laws.proofs.Growing.{then_goes}
 use Rattle.sc_laws.proofs.Expressions.{Keeps}
 
@@ -65,9 +65,6 @@ Anywhere here = Unit {0}
 module _ (L M : Library) (interfaces : M.interfaces ≡ L.interfaces)
     (entered : (comp : ℕ) (entry : Entry) → M.entered comp entry ≡ L.entered comp entry)
     (there : (comp number : ℕ) → is_some (function M comp number) ≡ is_some (function L comp number)) where
-  leads_same : (comp : ℕ) (number : Option ℕ) → leads M comp number ≡ leads L comp number
-  leads_same comp number = grind arith
-
   pub may_call_same : (from : ℕ) (target : CallTarget) (args : List Value) →
       may_call M from target args ≡ may_call L from target args
   may_call_same from target args = grind arith
