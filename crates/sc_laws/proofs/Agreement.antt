@@ -21,10 +21,7 @@ line_of_then o k = grind arith
 -- one piece after another
 pub then_agree : {V W : Type 0} (o p : Piece V) (k l : V → State → Piece W) →
     PiecesAgree o p → ((v : V) (s : State) → PiecesAgree (k v s) (l v s)) → PiecesAgree (and_then o k) (and_then p l)
-then_agree o p k l h x = record {
-  same = line_of_then o k ∙ ap (λ y. and_then y (λ v s. piece_without_line (k v s))) h.same
-      ∙ ap (and_then _) (λ i v s. (x v s).same i) ∙ sym (line_of_then p l);
-}
+then_agree o p k l h x = grind (arith, h)
 
 -- what is done where a test, which answers the same, allows it
 if_agree : {V : Type 0} (b c : Bool) (o p o' p' : Piece V) → b ≡ c → PiecesAgree o p → PiecesAgree o' p' →
@@ -41,8 +38,7 @@ module _ (L M : Library) (agree : LibrariesAgree L M) where
   -- the same calls may be made
   may_same : (from : ℕ) (target : CallTarget) (args : List Value) →
       may_call L from target args ≡ may_call M from target args
-  may_same =
-      may_call_same M L agree.interfaces agree.entered (λ comp number. both_there _ _ (agree.functions comp number))
+  may_same = grind arith
 
   module _ (body other : Body) (bodies : BodiesAgree body other) where
     runs_there : (comp number : ℕ) (args : List Value) (back back' : Option Value → State → Piece (Option Value)) →
@@ -58,8 +54,7 @@ module _ (L M : Library) (agree : LibrariesAgree L M) where
     runs_in : (comp number : ℕ) (args : List Value) (back back' : Option Value → State → Piece (Option Value)) →
         ((v : Option Value) (s : State) → PiecesAgree (back v s) (back' v s)) → (s : State) →
         PiecesAgree (run_in L body comp number args back s) (run_in M other comp number args back' s)
-    runs_in comp number args back back' b s =
-        runs_there comp number args back back' b s _ _ (agree.functions comp number)
+    runs_in comp number args back back' b s = grind arith
 
     pub own_agree : (comp number : ℕ) (args : List Value) (s : State) →
         PiecesAgree (call_own L body comp number args s) (call_own M other comp number args s)
@@ -69,8 +64,7 @@ module _ (L M : Library) (agree : LibrariesAgree L M) where
     called_agree from target args s = grind arith
 
     pub calls_agree : CallsAgree (calls L body) (calls M other)
-    calls_agree from target args s = if_agree (may_call L from target args) (may_call M from target args) _ _ _ _
-        (may_same from target args) (called_agree from target args s) (itself _)
+    calls_agree from target args s = grind arith
 
     does_there : (here : Here) (s : State) (f g : Option Function) → Meets FunctionsAgree f g →
         PiecesAgree (and_then (found f s) (λ f s. f.does (calls L body) here s))
@@ -85,8 +79,7 @@ module _ (L M : Library) (agree : LibrariesAgree L M) where
     -- scripts
     asks_agree : (comp : ℕ) (target : CallTarget) (args : List Value) (s : State) →
         PiecesAgree (asks L body comp target args s) (asks M other comp target args s)
-    asks_agree comp target args s = if_agree (may_call L comp target args) (may_call M comp target args) _ _ _ _
-        (may_same comp target args) (calls_agree comp target args s) (itself _)
+    asks_agree comp target args s = grind arith
 
     acts_agree : (action : Action) (next next' again again' : State → Piece (Option Value)) (comp : ℕ) (s : State) →
         ((s : State) → PiecesAgree (next s) (next' s)) → ((s : State) → PiecesAgree (again s) (again' s)) →
@@ -138,10 +131,7 @@ if_shown b c run other run' other' is h k = grind (arith, h)
 
 pub stopped_agree : (events : ℕ) (run other : SourceRun) → BehavioursAgree run other →
     BehavioursAgree (stopped_at events run) (stopped_at events other)
-stopped_agree events run other h =
-    if_shown (reaches events run run.end) (reaches events other _) (record { trace = take events _; end = EventsOut })
-    (record { trace = take events _; end = EventsOut }) run other (same_reach events run other run.end _ h.trace h.end)
-    (record { trace = ap (take events) h.trace; end = refl }) h
+stopped_agree events run other h = grind (arith, h)
 
 -- what a run shows, without the line, is told by its piece without the line
 trace_of : (main : ℕ) (o : Piece (Option Value)) →
@@ -157,18 +147,10 @@ frames_of main o = grind arith
 
 whole_agree : (main : ℕ) (o p : Piece (Option Value)) → PiecesAgree o p →
     BehavioursAgree (run_to main o).behaviour (run_to main p).behaviour
-whole_agree main o p h = record {
-  trace = sym (trace_of main o) ∙ ap (λ x. (run_to main x).behaviour.trace) h.same ∙ trace_of main p;
-  end = sym (end_of main o) ∙ ap (λ x. without_line (run_to main x).behaviour.end) h.same ∙ end_of main p;
-}
+whole_agree main o p h = grind (arith, h)
 
 pub run_agree : (main : ℕ) (o p : Piece (Option Value)) → PiecesAgree o p → RunsAgree (run_to main o) (run_to main p)
-run_agree main o p h = record {
-  behaviour = λ events. stopped_agree events (run_to main o).behaviour (run_to main p).behaviour
-      (whole_agree main o p h);
-  whole = whole_agree main o p h;
-  frames = sym (frames_of main o) ∙ ap (λ x. (run_to main x).frames) h.same ∙ frames_of main p;
-}
+run_agree main o p h = grind (arith, h)
 
 pub runs_agree : (L M : Library) (agree : LibrariesAgree L M) (step to : Step) → StepsAgree L M agree step to →
     (globals : Memory) (inputs : List ℕ) (turns : ℕ) →

@@ -81,8 +81,7 @@ module _ (L : Library) (main : ℕ) (t : List Event) (S S' : ℕ → Bool) (larg
   role_is : (body : Body) (set : ℕ → Bool) (number : ℕ) (here : Here) (s : State) (b : Bool) → set here.comp ≡ b →
       scripted_step L (roles_in main set t) (run_step L) body number here s ≡ (if b then performs L body
       (rows_left (roles_in main set t) here.comp s.trace) number here s else run_step L body number here s)
-  role_is body set number here s b is = ap (λ b. if b then performs L body
-      (rows_left (roles_in main set t) here.comp s.trace) number here s else run_step L body number here s) is
+  role_is body set number here s b is = grind (arith, is)
 
   module _ (fixed : IsFixed second_step) (second_goes : BodyGoes second) where
     -- the function with which a compartment was entered goes on performing
@@ -497,8 +496,7 @@ module _ (L : Library) (main : ℕ) (t : List Event) (S S' : ℕ → Bool) (larg
 
         asks_allowed : (target : CallTarget) (args : List Value) (u : State) → may target args ≡ true →
             asks L second comp target args u ≡ called L second comp target args u
-        asks_allowed target args u allowed = asks_is L second second_goes comp target args u
-            ∙ ap (λ b. if b then called L second comp target args u else Stopped TurnsOut u) allowed
+        asks_allowed target args u allowed = grind arith
 
         -- an event of the environment, behind which these inputs are left in the runs
         event_performs : (e : Event) (v : Option Value) (inputs inputs' : List ℕ) (s : State) (h : H s) →

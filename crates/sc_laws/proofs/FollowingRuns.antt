@@ -115,15 +115,7 @@ module _ (L : Library) (obedient : Obedient L) (t : List Event) (S S' : Set) (la
     st = record { active = record { comp = main; entry = Main }; waiting = [] }
 
     begins_near : (f : Function) → N L main t S S' larger st (begun main f [] beginning) (begun main f [] beginning)
-    begins_near f =
-        record {
-          trace = refl;
-          front = record { more = t; is = refl };
-          turns = omega arith;
-          inputs = refl;
-          memory = λ c clear. refl;
-          stands = refl;
-        }
+    begins_near f = grind arith
 
     module _ (number : ℕ) (is_number : L.entered main Main ≡ Some number) (f : Function) where
       abbrev first : ℕ

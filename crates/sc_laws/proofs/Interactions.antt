@@ -178,10 +178,7 @@ plays_stored {V} here v blocks =
 
 pub plays_call : (here : Here) (target : CallTarget) (args : List Value) →
     Plays here (λ by. by here.comp target args) (λ n. Asks target args (λ v. Gives v))
-plays_call here target args = record {
-  lasts = from_one (λ n. Lasts n (Asks target args (λ v. Gives v))) tt (λ n v. tt);
-  is = λ n by goes s few. then_reached _;
-}
+plays_call here target args = grind arith
 
 -- doings with what a run carries
 abbrev pub DoingWith : Type 0 → Type 0

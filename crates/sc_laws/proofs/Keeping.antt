@@ -62,15 +62,7 @@ module _ (K : Property) where
     computed_kept V at is line r s h = grind (arith, is, h)
 
     one_at : (at : Here) → IsKept K at → KeptAt One Pieces Never at
-    one_at at is = record {
-      computing = λ V line e e' h s t one. computed_kept V at is line _ s one.goes;
-      passed = λ V cause line soft s t one p g. absurd soft;
-      stored =
-          λ blocks s t one. record {
-            goes = is.memory s blocks one.goes;
-            is = ap {B = State} (λ z. record z { memory = with_blocks at.comp blocks z.memory }) one.is;
-          };
-    }
+    one_at at is = grind (arith, is)
 
     -- a function whose pieces keep what its calls keep
     keeps_here : (f g : Option Function) → Meets (FunctionTwins One Pieces (IsKept K)) f g → (h : Function) →
@@ -117,10 +109,7 @@ led_there library comp number o is same = sym (ap (leads library comp) same) ∙
 -- a call across that may be made leads somewhere
 pub led : (library : Library) (from to index : ℕ) (args : List Value) →
     may_call library from (Cross to index) args ≡ true → leads library to (library.entered to (Export index)) ≡ true
-led library from to index args may =
-    let first = and_parts (imports library.interfaces from _) _ may in
-    let second = and_parts (takes library.interfaces to index _) _ first.1 in
-    (and_parts (list_all is_word args) _ second.1).1
+led library from to index args may = grind arith
 
 -- a piece that keeps another property, and what follows it
 pub then_other : {V W : Type 0} (K L : Property) (piece : Piece V) (go : V → State → Piece W) →

@@ -56,9 +56,7 @@ module _ (library : Library) where
   -- what the interfaces say of a call across that may be made
   imported : (from to index : ℕ) (args : List Value) → may_call library from (Cross to index) args ≡ true →
       (imports interfaces from (is_function to index) ≡ true) × (takes interfaces to index (length args) ≡ true)
-  imported from to index args may =
-      let first = and_parts (imports interfaces from _) _ may in
-      (first.0, (and_parts (takes interfaces to index _) _ first.1).0)
+  imported from to index args may = grind arith
 
   call_is_allowed : (st : Standing) (from to index : ℕ) (args : List Value) → from ≡ st.active.comp →
       may_call library from (Cross to index) args ≡ true →
@@ -71,11 +69,7 @@ module _ (library : Library) where
   back_is_allowed : (st : Standing) (from to index : ℕ) (args : List Value) (v : Option Value) →
       from ≡ st.active.comp → may_call library from (Cross to index) args ≡ true →
       is_allowed interfaces (entered_at st to index) (Ret to from (crossing (export_at interfaces to index) v)) ≡ true
-  back_is_allowed st from to index args v is may = and_from (to == to)
-      (awaits (st.active ∷ st.waiting) from && may_return interfaces to (Export index) (crossing _ v))
-      (eq-eqb to to refl) (and_from (st.active.comp == from) (may_return interfaces to (Export index) (crossing _ v))
-      (eq-eqb _ from (sym is)) (back_fits (export_at interfaces to index) (length args) v
-      (imported from to index args may).1))
+  back_is_allowed st from to index args v is may = grind (arith, is)
 
   environment_at : (st : Standing) (from : ℕ) (e : Event) (s : State) → performer e ≡ st.active.comp →
       may_perform interfaces st e ≡ true → stands_after st e ≡ Some st → IsAt s.trace st → IsAt (s.trace ++ e ∷ []) st

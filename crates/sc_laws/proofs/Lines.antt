@@ -48,9 +48,7 @@ follow_agree route o p f g h k = then_agree o p _ _ h (λ left s. take_agree _ f
 rounds_agree : {A : Type 0} (n : ℕ) (f g f2 g2 f3 g3 : Does A) → DoesAgree f g → DoesAgree f2 g2 → DoesAgree f3 g3 →
     DoesAgree (rounds n f f2 f3) (rounds n g g2 g3)
 rounds_agree zero f g f2 g2 f3 g3 h b x a s = itself _
-rounds_agree (suc n) f g f2 g2 f3 g3 h b x a s = follow_agree in_loop (f a s) (g a s) _ _ (h a s) (λ a s. then_agree
-    (turn s) (turn s) _ _ (itself _) (λ u s. follow_agree in_loop (f2 a s) (g2 a s) _ _ (b a s)
-    (λ a s. follow_agree in_loop (f3 a s) (g3 a s) _ _ (x a s) (rounds_agree n f g f2 g2 f3 g3 h b x))))
+rounds_agree (suc n) f g f2 g2 f3 g3 h b x a s = grind (arith, rounds_agree n f g f2 g2 f3 g3 h b x, g, h, b, x)
 
 -- A STATEMENT ON ANOTHER LINE
 module _ (line_of : ℕ → ℕ) where
@@ -127,13 +125,10 @@ module _ (here : Here) where
 
   store_at_agree : (place : Ways) (v : Value) (line other : ℕ) →
       DoesAgree (store_at here place v line) (store_at here place v other)
-  store_at_agree place v line other a s =
-      then_agree _ _ _ _ (given_agree _ place line other s) (λ q s.
-      then_agree _ _ _ _ (computed_agree here line other (store _ q v) s) (λ blocks s. itself _))
+  store_at_agree place v line other a s = grind arith
 
   assign_agree : (place e : Ways) (line other : ℕ) → DoesAgree (assign here place e line) (assign here place e other)
-  assign_agree place e line other a s =
-      then_agree _ _ _ _ (given_agree _ e line other s) (λ v s. store_at_agree place v line other a s)
+  assign_agree place e line other a s = grind arith
 
   test_agree : (e : Ways) (line other : ℕ) → DoesAgree (test here e line) (test here e other)
   test_agree e line other a s = then_agree _ _ _ _ (given_agree _ e line other s) (λ v s. itself _)
@@ -146,8 +141,7 @@ module _ (here : Here) where
   module _ (C D : Calls) (calls : CallsAgree C D) where
     call_agree : (target : CallTarget) (args : List Ways) (line other : ℕ) (s : State) →
         PiecesAgree (call here C target args line s) (call here D target args other s)
-    call_agree target args line other s =
-        then_agree _ _ _ _ (computed_agree here line other _ s) (λ vs s. calls _ target vs s)
+    call_agree target args line other s = grind arith
 
     module _ (arith : Arith) (structs : List TypedStruct) (params : ℕ) (line_of : ℕ → ℕ) where
       simple_agree : (k : TypedSimpleKind) (line other : ℕ) →

@@ -98,5 +98,4 @@ module _ (P : State → State → Type 0) (R : (V : Type 0) → Piece V → Piec
     -- the same calls may be made
     pub may_same : (from : ℕ) (target : CallTarget) (args : List Value) →
         may_call M from target args ≡ may_call L from target args
-    may_same =
-        may_call_same L M twins.interfaces twins.entered (λ comp number. some_same _ _ (function_twins comp number))
+    may_same = grind arith
