@@ -1,22 +1,17 @@
 -- Libraries that agree function by function run the same, also where compartments perform scripts.
-use Rattle.sc_laws.proofs.Common.{Action, AgreeingRunAlike, BehavioursAgree, BodiesAgree, Body, Bool, CallTarget}
-use Rattle.sc_laws.proofs.Common.{arith, CallsAgree, Cross, EventsOut, Function, FunctionsAgree, Here, Input}
+use Rattle.sc_laws.proofs.Common.{Action, AgreeingRunAlike, BodiesAgree, Body, Bool, CallTarget}
+use Rattle.sc_laws.proofs.Common.{arith, CallsAgree, Cross, Function, FunctionsAgree, Here, Input}
 use Rattle.sc_laws.proofs.Common.{LibrariesAgree, Library, List, Main, Meets, Memory, None, Option, Output, Piece}
-use Rattle.sc_laws.proofs.Common.{PiecesAgree, Roles, Row, RunEnd, RunsAgree, Some, SourceRun, State, Step}
-use Rattle.sc_laws.proofs.Common.{Value, Word, [], acts, and_then, ap, asks, back_own, begun}
-use Rattle.sc_laws.proofs.Common.{call_own, called, calls, done, first_state, found, function}
-use Rattle.sc_laws.proofs.Common.{if◌then◌else◌, is_number, is_some, length, map, may_call, performs}
-use Rattle.sc_laws.proofs.Common.{piece_without_line, reaches, refl, run_by, run_in, run_step, run_to, scripted_step}
-use Rattle.sc_laws.proofs.Common.{stopped_at, subst, suc, sym, take, within, without_line, zero, ℕ, ◌∙◌, ◌∷◌, ◌≡◌}
+use Rattle.sc_laws.proofs.Common.{PiecesAgree, Roles, Row, RunsAgree, Some, State, Step}
+use Rattle.sc_laws.proofs.Common.{Value, Word, [], acts, and_then, ap, asks, back_own}
+use Rattle.sc_laws.proofs.Common.{call_own, calls, first_state, found, function}
+use Rattle.sc_laws.proofs.Common.{if◌then◌else◌, is_number, map, performs}
+use Rattle.sc_laws.proofs.Common.{piece_without_line, refl, run_by, run_in, run_step, run_to, scripted_step}
+use Rattle.sc_laws.proofs.Common.{subst, suc, within, zero, ℕ, ◌∷◌, ◌≡◌}
 use Rattle.sc_event.specs.declared.row.Action.TheVariants as act
-use Rattle.sc_laws.proofs.Twins.{may_call_same}
 
 pub itself : {V : Type 0} (o : Piece V) → PiecesAgree o o
 itself o = record { same = refl }
-
-line_of_then : {V W : Type 0} (o : Piece V) (k : V → State → Piece W) →
-    piece_without_line (and_then o k) ≡ and_then (piece_without_line o) (λ v s. piece_without_line (k v s))
-line_of_then o k = grind arith
 
 -- one piece after another
 pub then_agree : {V W : Type 0} (o p : Piece V) (k l : V → State → Piece W) →
@@ -31,26 +26,8 @@ if_agree b c o p o' p' is h k = grind (arith, h)
 found_agree : {V : Type 0} (m n : Option V) (s : State) → m ≡ n → PiecesAgree (found m s) (found n s)
 found_agree m n s is = record { same = ap (λ x. piece_without_line (found x s)) is }
 
-both_there : (f g : Option Function) → Meets FunctionsAgree f g → is_some f ≡ is_some g
-both_there f g h = grind (arith, h)
-
 module _ (L M : Library) (agree : LibrariesAgree L M) where
-  -- the same calls may be made
-  may_same : (from : ℕ) (target : CallTarget) (args : List Value) →
-      may_call L from target args ≡ may_call M from target args
-  may_same = grind arith
-
   module _ (body other : Body) (bodies : BodiesAgree body other) where
-    runs_there : (comp number : ℕ) (args : List Value) (back back' : Option Value → State → Piece (Option Value)) →
-        ((v : Option Value) (s : State) → PiecesAgree (back v s) (back' v s)) → (s : State) (f g : Option Function) →
-        Meets FunctionsAgree f g →
-        PiecesAgree
-        (and_then (found f s) (λ f s. and_then (body number (record { comp = comp; first = length (s.memory comp) })
-        (begun comp f args s)) (λ v t. back v (done comp f (length (s.memory comp)) t))))
-        (and_then (found g s) (λ g s. and_then (other number (record { comp = comp; first = length (s.memory comp) })
-        (begun comp g args s)) (λ v t. back' v (done comp g (length (s.memory comp)) t))))
-    runs_there comp number args back back' b s f g h = grind (arith, h)
-
     runs_in : (comp number : ℕ) (args : List Value) (back back' : Option Value → State → Piece (Option Value)) →
         ((v : Option Value) (s : State) → PiecesAgree (back v s) (back' v s)) → (s : State) →
         PiecesAgree (run_in L body comp number args back s) (run_in M other comp number args back' s)
@@ -59,9 +36,6 @@ module _ (L M : Library) (agree : LibrariesAgree L M) where
     pub own_agree : (comp number : ℕ) (args : List Value) (s : State) →
         PiecesAgree (call_own L body comp number args s) (call_own M other comp number args s)
     own_agree comp number args s = runs_in comp number args back_own back_own (λ v s. itself _) s
-
-    called_agree : CallsAgree (called L body) (called M other)
-    called_agree from target args s = grind arith
 
     pub calls_agree : CallsAgree (calls L body) (calls M other)
     calls_agree from target args s = grind arith
@@ -120,34 +94,6 @@ module _ (L M : Library) (agree : LibrariesAgree L M) where
       own_agree (within step (suc turns)) (within to (suc turns)) (within_agree step to k (suc turns)) main number [] s)
 
 -- whole runs
-
-same_reach : (events : ℕ) (run other : SourceRun) (end end' : RunEnd) → run.trace ≡ other.trace →
-    without_line end ≡ without_line end' → reaches events run end ≡ reaches events other end'
-same_reach events run other end end' is h = grind (arith, is)
-
-if_shown : (b c : Bool) (run other run' other' : SourceRun) → b ≡ c → BehavioursAgree run other →
-    BehavioursAgree run' other' → BehavioursAgree (if b then run else run') (if c then other else other')
-if_shown b c run other run' other' is h k = grind (arith, h)
-
-pub stopped_agree : (events : ℕ) (run other : SourceRun) → BehavioursAgree run other →
-    BehavioursAgree (stopped_at events run) (stopped_at events other)
-stopped_agree events run other h = grind (arith, h)
-
--- what a run shows, without the line, is told by its piece without the line
-trace_of : (main : ℕ) (o : Piece (Option Value)) →
-    (run_to main (piece_without_line o)).behaviour.trace ≡ (run_to main o).behaviour.trace
-trace_of main o = grind arith
-
-end_of : (main : ℕ) (o : Piece (Option Value)) →
-    without_line (run_to main (piece_without_line o)).behaviour.end ≡ without_line (run_to main o).behaviour.end
-end_of main o = grind arith
-
-frames_of : (main : ℕ) (o : Piece (Option Value)) → (run_to main (piece_without_line o)).frames ≡ (run_to main o).frames
-frames_of main o = grind arith
-
-whole_agree : (main : ℕ) (o p : Piece (Option Value)) → PiecesAgree o p →
-    BehavioursAgree (run_to main o).behaviour (run_to main p).behaviour
-whole_agree main o p h = grind (arith, h)
 
 pub run_agree : (main : ℕ) (o p : Piece (Option Value)) → PiecesAgree o p → RunsAgree (run_to main o) (run_to main p)
 run_agree main o p h = grind (arith, h)

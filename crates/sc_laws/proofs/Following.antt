@@ -3,8 +3,8 @@
 use Rattle.sc_laws.proofs.Common.{Blamed, Blocks, Bool, Cause, Err, Event, FrameChange, Front, Goes, Gone, Grown, Here}
 use Rattle.sc_laws.proofs.Common.{List, Never, Ok, Option, Piece, Reached, Result, RunEnd, Some, Standing, State}
 use Rattle.sc_laws.proofs.Common.{Stopped, TurnsOut, Value, [], and_then, ap, append_assoc, arith, at_start, both_ways}
-use Rattle.sc_laws.proofs.Common.{cases_eq, computed, eq-eqb, false, if◌then◌else◌, last, ne_eqb, refl, stands_after}
-use Rattle.sc_laws.proofs.Common.{stands_behind, subst, suc, sym, tell, true, turn_of, with_blocks, zero, ℕ, ⊎_elim}
+use Rattle.sc_laws.proofs.Common.{computed, false, last, refl, stands_after}
+use Rattle.sc_laws.proofs.Common.{stands_behind, subst, suc, sym, tell, true, turn_of, with_blocks, zero, ℕ}
 use Rattle.sc_laws.proofs.Common.{◌++◌, ◌<◌, ◌∙◌, ◌∷◌, ◌≡◌, ◌≤◌}
 use Rattle.sc_laws.proofs.Growing.{front_same, then_front, then_goes, turn_of_goes}
 use Rattle.sc_laws.proofs.Twins.{Kept, KeptAt}
@@ -12,12 +12,6 @@ use Rattle.sc_laws.proofs.Expressions.{Keeps, alike, blamed}
 use Rattle.sc_laws.proofs.Rows.{stands_last, InLine, then_along}
 
 -- MEMORY
-blocks_here : (c d : ℕ) (x : Blocks) (m : ℕ → Blocks) → d ≡ c → with_blocks c x m d ≡ x
-blocks_here c d x m is = ap (λ b. if b then x else m d) (eq-eqb d c is)
-
-blocks_there : (c d : ℕ) (x : Blocks) (m : ℕ → Blocks) → (d ≡ c → ⊥) → with_blocks c x m d ≡ m d
-blocks_there c d x m differs = ap (λ b. if b then x else m d) (ne_eqb d c differs)
-
 -- where the run is blamed on a compartment of which this is said
 abbrev pub IfBlamed : (ℕ → Bool) → Bool → RunEnd → Type 0 → Type 0
 IfBlamed set said end W = (comp : ℕ) (cause : Cause) (line : ℕ) → end ≡ Blamed comp cause line → set comp ≡ said → W
@@ -94,11 +88,6 @@ module _ (main : ℕ) (t : List Event) (S' : ℕ → Bool) where
       inputs' ≡ inputs → Abreast st s s' → Abreast st (record s { turns = turns; inputs = inputs })
       (record s' { turns = turns'; inputs = inputs' })
   near_with st s s' turns turns' inputs inputs' few is n = grind (arith, is)
-
-  -- blocks of a compartment that performs in the second run change in the first alone
-  pub near_left : (st : Standing) (s s' : State) (c : ℕ) (x : Blocks) (frames : List FrameChange) → S' c ≡ true →
-      Abreast st s s' → Abreast st (record s { memory = with_blocks c x s.memory; frames = frames }) s'
-  near_left st s s' c x frames performs n = grind arith
 
   pub near_tell : (st after : Standing) (s s' : State) (e : Event) (more : List Event) →
       stands_after st e ≡ Some after → t ≡ s.trace ++ e ∷ more → Abreast st s s' → Abreast after (tell e s) (tell e s')

@@ -39,9 +39,6 @@ pub turn_same : {W : Type 0} (m : ℕ) (s : State) (k l : State → Piece W) →
     ((t : State) → t.turns < s.turns → k t ≡ l t) → and_then (turn_of m s) (λ _. k) ≡ and_then (turn_of m s) (λ _. l)
 turn_same m s k l is h = grind (arith, is, h)
 
-then_reached : {V : Type 0} (o : Piece V) → o ≡ and_then o (λ v s. Reached v s)
-then_reached o = grind arith
-
 pub played_bind : {V W : Type 0} (tree : Interaction V) (next : V → Interaction W) (by : Calls) (here : Here)
     (s : State) → played (bind tree next) by here s ≡ and_then (played tree by here s)
     (λ v t. played (next v) by here t)

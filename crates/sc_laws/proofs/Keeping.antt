@@ -3,12 +3,12 @@
 use Rattle.sc_laws.proofs.Common.{Action, BadType, Blamed, Blocks, Body, Bool, Call, CallTarget, Calls, Cause, Cross}
 use Rattle.sc_laws.proofs.Common.{Export, Function, Gone, Grown, Here, Input, Kept, Library, List, Main, Meets}
 use Rattle.sc_laws.proofs.Common.{Memory, Never, None, Obedient, Option, Output, Own, Piece, Property}
-use Rattle.sc_laws.proofs.Common.{Result, Ret, Roles, Row, RunEnd, Some, State, TurnsOut, Value, Word, []}
-use Rattle.sc_laws.proofs.Common.{acts, and_parts, and_then, ap, arith, asks, back_cross, back_own, begun, call_own}
-use Rattle.sc_laws.proofs.Common.{called, calls, computed, crossing, done, export_at, false, first_word, found}
-use Rattle.sc_laws.proofs.Common.{function, if◌then◌else◌, imports, is_some, is_word, leads, length, list_all, map}
+use Rattle.sc_laws.proofs.Common.{Ret, Roles, Row, RunEnd, Some, State, TurnsOut, Value, Word, []}
+use Rattle.sc_laws.proofs.Common.{acts, and_then, ap, arith, asks, back_cross, back_own, begun, call_own}
+use Rattle.sc_laws.proofs.Common.{called, calls, crossing, done, export_at, false, first_word, found}
+use Rattle.sc_laws.proofs.Common.{function, if◌then◌else◌, is_some, leads, length, map}
 use Rattle.sc_laws.proofs.Common.{may_call, performs, read_input, refl, rows_left, run_in, run_step, scripted_step}
-use Rattle.sc_laws.proofs.Common.{subst, suc, sym, takes, tell, then_kept, true, turn, turn_of, with_blocks, within}
+use Rattle.sc_laws.proofs.Common.{subst, suc, sym, tell, then_kept, true, turn, turn_of, with_blocks, within}
 use Rattle.sc_laws.proofs.Common.{word_in, zero, ℕ, ◌<◌, ◌∙◌, ◌∷◌, ◌≡◌}
 use Rattle.sc_event.specs.declared.event.Event.TheVariants.{Out}
 use Rattle.sc_event.specs.declared.row.Action.TheVariants as act
@@ -56,10 +56,6 @@ module _ (K : Property) where
           (λ x less at. n x x less (subst (λ y. x.turns < y.turns) (sym one.is) less)
           (record { goes = at; is = refl }));
     }
-
-    computed_kept : (V : Type 0) (at : Here) → IsKept K at → (line : ℕ) (r : Result V Cause) (s : State) → K.Goes s →
-        Kept K (computed at line r s)
-    computed_kept V at is line r s h = grind (arith, is, h)
 
     one_at : (at : Here) → IsKept K at → KeptAt One Pieces Never at
     one_at at is = grind (arith, is)

@@ -1,11 +1,11 @@
 -- Every trace that a run shows is legal.
 use Rattle.sc_laws.proofs.Common.{arith, Call, Cross, Event, Export, Interfaces, IsStop, Kept, Library, List, Main}
-use Rattle.sc_laws.proofs.Common.{Memory, None, Obedient, Option, Piece, Proto, Reached, Ret, Roles, Some}
-use Rattle.sc_laws.proofs.Common.{Standing, State, Stopped, Value, [], and_from, and_parts, ap, at_start, awaits}
-use Rattle.sc_laws.proofs.Common.{crossing, eq-eqb, export_at, false, first_state, fits_result, found, imports}
+use Rattle.sc_laws.proofs.Common.{Memory, None, Obedient, Option, Piece, Reached, Ret, Roles, Some}
+use Rattle.sc_laws.proofs.Common.{Standing, State, Stopped, Value, [], and_from, and_parts, ap, at_start}
+use Rattle.sc_laws.proofs.Common.{crossing, eq-eqb, export_at, first_state, imports}
 use Rattle.sc_laws.proofs.Common.{is_allowed, is_function, is_legal_from, legal, length, length-map, library_run, map}
-use Rattle.sc_laws.proofs.Common.{may_call, may_perform, may_return, option_map_or, performer, refl, roles_run}
-use Rattle.sc_laws.proofs.Common.{run_step, run_to, scripted_step, stands_after, stands_behind, stopped_at, suc, sym}
+use Rattle.sc_laws.proofs.Common.{may_call, may_perform, performer, refl, roles_run}
+use Rattle.sc_laws.proofs.Common.{run_step, run_to, scripted_step, stands_after, stands_behind, stopped_at, suc}
 use Rattle.sc_laws.proofs.Common.{take, takes, true, within, word_in, zero, ℕ, ◌&&◌, ◌++◌, ◌==◌, ◌∙◌, ◌∷◌}
 use Rattle.sc_laws.proofs.Common.{◌≡◌}
 use Rattle.sc_laws.proofs.Matching.{idle}
@@ -43,11 +43,6 @@ module _ (library : Library) where
         stands = stands_last _ t e st h.stands ∙ then_at;
         is_legal = legal_more _ t st e h.stands h.is_legal may;
       }
-
-  back_fits : (o : Option Proto) (count : ℕ) (v : Option Value) →
-      option_map_or (λ found. length found.params == count) o false ≡ true →
-      option_map_or (λ found. fits_result found.result (crossing o v)) o false ≡ true
-  back_fits o count v h = grind (arith, h)
 
   abbrev entered_at : Standing → ℕ → ℕ → Standing
   entered_at st to index =

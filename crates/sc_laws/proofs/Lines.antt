@@ -8,13 +8,13 @@ use Rattle.sc_laws.proofs.Common.{TypedStmtKind-F, TypedStruct, Value, Want, Way
 use Rattle.sc_laws.proofs.Common.{at_place, block_does, body_does, bytes_eq, call, cells_of, choose, closed}
 use Rattle.sc_laws.proofs.Common.{computed, cond, entry_in, evaluated, everywhere, export_at, expr_nodes}
 use Rattle.sc_laws.proofs.Common.{first_blocks, fold-TypedStmt, fold-TypedStmtKind, follow, frame_bound, function_of}
-use Rattle.sc_laws.proofs.Common.{functions_in, globals_of, if◌then◌else◌, in_loop, in_order, init_does, inits_do}
+use Rattle.sc_laws.proofs.Common.{functions_in, globals_of, if◌then◌else◌, in_order, init_does, inits_do}
 use Rattle.sc_laws.proofs.Common.{kind_nodes, kind_step, layer_of, leave, length, length-map, library_of, local_nodes}
 use Rattle.sc_laws.proofs.Common.{loop, main_name, map, map-TypedStmtKind, nat_lt, nodes, not, on_line, option_map}
 use Rattle.sc_laws.proofs.Common.{arith, part_does, part_nodes, place_named, place_of_export, position_or_len, refl}
 use Rattle.sc_laws.proofs.Common.{roll-TypedStmtKind, rounds, run_by, run_of, run_step, simple_does, slice_get}
-use Rattle.sc_laws.proofs.Common.{slice_get-map, stmt_at, stmt_does, stmt_induction, stmt_nodes, stmt_step, store}
-use Rattle.sc_laws.proofs.Common.{store_at, store_result, subst, suc, sym, test, total, turn, variable_at}
+use Rattle.sc_laws.proofs.Common.{slice_get-map, stmt_at, stmt_does, stmt_induction, stmt_nodes, stmt_step}
+use Rattle.sc_laws.proofs.Common.{store_at, store_result, subst, suc, sym, test, total, variable_at}
 use Rattle.sc_laws.proofs.Common.{variables, ways, zero, ℕ, ◌++◌, ◌+◌, ◌∙◌, ◌∷◌, ◌≡◌}
 use Rattle.sc_core.specs.Prelude.{take}
 use Rattle.sc_core.specs.declared.stmt.TypedSimpleKind.TheVariants as simple

@@ -2,7 +2,7 @@
 use Rattle.sc_laws.proofs.Common.{Bool, true, false, if◌then◌else◌, Blamed, Blocks, CallTarget, Calls, Cause}
 use Rattle.sc_laws.proofs.Common.{Entry, Function, Goes, Gone, Grown, Here, Library, List, Meets}
 use Rattle.sc_laws.proofs.Common.{Option, Piece, Reached, Result, State, Stopped, Value, and_then}
-use Rattle.sc_laws.proofs.Common.{computed, function, is_some}
+use Rattle.sc_laws.proofs.Common.{computed, function}
 use Rattle.sc_laws.proofs.Common.{may_call, turn, with_blocks, ℕ, ◌<◌}
 use Rattle.sc_laws.proofs.Common.{arith, ◌≡◌}
 use Rattle.sc_laws.proofs.Growing.{then_goes}
@@ -61,14 +61,6 @@ module _ (P : State → State → Type 0) (R : (V : Type 0) → Piece V → Piec
 abbrev pub Anywhere : Here → Type 0
 Anywhere here = Unit {0}
 
--- where entries lead to the same functions, the same calls may be made
-module _ (L M : Library) (interfaces : M.interfaces ≡ L.interfaces)
-    (entered : (comp : ℕ) (entry : Entry) → M.entered comp entry ≡ L.entered comp entry)
-    (there : (comp number : ℕ) → is_some (function M comp number) ≡ is_some (function L comp number)) where
-  pub may_call_same : (from : ℕ) (target : CallTarget) (args : List Value) →
-      may_call M from target args ≡ may_call L from target args
-  may_call_same from target args = grind arith
-
 -- a relation that is kept in these calls
 module _ (P : State → State → Type 0) (R : (V : Type 0) → Piece V → Piece V → Type 0) (Good : Here → Type 0) where
   -- what is called from a compartment
@@ -91,9 +83,6 @@ module _ (P : State → State → Type 0) (R : (V : Type 0) → Piece V → Piec
   module _ (L M : Library) (twins : LibraryTwins L M) where
     pub function_twins : (comp number : ℕ) → Meets FunctionTwins (function L comp number) (function M comp number)
     function_twins = twins.functions
-
-    some_same : (f g : Option Function) → Meets FunctionTwins f g → is_some g ≡ is_some f
-    some_same f g h = grind (arith, h)
 
     -- the same calls may be made
     pub may_same : (from : ℕ) (target : CallTarget) (args : List Value) →
