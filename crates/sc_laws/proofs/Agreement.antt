@@ -1,13 +1,11 @@
 -- Libraries that agree function by function run the same, also where compartments perform scripts.
-use Rattle.sc_laws.proofs.Common.{Action, AgreeingRunAlike, BodiesAgree, Body, Bool, CallTarget}
-use Rattle.sc_laws.proofs.Common.{arith, CallsAgree, Cross, Function, FunctionsAgree, Here, Input}
-use Rattle.sc_laws.proofs.Common.{LibrariesAgree, Library, List, Main, Meets, Memory, None, Option, Output, Piece}
-use Rattle.sc_laws.proofs.Common.{PiecesAgree, Roles, Row, RunsAgree, Some, State, Step}
-use Rattle.sc_laws.proofs.Common.{Value, Word, [], acts, and_then, ap, asks, back_own}
-use Rattle.sc_laws.proofs.Common.{call_own, calls, first_state, found, function}
-use Rattle.sc_laws.proofs.Common.{if◌then◌else◌, is_number, map, performs}
-use Rattle.sc_laws.proofs.Common.{piece_without_line, refl, run_by, run_in, run_step, run_to, scripted_step}
-use Rattle.sc_laws.proofs.Common.{subst, suc, within, zero, ℕ, ◌∷◌, ◌≡◌}
+use Rattle.sc_laws.proofs.Common.{Action, AgreeingRunAlike, BodiesAgree, Body, Bool, CallTarget, arith, CallsAgree}
+use Rattle.sc_laws.proofs.Common.{Cross, Function, FunctionsAgree, Here, Input, LibrariesAgree, Library, List, Main}
+use Rattle.sc_laws.proofs.Common.{Meets, Memory, None, Option, Output, Piece, PiecesAgree, Roles, Row, RunsAgree, Some}
+use Rattle.sc_laws.proofs.Common.{State, Step, Value, Word, [], acts, and_then, ap, asks, back_own, call_own, calls}
+use Rattle.sc_laws.proofs.Common.{first_state, found, function, if◌then◌else◌, is_number, map, performs}
+use Rattle.sc_laws.proofs.Common.{piece_without_line, refl, run_by, run_in, run_step, run_to, scripted_step, subst, suc}
+use Rattle.sc_laws.proofs.Common.{within, zero, ℕ, ◌∷◌, ◌≡◌}
 use Rattle.sc_event.specs.declared.row.Action.TheVariants as act
 
 pub itself : {V : Type 0} (o : Piece V) → PiecesAgree o o

@@ -3,9 +3,8 @@
 use Rattle.sc_laws.proofs.Common.{Blamed, Blocks, Bool, Cause, Err, Event, FrameChange, Front, Goes, Gone, Grown, Here}
 use Rattle.sc_laws.proofs.Common.{List, Never, Ok, Option, Piece, Reached, Result, RunEnd, Some, Standing, State}
 use Rattle.sc_laws.proofs.Common.{Stopped, TurnsOut, Value, [], and_then, ap, append_assoc, arith, at_start, both_ways}
-use Rattle.sc_laws.proofs.Common.{computed, false, last, refl, stands_after}
-use Rattle.sc_laws.proofs.Common.{stands_behind, subst, suc, sym, tell, true, turn_of, with_blocks, zero, ℕ}
-use Rattle.sc_laws.proofs.Common.{◌++◌, ◌<◌, ◌∙◌, ◌∷◌, ◌≡◌, ◌≤◌}
+use Rattle.sc_laws.proofs.Common.{computed, false, last, refl, stands_after, stands_behind, subst, suc, sym, tell, true}
+use Rattle.sc_laws.proofs.Common.{turn_of, with_blocks, zero, ℕ, ◌++◌, ◌<◌, ◌∙◌, ◌∷◌, ◌≡◌, ◌≤◌}
 use Rattle.sc_laws.proofs.Growing.{front_same, then_front, then_goes, turn_of_goes}
 use Rattle.sc_laws.proofs.Twins.{Kept, KeptAt}
 use Rattle.sc_laws.proofs.Expressions.{Keeps, alike, blamed}

@@ -1,8 +1,7 @@
 -- A run that is out of turns has none left, where all functions that are called are there.
 use Rattle.sc_laws.proofs.Common.{Blamed, Ended, EventsOut, Kept, Library, List, Main, Memory, Obedient, Option, Piece}
-use Rattle.sc_laws.proofs.Common.{Property, RunEnd, SpendsTurns, State, StopsSpent, TurnsOut, Value}
-use Rattle.sc_laws.proofs.Common.{arith, first_state, leads, main_call, refl, run_step, run_to, subst, suc, true}
-use Rattle.sc_laws.proofs.Common.{within, zero, ℕ, ◌<◌, ◌≡◌}
+use Rattle.sc_laws.proofs.Common.{Property, RunEnd, SpendsTurns, State, StopsSpent, TurnsOut, Value, arith, first_state}
+use Rattle.sc_laws.proofs.Common.{leads, main_call, refl, run_step, run_to, subst, suc, true, within, zero, ℕ, ◌<◌, ◌≡◌}
 use Rattle.sc_laws.proofs.Growing.{within_goes}
 use Rattle.sc_laws.proofs.Matching.{run_goes_on}
 use Rattle.sc_laws.proofs.Keeping.{Walk, place, BodyWalks, main_walks, run_step_walks, led_somewhere, led_there}
