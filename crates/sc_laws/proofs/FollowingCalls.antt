@@ -715,9 +715,9 @@ module _ (L : Library) (main : ℕ) (t : List Event) (S S' : ℕ → Bool) (larg
         step_resumes : (number comp mine k theirs : ℕ) (st : Standing) (left : Piece (Option Value)) (s : State) →
             S' comp ≡ true → L.entered comp st.active.entry ≡ Some k → Held st k comp theirs left s →
             P st k comp theirs left (first_step a number (at comp mine) s)
-        step_resumes number comp mine k theirs st left s set is_k h = grind (arith, performs_perform st k comp theirs left
-            set is_k (rows_left (roles_in main S t) comp s.trace) number mine s h, function_performs st k comp theirs
-            left set is_k (function L comp number) (function L comp number) ((perform_twins st left _ _
+        step_resumes number comp mine k theirs st left s set is_k h = grind (arith, performs_perform st k comp theirs
+            left set is_k (rows_left (roles_in main S t) comp s.trace) number mine s h, function_performs st k comp
+            theirs left set is_k (function L comp number) (function L comp number) ((perform_twins st left _ _
             (held_passes st k comp theirs left set)).functions comp number) mine s h)
 
         pub step_bodies : Bodies (first_step a)
