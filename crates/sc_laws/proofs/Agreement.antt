@@ -1,98 +1,42 @@
 -- Libraries that agree function by function run the same, also where compartments perform scripts.
-use Rattle.sc_laws.proofs.Common.{Action, AgreeingRunAlike, BehavioursAgree, BodiesAgree, Body, Bool, Call, CallTarget}
-use Rattle.sc_laws.proofs.Common.{CallsAgree, Cross, Ended, EventsOut, Function, FunctionsAgree, Here, Input}
-use Rattle.sc_laws.proofs.Common.{LibrariesAgree, Library, List, Main, Meets, Memory, None, Option, Output, Own, Piece}
-use Rattle.sc_laws.proofs.Common.{PiecesAgree, Reached, Roles, Row, RunEnd, RunsAgree, Some, SourceRun, State, Step}
-use Rattle.sc_laws.proofs.Common.{Stopped, Value, Word, [], acts, and_then, ap, asks, back_cross, back_own, begun}
-use Rattle.sc_laws.proofs.Common.{call_cross, call_own, called, calls, done, false, first_state, found, function}
-use Rattle.sc_laws.proofs.Common.{if◌then◌else◌, is_number, is_some, length, map, may_call, nat_le, nat_lt, performs}
-use Rattle.sc_laws.proofs.Common.{piece_without_line, reaches, refl, run_by, run_in, run_step, run_to, scripted_step}
-use Rattle.sc_laws.proofs.Common.{stopped_at, subst, suc, sym, take, true, within, without_line, zero, ℕ, ◌∙◌, ◌∷◌, ◌≡◌}
+use Rattle.sc_laws.proofs.Common.{Action, AgreeingRunAlike, BodiesAgree, Body, Bool, CallTarget, arith, CallsAgree}
+use Rattle.sc_laws.proofs.Common.{Cross, Function, FunctionsAgree, Here, Input, LibrariesAgree, Library, List, Main}
+use Rattle.sc_laws.proofs.Common.{Meets, Memory, None, Option, Output, Piece, PiecesAgree, Roles, Row, RunsAgree, Some}
+use Rattle.sc_laws.proofs.Common.{State, Step, Value, Word, [], acts, and_then, ap, asks, back_own, call_own, calls}
+use Rattle.sc_laws.proofs.Common.{first_state, found, function, if◌then◌else◌, is_number, map, performs}
+use Rattle.sc_laws.proofs.Common.{piece_without_line, refl, run_by, run_in, run_step, run_to, scripted_step, subst, suc}
+use Rattle.sc_laws.proofs.Common.{within, zero, ℕ, ◌∷◌, ◌≡◌}
 use Rattle.sc_event.specs.declared.row.Action.TheVariants as act
-use Rattle.sc_laws.proofs.Twins.{may_call_same}
 
 pub itself : {V : Type 0} (o : Piece V) → PiecesAgree o o
 itself o = record { same = refl }
 
-line_of_then : {V W : Type 0} (o : Piece V) (k : V → State → Piece W) →
-    piece_without_line (and_then o k) ≡ and_then (piece_without_line o) (λ v s. piece_without_line (k v s))
-line_of_then (Reached v s) k = refl
-line_of_then (Stopped end s) k = refl
-
 -- one piece after another
 pub then_agree : {V W : Type 0} (o p : Piece V) (k l : V → State → Piece W) →
     PiecesAgree o p → ((v : V) (s : State) → PiecesAgree (k v s) (l v s)) → PiecesAgree (and_then o k) (and_then p l)
-then_agree o p k l h x = record {
-  same = line_of_then o k ∙ ap (λ y. and_then y (λ v s. piece_without_line (k v s))) h.same
-      ∙ ap (and_then _) (λ i v s. (x v s).same i) ∙ sym (line_of_then p l);
-}
+then_agree o p k l h x = grind (arith, h)
 
 -- what is done where a test, which answers the same, allows it
 if_agree : {V : Type 0} (b c : Bool) (o p o' p' : Piece V) → b ≡ c → PiecesAgree o p → PiecesAgree o' p' →
     PiecesAgree (if b then o else o') (if c then p else p')
-if_agree true true o p o' p' is h k = h
-if_agree false false o p o' p' is h k = k
-if_agree _ _ o p o' p' is h k = absurd (cc)
+if_agree b c o p o' p' is h k = grind (arith, h)
 
 found_agree : {V : Type 0} (m n : Option V) (s : State) → m ≡ n → PiecesAgree (found m s) (found n s)
 found_agree m n s is = record { same = ap (λ x. piece_without_line (found x s)) is }
 
-both_there : (f g : Option Function) → Meets FunctionsAgree f g → is_some f ≡ is_some g
-both_there None None h = refl
-both_there (Some f) (Some g) h = refl
-both_there _ _ h = absurd h
-
 module _ (L M : Library) (agree : LibrariesAgree L M) where
-  -- the same calls may be made
-  may_same : (from : ℕ) (target : CallTarget) (args : List Value) →
-      may_call L from target args ≡ may_call M from target args
-  may_same =
-      may_call_same M L agree.interfaces agree.entered (λ comp number. both_there _ _ (agree.functions comp number))
-
   module _ (body other : Body) (bodies : BodiesAgree body other) where
-    runs_there : (comp number : ℕ) (args : List Value) (back back' : Option Value → State → Piece (Option Value)) →
-        ((v : Option Value) (s : State) → PiecesAgree (back v s) (back' v s)) → (s : State) (f g : Option Function) →
-        Meets FunctionsAgree f g →
-        PiecesAgree
-        (and_then (found f s) (λ f s. and_then (body number (record { comp = comp; first = length (s.memory comp) })
-        (begun comp f args s)) (λ v t. back v (done comp f (length (s.memory comp)) t))))
-        (and_then (found g s) (λ g s. and_then (other number (record { comp = comp; first = length (s.memory comp) })
-        (begun comp g args s)) (λ v t. back' v (done comp g (length (s.memory comp)) t))))
-    runs_there comp number args back back' b s None None h = itself _
-    runs_there comp number args back back' b s (Some f) (Some g) h =
-        rw (h.cells, h.room) (then_agree _ _ _ _ (bodies number _ _) (λ v t. b v _))
-    runs_there comp number args back back' b s _ _ h = absurd h
-
     runs_in : (comp number : ℕ) (args : List Value) (back back' : Option Value → State → Piece (Option Value)) →
         ((v : Option Value) (s : State) → PiecesAgree (back v s) (back' v s)) → (s : State) →
         PiecesAgree (run_in L body comp number args back s) (run_in M other comp number args back' s)
-    runs_in comp number args back back' b s =
-        runs_there comp number args back back' b s _ _ (agree.functions comp number)
+    runs_in comp number args back back' b s = grind arith
 
     pub own_agree : (comp number : ℕ) (args : List Value) (s : State) →
         PiecesAgree (call_own L body comp number args s) (call_own M other comp number args s)
     own_agree comp number args s = runs_in comp number args back_own back_own (λ v s. itself _) s
 
-    back_agree : (from to index : ℕ) (v : Option Value) (s : State) →
-        PiecesAgree (back_cross L.interfaces from to index v s) (back_cross M.interfaces from to index v s)
-    back_agree from to index v s =
-        record { same = ap (λ i. piece_without_line (back_cross i from to index v s)) agree.interfaces }
-
-    pub cross_agree : (from to index : ℕ) (args : List Value) (s : State) →
-        PiecesAgree (call_cross L body from to index args s) (call_cross M other from to index args s)
-    cross_agree from to index args s =
-        then_agree _ _ _ _ (found_agree _ _ s (agree.entered to _)) (λ number s. runs_in to number _
-        (back_cross L.interfaces from to index) (back_cross M.interfaces from to index) (back_agree from to index) _)
-
-    called_agree : CallsAgree (called L body) (called M other)
-    called_agree from (Own number) args s = then_agree _ _ _ _ (itself _) (λ _ s. own_agree from number args s)
-    called_agree from (Cross to index) args s = then_agree _ _ _ _ (itself _) (λ _ s. cross_agree from to index args s)
-    called_agree from Input args s = itself _
-    called_agree from Output args s = itself _
-
     pub calls_agree : CallsAgree (calls L body) (calls M other)
-    calls_agree from target args s = if_agree (may_call L from target args) (may_call M from target args) _ _ _ _
-        (may_same from target args) (called_agree from target args s) (itself _)
+    calls_agree from target args s = grind arith
 
     does_there : (here : Here) (s : State) (f g : Option Function) → Meets FunctionsAgree f g →
         PiecesAgree (and_then (found f s) (λ f s. f.does (calls L body) here s))
@@ -107,8 +51,7 @@ module _ (L M : Library) (agree : LibrariesAgree L M) where
     -- scripts
     asks_agree : (comp : ℕ) (target : CallTarget) (args : List Value) (s : State) →
         PiecesAgree (asks L body comp target args s) (asks M other comp target args s)
-    asks_agree comp target args s = if_agree (may_call L comp target args) (may_call M comp target args) _ _ _ _
-        (may_same comp target args) (calls_agree comp target args s) (itself _)
+    asks_agree comp target args s = grind arith
 
     acts_agree : (action : Action) (next next' again again' : State → Piece (Option Value)) (comp : ℕ) (s : State) →
         ((s : State) → PiecesAgree (next s) (next' s)) → ((s : State) → PiecesAgree (again s) (again' s)) →
@@ -150,59 +93,8 @@ module _ (L M : Library) (agree : LibrariesAgree L M) where
 
 -- whole runs
 
-same_reach : (events : ℕ) (run other : SourceRun) (end end' : RunEnd) → run.trace ≡ other.trace →
-    without_line end ≡ without_line end' → reaches events run end ≡ reaches events other end'
-same_reach events run other Ended Ended is h = ap (λ t. nat_lt events (length t)) is
-same_reach events run other Ended _ is h = absurd (cc)
-same_reach events run other _ Ended is h = absurd (cc)
-same_reach events run other _ _ is h = ap (λ t. nat_le events (length t)) is
-
-if_shown : (b c : Bool) (run other run' other' : SourceRun) → b ≡ c → BehavioursAgree run other →
-    BehavioursAgree run' other' → BehavioursAgree (if b then run else run') (if c then other else other')
-if_shown true true run other run' other' is h k = h
-if_shown false false run other run' other' is h k = k
-if_shown _ _ run other run' other' is h k = absurd (cc)
-
-pub stopped_agree : (events : ℕ) (run other : SourceRun) → BehavioursAgree run other →
-    BehavioursAgree (stopped_at events run) (stopped_at events other)
-stopped_agree events run other h =
-    if_shown (reaches events run run.end) (reaches events other _) (record { trace = take events _; end = EventsOut })
-    (record { trace = take events _; end = EventsOut }) run other (same_reach events run other run.end _ h.trace h.end)
-    (record { trace = ap (take events) h.trace; end = refl }) h
-
-twice : (end : RunEnd) → without_line (without_line end) ≡ without_line end
-twice Ended = refl
-twice _ = refl
-
--- what a run shows, without the line, is told by its piece without the line
-trace_of : (main : ℕ) (o : Piece (Option Value)) →
-    (run_to main (piece_without_line o)).behaviour.trace ≡ (run_to main o).behaviour.trace
-trace_of main (Reached v s) = refl
-trace_of main (Stopped end s) = refl
-
-end_of : (main : ℕ) (o : Piece (Option Value)) →
-    without_line (run_to main (piece_without_line o)).behaviour.end ≡ without_line (run_to main o).behaviour.end
-end_of main (Reached v s) = refl
-end_of main (Stopped end s) = twice end
-
-frames_of : (main : ℕ) (o : Piece (Option Value)) → (run_to main (piece_without_line o)).frames ≡ (run_to main o).frames
-frames_of main (Reached v s) = refl
-frames_of main (Stopped end s) = refl
-
-whole_agree : (main : ℕ) (o p : Piece (Option Value)) → PiecesAgree o p →
-    BehavioursAgree (run_to main o).behaviour (run_to main p).behaviour
-whole_agree main o p h = record {
-  trace = sym (trace_of main o) ∙ ap (λ x. (run_to main x).behaviour.trace) h.same ∙ trace_of main p;
-  end = sym (end_of main o) ∙ ap (λ x. without_line (run_to main x).behaviour.end) h.same ∙ end_of main p;
-}
-
 pub run_agree : (main : ℕ) (o p : Piece (Option Value)) → PiecesAgree o p → RunsAgree (run_to main o) (run_to main p)
-run_agree main o p h = record {
-  behaviour = λ events. stopped_agree events (run_to main o).behaviour (run_to main p).behaviour
-      (whole_agree main o p h);
-  whole = whole_agree main o p h;
-  frames = sym (frames_of main o) ∙ ap (λ x. (run_to main x).frames) h.same ∙ frames_of main p;
-}
+run_agree main o p h = grind (arith, h)
 
 pub runs_agree : (L M : Library) (agree : LibrariesAgree L M) (step to : Step) → StepsAgree L M agree step to →
     (globals : Memory) (inputs : List ℕ) (turns : ℕ) →

@@ -128,8 +128,7 @@ module _ (d : ℕ) (Soft : Cause → Type 0) (Turns : Type 0) where
     computed_below V here line r r' s (alike is) =
         along (ap (λ x. computed here line x (richer d s)) is ∙ itself r) where
           itself : (r : Result V Cause) → computed here line r (richer d s) ≡ richer_piece d (computed here line r s)
-          itself (Ok v) = refl
-          itself _ = refl
+          itself r = grind arith
     computed_below V here line r r' s (blamed cause soft is) =
         passed (Blamed here.comp cause line) s (ap (λ x. computed here line x s) is) soft (stays r') where
           stays : (r : Result V Cause) → Later s (last (computed here line r (richer d s)))

@@ -1,8 +1,8 @@
 -- No compartment that performs is blamed, whatever the trace is, and only compartments that there are.
 use Rattle.sc_laws.proofs.Common.{is_some, AreFresh, Blamed, Bool, Cause, ChainRises, Ended, Event, EventsOut, Function}
 use Rattle.sc_laws.proofs.Common.{HasChain, IsBlamedOutside, IsChain, IsRising, IsWithin, Kept, Library, Link, List}
-use Rattle.sc_laws.proofs.Common.{Memory, Obedient, Option, PassesBlame, Piece, Reached, Roles, RunEnd, Set, SourceRun}
-use Rattle.sc_laws.proofs.Common.{Stopped, TurnsOut, Value, [], ap, arith, cases_eq, eq-eqb, false, first_state}
+use Rattle.sc_laws.proofs.Common.{Memory, Obedient, Option, PassesBlame, Piece, Roles, RunEnd, Set, SourceRun}
+use Rattle.sc_laws.proofs.Common.{TurnsOut, Value, [], ap, arith, cases_eq, eq-eqb, false, first_state}
 use Rattle.sc_laws.proofs.Common.{function, if◌then◌else◌, leb-false, length, length-append, longer, nat_le, ne_eqb}
 use Rattle.sc_laws.proofs.Common.{nobody, performed_by, reaches, refl, roles_in, roles_run, run_step, run_to}
 use Rattle.sc_laws.proofs.Common.{scripted_step, slice_get, slice_index_or, stopped_at, subst, suc, sym, true, turnless}
@@ -48,8 +48,7 @@ module _ (Fair : ℕ → Type 0) where
 
     run_to_spares : (n main : ℕ) (piece : Piece (Option Value)) →
         Kept (place library walk n tt) piece → Spares (run_to main piece).behaviour.end
-    run_to_spares n main (Reached v s) h = tt
-    run_to_spares n main (Stopped end s) h = h.after
+    run_to_spares n main piece h = grind (arith, h)
 
     run_by_spares : (globals : Memory) (inputs : List ℕ) (turns : ℕ) →
         Spares (roles_run library globals inputs turns roles).behaviour.end
@@ -62,8 +61,7 @@ module _ (Fair : ℕ → Type 0) where
   stopped_spares : (events : ℕ) (run : SourceRun) → Spares run.end → Spares (stopped_at events run).end
   stopped_spares events run h = by _ where
     by : (b : Bool) → Spares (shown events b run).end
-    by true = tt
-    by false = h
+    by b = grind arith
 
 module _ (library : Library) (obedient : Obedient library) (globals : Memory) (inputs : List ℕ) (turns events : ℕ)
     (roles : Roles) (comp : ℕ) (cause : Cause) (line : ℕ)
@@ -97,8 +95,7 @@ early n x comp cause line ends = by _ refl ends where
   few end is stays = let test : nat_le n _ ≡ false = ap (reaches n x) (sym is) ∙ stays in leb-false n _ test
 
   by : (b : Bool) → reaches n x x.end ≡ b → (shown n b x).end ≡ Blamed comp cause line → length (shown n b x).trace < n
-  by true is ends = cc
-  by false is ends = few x.end ends is
+  by b is ends = grind (arith, is, ends)
 
 within_with : (set : Set) (comp : ℕ) → IsWithin set (with comp set)
 within_with set comp c is = grind (arith, is)

@@ -3,21 +3,14 @@
 use Rattle.sc_laws.proofs.Common.{Blamed, Blocks, Bool, Cause, Err, Event, FrameChange, Front, Goes, Gone, Grown, Here}
 use Rattle.sc_laws.proofs.Common.{List, Never, Ok, Option, Piece, Reached, Result, RunEnd, Some, Standing, State}
 use Rattle.sc_laws.proofs.Common.{Stopped, TurnsOut, Value, [], and_then, ap, append_assoc, arith, at_start, both_ways}
-use Rattle.sc_laws.proofs.Common.{cases_eq, computed, eq-eqb, false, if◌then◌else◌, last, ne_eqb, refl, stands_after}
-use Rattle.sc_laws.proofs.Common.{stands_behind, subst, suc, sym, tell, true, turn_of, with_blocks, zero, ℕ, ⊎_elim}
-use Rattle.sc_laws.proofs.Common.{◌++◌, ◌<◌, ◌∙◌, ◌∷◌, ◌≡◌, ◌≤◌}
+use Rattle.sc_laws.proofs.Common.{computed, false, last, refl, stands_after, stands_behind, subst, suc, sym, tell, true}
+use Rattle.sc_laws.proofs.Common.{turn_of, with_blocks, zero, ℕ, ◌++◌, ◌<◌, ◌∙◌, ◌∷◌, ◌≡◌, ◌≤◌}
 use Rattle.sc_laws.proofs.Growing.{front_same, then_front, then_goes, turn_of_goes}
 use Rattle.sc_laws.proofs.Twins.{Kept, KeptAt}
 use Rattle.sc_laws.proofs.Expressions.{Keeps, alike, blamed}
 use Rattle.sc_laws.proofs.Rows.{stands_last, InLine, then_along}
 
 -- MEMORY
-blocks_here : (c d : ℕ) (x : Blocks) (m : ℕ → Blocks) → d ≡ c → with_blocks c x m d ≡ x
-blocks_here c d x m is = ap (λ b. if b then x else m d) (eq-eqb d c is)
-
-blocks_there : (c d : ℕ) (x : Blocks) (m : ℕ → Blocks) → (d ≡ c → ⊥) → with_blocks c x m d ≡ m d
-blocks_there c d x m differs = ap (λ b. if b then x else m d) (ne_eqb d c differs)
-
 -- where the run is blamed on a compartment of which this is said
 abbrev pub IfBlamed : (ℕ → Bool) → Bool → RunEnd → Type 0 → Type 0
 IfBlamed set said end W = (comp : ℕ) (cause : Cause) (line : ℕ) → end ≡ Blamed comp cause line → set comp ≡ said → W
@@ -87,42 +80,13 @@ module _ (main : ℕ) (t : List Event) (S' : ℕ → Bool) where
       (S' c ≡ false → x' ≡ x) → Abreast st s s' →
       Abreast st (record s { memory = with_blocks c x s.memory; frames = frames })
       (record s' { memory = with_blocks c x' s'.memory; frames = frames' })
-  near_blocks st s s' c x x' frames frames' same n = record {
-    trace = n.trace;
-    front = n.front;
-    turns = n.turns;
-    inputs = n.inputs;
-    stands = n.stands;
-    memory = λ d clear. ⊎_elim (λ is. blocks_here c d x' s'.memory is ∙ same (subst (λ k. S' k ≡ false) is clear)
-        ∙ sym (blocks_here c d x s.memory is)) (λ differs. blocks_there c d x' s'.memory differs ∙ n.memory d clear
-        ∙ sym (blocks_there c d x s.memory differs)) (cases_eq d c);
-  }
+  near_blocks st s s' c x x' frames frames' same n = grind arith
 
   -- other turns and other inputs
   pub near_with : (st : Standing) (s s' : State) (turns turns' : ℕ) (inputs inputs' : List ℕ) → turns ≤ turns' →
       inputs' ≡ inputs → Abreast st s s' → Abreast st (record s { turns = turns; inputs = inputs })
       (record s' { turns = turns'; inputs = inputs' })
-  near_with st s s' turns turns' inputs inputs' few is n = record {
-    trace = n.trace;
-    front = n.front;
-    turns = few;
-    inputs = is;
-    memory = n.memory;
-    stands = n.stands;
-  }
-
-  -- blocks of a compartment that performs in the second run change in the first alone
-  pub near_left : (st : Standing) (s s' : State) (c : ℕ) (x : Blocks) (frames : List FrameChange) → S' c ≡ true →
-      Abreast st s s' → Abreast st (record s { memory = with_blocks c x s.memory; frames = frames }) s'
-  near_left st s s' c x frames performs n = record {
-    trace = n.trace;
-    front = n.front;
-    turns = n.turns;
-    inputs = n.inputs;
-    stands = n.stands;
-    memory = λ d clear. n.memory d clear
-        ∙ sym (blocks_there c d x s.memory (λ is. both_ways (S' d) clear (ap S' is ∙ performs)));
-  }
+  near_with st s s' turns turns' inputs inputs' few is n = grind (arith, is)
 
   pub near_tell : (st after : Standing) (s s' : State) (e : Event) (more : List Event) →
       stands_after st e ≡ Some after → t ≡ s.trace ++ e ∷ more → Abreast st s s' → Abreast after (tell e s) (tell e s')
@@ -287,8 +251,7 @@ module _ (main : ℕ) (t : List Event) (S' : ℕ → Bool) where
 
       -- what is left goes on from where the first run stands
       pub left_goes : (s : State) → Stands s → Front s.trace (last left).trace
-      left_goes s x = subst (λ u. Front u (last left).trace) x.near.trace
-          (subst (λ y. Front x.other.trace (last y).trace) (sym x.is) (rest_goes x.other).grown.events)
+      left_goes s x = grind arith
 
       then_performs : (V W : Type 0) (s : State) (o : Piece V) (k : V → State → Piece W) → Gone s o →
           ((v : V) → Goes (k v)) →
@@ -353,8 +316,7 @@ module _ (main : ℕ) (t : List Event) (S' : ℕ → Bool) where
 
       pub stands_stored : (c : ℕ) (x : Blocks) (frames : List FrameChange) (s : State) → S' c ≡ true → Stands s →
           Stands (record s { memory = with_blocks c x s.memory; frames = frames })
-      stands_stored c x frames s set at =
-          record { other = at.other; is = at.is; near = near_left st s _ c x frames set at.near }
+      stands_stored c x frames s set at = grind arith
 
       -- calls of a compartment that performs in the second run alone
       pub perform_at : ((s : State) → Stands s → MovesOrReturns s.trace left) → (at : Here) → S' at.comp ≡ true →

@@ -1,7 +1,7 @@
 -- Calls in two runs along one trace, of which the second has more compartments that perform their parts of it.
 use Rattle.sc_laws.proofs.Common.{arith, Action, BadType, Body, Bool, Call, CallTarget, Cross, Event, Export, Front}
 use Rattle.sc_laws.proofs.Common.{Function, Goes, Gone, Here, In, Input, IsFixed, Library, List, Meets, None, Option}
-use Rattle.sc_laws.proofs.Common.{Output, Own, Piece, Proto, Reached, Ret, Row, Scalar, Some, Standing, State, Step}
+use Rattle.sc_laws.proofs.Common.{Output, Own, Piece, Proto, Reached, Ret, Row, Some, Standing, State, Step}
 use Rattle.sc_laws.proofs.Common.{Stopped, TurnsOut, Value, Word, [], action_of, acts, and_from, and_parts, and_then}
 use Rattle.sc_laws.proofs.Common.{ap, ap₂, asks, at_start, back_cross, begun, blocks_for, both_ways, call_cross}
 use Rattle.sc_laws.proofs.Common.{call_own, called, calls, crossed, crossing, done, drop, ended, eq-eqb, export_at}
@@ -9,7 +9,7 @@ use Rattle.sc_laws.proofs.Common.{false, first_word, found, function, if◌then�
 use Rattle.sc_laws.proofs.Common.{is_word, last, length, list_all, map, may_call, next_input, now, option_value}
 use Rattle.sc_laws.proofs.Common.{performer, performs, read_input, refl, roles_in, rows_left, run_in, run_step}
 use Rattle.sc_laws.proofs.Common.{scripted_step, stands_after, stands_behind, subst, suc, sym, takes, tell, true, turn}
-use Rattle.sc_laws.proofs.Common.{turn_of, within, word_back, word_in, zero, ℕ, ◌++◌, ◌∙◌, ◌∷◌, ◌≡◌}
+use Rattle.sc_laws.proofs.Common.{turn_of, within, word_in, zero, ℕ, ◌++◌, ◌∙◌, ◌∷◌, ◌≡◌}
 use Rattle.sc_event.specs.declared.event.Event.TheVariants.{Out}
 use Rattle.sc_event.specs.declared.row.Action.TheVariants as act
 use Rattle.sc_laws.proofs.Growing.{front_same, front_more, more, reached, stays, no_turn, earlier, then_goes, BodyGoes}
@@ -30,16 +30,9 @@ abbrev pub at : (comp first : ℕ) → Here
 at comp first = record { comp = comp; first = first }
 
 -- what crossed crosses again as the same
-back_stays : (result : Option Scalar) (v : Option Value) → word_back result (option_value (word_back result v))
-    ≡ word_back result v
-back_stays None v = refl
-back_stays (Some scalar) None = refl
-back_stays (Some scalar) (Some v) = refl
-
 crossing_stays : (proto : Option Proto) (v : Option Value) → crossing proto (option_value (crossing proto v))
     ≡ crossing proto v
-crossing_stays None v = refl
-crossing_stays (Some proto) v = back_stays _ v
+crossing_stays proto v = grind arith
 
 crossed_again : (args : List Value) → crossed (map (λ w. Word w) (map word_in args)) ≡ crossed args
 crossed_again [] = refl
@@ -88,8 +81,7 @@ module _ (L : Library) (main : ℕ) (t : List Event) (S S' : ℕ → Bool) (larg
   role_is : (body : Body) (set : ℕ → Bool) (number : ℕ) (here : Here) (s : State) (b : Bool) → set here.comp ≡ b →
       scripted_step L (roles_in main set t) (run_step L) body number here s ≡ (if b then performs L body
       (rows_left (roles_in main set t) here.comp s.trace) number here s else run_step L body number here s)
-  role_is body set number here s b is = ap (λ b. if b then performs L body
-      (rows_left (roles_in main set t) here.comp s.trace) number here s else run_step L body number here s) is
+  role_is body set number here s b is = grind (arith, is)
 
   module _ (fixed : IsFixed second_step) (second_goes : BodyGoes second) where
     -- the function with which a compartment was entered goes on performing
@@ -396,8 +388,7 @@ module _ (L : Library) (main : ℕ) (t : List Event) (S S' : ℕ → Bool) (larg
 
       if_follows : (b : Bool) (st : Standing) (o o' p p' : Piece (Option Value)) → F st o o' → F st p p' →
           F st (if b then o else p) (if b then o' else p')
-      if_follows true st o o' p p' h k = h
-      if_follows false st o o' p p' h k = k
+      if_follows b st o o' p p' h k = grind (arith, h, k)
 
       -- with its turn
       turned_follows : (from to index : ℕ) (args : List Value) (st : Standing) (s s' : State) → N st s s' →
@@ -505,8 +496,7 @@ module _ (L : Library) (main : ℕ) (t : List Event) (S S' : ℕ → Bool) (larg
 
         asks_allowed : (target : CallTarget) (args : List Value) (u : State) → may target args ≡ true →
             asks L second comp target args u ≡ called L second comp target args u
-        asks_allowed target args u allowed = asks_is L second second_goes comp target args u
-            ∙ ap (λ b. if b then called L second comp target args u else Stopped TurnsOut u) allowed
+        asks_allowed target args u allowed = grind arith
 
         -- an event of the environment, behind which these inputs are left in the runs
         event_performs : (e : Event) (v : Option Value) (inputs inputs' : List ℕ) (s : State) (h : H s) →
@@ -725,13 +715,10 @@ module _ (L : Library) (main : ℕ) (t : List Event) (S S' : ℕ → Bool) (larg
         step_resumes : (number comp mine k theirs : ℕ) (st : Standing) (left : Piece (Option Value)) (s : State) →
             S' comp ≡ true → L.entered comp st.active.entry ≡ Some k → Held st k comp theirs left s →
             P st k comp theirs left (first_step a number (at comp mine) s)
-        step_resumes number comp mine k theirs st left s set is_k h = by_role (S comp) where
-          by_role : (b : Bool) → P st k comp theirs left (if b then performs L a
-              (rows_left (roles_in main S t) comp s.trace) number (at comp mine) s else
-              run_step L a number (at comp mine) s)
-          by_role true = performs_perform st k comp theirs left set is_k _ number mine s h
-          by_role false = function_performs st k comp theirs left set is_k (function L comp number) _
-              ((perform_twins st left _ _ (held_passes st k comp theirs left set)).functions comp number) mine s h
+        step_resumes number comp mine k theirs st left s set is_k h = grind (arith, performs_perform st k comp theirs
+            left set is_k (rows_left (roles_in main S t) comp s.trace) number mine s h, function_performs st k comp
+            theirs left set is_k (function L comp number) (function L comp number) ((perform_twins st left _ _
+            (held_passes st k comp theirs left set)).functions comp number) mine s h)
 
         pub step_bodies : Bodies (first_step a)
         step_bodies = record {

@@ -115,15 +115,7 @@ module _ (L : Library) (obedient : Obedient L) (t : List Event) (S S' : Set) (la
     st = record { active = record { comp = main; entry = Main }; waiting = [] }
 
     begins_near : (f : Function) → N L main t S S' larger st (begun main f [] beginning) (begun main f [] beginning)
-    begins_near f =
-        record {
-          trace = refl;
-          front = record { more = t; is = refl };
-          turns = omega arith;
-          inputs = refl;
-          memory = λ c clear. refl;
-          stands = refl;
-        }
+    begins_near f = grind arith
 
     module _ (number : ℕ) (is_number : L.entered main Main ≡ Some number) (f : Function) where
       abbrev first : ℕ
@@ -143,8 +135,7 @@ module _ (L : Library) (obedient : Obedient L) (t : List Event) (S S' : Set) (la
 
       -- the blocks of `main` end, and nothing is told
       ended_shows : (o : Piece (Option Value)) → (run_to main (and_then o ends)).behaviour ≡ (run_to main o).behaviour
-      ended_shows (Reached v s) = refl
-      ended_shows (Stopped end s) = refl
+      ended_shows o = grind arith
 
       stops : StopsSo o
       stops = ((bodies (suc turns)).goes number (at main first) start).stop
@@ -278,9 +269,7 @@ module _ (t : List Event) (x y : SourceRun) where
   -- a run that was blamed has not told the whole trace
   blamed_below : (comp : ℕ) (cause : Cause) (line : ℕ) → (b : Bool) → reaches (length t) x x.end ≡ b →
       (cut b x).end ≡ Blamed comp cause line → (cut b x).trace ≡ t → ⊥
-  blamed_below comp cause line true is ends tells = cc
-  blamed_below comp cause line false is ends tells =
-      (let few = blamed_early comp cause line ends is in let long = ap length tells in omega (arith, few, long))
+  blamed_below comp cause line b is ends tells = grind (arith, is, ends, tells)
 
 with_link : (set small : Set) (comp : ℕ) → IsWithin small set → set comp ≡ true → IsWithin (with comp small) set
 with_link set small comp larger has c is = grind (arith, larger c, eqb-true c comp, has, is)

@@ -1,7 +1,7 @@
 -- Each word of the meaning only goes on: events are appended, and no turns come back.
 use Rattle.sc_laws.proofs.Common.{Action, AllFrom, Body, Bool, Call, CallTarget, Calls, Closed, Cross, Does, Event}
 use Rattle.sc_laws.proofs.Common.{Exit, FrameChange, Front, Function, Goes, Gone, Grown, Here, In, Input, Interfaces}
-use Rattle.sc_laws.proofs.Common.{Left, Library, List, None, On, Opened, Option, Out, Output, Own, Piece, Reached, Ret}
+use Rattle.sc_laws.proofs.Common.{Left, Library, List, None, On, Opened, Option, Out, Output, Own, Piece, Reached}
 use Rattle.sc_laws.proofs.Common.{Roles, Route, Row, Some, State, Step, Stopped, TurnsOut, Value, Word, [], acts}
 use Rattle.sc_laws.proofs.Common.{and_then, ap, append-nil, append_assoc, arith, asks, back_cross, back_own, begun}
 use Rattle.sc_laws.proofs.Common.{call_cross, call_own, called, calls, done, false, follow, found, function}
@@ -26,14 +26,8 @@ same s = record { events = front_same s.trace; frames = front_same _; late = tt;
 pub from_less : (events more : ℕ) → events ≤ more → (changes : List FrameChange) → AllFrom more changes →
     AllFrom events changes
 from_less events more le [] h = tt
-from_less events more le (Opened told c room ∷ changes) h = (
-  (let first : more ≤ told = h.0 in omega (arith, le, first)),
-  from_less events more le changes h.1,
-)
-from_less events more le (Closed told c room ∷ changes) h = (
-  (let first : more ≤ told = h.0 in omega (arith, le, first)),
-  from_less events more le changes h.1,
-)
+from_less events more le (Opened told c room ∷ changes) h = grind (arith, from_less events more le changes h.1, h.0, le)
+from_less events more le (Closed told c room ∷ changes) h = grind (arith, from_less events more le changes h.1, h.0, le)
 
 pub from_append : (events : ℕ) (first second : List FrameChange) → AllFrom events first → AllFrom events second →
     AllFrom events (first ++ second)
@@ -74,8 +68,7 @@ earlier s t o g h = record { grown = more s t _ g h.grown; stop = h.stop }
 -- pieces in a row
 pub then_then : {U V W : Type 0} (o : Piece U) (k : U → State → Piece V) (l : V → State → Piece W) →
     and_then (and_then o k) l ≡ and_then o (λ u s. and_then (k u s) l)
-then_then (Reached v s) k l = refl
-then_then (Stopped end s) k l = refl
+then_then o k l = grind arith
 
 pub then_from : {V W : Type 0} (o : Piece V) (k : V → State → Piece W) → ((v : V) → Goes (k v)) →
     Grown (last o) (last (and_then o k))

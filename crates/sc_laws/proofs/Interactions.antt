@@ -4,7 +4,7 @@
 use Rattle.sc_laws.proofs.Common.{Alike, Asks, Blames, Blocks, Bool, CallTarget, Calls, Cause, Does, Doing, Each, Err}
 use Rattle.sc_laws.proofs.Common.{Exit, Gives, GoFrom, Goes, Gone, Grown, Halts, Here, Interaction, Lasts, Left, List}
 use Rattle.sc_laws.proofs.Common.{Match, Next, Ok, On, Out, Piece, Plays, Reached, Reads, Result, Route, Spends, State}
-use Rattle.sc_laws.proofs.Common.{Stopped, Stores, Value, [], all_do, and_then, ap, arith, computed, false, follow}
+use Rattle.sc_laws.proofs.Common.{Stores, Value, [], all_do, and_then, ap, arith, computed, false, follow}
 use Rattle.sc_laws.proofs.Common.{if◌then◌else◌, in_loop, in_order, inl, inr, leave, loop, map, played, refl, rounds}
 use Rattle.sc_laws.proofs.Common.{store, stored, subst, suc, sym, true, turn, turn_of, with_memory, zero, ℕ, ◌<◌, ◌∙◌}
 use Rattle.sc_laws.proofs.Common.{◌∷◌, ◌≡◌, ◌≤◌}
@@ -24,14 +24,12 @@ bind Halts next = Halts
 
 then_same : {V W : Type 0} (s : State) (o : Piece V) → Gone s o → (k l : V → State → Piece W) →
     ((v : V) (t : State) → Grown s t → k v t ≡ l v t) → and_then o k ≡ and_then o l
-then_same s (Reached v t) g k l h = h v t g.grown
-then_same s (Stopped end t) g k l h = refl
+then_same s o g k l h = grind (arith, h)
 
 take_grown : {A : Type 0} (route : Route) (s : State) (f g : Does A) →
     ((a : A) (t : State) → Grown s t → f a t ≡ g a t) → (a : A) (t : State) → Grown s t →
     take route f a t ≡ take route g a t
-take_grown On s f g h a t up = h a t up
-take_grown (Out exit) s f g h a t up = refl
+take_grown route s f g h a t up = grind (arith, h)
 
 pub follow_grown : {A : Type 0} (route : Exit → Route) (s : State) (o : Piece (Left A)) (f g : Does A) → Gone s o →
     ((a : A) (t : State) → Grown s t → f a t ≡ g a t) → follow route o f ≡ follow route o g
@@ -39,12 +37,7 @@ follow_grown route s o f g gone h = then_same s o gone _ _ (λ left t up. take_g
 
 pub turn_same : {W : Type 0} (m : ℕ) (s : State) (k l : State → Piece W) → m ≡ s.turns →
     ((t : State) → t.turns < s.turns → k t ≡ l t) → and_then (turn_of m s) (λ _. k) ≡ and_then (turn_of m s) (λ _. l)
-turn_same zero s k l is h = refl
-turn_same (suc m) s k l is h = h _ (omega (arith, is))
-
-then_reached : {V : Type 0} (o : Piece V) → o ≡ and_then o (λ v s. Reached v s)
-then_reached (Reached v s) = refl
-then_reached (Stopped end s) = refl
+turn_same m s k l is h = grind (arith, is, h)
 
 pub played_bind : {V W : Type 0} (tree : Interaction V) (next : V → Interaction W) (by : Calls) (here : Here)
     (s : State) → played (bind tree next) by here s ≡ and_then (played tree by here s)
@@ -118,9 +111,7 @@ round_trees (suc n) head body next a = trail in_loop (head a)
 module _ {A : Type 0} (here : Here) where
   lasts_route : (n : ℕ) (route : Route) (go : A → Interaction (Left A)) → ((a : A) → Lasts n (go a)) → (a : A) →
       Lasts n (on_route route go a)
-  lasts_route n On go h a = h a
-  lasts_route zero (Out exit) go h a = tt
-  lasts_route (suc n) (Out exit) go h a = tt
+  lasts_route n route go h a = grind (arith, h)
 
   lasts_trail : (n : ℕ) (route : Exit → Route) (tree : Interaction (Left A)) (go : A → Interaction (Left A)) →
       Lasts n tree → ((a : A) → Lasts n (go a)) → Lasts n (trail route tree go)
@@ -130,8 +121,7 @@ module _ {A : Type 0} (here : Here) where
     take_same : (route : Route) (s : State) (f : Does A) (g : A → Interaction (Left A)) →
         ((a : A) (t : State) → Grown s t → f a t ≡ played (g a) by here t) → (a : A) (t : State) → Grown s t →
         take route f a t ≡ played (on_route route g a) by here t
-    take_same On s f g h a t up = h a t up
-    take_same (Out exit) s f g h a t up = refl
+    take_same route s f g h a t up = grind (arith, h)
 
     follow_same : (route : Exit → Route) (s : State) (o : Piece (Left A)) (tree : Interaction (Left A)) (f : Does A)
         (g : A → Interaction (Left A)) → o ≡ played tree by here s →
@@ -173,13 +163,10 @@ plays_computed {V} here line e = record {
   is = λ n by goes s few. is (e (s.memory _)) by s;
 } where
   lasts_result : (n : ℕ) (r : Result V Cause) → Lasts n (of_result line r)
-  lasts_result zero r = tt
-  lasts_result _ (Ok v) = tt
-  lasts_result _ (Err cause) = tt
+  lasts_result n r = grind arith
 
   is : (r : Result V Cause) (by : Calls) (s : State) → computed here line r s ≡ played (of_result line r) by here s
-  is (Ok v) by s = refl
-  is (Err cause) by s = refl
+  is r by s = grind arith
 
 pub plays_stored : {V : Type 0} (here : Here) (v : V) (blocks : Blocks) →
     Plays here (λ by s. Reached v (with_memory here.comp blocks s)) (λ n. Stores blocks (Gives v))
@@ -188,10 +175,7 @@ plays_stored {V} here v blocks =
 
 pub plays_call : (here : Here) (target : CallTarget) (args : List Value) →
     Plays here (λ by. by here.comp target args) (λ n. Asks target args (λ v. Gives v))
-plays_call here target args = record {
-  lasts = from_one (λ n. Lasts n (Asks target args (λ v. Gives v))) tt (λ n v. tt);
-  is = λ n by goes s few. then_reached _;
-}
+plays_call here target args = grind arith
 
 -- doings with what a run carries
 abbrev pub DoingWith : Type 0 → Type 0
@@ -262,16 +246,14 @@ module _ (Soft : Cause → Type 0) where
   alike_result {V} line r r' (alike is) =
       subst (λ x. Alike Soft (of_result line r) (of_result line x)) (sym is) (itself r) where
         itself : (r : Result V Cause) → Alike Soft (of_result line r) (of_result line r)
-        itself (Ok v) = refl
-        itself _ = inr refl
+        itself r = grind arith
   alike_result {V} line r r' (blamed cause soft is) =
       subst (λ x. Alike Soft (of_result line x) (of_result line r')) (sym is) (inl soft)
 
   module _ {A : Type 0} where
     alike_route : (route : Route) (go go' : A → Interaction (Left A)) → ((a : A) → Alike Soft (go a) (go' a)) →
         (a : A) → Alike Soft (on_route route go a) (on_route route go' a)
-    alike_route On go go' h a = h a
-    alike_route (Out exit) go go' h a = refl
+    alike_route route go go' h a = grind (arith, h)
 
     alike_trail : (route : Exit → Route) (tree twin : Interaction (Left A)) (go go' : A → Interaction (Left A)) →
         Alike Soft tree twin → ((a : A) → Alike Soft (go a) (go' a)) →

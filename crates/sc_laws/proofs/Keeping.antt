@@ -1,15 +1,14 @@
 -- To show that the functions of a library keep a property of states, show it of what changes memory, of turns and of
 -- calls.
 use Rattle.sc_laws.proofs.Common.{Action, BadType, Blamed, Blocks, Body, Bool, Call, CallTarget, Calls, Cause, Cross}
-use Rattle.sc_laws.proofs.Common.{Err, Export, Function, Gone, Grown, Here, Input, Kept, Library, List, Main, Meets}
-use Rattle.sc_laws.proofs.Common.{Memory, Never, None, Obedient, Ok, Option, Output, Own, Piece, Property, Reached}
-use Rattle.sc_laws.proofs.Common.{Result, Ret, Roles, Row, RunEnd, Some, State, Stopped, TurnsOut, Value, Word, []}
-use Rattle.sc_laws.proofs.Common.{acts, and_parts, and_then, ap, arith, asks, back_cross, back_own, begun, call_own}
-use Rattle.sc_laws.proofs.Common.{called, calls, computed, crossing, done, export_at, false, first_word, found}
-use Rattle.sc_laws.proofs.Common.{function, if◌then◌else◌, imports, is_some, is_word, leads, length, list_all, map}
-use Rattle.sc_laws.proofs.Common.{may_call, performs, read_input, refl, rows_left, run_in, run_step, scripted_step}
-use Rattle.sc_laws.proofs.Common.{subst, suc, sym, takes, tell, then_kept, true, turn, turn_of, with_blocks, within}
-use Rattle.sc_laws.proofs.Common.{word_in, zero, ℕ, ◌<◌, ◌∙◌, ◌∷◌, ◌≡◌}
+use Rattle.sc_laws.proofs.Common.{Export, Function, Gone, Grown, Here, Input, Kept, Library, List, Main, Meets, Memory}
+use Rattle.sc_laws.proofs.Common.{Never, None, Obedient, Option, Output, Own, Piece, Property, Ret, Roles, Row, RunEnd}
+use Rattle.sc_laws.proofs.Common.{Some, State, TurnsOut, Value, Word, [], acts, and_then, ap, arith, asks, back_cross}
+use Rattle.sc_laws.proofs.Common.{back_own, begun, call_own, called, calls, crossing, done, export_at, false}
+use Rattle.sc_laws.proofs.Common.{first_word, found, function, if◌then◌else◌, is_some, leads, length, map, may_call}
+use Rattle.sc_laws.proofs.Common.{performs, read_input, refl, rows_left, run_in, run_step, scripted_step, subst, suc}
+use Rattle.sc_laws.proofs.Common.{sym, tell, then_kept, true, turn, turn_of, with_blocks, within, word_in, zero, ℕ, ◌<◌}
+use Rattle.sc_laws.proofs.Common.{◌∙◌, ◌∷◌, ◌≡◌}
 use Rattle.sc_event.specs.declared.event.Event.TheVariants.{Out}
 use Rattle.sc_event.specs.declared.row.Action.TheVariants as act
 use Rattle.sc_laws.proofs.Growing.{BodyGoes, CallsGo, calls_go, within_goes}
@@ -39,13 +38,11 @@ module _ (K : Property) where
 
   then_grown : (V W : Type 0) (s : State) (o : Piece V) (k : V → State → Piece W) → Gone s o → Kept K o →
       ((v : V) (t : State) → Grown s t → K.Goes t → Kept K (k v t)) → Kept K (and_then o k)
-  then_grown V W s (Reached v t) k g h n = n v t g.grown h.after
-  then_grown V W s (Stopped end t) k g h n = record { after = h.after }
+  then_grown V W s o k g h n = grind (arith, g, h, n)
 
   turn_kept : (W : Type 0) (k : Unit {0} → State → Piece W) (s : State) (m : ℕ) → m ≡ s.turns → Kept K (turn_of m s) →
       ((t : State) → t.turns < s.turns → K.Goes t → Kept K (k tt t)) → Kept K (and_then (turn_of m s) k)
-  turn_kept W k s zero is h n = record { after = h.after }
-  turn_kept W k s (suc m) is h n = n _ (omega (arith, is)) h.after
+  turn_kept W k s m is h n = grind (arith, is, h)
 
   module _ (here : Here) (kept : IsKept K here) where
     one_kept : RelationKept One Pieces
@@ -59,21 +56,8 @@ module _ (K : Property) where
           (record { goes = at; is = refl }));
     }
 
-    computed_kept : (V : Type 0) (at : Here) → IsKept K at → (line : ℕ) (r : Result V Cause) (s : State) → K.Goes s →
-        Kept K (computed at line r s)
-    computed_kept V at is line (Ok v) s h = record { after = h }
-    computed_kept V at is line (Err cause) s h = record { after = is.blamed s cause line h }
-
     one_at : (at : Here) → IsKept K at → KeptAt One Pieces Never at
-    one_at at is = record {
-      computing = λ V line e e' h s t one. computed_kept V at is line _ s one.goes;
-      passed = λ V cause line soft s t one p g. absurd soft;
-      stored =
-          λ blocks s t one. record {
-            goes = is.memory s blocks one.goes;
-            is = ap {B = State} (λ z. record z { memory = with_blocks at.comp blocks z.memory }) one.is;
-          };
-    }
+    one_at at is = grind (arith, is)
 
     -- a function whose pieces keep what its calls keep
     keeps_here : (f g : Option Function) → Meets (FunctionTwins One Pieces (IsKept K)) f g → (h : Function) →
@@ -101,8 +85,7 @@ function_keeps library obedient comp number f is K here kept by goes keeps s at 
 -- what is looked up is there, or that it isn't allows to stop
 looked_up : {V W : Type 0} (K : Property) (o : Option V) (s : State) (go : V → State → Piece W) →
     (o ≡ None → K.Ends TurnsOut s) → ((v : V) → o ≡ Some v → Kept K (go v s)) → Kept K (and_then (found o s) go)
-looked_up K None s go none h = record { after = none refl }
-looked_up K (Some v) s go none h = h v refl
+looked_up K o s go none h = grind (arith, none, h)
 
 -- what is looked up and there
 pub there : {V W : Type 0} (K : Property) (o : Option V) (s : State) (go : V → State → Piece W) → is_some o ≡ true →
@@ -121,37 +104,24 @@ led_there library comp number o is same = sym (ap (leads library comp) same) ∙
 -- a call across that may be made leads somewhere
 pub led : (library : Library) (from to index : ℕ) (args : List Value) →
     may_call library from (Cross to index) args ≡ true → leads library to (library.entered to (Export index)) ≡ true
-led library from to index args may =
-    let first = and_parts (imports library.interfaces from _) _ may in
-    let second = and_parts (takes library.interfaces to index _) _ first.1 in
-    (and_parts (list_all is_word args) _ second.1).1
+led library from to index args may = grind arith
 
 -- a piece that keeps another property, and what follows it
 pub then_other : {V W : Type 0} (K L : Property) (piece : Piece V) (go : V → State → Piece W) →
     ((end : RunEnd) (s : State) → K.Ends end s → L.Ends end s) → Kept K piece →
     ((v : V) (s : State) → K.Goes s → Kept L (go v s)) → Kept L (and_then piece go)
-then_other K L (Reached v s) go ends h k = k v s h.after
-then_other K L (Stopped end s) go ends h k = record { after = ends end s h.after }
+then_other K L piece go ends h k = grind (arith, ends, h)
 
 -- A function of a library, and the rows that its compartment performs, keep a property that its calls keep.
 module _ (K : Property) (library : Library) (body : Body) (here : Here) (called_keep : (target : CallTarget)
     (args : List Value) (s : State) → may_call library here.comp target args ≡ true → K.Goes s →
     Kept K (called library body here.comp target args s)) where
   pub calls_keep : IsKept K here → CallsKeep K here.comp (calls library body)
-  calls_keep kept target args s h = by _ refl where
-    by : (b : Bool) → may_call library here.comp target args ≡ b → Kept K
-        (if b then called library body here.comp target args s else Stopped (Blamed here.comp BadType 0) s)
-    by true may = called_keep target args s may h
-    by false may = record { after = kept.blamed s BadType 0 h }
+  calls_keep kept target args s h = grind (arith, called_keep target args s, kept.blamed s BadType 0 h, h)
 
   module _ (number : ℕ) (stops : (s : State) → K.Goes s → K.Ends TurnsOut s) where
     asks_keep : CallsKeep K here.comp (asks library body)
-    asks_keep target args s h = by _ refl where
-      by : (b : Bool) → may_call library here.comp target args ≡ b → Kept K (if b then
-          (if b then called library body here.comp target args s else Stopped (Blamed here.comp BadType 0) s) else
-          Stopped TurnsOut s)
-      by true may = called_keep target args s may h
-      by false may = record { after = stops s h }
+    asks_keep target args s h = grind (arith, called_keep target args s, stops s h, h)
 
     module _ (again : (s : State) → K.Goes s → Kept K (body number here s)) where
       acts_keep : (action : Action) (next : State → Piece (Option Value)) → ((s : State) → K.Goes s → Kept K (next s)) →
@@ -168,12 +138,8 @@ module _ (K : Property) (library : Library) (body : Body) (here : Here) (called_
 
       performs_keep : (rows : List Row) (s : State) → K.Goes s → Kept K (performs library body rows number here s)
       performs_keep [] s h = record { after = stops s h }
-      performs_keep (row ∷ rest) s h = by (performs_keep rest) _ where
-        by : ((s : State) → K.Goes s → Kept K (performs library body rest number here s)) → (b : Bool) →
-            Kept K (if b then acts library body row.action (performs library body rest number here) (body number here)
-            here.comp s else Stopped TurnsOut s)
-        by next true = acts_keep _ _ next s h
-        by next false = record { after = stops s h }
+      performs_keep (row ∷ rest) s h = grind (arith, stops s h,
+          acts_keep row.action (performs library body rest number here) (performs_keep rest) s h)
 
 -- A property of the places at which a run stands, with fewer turns than a number: what calls have to keep of it, so
 -- that functions do.
@@ -219,20 +185,17 @@ module _ (library : Library) (walk : Walk library) where
       Kept (place n i) (body number here s)
 
   pub raise : {V : Type 0} (n : ℕ) (i : walk.Place) (o : Piece V) → Kept (place n i) o → Kept (place (suc n) i) o
-  raise n i (Reached v s) h = record { after = walk.raised n i s h.after }
-  raise n i (Stopped end s) h = record { after = h.after }
+  raise n i o h = grind (arith, h)
 
   -- a turn, and then what has one turn less
   after_turn : {V : Type 0} (n m : ℕ) (i : walk.Place) (s : State) (k : State → Piece V) → m ≡ s.turns →
       walk.At (suc n) i s → ((t : State) → walk.At n i t → Kept (place n i) (k t)) →
       Kept (place n i) (and_then (turn_of m s) (λ _. k))
-  after_turn n zero i s k is at h = record { after = walk.spent n i s (sym is) at }
-  after_turn n (suc m) i s k is at h = h _ (walk.less n m i s is at)
+  after_turn n m i s k is at h = grind (arith, is, h)
 
   turned : (n m : ℕ) (i : walk.Place) (s : State) → m ≡ s.turns → walk.At (suc n) i s →
       Kept (place (suc n) i) (turn_of m s)
-  turned n zero i s is at = record { after = walk.spent n i s (sym is) at }
-  turned n (suc m) i s is at = record { after = walk.raised n i _ (walk.less n m i s is at) }
+  turned n m i s is at = grind (arith, is)
 
   module _ (n : ℕ) (body : Body) (walks : BodyWalks n body) where
     run_walks : (i j : walk.Place) (comp number : ℕ) (args : List Value)

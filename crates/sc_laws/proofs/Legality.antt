@@ -1,13 +1,11 @@
 -- Every trace that a run shows is legal.
 use Rattle.sc_laws.proofs.Common.{arith, Call, Cross, Event, Export, Interfaces, IsStop, Kept, Library, List, Main}
-use Rattle.sc_laws.proofs.Common.{Memory, None, Obedient, Option, Piece, Proto, Reached, Ret, Roles, Scalar, Some}
-use Rattle.sc_laws.proofs.Common.{Standing, State, Stopped, Value, [], and_from, and_parts, ap, at_start, awaits}
-use Rattle.sc_laws.proofs.Common.{crossing, eq-eqb, export_at, false, first_state, fits_result, found, imports}
-use Rattle.sc_laws.proofs.Common.{is_allowed, is_function, is_legal_from, legal, length, length-map, library_run, map}
-use Rattle.sc_laws.proofs.Common.{may_call, may_perform, may_return, option_map_or, performer, refl, roles_run}
-use Rattle.sc_laws.proofs.Common.{run_step, run_to, scripted_step, stands_after, stands_behind, stopped_at, suc, sym}
-use Rattle.sc_laws.proofs.Common.{take, takes, true, within, word_back, word_in, zero, ℕ, ◌&&◌, ◌++◌, ◌==◌, ◌∙◌, ◌∷◌}
-use Rattle.sc_laws.proofs.Common.{◌≡◌}
+use Rattle.sc_laws.proofs.Common.{Memory, None, Obedient, Option, Piece, Reached, Ret, Roles, Some, Standing, State}
+use Rattle.sc_laws.proofs.Common.{Stopped, Value, [], and_from, and_parts, ap, at_start, crossing, eq-eqb, export_at}
+use Rattle.sc_laws.proofs.Common.{first_state, imports, is_allowed, is_function, is_legal_from, legal, length}
+use Rattle.sc_laws.proofs.Common.{length-map, library_run, map, may_call, may_perform, performer, refl, roles_run}
+use Rattle.sc_laws.proofs.Common.{run_step, run_to, scripted_step, stands_after, stands_behind, stopped_at, suc, take}
+use Rattle.sc_laws.proofs.Common.{takes, true, within, word_in, zero, ℕ, ◌&&◌, ◌++◌, ◌==◌, ◌∙◌, ◌∷◌, ◌≡◌}
 use Rattle.sc_laws.proofs.Matching.{idle}
 use Rattle.sc_laws.proofs.Keeping.{Walk, place, main_walks, scripted_walks}
 use Rattle.sc_laws.proofs.Rows.{stands_last}
@@ -44,17 +42,6 @@ module _ (library : Library) where
         is_legal = legal_more _ t st e h.stands h.is_legal may;
       }
 
-  fits_back : (result : Option Scalar) (v : Option Value) → fits_result result (word_back result v) ≡ true
-  fits_back None v = refl
-  fits_back (Some scalar) None = refl
-  fits_back (Some scalar) (Some v) = refl
-
-  back_fits : (o : Option Proto) (count : ℕ) (v : Option Value) →
-      option_map_or (λ found. length found.params == count) o false ≡ true →
-      option_map_or (λ found. fits_result found.result (crossing o v)) o false ≡ true
-  back_fits None count v h = cc h
-  back_fits (Some proto) count v h = fits_back _ v
-
   abbrev entered_at : Standing → ℕ → ℕ → Standing
   entered_at st to index =
       record { active = record { comp = to; entry = Export index }; waiting = st.active ∷ st.waiting }
@@ -62,9 +49,7 @@ module _ (library : Library) where
   -- what the interfaces say of a call across that may be made
   imported : (from to index : ℕ) (args : List Value) → may_call library from (Cross to index) args ≡ true →
       (imports interfaces from (is_function to index) ≡ true) × (takes interfaces to index (length args) ≡ true)
-  imported from to index args may =
-      let first = and_parts (imports interfaces from _) _ may in
-      (first.0, (and_parts (takes interfaces to index _) _ first.1).0)
+  imported from to index args may = grind arith
 
   call_is_allowed : (st : Standing) (from to index : ℕ) (args : List Value) → from ≡ st.active.comp →
       may_call library from (Cross to index) args ≡ true →
@@ -77,11 +62,7 @@ module _ (library : Library) where
   back_is_allowed : (st : Standing) (from to index : ℕ) (args : List Value) (v : Option Value) →
       from ≡ st.active.comp → may_call library from (Cross to index) args ≡ true →
       is_allowed interfaces (entered_at st to index) (Ret to from (crossing (export_at interfaces to index) v)) ≡ true
-  back_is_allowed st from to index args v is may = and_from (to == to)
-      (awaits (st.active ∷ st.waiting) from && may_return interfaces to (Export index) (crossing _ v))
-      (eq-eqb to to refl) (and_from (st.active.comp == from) (may_return interfaces to (Export index) (crossing _ v))
-      (eq-eqb _ from (sym is)) (back_fits (export_at interfaces to index) (length args) v
-      (imported from to index args may).1))
+  back_is_allowed st from to index args v is may = grind (arith, is)
 
   environment_at : (st : Standing) (from : ℕ) (e : Event) (s : State) → performer e ≡ st.active.comp →
       may_perform interfaces st e ≡ true → stands_after st e ≡ Some st → IsAt s.trace st → IsAt (s.trace ++ e ∷ []) st

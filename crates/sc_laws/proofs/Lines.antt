@@ -1,21 +1,20 @@
 -- A program whose trees stand on other lines does the same up to the lines of blames.
-use Rattle.sc_laws.proofs.Common.{Acts, Arith, Bool, CallTarget, Calls, CallsAgree, Cause, Does, Each, Entry, Err, Exit}
+use Rattle.sc_laws.proofs.Common.{Acts, Arith, Bool, CallTarget, Calls, CallsAgree, Cause, Does, Each, Entry, Exit}
 use Rattle.sc_laws.proofs.Common.{Export, FunctionsAgree, Here, Inside, Left, LibrariesAgree, List, Local, Main, Next}
-use Rattle.sc_laws.proofs.Common.{None, Ok, On, Option, OtherLinesAgree, Out, Piece, PiecesAgree, ProgramTree, Proto}
-use Rattle.sc_laws.proofs.Common.{Result, Return, Route, RunsAgree, Some, State, TypedExpr, TypedFunction, TypedLocal}
-use Rattle.sc_laws.proofs.Common.{TypedSection, TypedSimple, TypedSimpleKind, TypedStmt, TypedStmt-F, TypedStmtKind}
-use Rattle.sc_laws.proofs.Common.{TypedStmtKind-F, TypedStruct, Value, Want, Ways, [], all_do, ap, ap₂, assign}
-use Rattle.sc_laws.proofs.Common.{at_brace, at_place, block_does, body_does, bytes_eq, call, cells_of, choose, closed}
-use Rattle.sc_laws.proofs.Common.{computed, cond, entry_in, evaluated, everywhere, export_at, expr_nodes, false}
-use Rattle.sc_laws.proofs.Common.{first_blocks, fold-TypedStmt, fold-TypedStmtKind, follow, frame_bound, function_of}
-use Rattle.sc_laws.proofs.Common.{functions_in, globals_of, if◌then◌else◌, in_loop, in_order, init_does, inits_do}
-use Rattle.sc_laws.proofs.Common.{kind_nodes, kind_step, layer_of, leave, length, length-map, library_of, local_nodes}
-use Rattle.sc_laws.proofs.Common.{loop, main_name, map, map-TypedStmtKind, nat_lt, nodes, not, on_line, option_map}
-use Rattle.sc_laws.proofs.Common.{part_does, part_nodes, place_named, place_of_export, position_or_len, refl}
-use Rattle.sc_laws.proofs.Common.{roll-TypedStmtKind, rounds, run_by, run_of, run_step, simple_does, slice_get}
-use Rattle.sc_laws.proofs.Common.{slice_get-map, stmt_at, stmt_does, stmt_induction, stmt_nodes, stmt_step, store}
-use Rattle.sc_laws.proofs.Common.{store_at, store_result, subst, suc, sym, test, total, true, turn, variable_at}
-use Rattle.sc_laws.proofs.Common.{variables, ways, zero, ℕ, ◌++◌, ◌+◌, ◌∙◌, ◌∷◌, ◌≡◌}
+use Rattle.sc_laws.proofs.Common.{None, Ok, Option, OtherLinesAgree, Piece, PiecesAgree, ProgramTree, Proto, Result}
+use Rattle.sc_laws.proofs.Common.{Route, RunsAgree, Some, State, TypedExpr, TypedFunction, TypedLocal, TypedSection}
+use Rattle.sc_laws.proofs.Common.{TypedSimple, TypedSimpleKind, TypedStmt, TypedStmt-F, TypedStmtKind, TypedStmtKind-F}
+use Rattle.sc_laws.proofs.Common.{TypedStruct, Value, Want, Ways, [], all_do, ap, ap₂, assign, at_place, block_does}
+use Rattle.sc_laws.proofs.Common.{body_does, bytes_eq, call, cells_of, choose, closed, computed, cond, entry_in}
+use Rattle.sc_laws.proofs.Common.{evaluated, everywhere, export_at, expr_nodes, first_blocks, fold-TypedStmt}
+use Rattle.sc_laws.proofs.Common.{fold-TypedStmtKind, follow, frame_bound, function_of, functions_in, globals_of}
+use Rattle.sc_laws.proofs.Common.{if◌then◌else◌, in_order, init_does, inits_do, kind_nodes, kind_step, layer_of, leave}
+use Rattle.sc_laws.proofs.Common.{length, length-map, library_of, local_nodes, loop, main_name, map, map-TypedStmtKind}
+use Rattle.sc_laws.proofs.Common.{nat_lt, nodes, not, on_line, option_map, arith, part_does, part_nodes, place_named}
+use Rattle.sc_laws.proofs.Common.{place_of_export, position_or_len, refl, roll-TypedStmtKind, rounds, run_by, run_of}
+use Rattle.sc_laws.proofs.Common.{run_step, simple_does, slice_get, slice_get-map, stmt_at, stmt_does, stmt_induction}
+use Rattle.sc_laws.proofs.Common.{stmt_nodes, stmt_step, store_at, store_result, subst, suc, sym, test, total}
+use Rattle.sc_laws.proofs.Common.{variable_at, variables, ways, zero, ℕ, ◌++◌, ◌+◌, ◌∙◌, ◌∷◌, ◌≡◌}
 use Rattle.sc_core.specs.Prelude.{take}
 use Rattle.sc_core.specs.declared.stmt.TypedSimpleKind.TheVariants as simple
 use Rattle.sc_core.specs.declared.stmt.TypedStmtKind.TheOpen as layer
@@ -28,23 +27,18 @@ use Rattle.sc_laws.proofs.Statements.{Pairs, meets_at, lists_at}
 -- WORDS
 computed_agree : {V : Type 0} (here : Here) (line other : ℕ) (r : Result V Cause) (s : State) →
     PiecesAgree (computed here line r s) (computed here other r s)
-computed_agree here line other (Ok v) s = itself _
-computed_agree here line other (Err cause) s = record { same = refl }
+computed_agree here line other r s = grind arith
 
 choose_agree : {V : Type 0} (v : Value) (o p o' p' : Piece V) → PiecesAgree o p → PiecesAgree o' p' →
     PiecesAgree (choose v o o') (choose v p p')
-choose_agree {V} v o p o' p' h k = by _ where
-  by : (b : Bool) → PiecesAgree (if b then o else o') (if b then p else p')
-  by true = h
-  by false = k
+choose_agree {V} v o p o' p' h k = grind (arith, h, k)
 
 -- doings that agree
 abbrev DoesAgree : {A : Type 0} → Does A → Does A → Type 0
 DoesAgree {A} f g = (a : A) (s : State) → PiecesAgree (f a s) (g a s)
 
 take_agree : {A : Type 0} (route : Route) (f g : Does A) → DoesAgree f g → DoesAgree (take route f) (take route g)
-take_agree On f g h a s = h a s
-take_agree (Out exit) f g h a s = itself _
+take_agree route f g h a s = grind (arith, h)
 
 follow_agree : {A : Type 0} (route : Exit → Route) (o p : Piece (Left A)) (f g : Does A) → PiecesAgree o p →
     DoesAgree f g → PiecesAgree (follow route o f) (follow route p g)
@@ -53,9 +47,7 @@ follow_agree route o p f g h k = then_agree o p _ _ h (λ left s. take_agree _ f
 rounds_agree : {A : Type 0} (n : ℕ) (f g f2 g2 f3 g3 : Does A) → DoesAgree f g → DoesAgree f2 g2 → DoesAgree f3 g3 →
     DoesAgree (rounds n f f2 f3) (rounds n g g2 g3)
 rounds_agree zero f g f2 g2 f3 g3 h b x a s = itself _
-rounds_agree (suc n) f g f2 g2 f3 g3 h b x a s = follow_agree in_loop (f a s) (g a s) _ _ (h a s) (λ a s. then_agree
-    (turn s) (turn s) _ _ (itself _) (λ u s. follow_agree in_loop (f2 a s) (g2 a s) _ _ (b a s)
-    (λ a s. follow_agree in_loop (f3 a s) (g3 a s) _ _ (x a s) (rounds_agree n f g f2 g2 f3 g3 h b x))))
+rounds_agree (suc n) f g f2 g2 f3 g3 h b x a s = grind (arith, rounds_agree n f g f2 g2 f3 g3 h b x, g, h, b, x)
 
 -- A STATEMENT ON ANOTHER LINE
 module _ (line_of : ℕ → ℕ) where
@@ -85,8 +77,7 @@ module _ (line_of : ℕ → ℕ) where
   list_nodes (stmt ∷ rest) h = ap₂ (λ n ns. n ∷ ns) h.0 (list_nodes rest h.1)
 
   same_part : (part : Option TypedSimple) → part_nodes (option_map (simple_lined line_of) part) ≡ part_nodes part
-  same_part None = refl
-  same_part (Some p) = refl
+  same_part part = grind arith
 
   abbrev nodes_of : TypedStmtKind-F TypedStmtKind TypedStmt → ℕ
   nodes_of = layer_of ℕ ℕ kind_nodes (λ s. s.kind)
@@ -133,13 +124,10 @@ module _ (here : Here) where
 
   store_at_agree : (place : Ways) (v : Value) (line other : ℕ) →
       DoesAgree (store_at here place v line) (store_at here place v other)
-  store_at_agree place v line other a s =
-      then_agree _ _ _ _ (given_agree _ place line other s) (λ q s.
-      then_agree _ _ _ _ (computed_agree here line other (store _ q v) s) (λ blocks s. itself _))
+  store_at_agree place v line other a s = grind arith
 
   assign_agree : (place e : Ways) (line other : ℕ) → DoesAgree (assign here place e line) (assign here place e other)
-  assign_agree place e line other a s =
-      then_agree _ _ _ _ (given_agree _ e line other s) (λ v s. store_at_agree place v line other a s)
+  assign_agree place e line other a s = grind arith
 
   test_agree : (e : Ways) (line other : ℕ) → DoesAgree (test here e line) (test here e other)
   test_agree e line other a s = then_agree _ _ _ _ (given_agree _ e line other s) (λ v s. itself _)
@@ -152,8 +140,7 @@ module _ (here : Here) where
   module _ (C D : Calls) (calls : CallsAgree C D) where
     call_agree : (target : CallTarget) (args : List Ways) (line other : ℕ) (s : State) →
         PiecesAgree (call here C target args line s) (call here D target args other s)
-    call_agree target args line other s =
-        then_agree _ _ _ _ (computed_agree here line other _ s) (λ vs s. calls _ target vs s)
+    call_agree target args line other s = grind arith
 
     module _ (arith : Arith) (structs : List TypedStruct) (params : ℕ) (line_of : ℕ → ℕ) where
       simple_agree : (k : TypedSimpleKind) (line other : ℕ) →
@@ -238,15 +225,9 @@ module _ (here : Here) where
       body_agree f a s = follow_agree in_order _ _ _ _ (inits_agree 0 f.locals a s)
           (block_agree f.body (everywhere Agrees stmt_agree f.body))
 
-  brace_agree : (has_result is_main : Bool) (line other : ℕ) (s : State) →
-      PiecesAgree (at_brace has_result is_main line here s) (at_brace has_result is_main other here s)
-  brace_agree true false line other s = record { same = refl }
-  brace_agree _ _ line other s = itself _
-
   closed_agree : (exit : Exit) (has_result is_main : Bool) (line other : ℕ) (s : State) →
       PiecesAgree (closed exit has_result is_main line here s) (closed exit has_result is_main other here s)
-  closed_agree (Return v) has_result is_main line other s = itself _
-  closed_agree _ has_result is_main line other s = brace_agree _ is_main line other s
+  closed_agree exit has_result is_main line other s = grind arith
 
 -- FUNCTIONS AND LIBRARIES
 pairs_map : {A A' B : Type 0} (Q : B → B → Type 0) (f : A → B) (g : A' → B) (h : A → A') →
@@ -307,8 +288,7 @@ libraries_agree arith line_of program = record {
 -- the globals have no lines
 same_blocks : (line_of : ℕ → ℕ) (section : Option TypedSection) →
     first_blocks section ≡ first_blocks (option_map (section_lined line_of) section)
-same_blocks line_of None = refl
-same_blocks line_of (Some section) = refl
+same_blocks line_of section = grind arith
 
 same_globals : (line_of : ℕ → ℕ) (sections : List TypedSection) (comp : ℕ) →
     globals_of sections comp ≡ globals_of (map (section_lined line_of) sections) comp

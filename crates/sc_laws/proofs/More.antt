@@ -1,7 +1,7 @@
 -- The laws on more turns, more events, and the arithmetic that wraps.
 use Rattle.sc_laws.proofs.Common.{AgreesInRoom, AgreesUntilBlame, Blamed, Bool, Cause, Ended, EventsOut, ExtendedByMore}
 use Rattle.sc_laws.proofs.Common.{Extends, Front, IsArithmetic, IsFinal, LibrariesMatch, Library, List, Memory, Never}
-use Rattle.sc_laws.proofs.Common.{Obedient, ProgramTree, Roles, Run, RunEnd, RunsUntilBlame, SourceRun, TurnsOut, ap}
+use Rattle.sc_laws.proofs.Common.{Obedient, ProgramTree, Roles, Run, RunEnd, RunsUntilBlame, SourceRun, ap}
 use Rattle.sc_laws.proofs.Common.{arith, blamed, blamed_run, c_arith, deepest, depth_in, false, inl, inr, le-leb}
 use Rattle.sc_laws.proofs.Common.{leb-true, length, library_of, library_run, lt-ltb, nat_le, reaches, refl, roles_run}
 use Rattle.sc_laws.proofs.Common.{same, same_run, stopped_at, subst, sym, take, take-append-le, take_all, true}
@@ -36,8 +36,7 @@ module _ (d : ℕ) (one other : Run) (events more_events : ℕ) (le : events ≤
   final_at false is final (goes.goes_past end ends stop passes front ended frames late) =
       absurd (no_end end passes (subst IsFinal ends final)) where
         no_end : (end : RunEnd) → Passes d Never (Unit {0}) end → IsFinal end → ⊥
-        no_end TurnsOut passes final = final
-        no_end _ passes final = passes
+        no_end end passes final = grind arith
 
   extends : RunsBelow d Never (Unit {0}) one other → Extends (stopped_at events shorter) (stopped_at more_events longer)
   extends below =

@@ -181,8 +181,7 @@ module _ (library : Library) (obedient : Obedient library) (roles : Roles) where
 
   last_told : (base : State) (rooms : Rooms) (piece : Piece (Option Value)) → Kept (kept base library obedient roles
       rooms) piece → Told base (last piece).trace (last piece).frames
-  last_told base rooms (Reached v s) h = h.after.told
-  last_told base rooms (Stopped end s) h = h.after
+  last_told base rooms piece h = grind (arith, h)
 
   run_to_notes : (base : State) (rooms : Rooms) (main : ℕ) (piece : Piece (Option Value)) →
       AllBefore (suc (length base.trace)) base.frames → Kept (kept base library obedient roles rooms) piece →

@@ -58,8 +58,7 @@ fronts_meet (x ∷ xs) (y ∷ ys) more less is =
     let rest : xs ++ more ≡ ys ++ less = cc in
     both first (fronts_meet xs ys more less rest) where
       both : x ≡ y → Front xs ys ⊎ Front ys xs → Front (x ∷ xs) (y ∷ ys) ⊎ Front (y ∷ ys) (x ∷ xs)
-      both first (inl front) = inl (record { more = front.more; is = (λ i. sym first i ∷ front.is i) })
-      both first (inr front) = inr (record { more = front.more; is = (λ i. first i ∷ front.is i) })
+      both first h = grind arith
 
 -- one trace goes on from the other
 abbrev pub InLine : List Event → List Event → Type 0

@@ -3,8 +3,8 @@ use Rattle.sc_laws.proofs.Common.{roles_run, AllFrom, Blamed, Bool, Cause, End, 
 use Rattle.sc_laws.proofs.Common.{Front, HasFixedPoint, Here, IsFixed, IsSteady, IsStop, LibrariesMatch, Library, List}
 use Rattle.sc_laws.proofs.Common.{Main, Memory, Never, None, Obedient, Option, Piece, Reached, Roles, Run, RunEnd, Some}
 use Rattle.sc_laws.proofs.Common.{SourceRun, State, Step, Stopped, StopsSo, TurnsOut, Value, [], and_then, ap, arith}
-use Rattle.sc_laws.proofs.Common.{call_own, exit_word, false, first_state, found, if◌then◌else◌, inl, last, le-ltb}
-use Rattle.sc_laws.proofs.Common.{leb-false, length, length-append, lt-leb, ltb-false, now, reaches, refl, run_step}
+use Rattle.sc_laws.proofs.Common.{call_own, exit_word, false, first_state, found, if◌then◌else◌, inl, last}
+use Rattle.sc_laws.proofs.Common.{length, length-append, now, reaches, refl, run_step}
 use Rattle.sc_laws.proofs.Common.{run_to, scripted_step, stopped_at, subst, suc, sym, take, take_all, true, within}
 use Rattle.sc_laws.proofs.Common.{zero, ℕ, ◌++◌, ◌+◌, ◌<◌, ◌∙◌, ◌∷◌, ◌≡◌, ◌≤◌, ◌⊎◌}
 use Rattle.sc_laws.proofs.Growing.{front_more, front_no_longer, StepGoes, within_goes, run_step_goes, scripted_goes}
@@ -35,8 +35,7 @@ at_most less = omega (arith, less)
 
 pub unreached : (events : ℕ) (run : SourceRun) (end : RunEnd) → reaches events run end ≡ false →
     length run.trace ≤ events
-unreached events run Ended below = ltb-false events _ below
-unreached events run _ below = at_most (leb-false events _ below)
+unreached events run end below = grind arith
 
 -- a run that is cut at so many events, or not
 abbrev pub shown : ℕ → Bool → SourceRun → SourceRun
@@ -51,15 +50,11 @@ trace_is events run = by_test _ refl where
 -- a run that reaches fewer events reaches more no sooner
 pub still_unreached : (events more_events : ℕ) (run : SourceRun) (end : RunEnd) → events ≤ more_events →
     reaches events run end ≡ false → reaches more_events run end ≡ false
-still_unreached events more_events run Ended le is =
-    (let few = ltb-false events _ is in le-ltb _ _ (omega (arith, few, le)))
-still_unreached events more_events run _ le is =
-    (let few = leb-false events _ is in lt-leb _ _ (omega (arith, few, le)))
+still_unreached events more_events run end le is = grind (arith, le, is)
 
 -- the frames of a run are those of its last state
 pub frames_are : (main : ℕ) (p : Piece (Option Value)) → (run_to main p).frames ≡ (last p).frames
-frames_are main (Reached v s) = refl
-frames_are main (Stopped end s) = refl
+frames_are main p = grind arith
 
 -- THE SAME RUN, OR ONE THAT GOES ON
 module _ (d : ℕ) (Soft : Cause → Type 0) (Turns : Type 0) where
@@ -73,8 +68,7 @@ module _ (d : ℕ) (Soft : Cause → Type 0) (Turns : Type 0) where
         (frames : Front x.frames y.frames) → AllFrom (length x.behaviour.trace) frames.more → RunsBelow x y
 
   run_to_same : (main : ℕ) (o : Piece (Option Value)) → run_to main (richer_piece d o) ≡ run_to main o
-  run_to_same main (Reached v s) = refl
-  run_to_same main (Stopped end s) = refl
+  run_to_same main o = grind arith
 
   past : (main : ℕ) (trace : List Event) (p : Piece (Option Value)) → StopsSo p → Front trace (last p).trace →
       Front trace (run_to main p).behaviour.trace × ((run_to main p).behaviour.end ≡ Ended →
@@ -170,17 +164,14 @@ no_richer : (s : State) → richer 0 s ≡ s
 no_richer s = (let none : s.turns + 0 ≡ s.turns = omega arith in ap (λ n. record s { turns = n }) none)
 
 no_richer_piece : {V : Type 0} (o : Piece V) → richer_piece 0 o ≡ o
-no_richer_piece (Reached v s) = ap (Reached v) (no_richer s)
-no_richer_piece (Stopped end s) = ap (Stopped end) (no_richer s)
+no_richer_piece o = grind arith
 
 -- with as many turns, the same causes and the same ends there is no run but the same
 nothing_passes : (end : RunEnd) → Passes 0 Never ⊥ end → ⊥
-nothing_passes (Blamed comp cause line) h = h
-nothing_passes _ h = h
+nothing_passes end h = grind (arith, h)
 
 pub only_same : {V : Type 0} (o p : Piece V) → Below 0 Never ⊥ V o p → p ≡ o
-only_same o p (along is) = is ∙ no_richer_piece o
-only_same o p (passed end s is passes front) = absurd (nothing_passes end passes)
+only_same o p h = grind arith
 
 module _ (step : Step) (goes : StepGoes step) (steps : StepsBelow 0 Never ⊥ (inl refl) step step) where
   -- more open calls than turns are as good as any number of them

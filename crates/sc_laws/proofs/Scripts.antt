@@ -8,7 +8,7 @@ use Rattle.sc_laws.proofs.Common.{action_of, acts, and_from, and_parts, and_then
 use Rattle.sc_laws.proofs.Common.{count_of, drop, eq-eqb, eqb-true, false, false≢true, first_state, function}
 use Rattle.sc_laws.proofs.Common.{if◌then◌else◌, imports, is_allowed, is_legal_from, is_number, is_some, is_word, leads}
 use Rattle.sc_laws.proofs.Common.{legal, length-map, list_all, map, may_call, may_perform, part, performer, performs}
-use Rattle.sc_laws.proofs.Common.{refl, roles_in, rows_left, run_step, same_Some, scripted_call, scripted_step}
+use Rattle.sc_laws.proofs.Common.{refl, roles_in, rows_left, run_step, scripted_call, scripted_step}
 use Rattle.sc_laws.proofs.Common.{stands_after, stands_behind, subst, suc, sym, takes, tell, then_kept, true, within}
 use Rattle.sc_laws.proofs.Common.{zero, ℕ, ◌++◌, ◌<◌, ◌∙◌, ◌∷◌, ◌≡◌}
 use Rattle.sc_event.specs.declared.event.Event.TheVariants.{Out}
@@ -25,8 +25,7 @@ pub allowed_at : (interfaces : Interfaces) (at : Option Standing) (u : List Even
     (st : Standing) → is_legal_from interfaces at (u ++ e ∷ more) ≡ true → stands_behind at u ≡ Some st →
     is_allowed interfaces st e ≡ true
 allowed_at interfaces None [] e more st l is = absurd (cc)
-allowed_at interfaces (Some a) [] e more st l is = subst (λ x. is_allowed interfaces x e ≡ true) (same_Some a st is)
-    (and_parts (is_allowed interfaces a e) (is_legal_from interfaces _ more) l).0
+allowed_at interfaces (Some a) [] e more st l is = grind (arith, l, is)
 allowed_at interfaces None (x ∷ u) e more st l is = absurd (false≢true l)
 allowed_at interfaces (Some a) (x ∷ u) e more st l is = allowed_at interfaces _ u e more st (and_parts _ _ l).1 is
 
@@ -186,10 +185,7 @@ module _ (library : Library) (leads_on : ExportsLead library) (trace : List Even
         by : (b : Bool) → may_call library here.comp target args ≡ b → Kept (Kind (suc n) st) (and_then (if b then
             (if b then called library body here.comp target args s else Stopped (Blamed here.comp BadType 0) s) else
             Stopped TurnsOut s) k)
-        by true may = go may
-        by false may = record {
-          after = λ e more along_trace. absurd (false≢true (sym may ∙ well (asked action its e more along_trace)));
-        }
+        by b may = grind (arith, go, well, asked action its)
 
       acts_along : (action : Action) → row.action ≡ action → Kept (Kind (suc n) st)
           (acts library body action (performs library body rest number here) (body number here) here.comp s)
@@ -205,14 +201,7 @@ module _ (library : Library) (leads_on : ExportsLead library) (trace : List Even
       acts_along (act.End w) its = record { after = at }
 
       row_along : Kept (Kind (suc n) st) (performs library body (row ∷ rest) number here s)
-      row_along = by (is_number number (library.entered _ _)) refl where
-        by : (b : Bool) → is_number number (library.entered here.comp row.entry) ≡ b →
-            Kept (Kind (suc n) st) (if b then acts library body row.action (performs library body rest number here)
-            (body number here) here.comp s else Stopped TurnsOut s)
-        by true named = acts_along _ refl
-        by false named = record {
-          after = λ e more along_trace. (let own = names e more along_trace in absurd (false≢true (sym named ∙ own)));
-        }
+      row_along = grind (arith, acts_along row.action refl, names)
 
     performs_along : (rows : List Row) (number : ℕ) (here : Here) (s : State) (st : Standing) →
         rows ≡ rows_left roles here.comp s.trace → here.comp ≡ st.active.comp →

@@ -1,8 +1,7 @@
 -- A run that is out of turns has none left, where all functions that are called are there.
 use Rattle.sc_laws.proofs.Common.{Blamed, Ended, EventsOut, Kept, Library, List, Main, Memory, Obedient, Option, Piece}
-use Rattle.sc_laws.proofs.Common.{Property, Reached, RunEnd, SpendsTurns, State, Stopped, StopsSpent, TurnsOut, Value}
-use Rattle.sc_laws.proofs.Common.{arith, first_state, leads, main_call, refl, run_step, run_to, subst, suc, true}
-use Rattle.sc_laws.proofs.Common.{within, zero, ℕ, ◌<◌, ◌≡◌}
+use Rattle.sc_laws.proofs.Common.{Property, RunEnd, SpendsTurns, State, StopsSpent, TurnsOut, Value, arith, first_state}
+use Rattle.sc_laws.proofs.Common.{leads, main_call, refl, run_step, run_to, subst, suc, true, within, zero, ℕ, ◌<◌, ◌≡◌}
 use Rattle.sc_laws.proofs.Growing.{within_goes}
 use Rattle.sc_laws.proofs.Matching.{run_goes_on}
 use Rattle.sc_laws.proofs.Keeping.{Walk, place, BodyWalks, main_walks, run_step_walks, led_somewhere, led_there}
@@ -63,9 +62,7 @@ module _ (library : Library) where
     stops : (globals : Memory) (inputs : List ℕ) (turns : ℕ) (o : Piece (Option Value)) →
         main_call library globals inputs turns ≡ o → Kept (spending (suc turns)) o →
         (run_to main o).behaviour.end ≡ TurnsOut → StopsSpent library globals inputs turns
-    stops globals inputs turns (Stopped TurnsOut s) is h ends = record { state = s; stopped = is; spent = h.after }
-    stops globals inputs turns (Reached v s) is h ends = absurd (cc)
-    stops globals inputs turns (Stopped _ s) is h ends = absurd (cc)
+    stops globals inputs turns end is h ends = grind (arith, is, h)
 
     pub spends_turns : SpendsTurns library
     spends_turns = record {

@@ -1,10 +1,8 @@
 -- Two runs side by side: which relations of them the words of the meaning keep.
-use Rattle.sc_laws.proofs.Common.{Bool, true, false, if◌then◌else◌, Blamed, Blocks, CallTarget, Calls, Cause, Cross}
-use Rattle.sc_laws.proofs.Common.{Entry, Export, Function, Goes, Gone, Grown, Here, Input, Library, List, Meets, None}
-use Rattle.sc_laws.proofs.Common.{Option, Output, Own, Piece, Reached, Result, Some, State, Stopped, Value, and_then}
-use Rattle.sc_laws.proofs.Common.{ap, computed, function, imports, is_function, is_input, is_output, is_some, is_word}
-use Rattle.sc_laws.proofs.Common.{leads, length, list_all, may_call, refl, takes, turn, with_blocks, ℕ, ◌&&◌, ◌<◌, ◌==◌}
-use Rattle.sc_laws.proofs.Common.{◌∙◌, ◌≡◌}
+use Rattle.sc_laws.proofs.Common.{Bool, true, false, if◌then◌else◌, Blamed, Blocks, CallTarget, Calls, Cause, Entry}
+use Rattle.sc_laws.proofs.Common.{Function, Goes, Gone, Grown, Here, Library, List, Meets, Option, Piece, Reached}
+use Rattle.sc_laws.proofs.Common.{Result, State, Stopped, Value, and_then, computed, function, may_call, turn}
+use Rattle.sc_laws.proofs.Common.{with_blocks, ℕ, ◌<◌, arith, ◌≡◌}
 use Rattle.sc_laws.proofs.Growing.{then_goes}
 use Rattle.sc_laws.proofs.Expressions.{Keeps}
 
@@ -61,26 +59,6 @@ module _ (P : State → State → Type 0) (R : (V : Type 0) → Piece V → Piec
 abbrev pub Anywhere : Here → Type 0
 Anywhere here = Unit {0}
 
--- where entries lead to the same functions, the same calls may be made
-module _ (L M : Library) (interfaces : M.interfaces ≡ L.interfaces)
-    (entered : (comp : ℕ) (entry : Entry) → M.entered comp entry ≡ L.entered comp entry)
-    (there : (comp number : ℕ) → is_some (function M comp number) ≡ is_some (function L comp number)) where
-  leads_same : (comp : ℕ) (number : Option ℕ) → leads M comp number ≡ leads L comp number
-  leads_same comp None = refl
-  leads_same comp (Some number) = there comp number
-
-  pub may_call_same : (from : ℕ) (target : CallTarget) (args : List Value) →
-      may_call M from target args ≡ may_call L from target args
-  may_call_same from (Own number) args = there from number
-  may_call_same from (Cross to index) args =
-      ap (λ i. imports i from (is_function to index) && (takes i to index (length args)
-      && (list_all is_word args && leads M to (M.entered to (Export index))))) interfaces
-      ∙ ap (λ b. imports L.interfaces from (is_function to index) && (takes L.interfaces to index (length args)
-      && (list_all is_word args && b))) (ap (leads M to) (entered to _) ∙ leads_same to (L.entered to _))
-  may_call_same from Input args = ap (λ i. imports i from is_input) interfaces
-  may_call_same from Output args =
-      ap (λ i. imports i from is_output && (length args == 1 && list_all is_word args)) interfaces
-
 -- a relation that is kept in these calls
 module _ (P : State → State → Type 0) (R : (V : Type 0) → Piece V → Piece V → Type 0) (Good : Here → Type 0) where
   -- what is called from a compartment
@@ -104,13 +82,7 @@ module _ (P : State → State → Type 0) (R : (V : Type 0) → Piece V → Piec
     pub function_twins : (comp number : ℕ) → Meets FunctionTwins (function L comp number) (function M comp number)
     function_twins = twins.functions
 
-    some_same : (f g : Option Function) → Meets FunctionTwins f g → is_some g ≡ is_some f
-    some_same None None h = refl
-    some_same (Some f) (Some g) h = refl
-    some_same _ _ h = absurd h
-
     -- the same calls may be made
     pub may_same : (from : ℕ) (target : CallTarget) (args : List Value) →
         may_call M from target args ≡ may_call L from target args
-    may_same =
-        may_call_same L M twins.interfaces twins.entered (λ comp number. some_same _ _ (function_twins comp number))
+    may_same = grind arith

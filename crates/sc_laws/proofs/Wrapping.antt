@@ -10,9 +10,7 @@ use Rattle.sc_base.specs.declared.op.BinaryOp.TheVariants as op
 use Rattle.sc_laws.proofs.Expressions.{Keeps, alike, blamed}
 
 fault_passes : (f : WordFault) → IsArithmetic (cause_of f)
-fault_passes fault.Overflow = tt
-fault_passes fault.ZeroDivisor = tt
-fault_passes fault.BadShift = tt
+fault_passes f = grind arith
 
 fault_fits : (f : WordFault) (w : ℕ) → Keeps IsArithmetic ℕ (or_cause (Err f)) (Ok w)
 fault_fits f w = blamed _ (fault_passes f) refl
