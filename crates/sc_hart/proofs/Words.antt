@@ -3,16 +3,16 @@ use Rattle.sc_hart.proofs.Common.{Apart, ImageParts, Memory, None, Owned, Owner,
 use Rattle.sc_hart.proofs.Common.{cases_lt, data_start, eq-eqb, false, image_in_memory, inl, inr, lt-leb, nat_le}
 use Rattle.sc_hart.proofs.Common.{put_word, refl, refused, stack_top, true, word, ℕ, ⊎_elim, ◌%◌, ◌+◌, ◌<◌, ◌^◌, ◌∙◌}
 use Rattle.sc_hart.proofs.Common.{◌≡◌}
-use Rattle.sc_store.proofs.Words.{load_of-stored, load_of-apart}
+use Rattle.sc_store.proofs.Words.{load_stored, load_apart}
 
 pub word_same : (memory : Memory) (a value : ℕ) → value < 2 ^ 32 → word (put_word memory a value) a ≡ value
 unfolding word put_word
 word_same memory a value h =
-    let whole : value % 4294967296 ≡ value = omega arith in load_of-stored memory a 4 value ∙ whole
+    let whole : value % 4294967296 ≡ value = omega arith in load_stored memory a 4 value ∙ whole
 
 pub word_apart : (memory : Memory) (a value b : ℕ) → Apart b a → word (put_word memory a value) b ≡ word memory b
 unfolding word put_word
-word_apart memory a value b h = load_of-apart memory a 4 value b 4 h
+word_apart memory a value b h = load_apart memory a 4 value b 4 h
 
 pub words_are_kept : WordsAreKept
 words_are_kept = record { same = word_same; apart = word_apart }

@@ -37,8 +37,8 @@ front_stored m a n v (suc k) h = ap (λ w. w + unwrap_or (stored m a n v (a + k)
     (front_stored m a n v k (omega arith)) ∙ ap (λ o. v % 256 ^ k + unwrap_or o 0 * 256 ^ k)
     (stored-at m a n v k (omega arith)) ∙ cut_more v k
 
-pub load_of-stored : (m : Memory) (a n v : ℕ) → load_of (stored m a n v) a n ≡ v % 256 ^ n
-load_of-stored m a n v = front_stored m a n v n (omega arith)
+pub load_stored : (m : Memory) (a n v : ℕ) → load_of (stored m a n v) a n ≡ v % 256 ^ n
+load_stored m a n v = front_stored m a n v n (omega arith)
 
 -- two memories with the same bytes there give the same number
 pub load_of-same : (m m' : Memory) (a n : ℕ) → ((k : ℕ) → k < n → m (a + k) ≡ m' (a + k)) →
@@ -48,9 +48,9 @@ load_of-same m m' a (suc n) h =
     ap (λ w. w + unwrap_or (m (a + n)) 0 * 256 ^ n) (load_of-same m m' a n (λ k l. h k (omega arith)))
     ∙ ap (λ o. load_of m' a n + unwrap_or o 0 * 256 ^ n) (h n (omega arith))
 
-pub load_of-apart : (m : Memory) (a n v b j : ℕ) → (b + j ≤ a) ⊎ (a + n ≤ b) →
+pub load_apart : (m : Memory) (a n v b j : ℕ) → (b + j ≤ a) ⊎ (a + n ≤ b) →
     load_of (stored m a n v) b j ≡ load_of m b j
-load_of-apart m a n v b j h =
+load_apart m a n v b j h =
     load_of-same (stored m a n v) m b j (λ k l. stored-apart m a n v _ (λ p q. omega (arith, h)))
 
 pub address_kept : (m : Memory) (a n v b : ℕ) → HasBytes m a n → is_some (stored m a n v b) ≡ is_some (m b)

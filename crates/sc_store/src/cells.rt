@@ -95,6 +95,7 @@ impl Cells {
     }
 
     // The same on a page that isn't taken. It stays so where all bytes are 0.
+    #[tactic(auto, using(crate::proofs::OnPages::zeros_unwritten))]
     #[inline(never)]
     fn write_untaken(&mut self, at: usize, bytes: &[u8])
         requires free { IsNone (slice_index_or self.old.table.items (at / 4096) None) }

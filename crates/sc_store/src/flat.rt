@@ -47,6 +47,7 @@ impl FlatStore {
     }
 
     // Whether the part at a place has all these addresses.
+    #[tactic(auto, using(crate::proofs::Parts::first_spans))]
     #[inline(always)]
     fn part_spans(&self, number: usize, at: u32, size: usize) -> bool
         requires some { 0 < size }
@@ -188,6 +189,7 @@ impl Store for FlatStore {
         }
     }
 
+    #[tactic(auto, using(crate::proofs::Parts::has_found))]
     fn has(&self, at: u32) -> bool {
         self.find(at, 1).is_some()
     }

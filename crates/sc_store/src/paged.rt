@@ -92,6 +92,7 @@ impl PagedStore {
     }
 
     // The area of this number, or one without addresses where there is none.
+    #[tactic(auto, using(crate::proofs::Places::focus_at, crate::proofs::Places::focus_empty))]
     fn area(&self, number: usize) -> Area
         ensures { IsFocus result self.now.areas.items }
     {
@@ -233,6 +234,7 @@ impl Store for PagedStore {
         }
     }
 
+    #[tactic(auto, using(crate::proofs::Places::has_place))]
     fn has(&self, at: u32) -> bool {
         self.place(at, 1).is_some()
     }
