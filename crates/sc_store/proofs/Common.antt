@@ -1,5 +1,5 @@
 -- The names that several proofs of this crate cite, passed on from one place. Declares nothing.
-pub use Rattle.std.proofs.Common.{Bool, IfSome, IsNone, IsSome, IsTrue, List, None, OnSome, Option, Some, [], ap, arith}
+pub use Rattle.std.proofs.Common.{Bool, IfSome, IsNone, IsSome, List, None, OnSome, Option, Some, [], ap, arith}
 pub use Rattle.std.proofs.Common.{cond, count_by, drop, false, get_or, get_or-drop, get_or-set_other, get_or-set_same}
 pub use Rattle.std.proofs.Common.{get_or-take, inl, inr, is_none, is_some, length, length-append, length-drop}
 pub use Rattle.std.proofs.Common.{length-set, length-take-le, lt-ltb, map, nat_le, nat_lt, not, refl, replicate, set}
