@@ -44,6 +44,7 @@ impl Row {
         }
     }
 
+    #[tactic(auto, using(crate::proofs::Laying::length_laid))]
     pub fn len(&self) -> usize
         ensures { result ≡ length self.now }
     {

@@ -98,6 +98,7 @@ fn zeros_of(alloc: Global, zeros: &[Items<Cell>], ty: Ty) -> Result<Items<Cell>,
     }
 }
 
+#[tactic(auto, using(crate::proofs::Making::member_more))]
 fn member_zeros(
     alloc: Global,
     zeros: &[Items<Cell>],

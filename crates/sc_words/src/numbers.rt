@@ -20,6 +20,7 @@ pub(crate) fn read_number(text: &str, low: u32, high: u32) -> Option<u32>
     }
 }
 
+#[tactic(auto, using(crate::proofs::Digits::digits_read))]
 fn read_digits(text: &str) -> Option<u32>
     ensures { result ≡ number_within 0 4294967295 text.now }
 {
@@ -36,6 +37,7 @@ fn has_plus(text: &str) -> bool
     text.starts_with('+')
 }
 
+#[tactic(auto, using(crate::proofs::Digits::integer_read))]
 fn read_integer(text: &str) -> Option<i32>
     ensures { result ≡ integer text.now }
 {
@@ -67,6 +69,7 @@ pub(crate) fn read_list(alloc: Global, text: &str) -> Result<Items<i32>, WordsFa
 }
 
 // What stands before the first comma, and what stands behind it, if there is one.
+#[tactic(auto, using(crate::proofs::Digits::no_comma))]
 fn first_piece(text: &str) -> (&str, Option<&str>)
     ensures piece { result.0.now ≡ first_piece text.now }
     ensures behind { option_map (λ rest. rest.now) result.1 ≡ pieces_behind text.now }
