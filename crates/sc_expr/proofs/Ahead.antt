@@ -36,6 +36,10 @@ pub glued : {A : Type 0} {ts us : List A} (rest first second : List A) → ts �
     ts ≡ (first ++ second) ++ rest
 glued rest first second p q = p ∙ ap (λ l. first ++ l) q ∙ sym (append_assoc first second rest)
 
+-- what goes on at the front is of this level or a looser one
+abbrev pub Onward : ℕ → List Lexeme → Type 0
+Onward level rest = (ext : Extension) → extension_at rest ≡ Some ext → level ≤ extension_level ext
+
 -- every operator between operands is looser than the prefix operators
 pub operator_low : (op : BinaryOp) → 2 ≤ level_of op
 operator_low binary.Mul = omega arith

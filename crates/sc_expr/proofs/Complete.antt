@@ -9,16 +9,12 @@ use Rattle.sc_expr.proofs.Common.{◌-◌, ◌<◌, ◌∙◌, ◌∷◌, ◌≡
 use Rattle.sc_expr.specs.declared.mark.Mark.TheVariants as mark
 use Rattle.sc_expr.specs.declared.lexeme.Symbol.TheVariants as symbol
 use Rattle.sc_expr.specs.declared.parser.Lead.TheVariants as lead
-use Rattle.sc_expr.proofs.Ahead.{same_some, no_unary, mark_operator}
+use Rattle.sc_expr.proofs.Ahead.{Onward, same_some, no_unary, mark_operator}
 use Rattle.sc_expr.proofs.Heights.{literal_height, variable_height, prefixed_height, joined_height, index_height}
 use Rattle.sc_expr.proofs.Heights.{member_height, arrow_height, positive}
 use Rattle.sc_expr.proofs.Balance.{Opens, Closes, says, plain_binary, plain_prefix, open_low, most_behind}
 use Rattle.sc_expr.proofs.Balance.{most_bracketed, most_plain}
 use Rattle.sc_expr.proofs.Steps.{read_goes, nested_at, turns_on, turns_end}
-
--- what goes on at the front is of this level or a looser one
-abbrev pub Onward : ℕ → List Lexeme → Type 0
-Onward level rest = (ext : Extension) → extension_at rest ≡ Some ext → level ≤ extension_level ext
 
 quiet_by : (level : ℕ) (us : List Lexeme) (o : Option Extension) →
     ((ext : Extension) → o ≡ Some ext → level < extension_level ext) → within level us o ≡ None
