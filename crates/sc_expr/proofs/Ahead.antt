@@ -1,10 +1,10 @@
 -- What an answer that is there came from, and what stands at the front, where reading says so.
-use Rattle.sc_expr.proofs.Common.{BinaryOp, Bool, Extension, IsIdent, IsMark, Lead, Lexeme, List, Mark, None, Option}
-use Rattle.sc_expr.proofs.Common.{Prefix, Some, Symbol, [], ap, append_assoc, arith, behind, binary_of, cases_lt, cond}
+use Rattle.sc_expr.proofs.Common.{BinaryOp, Bool, Extension, IsIdent, IsMark, Lexeme, List, Mark, None, Option, Prefix}
+use Rattle.sc_expr.proofs.Common.{Some, Symbol, [], ap, append_assoc, arith, behind, binary_of, cases_lt, cond}
 use Rattle.sc_expr.proofs.Common.{cond_some, extension_at, extension_by, extension_level, extension_of}
 use Rattle.sc_expr.proofs.Common.{extension_within, false, is_mark, le-leb, lead_by, lead_of, leb-true, level_of}
-use Rattle.sc_expr.proofs.Common.{name_at, name_by, none-some, option_map, prefix_of, refl, rules, subst, sym, true}
-use Rattle.sc_expr.proofs.Common.{within, ℕ, ⊎_elim, ◌++◌, ◌<◌, ◌>>=◌, ◌∙◌, ◌∷◌, ◌≡◌, ◌≤◌}
+use Rattle.sc_expr.proofs.Common.{name_at, name_by, none-some, prefix_of, refl, rules, subst, sym, true, within, ℕ}
+use Rattle.sc_expr.proofs.Common.{⊎_elim, ◌++◌, ◌<◌, ◌>>=◌, ◌∙◌, ◌∷◌, ◌≡◌, ◌≤◌}
 use Rattle.sc_base.specs.declared.op.BinaryOp.TheVariants as binary
 use Rattle.sc_expr.specs.contracts.mark.Mark.{the_type}
 use denote.Enum.Bare.{same_true}
@@ -52,21 +52,13 @@ no_unary extension.Index h = absurd (omega arith)
 no_unary extension.Member h = absurd (omega arith)
 no_unary extension.Arrow h = absurd (omega arith)
 
-abbrev operator_in : Option Extension → Option BinaryOp
-operator_in (Some (extension.Operator op)) = Some op
-operator_in _ = None
-
 pub operator_mark : (m : Mark) (op : BinaryOp) → extension_of m ≡ Some (extension.Operator op) → binary_of m ≡ Some op
-operator_mark mark.OpenSquare op h = absurd (none-some op (ap operator_in h))
-operator_mark mark.Dot op h = absurd (none-some op (ap operator_in h))
-operator_mark mark.Arrow op h = absurd (none-some op (ap operator_in h))
-operator_mark _ op h = ap operator_in h
+operator_mark mark.Dot op h = absurd cc
+operator_mark _ op h = cc
 
 pub mark_operator : (m : Mark) (op : BinaryOp) → binary_of m ≡ Some op → extension_of m ≡ Some (extension.Operator op)
-mark_operator mark.OpenSquare op h = absurd (none-some op h)
-mark_operator mark.Dot op h = absurd (none-some op h)
-mark_operator mark.Arrow op h = absurd (none-some op h)
-mark_operator _ op h = ap (λ o. option_map (λ x. extension.Operator x) o) h
+mark_operator mark.Dot op h = absurd cc
+mark_operator _ op h = cc
 
 -- the mark of an extension that is no operator
 abbrev pub tight_mark : Extension → Option Mark
@@ -152,21 +144,13 @@ name_ahead (t ∷ ts) us name h =
     let same = same_some b.2 in
     (t, ap (λ x. t ∷ x.1) same, named _ name (b.1 ∙ ap (λ x. Some x.0) same))
 
-abbrev paren_in : Option Lead → Option ℕ
-paren_in (Some lead.Paren) = Some 0
-paren_in _ = None
-
-abbrev prefix_in : Option Lead → Option Prefix
-prefix_in (Some (lead.Prefix p)) = Some p
-prefix_in _ = None
-
 paren_by : (m : Mark) → lead_by m ≡ Some lead.Paren → m ≡ mark.OpenParen
 paren_by mark.OpenParen h = refl
-paren_by _ h = absurd (none-some 0 (ap paren_in h))
+paren_by _ h = absurd cc
 
 prefix_by : (m : Mark) (p : Prefix) → lead_by m ≡ Some (lead.Prefix p) → prefix_of m ≡ Some p
-prefix_by mark.OpenParen p h = absurd (none-some p (ap prefix_in h))
-prefix_by _ p h = ap prefix_in h
+prefix_by mark.OpenParen p h = absurd cc
+prefix_by _ p h = cc
 
 pub paren_lead : (s : Symbol) → lead_of s ≡ Some lead.Paren → s ≡ symbol.Mark mark.OpenParen
 paren_lead (symbol.Mark m) h = ap (λ x. symbol.Mark x) (paren_by m h)
