@@ -1,11 +1,11 @@
 -- What is spelled within the limits is read.
 use Rattle.sc_expr.proofs.Common.{ExprTree, Extension, IsMark, Lexeme, List, Mark, None, Option, Prefix, Some, Spells}
-use Rattle.sc_expr.proofs.Common.{[], ap, append_assoc, arith, arrow, cond, expr_height, extended_with, extension_at}
-use Rattle.sc_expr.proofs.Common.{extension_by, extension_level, extension_of, extension_within, found, go_on, index}
-use Rattle.sc_expr.proofs.Common.{joined, joined_with, le-leb, lead_by, level_of, literal, looser, lt-leb, member}
-use Rattle.sc_expr.proofs.Common.{most_open, none-some, operand_with, option_map, parenthesised, prefix_of, read}
-use Rattle.sc_expr.proofs.Common.{read_nested, refl, subst, suc, sym, variable, within, zero, «prefix», ℕ, ◌++◌, ◌+◌}
-use Rattle.sc_expr.proofs.Common.{◌-◌, ◌<◌, ◌∙◌, ◌∷◌, ◌≡◌, ◌≤◌}
+use Rattle.sc_expr.proofs.Common.{[], ap, append_assoc, arith, arrow, cond, expr_height, extended_with, extension_by}
+use Rattle.sc_expr.proofs.Common.{extension_level, extension_of, extension_within, found, go_on, index, joined}
+use Rattle.sc_expr.proofs.Common.{joined_with, le-leb, lead_by, level_of, literal, looser, lt-leb, member, most_open}
+use Rattle.sc_expr.proofs.Common.{none-some, operand_with, option_map, parenthesised, prefix_of, read, read_nested}
+use Rattle.sc_expr.proofs.Common.{refl, subst, suc, sym, variable, within, zero, «prefix», ℕ, ◌++◌, ◌+◌, ◌-◌, ◌<◌, ◌∙◌}
+use Rattle.sc_expr.proofs.Common.{◌∷◌, ◌≡◌, ◌≤◌}
 use Rattle.sc_expr.specs.declared.mark.Mark.TheVariants as mark
 use Rattle.sc_expr.specs.declared.lexeme.Symbol.TheVariants as symbol
 use Rattle.sc_expr.specs.declared.parser.Lead.TheVariants as lead
@@ -52,9 +52,9 @@ Takes c ts e = (free room level n : ℕ) (rest : List Lexeme) → c ≤ level �
     most_open n ts ≤ n + free → Onward (suc level) rest →
     read free room level (ts ++ rest) ≡ Some (found e (expr_height e) rest)
 
-takes : (c : ℕ) (ts : List Lexeme) (e : ExprTree) → 1 ≤ expr_height e → GoesOn c ts e → Takes c ts e
-takes c ts e some on free zero level n rest inside low few may = absurd (omega arith)
-takes c ts e some on free (suc room) level n rest inside low few may =
+takes : {c : ℕ} {ts : List Lexeme} {e : ExprTree} → Spells c ts e → GoesOn c ts e → Takes c ts e
+takes d on free zero level n rest inside low few may = let some = positive d in absurd (omega arith)
+takes d on free (suc room) level n rest inside low few may =
     let g = on free room level n rest inside low few (λ ext at. omega (arith, may ext at)) in
     g.reads ∙ turns_end _ _ room level g.turns _ (omega (arith, g.enough)) (quiet level rest may)
 
@@ -68,21 +68,28 @@ module _ {free room level : ℕ} where
     reads = read_goes free _ room level _ _ _ next refl operand;
   }
 
-  -- one turn more, to an expression that is higher
-  from_turn : {all ts rest : List Lexeme} {e f : ExprTree} {m : Mark} {ext : Extension} (t : Lexeme) → IsMark m t →
-      extension_of m ≡ Some ext → extension_level ext ≤ level → Arrives free room level all e (t ∷ ts) →
-      expr_height e < expr_height f → expr_height f ≤ suc room →
-      joined_with (read_nested free) (read free room) room e (expr_height e) ext ts ≡
-      Some (found f (expr_height f) rest) → Arrives free room level all f rest
+  -- one turn more, to a higher expression, with a mark and more behind
+  from_turn : {c : ℕ} {ts rest : List Lexeme} {e f : ExprTree} {m : Mark} {ext : Extension} (n : ℕ) (t : Lexeme)
+      (more : List Lexeme) → IsMark m t → extension_of m ≡ Some ext → extension_level ext ≡ c → Spells c ts e → GoesOn c
+      ts e → c ≤ level → expr_height e < expr_height f → expr_height f ≤ suc room → most_open n (ts ++ t ∷ more) ≤ n +
+      free → (most_open n (t ∷ more) ≤ n + free → joined_with (read_nested free) (read free room) room e (expr_height e)
+      ext (more ++ rest) ≡ Some (found f (expr_height f) rest)) → Arrives free room level ((ts ++ t ∷ more) ++ rest) f
+      rest
   unfolding extended_with
-  from_turn {ts = ts} {rest = rest} {e = e} {f = f} {ext = ext} t is of tight g more low grows =
+  from_turn {c = c} {rest = rest} {e = e} {f = f} {ext = ext} n t more is of same d on tight higher low few grows =
+      let most = most_behind n (t ∷ more) d in
+      let next : extension_by t.symbol ≡ Some ext = ap extension_by is ∙ of in
+      let g = on free room level n (t ∷ (more ++ rest)) tight (omega arith) (omega arith)
+      (λ other at. subst (λ x. c ≤ extension_level x) (same_some (sym next ∙ at)) (omega arith)) in
       let one : g.turns ≡ g.turns - 1 + 1 = omega (arith, g.enough) in
-      let within_level = le-leb (extension_level ext) level tight in
-      let fits = le-leb (expr_height e) room (omega arith) in record {
+      let within_level = le-leb (extension_level ext) level (omega arith) in
+      let fits = le-leb (expr_height e) room (omega arith) in
+      let grown = grows (omega arith) in record {
         turns = g.turns - 1;
         enough = omega (arith, g.enough);
-        reads = g.reads ∙ turns_on _ _ room level g.turns _ (found e (expr_height e) (t ∷ ts))
-            (found f (expr_height f) rest) ext ts one (rw (is, of, within_level)) (rw (fits, grows));
+        reads = rw append_assoc (g.reads ∙ turns_on _ _ room level g.turns _
+            (found e (expr_height e) (t ∷ (more ++ rest))) (found f (expr_height f) rest) ext (more ++ rest) one
+            (rw (next, within_level)) (rw (fits, grown)));
       }
 
 -- what stands in a bracket is read there
@@ -93,7 +100,7 @@ bracketed : (free room n : ℕ) (us rest : List Lexeme) (e : ExprTree) (t u : Le
 bracketed free room n us rest e t u m opens closes is none d on low few =
     let most = most_bracketed n t u [] opens closes d in
     let opened = open_low (n + 1) us in
-    nested_at free (free - 1) room 11 _ (omega arith) ∙ takes 11 us e (positive d) on (free - 1) room 11 (n + 1) _
+    nested_at free (free - 1) room 11 _ (omega arith) ∙ takes d on (free - 1) room 11 (n + 1) _
     (omega arith) low (omega arith) (closing u rest m 12 is none)
 
 -- Reading arrives at all that is spelled.
@@ -109,50 +116,35 @@ goes (parenthesised {ts = ts} {e = e} t u is closes d) free room level n rest in
     let inner = bracketed free (room + 1) n ts rest e t u _ (says t (symbol.Mark _) is) (says u (symbol.Mark _) closes)
     closes refl d (goes d) (omega arith) few in
     rw append_assoc (from_operand (positive d) (rw (is, inner, closes)))
-goes (index {ts = ts} {us = us} {e = e} {f = f} t u is closes d g) free room level n rest inside low few may =
+goes (index {us = us} {e = e} {f = f} t u is closes d g) free room level n rest inside low few may =
     let height = index_height e f in
-    let most = most_behind n (t ∷ (us ++ u ∷ [])) d in
+    from_turn n t _ is refl refl d (goes d) (omega arith) (omega arith) low few (λ less.
     let inner = bracketed free room n us rest f t u _ (says t (symbol.Mark _) is) (says u (symbol.Mark _) closes)
-    closes refl g (goes g) (omega arith) (omega arith) in
-    let base = goes d free room level n (t ∷ (us ++ u ∷ rest)) (omega arith) (omega arith) (omega arith)
-    (λ ext at. omega arith) in
-    rw (append_assoc, append_assoc) (from_turn t is refl (omega arith) base (omega arith) low
-    (rw (inner, closes, height)))
+    closes refl g (goes g) (omega arith) less in
+    rw (append_assoc, inner, closes, height))
 goes (member {e = e} t u name dot is d) free room level n rest inside low few may =
     let height = member_height e name in
-    let most = most_behind n (t ∷ u ∷ []) d in
-    let base = goes d free room level n (t ∷ u ∷ rest) (omega arith) (omega arith) (omega arith)
-    (λ ext at. omega arith) in
-    rw append_assoc (from_turn t dot refl (omega arith) base (omega arith) low (rw (is, height)))
+    from_turn n t _ dot refl refl d (goes d) (omega arith) (omega arith) low few (λ less. rw (is, height))
 goes (arrow {e = e} t u name points is d) free room level n rest inside low few may =
     let height = arrow_height e name in
-    let most = most_behind n (t ∷ u ∷ []) d in
-    let base = goes d free room level n (t ∷ u ∷ rest) (omega arith) (omega arith) (omega arith)
-    (λ ext at. omega arith) in
-    rw append_assoc (from_turn t points refl (omega arith) base (omega arith) low (rw (is, height)))
+    from_turn n t _ points refl refl d (goes d) (omega arith) (omega arith) low few (λ less. rw (is, height))
 goes («prefix» {ts = ts} {e = e} t m p is of d) free room level n rest inside low few may =
     let height = prefixed_height p e in
     let most = most_plain n t ts (plain_prefix t m p is of) in
     let leads = prefix_leads m p of in
-    let inner = takes 1 ts e (positive d) (goes d) free room 1 n rest (omega arith) (omega arith) (omega arith)
+    let inner = takes d (goes d) free room 1 n rest (omega arith) (omega arith) (omega arith)
     (λ ext at. no_unary ext (may ext at)) in
     from_operand (omega arith) (rw (is, leads, inner, height))
-goes (joined {level = tight} {ts = ts} {us = us} {e = e} {f = f} t m op is of at d g) free room level n rest inside
-    low few may =
+goes (joined {level = tight} {us = us} {e = e} {f = f} t m op is of at d g) free room level n rest inside low few may =
     let height = joined_height op e f in
-    let most = most_behind n (t ∷ us) d in
-    let most_right = most_plain n t us (plain_binary t m op is of) in
-    let next : extension_at (t ∷ (us ++ rest)) ≡ Some _ = ap extension_by is ∙ mark_operator m op of in
-    let base = goes d free room level n (t ∷ (us ++ rest)) inside (omega arith) (omega arith)
-    (λ ext there. subst (λ x. suc tight ≤ extension_level x) (same_some (sym next ∙ there)) (omega arith)) in
-    let right = takes tight us f (positive g) (goes g) free room tight n rest (omega arith) (omega arith)
-    (omega arith) may in
-    let less : level_of op - 1 ≡ tight = omega arith in
-    rw append_assoc (from_turn t is (mark_operator m op of) (omega arith) base (omega arith) low
-    (rw (less, right, height)))
+    from_turn n t _ is (mark_operator m op of) at d (goes d) inside (omega arith) low few (λ less.
+    let most = most_plain n t us (plain_binary t m op is of) in
+    let right = takes g (goes g) free room tight n rest (omega arith) (omega arith) (omega arith) may in
+    let tighter : level_of op - 1 ≡ tight = omega arith in
+    rw (tighter, right, height))
 goes (looser d) free room level n rest inside low few may =
     goes d free room level n rest (omega arith) low few (λ ext at. omega (arith, may ext at))
 
 -- what is spelled within the limits is read, where nothing of the level goes on behind it
 pub reads_all : {c : ℕ} {ts : List Lexeme} {e : ExprTree} (d : Spells c ts e) → Takes c ts e
-reads_all {c = c} {ts = ts} {e = e} d = takes c ts e (positive d) (goes d)
+reads_all d = takes d (goes d)
