@@ -2,9 +2,9 @@
 use Rattle.sc_expr.proofs.Common.{BinaryOp, Bool, Extension, IsIdent, IsMark, Lexeme, List, Mark, None, Option, Prefix}
 use Rattle.sc_expr.proofs.Common.{Some, Symbol, [], ap, append_assoc, arith, behind, binary_of, cases_lt, cond}
 use Rattle.sc_expr.proofs.Common.{cond_some, extension_at, extension_by, extension_level, extension_of}
-use Rattle.sc_expr.proofs.Common.{extension_within, false, is_mark, le-leb, lead_by, lead_of, leb-true, level_of}
-use Rattle.sc_expr.proofs.Common.{name_at, name_by, none-some, prefix_of, refl, rules, subst, sym, true, within, ℕ}
-use Rattle.sc_expr.proofs.Common.{⊎_elim, ◌++◌, ◌<◌, ◌>>=◌, ◌∙◌, ◌∷◌, ◌≡◌, ◌≤◌}
+use Rattle.sc_expr.proofs.Common.{extension_within, false, is_mark, le-leb, lead_of, leb-true, level_of, name_at}
+use Rattle.sc_expr.proofs.Common.{name_by, none-some, prefix_of, refl, rules, subst, sym, true, within, ℕ, ⊎_elim, ◌++◌}
+use Rattle.sc_expr.proofs.Common.{◌<◌, ◌>>=◌, ◌∙◌, ◌∷◌, ◌≡◌, ◌≤◌}
 use Rattle.sc_base.specs.declared.op.BinaryOp.TheVariants as binary
 use Rattle.sc_expr.specs.contracts.mark.Mark.{the_type}
 use denote.Enum.Bare.{same_true}
@@ -48,9 +48,7 @@ operator_low _ = omega arith
 -- none of what goes on behind an expression has the level of the prefix operators
 pub no_unary : (ext : Extension) → 1 ≤ extension_level ext → 2 ≤ extension_level ext
 no_unary (extension.Operator op) h = operator_low op
-no_unary extension.Index h = absurd (omega arith)
-no_unary extension.Member h = absurd (omega arith)
-no_unary extension.Arrow h = absurd (omega arith)
+no_unary _ h = absurd (omega arith)
 
 pub operator_mark : (m : Mark) (op : BinaryOp) → extension_of m ≡ Some (extension.Operator op) → binary_of m ≡ Some op
 operator_mark mark.Dot op h = absurd cc
@@ -144,19 +142,12 @@ name_ahead (t ∷ ts) us name h =
     let same = same_some b.2 in
     (t, ap (λ x. t ∷ x.1) same, named _ name (b.1 ∙ ap (λ x. Some x.0) same))
 
-paren_by : (m : Mark) → lead_by m ≡ Some lead.Paren → m ≡ mark.OpenParen
-paren_by mark.OpenParen h = refl
-paren_by _ h = absurd cc
-
-prefix_by : (m : Mark) (p : Prefix) → lead_by m ≡ Some (lead.Prefix p) → prefix_of m ≡ Some p
-prefix_by mark.OpenParen p h = absurd cc
-prefix_by _ p h = cc
-
 pub paren_lead : (s : Symbol) → lead_of s ≡ Some lead.Paren → s ≡ symbol.Mark mark.OpenParen
-paren_lead (symbol.Mark m) h = ap (λ x. symbol.Mark x) (paren_by m h)
-paren_lead _ h = absurd (none-some _ h)
+paren_lead (symbol.Mark mark.OpenParen) h = refl
+paren_lead _ h = absurd cc
 
 pub prefix_lead : (s : Symbol) (p : Prefix) → lead_of s ≡ Some (lead.Prefix p) →
     (m : Mark) × (s ≡ symbol.Mark m) × (prefix_of m ≡ Some p)
-prefix_lead (symbol.Mark m) p h = (m, refl, prefix_by m p h)
-prefix_lead _ p h = absurd (none-some _ h)
+prefix_lead (symbol.Mark mark.OpenParen) p h = absurd cc
+prefix_lead (symbol.Mark m) p h = (m, refl, cc)
+prefix_lead _ p h = absurd cc

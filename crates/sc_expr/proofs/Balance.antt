@@ -1,8 +1,7 @@
 -- Brackets along lexemes that spell an expression: behind them as many are open as before.
-use Rattle.sc_expr.proofs.Common.{BinaryOp, ExprTree, Lexeme, List, Mark, None, Option, Prefix, Some, Spells, Symbol}
-use Rattle.sc_expr.proofs.Common.{[], ap, arith, arrow, binary_of, index, joined, literal, looser, max, member}
-use Rattle.sc_expr.proofs.Common.{most_open, none-some, open_after, open_behind, parenthesised, prefix_of, refl, sym}
-use Rattle.sc_expr.proofs.Common.{variable, «prefix», ℕ, ◌++◌, ◌+◌, ◌-◌, ◌∙◌, ◌∷◌, ◌≡◌, ◌≤◌}
+use Rattle.sc_expr.proofs.Common.{BinaryOp, ExprTree, Lexeme, List, Mark, Prefix, Some, Spells, Symbol, [], ap, arith}
+use Rattle.sc_expr.proofs.Common.{arrow, binary_of, index, joined, literal, looser, max, member, most_open, open_after}
+use Rattle.sc_expr.proofs.Common.{parenthesised, prefix_of, refl, variable, «prefix», ℕ, ◌++◌, ◌+◌, ◌-◌, ◌∷◌, ◌≡◌, ◌≤◌}
 use Rattle.sc_expr.specs.declared.mark.Mark.TheVariants as mark
 use Rattle.sc_expr.specs.declared.lexeme.Symbol.TheVariants as symbol
 
@@ -24,24 +23,15 @@ Closes t = (n : ℕ) → open_after t.symbol n ≡ n - 1
 pub says : (t : Lexeme) (s : Symbol) → t.symbol ≡ s → (n : ℕ) → open_after t.symbol n ≡ open_after s n
 says t s is n = ap (λ x. open_after x n) is
 
--- what is there for no bracket
-no_bracket : {A : Type 0} (f : Mark → Option A) → f mark.OpenParen ≡ None → f mark.OpenSquare ≡ None →
-    f mark.OpenCurly ≡ None → f mark.CloseParen ≡ None → f mark.CloseSquare ≡ None → f mark.CloseCurly ≡ None →
-    (m : Mark) (x : A) (n : ℕ) → f m ≡ Some x → open_behind m n ≡ n
-no_bracket f a b c d e g mark.OpenParen x n h = absurd (none-some x (sym a ∙ h))
-no_bracket f a b c d e g mark.OpenSquare x n h = absurd (none-some x (sym b ∙ h))
-no_bracket f a b c d e g mark.OpenCurly x n h = absurd (none-some x (sym c ∙ h))
-no_bracket f a b c d e g mark.CloseParen x n h = absurd (none-some x (sym d ∙ h))
-no_bracket f a b c d e g mark.CloseSquare x n h = absurd (none-some x (sym e ∙ h))
-no_bracket f a b c d e g mark.CloseCurly x n h = absurd (none-some x (sym g ∙ h))
-no_bracket f a b c d e g _ x n h = refl
-
+-- no operator is a bracket
 pub plain_binary : (t : Lexeme) (m : Mark) (op : BinaryOp) → t.symbol ≡ symbol.Mark m → binary_of m ≡ Some op →
     IsPlain t
-plain_binary t m op is of n = says t _ is n ∙ no_bracket binary_of refl refl refl refl refl refl m op n of
+plain_binary t mark.Plus op is of n = rw is
+plain_binary t _ op is of n = rw is (cc)
 
 pub plain_prefix : (t : Lexeme) (m : Mark) (p : Prefix) → t.symbol ≡ symbol.Mark m → prefix_of m ≡ Some p → IsPlain t
-plain_prefix t m p is of n = says t _ is n ∙ no_bracket prefix_of refl refl refl refl refl refl m p n of
+plain_prefix t mark.Plus p is of n = rw is
+plain_prefix t _ p is of n = rw is (cc)
 
 after_append : (n : ℕ) (ts us : List Lexeme) → open_along n (ts ++ us) ≡ open_along (open_along n ts) us
 after_append n [] us = refl
