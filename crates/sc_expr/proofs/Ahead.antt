@@ -67,10 +67,8 @@ tight_mark _ = None
 
 pub extension_mark : (m : Mark) (ext : Extension) (k : Mark) → extension_of m ≡ Some ext → tight_mark ext ≡ Some k →
     m ≡ k
-extension_mark mark.OpenSquare ext k h is = same_some (ap (λ o. o >>= tight_mark) h ∙ is)
-extension_mark mark.Dot ext k h is = same_some (ap (λ o. o >>= tight_mark) h ∙ is)
-extension_mark mark.Arrow ext k h is = same_some (ap (λ o. o >>= tight_mark) h ∙ is)
-extension_mark _ ext k h is = absurd (none-some k (ap (λ o. o >>= tight_mark) h ∙ is))
+extension_mark mark.Dot ext k h is = let same = ap (λ (o : Option Extension). o >>= tight_mark) h ∙ is in cc
+extension_mark _ ext k h is = let same = ap (λ (o : Option Extension). o >>= tight_mark) h ∙ is in cc
 
 -- A mark stands at the front that goes on with an expression, in a level or a tighter one.
 pub record Ahead (level : ℕ) (ts : List Lexeme) (ext : Extension) (us : List Lexeme) : Type 0 where
@@ -117,12 +115,9 @@ pub nothing_within : (level : ℕ) (ts : List Lexeme) → extension_within level
 nothing_within level [] h ext at = absurd (none-some ext at)
 nothing_within level (t ∷ ts) h ext at = within_none level ts ext (ap (λ o. within level ts o) (sym at) ∙ h)
 
-pub same_mark : (m other : Mark) → is_mark m (symbol.Mark other) ≡ true → other ≡ m
-same_mark m other h = same_true the_type (search rules) other m h
-
 marked : (m : Mark) (s : Symbol) → is_mark m s ≡ true → s ≡ symbol.Mark m
-marked m (symbol.Mark other) h = ap (λ x. symbol.Mark x) (same_mark m other h)
-marked m _ h = absurd (none-some {A = ℕ} 0 (ap (λ b. cond b (Some 0) None) h))
+marked m (symbol.Mark other) h = ap (λ x. symbol.Mark x) (same_true the_type (search rules) other m h)
+marked m _ h = absurd cc
 
 pub behind_mark : (m : Mark) (ts us : List Lexeme) → behind m ts ≡ Some us → (t : Lexeme) × (ts ≡ t ∷ us) × IsMark m t
 behind_mark m [] us h = absurd (none-some us h)
