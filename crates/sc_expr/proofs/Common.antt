@@ -12,7 +12,7 @@ pub use Rattle.sc_expr.specs.Prelude.{Agrees, Fails, Found, IsFront, IsIdent, Is
 pub use Rattle.sc_expr.specs.Prelude.{Spells, arrow, behind, binary_of, extension_at, extension_by, extension_level}
 pub use Rattle.sc_expr.specs.Prelude.{extension_of, extension_within, found, index, is_mark, joined, joined_with}
 pub use Rattle.sc_expr.specs.Prelude.{lead_by, lead_of, lead_with, leaf_of, level_with, lexeme_of, literal, looser}
-pub use Rattle.sc_expr.specs.Prelude.{member, most_open, name_at, name_by, open_after, open_behind, parenthesised}
+pub use Rattle.sc_expr.specs.Prelude.{member, most_open, name_at, name_by, open_after, parenthesised}
 pub use Rattle.sc_expr.specs.Prelude.{prefix_of, prefixed, read_expr, read_nested, turn_with, variable, within}
 pub use Rattle.sc_expr.specs.Prelude.{«prefix», ◌>>=◌}
 unfoldable pub use Rattle.sc_expr.specs.Prelude.{extended_with, go_on, operand_with, read, read_within}
