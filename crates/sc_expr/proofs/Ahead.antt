@@ -1,10 +1,10 @@
 -- What an answer that is there came from, and what stands at the front, where reading says so.
-use Rattle.sc_expr.proofs.Common.{BinaryOp, Bool, Extension, IsIdent, IsMark, Lead, Lexeme, List, Mark, None, Option}
-use Rattle.sc_expr.proofs.Common.{Prefix, Some, Symbol, [], ap, append_assoc, arith, behind, binary_of, cases_lt, cond}
+use Rattle.sc_expr.proofs.Common.{BinaryOp, Bool, Extension, IsIdent, IsMark, Lexeme, List, Mark, None, Option, Prefix}
+use Rattle.sc_expr.proofs.Common.{Some, Symbol, [], ap, append_assoc, arith, behind, binary_of, cases_lt, cond}
 use Rattle.sc_expr.proofs.Common.{cond_some, extension_at, extension_by, extension_level, extension_of}
-use Rattle.sc_expr.proofs.Common.{extension_within, false, is_mark, le-leb, lead_by, lead_of, leb-true, level_of}
-use Rattle.sc_expr.proofs.Common.{name_at, name_by, none-some, option_map, prefix_of, refl, rules, subst, sym, true}
-use Rattle.sc_expr.proofs.Common.{within, ℕ, ⊎_elim, ◌++◌, ◌<◌, ◌>>=◌, ◌∙◌, ◌∷◌, ◌≡◌, ◌≤◌}
+use Rattle.sc_expr.proofs.Common.{extension_within, false, is_mark, le-leb, lead_of, leb-true, level_of, name_at}
+use Rattle.sc_expr.proofs.Common.{name_by, none-some, prefix_of, refl, rules, subst, sym, true, within, ℕ, ⊎_elim, ◌++◌}
+use Rattle.sc_expr.proofs.Common.{◌<◌, ◌>>=◌, ◌∙◌, ◌∷◌, ◌≡◌, ◌≤◌}
 use Rattle.sc_base.specs.declared.op.BinaryOp.TheVariants as binary
 use Rattle.sc_expr.specs.contracts.mark.Mark.{the_type}
 use denote.Enum.Bare.{same_true}
@@ -36,6 +36,10 @@ pub glued : {A : Type 0} {ts us : List A} (rest first second : List A) → ts �
     ts ≡ (first ++ second) ++ rest
 glued rest first second p q = p ∙ ap (λ l. first ++ l) q ∙ sym (append_assoc first second rest)
 
+-- what goes on at the front is of this level or a looser one
+abbrev pub Onward : ℕ → List Lexeme → Type 0
+Onward level rest = (ext : Extension) → extension_at rest ≡ Some ext → level ≤ extension_level ext
+
 -- every operator between operands is looser than the prefix operators
 pub operator_low : (op : BinaryOp) → 2 ≤ level_of op
 operator_low binary.Mul = omega arith
@@ -44,25 +48,15 @@ operator_low _ = omega arith
 -- none of what goes on behind an expression has the level of the prefix operators
 pub no_unary : (ext : Extension) → 1 ≤ extension_level ext → 2 ≤ extension_level ext
 no_unary (extension.Operator op) h = operator_low op
-no_unary extension.Index h = absurd (omega arith)
-no_unary extension.Member h = absurd (omega arith)
-no_unary extension.Arrow h = absurd (omega arith)
-
-abbrev operator_in : Option Extension → Option BinaryOp
-operator_in (Some (extension.Operator op)) = Some op
-operator_in _ = None
+no_unary _ h = absurd (omega arith)
 
 pub operator_mark : (m : Mark) (op : BinaryOp) → extension_of m ≡ Some (extension.Operator op) → binary_of m ≡ Some op
-operator_mark mark.OpenSquare op h = absurd (none-some op (ap operator_in h))
-operator_mark mark.Dot op h = absurd (none-some op (ap operator_in h))
-operator_mark mark.Arrow op h = absurd (none-some op (ap operator_in h))
-operator_mark _ op h = ap operator_in h
+operator_mark mark.Dot op h = absurd cc
+operator_mark _ op h = cc
 
 pub mark_operator : (m : Mark) (op : BinaryOp) → binary_of m ≡ Some op → extension_of m ≡ Some (extension.Operator op)
-mark_operator mark.OpenSquare op h = absurd (none-some op h)
-mark_operator mark.Dot op h = absurd (none-some op h)
-mark_operator mark.Arrow op h = absurd (none-some op h)
-mark_operator _ op h = ap (λ o. option_map (λ x. extension.Operator x) o) h
+mark_operator mark.Dot op h = absurd cc
+mark_operator _ op h = cc
 
 -- the mark of an extension that is no operator
 abbrev pub tight_mark : Extension → Option Mark
@@ -73,10 +67,8 @@ tight_mark _ = None
 
 pub extension_mark : (m : Mark) (ext : Extension) (k : Mark) → extension_of m ≡ Some ext → tight_mark ext ≡ Some k →
     m ≡ k
-extension_mark mark.OpenSquare ext k h is = same_some (ap (λ o. o >>= tight_mark) h ∙ is)
-extension_mark mark.Dot ext k h is = same_some (ap (λ o. o >>= tight_mark) h ∙ is)
-extension_mark mark.Arrow ext k h is = same_some (ap (λ o. o >>= tight_mark) h ∙ is)
-extension_mark _ ext k h is = absurd (none-some k (ap (λ o. o >>= tight_mark) h ∙ is))
+extension_mark mark.Dot ext k h is = let same = ap (λ (o : Option Extension). o >>= tight_mark) h ∙ is in cc
+extension_mark _ ext k h is = let same = ap (λ (o : Option Extension). o >>= tight_mark) h ∙ is in cc
 
 -- A mark stands at the front that goes on with an expression, in a level or a tighter one.
 pub record Ahead (level : ℕ) (ts : List Lexeme) (ext : Extension) (us : List Lexeme) : Type 0 where
@@ -123,12 +115,9 @@ pub nothing_within : (level : ℕ) (ts : List Lexeme) → extension_within level
 nothing_within level [] h ext at = absurd (none-some ext at)
 nothing_within level (t ∷ ts) h ext at = within_none level ts ext (ap (λ o. within level ts o) (sym at) ∙ h)
 
-pub same_mark : (m other : Mark) → is_mark m (symbol.Mark other) ≡ true → other ≡ m
-same_mark m other h = same_true the_type (search rules) other m h
-
 marked : (m : Mark) (s : Symbol) → is_mark m s ≡ true → s ≡ symbol.Mark m
-marked m (symbol.Mark other) h = ap (λ x. symbol.Mark x) (same_mark m other h)
-marked m _ h = absurd (none-some {A = ℕ} 0 (ap (λ b. cond b (Some 0) None) h))
+marked m (symbol.Mark other) h = ap (λ x. symbol.Mark x) (same_true the_type (search rules) other m h)
+marked m _ h = absurd cc
 
 pub behind_mark : (m : Mark) (ts us : List Lexeme) → behind m ts ≡ Some us → (t : Lexeme) × (ts ≡ t ∷ us) × IsMark m t
 behind_mark m [] us h = absurd (none-some us h)
@@ -148,27 +137,12 @@ name_ahead (t ∷ ts) us name h =
     let same = same_some b.2 in
     (t, ap (λ x. t ∷ x.1) same, named _ name (b.1 ∙ ap (λ x. Some x.0) same))
 
-abbrev paren_in : Option Lead → Option ℕ
-paren_in (Some lead.Paren) = Some 0
-paren_in _ = None
-
-abbrev prefix_in : Option Lead → Option Prefix
-prefix_in (Some (lead.Prefix p)) = Some p
-prefix_in _ = None
-
-paren_by : (m : Mark) → lead_by m ≡ Some lead.Paren → m ≡ mark.OpenParen
-paren_by mark.OpenParen h = refl
-paren_by _ h = absurd (none-some 0 (ap paren_in h))
-
-prefix_by : (m : Mark) (p : Prefix) → lead_by m ≡ Some (lead.Prefix p) → prefix_of m ≡ Some p
-prefix_by mark.OpenParen p h = absurd (none-some p (ap prefix_in h))
-prefix_by _ p h = ap prefix_in h
-
 pub paren_lead : (s : Symbol) → lead_of s ≡ Some lead.Paren → s ≡ symbol.Mark mark.OpenParen
-paren_lead (symbol.Mark m) h = ap (λ x. symbol.Mark x) (paren_by m h)
-paren_lead _ h = absurd (none-some _ h)
+paren_lead (symbol.Mark mark.OpenParen) h = refl
+paren_lead _ h = absurd cc
 
 pub prefix_lead : (s : Symbol) (p : Prefix) → lead_of s ≡ Some (lead.Prefix p) →
     (m : Mark) × (s ≡ symbol.Mark m) × (prefix_of m ≡ Some p)
-prefix_lead (symbol.Mark m) p h = (m, refl, prefix_by m p h)
-prefix_lead _ p h = absurd (none-some _ h)
+prefix_lead (symbol.Mark mark.OpenParen) p h = absurd cc
+prefix_lead (symbol.Mark m) p h = (m, refl, cc)
+prefix_lead _ p h = absurd cc

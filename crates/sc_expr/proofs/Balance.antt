@@ -1,8 +1,7 @@
 -- Brackets along lexemes that spell an expression: behind them as many are open as before.
-use Rattle.sc_expr.proofs.Common.{BinaryOp, ExprTree, Lexeme, List, Mark, None, Option, Prefix, Some, Spells, Symbol}
-use Rattle.sc_expr.proofs.Common.{[], ap, arith, arrow, binary_of, index, joined, literal, looser, max, member}
-use Rattle.sc_expr.proofs.Common.{most_open, none-some, open_after, open_behind, parenthesised, prefix_of, refl, sym}
-use Rattle.sc_expr.proofs.Common.{variable, «prefix», ℕ, ◌++◌, ◌+◌, ◌-◌, ◌∙◌, ◌∷◌, ◌≡◌, ◌≤◌}
+use Rattle.sc_expr.proofs.Common.{BinaryOp, ExprTree, Lexeme, List, Mark, Prefix, Some, Spells, Symbol, [], ap, arith}
+use Rattle.sc_expr.proofs.Common.{arrow, binary_of, index, joined, literal, looser, max, member, most_open, open_after}
+use Rattle.sc_expr.proofs.Common.{parenthesised, prefix_of, refl, variable, «prefix», ℕ, ◌++◌, ◌+◌, ◌-◌, ◌∷◌, ◌≡◌, ◌≤◌}
 use Rattle.sc_expr.specs.declared.mark.Mark.TheVariants as mark
 use Rattle.sc_expr.specs.declared.lexeme.Symbol.TheVariants as symbol
 
@@ -24,53 +23,29 @@ Closes t = (n : ℕ) → open_after t.symbol n ≡ n - 1
 pub says : (t : Lexeme) (s : Symbol) → t.symbol ≡ s → (n : ℕ) → open_after t.symbol n ≡ open_after s n
 says t s is n = ap (λ x. open_after x n) is
 
--- what is there for no bracket
-no_bracket : {A : Type 0} (f : Mark → Option A) → f mark.OpenParen ≡ None → f mark.OpenSquare ≡ None →
-    f mark.OpenCurly ≡ None → f mark.CloseParen ≡ None → f mark.CloseSquare ≡ None → f mark.CloseCurly ≡ None →
-    (m : Mark) (x : A) (n : ℕ) → f m ≡ Some x → open_behind m n ≡ n
-no_bracket f a b c d e g mark.OpenParen x n h = absurd (none-some x (sym a ∙ h))
-no_bracket f a b c d e g mark.OpenSquare x n h = absurd (none-some x (sym b ∙ h))
-no_bracket f a b c d e g mark.OpenCurly x n h = absurd (none-some x (sym c ∙ h))
-no_bracket f a b c d e g mark.CloseParen x n h = absurd (none-some x (sym d ∙ h))
-no_bracket f a b c d e g mark.CloseSquare x n h = absurd (none-some x (sym e ∙ h))
-no_bracket f a b c d e g mark.CloseCurly x n h = absurd (none-some x (sym g ∙ h))
-no_bracket f a b c d e g _ x n h = refl
-
+-- no operator is a bracket
 pub plain_binary : (t : Lexeme) (m : Mark) (op : BinaryOp) → t.symbol ≡ symbol.Mark m → binary_of m ≡ Some op →
     IsPlain t
-plain_binary t m op is of n = says t _ is n ∙ no_bracket binary_of refl refl refl refl refl refl m op n of
+plain_binary t mark.Plus op is of n = rw is
+plain_binary t _ op is of n = rw is (cc)
 
 pub plain_prefix : (t : Lexeme) (m : Mark) (p : Prefix) → t.symbol ≡ symbol.Mark m → prefix_of m ≡ Some p → IsPlain t
-plain_prefix t m p is of n = says t _ is n ∙ no_bracket prefix_of refl refl refl refl refl refl m p n of
+plain_prefix t mark.Plus p is of n = rw is
+plain_prefix t _ p is of n = rw is (cc)
 
 after_append : (n : ℕ) (ts us : List Lexeme) → open_along n (ts ++ us) ≡ open_along (open_along n ts) us
 after_append n [] us = refl
 after_append n (t ∷ ts) us = after_append (open_after _ n) ts us
 
-after_bracketed : (n : ℕ) (t u : Lexeme) (us : List Lexeme) → Opens t → Closes u → ((k : ℕ) → open_along k us ≡ k) →
-    open_along n (t ∷ (us ++ u ∷ [])) ≡ n
-after_bracketed n t u us opens closes even =
-    let one_less : n + 1 - 1 ≡ n = omega arith in
-    ap (λ k. open_along k (us ++ u ∷ [])) (opens n) ∙ after_append (n + 1) us (u ∷ []) ∙
-    ap (λ k. open_after u.symbol k) (even _) ∙ closes _ ∙ one_less
-
-after_behind : (n : ℕ) (ts us : List Lexeme) → open_along n ts ≡ n → open_along n us ≡ n → open_along n (ts ++ us) ≡ n
-after_behind n ts us even too = after_append n ts us ∙ ap (λ k. open_along k us) even ∙ too
-
 pub balanced : {level : ℕ} {ts : List Lexeme} {e : ExprTree} → Spells level ts e → (n : ℕ) → open_along n ts ≡ n
-balanced (literal t number is) n = says t (symbol.Integer number) is n
-balanced (variable t name is) n = says t _ is n
-balanced (parenthesised {ts = ts} t u o q d) n = after_bracketed n t u ts (says t (symbol.Mark _) o)
-    (says u _ q) (balanced d)
-balanced (index {ts = ts} {us = us} t u o q d g) n = after_behind n ts (t ∷ (us ++ u ∷ [])) (balanced d n)
-    (after_bracketed n t u us (says t _ o) (says u (symbol.Mark _) q) (balanced g))
-balanced (member {ts = ts} t u name o is d) n = after_behind n ts _ (balanced d n)
-    (ap (λ k. open_after u.symbol k) (says t _ o n) ∙ says u (symbol.Ident name) is n)
-balanced (arrow {ts = ts} t u name o is d) n = after_behind n ts _ (balanced d n)
-    (ap (λ k. open_after u.symbol k) (says t _ o n) ∙ says u (symbol.Ident name) is n)
-balanced («prefix» {ts = ts} t m p is of d) n = ap (λ k. open_along k ts) (plain_prefix t m p is of n) ∙ balanced d n
-balanced (joined {ts = ts} {us = us} t m op is of at d g) n =
-    after_behind n ts _ (balanced d n) (ap (λ k. open_along k us) (plain_binary t m op is of n) ∙ balanced g n)
+balanced (literal t number is) n = rw is
+balanced (variable t name is) n = rw is
+balanced (parenthesised t u o q d) n = rw (o, after_append, balanced d, q) (omega arith)
+balanced (index t u o q d g) n = rw (after_append, balanced d, o, after_append, balanced g, q) (omega arith)
+balanced (member t u name o is d) n = rw (after_append, balanced d, o, is)
+balanced (arrow t u name o is d) n = rw (after_append, balanced d, o, is)
+balanced («prefix» t m p is of d) n = rw (plain_prefix t m p is of n) (balanced d n)
+balanced (joined t m op is of at d g) n = rw (after_append, balanced d, balanced g) (plain_binary t m op is of n)
 balanced (looser d) n = balanced d n
 
 pub open_low : (n : ℕ) (ts : List Lexeme) → n ≤ most_open n ts
@@ -85,24 +60,15 @@ most_append n (t ∷ ts) us = let rest = most_append (open_after t.symbol n) ts 
 -- the most behind an expression is that of the expression or of what follows
 pub most_behind : {level : ℕ} {ts : List Lexeme} {e : ExprTree} (n : ℕ) (us : List Lexeme) → Spells level ts e →
     most_open n (ts ++ us) ≡ max (most_open n ts) (most_open n us)
-most_behind {ts = ts} n us d = most_append n ts us ∙ ap (λ k. max (most_open n ts) (most_open k us)) (balanced d n)
+most_behind {ts = ts} n us d = rw (most_append n ts us, balanced d)
 
 -- the most in brackets is that inside them or of what follows
 pub most_bracketed : {level : ℕ} {us : List Lexeme} {e : ExprTree} (n : ℕ) (t u : Lexeme) (rest : List Lexeme) →
     Opens t → Closes u → Spells level us e → most_open n (t ∷ (us ++ u ∷ rest)) ≡
     max (most_open (n + 1) us) (most_open n rest)
 most_bracketed {us = us} n t u rest opens closes d =
-    let first : most_open (open_after t.symbol n) (us ++ u ∷ rest) ≡ most_open (n + 1) (us ++ u ∷ rest) =
-    ap (λ k. most_open k (us ++ u ∷ rest)) (opens n) in
-    let inside = most_behind (n + 1) (u ∷ rest) d in
     let one_less : n + 1 - 1 ≡ n = omega arith in
-    let last : most_open (open_after u.symbol (n + 1)) rest ≡ most_open n rest =
-    ap (λ k. most_open k rest) (closes (n + 1) ∙ one_less) in
-    let low = open_low (n + 1) us in
-    omega arith
+    rw (opens n, most_behind (n + 1) (u ∷ rest) d, closes (n + 1), one_less) (omega (arith, open_low (n + 1) us))
 
 pub most_plain : (n : ℕ) (t : Lexeme) (rest : List Lexeme) → IsPlain t → most_open n (t ∷ rest) ≡ most_open n rest
-most_plain n t rest plain =
-    let same = ap (λ k. most_open k rest) (plain n) in
-    let low = open_low n rest in
-    omega arith
+most_plain n t rest plain = rw (plain n) (omega (arith, open_low n rest))

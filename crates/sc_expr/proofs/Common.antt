@@ -1,8 +1,7 @@
 -- The names that several proofs of this crate cite, passed on from one place. Declares nothing.
 pub use Rattle.std.proofs.Common.{Bool, Bor, Err, IfOk, IsErrOf, List, None, Ok, Option, Result, Some, [], ap}
-pub use Rattle.std.proofs.Common.{append_assoc, ap₂, arith, cond, false, le-leb, leb, leb-true, map, max, refl, rules}
-pub use Rattle.std.proofs.Common.{subst, suc, sym, take, true, zero, ℕ, ⊎_elim, ◌*◌, ◌++◌, ◌+◌, ◌-◌, ◌<◌, ◌∙◌, ◌∷◌, ◌≡◌}
-pub use Rattle.std.proofs.Common.{◌≤◌}
+pub use Rattle.std.proofs.Common.{append_assoc, arith, cond, false, le-leb, leb, leb-true, map, max, refl, rules, subst}
+pub use Rattle.std.proofs.Common.{suc, sym, take, true, zero, ℕ, ⊎_elim, ◌*◌, ◌++◌, ◌+◌, ◌-◌, ◌<◌, ◌∙◌, ◌∷◌, ◌≡◌, ◌≤◌}
 pub use Rattle.std.proofs.lemmas.Bool.{cases_lt, lt-leb}
 pub use Rattle.std.proofs.lemmas.Option.{cond_some, none-some}
 pub use Rattle.std.specs.Option.{option_map}
@@ -12,10 +11,10 @@ pub use Rattle.sc_expr.specs.Common.{BinaryOp, ExprTree}
 pub use Rattle.sc_expr.specs.Prelude.{Agrees, Fails, Found, IsFront, IsIdent, IsMark, OutOfMemory, Reader, Refused}
 pub use Rattle.sc_expr.specs.Prelude.{Spells, arrow, behind, binary_of, extension_at, extension_by, extension_level}
 pub use Rattle.sc_expr.specs.Prelude.{extension_of, extension_within, found, index, is_mark, joined, joined_with}
-pub use Rattle.sc_expr.specs.Prelude.{lead_by, lead_of, lead_with, leaf_at, leaf_of, level_with, lexeme_of, literal}
-pub use Rattle.sc_expr.specs.Prelude.{looser, member, most_open, name_at, name_by, named_with, open_after, open_behind}
-pub use Rattle.sc_expr.specs.Prelude.{paren_with, parenthesised, prefix_of, prefix_with, prefixed, read_expr}
-pub use Rattle.sc_expr.specs.Prelude.{read_nested, turn_with, variable, within, «prefix», ◌>>=◌}
+pub use Rattle.sc_expr.specs.Prelude.{lead_by, lead_of, lead_with, leaf_of, level_with, lexeme_of, literal, looser}
+pub use Rattle.sc_expr.specs.Prelude.{member, most_open, name_at, name_by, open_after, parenthesised}
+pub use Rattle.sc_expr.specs.Prelude.{prefix_of, prefixed, read_expr, read_nested, turn_with, variable, within}
+pub use Rattle.sc_expr.specs.Prelude.{«prefix», ◌>>=◌}
 unfoldable pub use Rattle.sc_expr.specs.Prelude.{extended_with, go_on, operand_with, read, read_within}
 pub use Rattle.sc_expr.specs.declared.fault.SyntaxFault.{SyntaxFault}
 pub use Rattle.sc_expr.specs.declared.lexeme.Lexeme.{Lexeme}

@@ -1,20 +1,14 @@
 -- What reading is at a level of height, at a bracket, and at a turn.
 use Rattle.sc_expr.proofs.Common.{Extension, Fails, Found, Lexeme, List, None, Option, OutOfMemory, Reader, Refused}
 use Rattle.sc_expr.proofs.Common.{Some, SyntaxFault, ap, arith, extended_with, extension_within, go_on, level_with}
-use Rattle.sc_expr.proofs.Common.{operand_with, read, read_nested, read_within, refl, suc, zero, ℕ, ◌+◌, ◌<◌, ◌>>=◌}
-use Rattle.sc_expr.proofs.Common.{◌∙◌, ◌≡◌}
-
-pub one_level : (free room level : ℕ) (ts : List Lexeme) →
-    read free (suc room) level ts ≡ level_with (read_nested free) (read free room) room level ts
-unfolding read read_within
-one_level zero room level ts = refl
-one_level (suc free) room level ts = refl
+use Rattle.sc_expr.proofs.Common.{operand_with, read, read_nested, read_within, refl, suc, zero, ℕ, ◌+◌, ◌<◌, ◌≡◌}
 
 pub read_at : (free room below level : ℕ) (ts : List Lexeme) → room ≡ below + 1 →
     read free room level ts ≡ level_with (read_nested free) (read free below) below level ts
+unfolding read read_within
 read_at free zero below level ts h = absurd (omega arith)
-read_at free (suc room) below level ts h = let e : room ≡ below = omega arith in
-    one_level free room level ts ∙ ap (λ k. level_with (read_nested free) (read free k) k level ts) e
+read_at zero (suc room) below level ts h = let e : room ≡ below = omega arith in rw e
+read_at (suc free) (suc room) below level ts h = let e : room ≡ below = omega arith in rw e
 
 pub read_none : (free room level : ℕ) (ts : List Lexeme) → room ≡ 0 → read free room level ts ≡ None
 unfolding read read_within
@@ -34,17 +28,13 @@ nested_none (suc free) room level ts h = absurd (omega arith)
 -- reading a level begins with an operand
 pub read_fails : (free room below level : ℕ) (ts : List Lexeme) → room ≡ below + 1 →
     operand_with (read_nested free) (read free below) below ts ≡ None → read free room level ts ≡ None
-read_fails free room below level ts h none = read_at free room below level ts h ∙
-    ap (λ first. first >>= (λ x. go_on (read_nested free) (read free below) below level (below + 1) x)) none
+read_fails free room below level ts h none = rw (read_at free room below level ts h, none)
 
 pub read_goes : (free room below level turns : ℕ) (ts : List Lexeme) (x : Found) → room ≡ below + 1 → turns ≡ room →
     operand_with (read_nested free) (read free below) below ts ≡ Some x →
     read free room level ts ≡ go_on (read_nested free) (read free below) below level turns x
 read_goes free room below level turns ts x h same some =
-    let e : below + 1 ≡ turns = omega arith in
-    read_at free room below level ts h ∙ ap (λ first.
-    first >>= (λ y. go_on (read_nested free) (read free below) below level (below + 1) y)) some ∙
-    ap (λ k. go_on (read_nested free) (read free below) below level k x) e
+    let e : below + 1 ≡ turns = omega arith in rw (read_at free room below level ts h, some, e)
 
 pub fails_on : {X Y : Type 0} (fault : SyntaxFault) (inner : Option X) (outer : Option Y) → Fails fault inner →
     (inner ≡ None → outer ≡ None) → Fails fault outer
