@@ -1,10 +1,11 @@
 -- Residues and the signed numbers that they stand for. A word of each form is cut into the fields that it was made of,
 -- and a word's fields make it again.
-use Rattle.rv_code.proofs.Common.{IsBranchOffset, IsImmediate, IsJumpOffset, IsReg, IsUpper, ap, arith, b_imm_of}
-use Rattle.rv_code.proofs.Common.{b_word, cases_lt, funct3_of, funct7_of, i_imm_of, i_word, j_imm_of, j_word, le-ltb}
-use Rattle.rv_code.proofs.Common.{lt-ltb, negsuc, opcode_of, pos, r_word, rd_of, refl, residue, rs1_of, rs2_of}
-use Rattle.rv_code.proofs.Common.{s_imm_of, s_word, signed, suc, u_imm_of, u_word, ℕ, ℤ, ⊎_elim, ◌%◌, ◌*◌, ◌+◌, ◌-◌}
-use Rattle.rv_code.proofs.Common.{◌/◌, ◌<◌, ◌^◌, ◌∙◌, ◌≡◌, ◌≤ℤ◌, ◌≤◌}
+use Rattle.rv_code.specs.Prelude.{IsBranchOffset, IsImmediate, IsJumpOffset, IsReg, IsUpper, b_imm_of, b_word}
+use Rattle.rv_code.specs.Prelude.{funct3_of, funct7_of, i_imm_of, i_word, j_imm_of, j_word, opcode_of, r_word, rd_of}
+use Rattle.rv_code.specs.Prelude.{residue, rs1_of, rs2_of, s_imm_of, s_word, signed, u_imm_of, u_word}
+use Rattle.std.proofs.Common.{ap, arith, le-ltb, lt-ltb, negsuc, pos, refl, suc, ℕ, ℤ, ⊎_elim, ◌%◌, ◌*◌, ◌+◌, ◌-◌, ◌/◌}
+use Rattle.std.proofs.Common.{◌<◌, ◌^◌, ◌∙◌, ◌≡◌, ◌≤ℤ◌, ◌≤◌}
+use Rattle.std.proofs.lemmas.Bool.{cases_lt}
 use Rattle.std.proofs.Math.Nat.{mod-eq_of_lt, mod-lt}
 use Rattle.std.proofs.lemmas.Int.{ints}
 

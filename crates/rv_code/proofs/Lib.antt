@@ -1,4 +1,3 @@
-pub mod Common
 pub mod Fields
 pub mod Ops
 pub mod OneEach

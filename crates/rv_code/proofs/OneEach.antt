@@ -1,14 +1,17 @@
 -- Words and instructions stand for one another.
-use Rattle.rv_code.proofs.Common.{Auipc, Bool, Branch, Ebreak, Ecall, Fence, HasWord, IfSome, IsImmediate, IsInstr}
-use Rattle.rv_code.proofs.Common.{IsNone, Jal, Jalr, Load, Lui, None, Op, OpImm, Option, Shift, Some, Store, Upper}
-use Rattle.rv_code.proofs.Common.{arith, branch_funct3, branch_in, branch_op_of, branch_opcode, branch_ops, cond}
-use Rattle.rv_code.proofs.Common.{decoded, eqb-true, false, fence_funct3, fence_in, fence_opcode, funct3_of, i_imm_of}
-use Rattle.rv_code.proofs.Common.{j_imm_of, jal_opcode, jalr_funct3, jalr_in, jalr_opcode, lit<, load_funct3, load_in}
-use Rattle.rv_code.proofs.Common.{load_op_of, load_opcode, load_ops, nat_eq, op_funct3, op_funct7, op_imm_funct3}
-use Rattle.rv_code.proofs.Common.{op_imm_in, op_imm_op_of, op_imm_opcode, op_imm_ops, op_in, op_op_of, op_opcode}
-use Rattle.rv_code.proofs.Common.{op_ops, opcode_of, rd_of, refl, shift_funct3, shift_funct7, shift_in, shift_op_of}
-use Rattle.rv_code.proofs.Common.{shift_ops, store_funct3, store_in, store_op_of, store_opcode, store_ops, subst, sym}
-use Rattle.rv_code.proofs.Common.{system_in, true, u_imm_of, upper_opcode, word_of, ℕ, ◌<◌, ◌^◌, ◌∙◌, ◌≡◌}
+use Rattle.rv_code.specs.Prelude.{HasWord, IsImmediate, IsInstr, branch_funct3, branch_in, branch_op_of, branch_opcode}
+use Rattle.rv_code.specs.Prelude.{branch_ops, decoded, fence_funct3, fence_in, fence_opcode, funct3_of, i_imm_of}
+use Rattle.rv_code.specs.Prelude.{j_imm_of, jal_opcode, jalr_funct3, jalr_in, jalr_opcode, load_funct3, load_in}
+use Rattle.rv_code.specs.Prelude.{load_op_of, load_opcode, load_ops, op_funct3, op_funct7, op_imm_funct3, op_imm_in}
+use Rattle.rv_code.specs.Prelude.{op_imm_op_of, op_imm_opcode, op_imm_ops, op_in, op_op_of, op_opcode, op_ops}
+use Rattle.rv_code.specs.Prelude.{opcode_of, rd_of, shift_funct3, shift_funct7, shift_in, shift_op_of, shift_ops}
+use Rattle.rv_code.specs.Prelude.{store_funct3, store_in, store_op_of, store_opcode, store_ops, system_in, u_imm_of}
+use Rattle.rv_code.specs.Prelude.{upper_opcode, word_of}
+use Rattle.rv_code.specs.declared.instr.UpperOp.TheVariants.{Auipc, Lui}
+use Rattle.std.proofs.Common.{Bool, IfSome, IsNone, None, Option, Some, arith, cond, eqb-true, false, lit<, nat_eq}
+use Rattle.std.proofs.Common.{refl, subst, sym, true, ℕ, ◌<◌, ◌^◌, ◌∙◌, ◌≡◌}
+use Rattle.rv_code.specs.declared.instr.Instr.TheVariants.{Branch, Ebreak, Ecall, Fence, Jal, Jalr, Load, Op, OpImm}
+use Rattle.rv_code.specs.declared.instr.Instr.TheVariants.{Shift, Store, Upper}
 use Rattle.rv_code.specs.declared.instr.Instr.{Instr}
 use Rattle.rv_code.specs.declared.instr.UpperOp.{UpperOp}
 use Rattle.std.specs.Option.{option_map, option_or}

@@ -1,9 +1,15 @@
 -- An operation is found by its own function codes, and what is found has those that were asked for.
-use Rattle.rv_code.proofs.Common.{Add, Beq, Bool, Lb, List, None, Sb, Slli, Some, [], and_parts, ap, branch_funct3}
-use Rattle.rv_code.proofs.Common.{branch_op_of, cond, eqb-true, false, find, lit<, load_funct3, load_op_of, nat_eq}
-use Rattle.rv_code.proofs.Common.{op_funct3, op_funct7, op_imm_funct3, op_imm_op_of, op_op_of, refl, shift_funct3}
-use Rattle.rv_code.proofs.Common.{shift_funct7, shift_op_of, store_funct3, store_op_of, sym, true, ℕ, ◌&&◌, ◌<◌, ◌^◌}
-use Rattle.rv_code.proofs.Common.{◌∙◌, ◌∷◌, ◌≡◌}
+use Rattle.rv_code.specs.Prelude.{branch_funct3, branch_op_of, load_funct3, load_op_of, op_funct3, op_funct7}
+use Rattle.rv_code.specs.Prelude.{op_imm_funct3, op_imm_op_of, op_op_of, shift_funct3, shift_funct7, shift_op_of}
+use Rattle.rv_code.specs.Prelude.{store_funct3, store_op_of}
+use Rattle.rv_code.specs.declared.instr.OpOp.TheVariants.{Add}
+use Rattle.rv_code.specs.declared.instr.BranchOp.TheVariants.{Beq}
+use Rattle.std.proofs.Common.{Bool, List, None, Some, [], ap, cond, eqb-true, false, find, lit<, nat_eq, refl, sym}
+use Rattle.std.proofs.Common.{true, ℕ, ◌&&◌, ◌<◌, ◌^◌, ◌∙◌, ◌∷◌, ◌≡◌}
+use Rattle.rv_code.specs.declared.instr.LoadOp.TheVariants.{Lb}
+use Rattle.rv_code.specs.declared.instr.StoreOp.TheVariants.{Sb}
+use Rattle.rv_code.specs.declared.instr.ShiftOp.TheVariants.{Slli}
+use Rattle.std.proofs.lemmas.Bool.{and_parts}
 use Rattle.rv_code.specs.declared.instr.BranchOp.{BranchOp}
 use Rattle.rv_code.specs.declared.instr.LoadOp.{LoadOp}
 use Rattle.rv_code.specs.declared.instr.OpImmOp.{OpImmOp}

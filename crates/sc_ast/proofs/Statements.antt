@@ -1,10 +1,11 @@
 -- The height of each kind of statement, and a statement without its lines.
-use Rattle.sc_ast.proofs.Common.{CallTree, ExprTree, List, Option, SimpleTree, StmtKind, StmtTree, call_height}
-use Rattle.sc_ast.proofs.Common.{expr_height, kind_height, kind_of, lineless_kind, lineless_stmt, max, option_height}
-use Rattle.sc_ast.proofs.Common.{rules, simple_kind_height, stmt_height, stmts_height, ℕ, ◌+◌, ◌≡◌}
+use Rattle.sc_ast.proofs.Common.{ExprTree, List, Option, StmtKind, StmtTree, call_height, expr_height, kind_height}
+use Rattle.sc_ast.proofs.Common.{kind_of, lineless_kind, lineless_stmt, max, option_height, rules, simple_kind_height}
+use Rattle.sc_ast.proofs.Common.{stmt_height, stmts_height, the_lemmas, ℕ, ◌+◌, ◌≡◌}
+use Rattle.sc_ast.specs.declared.expr.CallTree.{CallTree}
+use Rattle.sc_ast.specs.declared.stmt.SimpleTree.{SimpleTree}
 use Rattle.sc_ast.specs.declared.stmt.SimpleKind.{SimpleKind}
 use Rattle.sc_ast.specs.declared.stmt.SimpleKind.TheVariants as simple
-use Rattle.sc_ast.specs.declared.stmt.StmtKind.{the_lemmas}
 use Rattle.sc_ast.specs.declared.stmt.StmtKind.TheVariants as stmt
 use Rattle.sc_ast.specs.declared.stmt.StmtTree as trees
 

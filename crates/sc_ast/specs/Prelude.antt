@@ -3,8 +3,8 @@ pub use Rattle.sc_ast.specs.ExprWords.{Printed, apart, binary_text, binary_words
 pub use Rattle.sc_ast.specs.ExprWords.{is_doubled, literal_text, place_words, prefix_words, unary_text, words_at}
 pub use Rattle.sc_ast.specs.Heads.{has_nameless, head_of, param_of}
 pub use Rattle.sc_ast.specs.Height.{call_height, decl_height, decls_height, expr_height, exprs_height, function_height}
-pub use Rattle.sc_ast.specs.Height.{init_height, kind_height, limited, local_height, locals_height, option_height}
-pub use Rattle.sc_ast.specs.Height.{section_height, simple_kind_height, stmt_height, stmts_height}
+pub use Rattle.sc_ast.specs.Height.{highest, init_height, kind_height, limited, local_height, locals_height}
+pub use Rattle.sc_ast.specs.Height.{option_height, section_height, simple_kind_height, stmt_height, stmts_height}
 pub use Rattle.sc_ast.specs.Identifiers.{ident_of, is_ident}
 pub use Rattle.sc_ast.specs.Lineless.{SameButLines, kind_step, lineless_decl, lineless_export, lineless_function}
 pub use Rattle.sc_ast.specs.Lineless.{lineless_function_head, lineless_head, lineless_import, lineless_kind}

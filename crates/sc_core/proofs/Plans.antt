@@ -1,11 +1,12 @@
 -- Programs by plans, whose functions compute: the meaning of a program is the run of its plan's library.
 use Rattle.sc_core.proofs.Common.{Acts, Arith, Bool, Calls, Event, Function, Here, Interfaces, Library, List, Local}
-use Rattle.sc_core.proofs.Common.{Next, None, Ok, Option, Run, Some, Ty, TypedExpr, TypedGlobal, TypedSection}
-use Rattle.sc_core.proofs.Common.{TypedStruct, [], all_do, and_then, ap, assign, at_place, bytes_eq, closed, codes}
-use Rattle.sc_core.proofs.Common.{entry_in, follow, frame_bound, function_of, functions_in, globals_of, in_order}
-use Rattle.sc_core.proofs.Common.{init_nodes, inits_do, is_some, leave, length, library_of, local_nodes, main_name, map}
-use Rattle.sc_core.proofs.Common.{nodes, refl, roles_in, run_by, run_of, run_step, scripted_run_of, scripted_step, suc}
-use Rattle.sc_core.proofs.Common.{total, variable_at, variables, ℕ, ◌&&◌, ◌+◌, ◌==◌, ◌∷◌, ◌≡◌}
+use Rattle.sc_core.proofs.Common.{Next, None, Ok, Option, Run, Some, Ty, TypedExpr, TypedGlobal, TypedStruct, []}
+use Rattle.sc_core.proofs.Common.{all_do, and_then, ap, assign, at_place, bytes_eq, closed, codes, entry_in, follow}
+use Rattle.sc_core.proofs.Common.{frame_bound, function_of, functions_in, globals_of, in_order, init_nodes, inits_do}
+use Rattle.sc_core.proofs.Common.{is_some, leave, length, library_of, local_nodes, main_name, map, nodes, refl}
+use Rattle.sc_core.proofs.Common.{roles_in, run_by, run_of, run_step, scripted_run_of, scripted_step, suc, total}
+use Rattle.sc_core.proofs.Common.{variable_at, variables, ℕ, ◌&&◌, ◌+◌, ◌==◌, ◌∷◌, ◌≡◌}
+use Rattle.sc_core.specs.declared.section.TypedSection.{TypedSection}
 use Rattle.sc_core.specs.declared.section.TypedParam.{TypedParam}
 use Rattle.sc_core.specs.declared.section.TypedLocal.{TypedLocal}
 use Rattle.sc_core.specs.declared.section.TypedFunction.{TypedFunction}

@@ -1,6 +1,8 @@
 -- Worked programs, as plans.
-use Rattle.sc_core.proofs.Common.{CallTarget, Cross, Global, Import, Interface, Interfaces, List, Local, None, Option}
-use Rattle.sc_core.proofs.Common.{Output, Own, Param, Proto, Scalar, Some, Ty, TypedGlobal, [], codes, ℕ, ◌∷◌}
+use Rattle.sc_core.proofs.Common.{CallTarget, Global, Import, Interfaces, List, Local, None, Option, Param, Proto}
+use Rattle.sc_core.proofs.Common.{Scalar, Some, Ty, TypedGlobal, [], codes, ℕ, ◌∷◌}
+use Rattle.sc_core.specs.declared.expr.CallTarget.TheVariants.{Cross, Output, Own}
+use Rattle.sc_event.specs.declared.interface.Interface.{Interface}
 use Rattle.sc_event.specs.declared.interface.Scalar.TheVariants as scalar
 use Rattle.sc_event.specs.declared.interface.Import.TheVariants as import
 use Rattle.sc_core.specs.declared.ty.Ty.TheVariants as ty

@@ -1,9 +1,10 @@
 -- The meanings of worked programs, computed.
-use Rattle.sc_core.proofs.Common.{Blamed, Bool, Call, Dangling, End, Ended, Event, EventsOut, Indeterminate, Interfaces}
-use Rattle.sc_core.proofs.Common.{List, NoReturn, Out, OutOfBounds, Overflow, Ret, Some, TurnsOut, [], ap, c_arith}
-use Rattle.sc_core.proofs.Common.{code_bound, deepest, depth, false, meaning, negated_word, not, on_all_words, refl}
+use Rattle.sc_core.proofs.Common.{Bool, Call, End, Event, Interfaces, List, Out, Ret, Some, [], ap, c_arith, code_bound}
+use Rattle.sc_core.proofs.Common.{deepest, depth, false, meaning, negated_word, not, on_all_words, refl}
 use Rattle.sc_core.proofs.Common.{scripted_depth_by, scripted_meaning, stopped_at, wrapped, wrapped_depth, wrapping, ℕ}
 use Rattle.sc_core.proofs.Common.{◌==◌, ◌∷◌, ◌≡◌}
+use Rattle.sc_core.specs.declared.run.RunEnd.TheVariants.{Blamed, Ended, EventsOut, TurnsOut}
+use Rattle.sc_core.specs.declared.cause.Cause.TheVariants.{Dangling, Indeterminate, NoReturn, OutOfBounds, Overflow}
 use Rattle.sc_base.specs.declared.op.BinaryOp.TheVariants as op
 use Rattle.sc_core.proofs.Plans.{Sheet, program, quick_run, quick_scripted, run_is, scripted_run_is}
 use Rattle.sc_core.proofs.Programs.{alone, seven, min_by_minus_one, uninitialised, missing_return, leak}

@@ -41,12 +41,12 @@ pub use Rattle.sc_core.specs.Value.{ordered, place_at, same_place, truth, wrappi
 pub use Rattle.sc_core.specs.WellTyped.{IsWellTyped, are_distinct, base_within, callable_in, callable_names, decl_count}
 pub use Rattle.sc_core.specs.WellTyped.{export_fits, export_name, export_names, function_fits, global_fits}
 pub use Rattle.sc_core.specs.WellTyped.{has_distinct_names, has_few_compartments, has_fitting_sections, has_main}
-pub use Rattle.sc_core.specs.WellTyped.{has_one_main, import_fits, import_name, init_height, interface_fits, is_main}
-pub use Rattle.sc_core.specs.WellTyped.{is_plain_name, is_well_typed, local_fits, main_fits, main_signature, mains_in}
-pub use Rattle.sc_core.specs.WellTyped.{members_fit, most_cells, most_compartments, most_exports, most_height}
-pub use Rattle.sc_core.specs.WellTyped.{most_nodes, most_params, params_fit, passed_fits, result_fits, same_results}
-pub use Rattle.sc_core.specs.WellTyped.{same_signature, same_types, scope_of, section_fits, sections_fit}
-pub use Rattle.sc_core.specs.WellTyped.{starred_within, struct_fits, structs_fit, type_within, variable_fits, words_fit}
+pub use Rattle.sc_core.specs.WellTyped.{import_fits, import_name, init_height, interface_fits, is_main, is_plain_name}
+pub use Rattle.sc_core.specs.WellTyped.{is_well_typed, local_fits, main_fits, main_signature, mains_in, members_fit}
+pub use Rattle.sc_core.specs.WellTyped.{most_cells, most_compartments, most_exports, most_height, most_nodes}
+pub use Rattle.sc_core.specs.WellTyped.{most_params, params_fit, passed_fits, result_fits, same_results, same_signature}
+pub use Rattle.sc_core.specs.WellTyped.{same_types, scope_of, section_fits, sections_fit, starred_within, struct_fits}
+pub use Rattle.sc_core.specs.WellTyped.{structs_fit, type_within, variable_fits, words_fit}
 pub use Rattle.sc_core.specs.Words.{Break, Calls, Closed, Continue, Does, Exit, FrameChange, Here, IsStop, Left, Next}
 pub use Rattle.sc_core.specs.Words.{On, Opened, Out, Piece, Reached, Return, Route, State, Stopped, all_do, and_then}
 pub use Rattle.sc_core.specs.Words.{choose, computed, follow, in_loop, in_order, leave, loop, rounds, stored, take}

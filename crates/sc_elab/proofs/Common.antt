@@ -1,6 +1,6 @@
 -- The names that several proofs of this crate cite, passed on from one place. Declares nothing.
 pub use Rattle.std.proofs.Common.{Bool, IfOk, IsSome, List, None, OnOk, Option, Result, Some, [], add-one, ap}
-pub use Rattle.std.proofs.Common.{append-nil, append_assoc, arith, bytes_eq, codes, drop, false, filter_map, get_or}
+pub use Rattle.std.proofs.Common.{append-nil, append_assoc, arith, bytes_eq, drop, false, filter_map, get_or}
 pub use Rattle.std.proofs.Common.{if◌then◌else◌, length, map, ne_eqb, option_map, position, refl, slice_get, subst, suc}
 pub use Rattle.std.proofs.Common.{sym, take, true, zero, ℕ, ◌&&◌, ◌++◌, ◌+◌, ◌<◌, ◌==◌, ◌∙◌, ◌∷◌, ◌≡◌, ◌≤◌}
 pub use Rattle.std.proofs.lemmas.List.{drop_all, map-append}
@@ -12,7 +12,7 @@ pub use Rattle.sc_base.proofs.Lists.{drop-step, map_twice, position-cons, take-s
 pub use Rattle.sc_ast.specs.Prelude.{head_of, param_of}
 pub use Rattle.sc_ast.specs.declared.expr.ExprTree.{ExprTree}
 pub use Rattle.sc_ast.specs.declared.section.GlobalTree.{GlobalTree}
-pub use Rattle.sc_scope.proofs.Lines.{noted_all-append, with_lines-append, with_lines-nil}
+pub use Rattle.sc_scope.proofs.Lines.{noted_all-append, then, with_lines-append, with_lines-nil}
 pub use Rattle.sc_scope.specs.Prelude.{function_in, function_named, function_names, functions_in, global_in, globals_in}
 pub use Rattle.sc_scope.specs.Prelude.{head_in, heads_in, import_of, interface_of, interfaces_from, interfaces_of}
 pub use Rattle.sc_scope.specs.Prelude.{line_of_text, noted, noted_all, refused_at, struct_in, struct_names, structs_in}

@@ -1,15 +1,14 @@
 -- The lines of a function: those of its locals, and those of its body.
 use Rattle.sc_elab.proofs.Common.{BrokenLines, ExprTree, FunctionScope, FunctionTree, GlobalTree, List, LocalTree, None}
 use Rattle.sc_elab.proofs.Common.{OnOk, Option, Result, SectionScope, SectionTree, Some, Stands, StandsIn, Suits, Ty}
-use Rattle.sc_elab.proofs.Common.{add-one, ap, concat, drop, drop-step, drop_all, function_lines, get_or, global_lines}
-use Rattle.sc_elab.proofs.Common.{init_fits, init_goes, init_holds, is_sized, length, locals_from, map, on_ok, refl}
-use Rattle.sc_elab.proofs.Common.{scope_in, stmt_lines, subst, suc, sym, tags, type_of, typed_init, unless, visible}
-use Rattle.sc_elab.proofs.Common.{with_lines, with_lines-append, with_lines-nil, ℕ, ◌&&◌, ◌+◌, ◌<◌, ◌∙◌, ◌≡◌, ◌≤◌}
-use Rattle.std.proofs.Common.{arith}
+use Rattle.sc_elab.proofs.Common.{add-one, ap, arith, concat, drop, drop-step, drop_all, function_lines, get_or}
+use Rattle.sc_elab.proofs.Common.{global_lines, init_fits, init_goes, init_holds, is_sized, length, locals_from, map}
+use Rattle.sc_elab.proofs.Common.{on_ok, refl, scope_in, stmt_lines, subst, suc, sym, tags, then, type_of, typed_init}
+use Rattle.sc_elab.proofs.Common.{unless, visible, with_lines, with_lines-append, with_lines-nil, ℕ, ◌&&◌, ◌+◌, ◌<◌}
+use Rattle.sc_elab.proofs.Common.{◌∙◌, ◌≡◌, ◌≤◌}
 use Rattle.sc_elab_expr.specs.Calls as calls
 use Rattle.sc_elab.proofs.Functions.{seen}
 use Rattle.sc_elab.proofs.Suiting.{suiting}
-use Rattle.sc_scope.proofs.Lines.{then}
 
 module _ (scope : SectionScope) (section : SectionTree) (stands : Stands scope section) where
   pub global_noted : (tree : GlobalTree) (a b : BrokenLines) → b ≡ with_lines a (unless (is_sized tree.ty &&

@@ -2,11 +2,10 @@
 use Rattle.sc_elab.proofs.Common.{ExprTree, FunctionScope, FunctionTree, List, LocalTree, None, Option, SectionScope}
 use Rattle.sc_elab.proofs.Common.{SectionTree, Some, Stands, StandsIn, Ty, TypedLocal, [], add-one, ap, called, drop}
 use Rattle.sc_elab.proofs.Common.{drop-step, get_or, going_to, length, local_in, local_variable, map, map-append, refl}
-use Rattle.sc_elab.proofs.Common.{stmt_in, suc, tags, take, take-step, type_of, type_of_name, typed, typed_function}
-use Rattle.sc_elab.proofs.Common.{typed_init, typed_local, typed_locals, typed_param, typed_stmt, value_in, visible}
-use Rattle.sc_elab.proofs.Common.{visible_in, ℕ, ◌++◌, ◌+◌, ◌<◌, ◌∙◌, ◌∷◌, ◌≡◌}
+use Rattle.sc_elab.proofs.Common.{stmt_in, subst, suc, tags, take, take-step, type_of, type_of_name, typed}
+use Rattle.sc_elab.proofs.Common.{typed_function, typed_init, typed_local, typed_locals, typed_param, typed_stmt}
+use Rattle.sc_elab.proofs.Common.{value_in, visible, visible_in, ℕ, ◌++◌, ◌+◌, ◌<◌, ◌∙◌, ◌∷◌, ◌≡◌}
 use Rattle.std.specs.Option.{option_map}
-use Rattle.std.proofs.Common.{subst}
 use Rattle.sc_core.specs.declared.section.TypedFunction.{TypedFunction}
 use Rattle.sc_elab_stmt.proofs.Loops.{one_more, all_done}
 

@@ -1,6 +1,6 @@
 -- What is judged of an expression by its parts is what is judged of the whole.
 use Rattle.sc_elab_expr.proofs.Common.{Bool, Err, Found, Global, IfOk, Judged, List, None, Ok, Option, Result, Scope}
-use Rattle.sc_elab_expr.proofs.Common.{Some, Suits, Ty, TypedExpr, TypedMember, TypedStruct, Visible, [], ap}
+use Rattle.sc_elab_expr.proofs.Common.{Some, Suits, Ty, TypedExpr, TypedMember, TypedStruct, Visible, [], ap, arith}
 use Rattle.sc_elab_expr.proofs.Common.{binary_fits, bytes_eq, decayed, eq-eqb, false, found, has_member, is_address}
 use Rattle.sc_elab_expr.proofs.Common.{is_int, is_pointer, is_some, is_type, is_zero, judged, literal_fits}
 use Rattle.sc_elab_expr.proofs.Common.{member_named, member_of, member_offset, member_ty, no_ty, option_and_then}
@@ -8,7 +8,6 @@ use Rattle.sc_elab_expr.proofs.Common.{pointer_to, position, refl, same_base, sa
 use Rattle.sc_elab_expr.proofs.Common.{target, term_judged, true, unary_fits, variable_typed, zero, zero_step, ℕ, ◌&&◌}
 use Rattle.sc_elab_expr.proofs.Common.{◌==◌, ◌∙◌, ◌∷◌, ◌≡◌}
 use Rattle.sc_core.specs.declared.ty.BaseTy.{BaseTy}
-use Rattle.std.proofs.Common.{arith}
 use Rattle.sc_core.proofs.Judged.{judged_ty}
 use Rattle.std.specs.List.{list_any}
 use Rattle.sc_base.specs.declared.op.BinaryOp.{BinaryOp}

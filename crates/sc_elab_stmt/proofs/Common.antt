@@ -1,7 +1,7 @@
 -- The names that several proofs of this crate cite, passed on from one place. Declares nothing.
 pub use Rattle.std.proofs.Common.{Bool, Err, IfOk, IsTrue, List, None, Ok, OnOk, Option, Result, Some, [], add-one, ap}
-pub use Rattle.std.proofs.Common.{append-nil, append_assoc, drop, false, get_or, length, map, refl, rules, subst, suc}
-pub use Rattle.std.proofs.Common.{sym, true, ℕ, ◌&&◌, ◌++◌, ◌+◌, ◌<◌, ◌∙◌, ◌∷◌, ◌≡◌, ◌≢◌, ◌≤◌}
+pub use Rattle.std.proofs.Common.{append-nil, append_assoc, arith, drop, false, get_or, length, map, refl, rules, subst}
+pub use Rattle.std.proofs.Common.{suc, sym, true, ℕ, ◌&&◌, ◌++◌, ◌+◌, ◌<◌, ◌∙◌, ◌∷◌, ◌≡◌, ◌≢◌, ◌≤◌}
 pub use Rattle.std.proofs.lemmas.List.{drop_all}
 pub use Rattle.std.specs.List.{concat}
 pub use Rattle.sc_base.proofs.Lists.{drop-step}

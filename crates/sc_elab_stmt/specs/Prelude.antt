@@ -9,5 +9,5 @@ unfoldable pub use Rattle.sc_elab_stmt.specs.Seen.{value_in}
 pub use Rattle.sc_elab_stmt.specs.Statements.{assign_call_holds, assign_holds, call_holds, cond_holds, going_to_all}
 pub use Rattle.sc_elab_stmt.specs.Statements.{going_to_some, kind_lines, kind_step, params_of, part_lines}
 pub use Rattle.sc_elab_stmt.specs.Statements.{return_call_holds, return_value_holds, simple_holds, stmt_lines}
-pub use Rattle.sc_elab_stmt.specs.Statements.{stmt_step, typed_args, typed_call, typed_simple, typed_simple_kind}
-pub use Rattle.sc_elab_stmt.specs.Statements.{typed_stmt, typed_value}
+pub use Rattle.sc_elab_stmt.specs.Statements.{stmt_step, typed_call, typed_simple, typed_simple_kind, typed_stmt}
+pub use Rattle.sc_elab_stmt.specs.Statements.{typed_value}

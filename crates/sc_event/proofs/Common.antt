@@ -1,8 +1,8 @@
 -- The names that several proofs of this crate cite, passed on from one place. Declares nothing.
 pub use Rattle.std.proofs.Common.{All, Bool, IfSome, IsSome, List, None, Option, Some, [], ap, arith, codes, cond, drop}
-pub use Rattle.std.proofs.Common.{eq-eqb, eqb-true, false, filter, get_or, if◌then◌else◌, length, length-drop, ne_eqb}
-pub use Rattle.std.proofs.Common.{refl, slice_get, subst, suc, sym, take, true, zero, ℕ, ◌&&◌, ◌++◌, ◌+◌, ◌-◌, ◌<◌}
-pub use Rattle.std.proofs.Common.{◌==◌, ◌∙◌, ◌∷◌, ◌≡◌, ◌≤◌}
+pub use Rattle.std.proofs.Common.{eq-eqb, eqb-true, false, filter, get_or, if◌then◌else◌, length, length-drop, map}
+pub use Rattle.std.proofs.Common.{ne_eqb, refl, replicate, slice_get, subst, suc, sym, take, true, zero, ℕ, ◌&&◌, ◌++◌}
+pub use Rattle.std.proofs.Common.{◌+◌, ◌-◌, ◌<◌, ◌==◌, ◌∙◌, ◌∷◌, ◌≡◌, ◌≤◌}
 pub use Rattle.std.proofs.lemmas.Bool.{and_parts, false≢true}
 pub use Rattle.std.proofs.lemmas.List.{drop_more, take_more}
 pub use Rattle.std.proofs.lemmas.Option.{get_or_from_slice_get, none-some, same_Some, slice_get-get_or}

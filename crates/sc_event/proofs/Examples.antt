@@ -1,7 +1,6 @@
 -- Traces that are legal and traces that are not, and what one compartment does in a trace that comes back to it.
 use Rattle.sc_event.proofs.Common.{Call, End, Event, In, Interfaces, List, None, Out, Ret, Some, [], codes, count_of}
-use Rattle.sc_event.proofs.Common.{event_line, false, legal, part, refl, true, ℕ, ◌++◌, ◌∷◌, ◌≡◌}
-use Rattle.std.proofs.Common.{map, replicate}
+use Rattle.sc_event.proofs.Common.{event_line, false, legal, map, part, refl, replicate, true, ℕ, ◌++◌, ◌∷◌, ◌≡◌}
 use Rattle.std.specs.Fmt.{digits}
 use Rattle.sc_event.specs.declared.interface.Import.TheVariants.{Output, Function}
 use Rattle.sc_event.specs.declared.interface.Proto.{Proto}

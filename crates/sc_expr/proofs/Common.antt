@@ -4,7 +4,6 @@ pub use Rattle.std.proofs.Common.{append_assoc, arith, cond, false, le-leb, leb,
 pub use Rattle.std.proofs.Common.{suc, sym, take, true, zero, ℕ, ⊎_elim, ◌*◌, ◌++◌, ◌+◌, ◌-◌, ◌<◌, ◌∙◌, ◌∷◌, ◌≡◌, ◌≤◌}
 pub use Rattle.std.proofs.lemmas.Bool.{cases_lt, lt-leb}
 pub use Rattle.std.proofs.lemmas.Option.{cond_some, none-some}
-pub use Rattle.std.specs.Option.{option_map}
 pub use Rattle.sc_base.specs.Prelude.{level_of, loosest_level, unary_level}
 pub use Rattle.sc_ast.specs.Prelude.{Number, expr_height}
 pub use Rattle.sc_expr.specs.Common.{BinaryOp, ExprTree}
@@ -12,9 +11,8 @@ pub use Rattle.sc_expr.specs.Prelude.{Agrees, Fails, Found, IsFront, IsIdent, Is
 pub use Rattle.sc_expr.specs.Prelude.{Spells, arrow, behind, binary_of, extension_at, extension_by, extension_level}
 pub use Rattle.sc_expr.specs.Prelude.{extension_of, extension_within, found, index, is_mark, joined, joined_with}
 pub use Rattle.sc_expr.specs.Prelude.{lead_by, lead_of, lead_with, leaf_of, level_with, lexeme_of, literal, looser}
-pub use Rattle.sc_expr.specs.Prelude.{member, most_open, name_at, name_by, open_after, parenthesised}
-pub use Rattle.sc_expr.specs.Prelude.{prefix_of, prefixed, read_expr, read_nested, turn_with, variable, within}
-pub use Rattle.sc_expr.specs.Prelude.{«prefix», ◌>>=◌}
+pub use Rattle.sc_expr.specs.Prelude.{member, most_open, name_at, name_by, open_after, parenthesised, prefix_of}
+pub use Rattle.sc_expr.specs.Prelude.{prefixed, read_expr, read_nested, turn_with, variable, within, «prefix», ◌>>=◌}
 unfoldable pub use Rattle.sc_expr.specs.Prelude.{extended_with, go_on, operand_with, read, read_within}
 pub use Rattle.sc_expr.specs.declared.fault.SyntaxFault.{SyntaxFault}
 pub use Rattle.sc_expr.specs.declared.lexeme.Lexeme.{Lexeme}
@@ -22,4 +20,3 @@ pub use Rattle.sc_expr.specs.declared.lexeme.Symbol.{Symbol}
 pub use Rattle.sc_expr.specs.declared.mark.Mark.{Mark}
 pub use Rattle.sc_expr.specs.declared.operator.Extension.{Extension}
 pub use Rattle.sc_expr.specs.declared.operator.Prefix.{Prefix}
-pub use Rattle.sc_expr.specs.declared.parser.Lead.{Lead}

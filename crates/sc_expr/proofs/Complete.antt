@@ -3,9 +3,10 @@ use Rattle.sc_expr.proofs.Common.{ExprTree, Extension, IsMark, Lexeme, List, Mar
 use Rattle.sc_expr.proofs.Common.{[], ap, append_assoc, arith, arrow, cond, expr_height, extended_with, extension_by}
 use Rattle.sc_expr.proofs.Common.{extension_level, extension_of, extension_within, found, go_on, index, joined}
 use Rattle.sc_expr.proofs.Common.{joined_with, le-leb, lead_by, level_of, literal, looser, lt-leb, member, most_open}
-use Rattle.sc_expr.proofs.Common.{none-some, operand_with, option_map, parenthesised, prefix_of, read, read_nested}
-use Rattle.sc_expr.proofs.Common.{refl, subst, suc, sym, variable, within, zero, «prefix», ℕ, ◌++◌, ◌+◌, ◌-◌, ◌<◌, ◌∙◌}
-use Rattle.sc_expr.proofs.Common.{◌∷◌, ◌≡◌, ◌≤◌}
+use Rattle.sc_expr.proofs.Common.{none-some, operand_with, parenthesised, prefix_of, read, read_nested, refl, subst}
+use Rattle.sc_expr.proofs.Common.{suc, sym, variable, within, zero, «prefix», ℕ, ◌++◌, ◌+◌, ◌-◌, ◌<◌, ◌∙◌, ◌∷◌, ◌≡◌}
+use Rattle.sc_expr.proofs.Common.{◌≤◌}
+use Rattle.std.specs.Option.{option_map}
 use Rattle.sc_expr.specs.declared.mark.Mark.TheVariants as mark
 use Rattle.sc_expr.specs.declared.lexeme.Symbol.TheVariants as symbol
 use Rattle.sc_expr.specs.declared.parser.Lead.TheVariants as lead

@@ -1,12 +1,13 @@
 -- What is read is spelled so, and within the limits.
-use Rattle.sc_expr.proofs.Common.{ExprTree, Extension, Found, IsMark, Lead, Lexeme, List, Mark, None, Option, Prefix}
-use Rattle.sc_expr.proofs.Common.{Reader, Some, Spells, Symbol, [], ap, arith, arrow, behind, cases_lt, expr_height}
+use Rattle.sc_expr.proofs.Common.{ExprTree, Extension, Found, IsMark, Lexeme, List, Mark, None, Option, Prefix, Reader}
+use Rattle.sc_expr.proofs.Common.{Some, Spells, Symbol, [], ap, arith, arrow, behind, cases_lt, expr_height}
 use Rattle.sc_expr.proofs.Common.{extended_with, extension_at, extension_by, extension_level, extension_within, found}
 use Rattle.sc_expr.proofs.Common.{go_on, index, joined, joined_with, lead_of, lead_with, leaf_of, leb, leb-true}
 use Rattle.sc_expr.proofs.Common.{level_of, level_with, literal, looser, member, most_open, name_at, none-some}
 use Rattle.sc_expr.proofs.Common.{operand_with, parenthesised, read, read_within, refl, subst, suc, sym, true}
 use Rattle.sc_expr.proofs.Common.{turn_with, variable, zero, «prefix», ℕ, ⊎_elim, ◌++◌, ◌+◌, ◌-◌, ◌<◌, ◌>>=◌, ◌∙◌, ◌∷◌}
 use Rattle.sc_expr.proofs.Common.{◌≡◌, ◌≤◌}
+use Rattle.sc_expr.specs.declared.parser.Lead.{Lead}
 use Rattle.sc_expr.specs.declared.mark.Mark.TheVariants as mark
 use Rattle.sc_expr.specs.declared.operator.Extension.TheVariants as extension
 use Rattle.sc_expr.specs.declared.lexeme.Symbol.TheVariants as symbol

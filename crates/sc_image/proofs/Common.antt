@@ -1,18 +1,18 @@
 -- The names that several proofs of this crate cite, passed on from one place. Declares nothing.
-pub use Rattle.std.proofs.Common.{All, Bool, Err, IsSome, IsTrue, List, None, Ok, Option, Result, Some, [], ap}
-pub use Rattle.std.proofs.Common.{append-nil, append_assoc, ap₂, arith, codes, cond, drop, drop_at, eq-eqb, eqb-true}
-pub use Rattle.std.proofs.Common.{false, flat_map, get_or, get_or-drop, get_or-set_other, get_or-set_same, get_or-take}
+pub use Rattle.std.proofs.Common.{All, Bool, Err, IsSome, List, None, Ok, Option, Result, Some, [], ap, append-nil}
+pub use Rattle.std.proofs.Common.{append_assoc, ap₂, arith, codes, cond, drop, drop_at, eq-eqb, eqb-true, false}
+pub use Rattle.std.proofs.Common.{flat_map, get_or, get_or-drop, get_or-set_other, get_or-set_same, get_or-take}
 pub use Rattle.std.proofs.Common.{if◌then◌else◌, inl, inr, is_some, le-leb, le-ltb, leb-true, length, length-append}
-pub use Rattle.std.proofs.Common.{length-drop, length-set, length-take, length-take-le, lit<, lit≤, lt-ltb, ltb-true}
-pub use Rattle.std.proofs.Common.{map, nat_eq, nat_le, nat_lt, ne_eqb, not, position, refl, replicate, set, slice_index}
+pub use Rattle.std.proofs.Common.{length-drop, length-set, length-take, length-take-le, lit≤, lt-ltb, ltb-true, map}
+pub use Rattle.std.proofs.Common.{nat_eq, nat_le, nat_lt, ne_eqb, not, position, refl, replicate, set, slice_index}
 pub use Rattle.std.proofs.Common.{slice_set, subst, suc, suc-add, sym, take, take-append-drop, take_at, true}
 pub use Rattle.std.proofs.Common.{true≢false, unwrap_or, zero, zero-add, ℕ, ⊎_elim, ◌%◌, ◌&&◌, ◌*◌, ◌++◌, ◌+◌, ◌-◌, ◌/◌}
 pub use Rattle.std.proofs.Common.{◌<◌, ◌==◌, ◌^◌, ◌||◌, ◌↔◌, ◌∙◌, ◌∷◌, ◌≡◌, ◌≢◌, ◌≤◌, ◌⊎◌}
 pub use Rattle.std.proofs.Math.Seq.{drop-append_seam, drop-length}
 pub use Rattle.std.proofs.lemmas.Bool.{and_from, and_parts, cases_lt, false_from_ne_true, lt-leb, not-true}
 pub use Rattle.std.proofs.lemmas.Bool.{not_from_false, or_from, or_left, or_parts, or_right}
-pub use Rattle.std.proofs.lemmas.Bool.Decides.{Decides-and, Decides-like, nat_tests, not_from_Decides}
-pub use Rattle.std.proofs.lemmas.Bool.Decides.{same_from_decides}
+pub use Rattle.std.proofs.lemmas.Bool.Decides.{Decides-and, Decides-by_and, Decides-like, Decides-ltb, Decides-not}
+pub use Rattle.std.proofs.lemmas.Bool.Decides.{nat_tests, not_from_Decides, same_from_decides}
 pub use Rattle.std.proofs.lemmas.List.{drop_more, get_or_default, get_or_past, length-map, length-replicate}
 pub use Rattle.std.proofs.lemmas.List.{nil_from_length, take-replicate}
 pub use Rattle.std.proofs.lemmas.List.Elements.{All-cons, All-from_recursion, All-head, All-nil, All-tail}
@@ -33,21 +33,12 @@ pub use Rattle.std.specs.Option.{IsSomeAnd, option_and_then, option_map, option_
 pub use Rattle.sc_base.proofs.Lists.{all_by, is_there}
 pub use Rattle.sc_base.specs.Prelude.{is_between, is_name_byte, is_nondigit}
 unfoldable pub use Rattle.sc_base.specs.Prelude.{is_name}
-pub use Rattle.sc_event.specs.Prelude.{Activation, Standing, at_start, awaits, fits_result, imports, is_allowed}
-pub use Rattle.sc_event.specs.Prelude.{is_function, is_input, is_legal_from, is_output, may_perform, may_return}
-pub use Rattle.sc_event.specs.Prelude.{performer, resumed, stands_after, stands_behind, takes}
-pub use Rattle.sc_event.specs.declared.interface.Import.{Import}
-pub use Rattle.sc_event.specs.declared.interface.Interfaces.{Interfaces}
-pub use Rattle.sc_event.specs.declared.interface.Proto.{Proto}
 pub use Rattle.sc_event.specs.declared.interface.Scalar.TheVariants.{Int}
 pub use Rattle.sc_word.proofs.Below.{add_word-lt, div_word-lt, divu_word-lt, mul_word-lt, mulh_word-lt, mulhsu_word-lt}
 pub use Rattle.sc_word.proofs.Below.{mulhu_word-lt, rem_word-lt, remu_word-lt, sll_word-lt, slt_word-lt, sltu_word-lt}
 pub use Rattle.sc_word.proofs.Below.{sra_word-lt, srl_word-lt, sub_word-lt}
 pub use Rattle.sc_word.proofs.Words.{word_of-lt}
-pub use Rattle.rv_code.specs.Prelude.{HasWord}
-unfoldable pub use Rattle.rv_code.specs.Prelude.{branch_in, branch_op_of, decoded, jalr_in, load_in, load_op_of}
-unfoldable pub use Rattle.rv_code.specs.Prelude.{op_imm_in, op_imm_op_of, op_in, op_op_of, store_in, store_op_of}
-unfoldable pub use Rattle.rv_code.specs.Prelude.{system_in}
+pub use Rattle.rv_code.specs.Prelude.{HasWord, decoded}
 pub use Rattle.sc_store.proofs.Words.{load_of-same, stored-apart}
 pub use Rattle.sc_store.specs.Prelude.{HoldsBytes, Memory, byte_of, is_in, load_of, stored}
 pub use Rattle.sc_image.specs.Common.{Auipc, BadCall, BadJump, Branch, Breakpoint, Call, Ebreak, Ecall, End, Ended}
@@ -57,7 +48,7 @@ pub use Rattle.sc_image.specs.Common.{Shift, ShiftOp, StepsOut, Stop, Store, Sto
 pub use Rattle.sc_image.specs.Common.{little_bytes, little_number}
 pub use Rattle.sc_image.specs.Prelude.{Adds, AreSilent, BadOrImage, BytesNameOneImage, Crossing, Entered, EntersByEvent}
 pub use Rattle.sc_image.specs.Prelude.{Fails, FitsItsFields, FollowsFromOwn, Goes, GoesOnSame, ImageInMemory, IsAt}
-pub use Rattle.sc_image.specs.Prelude.{IsByte, IsCall, IsChain, IsComp, IsDistinct, IsExport, IsImage, IsImport}
+pub use Rattle.sc_image.specs.Prelude.{IsByte, IsCall, IsChain, IsComp, IsDistinct, IsEntry, IsImage, IsImport}
 pub use Rattle.sc_image.specs.Prelude.{IsReached, IsSilent, IsSteady, IsWellFormed, IsWord, KeepsWords, Kept}
 pub use Rattle.sc_image.specs.Prelude.{LeavesOthers, LegalByWords, LooksSame, OpenCall, Outcome, Own, Read, Run}
 pub use Rattle.sc_image.specs.Prelude.{Running, RunsAreSteady, State, StepsByInstruction, StepsTell, StretchesCompose}

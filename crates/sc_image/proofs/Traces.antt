@@ -1,18 +1,21 @@
 -- The trace of a run is one that the image's interfaces allow, whatever the types of their scalars.
-use Rattle.sc_image.proofs.Common.{Activation, All, Bool, Call, CompPart, Crossing, End, Ended, Entry, Event, EventsOut}
-use Rattle.sc_image.proofs.Common.{Export, ExportPart, ImageParts, Import, In, Int, Interfaces, IsChain, IsSteady}
-use Rattle.sc_image.proofs.Common.{IsWellFormed, IsWord, LegalByWords, List, Main, Memory, None, Option, Out, Proto}
-use Rattle.sc_image.proofs.Common.{Ret, Some, Standing, State, TracesAreLegal, [], a0, and_from, and_parts, ap, ap₂}
-use Rattle.sc_image.proofs.Common.{arguments, arith, at_start, awaits, eq-eqb, exports_of, false, fits_result}
-use Rattle.sc_image.proofs.Common.{given_back, has_result, if◌then◌else◌, import_of, imports, inl, inr, interface_of}
-use Rattle.sc_image.proofs.Common.{interfaces_of, is_allowed, is_end, is_ended, is_function, is_input, is_legal_from}
-use Rattle.sc_image.proofs.Common.{is_output, is_there, length, length-append, length-map, length-replicate, list_any}
-use Rattle.sc_image.proofs.Common.{list_any-append, machine, map, may_call, may_input, may_output, may_perform}
-use Rattle.sc_image.proofs.Common.{may_return, option_and_then, option_map, option_map_or, or_right, params_of}
-use Rattle.sc_image.proofs.Common.{performer, position, position-Some, proto_of, refl, reg, resumed, returned, run}
-use Rattle.sc_image.proofs.Common.{slice_get, slice_get-map, stands_after, stands_behind, start, step, stopped, subst}
-use Rattle.sc_image.proofs.Common.{sym, takes, true, true≢false, word_interface, word_interfaces, word_proto, ℕ, ◌&&◌}
-use Rattle.sc_image.proofs.Common.{◌++◌, ◌-◌, ◌<◌, ◌==◌, ◌||◌, ◌∙◌, ◌∷◌, ◌≡◌, ◌⊎◌}
+use Rattle.sc_image.proofs.Common.{All, Bool, Call, CompPart, Crossing, End, Ended, Entry, Event, EventsOut, Export}
+use Rattle.sc_image.proofs.Common.{ExportPart, ImageParts, In, Int, IsChain, IsSteady, IsWellFormed, IsWord}
+use Rattle.sc_image.proofs.Common.{LegalByWords, List, Main, Memory, None, Option, Out, Ret, Some, State}
+use Rattle.sc_image.proofs.Common.{TracesAreLegal, [], a0, and_from, and_parts, ap, ap₂, arguments, arith, eq-eqb}
+use Rattle.sc_image.proofs.Common.{exports_of, false, given_back, has_result, if◌then◌else◌, import_of, inl, inr}
+use Rattle.sc_image.proofs.Common.{interface_of, interfaces_of, is_end, is_ended, is_there, length, length-append}
+use Rattle.sc_image.proofs.Common.{length-map, length-replicate, list_any, list_any-append, machine, map, may_call}
+use Rattle.sc_image.proofs.Common.{may_input, may_output, option_and_then, option_map, option_map_or, or_right}
+use Rattle.sc_image.proofs.Common.{params_of, position, position-Some, proto_of, refl, reg, returned, run, slice_get}
+use Rattle.sc_image.proofs.Common.{slice_get-map, start, step, stopped, subst, sym, true, true≢false, word_interface}
+use Rattle.sc_image.proofs.Common.{word_interfaces, word_proto, ℕ, ◌&&◌, ◌++◌, ◌-◌, ◌<◌, ◌==◌, ◌||◌, ◌∙◌, ◌∷◌, ◌≡◌, ◌⊎◌}
+use Rattle.sc_event.specs.Prelude.{Activation, Standing, at_start, awaits, comp_at, export_at, fits_result, imports}
+use Rattle.sc_event.specs.Prelude.{is_allowed, is_function, is_input, is_legal_from, is_output, may_perform, may_return}
+use Rattle.sc_event.specs.Prelude.{performer, resumed, stands_after, stands_behind, takes}
+use Rattle.sc_event.specs.declared.interface.Import.{Import}
+use Rattle.sc_event.specs.declared.interface.Interfaces.{Interfaces}
+use Rattle.sc_event.specs.declared.interface.Proto.{Proto}
 use Rattle.sc_event.specs.declared.interface.Import.TheVariants.{Input, Output}
 use Rattle.sc_event.specs.Lookup as lookup
 use Rattle.sc_event.specs.Legal as law
@@ -21,7 +24,6 @@ use Rattle.sc_image.proofs.Words.{comp_found, no_export}
 use Rattle.sc_image.proofs.Running.{run_keeps}
 use Rattle.sc_image.proofs.Enters.{few_params, length-arguments}
 use Rattle.sc_image.proofs.Reached.{steady_start, steady_step}
-use Rattle.sc_event.specs.Prelude.{comp_at, export_at}
 use Rattle.sc_event.specs.declared.interface.Interface.{Interface}
 use Rattle.sc_event.specs.declared.interface.Scalar.{Scalar}
 

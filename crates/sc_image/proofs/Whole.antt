@@ -1,21 +1,20 @@
 -- Parts are well formed exactly where their fields are good and they keep the rules on a whole image: what is read is
 -- an image with these bytes, and what an image is written as is read as it.
 use Rattle.sc_image.proofs.Common.{All, All-from_recursion, AllPairs-from_IsDistinct, BadImage, BadOrImage, Bool}
-use Rattle.sc_image.proofs.Common.{BytesNameOneImage, CompPart, Decides, Decides-and, Decides-like, Err, ExportPart}
-use Rattle.sc_image.proofs.Common.{FitsItsFields, ImageParts, ImportPart, IsByte, IsComp, IsDistinct}
-use Rattle.sc_image.proofs.Common.{IsDistinct-from_AllPairs, IsDistinct-from_count, IsEquivalence, IsImage, IsImport}
-use Rattle.sc_image.proofs.Common.{IsSomeAnd, IsWellFormed, IsWord, List, None, Ok, Option, Result, Some, Whole, []}
-use Rattle.sc_image.proofs.Common.{all_by, and_parts, ap, append-nil, are_distinct, arith, bad, bytes_decides, cause_of}
-use Rattle.sc_image.proofs.Common.{code_of, code_start, comps_keep, cond, distinct_count-from_IsDistinct, eq-eqb}
-use Rattle.sc_image.proofs.Common.{eqb-true, exports_keep, false, false_from_ne_true, get_or_default}
-use Rattle.sc_image.proofs.Common.{get_or_from_slice_get, image_bytes, image_in_version, image_of, imports_keep}
-use Rattle.sc_image.proofs.Common.{is_entry, is_import, is_same_import, is_same_name, is_some, keeps_rules, length}
-use Rattle.sc_image.proofs.Common.{list_all, lit≤, map, nat_lt, nil_from_length, not, not_from_Decides, option_map_or}
-use Rattle.sc_image.proofs.Common.{parts_in_version, recursion_from_All, refl, same_from_decides, slice_get}
-use Rattle.sc_image.proofs.Common.{slice_get_within, stretch, subst, suc, sym, true, unsigned_Decides, version, word_at}
-use Rattle.sc_image.proofs.Common.{zero, ℕ, ◌&&◌, ◌*◌, ◌++◌, ◌+◌, ◌-◌, ◌/◌, ◌<◌, ◌==◌, ◌^◌, ◌∙◌, ◌∷◌, ◌≡◌, ◌≤◌}
-use Rattle.sc_image.specs.Prelude.{IsEntry}
-use Rattle.std.proofs.lemmas.Bool.Decides.{Decides-by_and, Decides-ltb, Decides-not}
+use Rattle.sc_image.proofs.Common.{BytesNameOneImage, CompPart, Decides, Decides-and, Decides-by_and, Decides-like}
+use Rattle.sc_image.proofs.Common.{Decides-ltb, Decides-not, Err, ExportPart, FitsItsFields, ImageParts, ImportPart}
+use Rattle.sc_image.proofs.Common.{IsByte, IsComp, IsDistinct, IsDistinct-from_AllPairs, IsDistinct-from_count, IsEntry}
+use Rattle.sc_image.proofs.Common.{IsEquivalence, IsImage, IsImport, IsSomeAnd, IsWellFormed, IsWord, List, None, Ok}
+use Rattle.sc_image.proofs.Common.{Option, Result, Some, Whole, [], all_by, and_parts, ap, append-nil, are_distinct}
+use Rattle.sc_image.proofs.Common.{arith, bad, bytes_decides, cause_of, code_of, code_start, comps_keep, cond}
+use Rattle.sc_image.proofs.Common.{distinct_count-from_IsDistinct, eq-eqb, eqb-true, exports_keep, false}
+use Rattle.sc_image.proofs.Common.{false_from_ne_true, get_or_default, get_or_from_slice_get, image_bytes}
+use Rattle.sc_image.proofs.Common.{image_in_version, image_of, imports_keep, is_entry, is_import, is_same_import}
+use Rattle.sc_image.proofs.Common.{is_same_name, is_some, keeps_rules, length, list_all, lit≤, map, nat_lt}
+use Rattle.sc_image.proofs.Common.{nil_from_length, not, not_from_Decides, option_map_or, parts_in_version}
+use Rattle.sc_image.proofs.Common.{recursion_from_All, refl, same_from_decides, slice_get, slice_get_within, stretch}
+use Rattle.sc_image.proofs.Common.{subst, suc, sym, true, unsigned_Decides, version, word_at, zero, ℕ, ◌&&◌, ◌*◌, ◌++◌}
+use Rattle.sc_image.proofs.Common.{◌+◌, ◌-◌, ◌/◌, ◌<◌, ◌==◌, ◌^◌, ◌∙◌, ◌∷◌, ◌≡◌, ◌≤◌}
 use Rattle.sc_image.proofs.Fields.{IsBytes, bytes_fit, bind_ok, good_ok}
 use Rattle.sc_image.proofs.Words.{some_is}
 use Rattle.sc_image.proofs.FileFields.{FitsExport, FitsImport, FitsComp, FitsParts, parts_field}

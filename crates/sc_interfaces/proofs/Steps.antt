@@ -1,10 +1,11 @@
 -- One turn of a loop.
 use Rattle.sc_interfaces.proofs.Common.{Agreements, Bool, Decl, ExportLine, ImportLine, List, ParamTree, SectionTable}
-use Rattle.sc_interfaces.proofs.Common.{Struct, Text, [], all_added, ap, arith, decl_told, decls_told, drop, drop-step}
+use Rattle.sc_interfaces.proofs.Common.{Text, [], all_added, ap, arith, decl_told, decls_told, drop, drop-step}
 use Rattle.sc_interfaces.proofs.Common.{drop_all, export_fits, exports_told, false, get_or, head_added, head_in}
 use Rattle.sc_interfaces.proofs.Common.{heads_in, import_fits, imports_told, is_offered_by, length, numbered, refl}
 use Rattle.sc_interfaces.proofs.Common.{same_params, suc, sym, unless, with_lines, with_lines-append, with_lines-nil, ℕ}
 use Rattle.sc_interfaces.proofs.Common.{◌++◌, ◌+◌, ◌<◌, ◌∷◌, ◌≡◌, ◌≤◌}
+use Rattle.sc_ast.specs.declared.section.Decl.TheVariants.{Struct}
 use Rattle.sc_scope.specs.declared.broken.BrokenLines.{BrokenLines}
 use Rattle.sc_interfaces.specs.declared.imports.Imported.{Imported}
 

@@ -1,8 +1,8 @@
 -- Libraries that agree function by function run the same, also where compartments perform scripts.
-use Rattle.sc_laws.proofs.Common.{Action, AgreeingRunAlike, BodiesAgree, Body, Bool, CallTarget, arith, CallsAgree}
-use Rattle.sc_laws.proofs.Common.{Cross, Function, FunctionsAgree, Here, Input, LibrariesAgree, Library, List, Main}
-use Rattle.sc_laws.proofs.Common.{Meets, Memory, None, Option, Output, Piece, PiecesAgree, Roles, Row, RunsAgree, Some}
-use Rattle.sc_laws.proofs.Common.{State, Step, Value, Word, [], acts, and_then, ap, asks, back_own, call_own, calls}
+use Rattle.sc_laws.proofs.Common.{Action, AgreeingRunAlike, BodiesAgree, Body, Bool, CallTarget, CallsAgree, Cross}
+use Rattle.sc_laws.proofs.Common.{Function, FunctionsAgree, Here, Input, LibrariesAgree, Library, List, Main, Meets}
+use Rattle.sc_laws.proofs.Common.{Memory, None, Option, Output, Piece, PiecesAgree, Roles, Row, RunsAgree, Some, State}
+use Rattle.sc_laws.proofs.Common.{Step, Value, Word, [], acts, and_then, ap, arith, asks, back_own, call_own, calls}
 use Rattle.sc_laws.proofs.Common.{first_state, found, function, if◌then◌else◌, is_number, map, performs}
 use Rattle.sc_laws.proofs.Common.{piece_without_line, refl, run_by, run_in, run_step, run_to, scripted_step, subst, suc}
 use Rattle.sc_laws.proofs.Common.{within, zero, ℕ, ◌∷◌, ◌≡◌}

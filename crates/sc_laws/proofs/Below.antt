@@ -1,11 +1,11 @@
 -- Two runs that do the same, where the second may have more turns, and may go on where the first has to stop.
-use Rattle.sc_laws.proofs.Common.{option_value, rows_left, Action, AllFrom, BadType, Blamed, Body, Bool, Call}
-use Rattle.sc_laws.proofs.Common.{CallTarget, Cause, Cross, Ended, EventsOut, Export, Front, Function, Goes, Gone}
-use Rattle.sc_laws.proofs.Common.{Grown, Here, Input, Interfaces, Library, List, Meets, None, Ok, Option, Output, Own}
-use Rattle.sc_laws.proofs.Common.{Piece, Reached, Result, Roles, Row, RunEnd, Some, State, Step, Stopped, TurnsOut}
-use Rattle.sc_laws.proofs.Common.{Value, Word, [], acts, and_then, ap, ap₂, arith, asks, back_cross, back_own, begun}
-use Rattle.sc_laws.proofs.Common.{call_cross, call_own, called, calls, computed, crossed, done, false, found, function}
-use Rattle.sc_laws.proofs.Common.{if◌then◌else◌, inl, inr, is_number, last, length, map, may_call, performs, refl}
+use Rattle.sc_laws.proofs.Common.{Action, AllFrom, BadType, Blamed, Body, Bool, Call, CallTarget, Cause, Cross, Ended}
+use Rattle.sc_laws.proofs.Common.{EventsOut, Export, Front, Function, Goes, Gone, Grown, Here, Input, Interfaces}
+use Rattle.sc_laws.proofs.Common.{Library, List, Meets, None, Ok, Option, Output, Own, Piece, Reached, Result, Roles}
+use Rattle.sc_laws.proofs.Common.{Row, RunEnd, Some, State, Step, Stopped, TurnsOut, Value, Word, [], acts, and_then}
+use Rattle.sc_laws.proofs.Common.{ap, ap₂, arith, asks, back_cross, back_own, begun, call_cross, call_own, called}
+use Rattle.sc_laws.proofs.Common.{calls, computed, crossed, done, false, found, function, if◌then◌else◌, inl, inr}
+use Rattle.sc_laws.proofs.Common.{is_number, last, length, map, may_call, option_value, performs, refl, rows_left}
 use Rattle.sc_laws.proofs.Common.{run_in, run_step, scripted_step, subst, suc, sym, tell, true, turn, turn_of}
 use Rattle.sc_laws.proofs.Common.{with_blocks, within, word_in, zero, ℕ, ◌+◌, ◌<◌, ◌∙◌, ◌∷◌, ◌≡◌, ◌≤◌, ◌⊎◌}
 use Rattle.sc_laws.proofs.Growing.{front_same, front_more, then_from, late_more, same, no_turn, stays, earlier}

@@ -1,12 +1,12 @@
 -- No compartment that performs is blamed, whatever the trace is, and only compartments that there are.
-use Rattle.sc_laws.proofs.Common.{is_some, AreFresh, Blamed, Bool, Cause, ChainRises, Ended, Event, EventsOut, Function}
+use Rattle.sc_laws.proofs.Common.{AreFresh, Blamed, Bool, Cause, ChainRises, Ended, Event, EventsOut, Function}
 use Rattle.sc_laws.proofs.Common.{HasChain, IsBlamedOutside, IsChain, IsRising, IsWithin, Kept, Library, Link, List}
-use Rattle.sc_laws.proofs.Common.{Memory, Obedient, Option, PassesBlame, Piece, Roles, RunEnd, Set, SourceRun}
-use Rattle.sc_laws.proofs.Common.{TurnsOut, Value, [], ap, arith, cases_eq, eq-eqb, false, first_state}
-use Rattle.sc_laws.proofs.Common.{function, if◌then◌else◌, leb-false, length, length-append, longer, nat_le, ne_eqb}
-use Rattle.sc_laws.proofs.Common.{nobody, performed_by, reaches, refl, roles_in, roles_run, run_step, run_to}
-use Rattle.sc_laws.proofs.Common.{scripted_step, slice_get, slice_index_or, stopped_at, subst, suc, sym, true, turnless}
-use Rattle.sc_laws.proofs.Common.{with, within, zero, ℕ, ⊎_elim, ◌++◌, ◌+◌, ◌<◌, ◌||◌, ◌∙◌, ◌∷◌, ◌≡◌, ◌≤◌, ◌⊎◌}
+use Rattle.sc_laws.proofs.Common.{Memory, Obedient, Option, PassesBlame, Piece, Roles, RunEnd, Set, SourceRun, TurnsOut}
+use Rattle.sc_laws.proofs.Common.{Value, [], ap, arith, cases_eq, eq-eqb, false, first_state, function, if◌then◌else◌}
+use Rattle.sc_laws.proofs.Common.{is_some, leb-false, length, length-append, longer, nat_le, ne_eqb, nobody}
+use Rattle.sc_laws.proofs.Common.{performed_by, reaches, refl, roles_in, roles_run, run_step, run_to, scripted_step}
+use Rattle.sc_laws.proofs.Common.{slice_get, slice_index_or, stopped_at, subst, suc, sym, true, turnless, with, within}
+use Rattle.sc_laws.proofs.Common.{zero, ℕ, ⊎_elim, ◌++◌, ◌+◌, ◌<◌, ◌||◌, ◌∙◌, ◌∷◌, ◌≡◌, ◌≤◌, ◌⊎◌}
 use Rattle.sc_laws.proofs.Keeping.{Walk, place, main_walks, scripted_walks}
 use Rattle.sc_laws.proofs.FollowingRuns.{passes_blames}
 use Rattle.sc_laws.proofs.Runs.{shown}

@@ -1,16 +1,15 @@
 -- Calls in two runs along one trace, of which the second has more compartments that perform their parts of it.
-use Rattle.sc_laws.proofs.Common.{arith, Action, BadType, Body, Bool, Call, CallTarget, Cross, Event, Export, Front}
-use Rattle.sc_laws.proofs.Common.{Function, Goes, Gone, Here, In, Input, IsFixed, Library, List, Meets, None, Option}
-use Rattle.sc_laws.proofs.Common.{Output, Own, Piece, Proto, Reached, Ret, Row, Some, Standing, State, Step}
-use Rattle.sc_laws.proofs.Common.{Stopped, TurnsOut, Value, Word, [], action_of, acts, and_from, and_parts, and_then}
-use Rattle.sc_laws.proofs.Common.{ap, ap₂, asks, at_start, back_cross, begun, blocks_for, both_ways, call_cross}
-use Rattle.sc_laws.proofs.Common.{call_own, called, calls, crossed, crossing, done, drop, ended, eq-eqb, export_at}
-use Rattle.sc_laws.proofs.Common.{false, first_word, found, function, if◌then◌else◌, imports, is_number, is_output}
-use Rattle.sc_laws.proofs.Common.{is_word, last, length, list_all, map, may_call, next_input, now, option_value}
-use Rattle.sc_laws.proofs.Common.{performer, performs, read_input, refl, roles_in, rows_left, run_in, run_step}
-use Rattle.sc_laws.proofs.Common.{scripted_step, stands_after, stands_behind, subst, suc, sym, takes, tell, true, turn}
-use Rattle.sc_laws.proofs.Common.{turn_of, within, word_in, zero, ℕ, ◌++◌, ◌∙◌, ◌∷◌, ◌≡◌}
-use Rattle.sc_event.specs.declared.event.Event.TheVariants.{Out}
+use Rattle.sc_laws.proofs.Common.{Action, BadType, Body, Bool, Call, CallTarget, Cross, Event, Export, Front, Function}
+use Rattle.sc_laws.proofs.Common.{Goes, Gone, Here, In, Input, IsFixed, Library, List, Meets, None, Option, Out, Output}
+use Rattle.sc_laws.proofs.Common.{Own, Piece, Proto, Reached, Ret, Row, Some, Standing, State, Step, Stopped, TurnsOut}
+use Rattle.sc_laws.proofs.Common.{Value, Word, [], action_of, acts, and_from, and_parts, and_then, ap, ap₂, arith, asks}
+use Rattle.sc_laws.proofs.Common.{at_start, back_cross, begun, blocks_for, both_ways, call_cross, call_own, called}
+use Rattle.sc_laws.proofs.Common.{calls, crossed, crossing, done, drop, ended, eq-eqb, export_at, false, first_word}
+use Rattle.sc_laws.proofs.Common.{found, function, if◌then◌else◌, imports, is_number, is_output, is_word, last, length}
+use Rattle.sc_laws.proofs.Common.{list_all, map, may_call, next_input, now, option_value, performer, performs}
+use Rattle.sc_laws.proofs.Common.{read_input, refl, roles_in, rows_left, run_in, run_step, scripted_step, stands_after}
+use Rattle.sc_laws.proofs.Common.{stands_behind, subst, suc, sym, takes, tell, true, turn, turn_of, within, word_in}
+use Rattle.sc_laws.proofs.Common.{zero, ℕ, ◌++◌, ◌∙◌, ◌∷◌, ◌≡◌}
 use Rattle.sc_event.specs.declared.row.Action.TheVariants as act
 use Rattle.sc_laws.proofs.Growing.{front_same, front_more, more, reached, stays, no_turn, earlier, then_goes, BodyGoes}
 use Rattle.sc_laws.proofs.Growing.{done_goes, own_goes, cross_goes, back_goes, calls_go, performs_go, LibraryGoes}

@@ -1,13 +1,14 @@
 -- Whole runs along one trace, of which the second has more compartments that perform their parts of it; the least set.
-use Rattle.sc_laws.proofs.Common.{function, Blamed, Bool, Cause, Ended, Event, Front, Function, Includes, IsChain}
-use Rattle.sc_laws.proofs.Common.{IsFixed, IsStop, IsWithin, KeepsBlames, LeastIsChain, Library, Link, List, Main}
-use Rattle.sc_laws.proofs.Common.{Memory, Never, None, Obedient, Option, PassesBlame, PassesBlames, Piece, Reached}
-use Rattle.sc_laws.proofs.Common.{RunEnd, Set, Some, SourceRun, Standing, State, Step, Stopped, StopsSo, TellsWithMore}
-use Rattle.sc_laws.proofs.Common.{TurnsOut, Value, [], and_then, ap, append-nil, arith, begun, done, drop, eqb-true}
-use Rattle.sc_laws.proofs.Common.{exit_word, false, first_state, found, inl, inr, last, leb-false, length}
-use Rattle.sc_laws.proofs.Common.{length-append, longer, lt-leb, nobody, now, performed_by, reaches, refl, roles_in}
-use Rattle.sc_laws.proofs.Common.{roles_run, run_by, run_to, stopped_at, subst, suc, sym, take, take-append-drop}
-use Rattle.sc_laws.proofs.Common.{take_all, take_front, true, turnless, with, within, ℕ, ◌++◌, ◌+◌, ◌<◌, ◌∙◌, ◌∷◌, ◌≡◌}
+use Rattle.sc_laws.proofs.Common.{Blamed, Bool, Cause, Ended, Event, Front, Function, Includes, IsChain, IsFixed}
+use Rattle.sc_laws.proofs.Common.{IsStop, IsWithin, KeepsBlames, LeastIsChain, Library, Link, List, Main, Memory, Never}
+use Rattle.sc_laws.proofs.Common.{None, Obedient, Option, PassesBlame, PassesBlames, Piece, Reached, RunEnd, Set, Some}
+use Rattle.sc_laws.proofs.Common.{SourceRun, Standing, State, Step, Stopped, StopsSo, TellsWithMore, TurnsOut, Value}
+use Rattle.sc_laws.proofs.Common.{[], and_then, ap, append-nil, arith, begun, done, drop, eqb-true, exit_word, false}
+use Rattle.sc_laws.proofs.Common.{first_state, found, function, inl, inr, last, leb-false, length, length-append}
+use Rattle.sc_laws.proofs.Common.{longer, lt-leb, nobody, now, performed_by, reaches, refl, roles_in, roles_run, run_by}
+use Rattle.sc_laws.proofs.Common.{run_to, stopped_at, subst, suc, sym, take-append-drop, take_all, take_front, true}
+use Rattle.sc_laws.proofs.Common.{turnless, with, within, ℕ, ◌++◌, ◌+◌, ◌<◌, ◌∙◌, ◌∷◌, ◌≡◌}
+use Rattle.std.proofs.Common.{take}
 use Rattle.sc_event.specs.declared.event.Event.TheVariants as event
 use Rattle.sc_laws.proofs.Growing.{front_same, front_more, front_no_longer, BodyGoes, within_goes}
 use Rattle.sc_laws.proofs.Following.{GoesOn, KeepsUp, whole, follow_kept, follow_at, Performs, left_goes, perform_kept}

@@ -1,14 +1,14 @@
 -- Each word of the meaning only goes on: events are appended, and no turns come back.
 use Rattle.sc_laws.proofs.Common.{Action, AllFrom, Body, Bool, Call, CallTarget, Calls, Closed, Cross, Does, Event}
 use Rattle.sc_laws.proofs.Common.{Exit, FrameChange, Front, Function, Goes, Gone, Grown, Here, In, Input, Interfaces}
-use Rattle.sc_laws.proofs.Common.{Left, Library, List, None, On, Opened, Option, Out, Output, Own, Piece, Reached}
-use Rattle.sc_laws.proofs.Common.{Roles, Route, Row, Some, State, Step, Stopped, TurnsOut, Value, Word, [], acts}
-use Rattle.sc_laws.proofs.Common.{and_then, ap, append-nil, append_assoc, arith, asks, back_cross, back_own, begun}
-use Rattle.sc_laws.proofs.Common.{call_cross, call_own, called, calls, done, false, follow, found, function}
-use Rattle.sc_laws.proofs.Common.{if◌then◌else◌, is_number, last, length, length-append, map, may_call, performs}
-use Rattle.sc_laws.proofs.Common.{read_input, refl, rows_left, run_in, run_step, scripted_step, suc, sym, tell, true}
-use Rattle.sc_laws.proofs.Common.{turn, turn_of, within, word_in, zero, ℕ, ◌++◌, ◌∙◌, ◌∷◌, ◌≡◌, ◌≤◌}
-use Rattle.sc_core.specs.Prelude.{take}
+use Rattle.sc_laws.proofs.Common.{Left, Library, List, None, On, Opened, Option, Output, Own, Piece, Reached, Roles}
+use Rattle.sc_laws.proofs.Common.{Route, Row, Some, State, Step, Stopped, TurnsOut, Value, Word, [], acts, and_then, ap}
+use Rattle.sc_laws.proofs.Common.{append-nil, append_assoc, arith, asks, back_cross, back_own, begun, call_cross}
+use Rattle.sc_laws.proofs.Common.{call_own, called, calls, done, false, follow, found, function, if◌then◌else◌}
+use Rattle.sc_laws.proofs.Common.{is_number, last, length, length-append, map, may_call, performs, read_input, refl}
+use Rattle.sc_laws.proofs.Common.{rows_left, run_in, run_step, scripted_step, suc, sym, take, tell, true, turn, turn_of}
+use Rattle.sc_laws.proofs.Common.{within, word_in, zero, ℕ, ◌++◌, ◌∙◌, ◌∷◌, ◌≡◌, ◌≤◌}
+use Rattle.sc_core.specs.Prelude.{Out}
 use Rattle.sc_event.specs.declared.row.Action.TheVariants as act
 
 abbrev pub front_same : {A : Type 0} (xs : List A) → Front xs xs

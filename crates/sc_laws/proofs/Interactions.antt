@@ -3,12 +3,12 @@
 -- `match_` is of one word, and together they show that a library obeys.
 use Rattle.sc_laws.proofs.Common.{Alike, Asks, Blames, Blocks, Bool, CallTarget, Calls, Cause, Does, Doing, Each, Err}
 use Rattle.sc_laws.proofs.Common.{Exit, Gives, GoFrom, Goes, Gone, Grown, Halts, Here, Interaction, Lasts, Left, List}
-use Rattle.sc_laws.proofs.Common.{Match, Next, Ok, On, Out, Piece, Plays, Reached, Reads, Result, Route, Spends, State}
+use Rattle.sc_laws.proofs.Common.{Match, Next, Ok, On, Piece, Plays, Reached, Reads, Result, Route, Spends, State}
 use Rattle.sc_laws.proofs.Common.{Stores, Value, [], all_do, and_then, ap, arith, computed, false, follow}
 use Rattle.sc_laws.proofs.Common.{if◌then◌else◌, in_loop, in_order, inl, inr, leave, loop, map, played, refl, rounds}
-use Rattle.sc_laws.proofs.Common.{store, stored, subst, suc, sym, true, turn, turn_of, with_memory, zero, ℕ, ◌<◌, ◌∙◌}
-use Rattle.sc_laws.proofs.Common.{◌∷◌, ◌≡◌, ◌≤◌}
-use Rattle.sc_core.specs.Prelude.{take}
+use Rattle.sc_laws.proofs.Common.{store, stored, subst, suc, sym, take, true, turn, turn_of, with_memory, zero, ℕ, ◌<◌}
+use Rattle.sc_laws.proofs.Common.{◌∙◌, ◌∷◌, ◌≡◌, ◌≤◌}
+use Rattle.sc_core.specs.Prelude.{Out}
 use Rattle.sc_laws.proofs.Growing.{same, stays, no_turn, earlier, then_goes, turn_goes, then_then}
 use Rattle.sc_laws.proofs.Expressions.{Keeps, alike, blamed}
 

@@ -2,14 +2,13 @@
 -- calls.
 use Rattle.sc_laws.proofs.Common.{Action, BadType, Blamed, Blocks, Body, Bool, Call, CallTarget, Calls, Cause, Cross}
 use Rattle.sc_laws.proofs.Common.{Export, Function, Gone, Grown, Here, Input, Kept, Library, List, Main, Meets, Memory}
-use Rattle.sc_laws.proofs.Common.{Never, None, Obedient, Option, Output, Own, Piece, Property, Ret, Roles, Row, RunEnd}
-use Rattle.sc_laws.proofs.Common.{Some, State, TurnsOut, Value, Word, [], acts, and_then, ap, arith, asks, back_cross}
-use Rattle.sc_laws.proofs.Common.{back_own, begun, call_own, called, calls, crossing, done, export_at, false}
-use Rattle.sc_laws.proofs.Common.{first_word, found, function, if◌then◌else◌, is_some, leads, length, map, may_call}
-use Rattle.sc_laws.proofs.Common.{performs, read_input, refl, rows_left, run_in, run_step, scripted_step, subst, suc}
-use Rattle.sc_laws.proofs.Common.{sym, tell, then_kept, true, turn, turn_of, with_blocks, within, word_in, zero, ℕ, ◌<◌}
-use Rattle.sc_laws.proofs.Common.{◌∙◌, ◌∷◌, ◌≡◌}
-use Rattle.sc_event.specs.declared.event.Event.TheVariants.{Out}
+use Rattle.sc_laws.proofs.Common.{Never, None, Obedient, Option, Out, Output, Own, Piece, Property, Ret, Roles, Row}
+use Rattle.sc_laws.proofs.Common.{RunEnd, Some, State, TurnsOut, Value, Word, [], acts, and_then, ap, arith, asks}
+use Rattle.sc_laws.proofs.Common.{back_cross, back_own, begun, call_own, called, calls, crossing, done, export_at}
+use Rattle.sc_laws.proofs.Common.{false, first_word, found, function, if◌then◌else◌, is_some, leads, length, map}
+use Rattle.sc_laws.proofs.Common.{may_call, performs, read_input, refl, rows_left, run_in, run_step, scripted_step}
+use Rattle.sc_laws.proofs.Common.{subst, suc, sym, tell, then_kept, true, turn, turn_of, with_blocks, within, word_in}
+use Rattle.sc_laws.proofs.Common.{zero, ℕ, ◌<◌, ◌∙◌, ◌∷◌, ◌≡◌}
 use Rattle.sc_event.specs.declared.row.Action.TheVariants as act
 use Rattle.sc_laws.proofs.Growing.{BodyGoes, CallsGo, calls_go, within_goes}
 use Rattle.sc_laws.proofs.Twins.{Kept as RelationKept, KeptAt, FunctionTwins}

@@ -1,11 +1,12 @@
 -- Every trace that a run shows is legal.
-use Rattle.sc_laws.proofs.Common.{arith, Call, Cross, Event, Export, Interfaces, IsStop, Kept, Library, List, Main}
-use Rattle.sc_laws.proofs.Common.{Memory, None, Obedient, Option, Piece, Reached, Ret, Roles, Some, Standing, State}
-use Rattle.sc_laws.proofs.Common.{Stopped, Value, [], and_from, and_parts, ap, at_start, crossing, eq-eqb, export_at}
+use Rattle.sc_laws.proofs.Common.{Call, Cross, Event, Export, Interfaces, IsStop, Kept, Library, List, Main, Memory}
+use Rattle.sc_laws.proofs.Common.{None, Obedient, Option, Piece, Reached, Ret, Roles, Some, Standing, State, Stopped}
+use Rattle.sc_laws.proofs.Common.{Value, [], and_from, and_parts, ap, arith, at_start, crossing, eq-eqb, export_at}
 use Rattle.sc_laws.proofs.Common.{first_state, imports, is_allowed, is_function, is_legal_from, legal, length}
 use Rattle.sc_laws.proofs.Common.{length-map, library_run, map, may_call, may_perform, performer, refl, roles_run}
-use Rattle.sc_laws.proofs.Common.{run_step, run_to, scripted_step, stands_after, stands_behind, stopped_at, suc, take}
-use Rattle.sc_laws.proofs.Common.{takes, true, within, word_in, zero, ℕ, ◌&&◌, ◌++◌, ◌==◌, ◌∙◌, ◌∷◌, ◌≡◌}
+use Rattle.sc_laws.proofs.Common.{run_step, run_to, scripted_step, stands_after, stands_behind, stopped_at, suc, takes}
+use Rattle.sc_laws.proofs.Common.{true, within, word_in, zero, ℕ, ◌&&◌, ◌++◌, ◌==◌, ◌∙◌, ◌∷◌, ◌≡◌}
+use Rattle.std.proofs.Common.{take}
 use Rattle.sc_laws.proofs.Matching.{idle}
 use Rattle.sc_laws.proofs.Keeping.{Walk, place, main_walks, scripted_walks}
 use Rattle.sc_laws.proofs.Rows.{stands_last}

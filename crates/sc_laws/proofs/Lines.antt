@@ -4,18 +4,19 @@ use Rattle.sc_laws.proofs.Common.{Export, FunctionsAgree, Here, Inside, Left, Li
 use Rattle.sc_laws.proofs.Common.{None, Ok, Option, OtherLinesAgree, Piece, PiecesAgree, ProgramTree, Proto, Result}
 use Rattle.sc_laws.proofs.Common.{Route, RunsAgree, Some, State, TypedExpr, TypedFunction, TypedLocal, TypedSection}
 use Rattle.sc_laws.proofs.Common.{TypedSimple, TypedSimpleKind, TypedStmt, TypedStmt-F, TypedStmtKind, TypedStmtKind-F}
-use Rattle.sc_laws.proofs.Common.{TypedStruct, Value, Want, Ways, [], all_do, ap, ap₂, assign, at_place, block_does}
-use Rattle.sc_laws.proofs.Common.{body_does, bytes_eq, call, cells_of, choose, closed, computed, cond, entry_in}
-use Rattle.sc_laws.proofs.Common.{evaluated, everywhere, export_at, expr_nodes, first_blocks, fold-TypedStmt}
+use Rattle.sc_laws.proofs.Common.{TypedStruct, Value, Want, Ways, [], all_do, ap, ap₂, arith, assign, at_place}
+use Rattle.sc_laws.proofs.Common.{block_does, body_does, bytes_eq, call, cells_of, choose, closed, computed, cond}
+use Rattle.sc_laws.proofs.Common.{entry_in, evaluated, everywhere, export_at, expr_nodes, first_blocks, fold-TypedStmt}
 use Rattle.sc_laws.proofs.Common.{fold-TypedStmtKind, follow, frame_bound, function_of, functions_in, globals_of}
 use Rattle.sc_laws.proofs.Common.{if◌then◌else◌, in_order, init_does, inits_do, kind_nodes, kind_step, layer_of, leave}
 use Rattle.sc_laws.proofs.Common.{length, length-map, library_of, local_nodes, loop, main_name, map, map-TypedStmtKind}
-use Rattle.sc_laws.proofs.Common.{nat_lt, nodes, not, on_line, option_map, arith, part_does, part_nodes, place_named}
-use Rattle.sc_laws.proofs.Common.{place_of_export, position_or_len, refl, roll-TypedStmtKind, rounds, run_by, run_of}
-use Rattle.sc_laws.proofs.Common.{run_step, simple_does, slice_get, slice_get-map, stmt_at, stmt_does, stmt_induction}
-use Rattle.sc_laws.proofs.Common.{stmt_nodes, stmt_step, store_at, store_result, subst, suc, sym, test, total}
-use Rattle.sc_laws.proofs.Common.{variable_at, variables, ways, zero, ℕ, ◌++◌, ◌+◌, ◌∙◌, ◌∷◌, ◌≡◌}
-use Rattle.sc_core.specs.Prelude.{take}
+use Rattle.sc_laws.proofs.Common.{nat_lt, nodes, not, on_line, part_does, part_nodes, place_named, place_of_export}
+use Rattle.sc_laws.proofs.Common.{position_or_len, refl, roll-TypedStmtKind, rounds, run_by, run_of, run_step}
+use Rattle.sc_laws.proofs.Common.{simple_does, slice_get, stmt_at, stmt_does, stmt_induction, stmt_nodes, stmt_step}
+use Rattle.sc_laws.proofs.Common.{store_at, store_result, subst, suc, sym, take, test, total, variable_at, variables}
+use Rattle.sc_laws.proofs.Common.{ways, zero, ℕ, ◌++◌, ◌+◌, ◌∙◌, ◌∷◌, ◌≡◌}
+use Rattle.std.specs.Option.{option_map}
+use Rattle.std.proofs.lemmas.Option.{slice_get-map}
 use Rattle.sc_core.specs.declared.stmt.TypedSimpleKind.TheVariants as simple
 use Rattle.sc_core.specs.declared.stmt.TypedStmtKind.TheOpen as layer
 use Rattle.sc_core.specs.declared.value.Want.TheVariants as want

@@ -1,10 +1,11 @@
 -- Functions that match are related in every relation that the words of the meaning keep.
-use Rattle.sc_laws.proofs.Common.{[], nobody, Alike, Asks, Blamed, Blames, Blocks, Calls, Cause, Does, Doing, Err}
-use Rattle.sc_laws.proofs.Common.{Function, FunctionsMatch, Gives, GoFrom, Goes, Gone, Halts, Here, Interaction, Lasts}
+use Rattle.sc_laws.proofs.Common.{Alike, Asks, Blamed, Blames, Blocks, Calls, Cause, Does, Doing, Err, Function}
+use Rattle.sc_laws.proofs.Common.{FunctionsMatch, Gives, GoFrom, Goes, Gone, Halts, Here, Interaction, Lasts}
 use Rattle.sc_laws.proofs.Common.{LibrariesMatch, Library, Match, Meets, Never, None, Obedient, Ok, Option, Piece}
-use Rattle.sc_laws.proofs.Common.{Plays, Reached, Reads, Roles, Some, Spends, State, Stopped, Stores, Value, and_then}
-use Rattle.sc_laws.proofs.Common.{arith, follow, function, in_loop, inl, inr, loop, played, refl, rounds, run_step}
-use Rattle.sc_laws.proofs.Common.{scripted_step, subst, suc, sym, turn, with_memory, zero, ℕ, ◌+◌, ◌<◌, ◌∙◌, ◌≡◌}
+use Rattle.sc_laws.proofs.Common.{Plays, Reached, Reads, Roles, Some, Spends, State, Stopped, Stores, Value, []}
+use Rattle.sc_laws.proofs.Common.{and_then, arith, follow, function, in_loop, inl, inr, loop, nobody, played, refl}
+use Rattle.sc_laws.proofs.Common.{rounds, run_step, scripted_step, subst, suc, sym, turn, with_memory, zero, ℕ, ◌+◌}
+use Rattle.sc_laws.proofs.Common.{◌<◌, ◌∙◌, ◌≡◌}
 use Rattle.sc_laws.proofs.Growing.{stays, FunctionGoes, LibraryGoes, StepGoes, run_step_goes, scripted_goes}
 use Rattle.sc_laws.proofs.Twins.{Twins, Kept, KeptAt, CallsTwins, FunctionTwins, LibraryTwins}
 use Rattle.sc_laws.proofs.Expressions.{alike}

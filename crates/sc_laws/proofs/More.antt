@@ -1,11 +1,12 @@
 -- The laws on more turns, more events, and the arithmetic that wraps.
 use Rattle.sc_laws.proofs.Common.{AgreesInRoom, AgreesUntilBlame, Blamed, Bool, Cause, Ended, EventsOut, ExtendedByMore}
 use Rattle.sc_laws.proofs.Common.{Extends, Front, IsArithmetic, IsFinal, LibrariesMatch, Library, List, Memory, Never}
-use Rattle.sc_laws.proofs.Common.{Obedient, ProgramTree, Roles, Run, RunEnd, RunsUntilBlame, SourceRun, ap}
-use Rattle.sc_laws.proofs.Common.{arith, blamed, blamed_run, c_arith, deepest, depth_in, false, inl, inr, le-leb}
-use Rattle.sc_laws.proofs.Common.{leb-true, length, library_of, library_run, lt-ltb, nat_le, reaches, refl, roles_run}
-use Rattle.sc_laws.proofs.Common.{same, same_run, stopped_at, subst, sym, take, take-append-le, take_all, true}
-use Rattle.sc_laws.proofs.Common.{wrapping, ℕ, ◌+◌, ◌-◌, ◌<◌, ◌∙◌, ◌≡◌, ◌≤◌}
+use Rattle.sc_laws.proofs.Common.{Obedient, ProgramTree, Roles, Run, RunEnd, RunsUntilBlame, SourceRun, ap, arith}
+use Rattle.sc_laws.proofs.Common.{blamed, blamed_run, c_arith, deepest, depth_in, false, inl, inr, le-leb, leb-true}
+use Rattle.sc_laws.proofs.Common.{length, library_of, library_run, lt-ltb, nat_le, reaches, refl, roles_run, same}
+use Rattle.sc_laws.proofs.Common.{same_run, stopped_at, subst, sym, take-append-le, take_all, true, wrapping, ℕ, ◌+◌}
+use Rattle.sc_laws.proofs.Common.{◌-◌, ◌<◌, ◌∙◌, ◌≡◌, ◌≤◌}
+use Rattle.std.proofs.Common.{take}
 use Rattle.sc_laws.proofs.Wrapping.{binary_fits, negated_fits}
 use Rattle.sc_laws.proofs.Growing.{front_same, front_no_longer}
 use Rattle.sc_laws.proofs.Expressions.{ArithKeeps}

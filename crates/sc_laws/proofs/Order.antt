@@ -1,7 +1,6 @@
 -- Pieces of a run in order: of three, the first two or the last two may be taken together.
 use Rattle.sc_laws.proofs.Common.{Break, Continue, Does, Exit, Left, Next, Piece, Reached, Return, State, Stopped}
-use Rattle.sc_laws.proofs.Common.{follow, in_order, refl, ◌≡◌}
-use Rattle.sc_core.specs.Prelude.{take}
+use Rattle.sc_laws.proofs.Common.{follow, in_order, refl, take, ◌≡◌}
 
 module _ {A : Type 0} where
   taken_assoc : (exit : Exit) (a : A) (s : State) (f g : Does A) →

@@ -1,9 +1,9 @@
 -- Frames: each change is of a moment within the trace, and a call that returns leaves the open room as it was.
-use Rattle.sc_laws.proofs.Common.{and_then, found, AllBefore, AreTold, Body, Closed, DeepestIsReached, End, Event}
-use Rattle.sc_laws.proofs.Common.{FrameChange, Function, In, KeepsRooms, Kept, LeavesRooms, Library, List, Main, Memory}
-use Rattle.sc_laws.proofs.Common.{Obedient, Opened, Option, Piece, Property, Reached, Roles, State, Step, Stopped}
-use Rattle.sc_laws.proofs.Common.{TellsNoEnd, Value, [], ap, arith, begun, call_own, deepest, done, exit_word, false}
-use Rattle.sc_laws.proofs.Common.{first_state, has_no_end, if◌then◌else◌, is_end, last, length, length-append, lt-ltb}
+use Rattle.sc_laws.proofs.Common.{AllBefore, AreTold, Body, Closed, DeepestIsReached, End, Event, FrameChange, Function}
+use Rattle.sc_laws.proofs.Common.{In, KeepsRooms, Kept, LeavesRooms, Library, List, Main, Memory, Obedient, Opened}
+use Rattle.sc_laws.proofs.Common.{Option, Piece, Property, Reached, Roles, State, Step, Stopped, TellsNoEnd, Value, []}
+use Rattle.sc_laws.proofs.Common.{and_then, ap, arith, begun, call_own, deepest, done, exit_word, false, first_state}
+use Rattle.sc_laws.proofs.Common.{found, has_no_end, if◌then◌else◌, is_end, last, length, length-append, lt-ltb}
 use Rattle.sc_laws.proofs.Common.{open_room, refl, room_after, run_by, run_step, run_to, scripted_step, subst, suc}
 use Rattle.sc_laws.proofs.Common.{tell, true, within, ℕ, ◌++◌, ◌+◌, ◌-◌, ◌==◌, ◌∙◌, ◌∷◌, ◌≡◌, ◌≤◌}
 use Rattle.sc_laws.proofs.Matching.{idle}

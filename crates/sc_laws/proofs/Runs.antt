@@ -1,12 +1,13 @@
 -- Whole runs: steps of two libraries, and what they come to when they are stopped at a number of events.
-use Rattle.sc_laws.proofs.Common.{roles_run, AllFrom, Blamed, Bool, Cause, End, Ended, Event, EventsOut, FrameChange}
-use Rattle.sc_laws.proofs.Common.{Front, HasFixedPoint, Here, IsFixed, IsSteady, IsStop, LibrariesMatch, Library, List}
-use Rattle.sc_laws.proofs.Common.{Main, Memory, Never, None, Obedient, Option, Piece, Reached, Roles, Run, RunEnd, Some}
+use Rattle.sc_laws.proofs.Common.{AllFrom, Blamed, Bool, Cause, End, Ended, Event, EventsOut, FrameChange, Front}
+use Rattle.sc_laws.proofs.Common.{HasFixedPoint, Here, IsFixed, IsSteady, IsStop, LibrariesMatch, Library, List, Main}
+use Rattle.sc_laws.proofs.Common.{Memory, Never, None, Obedient, Option, Piece, Reached, Roles, Run, RunEnd, Some}
 use Rattle.sc_laws.proofs.Common.{SourceRun, State, Step, Stopped, StopsSo, TurnsOut, Value, [], and_then, ap, arith}
-use Rattle.sc_laws.proofs.Common.{call_own, exit_word, false, first_state, found, if◌then◌else◌, inl, last}
-use Rattle.sc_laws.proofs.Common.{length, length-append, now, reaches, refl, run_step}
-use Rattle.sc_laws.proofs.Common.{run_to, scripted_step, stopped_at, subst, suc, sym, take, take_all, true, within}
-use Rattle.sc_laws.proofs.Common.{zero, ℕ, ◌++◌, ◌+◌, ◌<◌, ◌∙◌, ◌∷◌, ◌≡◌, ◌≤◌, ◌⊎◌}
+use Rattle.sc_laws.proofs.Common.{call_own, exit_word, false, first_state, found, if◌then◌else◌, inl, last, length}
+use Rattle.sc_laws.proofs.Common.{length-append, now, reaches, refl, roles_run, run_step, run_to, scripted_step}
+use Rattle.sc_laws.proofs.Common.{stopped_at, subst, suc, sym, take_all, true, within, zero, ℕ, ◌++◌, ◌+◌, ◌<◌, ◌∙◌}
+use Rattle.sc_laws.proofs.Common.{◌∷◌, ◌≡◌, ◌≤◌, ◌⊎◌}
+use Rattle.std.proofs.Common.{take}
 use Rattle.sc_laws.proofs.Growing.{front_more, front_no_longer, StepGoes, within_goes, run_step_goes, scripted_goes}
 use Rattle.sc_laws.proofs.Growing.{BodyGoes}
 pub use Rattle.sc_laws.proofs.Growing.{front_no_longer as front_long}

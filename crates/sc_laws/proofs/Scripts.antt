@@ -1,17 +1,16 @@
 -- A run in which a set performs its part of a legal trace: where it is out of turns while it keeps to the trace and
 -- hasn't told all of it, it has none left. For there the next row of the active compartment is its next event.
-use Rattle.sc_laws.proofs.Common.{drop_next, Action, BadType, Blamed, Body, Bool, Call, CallTarget, Cross, End, Ended}
-use Rattle.sc_laws.proofs.Common.{Event, EventsOut, Export, ExportsLead, Here, In, Input, Interfaces, Kept, Library}
-use Rattle.sc_laws.proofs.Common.{List, Main, Memory, None, Obedient, Option, Output, Piece, Property, Ret, Roles, Row}
+use Rattle.sc_laws.proofs.Common.{Action, BadType, Blamed, Body, Bool, Call, CallTarget, Cross, End, Ended, Event}
+use Rattle.sc_laws.proofs.Common.{EventsOut, Export, ExportsLead, Here, In, Input, Interfaces, Kept, Library, List}
+use Rattle.sc_laws.proofs.Common.{Main, Memory, None, Obedient, Option, Out, Output, Piece, Property, Ret, Roles, Row}
 use Rattle.sc_laws.proofs.Common.{RunEnd, Set, Some, SpendsAlong, Standing, State, Stopped, TurnsOut, Value, Word, []}
 use Rattle.sc_laws.proofs.Common.{action_of, acts, and_from, and_parts, and_then, ap, arith, asks, at_start, called}
-use Rattle.sc_laws.proofs.Common.{count_of, drop, eq-eqb, eqb-true, false, false≢true, first_state, function}
+use Rattle.sc_laws.proofs.Common.{count_of, drop, drop_next, eq-eqb, eqb-true, false, false≢true, first_state, function}
 use Rattle.sc_laws.proofs.Common.{if◌then◌else◌, imports, is_allowed, is_legal_from, is_number, is_some, is_word, leads}
 use Rattle.sc_laws.proofs.Common.{legal, length-map, list_all, map, may_call, may_perform, part, performer, performs}
-use Rattle.sc_laws.proofs.Common.{refl, roles_in, rows_left, run_step, scripted_call, scripted_step}
-use Rattle.sc_laws.proofs.Common.{stands_after, stands_behind, subst, suc, sym, takes, tell, then_kept, true, within}
-use Rattle.sc_laws.proofs.Common.{zero, ℕ, ◌++◌, ◌<◌, ◌∙◌, ◌∷◌, ◌≡◌}
-use Rattle.sc_event.specs.declared.event.Event.TheVariants.{Out}
+use Rattle.sc_laws.proofs.Common.{refl, roles_in, rows_left, run_step, scripted_call, scripted_step, stands_after}
+use Rattle.sc_laws.proofs.Common.{stands_behind, subst, suc, sym, takes, tell, then_kept, true, within, zero, ℕ, ◌++◌}
+use Rattle.sc_laws.proofs.Common.{◌<◌, ◌∙◌, ◌∷◌, ◌≡◌}
 use Rattle.sc_event.specs.declared.row.Action.TheVariants as act
 use Rattle.sc_laws.proofs.Growing.{BodyGoes, within_goes}
 use Rattle.sc_laws.proofs.Keeping.{Walk, place, BodyWalks, raise, cross_walks, main_walks, run_step_walks}

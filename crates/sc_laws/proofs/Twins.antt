@@ -1,8 +1,8 @@
 -- Two runs side by side: which relations of them the words of the meaning keep.
-use Rattle.sc_laws.proofs.Common.{Bool, true, false, if◌then◌else◌, Blamed, Blocks, CallTarget, Calls, Cause, Entry}
-use Rattle.sc_laws.proofs.Common.{Function, Goes, Gone, Grown, Here, Library, List, Meets, Option, Piece, Reached}
-use Rattle.sc_laws.proofs.Common.{Result, State, Stopped, Value, and_then, computed, function, may_call, turn}
-use Rattle.sc_laws.proofs.Common.{with_blocks, ℕ, ◌<◌, arith, ◌≡◌}
+use Rattle.sc_laws.proofs.Common.{Blamed, Blocks, Bool, CallTarget, Calls, Cause, Entry, Function, Goes, Gone, Grown}
+use Rattle.sc_laws.proofs.Common.{Here, Library, List, Meets, Option, Piece, Reached, Result, State, Stopped, Value}
+use Rattle.sc_laws.proofs.Common.{and_then, arith, computed, false, function, if◌then◌else◌, may_call, true, turn}
+use Rattle.sc_laws.proofs.Common.{with_blocks, ℕ, ◌<◌, ◌≡◌}
 use Rattle.sc_laws.proofs.Growing.{then_goes}
 use Rattle.sc_laws.proofs.Expressions.{Keeps}
 

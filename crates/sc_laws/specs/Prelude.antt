@@ -1,7 +1,7 @@
 -- What this crate's contracts, its proofs and the crates above cite, passed on from one place. Declares nothing.
-pub use Rattle.sc_laws.specs.Agreement.{AgreeingRunAlike, BehavioursAgree, BodiesAgree, CallsAgree, FunctionsAgree}
-pub use Rattle.sc_laws.specs.Agreement.{LibrariesAgree, Meets, OtherLinesAgree, PiecesAgree, RunsAgree}
-pub use Rattle.sc_laws.specs.Agreement.{piece_without_line, without_line}
+pub use Rattle.sc_laws.specs.Agreement.{AgreeingRunAlike, BodiesAgree, CallsAgree, FunctionsAgree, LibrariesAgree}
+pub use Rattle.sc_laws.specs.Agreement.{Meets, OtherLinesAgree, PiecesAgree, RunsAgree, piece_without_line}
+pub use Rattle.sc_laws.specs.Agreement.{without_line}
 pub use Rattle.sc_laws.specs.Chains.{AreFresh, Includes, IsBlamedOutside, IsChain, IsLink, IsRising, IsWithin, Link}
 pub use Rattle.sc_laws.specs.Chains.{PassesBlame, Set, longer, nobody, performed, turnless, with}
 pub use Rattle.sc_laws.specs.Ends.{IsArithmetic, IsFinal}

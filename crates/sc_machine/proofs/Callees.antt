@@ -1,11 +1,12 @@
 -- Calls of other compartments: what an export that is found is, what an import leads to, and lists of callees.
-use Rattle.sc_machine.proofs.Common.{All, AreCallees, Callee, CompPart, ExportPart, Goes, ImageParts, IsCallee}
-use Rattle.sc_machine.proofs.Common.{IsDistinct, IsEntry, IsExport, IsWellFormed, List, Some, State, [], ap, arith}
-use Rattle.sc_machine.proofs.Common.{called, calls, cases_lt, comp_found, comp_of_code, eq-eqb, eqb-true, export_at}
-use Rattle.sc_machine.proofs.Common.{export_called, exports_of, get_or, get_or-map, get_or_from_slice_get, in_code}
-use Rattle.sc_machine.proofs.Common.{length, length-map, map, may_call, no_export, params_of, position, ra, refl, rules}
-use Rattle.sc_machine.proofs.Common.{slice_get, slice_get-get_or, slice_get_within, some_is, subst, suc, sym, true}
-use Rattle.sc_machine.proofs.Common.{zero, ℕ, ⊎_elim, ◌++◌, ◌+◌, ◌<◌, ◌==◌, ◌∙◌, ◌∷◌, ◌≡◌, ◌≤◌}
+use Rattle.sc_machine.proofs.Common.{All, AreCallees, Callee, CompPart, Goes, ImageParts, IsCallee, IsDistinct, IsEntry}
+use Rattle.sc_machine.proofs.Common.{IsExport, IsWellFormed, List, Some, State, [], ap, arith, called, calls, cases_lt}
+use Rattle.sc_machine.proofs.Common.{comp_of_code, eq-eqb, eqb-true, export_at, export_called, exports_of, get_or}
+use Rattle.sc_machine.proofs.Common.{get_or-map, get_or_from_slice_get, length, length-map, map, may_call, params_of}
+use Rattle.sc_machine.proofs.Common.{position, ra, refl, rules, slice_get, slice_get-get_or, slice_get_within, subst}
+use Rattle.sc_machine.proofs.Common.{suc, sym, true, zero, ℕ, ⊎_elim, ◌++◌, ◌+◌, ◌<◌, ◌==◌, ◌∙◌, ◌∷◌, ◌≡◌, ◌≤◌}
+use Rattle.sc_image.specs.declared.parts.ExportPart.{ExportPart}
+use Rattle.sc_image.proofs.Words.{comp_found, in_code, no_export, some_is}
 use Rattle.std.proofs.lemmas.List.Quantifiers.{position-Some}
 use Rattle.sc_image.proofs.Enters.{few_params}
 use Rattle.sc_base.proofs.Lists.{position_of_only}

@@ -1,25 +1,23 @@
 -- The names that several proofs of this crate cite, passed on from one place. Declares nothing.
 pub use Rattle.std.proofs.Common.{All, Bool, Err, IsSome, IsTrue, List, None, Ok, OnSome, Option, Result, Some, []}
-pub use Rattle.std.proofs.Common.{add-zero, add_assoc, ap, ap₂, arith, eq-eqb, eqb-true, false, fold, get_or}
-pub use Rattle.std.proofs.Common.{if◌then◌else◌, is_ok, is_some, le-leb, le-ltb, length, length-append, length-set}
-pub use Rattle.std.proofs.Common.{lt-ltb, map, nat_le, nat_lt, ne_eqb, position, refl, rules, slice_index, subst, suc}
-pub use Rattle.std.proofs.Common.{sum, sym, take, true, unwrap_or, zero, ℕ, ℤ, ⊎_elim, ◌%◌, ◌&&◌, ◌*◌, ◌++◌, ◌+◌, ◌-◌}
-pub use Rattle.std.proofs.Common.{◌/◌, ◌<◌, ◌==◌, ◌^◌, ◌∙◌, ◌∷◌, ◌≡◌, ◌≢◌, ◌≤◌}
+pub use Rattle.std.proofs.Common.{add-zero, add_assoc, ap, append_assoc, ap₂, arith, eq-eqb, eqb-true, false, fold}
+pub use Rattle.std.proofs.Common.{get_or, if◌then◌else◌, is_ok, is_some, le-leb, le-ltb, length, length-append}
+pub use Rattle.std.proofs.Common.{length-set, lt-ltb, map, nat_le, nat_lt, ne_eqb, position, refl, rules, slice_index}
+pub use Rattle.std.proofs.Common.{subst, suc, sum, sym, take, true, unwrap_or, zero, ℕ, ℤ, ⊎_elim, ◌%◌, ◌&&◌, ◌*◌, ◌++◌}
+pub use Rattle.std.proofs.Common.{◌+◌, ◌-◌, ◌/◌, ◌<◌, ◌==◌, ◌^◌, ◌∙◌, ◌∷◌, ◌≡◌, ◌≢◌, ◌≤◌}
 pub use Rattle.std.proofs.lemmas.Bool.{cases_lt, false≢true, lt-leb}
-pub use Rattle.std.proofs.lemmas.List.{get_or-map, get_or_past, length-map, length_push}
+pub use Rattle.std.proofs.lemmas.List.{get_or-map, get_or_past, length-map, map-append}
 pub use Rattle.std.proofs.lemmas.List.Elements.{All-cons, All-head, All-nil, All-tail}
 pub use Rattle.std.proofs.lemmas.Option.{get_or_from_slice_get, slice_get-get_or, slice_get_cases, slice_get_within}
 pub use Rattle.std.specs.List.{slice_get}
-pub use Rattle.sc_base.specs.declared.stop.TrapReason.{TrapReason}
 pub use Rattle.sc_word.specs.Prelude.{add_word, word_of}
-pub use Rattle.sc_store.proofs.Parts.{next_there, written-stored, written_more, written_nothing, one_there}
-pub use Rattle.sc_store.proofs.Parts.{written-apart, written-in}
+pub use Rattle.sc_store.proofs.Parts.{next_there, one_there, written-apart, written-in, written-stored, written_more}
+pub use Rattle.sc_store.proofs.Parts.{written_nothing}
 pub use Rattle.sc_store.specs.Prelude.{AreApart, AreBelow, HasBytes, IsIn, Memory, byte_of, is_in, stored, written}
 pub use Rattle.sc_store.specs.Prelude.{zeros}
-pub use Rattle.sc_store.specs.declared.region.Region.{Region}
-pub use Rattle.sc_image.proofs.Memory.{start_is}
-pub use Rattle.sc_image.proofs.Running.{run_goes, run_more, run_out, run_stopped, run_traps}
-pub use Rattle.sc_image.proofs.Words.{comp_found, in_code, no_export, some_is}
+pub use Rattle.sc_image.proofs.Memory.{data_bounds, range_of, start_is}
+pub use Rattle.sc_image.proofs.Running.{run_goes, run_more, run_out, run_stopped, run_traps, step_executes}
+pub use Rattle.sc_image.proofs.Running.{step_illegal, step_nowhere}
 pub use Rattle.sc_image.specs.Prelude.{Crossing, Filled, Goes, IsDistinct, IsEntry, IsExport, IsWellFormed, Outcome}
 pub use Rattle.sc_image.specs.Prelude.{Run, State, Traps, are_data, byte_at, called, calls, code_of, code_start}
 pub use Rattle.sc_image.specs.Prelude.{comp_of_code, comp_of_data, continued, data_start, data_with, execute, export_at}
@@ -28,10 +26,7 @@ pub use Rattle.sc_image.specs.Prelude.{may_input, may_output, most_globals, para
 pub use Rattle.sc_image.specs.Prelude.{stack_top, stack_tops, step, stopped, stops_or, stretch}
 unfoldable pub use Rattle.sc_image.specs.Prelude.{execute_by, run, start_memory, word_at}
 pub use Rattle.sc_image.specs.declared.parts.CompPart.{CompPart}
-pub use Rattle.sc_image.specs.declared.parts.ExportPart.{ExportPart}
 pub use Rattle.sc_gate.specs.Waiting.{Waiting, crossing_of}
-pub use Rattle.sc_machine.specs.Place.{IsLookedUp, IsPlace}
 pub use Rattle.sc_machine.specs.Prelude.{AreCallees, CanRun, ImageParts, IsCallee, active_in, at, outcome_of, state_in}
 pub use Rattle.sc_machine.specs.Regions.{HasFewGlobals, all_data, filled_with, regions_of}
 pub use Rattle.sc_machine.specs.declared.calling.Callee.{Callee}
-pub use Rattle.sc_machine.specs.declared.hart.Hart.{Hart}

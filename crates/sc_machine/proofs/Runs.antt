@@ -1,8 +1,9 @@
 -- Runs, step by step and call by call, and instructions that answer whether they were executed.
 use Rattle.sc_machine.proofs.Common.{Bool, Err, Goes, ImageParts, IsTrue, List, None, Ok, Option, Outcome, Result, Run}
-use Rattle.sc_machine.proofs.Common.{Some, State, TrapReason, Traps, [], add-zero, add_assoc, ap, continued, false≢true}
-use Rattle.sc_machine.proofs.Common.{fold, is_ok, length, machine, outcome_of, refl, run, run_goes, run_more, run_traps}
-use Rattle.sc_machine.proofs.Common.{step, stopped, stops_or, suc, sum, sym, unwrap_or, ℕ, ◌+◌, ◌<◌, ◌∙◌, ◌∷◌, ◌≡◌}
+use Rattle.sc_machine.proofs.Common.{Some, State, Traps, [], add-zero, add_assoc, ap, continued, false≢true, fold}
+use Rattle.sc_machine.proofs.Common.{is_ok, length, machine, outcome_of, refl, run, run_goes, run_more, run_traps, step}
+use Rattle.sc_machine.proofs.Common.{stopped, stops_or, suc, sum, sym, unwrap_or, ℕ, ◌+◌, ◌<◌, ◌∙◌, ◌∷◌, ◌≡◌}
+use Rattle.sc_base.specs.declared.stop.TrapReason.{TrapReason}
 use Rattle.sc_event.specs.declared.event.Event.{Event}
 use Rattle.sc_base.specs.declared.stop.Stop.{Stop}
 use Rattle.std.proofs.lemmas.List.Sums.{sum_by-cons}

@@ -1,15 +1,14 @@
 -- The memory at the start: zeros, and then the globals.
 use Rattle.sc_machine.proofs.Common.{All, All-cons, All-head, All-nil, All-tail, AreApart, AreBelow, Bool, CompPart}
 use Rattle.sc_machine.proofs.Common.{Filled, HasBytes, HasFewGlobals, ImageParts, IsIn, IsSome, IsWellFormed, List}
-use Rattle.sc_machine.proofs.Common.{Memory, None, Option, Region, Some, [], all_data, ap, ap₂, arith, byte_at, byte_of}
-use Rattle.sc_machine.proofs.Common.{cases_lt, data_start, data_with, false, filled_with, get_or, get_or_past}
-use Rattle.sc_machine.proofs.Common.{if◌then◌else◌, is_in, length, lt-ltb, most_globals, nat_le, nat_lt, refl}
-use Rattle.sc_machine.proofs.Common.{regions_of, slice_get, slice_get-get_or, slice_index, stack_size, stack_top}
+use Rattle.sc_machine.proofs.Common.{Memory, None, Option, Some, [], all_data, ap, append_assoc, ap₂, arith, byte_at}
+use Rattle.sc_machine.proofs.Common.{byte_of, cases_lt, data_start, data_with, false, filled_with, get_or, get_or_past}
+use Rattle.sc_machine.proofs.Common.{if◌then◌else◌, is_in, length, lt-ltb, map-append, most_globals, nat_le, nat_lt}
+use Rattle.sc_machine.proofs.Common.{refl, regions_of, slice_get, slice_get-get_or, slice_index, stack_size, stack_top}
 use Rattle.sc_machine.proofs.Common.{stack_tops, start_is, start_memory, stored, stretch, suc, sym, take, true, written}
 use Rattle.sc_machine.proofs.Common.{written-apart, written-in, written-stored, written_nothing, zero, zeros, ℕ, ⊎_elim}
 use Rattle.sc_machine.proofs.Common.{◌&&◌, ◌++◌, ◌+◌, ◌-◌, ◌<◌, ◌^◌, ◌∙◌, ◌∷◌, ◌≡◌, ◌≤◌}
-use Rattle.std.proofs.Common.{append_assoc}
-use Rattle.std.proofs.lemmas.List.{map-append}
+use Rattle.sc_store.specs.declared.region.Region.{Region}
 use Rattle.std.specs.Option.{option_and_then}
 use Rattle.sc_store.proofs.Words.{in_true, in_false, in_cases}
 

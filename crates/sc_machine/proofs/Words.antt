@@ -1,16 +1,16 @@
 -- The code and the data of a compartment: what its words are, which accesses are allowed, and returns by a jump.
-use Rattle.sc_machine.proofs.Common.{Bool, CompPart, Goes, HasBytes, ImageParts, IsLookedUp, IsPlace, IsWellFormed}
-use Rattle.sc_machine.proofs.Common.{List, None, OnSome, Option, Some, State, add_word, ap, are_data, arith, code_of}
-use Rattle.sc_machine.proofs.Common.{code_start, comp_of_data, data_start, eq-eqb, execute, execute_by, false, gate}
+use Rattle.sc_machine.proofs.Common.{Bool, CompPart, Goes, HasBytes, ImageParts, IsWellFormed, List, None, OnSome}
+use Rattle.sc_machine.proofs.Common.{Option, Some, State, add_word, ap, are_data, arith, code_of, code_start}
+use Rattle.sc_machine.proofs.Common.{comp_of_data, data_bounds, data_start, eq-eqb, execute, execute_by, false, gate}
 use Rattle.sc_machine.proofs.Common.{globals_of, if◌then◌else◌, is_some, le-leb, le-ltb, length, lt-leb, most_globals}
-use Rattle.sc_machine.proofs.Common.{nat_le, nat_lt, ne_eqb, refl, reg, returned, slice_get, slice_get_cases}
+use Rattle.sc_machine.proofs.Common.{nat_le, nat_lt, ne_eqb, range_of, refl, reg, returned, slice_get, slice_get_cases}
 use Rattle.sc_machine.proofs.Common.{slice_get_within, stack_size, stack_top, start_is, start_memory, stretch, subst}
 use Rattle.sc_machine.proofs.Common.{sym, true, word_at, word_of, ℕ, ℤ, ⊎_elim, ◌%◌, ◌*◌, ◌+◌, ◌-◌, ◌/◌, ◌<◌, ◌∙◌, ◌≡◌}
 use Rattle.sc_machine.proofs.Common.{◌≢◌, ◌≤◌}
+use Rattle.sc_machine.specs.Place.{IsLookedUp, IsPlace}
 use Rattle.std.proofs.Common.{slice_get}
 use Rattle.rv_code.specs.declared.instr.Instr.TheVariants.{Jalr}
 use Rattle.std.proofs.lemmas.Bool.Decides.{nat_tests}
-use Rattle.sc_image.proofs.Memory.{range_of, data_bounds}
 
 -- where an address has no whole word, and where it may have one
 pub misaligned : (image : ImageParts) (c address : ℕ) → address % 4 ≢ 0 → word_at image c address ≡ None

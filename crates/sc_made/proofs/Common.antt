@@ -38,9 +38,10 @@ pub use Rattle.sc_ast.specs.declared.stmt.StmtKind.TheVariants.{Assign, AssignCa
 pub use Rattle.sc_ast.specs.declared.stmt.StmtTree.{StmtTree}
 pub use Rattle.sc_parse.specs.Prelude.{SpellsDecl, SpellsStmtKind, first_line}
 pub use Rattle.sc_print.proofs.Reading.{Alike, AllAlike, Reading, fixed, line_symbols, part, reads, written}
-pub use Rattle.sc_print.proofs.Spacing.{at_level, gap, line_end, next, none, tidy_append, tidy_at, lone}
-pub use Rattle.sc_print.proofs.TreeSpacing.{Free, expr_tidy, simple_tidy, stmt_holds, stmts_tidy}
-pub use Rattle.sc_print.proofs.Stmts.{Lines, Part, everywhere, for_with, same_line}
+pub use Rattle.sc_print.proofs.Spacing.{at_level, gap, line_end, lone, next, none, tidy_append, tidy_at}
+pub use Rattle.sc_print.proofs.Stmts.{Lines, Part, all_at, everywhere, for_with, same_line}
+pub use Rattle.sc_print.proofs.TreeSpacing.{Free, each_tidy, expr_tidy, head_tidy, local_tidy, simple_tidy, stmt_holds}
+pub use Rattle.sc_print.proofs.TreeSpacing.{stmts_tidy}
 pub use Rattle.sc_print.proofs.Whole.{decl_symbols, dense_tidy, exports_lined, imports_lined, section_with}
 pub use Rattle.sc_print.specs.Prelude.{are_kept, dense_decl, is_kept, is_kept_decl, is_kept_stmt, kept_export}
 pub use Rattle.sc_print.specs.Prelude.{kept_head, kept_import, kept_local, kept_option, kept_param}

@@ -1,9 +1,9 @@
 -- The loop in a worker's function, whose `i++` is the words of no tree.
 use Rattle.sc_made.proofs.Common.{ExprTree, Free, List, Nested, Part, Piece, Reading, Some, StmtTree, [], add_kind}
-use Rattle.sc_made.proofs.Common.{and_from, ap, are_kept, arith, at_level, below, blank, block_words, codes, digits}
-use Rattle.sc_made.proofs.Common.{even_binary, even_equal, even_ident, even_keyword, even_literal, even_semicolon}
-use Rattle.sc_made.proofs.Common.{even_step, everywhere, expr_tidy, expr_words, first_line, first_words, fixed}
-use Rattle.sc_made.proofs.Common.{for_with, gap, indent, is_ident, is_kept, is_kept_stmt, is_place, kept_option}
+use Rattle.sc_made.proofs.Common.{all_at, and_from, ap, are_kept, arith, at_level, below, blank, block_words, codes}
+use Rattle.sc_made.proofs.Common.{digits, even_binary, even_equal, even_ident, even_keyword, even_literal}
+use Rattle.sc_made.proofs.Common.{even_semicolon, even_step, everywhere, expr_tidy, expr_words, first_line, first_words}
+use Rattle.sc_made.proofs.Common.{fixed, for_with, gap, indent, is_ident, is_kept, is_kept_stmt, is_place, kept_option}
 use Rattle.sc_made.proofs.Common.{layouts, line_end, line_of, line_symbols, lines_at, literal_text, lone, loop_kind}
 use Rattle.sc_made.proofs.Common.{nested_blank, nested_curly, nested_even, nested_level, nested_line, nested_more}
 use Rattle.sc_made.proofs.Common.{nested_none, nested_parens, nested_square, newline, next, next_at, no_lines, none}
@@ -19,7 +19,6 @@ use Rattle.sc_expr.specs.declared.mark.Keyword.TheVariants as keyword
 use Rattle.sc_expr.specs.declared.mark.Mark.TheVariants as mark
 use Rattle.sc_parse.specs.Statements as spell
 use Rattle.sc_print.proofs.Spacing as apart
-use Rattle.sc_print.proofs.Stmts.{all_at}
 use Rattle.sc_print.proofs.Spelling.{spelled_at}
 use Rattle.sc_print.proofs.Tables as tables
 use Rattle.sc_made.proofs.Spelled.{literal_number}

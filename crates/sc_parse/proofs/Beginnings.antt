@@ -1,7 +1,7 @@
 -- What declarations begin with, and that those of a section are read exactly as they are spelled.
-use Rattle.sc_parse.proofs.Common.{BaseTree, Decl, Declares, FunctionHead, FunctionTree, GlobalTree, Grouped, HeadTree}
-use Rattle.sc_parse.proofs.Common.{InitTree, IsGlobal, IsMark, Keyword, Lexeme, List, None, Option, Reader, Separated}
-use Rattle.sc_parse.proofs.Common.{Some, SpellsBase, SpellsDecl, SpellsDeclarator, SpellsHead, SpellsInit, SpellsResult}
+use Rattle.sc_parse.proofs.Common.{BaseTree, Decl, Declares, FunctionHead, FunctionTree, Grouped, HeadTree, InitTree}
+use Rattle.sc_parse.proofs.Common.{IsGlobal, IsMark, Keyword, Lexeme, List, None, Option, Reader, Separated, Some}
+use Rattle.sc_parse.proofs.Common.{SpellsBase, SpellsDecl, SpellsDeclarator, SpellsHead, SpellsInit, SpellsResult}
 use Rattle.sc_parse.proofs.Common.{SpellsStars, SpellsStruct, StructTree, TypeName, TypeTree, [], a_function, a_result}
 use Rattle.sc_parse.proofs.Common.{a_struct, absent, adds, ap, append_assoc, arith, array, begins_call, begins_head}
 use Rattle.sc_parse.proofs.Common.{begins_struct, begins_with, behind, behind_head, behind_mark, bound, cond, decl_at}
@@ -11,6 +11,7 @@ use Rattle.sc_parse.proofs.Common.{keyword_at, length, length-append, line_at, m
 use Rattle.sc_parse.proofs.Common.{names_struct, no_result, past_base, past_stars, plain, prototype, refl, signed}
 use Rattle.sc_parse.proofs.Common.{signed_int, star, struct, struct_decl_at, subst, sym, true, type_name, unsigned}
 use Rattle.sc_parse.proofs.Common.{unsigned_int, ℕ, ◌++◌, ◌+◌, ◌<◌, ◌∙◌, ◌∷◌, ◌≡◌}
+use Rattle.sc_ast.specs.declared.section.GlobalTree.{GlobalTree}
 use Rattle.sc_parse.proofs.Bases.{base_front, NoInt, stars_no_int, stars_count}
 use Rattle.sc_expr.specs.declared.mark.Mark.TheVariants as mark
 use Rattle.sc_parse.specs.Lists as lists

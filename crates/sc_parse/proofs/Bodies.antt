@@ -4,9 +4,9 @@ use Rattle.sc_parse.proofs.Common.{HeadTree, IsLocal, IsMark, Lexeme, List, Loca
 use Rattle.sc_parse.proofs.Common.{SpellsStmts, SpellsValue, StmtTree, [], a_value, ap, append_assoc, arith, behind}
 use Rattle.sc_parse.proofs.Common.{behind_mark, body_behind, bound, declaration_at, declares, false, first_line}
 use Rattle.sc_parse.proofs.Common.{function_head, function_param, function_tree, glued, head_of, init_height, is_base}
-use Rattle.sc_parse.proofs.Common.{local, local_at, local_height, locals_behind, locals_height, map, named_head}
-use Rattle.sc_parse.proofs.Common.{named_params, no_base, no_value, param_of, refl, same_some, subst, sym, true}
-use Rattle.sc_parse.proofs.Common.{value_at, ℕ, ◌++◌, ◌>>=◌, ◌∙◌, ◌∷◌, ◌≡◌}
+use Rattle.sc_parse.proofs.Common.{local, local_at, local_height, locals_at, locals_behind, locals_height, map}
+use Rattle.sc_parse.proofs.Common.{named_head, named_params, no_base, no_value, param_of, refl, same_some, subst, sym}
+use Rattle.sc_parse.proofs.Common.{true, value_at, ℕ, ◌++◌, ◌>>=◌, ◌∙◌, ◌∷◌, ◌≡◌}
 use Rattle.sc_parse.proofs.Bases.{NoBracket, base_front}
 use Rattle.sc_parse.proofs.Exact.{Any, Complete, Exact, ExactAdder, Form, Low, Made, Property, Sound, Turns}
 use Rattle.sc_parse.proofs.Exact.{fits_behind, formed_exact, from_none, front_taken, given, grouped_exact, groups_apart}
@@ -18,7 +18,6 @@ use Rattle.sc_parse.specs.Statements as statements
 use Rattle.sc_parse.proofs.Declared.{Valued, declaration_exact, valued, valued_exact, valued_no_int, declares_some}
 use Rattle.sc_parse.proofs.Expressions.{Few, IsExpr, NoExtension, expr_exact, few}
 use Rattle.sc_parse.proofs.Nested.{IsStmts, stmts_exact}
-use Rattle.sc_parse.specs.SectionReaders.{locals_at}
 
 -- what a local begins with, at most so high
 abbrev IsValue : ℕ → Form (Option ExprTree)

@@ -2,8 +2,8 @@
 pub use Rattle.std.proofs.Common.{Any, Bool, Err, IfOk, IsErrOf, IsTrue, List, None, Ok, Option, Result, Some, [], ap}
 pub use Rattle.std.proofs.Common.{append-nil, append_assoc, arith, bytes_eq, codes, cond, drop, false, get_or, is_some}
 pub use Rattle.std.proofs.Common.{le-leb, leb, leb-false, leb-true, length, length-append, lt-ltb, ltb-true, map, max}
-pub use Rattle.std.proofs.Common.{nat_le, nat_lt, not, one-add, refl, rules, slice_range, subst, suc, sym, take, true}
-pub use Rattle.std.proofs.Common.{zero, ℕ, ◌&&◌, ◌*◌, ◌++◌, ◌+◌, ◌-◌, ◌<◌, ◌||◌, ◌∙◌, ◌∷◌, ◌≡◌, ◌≤◌}
+pub use Rattle.std.proofs.Common.{nat_le, nat_lt, not, one-add, refl, rules, slice_range, subst, subst₂, suc, sym, take}
+pub use Rattle.std.proofs.Common.{true, zero, ℕ, ◌&&◌, ◌*◌, ◌++◌, ◌+◌, ◌-◌, ◌<◌, ◌||◌, ◌∙◌, ◌∷◌, ◌≡◌, ◌≤◌}
 pub use Rattle.std.proofs.lemmas.Bool.{cond_both, false_from_ne_true, false≢true, lt-leb}
 pub use Rattle.std.proofs.lemmas.List.{length-map, take_more}
 pub use Rattle.std.proofs.lemmas.Option.{none-some}
@@ -16,16 +16,13 @@ pub use Rattle.sc_lex.specs.declared.token.Token.{Token}
 pub use Rattle.sc_ast.proofs.Statements.{break_height, continue_height, empty_height, for_height, if_height}
 pub use Rattle.sc_ast.proofs.Statements.{plain_height, return_call_height, return_height, tree_height, value_height}
 pub use Rattle.sc_ast.proofs.Statements.{while_height}
-pub use Rattle.sc_ast.specs.Prelude.{Number, array_length, call_height, decls_height, expr_height, exprs_height}
-pub use Rattle.sc_ast.specs.Prelude.{has_nameless, head_of, init_height, is_place, kind_height, kind_of, local_height}
-pub use Rattle.sc_ast.specs.Prelude.{locals_height, non_empty, option_height, param_of, section_height}
-pub use Rattle.sc_ast.specs.Prelude.{simple_kind_height, stmts_height}
-pub use Rattle.sc_ast.specs.declared.expr.ExprTree.{the_lemmas}
+pub use Rattle.sc_ast.specs.Prelude.{Number, array_length, call_height, decl_height, decls_height, expr_height}
+pub use Rattle.sc_ast.specs.Prelude.{exprs_height, has_nameless, head_of, highest, init_height, is_place, kind_height}
+pub use Rattle.sc_ast.specs.Prelude.{kind_of, local_height, locals_height, non_empty, option_height, param_of}
+pub use Rattle.sc_ast.specs.Prelude.{section_height, simple_kind_height, stmts_height}
 pub use Rattle.sc_ast.specs.declared.section.FunctionParam.{FunctionParam}
-pub use Rattle.sc_ast.specs.declared.section.GlobalTree.{GlobalTree}
-pub use Rattle.sc_expr.proofs.Ahead.{behind_mark, name_ahead}
+pub use Rattle.sc_expr.proofs.Ahead.{behind_mark, bound, cond_is, glued, name_ahead, same_some}
 pub use Rattle.sc_expr.proofs.Balance.{open_along, open_low}
-pub use Rattle.sc_expr.proofs.Ahead.{bound, cond_is, glued, same_some}
 pub use Rattle.sc_expr.proofs.Sound.{read_sound}
 pub use Rattle.sc_expr.specs.Prelude.{IsIdent, IsMark, Spells, arrow, behind, binary_of, extension_at, found, ident_in}
 pub use Rattle.sc_expr.specs.Prelude.{import_of, index, is_mark, joined, lead_by, lexeme_of, literal, look_up, looser}
@@ -47,24 +44,25 @@ pub use Rattle.sc_parse.specs.Prelude.{SpellsStars, SpellsStmtKind, SpellsStmts,
 pub use Rattle.sc_parse.specs.Prelude.{SpellsTypeName, SpellsValue, a_function, a_part, a_result, a_struct, a_test}
 pub use Rattle.sc_parse.specs.Prelude.{a_value, absent, all_separated, alone, args_behind, array, assign, assign_call}
 pub use Rattle.sc_parse.specs.Prelude.{base_by, before_mark, begins_call, begins_struct, begins_value, begins_with}
-pub use Rattle.sc_parse.specs.Prelude.{behind_head, behind_inner_comma, block, call, change_at, change_of, changed}
-pub use Rattle.sc_parse.specs.Prelude.{choice, compartment_at, compartment_by, compound, compound_of, condition}
-pub use Rattle.sc_parse.specs.Prelude.{const_tree, declarator, declares, decls_at, directives, directives_at}
-pub use Rattle.sc_parse.specs.Prelude.{elements_at, empty, export, export_line, first_line, for_loop, for_parts}
-pub use Rattle.sc_parse.specs.Prelude.{function, function_head, function_param, function_tree, global, globals}
-pub use Rattle.sc_parse.specs.Prelude.{globals_behind, head, head_tree, import_line, int, integer_by, is_base, is_else}
-pub use Rattle.sc_parse.specs.Prelude.{is_empty, is_if, is_int, is_struct_word, is_void, keyword_at, keyword_by}
-pub use Rattle.sc_parse.specs.Prelude.{kind_by, lexemes_of, line_at, line_by, literal_at, local, locals_behind, loop_of}
-pub use Rattle.sc_parse.specs.Prelude.{makes_value, many, many_comma, mark_at, mark_by, members_behind}
-pub use Rattle.sc_parse.specs.Prelude.{members_in_braces, more, named, named_head, named_params, nameless, names_struct}
-pub use Rattle.sc_parse.specs.Prelude.{negated, next, no_args, no_base, no_params, no_part, no_result, no_test}
-pub use Rattle.sc_parse.specs.Prelude.{no_value, none, one, otherwise, otherwise_if, param_tree, past_base, past_comma}
-pub use Rattle.sc_parse.specs.Prelude.{past_int, past_stars, placed, plain, prototype, return_call, return_nothing}
-pub use Rattle.sc_parse.specs.Prelude.{return_value, section, section_at, section_tree, signed, signed_int}
-pub use Rattle.sc_parse.specs.Prelude.{simple_or_none, simple_tree, some_args, some_params, star, step_at, step_before}
-pub use Rattle.sc_parse.specs.Prelude.{step_behind, step_of, stmt_tree, stmts_at, struct, struct_tree, type_name}
-pub use Rattle.sc_parse.specs.Prelude.{type_of, unary_place, unsigned, unsigned_int, unstepped, updates, value_returned}
-pub use Rattle.sc_parse.specs.Prelude.{while_loop, whole_line, with_line}
+pub use Rattle.sc_parse.specs.Prelude.{behind_head, behind_inner_comma, block, call, call_tree, change_at, change_of}
+pub use Rattle.sc_parse.specs.Prelude.{changed, choice, compartment_at, compartment_by, compound, compound_of}
+pub use Rattle.sc_parse.specs.Prelude.{condition, const_tree, declarator, declares, decls_at, directives, directives_at}
+pub use Rattle.sc_parse.specs.Prelude.{elements_at, empty, ended_by, export, export_line, first_line, for_loop}
+pub use Rattle.sc_parse.specs.Prelude.{for_parts, function, function_head, function_param, function_tree, global}
+pub use Rattle.sc_parse.specs.Prelude.{globals, globals_behind, head, head_tree, import_line, int, integer_by, is_base}
+pub use Rattle.sc_parse.specs.Prelude.{is_else, is_empty, is_if, is_int, is_struct_word, is_void, keyword_at}
+pub use Rattle.sc_parse.specs.Prelude.{keyword_by, kind_by, lexemes_of, line_at, line_by, literal_at, local, locals_at}
+pub use Rattle.sc_parse.specs.Prelude.{locals_behind, loop_of, makes_value, many, many_comma, mark_at, mark_by}
+pub use Rattle.sc_parse.specs.Prelude.{members_behind, members_in_braces, more, named, named_head, named_params}
+pub use Rattle.sc_parse.specs.Prelude.{nameless, names_struct, negated, next, no_args, no_base, no_params, no_part}
+pub use Rattle.sc_parse.specs.Prelude.{no_result, no_test, no_value, none, one, otherwise, otherwise_if, param_tree}
+pub use Rattle.sc_parse.specs.Prelude.{params_in_parens, past_base, past_comma, past_int, past_stars, placed, plain}
+pub use Rattle.sc_parse.specs.Prelude.{prototype, return_call, return_nothing, return_value, section, section_at}
+pub use Rattle.sc_parse.specs.Prelude.{section_tree, signed, signed_int, simple_or_none, simple_tree, some_args}
+pub use Rattle.sc_parse.specs.Prelude.{some_params, star, step_at, step_before, step_behind, step_of, stmt_tree}
+pub use Rattle.sc_parse.specs.Prelude.{stmts_at, struct, struct_tree, type_name, type_of, unary_place, unsigned}
+pub use Rattle.sc_parse.specs.Prelude.{unsigned_int, unstepped, updates, value_returned, while_loop, whole_line}
+pub use Rattle.sc_parse.specs.Prelude.{with_line}
 unfoldable pub use Rattle.sc_parse.specs.Prelude.{adds, args_at, assignment_at, base_at, begins_head, block_at}
 unfoldable pub use Rattle.sc_parse.specs.Prelude.{body_behind, call_at, condition_at, const_at, consts_at, decl_at}
 unfoldable pub use Rattle.sc_parse.specs.Prelude.{declaration_at, declarator_at, else_at, else_behind, ended_at}

@@ -5,12 +5,12 @@ use Rattle.sc_parse.proofs.Common.{SpellsBase, SpellsConst, SpellsDeclarator, Sp
 use Rattle.sc_parse.proofs.Common.{TypeTree, [], absent, adds, all_separated, ap, append_assoc, arith, array, base_at}
 use Rattle.sc_parse.proofs.Common.{before_mark, begins_with, behind, behind_inner_comma, behind_mark, bound, cond_both}
 use Rattle.sc_parse.proofs.Common.{const_at, const_tree, consts_at, declaration_at, declarator, declarator_at, declares}
-use Rattle.sc_parse.proofs.Common.{drop, false, first_line, global_at, globals_behind, glued, grouped, init_at}
-use Rattle.sc_parse.proofs.Common.{init_behind, keyword_at, length, length-append, literal_at, many, many_comma}
-use Rattle.sc_parse.proofs.Common.{member_at, members_at, members_behind, members_in_braces, more, name_at, negated}
-use Rattle.sc_parse.proofs.Common.{next, non_empty, none, none-some, one, past_comma, plain, refl, same_some, separated}
-use Rattle.sc_parse.proofs.Common.{struct, struct_at, struct_tree, subst, sym, true, type_of, ℕ, ◌++◌, ◌+◌, ◌<◌, ◌>>=◌}
-use Rattle.sc_parse.proofs.Common.{◌∙◌, ◌∷◌, ◌≡◌}
+use Rattle.sc_parse.proofs.Common.{drop, ended_by, false, first_line, global_at, globals_behind, glued, grouped}
+use Rattle.sc_parse.proofs.Common.{init_at, init_behind, keyword_at, length, length-append, literal_at, many}
+use Rattle.sc_parse.proofs.Common.{many_comma, member_at, members_at, members_behind, members_in_braces, more, name_at}
+use Rattle.sc_parse.proofs.Common.{negated, next, non_empty, none, none-some, one, past_comma, plain, refl, same_some}
+use Rattle.sc_parse.proofs.Common.{separated, struct, struct_at, struct_tree, subst, subst₂, sym, true, type_of, ℕ}
+use Rattle.sc_parse.proofs.Common.{◌++◌, ◌+◌, ◌<◌, ◌>>=◌, ◌∙◌, ◌∷◌, ◌≡◌}
 use Rattle.sc_parse.proofs.Bases.{base_front, NoInt, NoBracket, base_exact, no_length, in_brackets, declarator_sound}
 use Rattle.sc_parse.proofs.Bases.{declarator_reads, stars_no_int, integer_is}
 use Rattle.sc_parse.proofs.Exact.{Adds, Any, Before, Complete, Exact, ExactAdder, Form, Hereditary, Property, Then}
@@ -19,8 +19,6 @@ use Rattle.sc_parse.proofs.Exact.{Behind, Between, IsName, Sound, Taken, a_name,
 use Rattle.sc_parse.proofs.Exact.{chosen, from_none, given, grouped_exact, name_exact, same_pair, separated_exact}
 use Rattle.sc_parse.proofs.Exact.{word_taken}
 use Rattle.sc_expr.specs.declared.mark.Mark.TheVariants as mark
-use Rattle.sc_parse.specs.Fronts.{ended_by}
-use Rattle.std.proofs.Common.{subst₂}
 use Rattle.sc_expr.specs.declared.mark.Keyword.TheVariants as word
 use Rattle.sc_parse.specs.Lists as lists
 use Rattle.sc_parse.specs.Declarations.{plain, one}

@@ -1,17 +1,15 @@
 -- Readers that read exactly what is spelled, alone and in lists.
 use Rattle.sc_parse.proofs.Common.{Adder, Bool, Grouped, IsIdent, IsKeyword, IsMark, Keyword, Lexeme, List, Mark, None}
 use Rattle.sc_parse.proofs.Common.{Option, Reader, Separated, Some, Symbol, [], adds, all_separated, ap, append-nil}
-use Rattle.sc_parse.proofs.Common.{append_assoc, arith, before_mark, behind, behind_mark, bound, cond, drop, false}
-use Rattle.sc_parse.proofs.Common.{glued, grouped, is_mark, keyword_at, keyword_by, length, length-append, map, max}
-use Rattle.sc_parse.proofs.Common.{more, name_ahead, name_at, next, none, none-some, one, option_map_or, refl}
-use Rattle.sc_parse.proofs.Common.{same_some, separated, subst, suc, sym, true, zero, ℕ, ◌++◌, ◌+◌, ◌<◌, ◌>>=◌, ◌∙◌}
-use Rattle.sc_parse.proofs.Common.{◌∷◌, ◌≡◌, ◌≤◌}
+use Rattle.sc_parse.proofs.Common.{append_assoc, arith, before_mark, behind, behind_mark, bound, cond, drop, ended_by}
+use Rattle.sc_parse.proofs.Common.{false, glued, grouped, highest, is_mark, keyword_at, keyword_by, length}
+use Rattle.sc_parse.proofs.Common.{length-append, map, max, more, name_ahead, name_at, next, none, none-some, one}
+use Rattle.sc_parse.proofs.Common.{option_map_or, refl, same_some, separated, subst, suc, sym, true, zero, ℕ, ◌++◌, ◌+◌}
+use Rattle.sc_parse.proofs.Common.{◌<◌, ◌>>=◌, ◌∙◌, ◌∷◌, ◌≡◌, ◌≤◌}
 use Rattle.sc_expr.specs.declared.mark.Mark.TheVariants as mark
 use Rattle.sc_expr.specs.declared.lexeme.Symbol.TheVariants as symbol
-use Rattle.sc_ast.specs.Height.{highest}
 use Rattle.sc_expr.specs.contracts.mark.Mark.{the_type}
 use denote.Enum.Bare.{true_same}
-use Rattle.sc_parse.specs.Fronts.{ended_by}
 
 -- what is read at the front, as forms that lexemes have and properties of what stands behind
 abbrev pub Form : Type 0 → Type 1

@@ -2,11 +2,11 @@
 use Rattle.sc_parse.proofs.Common.{Bool, CallTree, ExprTree, Lexeme, List, Mark, None, Prefix, Separated, Some, Spells}
 use Rattle.sc_parse.proofs.Common.{SpellsArgs, SpellsCall, Symbol, [], all_separated, ap, append_assoc, args_at}
 use Rattle.sc_parse.proofs.Common.{args_behind, arith, arrow, begins_call, begins_with, behind, binary_of, bound, call}
-use Rattle.sc_parse.proofs.Common.{call_at, call_height, expr_at, expr_height, exprs_height, extension_at, false}
-use Rattle.sc_parse.proofs.Common.{false_from_ne_true, false≢true, found, index, is_some, joined, lead_by, literal}
-use Rattle.sc_parse.proofs.Common.{looser, loosest_level, member, more, most_open, no_args, none-some, one, open_after}
-use Rattle.sc_parse.proofs.Common.{open_behind, open_low, parenthesised, prefix, prefix_of, read, read_sound, refl}
-use Rattle.sc_parse.proofs.Common.{some_args, sym, true, variable, ℕ, ◌++◌, ◌∙◌, ◌∷◌, ◌≡◌, ◌≤◌}
+use Rattle.sc_parse.proofs.Common.{call_at, call_height, call_tree, expr_at, expr_height, exprs_height, extension_at}
+use Rattle.sc_parse.proofs.Common.{false, false_from_ne_true, false≢true, found, index, is_some, joined, lead_by}
+use Rattle.sc_parse.proofs.Common.{literal, looser, loosest_level, member, more, most_open, no_args, none-some, one}
+use Rattle.sc_parse.proofs.Common.{open_after, open_behind, open_low, parenthesised, prefix, prefix_of, read}
+use Rattle.sc_parse.proofs.Common.{read_sound, refl, some_args, sym, true, variable, ℕ, ◌++◌, ◌∙◌, ◌∷◌, ◌≡◌, ◌≤◌}
 use Rattle.sc_parse.proofs.Bases.{other_mark, mark_is}
 use Rattle.sc_parse.proofs.Exact.{Any, Between, Complete, Exact, Form, Hereditary, IsName, Low, Made, Property, Then}
 use Rattle.sc_parse.proofs.Exact.{Turns, a_name, after, as_form, before, between_exact, both, chosen, commas_exact}
@@ -15,7 +15,6 @@ use Rattle.sc_parse.proofs.Exact.{then_exact, took}
 use Rattle.sc_expr.specs.declared.mark.Mark.TheVariants as mark
 use Rattle.sc_expr.specs.declared.lexeme.Symbol.TheVariants as symbol
 use Rattle.sc_expr.proofs.Complete.{reads_all}
-use Rattle.sc_parse.specs.StmtReaders.{call_tree}
 
 -- nowhere more brackets are open than may be
 abbrev pub Few : (free : ℕ) → List Lexeme → Type 0

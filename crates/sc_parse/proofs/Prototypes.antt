@@ -4,8 +4,8 @@ use Rattle.sc_parse.proofs.Common.{SpellsHead, SpellsParam, SpellsParams, Spells
 use Rattle.sc_parse.proofs.Common.{a_result, adds, all_separated, ap, append_assoc, behind, bound, false, false≢true}
 use Rattle.sc_parse.proofs.Common.{first_line, glued, head, head_at, head_tree, is_void, keyword_at, name_ahead}
 use Rattle.sc_parse.proofs.Common.{name_at, named, nameless, no_params, no_result, option_map_or, param_at, param_tree}
-use Rattle.sc_parse.proofs.Common.{params_at, refl, result_at, some_params, subst, sym, true, type_name, type_name_at}
-use Rattle.sc_parse.proofs.Common.{ℕ, ◌++◌, ◌>>=◌, ◌∙◌, ◌∷◌, ◌≡◌}
+use Rattle.sc_parse.proofs.Common.{params_at, params_in_parens, refl, result_at, some_params, subst, sym, true}
+use Rattle.sc_parse.proofs.Common.{type_name, type_name_at, ℕ, ◌++◌, ◌>>=◌, ◌∙◌, ◌∷◌, ◌≡◌}
 use Rattle.sc_parse.proofs.Bases.{NoType, base_front, type_name_exact}
 use Rattle.sc_parse.proofs.Declared.{separated_front}
 use Rattle.sc_parse.proofs.Exact.{Any, Between, Complete, Exact, ExactAdder, Form, IsName, Made, Property, Sound, Then}
@@ -13,7 +13,6 @@ use Rattle.sc_parse.proofs.Exact.{Turns, a_name, after, any, as_form, before, be
 use Rattle.sc_parse.proofs.Exact.{from_none, given, made, made_exact, name_exact, then_exact, took, word_ahead}
 use Rattle.sc_expr.specs.declared.mark.Keyword.TheVariants as word
 use Rattle.sc_expr.specs.declared.mark.Mark.TheVariants as mark
-use Rattle.sc_parse.specs.Readers.{params_in_parens}
 
 abbrev pub NoName : List Lexeme → Type 0
 NoName rest = name_at rest ≡ None

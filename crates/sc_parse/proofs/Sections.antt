@@ -1,15 +1,14 @@
 -- Sections are read exactly as they are spelled, within the limits of height and of brackets, and no lexemes spell two.
 use Rattle.sc_parse.proofs.Common.{Decl, Grouped, Lexeme, List, SectionTree, Some, SpellsDecl, SpellsSection, Symbol}
-use Rattle.sc_parse.proofs.Common.{[], ap, append-nil, arith, bound, compartment_at, compartment_by, decls_at}
-use Rattle.sc_parse.proofs.Common.{decls_height, directives, directives_at, false≢true, is_empty, length, length-append}
-use Rattle.sc_parse.proofs.Common.{max, most_open, none-some, refl, same_some, section, section_at, section_height}
-use Rattle.sc_parse.proofs.Common.{section_tree, section_within, subst, sym, true, ℕ, ◌++◌, ◌+◌, ◌>>=◌, ◌∙◌, ◌∷◌, ◌≡◌}
-use Rattle.sc_parse.proofs.Common.{◌≤◌}
+use Rattle.sc_parse.proofs.Common.{[], ap, append-nil, arith, bound, compartment_at, compartment_by, decl_height}
+use Rattle.sc_parse.proofs.Common.{decls_at, decls_height, directives, directives_at, false≢true, is_empty, length}
+use Rattle.sc_parse.proofs.Common.{length-append, max, most_open, none-some, refl, same_some, section, section_at}
+use Rattle.sc_parse.proofs.Common.{section_height, section_tree, section_within, subst, sym, true, ℕ, ◌++◌, ◌+◌, ◌>>=◌}
+use Rattle.sc_parse.proofs.Common.{◌∙◌, ◌∷◌, ◌≡◌, ◌≤◌}
 use Rattle.sc_expr.specs.declared.lexeme.Symbol.TheVariants as symbol
 use Rattle.sc_parse.specs.Lists as lists
 use Rattle.sc_parse.proofs.Exact.{Adds, Form, Low, Turns, adding, fits_behind, from_none, grouped_sound, groups_apart}
 use Rattle.sc_parse.proofs.Exact.{groups_joined, same_pair}
-use Rattle.sc_ast.specs.Prelude.{decl_height}
 use Rattle.sc_parse.proofs.Expressions.{Few, few}
 use Rattle.sc_parse.proofs.Beginnings.{NoLine, IsDecls, all_exact, decl_exact, decl_no_line}
 use Rattle.sc_parse.proofs.Directing.{lines_sound, lines_complete}

@@ -8,8 +8,9 @@ use Rattle.sc_parse.proofs.Common.{joined, lead_by, literal, looser, lt-ltb, ltb
 use Rattle.sc_parse.proofs.Common.{max, member, none-some, operand_behind, option_map_or, parenthesised, place_at}
 use Rattle.sc_parse.proofs.Common.{placed, prefix, prefix_of, prefixed, read, read_sound, refl, rules, same_some}
 use Rattle.sc_parse.proofs.Common.{simple_at, simple_kind_height, step_at, step_before, step_behind, step_of, stepped}
-use Rattle.sc_parse.proofs.Common.{subst, sym, the_lemmas, true, unary_place, unstepped, updates, value_behind}
-use Rattle.sc_parse.proofs.Common.{variable, ℕ, ◌++◌, ◌+◌, ◌-◌, ◌<◌, ◌>>=◌, ◌∙◌, ◌∷◌, ◌≡◌, ◌≤◌}
+use Rattle.sc_parse.proofs.Common.{subst, sym, true, unary_place, unstepped, updates, value_behind, variable, ℕ, ◌++◌}
+use Rattle.sc_parse.proofs.Common.{◌+◌, ◌-◌, ◌<◌, ◌>>=◌, ◌∙◌, ◌∷◌, ◌≡◌, ◌≤◌}
+use Rattle.sc_ast.specs.declared.expr.ExprTree.{the_lemmas}
 use Rattle.sc_ast.specs.declared.expr.ExprTree.TheVariants as expr
 use Rattle.sc_base.specs.declared.op.UnaryOp.{UnaryOp}
 use Rattle.sc_ast.specs.declared.stmt.SimpleKind.TheVariants as simple

@@ -1,8 +1,7 @@
 -- What this crate's contracts, its proofs and the crates above cite, passed on from one place. Declares nothing.
 pub use Rattle.sc_lex.specs.Prelude.{IsCut, IsSpan, line_after}
 pub use Rattle.sc_ast.specs.declared.section.SectionTree.{SectionTree}
-pub use Rattle.sc_expr.specs.Prelude.{Agrees, behind, is_mark, most_open, name_at, name_by, open_after, open_behind}
-pub use Rattle.sc_expr.specs.Prelude.{symbol_of}
+pub use Rattle.sc_expr.specs.Prelude.{Agrees, behind, most_open, name_at, open_after, open_behind, symbol_of}
 unfoldable pub use Rattle.sc_expr.specs.Prelude.{says}
 pub use Rattle.sc_parse.specs.Declarations.{Declares, IsGlobal, IsLocal, IsMember, SpellsConst, SpellsDecl}
 pub use Rattle.sc_parse.specs.Declarations.{SpellsFunction, SpellsHead, SpellsInit, SpellsParam, SpellsParams}
@@ -39,7 +38,7 @@ pub use Rattle.sc_parse.specs.Statements.{compound_of, condition, empty, for_loo
 pub use Rattle.sc_parse.specs.Statements.{otherwise_if, return_call, return_nothing, return_value, some_args}
 pub use Rattle.sc_parse.specs.Statements.{step_before, step_behind, step_of, updates, while_loop}
 pub use Rattle.sc_parse.specs.StmtReaders.{always, args_behind, args_in_parens, before_mark, begins_value, call_alone}
-pub use Rattle.sc_parse.specs.StmtReaders.{change_at, change_of, changed, for_parts, is_if, kind_by, loop_of}
+pub use Rattle.sc_parse.specs.StmtReaders.{call_tree, change_at, change_of, changed, for_parts, is_if, kind_by, loop_of}
 pub use Rattle.sc_parse.specs.StmtReaders.{makes_value, mark_at, mark_by, placed, simple_or_none, simple_tree, step_at}
 pub use Rattle.sc_parse.specs.StmtReaders.{stmt_tree, stmts_at, unary_place, unstepped, value_returned}
 unfoldable pub use Rattle.sc_parse.specs.StmtReaders.{args_at, assignment_at, block_at, call_at, condition_at, else_at}

@@ -3,8 +3,8 @@
 //! A parser takes the lexemes that are left by `&mut`, and leaves those behind what it read.
 
 ghost use Rattle.sc_parse.specs.Prelude.{Agrees, begins_call, begins_with, behind, behind_inner_comma, ended_by};
-ghost use Rattle.sc_parse.specs.Prelude.{first_line, integer_by, is_base, is_else, is_void, keyword_at};
-ghost use Rattle.sc_parse.specs.Prelude.{keyword_by, name_at, past_int, star_count};
+ghost use Rattle.sc_parse.specs.Prelude.{first_line, integer_by, is_base, is_else, is_void, keyword_at, keyword_by};
+ghost use Rattle.sc_parse.specs.Prelude.{name_at, past_int, star_count};
 ghost use Rattle.std.specs.Prelude.{◌≡◌, ◌≤◌, length, drop, IsSome, true, false, Some, None};
 
 use sc_ast::{Ident, Literal};

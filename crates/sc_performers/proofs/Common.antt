@@ -85,8 +85,8 @@ pub use Rattle.sc_elab.specs.Prelude.{scope_in, sections_from, signature_by, str
 pub use Rattle.sc_elab.specs.Prelude.{typed_function, typed_global, typed_param, typed_section, visible_of}
 pub use Rattle.sc_types.proofs.Calls.{FoundBy, Offering, comp_is, export_is, find_offering, found_by}
 pub use Rattle.sc_types.proofs.Facts.{DeclFacts, ExportFacts, FaceFacts, Fresh, ImportFacts, fresh_distinct}
-pub use Rattle.sc_types.proofs.Lookups.{Each, FoundFunction, back_empty, each_at, each_empty, front_empty, map_empty}
-pub use Rattle.sc_types.proofs.Lookups.{none_some, rule_holds, some_item}
+pub use Rattle.sc_types.proofs.Lookups.{Each, FoundFunction, back_empty, each_at, each_empty, front_empty, is_at_most}
+pub use Rattle.sc_types.proofs.Lookups.{map_empty, none_some, rule_holds, some_item}
 pub use Rattle.sc_types.proofs.Sections.{agrees, both_distinct, crossing, g, none_beyond, promised_name}
 pub use Rattle.sc_types.specs.Prelude.{IsTyped, counts_broken, global_lines, head_lines, line_beyond, line_of_some}
 pub use Rattle.sc_types.specs.Prelude.{param_small, section_nodes, structs_from}

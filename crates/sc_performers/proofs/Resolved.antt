@@ -7,20 +7,20 @@ use Rattle.sc_performers.proofs.Common.{back_empty, bytes_eq, bytes_eq_self, cal
 use Rattle.sc_performers.proofs.Common.{crossing, defines_main, each_at, each_empty, environment, export_is, false}
 use Rattle.sc_performers.proofs.Common.{false≢true, find_offering, found_by, front_empty, functions_in, g, globals_in}
 use Rattle.sc_performers.proofs.Common.{head_crosses, head_of, heads_in, if◌then◌else◌, implied, import_of, imported}
-use Rattle.sc_performers.proofs.Common.{input_name, input_proto, interface_broken, interfaces_of, is_environment}
-use Rattle.sc_performers.proofs.Common.{is_input, is_offered, is_output, is_plain, is_some, length, length-map}
-use Rattle.sc_performers.proofs.Common.{line_of_text, lines_from, list_any, map, map_empty, most_compartments}
-use Rattle.sc_performers.proofs.Common.{most_exports, most_nodes, most_params, nat_le, none_beyond, none_some, not}
-use Rattle.sc_performers.proofs.Common.{number_or_zero, offered, offering, option_map_or, output_name, output_proto}
-use Rattle.sc_performers.proofs.Common.{owner_name, param_of, promised, promised_name, refl, rule_holds, same_Some}
-use Rattle.sc_performers.proofs.Common.{same_text, scalar_of, section_lines, slice_get, structs_in, subst, suc, sym}
-use Rattle.sc_performers.proofs.Common.{true, unless, zero, ℕ, ◌&&◌, ◌++◌, ◌+◌, ◌==◌, ◌||◌, ◌∙◌, ◌∷◌, ◌≡◌, ◌≤◌}
+use Rattle.sc_performers.proofs.Common.{input_name, input_proto, interface_broken, interfaces_of, is_at_most}
+use Rattle.sc_performers.proofs.Common.{is_environment, is_input, is_offered, is_output, is_plain, is_some, length}
+use Rattle.sc_performers.proofs.Common.{length-map, line_of_text, lines_from, list_any, map, map_empty}
+use Rattle.sc_performers.proofs.Common.{most_compartments, most_exports, most_nodes, most_params, nat_le, none_beyond}
+use Rattle.sc_performers.proofs.Common.{none_some, not, number_or_zero, offered, offering, option_map_or, output_name}
+use Rattle.sc_performers.proofs.Common.{output_proto, owner_name, param_of, promised, promised_name, refl, rule_holds}
+use Rattle.sc_performers.proofs.Common.{same_Some, same_text, scalar_of, section_lines, slice_get, structs_in, subst}
+use Rattle.sc_performers.proofs.Common.{suc, sym, true, unless, zero, ℕ, ◌&&◌, ◌++◌, ◌+◌, ◌==◌, ◌||◌, ◌∙◌, ◌∷◌, ◌≡◌}
+use Rattle.sc_performers.proofs.Common.{◌≤◌}
 use Rattle.sc_scope.specs.Prelude.{proto_of}
 use Rattle.sc_event.specs.declared.interface.Import.TheVariants as import
 use Rattle.sc_ast.specs.declared.section.Decl.TheVariants as decl
 use Rattle.sc_interfaces.specs.Faces as faces
 use Rattle.sc_types.specs.Counts as counts
-use Rattle.sc_types.proofs.Lookups.{is_at_most}
 use Rattle.sc_types.proofs.Whole.{count_at, hold}
 use Rattle.sc_performers.proofs.Agreeing.{AreAgreed, all_agree, are_agreed, promise_declared}
 use Rattle.sc_performers.proofs.BackTree.{head_at}

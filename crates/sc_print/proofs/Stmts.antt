@@ -14,6 +14,7 @@ use Rattle.sc_print.proofs.Common.{lineless_stmts, lines_at, list_all, loosest_l
 use Rattle.sc_print.proofs.Common.{newline, next_words, no_args, place_words, refl, return_words, roll-StmtKind, rules}
 use Rattle.sc_print.proofs.Common.{simple_words, some_args, stmt_at, stmt_induction, stmt_layout, subst, sym, symbols}
 use Rattle.sc_print.proofs.Common.{true, word, word_symbol, ℕ, ◌&&◌, ◌++◌, ◌==◌, ◌∙◌, ◌∷◌, ◌≡◌}
+use Rattle.sc_ast.specs.Prelude.{kind_of}
 use Rattle.sc_ast.specs.StmtWords as printing
 use Rattle.sc_ast.specs.declared.stmt.StmtTree as trees
 use Rattle.sc_ast.specs.declared.stmt.StmtKind as kinds
@@ -25,7 +26,6 @@ use Rattle.sc_parse.specs.Statements as spell
 use Rattle.sc_print.proofs.Tables as tables
 use Rattle.sc_ast.specs.declared.stmt.StmtKind.TheOpen as layer
 use Rattle.sc_expr.specs.declared.mark.Keyword.TheVariants as keyword
-use Rattle.sc_ast.specs.Prelude.{kind_of}
 use Rattle.sc_print.proofs.Reading.{Say, Reading, fixed, part, written, reads, separated, line_symbols}
 use Rattle.sc_print.proofs.Literals.{name_says}
 use Rattle.sc_print.proofs.Spelling.{spelled_at}

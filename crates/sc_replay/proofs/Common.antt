@@ -1,11 +1,10 @@
 -- The names that several proofs of this crate cite, passed on from one place. Declares nothing.
 pub use Rattle.std.proofs.Common.{All, Bool, Err, IsSome, List, None, Ok, Option, Result, Some, [], ap, ap₂, arith}
-pub use Rattle.std.proofs.Common.{bytes_eq, codes, drop, drop-drop, eq-eqb, eqb-true, false, filter, if◌then◌else◌, inl}
-pub use Rattle.std.proofs.Common.{inr, is_some, leb-false, length, map, nat_le, ne_eqb, neg_ℤ, negsuc, not, pos, refl}
-pub use Rattle.std.proofs.Common.{slice_get, slice_index_or, subst, suc, sym, true, true≢false, zero, ℕ, ⊎_elim, ◌&&◌}
-pub use Rattle.std.proofs.Common.{◌++◌, ◌+◌, ◌-◌, ◌<◌, ◌==◌, ◌^◌, ◌||◌, ◌∙◌, ◌∷◌, ◌≡◌, ◌≤◌, ◌⊎◌}
+pub use Rattle.std.proofs.Common.{bytes_eq, drop, drop-drop, eq-eqb, eqb-true, false, filter, if◌then◌else◌, inl, inr}
+pub use Rattle.std.proofs.Common.{is_some, leb-false, length, map, nat_le, ne_eqb, neg_ℤ, negsuc, not, pos, refl}
+pub use Rattle.std.proofs.Common.{slice_get, slice_index_or, subst, suc, sym, true, zero, ℕ, ⊎_elim, ◌&&◌, ◌++◌, ◌+◌}
+pub use Rattle.std.proofs.Common.{◌-◌, ◌<◌, ◌==◌, ◌^◌, ◌||◌, ◌∙◌, ◌∷◌, ◌≡◌, ◌≤◌, ◌⊎◌}
 pub use Rattle.std.proofs.lemmas.Bool.{and_from, and_parts, both_ways, cases_eq, false≢true, or_right}
-pub use Rattle.std.proofs.lemmas.List.Elements.{All-from_recursion, recursion_from_All}
 pub use Rattle.std.specs.List.{AllByRecursion, list_all, list_any}
 pub use Rattle.std.specs.Option.{option_map, option_map_or}
 pub use Rattle.sc_base.proofs.Bools.{and_first, and_rest}
@@ -33,7 +32,7 @@ pub use Rattle.sc_core.specs.Prelude.{done, ended, entry_in, evaluated, exit_wor
 pub use Rattle.sc_core.specs.Prelude.{first_word, follow, found, function, function_of, functions_in, functions_of}
 pub use Rattle.sc_core.specs.Prelude.{global_block, globals_of, in_order, inits_do, is_main, is_number, is_plain_name}
 pub use Rattle.sc_core.specs.Prelude.{is_word, leads, leave, library_of, main_fits, main_name, main_signature, may_call}
-pub use Rattle.sc_core.specs.Prelude.{meaning, next_input, of_bool, option_value, or_cause, performs, place_named}
+pub use Rattle.sc_core.specs.Prelude.{next_input, of_bool, option_value, or_cause, performs, place_named}
 pub use Rattle.sc_core.specs.Prelude.{place_of_export, proto_signature, read_input, roles_in, rounds, rows_left, run_by}
 pub use Rattle.sc_core.specs.Prelude.{run_in, run_step, run_to, same_signature, scripted_meaning, scripted_step}
 pub use Rattle.sc_core.specs.Prelude.{signature_of, stmt_does, stopped_at, store, struct_zeros, tell, test, turn}

@@ -5,8 +5,9 @@ use Rattle.sc_replay.proofs.Common.{Scalar, Some, Standing, Word, [], action_of,
 use Rattle.sc_replay.proofs.Common.{at_start, eq-eqb, eqb-true, export_at, false, false≢true, if◌then◌else◌, imports}
 use Rattle.sc_replay.proofs.Common.{is_allowed, is_function, is_legal_from, is_output, is_some, is_word, leads, legal}
 use Rattle.sc_replay.proofs.Common.{length, list_all, main_proto, map, may_call, may_perform, option_map_or, params_at}
-use Rattle.sc_replay.proofs.Common.{part, performer, proto_of, recursion_from_All, refl, resumed, rows_from}
-use Rattle.sc_replay.proofs.Common.{stands_after, subst, suc, sym, takes, true, ℕ, ◌&&◌, ◌==◌, ◌∙◌, ◌∷◌, ◌≡◌}
+use Rattle.sc_replay.proofs.Common.{part, performer, proto_of, refl, resumed, rows_from, stands_after, subst, suc, sym}
+use Rattle.sc_replay.proofs.Common.{takes, true, ℕ, ◌&&◌, ◌==◌, ◌∙◌, ◌∷◌, ◌≡◌}
+use Rattle.std.proofs.lemmas.List.Elements.{recursion_from_All}
 use Rattle.std.proofs.lemmas.List.{length-map}
 use Rattle.sc_replay.proofs.Step.{Fair, MayAct, Suit}
 use Rattle.sc_laws.proofs.Scripts.{words_are}

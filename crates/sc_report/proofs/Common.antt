@@ -1,12 +1,11 @@
 -- The names that several proofs of this crate cite, passed on from one place. Declares nothing.
-pub use Rattle.std.proofs.Common.{Bool, Err, List, None, Ok, OnOk, Result, Some, [], ap, append-nil, append_assoc}
-pub use Rattle.std.proofs.Common.{arith, codes, cond, eq-eqb, false, filter, flat_map, get_or, length, map, nat_eq}
-pub use Rattle.std.proofs.Common.{ne_eqb, refl, suc, sym, take, true, zero, ℕ, ◌%◌, ◌*◌, ◌++◌, ◌+◌, ◌/◌, ◌<◌, ◌∙◌, ◌∷◌}
-pub use Rattle.std.proofs.Common.{◌≡◌}
+pub use Rattle.std.proofs.Common.{Bool, Err, List, Ok, OnOk, Result, [], ap, append-nil, append_assoc, arith, codes}
+pub use Rattle.std.proofs.Common.{cond, eq-eqb, false, filter, flat_map, get_or, length, map, nat_eq, ne_eqb, suc, sym}
+pub use Rattle.std.proofs.Common.{take, true, zero, ℕ, ◌%◌, ◌*◌, ◌++◌, ◌+◌, ◌/◌, ◌<◌, ◌∙◌, ◌∷◌, ◌≡◌}
 pub use Rattle.std.proofs.lemmas.List.{flat_map_more, take_more}
 pub use Rattle.sc_event.specs.Prelude.{comp_name, event_line, spaced_names}
 pub use Rattle.sc_made.specs.Text.{call_text, export_text, function_text, import_text, next_state, numbers_from}
 pub use Rattle.sc_made.specs.Text.{proto_text, state_after, worker_text, workers}
-pub use Rattle.sc_report.specs.Check.{check_text, export_line, import_line, interface_text, scalar_word}
+pub use Rattle.sc_report.specs.Check.{export_line, import_line, interface_text, scalar_word}
 pub use Rattle.sc_report.specs.Making.{call_with, function_with, state_at}
 pub use Rattle.sc_report.specs.Report.{cause_end, link_end, link_line}

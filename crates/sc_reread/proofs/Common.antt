@@ -46,14 +46,14 @@ pub use Rattle.sc_expr.specs.declared.lexeme.Lexeme.{Lexeme}
 pub use Rattle.sc_expr.specs.declared.lexeme.Symbol.{Symbol}
 pub use Rattle.sc_parse.specs.Prelude.{Grouped, IsParsed, SpellsDecl, SpellsDirectives, SpellsFunction, SpellsHead}
 pub use Rattle.sc_parse.specs.Prelude.{SpellsSection, lexemes_of}
-pub use Rattle.sc_print.proofs.TreeSpacing.{decl_tidy, head_tidy}
 pub use Rattle.sc_print.proofs.DirectiveWords.{export_says, heading_begins, heading_is, heading_line_is, heading_says}
 pub use Rattle.sc_print.proofs.DirectiveWords.{import_says}
 pub use Rattle.sc_print.proofs.Lined.{Found, Lined, found_lines, line, tidy}
 pub use Rattle.sc_print.proofs.Literals.{literal_kind, literal_says, literal_some, name_kind, name_says, name_some}
 pub use Rattle.sc_print.proofs.Literals.{no_table}
 pub use Rattle.sc_print.proofs.Reading.{Reading, Say, joined_symbols}
-pub use Rattle.sc_print.proofs.Spacing.{Tidy, at_level, gap, line_end, next, tidy_append, lone}
+pub use Rattle.sc_print.proofs.Spacing.{Tidy, at_level, gap, line_end, lone, next, run_is, tidy_append}
+pub use Rattle.sc_print.proofs.TreeSpacing.{Free, decl_tidy, head_tidy, stmt_holds}
 pub use Rattle.sc_print.proofs.Whole.{exports_lined, imports_lined, section_reads}
 pub use Rattle.sc_print.specs.Prelude.{are_kept, is_kept, is_kept_decl, is_kept_stmt, kept_export, kept_function}
 pub use Rattle.sc_print.specs.Prelude.{kept_head, kept_import, kept_param, kept_section, piece_symbols, symbols}

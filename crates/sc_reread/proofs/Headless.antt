@@ -8,7 +8,7 @@ use Rattle.sc_reread.proofs.Common.{heading_begins, heading_is, heading_line_is,
 use Rattle.sc_reread.proofs.Common.{is_directive, is_export, is_heading, is_import, is_inside_line, is_name}
 use Rattle.sc_reread.proofs.Common.{is_name_byte, is_nondigit, is_of, is_pragma, is_some, length, list_all, main_proto}
 use Rattle.sc_reread.proofs.Common.{main_text, mark_kind, marks, nat_lt, no_table, not, option_or, or_left, owner_name}
-use Rattle.sc_reread.proofs.Common.{proto_text, recursion_from_All, refl, replicate, row_text, section_text}
+use Rattle.sc_reread.proofs.Common.{proto_text, recursion_from_All, refl, replicate, row_text, run_is, section_text}
 use Rattle.sc_reread.proofs.Common.{slice_index, subst, suc, sym, take, take-append_seam, text_of, true, zero, ℕ, ◌&&◌}
 use Rattle.sc_reread.proofs.Common.{◌*◌, ◌++◌, ◌==◌, ◌∙◌, ◌∷◌, ◌≡◌, ◌≤◌}
 use Rattle.sc_base.proofs.Lists.{list_all_along}
@@ -16,7 +16,7 @@ use Rattle.sc_event.specs.declared.row.Entry.TheVariants as entry
 unfoldable use Rattle.sc_lex.specs.Prelude.{heading_name, is_mark, kind_of, line_kind, word_kind, words}
 use Rattle.sc_lex.specs.declared.token.TokenKind.TheVariants as kind
 use Rattle.sc_lex.proofs.Texts.{word_run}
-use Rattle.sc_print.proofs.Spacing.{IsWord, run_is}
+use Rattle.sc_print.proofs.Spacing.{IsWord}
 use Rattle.sc_print.proofs.Spacing as spacing
 use Rattle.sc_reread.proofs.Headings.{last, last_append, mark, to_begins}
 use Rattle.sc_reread.proofs.Performing.{decls_are, ident_name}

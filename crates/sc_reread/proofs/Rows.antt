@@ -1,13 +1,13 @@
 -- Rows as lines of a text: the same words as those of the tree, on one line.
-use Rattle.sc_reread.proofs.Common.{AllByRecursion, ExprTree, Interfaces, IsSpoken, IsTrue, List, Number, Option, Piece}
-use Rattle.sc_reread.proofs.Common.{Row, Scalar, StmtTree, Tidy, [], action_kind, action_text, ap, append_assoc, ap₂}
-use Rattle.sc_reread.proofs.Common.{arith, at_level, blank, block_words, codes, condition_words, counter_name}
+use Rattle.sc_reread.proofs.Common.{AllByRecursion, ExprTree, Free, Interfaces, IsSpoken, IsTrue, List, Number, Option}
+use Rattle.sc_reread.proofs.Common.{Piece, Row, Scalar, StmtTree, Tidy, [], action_kind, action_text, ap, append_assoc}
+use Rattle.sc_reread.proofs.Common.{ap₂, arith, at_level, blank, block_words, codes, condition_words, counter_name}
 use Rattle.sc_reread.proofs.Common.{expr_height, expr_words, fits, flat_map-append, gap, indent, is_ident, is_kept}
 use Rattle.sc_reread.proofs.Common.{is_kept_stmt, is_name, is_reserved, line_end, line_of, literal_kind, literal_some}
 use Rattle.sc_reread.proofs.Common.{literal_text, lone, max, name_kind, name_some, newline, next, piece_symbols}
-use Rattle.sc_reread.proofs.Common.{piece_text, refl, row_kind, row_text, rules, stmt_height, stmt_layout, subst, suc}
-use Rattle.sc_reread.proofs.Common.{sym, symbols, text_of, tidy_append, true, unlined, word, word_symbol, ℕ, ◌++◌, ◌+◌}
-use Rattle.sc_reread.proofs.Common.{◌<◌, ◌^◌, ◌∙◌, ◌∷◌, ◌≡◌, ◌≤◌}
+use Rattle.sc_reread.proofs.Common.{piece_text, refl, row_kind, row_text, rules, stmt_height, stmt_holds, stmt_layout}
+use Rattle.sc_reread.proofs.Common.{subst, suc, sym, symbols, text_of, tidy_append, true, unlined, word, word_symbol, ℕ}
+use Rattle.sc_reread.proofs.Common.{◌++◌, ◌+◌, ◌<◌, ◌^◌, ◌∙◌, ◌∷◌, ◌≡◌, ◌≤◌}
 use Rattle.sc_base.specs.declared.op.BinaryOp.TheVariants as binary
 use Rattle.sc_ast.specs.declared.expr.ExprTree as exprs
 use Rattle.sc_ast.specs.declared.expr.ExprTree.TheVariants as expr
@@ -18,7 +18,6 @@ use Rattle.sc_expr.specs.declared.mark.Keyword.TheVariants as keyword
 use Rattle.sc_print.proofs.Spacing as apart
 use Rattle.sc_print.proofs.Tables as tables
 use Rattle.sc_print.proofs.Spacing.{none}
-use Rattle.sc_print.proofs.TreeSpacing.{Free, stmt_holds}
 use Rattle.sc_lex.specs.declared.token.TokenKind.TheVariants as kind
 use Rattle.sc_reread.proofs.Nesting.{Nested, even_binary, even_equal, even_ident, even_keyword, even_literal}
 use Rattle.sc_reread.proofs.Nesting.{even_semicolon, nested_append, nested_blank, nested_curly, nested_even}

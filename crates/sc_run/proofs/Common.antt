@@ -42,7 +42,6 @@ pub use Rattle.sc_core.specs.declared.section.TypedLocal.{TypedLocal}
 pub use Rattle.sc_core.specs.declared.section.TypedParam.{TypedParam}
 pub use Rattle.sc_core.specs.declared.section.TypedSection.{TypedSection}
 pub use Rattle.sc_core.specs.declared.section.TypedStruct.{TypedStruct}
-pub use Rattle.sc_core.specs.declared.stmt.TypedSimple.{TypedSimple}
 pub use Rattle.sc_core.specs.declared.stmt.TypedStmtKind.{TypedStmtKind, TypedStmtKind-F, roll-TypedStmtKind}
 pub use Rattle.sc_core.specs.declared.stmt.TypedStmtKind.TheVariants.{rolls-Assign, rolls-AssignCall, rolls-Break}
 pub use Rattle.sc_core.specs.declared.stmt.TypedStmtKind.TheVariants.{rolls-Call, rolls-Continue, rolls-Empty}

@@ -2,8 +2,8 @@
 use Rattle.sc_run.proofs.Common.{Acts, Body as Body', Bool, Break, Caller, CameTo, Comes, Doing, Err, Exit, Frame, Go}
 use Rattle.sc_run.proofs.Common.{Left, List, Loop, Next, Now, Ok, Piece, ProgramTree, Reached, Run as Run', RunEnd}
 use Rattle.sc_run.proofs.Common.{Seen, SourceRun, Standing, State, Step, Steps, Stop, Stopped, Value, Work, []}
-use Rattle.sc_run.proofs.Common.{and_then, ap, arith, block_acts, choose, does_now, evaluated, false, follow, in_body}
-use Rattle.sc_run.proofs.Common.{here_of, if◌then◌else◌, in_loop, is_true, leave, length, loop_acts, next_acts, refl}
+use Rattle.sc_run.proofs.Common.{and_then, ap, arith, block_acts, choose, does_now, evaluated, false, follow, here_of}
+use Rattle.sc_run.proofs.Common.{if◌then◌else◌, in_body, in_loop, is_true, leave, length, loop_acts, next_acts, refl}
 use Rattle.sc_run.proofs.Common.{resume, reverse, reverse-append, subst, suc, sym, then_then, true, turn, way_in, ℕ}
 use Rattle.sc_run.proofs.Common.{◌++◌, ◌∙◌, ◌∷◌, ◌≡◌, ◌≤◌}
 use Rattle.sc_core.specs.Prelude.{take}

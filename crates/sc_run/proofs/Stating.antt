@@ -1,10 +1,11 @@
 -- Statements, by their layers.
 use Rattle.sc_run.proofs.Common.{Bor, Doing, Exit, Frame, Left, List, Loop, Next, Option, Piece, ProgramTree, Reached}
-use Rattle.sc_run.proofs.Common.{Rest, Route, Seen, Some, State, Step, Steps, Stopped, TypedSimple, TypedStmt}
-use Rattle.sc_run.proofs.Common.{TypedStmtKind, TypedStmtKind-F, Work, [], ap, arith, block_acts, c_arith, calls_in}
-use Rattle.sc_run.proofs.Common.{drop, drop_all, follow, get_or, here_of, in_order, kind_step, layer_of, leave, length}
-use Rattle.sc_run.proofs.Common.{length-drop, loop_acts, part_acts, refl, resume, roll-TypedStmtKind, stmt_acts}
-use Rattle.sc_run.proofs.Common.{stmt_at, stmt_step, subst, sym, take, take_all, ℕ, ◌++◌, ◌-◌, ◌∙◌, ◌∷◌, ◌≡◌, ◌≤◌}
+use Rattle.sc_run.proofs.Common.{Rest, Route, Seen, Some, State, Step, Steps, Stopped, TypedStmt, TypedStmtKind}
+use Rattle.sc_run.proofs.Common.{TypedStmtKind-F, Work, [], ap, arith, block_acts, c_arith, calls_in, drop, drop_all}
+use Rattle.sc_run.proofs.Common.{follow, get_or, here_of, in_order, kind_step, layer_of, leave, length, length-drop}
+use Rattle.sc_run.proofs.Common.{loop_acts, part_acts, refl, resume, roll-TypedStmtKind, stmt_acts, stmt_at, stmt_step}
+use Rattle.sc_run.proofs.Common.{subst, sym, take, take_all, ℕ, ◌++◌, ◌-◌, ◌∙◌, ◌∷◌, ◌≡◌, ◌≤◌}
+use Rattle.sc_core.specs.declared.stmt.TypedSimple.{TypedSimple}
 use Rattle.sc_run.proofs.Looping.{steps_as, steps_wait}
 
 abbrev pub layer_acts : ProgramTree → ℕ → Frame → TypedStmtKind-F TypedStmtKind TypedStmt → Doing

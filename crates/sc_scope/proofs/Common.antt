@@ -1,12 +1,10 @@
 -- The names that several proofs of this crate cite, passed on from one place. Declares nothing.
-pub use Rattle.std.proofs.Common.{Bool, List, None, Option, Some, [], add-one, ap, append-nil, append_assoc, codes}
-pub use Rattle.std.proofs.Common.{drop, drop-cons, false, get_or, length, map, nat_eq, not, refl, rules, suc, sym, take}
-pub use Rattle.std.proofs.Common.{true, ℕ, ◌&&◌, ◌++◌, ◌+◌, ◌<◌, ◌||◌, ◌∙◌, ◌∷◌, ◌≡◌, ◌≤◌}
+pub use Rattle.std.proofs.Common.{Bool, List, Option, [], add-one, ap, append-nil, append_assoc, arith, drop, drop-cons}
+pub use Rattle.std.proofs.Common.{false, get_or, length, map, nat_eq, not, refl, rules, suc, sym, take, true, ℕ, ◌&&◌}
+pub use Rattle.std.proofs.Common.{◌++◌, ◌+◌, ◌<◌, ◌||◌, ◌∙◌, ◌∷◌, ◌≡◌, ◌≤◌}
 pub use Rattle.std.proofs.lemmas.List.{drop_all, map-append}
 pub use Rattle.std.specs.List.{filter_map, list_all}
-pub use Rattle.sc_ast.specs.declared.expr.ExprTree.{ExprTree}
 pub use Rattle.sc_ast.specs.declared.section.LocalTree.{LocalTree}
-pub use Rattle.sc_ast.specs.declared.stmt.StmtTree.{StmtTree}
 pub use Rattle.sc_scope.specs.Common.{Decl, Function, FunctionTree, Global, ImportLine, ParamTree, Proto, SectionTree}
 pub use Rattle.sc_scope.specs.Common.{Struct}
 pub use Rattle.sc_scope.specs.Prelude.{FunctionParam, Known, Text, all_in, among, are_distinct, base_known, body_lines}

@@ -1,6 +1,6 @@
 -- The loops over locals, declarations and sections, one step further.
 use Rattle.sc_scope.proofs.Common.{Bool, BrokenLines, Decl, Function, FunctionTree, Global, List, LocalTree, Option}
-use Rattle.sc_scope.proofs.Common.{Proto, SectionTree, Struct, Text, [], all_in, ap, append-nil, append_assoc}
+use Rattle.sc_scope.proofs.Common.{Proto, SectionTree, Struct, Text, [], all_in, ap, append-nil, append_assoc, arith}
 use Rattle.sc_scope.proofs.Common.{decl_lines, declared, drop, drop_all, false, filter_map, function_lines, get_or}
 use Rattle.sc_scope.proofs.Common.{head_of_known, known, length, lines_from, local_known, local_names, locals_from, map}
 use Rattle.sc_scope.proofs.Common.{map-append, names_broken, noted_all, param_names, refl, section_lines, stmt_lines}
@@ -9,7 +9,6 @@ use Rattle.std.proofs.lemmas.List.Elements.{filter_map-append}
 use Rattle.sc_scope.specs.declared.section_names.SectionNames.{SectionNames}
 use Rattle.sc_scope.proofs.Lines.{done, noted_all-append, with_lines-append}
 use Rattle.sc_scope.proofs.Statements.{body-lines}
-use Rattle.std.proofs.Common.{arith}
 use Rattle.sc_base.proofs.Lists.{drop-step, take-step}
 
 -- what is there and what is left to add, one item further

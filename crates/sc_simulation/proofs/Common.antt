@@ -48,10 +48,9 @@ pub use Rattle.sc_laws.specs.Prelude.{RunsUntilBlame, StopsSpent, blamed, blamed
 pub use Rattle.sc_laws.specs.Prelude.{open_room, room_after, same, same_run, scripted_call, without_line}
 pub use Rattle.rv_code.specs.declared.instr.Instr.TheVariants.{Ecall, Jal, Store}
 pub use Rattle.sc_image.proofs.Cases.{step_of}
-pub use Rattle.sc_image.proofs.Memory.{allowed_data}
 pub use Rattle.sc_image.proofs.Reached.{called_other, called_there, runs_are_steady}
 pub use Rattle.sc_image.proofs.Running.{run_goes, run_out, run_stopped, run_traps, walk_one}
-pub use Rattle.sc_image.proofs.Stretches.{IsFront, goes_adds, goes_one, not_stopped, walk_adds, steps_tell}
+pub use Rattle.sc_image.proofs.Stretches.{IsFront, goes_adds, goes_one, not_stopped, steps_tell, walk_adds}
 pub use Rattle.sc_image.specs.Prelude.{Crossing, Goes, IsAt, IsSteady, IsWellFormed, IsWord, Outcome, Traps, Walks}
 pub use Rattle.sc_image.specs.Prelude.{are_data, arguments, cleared_for_call, cleared_for_return, ended, exports_of}
 pub use Rattle.sc_image.specs.Prelude.{gate, given_back, has_result, input, input_at, is_argument, is_ended, is_result}

@@ -4,11 +4,12 @@ use Rattle.sc_types.proofs.Common.{Scope, SimpleKind, SimpleTree, Some, StmtKind
 use Rattle.sc_types.proofs.Common.{TypedStmtKind, TypedStmtKind-F, Visible, [], and_first, and_from, and_rest, ap}
 use Rattle.sc_types.proofs.Common.{arith, assign_call_fits, assign_call_holds, call_fits, call_holds, call_known}
 use Rattle.sc_types.proofs.Common.{concat, expr_known, going_to_some, is_callable, judged, kind_fits, kind_lines}
-use Rattle.sc_types.proofs.Common.{kind_step, layer_of, list_all, map, on_line, option_map, part_fits, part_lines, refl}
-use Rattle.sc_types.proofs.Common.{result_goes, return_call_holds, returned_call_fits, roll-TypedStmtKind, simple_fits}
-use Rattle.sc_types.proofs.Common.{simple_holds, simple_known, stmt_at, stmt_fits, stmt_induction, stmt_lines}
-use Rattle.sc_types.proofs.Common.{stmt_step, sym, target_signature, true, typed_call, typed_simple, typed_simple_kind}
-use Rattle.sc_types.proofs.Common.{typed_stmt, typed_value, ℕ, ◌&&◌, ◌∙◌, ◌∷◌, ◌≡◌}
+use Rattle.sc_types.proofs.Common.{kind_step, list_all, map, option_map, part_fits, part_lines, refl, result_goes}
+use Rattle.sc_types.proofs.Common.{return_call_holds, returned_call_fits, roll-TypedStmtKind, simple_fits, simple_holds}
+use Rattle.sc_types.proofs.Common.{simple_known, stmt_fits, stmt_induction, stmt_lines, stmt_step, sym}
+use Rattle.sc_types.proofs.Common.{target_signature, true, typed_call, typed_simple, typed_simple_kind, typed_stmt}
+use Rattle.sc_types.proofs.Common.{typed_value, ℕ, ◌&&◌, ◌∙◌, ◌∷◌, ◌≡◌}
+use Rattle.sc_core.proofs.Layers.{layer_of, on_line, stmt_at}
 use Rattle.sc_ast.specs.declared.stmt.SimpleKind.TheVariants as simple
 use Rattle.sc_ast.specs.declared.stmt.StmtKind.TheOpen as tree
 use Rattle.sc_ast.proofs.Induction as tree_induction

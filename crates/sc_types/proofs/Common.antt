@@ -2,10 +2,10 @@
 pub use Rattle.std.proofs.Common.{Bool, Err, IfOk, List, None, Ok, OnOk, Option, Result, Some, [], add-one, ap}
 pub use Rattle.std.proofs.Common.{append-nil, append_assoc, ap₂, arith, bytes_eq, codes, cond, drop, drop-cons, false}
 pub use Rattle.std.proofs.Common.{flat_map, get_or, if◌then◌else◌, inl, inr, is_some, le-leb, leb-true, length, lt-ltb}
-pub use Rattle.std.proofs.Common.{ltb-true, map, max, nat_eq, nat_le, nat_lt, not, position, refl, replicate, rules}
-pub use Rattle.std.proofs.Common.{slice_get, slice_range, subst, suc, sym, take, true, zero, ℕ, ◌&&◌, ◌*◌, ◌++◌, ◌+◌}
-pub use Rattle.std.proofs.Common.{◌-◌, ◌<◌, ◌==◌, ◌||◌, ◌∙◌, ◌∷◌, ◌≡◌, ◌≤◌, ◌⊎◌}
-pub use Rattle.std.proofs.lemmas.Bool.{and_from, or_from, or_left, or_right}
+pub use Rattle.std.proofs.Common.{ltb-true, map, max, nat_eq, nat_le, nat_lt, not, position, refl, rules, slice_get}
+pub use Rattle.std.proofs.Common.{slice_range, subst, suc, sym, take, true, zero, ℕ, ◌&&◌, ◌*◌, ◌++◌, ◌+◌, ◌-◌, ◌<◌}
+pub use Rattle.std.proofs.Common.{◌==◌, ◌||◌, ◌∙◌, ◌∷◌, ◌≡◌, ◌≤◌, ◌⊎◌}
+pub use Rattle.std.proofs.lemmas.Bool.{and_from, cases_Bool, or_from, or_left, or_right}
 pub use Rattle.std.proofs.lemmas.Bool.Decides.{Decides-eqb, nat_tests}
 pub use Rattle.std.proofs.lemmas.List.{drop_all, length-map, map-append, take_more}
 pub use Rattle.std.proofs.lemmas.List.Elements.{filter_map-append}
@@ -16,14 +16,12 @@ pub use Rattle.std.proofs.lemmas.Result.{err_from_is_err_and}
 pub use Rattle.std.specs.List.{All, AllZip, concat, filter_map, list_all, list_any}
 pub use Rattle.std.specs.Option.{option_and_then, option_map, option_map_or}
 pub use Rattle.sc_base.proofs.Bools.{and_first, and_rest, implied}
-pub use Rattle.sc_base.proofs.Lists.{drop-step, get_behind, get_front, map_twice}
+pub use Rattle.sc_base.proofs.Lists.{drop-step, get_behind, get_front, map_twice, position-cons}
 pub use Rattle.sc_base.proofs.Texts.{same_text}
 pub use Rattle.sc_base.specs.Prelude.{is_numbered, number_of}
-pub use Rattle.sc_base.specs.declared.op.BinaryOp.{BinaryOp}
 pub use Rattle.sc_event.specs.Prelude.{export_at}
 pub use Rattle.sc_event.specs.declared.interface.Interface.{Interface}
 pub use Rattle.sc_lex.specs.declared.fault.TextFault.TheVariants.{Refused}
-pub use Rattle.sc_lex.specs.declared.refusal.Phase.{Phase}
 pub use Rattle.sc_ast.proofs.Induction.{Each, Inside, Under, expr_induction, stmt_induction}
 pub use Rattle.sc_ast.specs.Prelude.{head_of, limited, param_of, section_height}
 pub use Rattle.sc_ast.specs.declared.expr.CallTree.{CallTree}
@@ -32,7 +30,6 @@ pub use Rattle.sc_ast.specs.declared.section.Decl.{Decl}
 pub use Rattle.sc_ast.specs.declared.section.Decl.TheVariants.{Function, Global, Proto, Struct}
 pub use Rattle.sc_ast.specs.declared.section.ExportLine.{ExportLine}
 pub use Rattle.sc_ast.specs.declared.section.FunctionParam.{FunctionParam}
-pub use Rattle.sc_ast.specs.declared.section.GlobalTree.{GlobalTree}
 pub use Rattle.sc_ast.specs.declared.section.HeadTree.{HeadTree}
 pub use Rattle.sc_ast.specs.declared.section.ImportLine.{ImportLine}
 pub use Rattle.sc_ast.specs.declared.section.ParamTree.{ParamTree}
@@ -46,8 +43,7 @@ pub use Rattle.sc_ast.specs.declared.types.TypeName.{TypeName}
 pub use Rattle.sc_ast.specs.declared.types.TypeTree.{TypeTree}
 pub use Rattle.sc_read.proofs.Steps.{as_many, heading_fails}
 pub use Rattle.sc_read.specs.Reading.{IsRead, Part, Reads, part_of}
-pub use Rattle.sc_scope.proofs.Lines.{done}
-pub use Rattle.sc_scope.specs.Prelude.{Known, Text, among, base_known, base_scalar, call_known, declared, defines_main}
+pub use Rattle.sc_scope.specs.Prelude.{Known, among, base_known, base_scalar, call_known, declared, defines_main}
 pub use Rattle.sc_scope.specs.Prelude.{earlier, environment, export_names, expr_known, function_in, function_named}
 pub use Rattle.sc_scope.specs.Prelude.{function_names, functions_in, global_in, global_names, globals_in, head_in}
 pub use Rattle.sc_scope.specs.Prelude.{heads_in, import_names, import_of, interface_of, interfaces_from, interfaces_of}
@@ -57,14 +53,12 @@ pub use Rattle.sc_scope.specs.Prelude.{param_names, pointed_known, promised, pro
 pub use Rattle.sc_scope.specs.Prelude.{result_known, scalar_of, simple_known, struct_in, struct_names, structs_in}
 pub use Rattle.sc_scope.specs.Prelude.{unless, with_lines}
 unfoldable pub use Rattle.sc_scope.specs.Prelude.{noted_all}
-pub use Rattle.sc_scope.specs.declared.broken.BrokenLines.{BrokenLines}
 pub use Rattle.sc_interfaces.specs.Prelude.{HasFewExports, HasFewParams, IsWithinCounts, agree, agrees_as, agrees_there}
 pub use Rattle.sc_interfaces.specs.Prelude.{agrees_with, crosses, decls_from, exports_from, gives_int, head_crosses}
 pub use Rattle.sc_interfaces.specs.Prelude.{head_fits, imported_agrees, imports_from, input_name, interface_broken}
 pub use Rattle.sc_interfaces.specs.Prelude.{is_input, is_int, is_offered, is_output, is_plain, main_holds, output_name}
 pub use Rattle.sc_interfaces.specs.Prelude.{result_crosses, same_params, same_result, same_type, section_lines}
 pub use Rattle.sc_interfaces.specs.Prelude.{takes_int, takes_nothing}
-pub use Rattle.sc_core.proofs.Layers.{layer_of, on_line, stmt_at}
 pub use Rattle.sc_core.specs.Prelude.{Callable, IsWellTyped, Scope, Signature, allowed, are_distinct, assign_call_fits}
 pub use Rattle.sc_core.specs.Prelude.{base_cells, base_within, body_fits, call_fits, call_height, callable_in, cells_of}
 pub use Rattle.sc_core.specs.Prelude.{decayed, decl_count, export_fits, export_name, expr_height, function_fits}
@@ -78,9 +72,6 @@ pub use Rattle.sc_core.specs.Prelude.{same_signature, same_types, scalar_ty, sco
 pub use Rattle.sc_core.specs.Prelude.{signature_of, simple_fits, simple_height, starred, starred_cells, starred_within}
 pub use Rattle.sc_core.specs.Prelude.{stmt_fits, stmt_height, struct_cells, struct_fits, structs_fit, target_signature}
 pub use Rattle.sc_core.specs.Prelude.{term_height, total, truth, type_within, variable_fits, words_fit}
-pub use Rattle.sc_core.specs.declared.expr.TypedExpr.{TypedExpr, fold-roll-TypedExpr}
-pub use Rattle.sc_core.specs.declared.expr.TypedKind.{TypedKind, TypedKind-F, the_lemmas}
-unfoldable pub use Rattle.sc_core.specs.declared.expr.TypedKind.{roll-TypedKind}
 pub use Rattle.sc_core.specs.declared.section.TypedParam.{TypedParam}
 pub use Rattle.sc_core.specs.declared.section.TypedSection.{TypedSection}
 pub use Rattle.sc_core.specs.declared.stmt.TypedStmt.{TypedStmt}
@@ -89,7 +80,7 @@ unfoldable pub use Rattle.sc_core.specs.declared.stmt.TypedStmtKind.{roll-TypedS
 pub use Rattle.sc_core.specs.declared.ty.BaseTy.{BaseTy}
 pub use Rattle.sc_core.specs.declared.ty.Ty.{Ty}
 pub use Rattle.sc_elab_expr.specs.Prelude.{Callees, Found, Visible, beside, found, going_to, is_zero, step, target_or}
-pub use Rattle.sc_elab_expr.specs.Prelude.{variable_typed}
+pub use Rattle.sc_elab_expr.specs.Prelude.{typed, variable_typed}
 pub use Rattle.sc_elab_stmt.specs.Prelude.{assign_call_holds, call_holds, going_to_all, going_to_some, kind_lines}
 pub use Rattle.sc_elab_stmt.specs.Prelude.{kind_step, part_lines, return_call_holds, simple_holds, stmt_lines}
 pub use Rattle.sc_elab_stmt.specs.Prelude.{stmt_step, typed_call, typed_simple, typed_simple_kind, typed_stmt}

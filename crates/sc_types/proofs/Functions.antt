@@ -1,9 +1,9 @@
 -- Functions, globals and structs of a section that breaks no rule are well typed.
 use Rattle.sc_types.proofs.Common.{BaseTree, BaseTy, Callable, Callees, Decl, ExprTree, FunctionParam, FunctionTree}
-use Rattle.sc_types.proofs.Common.{Global, GlobalTree, List, LocalTree, None, Option, ParamTree, SectionTree, Some}
-use Rattle.sc_types.proofs.Common.{StmtTree, Struct, StructTree, Ty, TypeName, TypeTree, TypedParam, TypedStmt, []}
-use Rattle.sc_types.proofs.Common.{and_first, and_from, and_rest, ap, append-nil, append_assoc, arith, base_known}
-use Rattle.sc_types.proofs.Common.{body_fits, concat, decl_lines, false, filter_map-append, function_fits, functions_in}
+use Rattle.sc_types.proofs.Common.{Global, List, LocalTree, None, Option, ParamTree, SectionTree, Some, StmtTree}
+use Rattle.sc_types.proofs.Common.{Struct, StructTree, Ty, TypeName, TypeTree, TypedParam, TypedStmt, [], and_first}
+use Rattle.sc_types.proofs.Common.{and_from, and_rest, ap, append-nil, append_assoc, arith, base_known, body_fits}
+use Rattle.sc_types.proofs.Common.{concat, decl_lines, false, filter_map-append, function_fits, functions_in}
 use Rattle.sc_types.proofs.Common.{global_fits, global_names, globals_in, head_of, heads_in, init_height, init_holds}
 use Rattle.sc_types.proofs.Common.{init_words, is_array, is_callable, is_sized, is_small, known_in, length, length-map}
 use Rattle.sc_types.proofs.Common.{list_all, local_fits, local_holds, locals_from, map, map-append, map_twice, max}
@@ -16,6 +16,7 @@ use Rattle.sc_types.proofs.Common.{typed_global, typed_init, typed_local, typed_
 use Rattle.sc_types.proofs.Common.{typed_stmt, unless, variable_fits, visible_in, visible_of, word_of_const, words_fit}
 use Rattle.sc_types.proofs.Common.{zero, ℕ, ◌&&◌, ◌++◌, ◌+◌, ◌<◌, ◌∙◌, ◌∷◌, ◌≡◌}
 use Rattle.sc_elab.specs.Prelude.{function_lines}
+use Rattle.sc_ast.specs.declared.section.GlobalTree.{GlobalTree}
 use Rattle.sc_ast.specs.declared.types.BaseTree.TheVariants as base_tree
 use Rattle.sc_ast.specs.declared.section.InitTree.{InitTree}
 use Rattle.sc_ast.specs.declared.section.InitTree.TheVariants.{Absent, One, Many}

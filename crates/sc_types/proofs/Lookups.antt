@@ -1,14 +1,12 @@
 -- Tests that hold and lists that are empty, places in lists, and what is found by a name among declarations.
 use Rattle.sc_types.proofs.Common.{Bool, Decides-eqb, Decl, Function, FunctionTree, HeadTree, List, None, Option, Proto}
-use Rattle.sc_types.proofs.Common.{Some, [], ap, arith, bytes_eq, concat, false, function_named, function_names}
-use Rattle.sc_types.proofs.Common.{functions_in, head_named, head_of, heads_in, if◌then◌else◌, inl, inr, is_numbered}
-use Rattle.sc_types.proofs.Common.{le-leb, leb-true, length, list_all, list_any, list_any-append, lt-ltb, map, nat_le}
-use Rattle.sc_types.proofs.Common.{nat_lt, not, number_of, number_or_zero, option_map, or_left, position, proto_names}
-use Rattle.sc_types.proofs.Common.{refl, slice_get, subst, suc, sym, true, unless, zero, ℕ, ◌++◌, ◌<◌, ◌==◌, ◌||◌, ◌∙◌}
-use Rattle.sc_types.proofs.Common.{◌∷◌, ◌≡◌, ◌≤◌}
-use Rattle.sc_base.proofs.Lists.{position-cons}
+use Rattle.sc_types.proofs.Common.{Some, [], ap, arith, bytes_eq, cases_Bool, concat, false, function_named}
+use Rattle.sc_types.proofs.Common.{function_names, functions_in, head_named, head_of, heads_in, if◌then◌else◌, inl, inr}
+use Rattle.sc_types.proofs.Common.{is_numbered, le-leb, leb-true, length, list_all, list_any, list_any-append, lt-ltb}
+use Rattle.sc_types.proofs.Common.{map, nat_le, nat_lt, not, number_of, number_or_zero, option_map, or_left, position}
+use Rattle.sc_types.proofs.Common.{position-cons, proto_names, refl, slice_get, subst, suc, sym, true, unless, zero, ℕ}
+use Rattle.sc_types.proofs.Common.{◌++◌, ◌<◌, ◌==◌, ◌||◌, ◌∙◌, ◌∷◌, ◌≡◌, ◌≤◌}
 use Rattle.std.proofs.lemmas.Slice.Eq.{bytes_eq-Decides}
-use Rattle.std.proofs.lemmas.Bool.{cases_Bool}
 use Rattle.std.proofs.lemmas.Cmp.{nat_list_eq_equiv}
 
 pub or_not : (a b : Bool) → (a || not b) ≡ true → b ≡ true → a ≡ true

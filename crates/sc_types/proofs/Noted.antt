@@ -1,15 +1,16 @@
 -- The loops over declarations, locals and sections, one step further, and numbers that stop.
-use Rattle.sc_types.proofs.Common.{Bool, BrokenLines, Decl, List, LocalTree, None, Option, SectionTree, Some, Struct}
-use Rattle.sc_types.proofs.Common.{StructTree, [], add-one, ap, append_assoc, arith, callees_of, concat, concat-append}
-use Rattle.sc_types.proofs.Common.{counts_broken, done, drop, drop-cons, drop-step, drop_all, filter_map}
-use Rattle.sc_types.proofs.Common.{filter_map-append, get_or, is_small, length, limited, line_beyond, line_of_text}
-use Rattle.sc_types.proofs.Common.{lines_from, local_lines, map, map-append, most_compartments, nat_le, nat_tests}
-use Rattle.sc_types.proofs.Common.{noted_all, refl, refused_at, slice_get, struct_in, structs_from, structs_in, suc}
-use Rattle.sc_types.proofs.Common.{sym, type_in, unless, with_lines, ℕ, ◌++◌, ◌+◌, ◌<◌, ◌∙◌, ◌∷◌, ◌≡◌, ◌≤◌}
-use Rattle.sc_core.specs.declared.ty.Ty.TheVariants as ty
-use Rattle.sc_scope.proofs.Lines.{with_lines-append, with_lines-nil, noted_all-append, step}
-use Rattle.sc_types.proofs.TypedNodes.{section-nodes}
+use Rattle.sc_types.proofs.Common.{Bool, Decl, List, LocalTree, None, Option, SectionTree, Some, Struct, StructTree, []}
+use Rattle.sc_types.proofs.Common.{add-one, ap, append_assoc, arith, callees_of, concat, concat-append, counts_broken}
+use Rattle.sc_types.proofs.Common.{drop, drop-cons, drop-step, drop_all, filter_map, filter_map-append, get_or}
+use Rattle.sc_types.proofs.Common.{is_small, length, limited, line_beyond, line_of_text, lines_from, local_lines, map}
+use Rattle.sc_types.proofs.Common.{map-append, most_compartments, nat_le, nat_tests, noted_all, refl, refused_at}
+use Rattle.sc_types.proofs.Common.{slice_get, struct_in, structs_from, structs_in, suc, sym, type_in, unless}
+use Rattle.sc_types.proofs.Common.{with_lines, ℕ, ◌++◌, ◌+◌, ◌<◌, ◌∙◌, ◌∷◌, ◌≡◌, ◌≤◌}
 use Rattle.sc_types.specs.Prelude.{section_lines}
+use Rattle.sc_scope.specs.declared.broken.BrokenLines.{BrokenLines}
+use Rattle.sc_scope.proofs.Lines.{done, with_lines-append, with_lines-nil, noted_all-append, step}
+use Rattle.sc_core.specs.declared.ty.Ty.TheVariants as ty
+use Rattle.sc_types.proofs.TypedNodes.{section-nodes}
 use Rattle.sc_scope.proofs.Noted.{noted-none}
 
 -- a number that stops far above passes the same test

@@ -1,20 +1,21 @@
 -- What is typed has as many nodes as its tree, and is as high.
-use Rattle.sc_types.proofs.Common.{BinaryOp, Bool, CallTree, Callees, Each, ExprTree, ExprTree-F, Found, FunctionTree}
-use Rattle.sc_types.proofs.Common.{Inside, List, LocalTree, None, Option, SectionTree, SimpleKind, SimpleTree, Some}
-use Rattle.sc_types.proofs.Common.{StmtKind, StmtKind-F, StmtTree, Ty, TypedExpr, TypedKind, TypedKind-F, TypedStmt}
-use Rattle.sc_types.proofs.Common.{TypedStmtKind, TypedStmtKind-F, Under, Visible, [], ap, ap₂, arith, beside}
-use Rattle.sc_types.proofs.Common.{call_height, call_nodes, cond, decayed, decls_nodes, expr_height, expr_induction}
-use Rattle.sc_types.proofs.Common.{expr_nodes, expr_step, false, fold-roll-TypedExpr, found, function_nodes, going_to}
-use Rattle.sc_types.proofs.Common.{going_to_all, going_to_some, highest, if◌then◌else◌, init_nodes, is_pointer, is_zero}
-use Rattle.sc_types.proofs.Common.{kind_height, kind_step as typed_kind_step, length-map, local_nodes, map}
-use Rattle.sc_types.proofs.Common.{map-ExprTree, max, nodes, option_map, part_height, part_nodes, refl, result_of}
-use Rattle.sc_types.proofs.Common.{roll-TypedKind, roll-TypedStmtKind, rules, simple_height, simple_nodes, step}
+use Rattle.sc_types.proofs.Common.{Bool, CallTree, Callees, Each, ExprTree, ExprTree-F, Found, FunctionTree, Inside}
+use Rattle.sc_types.proofs.Common.{List, LocalTree, None, Option, SectionTree, SimpleKind, SimpleTree, Some, StmtKind}
+use Rattle.sc_types.proofs.Common.{StmtKind-F, StmtTree, Ty, TypedStmt, TypedStmtKind, TypedStmtKind-F, Under, Visible}
+use Rattle.sc_types.proofs.Common.{[], ap, ap₂, arith, beside, call_height, call_nodes, cond, decayed, decls_nodes}
+use Rattle.sc_types.proofs.Common.{expr_height, expr_induction, expr_nodes, expr_step, false, found, function_nodes}
+use Rattle.sc_types.proofs.Common.{going_to, going_to_all, going_to_some, highest, if◌then◌else◌, init_nodes}
+use Rattle.sc_types.proofs.Common.{is_pointer, is_zero, kind_height, kind_step as typed_kind_step, length-map}
+use Rattle.sc_types.proofs.Common.{local_nodes, map, map-ExprTree, max, nodes, option_map, part_height, part_nodes}
+use Rattle.sc_types.proofs.Common.{refl, result_of, roll-TypedStmtKind, rules, simple_height, simple_nodes, step}
 use Rattle.sc_types.proofs.Common.{stmt_height, stmt_induction, stmt_nodes, stmt_step as typed_stmt_step, suc, sym}
-use Rattle.sc_types.proofs.Common.{term_height, the_lemmas, total, true, typed_call, typed_function, typed_init}
+use Rattle.sc_types.proofs.Common.{term_height, total, true, typed, typed_call, typed_function, typed_init}
 use Rattle.sc_types.proofs.Common.{typed_locals, typed_section, typed_simple, typed_simple_kind, typed_stmt}
 use Rattle.sc_types.proofs.Common.{typed_value, variable_typed, visible_in, visible_of, ℕ, ◌&&◌, ◌+◌, ◌∙◌, ◌∷◌, ◌≡◌}
-use Rattle.sc_elab_expr.specs.Prelude.{typed}
 use Rattle.sc_types.specs.Prelude.{kind_step, stmt_step}
+use Rattle.sc_base.specs.declared.op.BinaryOp.{BinaryOp}
+use Rattle.sc_core.specs.declared.expr.TypedExpr.{TypedExpr, fold-roll-TypedExpr}
+use Rattle.sc_core.specs.declared.expr.TypedKind.{TypedKind, TypedKind-F, roll-TypedKind, the_lemmas}
 use Rattle.sc_base.specs.declared.op.BinaryOp.TheVariants as tree_op
 use Rattle.sc_ast.specs.declared.expr.ExprTree.TheOpen as tree
 use Rattle.sc_ast.specs.declared.stmt.SimpleKind.TheVariants as simple_tree

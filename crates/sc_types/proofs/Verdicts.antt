@@ -1,9 +1,10 @@
 -- Which texts are accepted, and which phase refuses the others: one alone, and always one.
 use Rattle.sc_types.proofs.Common.{Accepts, AllZip, AreLow, Err, Fails, FailsRules, FailsTyped, IfOk, IsRead, IsTyped}
-use Rattle.sc_types.proofs.Common.{List, None, Ok, Option, Part, Phase, ProgramTree, Reads, Result, SectionTree, Some}
-use Rattle.sc_types.proofs.Common.{[], and_from, ap, arith, counts_broken, earlier, inl, inr, interface_broken}
-use Rattle.sc_types.proofs.Common.{list_all, names_broken, nat_le, noted_all, program_of, refl, refused_at}
-use Rattle.sc_types.proofs.Common.{section_height, subst, sym, true, types_broken, ℕ, ◌∙◌, ◌∷◌, ◌≡◌, ◌⊎◌}
+use Rattle.sc_types.proofs.Common.{List, None, Ok, Option, Part, ProgramTree, Reads, Result, SectionTree, Some, []}
+use Rattle.sc_types.proofs.Common.{and_from, ap, arith, counts_broken, earlier, inl, inr, interface_broken, list_all}
+use Rattle.sc_types.proofs.Common.{names_broken, nat_le, noted_all, program_of, refl, refused_at, section_height, subst}
+use Rattle.sc_types.proofs.Common.{sym, true, types_broken, ℕ, ◌∙◌, ◌∷◌, ◌≡◌, ◌⊎◌}
+use Rattle.sc_lex.specs.declared.refusal.Phase.{Phase}
 use Rattle.sc_lex.specs.declared.refusal.Phase.TheVariants as phase
 use Rattle.sc_read.specs.Reading as reading
 use Rattle.sc_types.proofs.Lookups.{none_some, at_most}

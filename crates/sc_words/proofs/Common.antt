@@ -3,8 +3,8 @@ pub use Rattle.std.proofs.Common.{Bool, Box, Err, FitsSigned, List, None, Ok, Ok
 pub use Rattle.std.proofs.Common.{append-nil, append_assoc, ap₂, arith, codes, cond, eq-eqb, eqb-true, false, find}
 pub use Rattle.std.proofs.Common.{fold, get_or, if◌then◌else◌, inl, inr, is_some, le-leb, leb-true, length, lt-ltb}
 pub use Rattle.std.proofs.Common.{ltb-true, map, nat_le, nat_lt, neg_ℤ, not, option_and_then, option_map, pos, refl}
-pub use Rattle.std.proofs.Common.{replicate, rules, slice_get, slice_index, subst, suc, sym, true, true≢false, w32, ℕ}
-pub use Rattle.std.proofs.Common.{ℤ, ◌&&◌, ◌++◌, ◌+◌, ◌<◌, ◌==◌, ◌||◌, ◌∙◌, ◌∷◌, ◌≡◌, ◌≢◌, ◌≤◌, ◌⊎◌}
+pub use Rattle.std.proofs.Common.{rules, slice_get, slice_index, subst, suc, sym, true, true≢false, w32, ℕ, ℤ, ◌&&◌}
+pub use Rattle.std.proofs.Common.{◌++◌, ◌+◌, ◌<◌, ◌==◌, ◌||◌, ◌∙◌, ◌∷◌, ◌≡◌, ◌≢◌, ◌≤◌, ◌⊎◌}
 pub use Rattle.clap.proofs.WalkLemmas.{find-map, first_value-rows, list_any-map, one_text-rows}
 pub use Rattle.clap.specs.Faults.{check_fault, entered_fault, fault_of, is_simple_and_free, level_fault, long_fault}
 pub use Rattle.clap.specs.Faults.{other_fault, settle_fault, step_fault, turn_fault, use_fault}
@@ -34,8 +34,7 @@ pub use Rattle.sc_words.specs.Prelude.{Form, IsCommandOf, IsReading, Setting, Te
 pub use Rattle.sc_words.specs.Prelude.{application, begins_with_hyphen, command_with, commands, each_once, events}
 pub use Rattle.sc_words.specs.Prelude.{first_piece, flag_text, form_of, found_of, has_option, has_value, in_front}
 pub use Rattle.sc_words.specs.Prelude.{inputs, integer, integer_list, is_among, is_bare, is_comma, kind_of, limit}
-pub use Rattle.sc_words.specs.Prelude.{make_form, more, name_and_value, named, named_option, number_within}
-pub use Rattle.sc_words.specs.Prelude.{onto_first, options, parsed, pieces_behind, run, shape_with, text_to_show, top}
-pub use Rattle.sc_words.specs.Prelude.{value_of, valued_rule, when_complete, when_within}
+pub use Rattle.sc_words.specs.Prelude.{make_form, more, name_and_value, named, named_option, number_within, onto_first}
+pub use Rattle.sc_words.specs.Prelude.{options, parsed, pieces_behind, run, shape_with, text_to_show, top, value_of}
+pub use Rattle.sc_words.specs.Prelude.{valued_rule, when_complete, when_within}
 unfoldable pub use Rattle.sc_words.specs.Prelude.{command, integers, pieces, settings}
-pub use Rattle.sc_words.specs.declared.command.Command.TheVariants.{Check, Compile, Exec, Explain, Make, Meaning, Run}

@@ -10,6 +10,6 @@ pub use Rattle.sc_words.specs.Options.{is_among, is_bare, more, name_and_value, 
 pub use Rattle.sc_words.specs.Options.{when_complete}
 unfoldable pub use Rattle.sc_words.specs.Options.{settings}
 pub use Rattle.sc_words.specs.Usage.{usage_text}
-pub use Rattle.sc_words.specs.Words.{Values, command_with, commands, events, explain, form_of, inputs, limit, make}
-pub use Rattle.sc_words.specs.Words.{make_form, meaning, parsed, run, text_to_show, with_values}
+pub use Rattle.sc_words.specs.Words.{command_with, commands, events, explain, form_of, inputs, limit, make, make_form}
+pub use Rattle.sc_words.specs.Words.{meaning, parsed, run, text_to_show, with_values}
 unfoldable pub use Rattle.sc_words.specs.Words.{command}

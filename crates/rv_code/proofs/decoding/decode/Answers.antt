@@ -1,4 +1,4 @@
-use Rattle.rv_code.proofs.Common.{arith}
+use Rattle.std.proofs.Common.{arith}
 use Rattle.rv_code.proofs.OneEach.{found, not_found}
 use Rattle.rv_code.proofs.decoding.decode.Goals as goal
 

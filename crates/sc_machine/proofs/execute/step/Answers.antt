@@ -1,5 +1,4 @@
-use Rattle.sc_machine.proofs.Common.{map, state_in, sym, word_of, ◌∙◌}
-use Rattle.sc_image.proofs.Running.{step_nowhere, step_illegal, step_executes}
+use Rattle.sc_machine.proofs.Common.{map, state_in, step_executes, step_illegal, step_nowhere, sym, word_of, ◌∙◌}
 use Rattle.sc_machine.proofs.execute.step.Goals as goal
 
 pub returns-in_default-clause-outcome : goal.returns-in_default-clause-outcome

@@ -1,5 +1,6 @@
-use Rattle.sc_machine.proofs.Common.{Hart, None, Ok, ap, arith, length, map, run_out, run_stopped, state_in, stopped}
-use Rattle.sc_machine.proofs.Common.{subst, suc, sym, word_of, ◌+◌, ◌-◌, ◌<◌, ◌∙◌, ◌≡◌}
+use Rattle.sc_machine.proofs.Common.{None, Ok, ap, arith, length, map, run_out, run_stopped, state_in, stopped, subst}
+use Rattle.sc_machine.proofs.Common.{suc, sym, word_of, ◌+◌, ◌-◌, ◌<◌, ◌∙◌, ◌≡◌}
+use Rattle.sc_machine.specs.declared.hart.Hart.{Hart}
 use Rattle.sc_machine.proofs.Runs.{room_left, trapped, gone}
 use Rattle.sc_machine.proofs.run.run.Goals as goal
 

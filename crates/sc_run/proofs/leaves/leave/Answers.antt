@@ -1,4 +1,4 @@
-use Rattle.sc_run.proofs.Common.{[], ap, sym, ◌++◌, ◌∙◌, ◌∷◌, IfOk-weaker, arith, exit_of, length, refl, rules, ◌≡◌}
+use Rattle.sc_run.proofs.Common.{IfOk-weaker, [], ap, arith, exit_of, length, refl, rules, sym, ◌++◌, ◌∙◌, ◌∷◌, ◌≡◌}
 use Rattle.sc_run.proofs.Looping.{nothing_waits, taken, work_as}
 use Rattle.sc_run.proofs.leaves.leave.Goals as goal
 

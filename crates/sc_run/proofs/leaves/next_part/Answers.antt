@@ -1,4 +1,4 @@
-use Rattle.sc_run.proofs.Common.{in_loop, IfOk-weaker}
+use Rattle.sc_run.proofs.Common.{IfOk-weaker, in_loop}
 use Rattle.sc_run.proofs.Ahead.{passes_follow, steps_behind}
 use Rattle.sc_run.proofs.leaves.next_part.Goals as goal
 

@@ -1,4 +1,4 @@
-use Rattle.sc_run.proofs.Common.{refl, Body, IfOk-weaker}
+use Rattle.sc_run.proofs.Common.{Body, IfOk-weaker, refl}
 use Rattle.sc_run.proofs.Ahead.{steps_behind}
 use Rattle.sc_run.proofs.Looping.{steps_wait}
 use Rattle.sc_run.proofs.steps.round.Goals as goal
