@@ -5,7 +5,7 @@ use std::alloc::Global;
 use std::test::Fail;
 
 /// A text, or several with `@@` between them. The line at which a text must be refused has an `@` in it, the text's
-/// first, or is that of a token between backquotes, which stands in a line of its own; neither mark is part of the text.
+/// first, or is that of a token between backquotes, which stands in a line of its own; no mark is part of the text.
 /// A text with no mark is a program if it is the first, and else is refused in its first line.
 pub type Row = &'static [u8];
 

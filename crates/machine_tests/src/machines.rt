@@ -383,8 +383,8 @@ fn passes_numbers_alone(rt: HostRuntime) -> Result<(), Fail> {
     Ok(())
 }
 
-// A takes 16 bytes of its stack and calls g of B, which takes 16 of its own and calls h of A. h runs below the stack that
-// A has in use, and gives back where that is.
+// A takes 16 bytes of its stack and calls g of B, which takes 16 of its own and calls h of A. h runs below the stack
+// that A has in use, and gives back where that is.
 #[test]
 fn comes_back_below_the_stack_in_use(rt: HostRuntime) -> Result<(), Fail> {
     // addi sp,sp,-16; lui x6,0x01100; jalr x1,0(x6); ebreak; then h: addi a0,sp,0; jalr x0,0(x1)

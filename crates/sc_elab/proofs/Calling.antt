@@ -25,9 +25,14 @@ module _ {A : Type 0} (name_of : A → List ℕ) (name : List ℕ) (find : List 
   pub first_found : (xs : List A) → option_and_then (slice_get (map f xs)) (number_of (map name_of xs) name) ≡
       option_map f (find xs)
   first_found [] = ap (option_map f) (sym find-nil)
-  first_found (x ∷ xs) = grind (arith, position-cons (same name) (name_of x) (map name_of xs),
-      nat_list_eq_equiv.symm name (name_of x), after_suc (f x) (map f xs) (number_of (map name_of xs) name),
-      find-cons x xs, first_found xs)
+  first_found (x ∷ xs) = grind (
+    arith,
+    position-cons (same name) (name_of x) (map name_of xs),
+    nat_list_eq_equiv.symm name (name_of x),
+    after_suc (f x) (map f xs) (number_of (map name_of xs) name),
+    find-cons x xs,
+    first_found xs,
+  )
 
 module _ (name : List ℕ) where
   -- the first of the heads of functions and of others

@@ -50,8 +50,12 @@ module _ (scope : SectionScope) (section : SectionTree) (stands : Stands scope s
       } → StandsIn section tree (i + 1) more
   more_stands i local function more h e within m = record {
     params = cc (within.params);
-    locals = cc (within.locals, stands.tags, take-step tree.locals i local h e,
-        map-append (local_variable (tags section)) (take i tree.locals) (local ∷ []));
+    locals = cc (
+      within.locals,
+      stands.tags,
+      take-step tree.locals i local h e,
+      map-append (local_variable (tags section)) (take i tree.locals) (local ∷ []),
+    );
     result = cc (within.result);
   }
 
@@ -77,8 +81,12 @@ module _ (scope : SectionScope) (section : SectionTree) (stands : Stands scope s
 
         step : typed_locals section tree i (drop i tree.locals) ≡ built ∷
             typed_locals section tree (i + 1) (drop (i + 1) tree.locals)
-        step = cc (drop-step tree.locals i local h e, locals-cons i local (drop (i + 1) tree.locals),
-            local_kept i function at local, add-one i)
+        step = cc (
+          drop-step tree.locals i local h e,
+          locals-cons i local (drop (i + 1) tree.locals),
+          local_kept i function at local,
+          add-one i,
+        )
 
   -- all are built
   pub all_built : (i : ℕ) (done whole : List TypedLocal) → drop i tree.locals ≡ [] →

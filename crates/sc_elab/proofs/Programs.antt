@@ -55,5 +55,8 @@ module _ (sections : List SectionTree) where
       built ++ sections_from sections i (drop i sections) ≡ sections_from sections 0 sections →
       (built ++ it ∷ []) ++ sections_from sections (i + 1) (drop (i + 1) sections) ≡ sections_from sections 0 sections
   built_more built i section it at is before =
-      cc (append_assoc built (it ∷ []) (sections_from sections (i + 1) (drop (i + 1) sections)), add-one i,
-      left_from sections i section at)
+      cc (
+        append_assoc built (it ∷ []) (sections_from sections (i + 1) (drop (i + 1) sections)),
+        add-one i,
+        left_from sections i section at,
+      )

@@ -161,9 +161,12 @@ module _ (scope : Scope) where
           ty = member_ty (named name (Some a.ty));
           kind = TypedKind.Member a (member_offset (named name (Some a.ty)));
         })
-    member_judged name a j is = cc (member_is name (Some a.ty), judged_ty scope a,
-        as_kind (member_ty (named name (Some a.ty))) (TypedKind.Member a (member_offset (named name (Some a.ty))))
-        (term.Member a (member_offset (named name (Some a.ty)))) (rolls-Member _ _))
+    member_judged name a j is = cc (
+      member_is name (Some a.ty),
+      judged_ty scope a,
+      as_kind (member_ty (named name (Some a.ty))) (TypedKind.Member a (member_offset (named name (Some a.ty))))
+          (term.Member a (member_offset (named name (Some a.ty)))) (rolls-Member _ _),
+    )
 
     pub arrow_judged : (name : List ℕ) (a : TypedExpr) (j : Judged) →
         j ≡ judged scope a → place (member_ty (named name (target (decayed a.ty))))
@@ -173,8 +176,12 @@ module _ (scope : Scope) where
         })
     arrow_judged name a j is =
         let m : Option TypedMember = named name (target (decayed a.ty)) in
-        cc (member_is name (target (decayed a.ty)), judged_ty scope a, as_kind (member_ty m)
-        (TypedKind.Arrow a (member_offset m)) (term.Arrow a (member_offset m)) (rolls-Arrow _ _))
+        cc (
+          member_is name (target (decayed a.ty)),
+          judged_ty scope a,
+          as_kind (member_ty m)
+              (TypedKind.Arrow a (member_offset m)) (term.Arrow a (member_offset m)) (rolls-Arrow _ _),
+        )
 
 -- what holds of a result that is there, by what else holds of it
 pub if_ok : {A E : Type 0} (P Q R : A → Type 0) (r : Result A E) → ((x : A) → P x → Q x → R x) → IfOk r P → IfOk r Q →

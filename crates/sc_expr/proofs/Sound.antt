@@ -89,31 +89,37 @@ module _ (free room : ℕ) (nested : ℕ → ℕ → Reader) (below : ℕ → Re
       let c = bound _ (behind mark.CloseParen b.0.rest) x b.2 in
       let u = behind_mark mark.CloseParen b.0.rest c.0 c.1 in
       let r = in_brackets (room + 1) 11 ts b.0 (omega arith) b.1 in
-      let inner = r.1 in
-      (0, omega arith, subst (At 0 (t ∷ ts)) (same_some c.2) (record {
-        taken = t ∷ (inner.taken ++ u.0 ∷ []);
-        split = ap (λ rest. t ∷ rest) (glued c.0 inner.taken (u.0 ∷ []) inner.split u.1);
-        spelled = parenthesised t u.0 is u.2 inner.spelled;
-        measured = inner.measured;
-        low = omega (arith, inner.low);
-        few = λ n. let most = most_bracketed n t u.0 [] (says t _ is) (says u.0 _ u.2) inner.spelled in
-            omega (arith, most, inner.few (n + 1), r.0);
-        onward = λ ext at. omega arith;
-      }))
+      let inner = r.1 in (
+        0,
+        omega arith,
+        subst (At 0 (t ∷ ts)) (same_some c.2) (record {
+          taken = t ∷ (inner.taken ++ u.0 ∷ []);
+          split = ap (λ rest. t ∷ rest) (glued c.0 inner.taken (u.0 ∷ []) inner.split u.1);
+          spelled = parenthesised t u.0 is u.2 inner.spelled;
+          measured = inner.measured;
+          low = omega (arith, inner.low);
+          few = λ n. let most = most_bracketed n t u.0 [] (says t _ is) (says u.0 _ u.2) inner.spelled in
+              omega (arith, most, inner.few (n + 1), r.0);
+          onward = λ ext at. omega arith;
+        }),
+      )
   lead_sound t ts x (Some (lead.Prefix p)) first h =
       let q = prefix_lead _ p first in
       let b = bound _ (below 1 ts) x h in
       let inner = one_less 1 ts b.0 (omega arith) b.1 in
-      let plain = plain_prefix t q.0 p q.1 q.2 in
-      (1, omega arith, subst (At 1 (t ∷ ts)) (same_some b.2) (record {
-        taken = t ∷ inner.taken;
-        split = ap (λ rest. t ∷ rest) inner.split;
-        spelled = «prefix» t q.0 p q.1 q.2 inner.spelled;
-        measured = ap (λ k. k + 1) inner.measured ∙ sym (prefixed_height p b.0.tree);
-        low = omega (arith, inner.low);
-        few = λ n. omega (arith, most_plain n t inner.taken plain, inner.few n);
-        onward = λ ext at. omega (arith, inner.onward ext at);
-      }))
+      let plain = plain_prefix t q.0 p q.1 q.2 in (
+        1,
+        omega arith,
+        subst (At 1 (t ∷ ts)) (same_some b.2) (record {
+          taken = t ∷ inner.taken;
+          split = ap (λ rest. t ∷ rest) inner.split;
+          spelled = «prefix» t q.0 p q.1 q.2 inner.spelled;
+          measured = ap (λ k. k + 1) inner.measured ∙ sym (prefixed_height p b.0.tree);
+          low = omega (arith, inner.low);
+          few = λ n. omega (arith, most_plain n t inner.taken plain, inner.few n);
+          onward = λ ext at. omega (arith, inner.onward ext at);
+        }),
+      )
   lead_sound t ts x None first h = (0, omega arith, leaf_sound t ts x _ refl h)
 
   operand_sound : (ts : List Lexeme) (x : Found) → operand_with nested below room ts ≡ Some x →
@@ -239,5 +245,8 @@ read_sound zero room level ts x some h = within_sound 0 _ (λ levels l us y p q.
     some h
 read_sound (suc free) room level ts x some h =
     let same : free ≡ suc free - 1 = omega arith in
-    within_sound _ _ (λ levels l us y p q. (omega arith, subst (λ k. Reads k levels l us y) same
-    (read_sound free levels l us y p q))) room level ts x some h
+    within_sound _ _ (λ levels l us y p q. (
+      omega arith,
+      subst (λ k. Reads k levels l us y) same
+          (read_sound free levels l us y p q),
+    )) room level ts x some h

@@ -172,12 +172,18 @@ whole_is image fits is =
     }
 
 pub rules_are_kept : (image : ImageParts) → IsWellFormed image → keeps_rules image ≡ true
-rules_are_kept image formed = (whole_decides image).1 (formed.names, (formed.entry, λ c n comp place at.
-    let same : c ≡ n = omega (arith, place) in
-    let h = formed.comps n comp (subst (λ k. slice_get image.comps k ≡ Some comp) same at) in (
-      (λ i d within. (h.exports i d within).entry, (h.export_names, h.export_entries)),
-      (h.imports, h.distinct_imports),
-    )))
+rules_are_kept image formed = (whole_decides image).1 (
+  formed.names,
+  (
+    formed.entry,
+    λ c n comp place at.
+        let same : c ≡ n = omega (arith, place) in
+        let h = formed.comps n comp (subst (λ k. slice_get image.comps k ≡ Some comp) same at) in (
+          (λ i d within. (h.exports i d within).entry, (h.export_names, h.export_entries)),
+          (h.imports, h.distinct_imports),
+        ),
+  ),
+)
 
 module _ (image : ImageParts) (formed : IsWellFormed image) where
   code_is_short : (c : ℕ) (found : Option CompPart) → slice_get image.comps c ≡ found →

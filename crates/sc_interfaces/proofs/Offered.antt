@@ -116,8 +116,12 @@ moved_on decl decls (Some n) = refl
 function_is : (decls : List Decl) (name : Text) → option_and_then (function_there decls)
     (first_place name (map function_name decls)) ≡ function_named name (functions_in decls)
 function_is [] name = refl
-function_is (declared.Function tree ∷ decls) name = grind (arith, nat_list_eq_equiv.symm name tree.head.name,
-    moved_on (declared.Function tree) decls (first_place name (map function_name decls)), function_is decls name)
+function_is (declared.Function tree ∷ decls) name = grind (
+  arith,
+  nat_list_eq_equiv.symm name tree.head.name,
+  moved_on (declared.Function tree) decls (first_place name (map function_name decls)),
+  function_is decls name,
+)
 function_is (decl ∷ decls) name = moved_on decl decls _ ∙ function_is decls name
 
 function_at_is : (decls : List Decl) (name : Text) → function_at decls (function_places decls) name ≡
@@ -207,8 +211,11 @@ offered_is sections line (Some found) h count few = ap₂ (λ comp index. import
 module _ (sections : List SectionTree) (count : length sections ≤ 32) (few : All HasFewExports sections) where
   import_is : (number : ℕ) (line : ImportLine) → import_by (map table_of sections)
       (map export_places sections) number line ≡ import_of sections number line
-  import_is number line = cc (offering_number_is number line 0 sections, offered_is sections line
-      (offering number line 0 sections) (offering_stands number line 0 sections) count few)
+  import_is number line = cc (
+    offering_number_is number line 0 sections,
+    offered_is sections line
+        (offering number line 0 sections) (offering_stands number line 0 sections) count few,
+  )
 
   interface_is : (number : ℕ) (section : SectionTree) → All HasFewParams (functions_in section.decls) →
       interface_by (map table_of sections) (map export_places sections) number section ≡
@@ -250,5 +257,8 @@ pub built : (sections : List SectionTree) (tables : List SectionTable) (places :
     comps ≡ interfaces_by tables places 0 sections → main ≡ min (main_by 0 tables) 31 →
     ◌≡◌ {A = Interfaces} (record { comps = comps; main = main }) (interfaces_of sections)
 built sections tables places comps main counts tables_are places_are comps_are main_is_min =
-    cc (interfaces_are sections counts.sections counts.exports 0 sections counts.params, main_is 0 sections,
-    min_within (main_from 0 sections) 31 (main_small sections counts.sections))
+    cc (
+      interfaces_are sections counts.sections counts.exports 0 sections counts.params,
+      main_is 0 sections,
+      min_within (main_from 0 sections) 31 (main_small sections counts.sections),
+    )

@@ -29,8 +29,12 @@ record Same (names others : List Text) : Type 0 where
 same_numbered : (names others : List Text) (name : Text) → Same names others →
     Same (numbered names name) (others ++ name ∷ [])
 same_numbered names others name same = record {
-  at = λ k. grind (arith, is_numbered-numbered names name k, same.at k,
-      list_any-append (bytes_eq k) others (name ∷ []));
+  at = λ k. grind (
+    arith,
+    is_numbered-numbered names name k,
+    same.at k,
+    list_any-append (bytes_eq k) others (name ∷ []),
+  );
 }
 
 same_all : (names : List Text) → Same (all_numbered [] names) names
@@ -47,8 +51,12 @@ module _ (sections : List SectionTree) (number : ℕ) (section : SectionTree) wh
       exports_told functions seen lines ≡ Faces.exports_from sections number section before lines
   exports_told_is functions seen before [] known same = refl
   exports_told_is functions seen before (line ∷ lines) known same =
-      cc (known.at line.name, same.at line.name, exports_told_is functions (numbered seen line.name)
-      (before ++ line.name ∷ []) lines known (same_numbered seen before line.name same))
+      cc (
+        known.at line.name,
+        same.at line.name,
+        exports_told_is functions (numbered seen line.name)
+            (before ++ line.name ∷ []) lines known (same_numbered seen before line.name same),
+      )
 
 -- Who offers an import.
 
@@ -186,8 +194,12 @@ others_added_allows : (number : ℕ) (known : Agreements) (name : Text) (head : 
     allowed (others_added known name (option_map table_of (section_in found))) head ≡
     (allowed known head && (not (bytes_eq name head.name) || Faces.agrees_there sections number section head found))
 others_added_allows number known name head sections section None = or_free _ _
-others_added_allows number known name head sections section (Some found) = grind (arith, same_text name head.name,
-    table_asks (heads_of found.1) known name head, allowed_same (heads_in found.1.decls) head)
+others_added_allows number known name head sections section (Some found) = grind (
+  arith,
+  same_text name head.name,
+  table_asks (heads_of found.1) known name head,
+  allowed_same (heads_in found.1.decls) head,
+)
 
 module _ (sections : List SectionTree) (number : ℕ) (section : SectionTree) where
   is_offered_is : (line : ImportLine) → is_offered_by (map table_of sections) number line ≡
@@ -201,24 +213,35 @@ module _ (sections : List SectionTree) (number : ℕ) (section : SectionTree) wh
       Faces.imports_from sections number section before lines
   imports_told_is functions protos seen before [] defined declared same = refl
   imports_told_is functions protos seen before (line ∷ lines) defined declared same =
-      cc (is_offered_is line, same.at line.name, defined.at line.name, declared.at line.name,
-      imports_told_is functions protos (numbered seen line.name) (before ++ line.name ∷ []) lines defined declared
-      (same_numbered seen before line.name same))
+      cc (
+        is_offered_is line,
+        same.at line.name,
+        defined.at line.name,
+        declared.at line.name,
+        imports_told_is functions protos (numbered seen line.name) (before ++ line.name ∷ []) lines defined declared
+            (same_numbered seen before line.name same),
+      )
 
   import_added_allows : (known : Agreements) (line : ImportLine) (head : HeadTree) →
       allowed (import_added (map table_of sections) number known line) head ≡
       (allowed known head && (not (bytes_eq line.name head.name) || Faces.agrees_as sections number section head line))
-  import_added_allows known line head = grind (arith, environment_added_allows known line.name head,
-      offering_table_is sections number line,
-      others_added_allows number known line.name head sections section (offering number line 0 sections))
+  import_added_allows known line head = grind (
+    arith,
+    environment_added_allows known line.name head,
+    offering_table_is sections number line,
+    others_added_allows number known line.name head sections section (offering number line 0 sections),
+  )
 
   imports_added_allows : (known : Agreements) (lines : List ImportLine) (head : HeadTree) →
       allowed (imports_added (map table_of sections) number known lines) head ≡
       (allowed known head && list_all {X = ImportLine}
       (λ line. not (bytes_eq line.name head.name) || Faces.agrees_as sections number section head line) lines)
   imports_added_allows known [] head = and_end _
-  imports_added_allows known (line ∷ lines) head = grind (arith, import_added_allows known line head,
-      imports_added_allows (import_added (map table_of sections) number known line) lines head)
+  imports_added_allows known (line ∷ lines) head = grind (
+    arith,
+    import_added_allows known line head,
+    imports_added_allows (import_added (map table_of sections) number known line) lines head,
+  )
 
   -- what the section imports, by its table, is what it imports
   imported_agrees_is : (head : HeadTree) → allowed (imported_by (map table_of sections) number section).heads head ≡
@@ -238,9 +261,15 @@ head_added_allows known decl head = grind (arith, allowed_added)
 allows_more : (known : Agreements) (before : List Decl) (decl : Decl) → Allows known before →
     Allows (head_added known (head_in decl)) (before ++ decl ∷ [])
 allows_more known before decl allows = record {
-  at = λ head. grind (arith, head_added_allows known decl head, allows.at head, filter_map-append head_in before
-      (decl ∷ []), list_all-append (λ other. not (bytes_eq other.name head.name) || agree other head) (heads_in before)
-      (heads_in (decl ∷ [])));
+  at = λ head. grind (
+    arith,
+    head_added_allows known decl head,
+    allows.at head,
+    filter_map-append head_in before
+        (decl ∷ []),
+    list_all-append (λ other. not (bytes_eq other.name head.name) || agree other head) (heads_in before)
+        (heads_in (decl ∷ [])),
+  );
 }
 
 allows_none : Allows no_heads []
@@ -250,8 +279,11 @@ module _ (sections : List SectionTree) (number : ℕ) (section : SectionTree) (m
   head_holds_is : (known : Agreements) (before : List Decl) (head : HeadTree) → Allows known before →
       head_fits_by (table_of section) (imported_by (map table_of sections) number section) known head ≡
       Faces.head_holds sections number section before head
-  head_holds_is known before head allows = cc (allows.at head,
-      all_numbered_same (export_names section) head.name, all_numbered_same (import_names section) head.name)
+  head_holds_is known before head allows = cc (
+    allows.at head,
+    all_numbered_same (export_names section) head.name,
+    all_numbered_same (import_names section) head.name,
+  )
 
   decl_told_is : (known : Agreements) (before : List Decl) (decl : Decl) → Allows known before →
       decl_told (table_of section) (imported_by (map table_of sections) number section) mains known decl ≡
@@ -266,17 +298,25 @@ module _ (sections : List SectionTree) (number : ℕ) (section : SectionTree) (m
       Faces.decls_from sections number section mains before decls
   decls_told_is known before [] allows = refl
   decls_told_is known before (decl ∷ decls) allows =
-      cc (decl_told_is known before decl allows, decls_told_is (head_added known (head_in decl)) (before ++ decl ∷ [])
-      decls (allows_more known before decl allows))
+      cc (
+        decl_told_is known before decl allows,
+        decls_told_is (head_added known (head_in decl)) (before ++ decl ∷ [])
+            decls (allows_more known before decl allows),
+      )
 
   section_told_is : (seen : List Text) (before : List SectionTree) →
       Same seen (map {A = SectionTree} (λ other. other.name) before) → section_told (map table_of sections) number
       (table_of section) mains seen section ≡ Faces.section_lines sections number section mains before
-  section_told_is seen before same = cc (same.at section.name, exports_told_is sections number section
-      (all_numbered [] (function_names section.decls)) [] [] section.exports (same_all (function_names section.decls))
-      same_none, imports_told_is sections number section (all_numbered [] (function_names section.decls))
-      (all_numbered [] (proto_names section.decls)) [] [] section.imports (same_all (function_names section.decls))
-      (same_all (proto_names section.decls)) same_none, decls_told_is no_heads [] section.decls allows_none)
+  section_told_is seen before same = cc (
+    same.at section.name,
+    exports_told_is sections number section
+        (all_numbered [] (function_names section.decls)) [] [] section.exports (same_all (function_names section.decls))
+        same_none,
+    imports_told_is sections number section (all_numbered [] (function_names section.decls))
+        (all_numbered [] (proto_names section.decls)) [] [] section.imports (same_all (function_names section.decls))
+        (same_all (proto_names section.decls)) same_none,
+    decls_told_is no_heads [] section.decls allows_none,
+  )
 
 -- Sections.
 
@@ -289,8 +329,11 @@ same_sections seen before section same = record {
 
 mains_more : (mains : Bool) (before : List SectionTree) (section : SectionTree) → mains ≡ list_any defines_main before →
     (mains || among (table_of section).functions main_name) ≡ list_any defines_main (before ++ section ∷ [])
-mains_more mains before section same = grind (arith,
-    all_numbered_same (function_names section.decls) main_name, list_any-append defines_main before (section ∷ []))
+mains_more mains before section same = grind (
+  arith,
+  all_numbered_same (function_names section.decls) main_name,
+  list_any-append defines_main before (section ∷ []),
+)
 
 lines_told_is : (sections : List SectionTree) (k : ℕ) (mains : Bool) (seen : List Text)
     (before rest : List SectionTree) → mains ≡ list_any defines_main before →
@@ -328,8 +371,11 @@ turn_lines sections tables k mains before section least within is =
 turn_mains : (sections : List SectionTree) (k : ℕ) (mains : Bool) (section : SectionTree) → k < length sections →
     section ≡ get_or sections k section → ((mains || among (table_of section).functions main_name) ||
     list_any defines_main (drop (k + 1) sections)) ≡ (mains || list_any defines_main (drop k sections))
-turn_mains sections k mains section within is = grind (arith, drop-step sections k section within is,
-    all_numbered_same (function_names section.decls) main_name)
+turn_mains sections k mains section within is = grind (
+  arith,
+  drop-step sections k section within is,
+  all_numbered_same (function_names section.decls) main_name,
+)
 
 -- one section more
 pub sections_turn : (sections : List SectionTree)
@@ -343,8 +389,7 @@ pub sections_turn : (sections : List SectionTree)
     (drop (k + 1) sections)) ≡ total) × ((more || list_any defines_main (drop (k + 1) sections)) ≡ whole)
 sections_turn sections tables k mains more before after section table least later total whole within is all its told
     found added earlier =
-    let table_is = table_at _ tables k section table within is all its in
-    (
+    let table_is = table_at _ tables k section table within is all its in (
       cc (table_is, earlier.0, turn_lines sections tables k mains before section least within is),
       cc (table_is, earlier.1, turn_mains sections k mains section within is),
     )
@@ -358,5 +403,12 @@ pub sections_end : (sections : List SectionTree) (tables : List SectionTable) (k
 sections_end sections tables k mains before least last past all told earlier =
     let none = drop_past _ k past in
     let lines_are = lines_told_is sections 0 false [] [] sections refl same_none in
-    cc (none, earlier.0, earlier.1, noted-none least, or-false mains, lines_are,
-    noted_all-append None (Faces.lines_from sections 0 [] sections) (unless (list_any defines_main sections) 0))
+    cc (
+      none,
+      earlier.0,
+      earlier.1,
+      noted-none least,
+      or-false mains,
+      lines_are,
+      noted_all-append None (Faces.lines_from sections 0 [] sections) (unless (list_any defines_main sections) 0),
+    )

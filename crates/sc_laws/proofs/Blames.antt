@@ -160,8 +160,14 @@ above_counts set comp (suc n) le = grind (arith, ne_eqb n comp, above_counts set
 below_counts : (set : Set) (comp n : ℕ) → set comp ≡ false → comp < n → suc (missing (with comp set) n) ≡ missing set n
 unfolding missing
 below_counts set comp zero clear lt = absurd (omega (arith, lt))
-below_counts set comp (suc n) clear lt = grind (arith, cases_eq n comp, eq-eqb n comp, ne_eqb n comp,
-    above_counts set comp n, below_counts set comp n clear)
+below_counts set comp (suc n) clear lt = grind (
+  arith,
+  cases_eq n comp,
+  eq-eqb n comp,
+  ne_eqb n comp,
+  above_counts set comp n,
+  below_counts set comp n clear,
+)
 
 nobody_missing : (n : ℕ) → missing nobody n ≡ n
 unfolding missing

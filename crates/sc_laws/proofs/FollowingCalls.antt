@@ -368,8 +368,10 @@ module _ (L : Library) (main : ℕ) (t : List Event) (S S' : ℕ → Bool) (larg
         enters_follow = tells (Option Value) st (inside st to index) s s' event run run' refl n
             (enters_goes a bodies.goes from to index number args f s).grown.events
             (enters_goes second second_goes from to index number args f s').grown.events
-            (λ near. record { follows = callee _ refl (near_blocks main t S' _ _ _ to _ _ _ _
-            (λ clear. ap (λ blocks. blocks ++ blocks_for f.cells (crossed args)) (n.memory to clear)) near) })
+            (λ near. record {
+              follows = callee _ refl (near_blocks main t S' _ _ _ to _ _ _ _
+                  (λ clear. ap (λ blocks. blocks ++ blocks_for f.cells (crossed args)) (n.memory to clear)) near);
+            })
 
       -- what is looked up is there in both runs, or both stop
       found_follow : {V : Type 0} (o : Option V) (go go' : V → State → Piece (Option Value)) (st : Standing)
@@ -714,10 +716,14 @@ module _ (L : Library) (main : ℕ) (t : List Event) (S S' : ℕ → Bool) (larg
         step_resumes : (number comp mine k theirs : ℕ) (st : Standing) (left : Piece (Option Value)) (s : State) →
             S' comp ≡ true → L.entered comp st.active.entry ≡ Some k → Held st k comp theirs left s →
             P st k comp theirs left (first_step a number (at comp mine) s)
-        step_resumes number comp mine k theirs st left s set is_k h = grind (arith, performs_perform st k comp theirs
-            left set is_k (rows_left (roles_in main S t) comp s.trace) number mine s h, function_performs st k comp
-            theirs left set is_k (function L comp number) (function L comp number) ((perform_twins st left _ _
-            (held_passes st k comp theirs left set)).functions comp number) mine s h)
+        step_resumes number comp mine k theirs st left s set is_k h = grind (
+          arith,
+          performs_perform st k comp theirs
+              left set is_k (rows_left (roles_in main S t) comp s.trace) number mine s h,
+          function_performs st k comp
+              theirs left set is_k (function L comp number) (function L comp number) ((perform_twins st left _ _
+              (held_passes st k comp theirs left set)).functions comp number) mine s h,
+        )
 
         pub step_bodies : Bodies (first_step a)
         step_bodies = record {

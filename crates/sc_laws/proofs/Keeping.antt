@@ -137,8 +137,11 @@ module _ (K : Property) (library : Library) (body : Body) (here : Here) (called_
 
       performs_keep : (rows : List Row) (s : State) → K.Goes s → Kept K (performs library body rows number here s)
       performs_keep [] s h = record { after = stops s h }
-      performs_keep (row ∷ rest) s h = grind (arith, stops s h,
-          acts_keep row.action (performs library body rest number here) (performs_keep rest) s h)
+      performs_keep (row ∷ rest) s h = grind (
+        arith,
+        stops s h,
+        acts_keep row.action (performs library body rest number here) (performs_keep rest) s h,
+      )
 
 -- A property of the places at which a run stands, with fewer turns than a number: what calls have to keep of it, so
 -- that functions do.

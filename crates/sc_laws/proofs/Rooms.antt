@@ -41,10 +41,18 @@ deepest_first events comp room (Closed told c less ∷ ys) = grind (arith, deepe
 deepest_from : (events comp room : ℕ) (xs ys : List FrameChange) → AllBefore events xs →
     room_after comp room xs ≤ deepest events comp room (xs ++ ys)
 deepest_from events comp room [] ys h = deepest_first events comp room ys
-deepest_from events comp room (Opened told c more ∷ xs) ys h = grind (arith, lt-ltb told events h.0,
-    deepest_from events comp (room + more) xs ys h.1, deepest_from events comp room xs ys h.1)
-deepest_from events comp room (Closed told c less ∷ xs) ys h = grind (arith, lt-ltb told events h.0,
-    deepest_from events comp (room - less) xs ys h.1, deepest_from events comp room xs ys h.1)
+deepest_from events comp room (Opened told c more ∷ xs) ys h = grind (
+  arith,
+  lt-ltb told events h.0,
+  deepest_from events comp (room + more) xs ys h.1,
+  deepest_from events comp room xs ys h.1,
+)
+deepest_from events comp room (Closed told c less ∷ xs) ys h = grind (
+  arith,
+  lt-ltb told events h.0,
+  deepest_from events comp (room - less) xs ys h.1,
+  deepest_from events comp room xs ys h.1,
+)
 
 -- more changes get no less deep
 pub deepest_more : (events comp room : ℕ) (xs ys : List FrameChange) →

@@ -186,8 +186,11 @@ module _ (free : ℕ) (room : ℕ) (inner : Reader StmtTree) (exact : Exact (Few
   else_complete _ _ nothing rest fits ends = rw ends
   else_complete _ _ (a_block {ts = ts} u p d low) rest fits ends =
       rw (p, block_no_if d rest, block_exact.complete ts _ (d, low) rest (fits_behind (few free) u ts fits) tt)
-  else_complete _ _ (an_if {ts = ts} u p d low) rest fits ends = rw (p, if_begins d rest,
-    exact.complete ts _ (a_stmt (choice d) low) rest (fits_behind (few free) u ts fits) ends)
+  else_complete _ _ (an_if {ts = ts} u p d low) rest fits ends = rw (
+    p,
+    if_begins d rest,
+    exact.complete ts _ (a_stmt (choice d) low) rest (fits_behind (few free) u ts fits) ends,
+  )
 
   if_exact : Exact (Few free) (IfParts room) NoElse (if_behind free inner room)
   unfolding if_behind
@@ -259,8 +262,11 @@ module _ (free : ℕ) (room : ℕ) (inner : Reader StmtTree) (exact : Exact (Few
       let height = while_height c body in
       rw p (while_exact.complete (ts ++ us) _ (both (k, omega arith) (made (b, omega arith))) rest
       (fits_behind (few free) t (ts ++ us) fits) tt)
-  kind_complete _ _ (for_loop {ts = ts} {us = us} {vs = vs} {ws = ws} {first = first} {next = next} {cond = c}
-      {body = body} t u v w x p q r s k f g n b, low) rest fits ends =
+  kind_complete _ _ (
+    for_loop {ts = ts} {us = us} {vs = vs} {ws = ws} {first = first} {next = next} {cond = c}
+        {body = body} t u v w x p q r s k f g n b,
+    low,
+  ) rest fits ends =
       let height = for_height first c next body in
       let all = for_lexemes u v w x ts us vs ws in
       let inside = fits_behind (few free) t (u ∷ (ts ++ v ∷ (us ++ w ∷ (vs ++ x ∷ ws)))) fits in

@@ -227,12 +227,22 @@ EndsSimple rest = NoExtension rest × (begins_with mark.OpenParen rest ≡ false
 change_complete : (free room : ℕ) (x : Placed) → Complete (Few free) (IsChange room x) EndsSimple
     (λ ts. changed free room (change_at ts) x (drop 1 ts))
 unfolding value_behind operand_behind stepped
-change_complete free room x _ _ (assigns {us = us} t p d) rest fits ends = rw (p, no_call d.0 rest ends.1,
-  (expr_exact free room).complete _ _ d rest (fits_behind (few free) t us fits) ends.0)
-change_complete free room x _ _ (assigns_call {us = us} t p d) rest fits ends = rw (p, call_begins d.0 rest,
-  (call_exact free room).complete _ _ d rest (fits_behind (few free) t us fits) tt)
-change_complete free room x _ _ (combines {us = us} t m op p q short d) rest fits ends = rw (p, compound_change m op q,
-  lt-ltb _ room short, (expr_exact free (room - 1)).complete _ _ d rest (fits_behind (few free) t us fits) ends.0)
+change_complete free room x _ _ (assigns {us = us} t p d) rest fits ends = rw (
+  p,
+  no_call d.0 rest ends.1,
+  (expr_exact free room).complete _ _ d rest (fits_behind (few free) t us fits) ends.0,
+)
+change_complete free room x _ _ (assigns_call {us = us} t p d) rest fits ends = rw (
+  p,
+  call_begins d.0 rest,
+  (call_exact free room).complete _ _ d rest (fits_behind (few free) t us fits) tt,
+)
+change_complete free room x _ _ (combines {us = us} t m op p q short d) rest fits ends = rw (
+  p,
+  compound_change m op q,
+  lt-ltb _ room short,
+  (expr_exact free (room - 1)).complete _ _ d rest (fits_behind (few free) t us fits) ends.0,
+)
 change_complete free room x _ _ (moves t m op p q short) rest fits ends =
     rw (p, step_change m op q, lt-ltb _ room short)
 
@@ -310,8 +320,11 @@ simple_complete free room _ _ (step_before {ts = ts} {place = place} t m op p q 
     let read = (place_exact free room).complete ts (placed place (expr_height place)) (d, refl, omega arith) rest
     (fits_behind (few free) t ts fits) ends.0 in
     rw (p, q, read, lt-ltb _ room short)
-simple_complete free room _ _ (call d, low) rest fits ends = rw (no_step _ (call_starts d rest), call_begins d rest,
-  (call_exact free room).complete _ _ (d, low) rest fits tt)
+simple_complete free room _ _ (call d, low) rest fits ends = rw (
+  no_step _ (call_starts d rest),
+  call_begins d rest,
+  (call_exact free room).complete _ _ (d, low) rest fits tt,
+)
 
 pub simple_exact : (free room : ℕ) → Exact (Few free) (IsSimple room) EndsSimple (simple_at free room)
 simple_exact free room = record { sound = simple_sound free room; complete = simple_complete free room }

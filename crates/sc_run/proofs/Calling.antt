@@ -89,8 +89,8 @@ module _ (program : ProgramTree) (caller : Frame) (callee : Callee) (args : List
       seen_of (entry_from caller callee args crossing s) ≡ told_call caller callee args crossing seen
   entry_seen None s shows = shows
   entry_seen (Some index) s shows = ap {A = Seen} (λ x. record x {
-        trace = x.trace ++ Call caller.scope.comp.now callee.comp.now index (map word_in args) ∷ [];
-      }) shows
+    trace = x.trace ++ Call caller.scope.comp.now callee.comp.now index (map word_in args) ∷ [];
+  }) shows
 
   entry_turns : (crossing : Option ℕ) (s : State) → (entry_from caller callee args crossing s).turns ≡ s.turns
   entry_turns None s = refl

@@ -13,8 +13,10 @@ abbrev pub with_memory : Seen → Memory → Seen
 with_memory seen memory = record seen { memory = memory }
 
 -- what is seen of a state with other blocks in a compartment
-pub seen_with : (s : State) {seen : Seen} (comp : ℕ) (bs : Blocks) → seen_of s ≡ seen → seen_of (record s { memory =
-    with_blocks comp bs s.memory }) ≡ record seen { memory = with_blocks comp (blank bs) seen.memory }
+pub seen_with : (s : State) {seen : Seen} (comp : ℕ) (bs : Blocks) → seen_of s ≡ seen → seen_of (record s {
+  memory =
+      with_blocks comp bs s.memory;
+}) ≡ record seen { memory = with_blocks comp (blank bs) seen.memory }
 seen_with s comp bs shows = ap (λ memory. with_memory (seen_of s) memory) (memory_with comp bs _) ∙ ap {A = Seen}
     (λ x. record x { memory = with_blocks comp (blank bs) x.memory }) shows
 

@@ -154,12 +154,12 @@ module _ (program : ProgramTree) (f : Frame) (to : To) where
       }) h) where
         seen : (s : State) → seen_of s ≡ before → seen_of (read_input f.scope.comp.now s) ≡ told
         seen s shows = ap {A = Seen} (λ x. record x {
-              trace = x.trace ++ In f.scope.comp.now (next_input x.inputs) ∷ [];
-              inputs = drop 1 x.inputs;
-            }) shows ∙ (λ i. record before {
-              trace = before.trace ++ In f.scope.comp.now (sym is i) ∷ [];
-              inputs = drop 1 before.inputs;
-            }) ∙ ap {A = Seen} (λ x. record x { trace = x.trace ++ In f.scope.comp.now word ∷ [] }) (sym rest) ∙ sym
+          trace = x.trace ++ In f.scope.comp.now (next_input x.inputs) ∷ [];
+          inputs = drop 1 x.inputs;
+        }) shows ∙ (λ i. record before {
+          trace = before.trace ++ In f.scope.comp.now (sym is i) ∷ [];
+          inputs = drop 1 before.inputs;
+        }) ∙ ap {A = Seen} (λ x. record x { trace = x.trace ++ In f.scope.comp.now word ∷ [] }) (sym rest) ∙ sym
             tells
 
   pub output_steps : {before told after : Seen} {work : List Work} (args : List Value) {word : ℕ} {step : Step} →

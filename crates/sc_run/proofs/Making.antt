@@ -97,22 +97,22 @@ module _ (structs : List TypedStruct) (here : Here) (params : ℕ) where
       Comes now next (Err end) (init_does c_arith structs here params k local local.init tt) →
       Comes before next (Err end) (inits_from locals 0 tt)
   started_blamed locals k {local} {next} {end} there item h c = h.on next _ (record {
-        comes = λ s shows. subst (CameTo (Err end) next) (sym (first_init locals k there item s))
-            (by_piece (init_does c_arith structs here params k local _ tt s) (c.comes s shows));
-        fewer = c.fewer;
-      }) where
-        by_piece : (p : Piece (Left (Unit {0}))) → CameTo (Err end) next p →
-            CameTo (Err end) next (follow in_order p (inits_from locals (k + 1)))
-        by_piece (Reached left t) e = elim e [ ]
-        by_piece (Stopped x t) e = e
+    comes = λ s shows. subst (CameTo (Err end) next) (sym (first_init locals k there item s))
+        (by_piece (init_does c_arith structs here params k local _ tt s) (c.comes s shows));
+    fewer = c.fewer;
+  }) where
+    by_piece : (p : Piece (Left (Unit {0}))) → CameTo (Err end) next p →
+        CameTo (Err end) next (follow in_order p (inits_from locals (k + 1)))
+    by_piece (Reached left t) e = elim e [ ]
+    by_piece (Stopped x t) e = e
 
   pub started_all : (locals : List TypedLocal) (k : ℕ) {before now : Seen} → length locals ≤ k →
       Started locals k before now → Comes before now usual (inits_from locals 0 tt)
   started_all locals k {now} all h = h.on now usual (record {
-        comes = λ s shows. subst (λ ls. CameTo usual now
-            (all_do (inits_do c_arith structs here params k ls) tt s)) (sym (drop_all k locals all)) (refl, shows);
-        fewer = omega arith;
-      })
+    comes = λ s shows. subst (λ ls. CameTo usual now
+        (all_do (inits_do c_arith structs here params k ls) tt s)) (sym (drop_all k locals all)) (refl, shows);
+    fewer = omega arith;
+  })
 
 abbrev pub param_sizes : List TypedStruct → TypedFunction → List ℕ
 param_sizes structs f = map {A = TypedParam} (λ p. cells_of structs p.ty) f.params

@@ -20,13 +20,22 @@ Fresh before (name ∷ names) = (is_numbered before name ≡ false) × Fresh (be
 pub not_again : (name : Text) (before names : List Text) → Fresh before names → is_numbered before name ≡ true →
     is_numbered names name ≡ false
 not_again name before [] fresh there = refl
-not_again name before (x ∷ names) fresh there = grind (arith, same_text name x, fresh.0,
-    not_again name (before ++ x ∷ []) names fresh.1 (numbered_front before (x ∷ []) name there))
+not_again name before (x ∷ names) fresh there = grind (
+  arith,
+  same_text name x,
+  fresh.0,
+  not_again name (before ++ x ∷ []) names fresh.1 (numbered_front before (x ∷ []) name there),
+)
 
 pub fresh_distinct : (before names : List Text) → Fresh before names → are_distinct names ≡ true
 fresh_distinct before [] fresh = refl
-fresh_distinct before (name ∷ names) fresh = grind (arith, not_again name (before ++ name ∷ []) names fresh.1,
-    list_any-append (bytes_eq name) before (name ∷ []), same_refl name, fresh_distinct _ names fresh.1)
+fresh_distinct before (name ∷ names) fresh = grind (
+  arith,
+  not_again name (before ++ name ∷ []) names fresh.1,
+  list_any-append (bytes_eq name) before (name ∷ []),
+  same_refl name,
+  fresh_distinct _ names fresh.1,
+)
 
 -- Exports, imports and declarations.
 

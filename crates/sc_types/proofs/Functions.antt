@@ -181,9 +181,15 @@ module _ (section : SectionTree) where
   unfolding typed_locals
   locals_are callees before decls whole globals own tree place [] holds known small low = refl
   locals_are callees before decls whole globals own tree place (local ∷ locals) holds known small low =
-      grind (arith, no_lines, known_whole before decls whole local.ty.base, local_is callees tree place local,
-      low_left, low_right,
-      locals_are callees before decls whole globals (own ++ local.name ∷ []) tree (suc place) locals)
+      grind (
+        arith,
+        no_lines,
+        known_whole before decls whole local.ty.base,
+        local_is callees tree place local,
+        low_left,
+        low_right,
+        locals_are callees before decls whole globals (own ++ local.name ∷ []) tree (suc place) locals,
+      )
 
   -- All declarations, those before one after another.
 
@@ -211,16 +217,26 @@ module _ (section : SectionTree) where
         (result_of section tree)) body) ≡ [] → body_fits (scope_in section tree) callable (result_of section tree)
         (map (typed_stmt (visible_of section tree) callees (result_of section tree)) body) ≡ true
     body_is before tree [] known holds = refl
-    body_is before tree (s ∷ body) known holds = grind (arith, no_lines, fits (known_in (names.declared section before)
-        tree) (visible_of section tree) callees (scope_in section tree) callable (same before tree)
-        (result_of section tree) s false, body_is before tree body)
+    body_is before tree (s ∷ body) known holds = grind (
+      arith,
+      no_lines,
+      fits (known_in (names.declared section before)
+          tree) (visible_of section tree) callees (scope_in section tree) callable (same before tree)
+          (result_of section tree) s false,
+      body_is before tree body,
+    )
 
     body_low : (tree : FunctionTree) (body : List StmtTree) → nat_le (surface.stmts_height body) 256 ≡ true →
         list_all {X = TypedStmt} (λ s. nat_le (stmt_height s) most_height)
         (map (typed_stmt (visible_of section tree) callees (result_of section tree)) body) ≡ true
     body_low tree [] low = refl
-    body_low tree (s ∷ body) low = grind (arith, low_left, low_right, body_low tree body,
-        heights.stmt_is (visible_of section tree) callees (result_of section tree) s)
+    body_low tree (s ∷ body) low = grind (
+      arith,
+      low_left,
+      low_right,
+      body_low tree body,
+      heights.stmt_is (visible_of section tree) callees (result_of section tree) s,
+    )
 
     result_whole : (before decls : List Decl) → before ++ decls ≡ section.decls → (result : Option TypeName) →
         result_known (struct_names before) result ≡ true → result_known (tags section) result ≡ true
@@ -260,10 +276,14 @@ module _ (section : SectionTree) where
         let locals = locals_are callees before decls whole (global_names before) (param_names tree) tree 0 tree.locals
         (front_empty _ _ holds) known.locals (back_empty _ _ sizes) (low_left _ _ 256 low) in
         let body = body_is before tree tree.body known.body (back_empty _ _ holds) in
-        cc (scope_is callees tree, params_passed small tree.head.params (params_whole before decls whole
-        (map param_of tree.head.params) known.params), result_passed small tree.head.result
-        (result_whole before decls whole tree.head.result known.result),
-        body_low tree tree.body (low_right _ _ 256 low))
+        cc (
+          scope_is callees tree,
+          params_passed small tree.head.params (params_whole before decls whole
+              (map param_of tree.head.params) known.params),
+          result_passed small tree.head.result
+              (result_whole before decls whole tree.head.result known.result),
+          body_low tree tree.body (low_right _ _ 256 low),
+        )
 
     pub functions_are : AllSmall (structs section) 0 (structs_in section.decls) → (before decls : List Decl) →
         Behind callees before decls → concat (map (counts.head_lines section) (heads_in decls)) ≡ [] →
@@ -271,8 +291,14 @@ module _ (section : SectionTree) where
         nat_le (surface.decls_height decls) 256 ≡ true → list_all (function_fits callable
         (typed_section section callees)) (map (typed_function section callees) (functions_in decls)) ≡ true
     functions_are small before [] b heads sizes low = refl
-    functions_are small before (decl ∷ decls) b heads sizes low = grind (arith, no_lines, low_left, low_right,
-        function_is before (decl ∷ decls) b.whole small, functions_are small (before ++ decl ∷ []) decls (next b))
+    functions_are small before (decl ∷ decls) b heads sizes low = grind (
+      arith,
+      no_lines,
+      low_left,
+      low_right,
+      function_is before (decl ∷ decls) b.whole small,
+      functions_are small (before ++ decl ∷ []) decls (next b),
+    )
 
   module _ (callees : Callees) where
     pub globals_are : (before decls : List Decl) → Behind callees before decls →
@@ -280,8 +306,15 @@ module _ (section : SectionTree) where
         list_all (global_fits (structs section)) (map (typed_global (tags section)) (globals_in decls)) ≡ true
     globals_are before [] b sizes = refl
     globals_are before (Global tree ∷ decls) b sizes =
-        grind (arith, no_lines, known_whole before _ b.whole tree.ty.base, global_is tree, b.in_names, b.holds,
-        globals_are (before ++ Global tree ∷ []) decls (next b))
+        grind (
+          arith,
+          no_lines,
+          known_whole before _ b.whole tree.ty.base,
+          global_is tree,
+          b.in_names,
+          b.holds,
+          globals_are (before ++ Global tree ∷ []) decls (next b),
+        )
     globals_are before (_ ∷ decls) b sizes = globals_are _ decls (next b) sizes
 
     struct_is : (before : List Decl) (tree : StructTree) → names.decl_lines (names.declared section before)

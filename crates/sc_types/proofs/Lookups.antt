@@ -267,7 +267,7 @@ module _ (P : Decl → Type 0) (name : Text) where
   find_head (Proto head ∷ decls) each h none = elim (cases_Bool (bytes_eq head.name name)) [
     | inl here ↦ record { head = head; first = grind arith; named = here; holds = each.0 }
     | inr not_here ↦ over (Proto head ∷ decls)
-      (find_head decls each.1 (grind (arith, same_sym head.name name)) none) (grind arith)
+        (find_head decls each.1 (grind (arith, same_sym head.name name)) none) (grind arith)
   ]
   find_head (Function tree ∷ decls) each h none =
       over (Function tree ∷ decls) (find_head decls each.1 h (grind arith))

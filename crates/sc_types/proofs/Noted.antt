@@ -54,9 +54,13 @@ module _ (section : SectionTree) where
   structs-append : (k : ℕ) (xs ys : List StructTree) →
       structs_from section k (xs ++ ys) ≡ structs_from section k xs ++ structs_from section (k + length xs) ys
   structs-append k [] ys = ap (λ n. structs_from section n ys) (omega arith)
-  structs-append k (x ∷ xs) ys = cc (structs-append (suc k) xs ys, next-number k (length xs), append_assoc
-      (unless (is_small section (ty.Struct k)) x.line) (structs_from section (suc k) xs)
-      (structs_from section (suc k + length xs) ys))
+  structs-append k (x ∷ xs) ys = cc (
+    structs-append (suc k) xs ys,
+    next-number k (length xs),
+    append_assoc
+        (unless (is_small section (ty.Struct k)) x.line) (structs_from section (suc k) xs)
+        (structs_from section (suc k + length xs) ys),
+  )
 
   pub structs-noted : (decls : List Decl) (i : ℕ) (decl : Decl) (number next : ℕ) (old a b : BrokenLines)
       (all : List ℕ) → i < length decls → decl ≡ get_or decls i decl → with_lines a (structs_from section number

@@ -93,8 +93,12 @@ names_same before decl h = names_append before _ ∙ ap (λ more. function_names
 pub functions_fresh : (section : SectionTree) (before rest : List Decl) → names.lines_from section before rest ≡ [] →
     Fresh (function_names before) (function_names rest)
 functions_fresh section before [] h = tt
-functions_fresh section before (Function tree ∷ rest) h = grind (arith, no_lines,
-    names_append before (Function tree ∷ []), functions_fresh section (before ++ Function tree ∷ []) rest)
+functions_fresh section before (Function tree ∷ rest) h = grind (
+  arith,
+  no_lines,
+  names_append before (Function tree ∷ []),
+  functions_fresh section (before ++ Function tree ∷ []) rest,
+)
 functions_fresh section before (decl ∷ rest) h = subst (λ all. Fresh all (function_names rest))
     (names_same before decl refl) (functions_fresh section (before ++ decl ∷ []) rest (back_empty _ _ h))
 
@@ -208,12 +212,21 @@ module _ (sections : List SectionTree) (hold : (j : ℕ) (s : SectionTree) → s
     is_function = any_passes_from_place (λ f. bytes_eq f.name (proto_of section line).name &&
         same_signature (signature_of f) (proto_signature (proto_of section line))) typed.functions g.at
         (typed_function section callees g.tree) (slice_get-map _ _ g.at ∙ ap (option_map _) g.got)
-        (cc (g.named, signatures, promised_name line.name (function_named line.name (functions_in section.decls)),
-        signature_refl (proto_signature (proto_of section line))))
+        (cc (
+          g.named,
+          signatures,
+          promised_name line.name (function_named line.name (functions_in section.decls)),
+          signature_refl (proto_signature (proto_of section line)),
+        ))
 
     export_is_function : export_fits typed.functions (proto_of section line) ≡ true
-    export_is_function = grind (arith, is_function, f.plain, f.no_main,
-        promised_name line.name (function_named line.name (functions_in section.decls)))
+    export_is_function = grind (
+      arith,
+      is_function,
+      f.plain,
+      f.no_main,
+      promised_name line.name (function_named line.name (functions_in section.decls)),
+    )
 
   exports_are : (before lines : List ExportLine) → before ++ lines ≡ section.exports →
       Each (ExportFacts sections number section) lines →
@@ -229,8 +242,13 @@ module _ (sections : List SectionTree) (hold : (j : ℕ) (s : SectionTree) → s
       import_fits (interfaces_of sections) number (offered line (offering number line 0 sections)) ≡ true
   other_fits line o =
       let export = found_export number line o in
-      grind (arith, o.is, o.offers, export.place,
-      export_is sections o.number o.section export.at export.item o.got export.got)
+      grind (
+        arith,
+        o.is,
+        o.offers,
+        export.place,
+        export_is sections o.number o.section export.at export.item o.got export.got,
+      )
 
   fits_by : (line : ImportLine) (env input output : Bool) →
       (if env then input || output else is_some (offering number line 0 sections)) ≡ true →
@@ -251,8 +269,13 @@ module _ (sections : List SectionTree) (hold : (j : ℕ) (s : SectionTree) → s
   pub interface_is : names.section_lines section ≡ [] → CountFacts section callees →
       interface_fits (interfaces_of sections) number interface typed ≡ true
   interface_is in_names f =
-      cc (all_distinct in_names, exports_distinct, exports_are [] section.exports refl facts.exports,
-      imports_are section.imports facts.imports,
-      length-map section.exports (proto_of section), length-map section.imports (import_of sections number),
-      none_beyond {A = ExportLine} (λ line. line.line) most_exports section.exports f.exports,
-      none_beyond {A = ImportLine} (λ line. line.line) most_exports section.imports f.imports)
+      cc (
+        all_distinct in_names,
+        exports_distinct,
+        exports_are [] section.exports refl facts.exports,
+        imports_are section.imports facts.imports,
+        length-map section.exports (proto_of section),
+        length-map section.imports (import_of sections number),
+        none_beyond {A = ExportLine} (λ line. line.line) most_exports section.exports f.exports,
+        none_beyond {A = ImportLine} (λ line. line.line) most_exports section.imports f.imports,
+      )

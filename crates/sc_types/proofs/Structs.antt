@@ -153,8 +153,13 @@ module _ (names : List Text) (self : Text) (after : List Text) (new : is_numbere
       Fits (end offset m) members → Fits offset (m ∷ members)
   member_is offset m members known sized same rest =
       let within = member_within names self after new m known sized in
-      grind (arith, within, eq_refl offset, cells_same done more (length names) size (suc (length names))
-      (type_of every m.ty) within)
+      grind (
+        arith,
+        within,
+        eq_refl offset,
+        cells_same done more (length names) size (suc (length names))
+            (type_of every m.ty) within,
+      )
 
   members_are : (offset : ℕ) (members : List MemberTree) → list_all (member_known names self) members ≡ true →
       list_all {X = MemberTree} (λ member. is_sized member.ty) members ≡ true →

@@ -38,9 +38,13 @@ kept_in (decl ∷ decls) = grind (arith, kept_in decls)
 
 decl_count_is : (section : SectionTree) (callees : Callees) → decl_count (typed_section section callees) ≡
     length (structs_in section.decls) + (length (globals_in section.decls) + length (functions_in section.decls))
-decl_count_is section callees = cc (structs_length (structs_in section.decls), length-map (structs_in section.decls)
-    (λ tree. tree.name), length-map (globals_in section.decls) (typed_global (tags section)),
-    length-map (functions_in section.decls) (typed_function section callees))
+decl_count_is section callees = cc (
+  structs_length (structs_in section.decls),
+  length-map (structs_in section.decls)
+      (λ tree. tree.name),
+  length-map (globals_in section.decls) (typed_global (tags section)),
+  length-map (functions_in section.decls) (typed_function section callees),
+)
 
 few_kept : (section : SectionTree) (callees : Callees) → nat_le (length section.decls) most_nodes ≡ true →
     nat_le (decl_count (typed_section section callees)) most_nodes ≡ true

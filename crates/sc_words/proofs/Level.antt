@@ -256,8 +256,11 @@ module _ (title : Text) (form : Form) where
     taken a values value given uses is next settles_next adds = one_more next before name value words _ once idles
         (λ some. first_fails _ _ (first_fails _ [] (second_fails (settle_fault rs false h) _
         (uses.again _ (has_now ∙ some)))))
-        (λ none. (λ i. or_else (or_else (settles i) (uses.new _ (has_now ∙ none) i)) [], settles_next,
-        adds ∙ (uses.adds _ (has_now ∙ none) ∙ ap₂ (λ x y. x ++ y ∷ []) now (sym is))))
+        (λ none. (
+          λ i. or_else (or_else (settles i) (uses.new _ (has_now ∙ none) i)) [],
+          settles_next,
+          adds ∙ (uses.adds _ (has_now ∙ none) ∙ ap₂ (λ x y. x ++ y ∷ []) now (sym is)),
+        ))
 
     valued_agrees : has_value form name ≡ true → (r : Bool) (v : Option Text) →
         LongAgrees h before word name v words (Some (ready_valued r name))
@@ -374,8 +377,11 @@ module _ (title : Text) (form : Form) where
           one_more (holding name (w ∷ []) now skip) before name w words [] once idles
           (λ some. idle_fails words all (holding name (w ∷ []) now skip)
           (λ none. uses.again now (has_now ∙ some) (sym (fault_held name now skip has w) ∙ none)))
-          (λ none. (refl, fault_held name now skip has w ∙ uses.new now (has_now ∙ none),
-          rows_held name now skip has w ∙ (uses.adds now (has_now ∙ none) ∙ ap₂ (λ x y. x ++ y ∷ []) is (rw has refl))))
+          (λ none. (
+            refl,
+            fault_held name now skip has w ∙ uses.new now (has_now ∙ none),
+            rows_held name now skip has w ∙ (uses.adds now (has_now ∙ none) ∙ ap₂ (λ x y. x ++ y ∷ []) is (rw has refl)),
+          ))
 
       plain : (w : Text) → begins_with_hyphen w ≡ false →
           GoesAs (waiting_for name now skip) (w ∷ words) (given w (begins_with_hyphen w))
