@@ -175,6 +175,8 @@ found_bytes a n ps o i x apart e at is b low high =
     bytes_of-at ps i x b apart f.0 (subst (λ q. IsIn (region_of q) b) is (spans_in a n b x f.1 low high))
     ∙ ap (λ q. piece_of q b) (sym is)
 
+pub ruleset finding = (found, found_spans, found_bytes)
+
 -- a write to it is a write to all parts
 pub found_written : (a : ℕ) (bs : List ℕ) (ps : List Part) (o : Option ℕ) (i : ℕ) (x y : Part) →
     AreApart (regions_of ps) → o ≡ position (spans a (length bs)) ps → o ≡ Some i → x ≡ get_or ps i x →

@@ -72,7 +72,7 @@ impl FlatStore {
     }
 
     #[inline(always)]
-    #[tactic(auto, using(crate::proofs::Parts::found, crate::proofs::Parts::found_spans, crate::proofs::Parts::found_bytes))]
+    #[tactic(auto, using(crate::proofs::Parts::finding))]
     fn byte(&self, at: u32) -> u8
         requires { IsSome (bytes_of self.now.parts.items at) }
         ensures { bytes_of self.now.parts.items at ≡ Some result }

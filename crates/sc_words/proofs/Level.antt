@@ -380,7 +380,8 @@ module _ (title : Text) (form : Form) where
           (λ none. (
             refl,
             fault_held name now skip has w ∙ uses.new now (has_now ∙ none),
-            rows_held name now skip has w ∙ (uses.adds now (has_now ∙ none) ∙ ap₂ (λ x y. x ++ y ∷ []) is (rw has refl)),
+            rows_held name now skip has w ∙ (uses.adds now (has_now ∙ none) ∙
+                ap₂ (λ x y. x ++ y ∷ []) is (rw has refl)),
           ))
 
       plain : (w : Text) → begins_with_hyphen w ≡ false →
