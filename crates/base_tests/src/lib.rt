@@ -1,4 +1,4 @@
-//! Names, arguments, blocks and command lines as one sees them from outside. This crate has tests alone.
+//! Names, events, blocks and command lines as one sees them from outside. This crate has tests alone.
 #![tactic(auto)]
 
 #[cfg(test)]

@@ -140,6 +140,46 @@ fn refuses_at_the_lexeme(rt: HostRuntime) -> Result<(), Fail> {
     Ok(())
 }
 
+// So often the one text, then `a`, then so often the other.
+fn around(alloc: Global, front: &[u8], count: usize, back: &[u8]) -> Result<Lexemes, Fail> {
+    let mut text = Vec::new(alloc);
+    for _ in 0..count {
+        text.extend_from_slice(front)?;
+    }
+    text.push(b'a')?;
+    for _ in 0..count {
+        text.extend_from_slice(back)?;
+    }
+    lexemes_of(alloc, text.as_slice())
+}
+
+// Two texts round `a`, and how often they may stand there.
+const LIMITS: [(&[u8], usize, &[u8]); 9] = [
+    (b"(", 1024, b")"),
+    (b"- ", 255, b""),
+    (b"", 255, b"+a"),
+    (b"", 254, b"-a*a"),
+    (b"", 255, b"-(a)"),
+    (b"", 255, b".m"),
+    (b"", 255, b"->m"),
+    (b"", 255, b"[a]"),
+    (b"a[", 255, b"]"),
+];
+
+#[test]
+fn stops_at_limits(rt: HostRuntime) -> Result<(), Fail> {
+    for (front, count, back) in LIMITS {
+        let lexemes = around(rt.alloc(), front, count, back)?;
+        assert!(rt; parse_expr(rt.alloc(), 0, lexemes.as_slice()).is_ok());
+        let lexemes = around(rt.alloc(), front, count + 1, back)?;
+        assert!(rt; parse_expr(rt.alloc(), 0, lexemes.as_slice()).is_err());
+    }
+    let lexemes = around(rt.alloc(), b"(", 1, b")")?;
+    assert!(rt; parse_expr(rt.alloc(), 1023, lexemes.as_slice()).is_ok());
+    assert!(rt; parse_expr(rt.alloc(), 1024, lexemes.as_slice()).is_err());
+    Ok(())
+}
+
 #[test]
 fn refuses_what_goes_on_for_long(rt: HostRuntime) -> Result<(), Fail> {
     for text in [b"a+".as_slice(), b"(", b"-", b"a["] {
