@@ -16,14 +16,18 @@ const STACK_TOP: u32 = 0x1001_0000;
 // An image's compartment: its name with what it offers and may call, and its code and globals.
 type Part<'a> = (&'a [u8], &'a [u32], &'a [u8]);
 
+fn append_size(file: &mut Text, size: usize) -> Result<(), OutOfMemory> {
+    file.append(&u32::try_from(size).unwrap_or(u32::MAX).to_le_bytes())
+}
+
 fn append_part(file: &mut Text, part: Part<'_>) -> Result<(), OutOfMemory> {
     let (interface, code, globals) = part;
     file.append(interface)?;
-    file.append(&(code.len() as u32).saturating_mul(4).to_le_bytes())?;
+    append_size(file, code.len().saturating_mul(4))?;
     for word in code {
         file.append(&word.to_le_bytes())?;
     }
-    file.append(&(globals.len() as u32).to_le_bytes())?;
+    append_size(file, globals.len())?;
     file.append(globals)
 }
 
@@ -31,7 +35,7 @@ fn append_part(file: &mut Text, part: Part<'_>) -> Result<(), OutOfMemory> {
 fn image(alloc: Global, parts: &[Part<'_>]) -> Result<Image, Fail> {
     let mut file = Text::new(alloc);
     file.append(b"SCIM\x01\0")?;
-    file.append(&[parts.len() as u8, 0])?;
+    file.append(&[u8::try_from(parts.len()).unwrap_or(0), 0])?;
     file.append(&START.to_le_bytes())?;
     for part in parts {
         append_part(&mut file, *part)?;
