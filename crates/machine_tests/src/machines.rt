@@ -9,9 +9,9 @@ use sc_store::FlatStore;
 use std::alloc::Global;
 use std::test::Fail;
 
-const START: u32 = 0x0100_0000;
+const START: u32 = 0x01000000;
 
-const STACK_TOP: u32 = 0x1001_0000;
+const STACK_TOP: u32 = 0x10010000;
 
 // An image's compartment: its name with what it offers and may call, and its code and globals.
 type Part<'a> = (&'a [u8], &'a [u32], &'a [u8]);
@@ -65,13 +65,7 @@ fn loaded(
 }
 
 // addi a0,x0,7; addi a7,x0,2; ecall; addi a0,x0,0; jalr x0,0(x1)
-const SEVEN: [u32; 5] = [
-    0x0070_0513,
-    0x0020_0893,
-    0x0000_0073,
-    0x0000_0513,
-    0x0000_8067,
-];
+const SEVEN: [u32; 5] = [0x00700513, 0x00200893, 0x00000073, 0x00000513, 0x00008067];
 
 #[test]
 fn outputs_and_ends(rt: HostRuntime) -> Result<(), Fail> {
@@ -124,7 +118,7 @@ fn trap(reason: TrapReason, offset: u32) -> Stop
 #[test]
 fn owns_a_half_word(rt: HostRuntime) -> Result<(), Fail> {
     // lhu a0,0(sp); lw a0,0(sp)
-    let image = alone(rt.alloc(), true, &[0x0001_5503, 0x0001_2503], &[0x34, 0x12])?;
+    let image = alone(rt.alloc(), true, &[0x00015503, 0x00012503], &[0x34, 0x12])?;
     let mut machine = loaded(rt.alloc(), image, &[], 9)?;
     assert_eq!(rt; machine.run(9), trap(TrapReason::Owner, 4));
     assert_eq!(rt; machine.register(10), 0x1234);
@@ -148,29 +142,18 @@ fn loads_and_stores(rt: HostRuntime) -> Result<(), Fail> {
     // addi a0,x0,-128; sw a0,-4(sp); lb a1,-4(sp); lbu a2,-4(sp); bltu a2,a1,8; ebreak;
     // mul a0,a1,a2; sh a2,-6(sp); lh a3,-6(sp); jal x0,8; ebreak; lw a4,-8(sp); lw a5,2(sp)
     let code = [
-        0xf800_0513,
-        0xfea1_2e23,
-        0xffc1_0583,
-        0xffc1_4603,
-        0x00b6_6463,
-        0x0010_0073,
-        0x02c5_8533,
-        0xfec1_1d23,
-        0xffa1_1683,
-        0x0080_006f,
-        0x0010_0073,
-        0xff81_2703,
-        0x0021_2783,
+        0xf8000513, 0xfea12e23, 0xffc10583, 0xffc14603, 0x00b66463, 0x00100073, 0x02c58533,
+        0xfec11d23, 0xffa11683, 0x0080006f, 0x00100073, 0xff812703, 0x00212783,
     ];
     let image = alone(rt.alloc(), true, &code, &[])?;
     let mut machine = loaded(rt.alloc(), image, &[], 1)?;
     assert_eq!(rt; machine.run(20), trap(TrapReason::Misaligned, 48));
     for (register, word) in [
-        (10, 0xffff_c000),
-        (11, 0xffff_ff80),
+        (10, 0xffffc000),
+        (11, 0xffffff80),
         (12, 0x80),
         (13, 0x80),
-        (14, 0x0080_0000),
+        (14, 0x00800000),
         (15, 0),
     ] {
         assert_eq!(rt; machine.register(register), word);
@@ -184,13 +167,7 @@ fn loads_and_stores(rt: HostRuntime) -> Result<(), Fail> {
 fn reads_inputs(rt: HostRuntime) -> Result<(), Fail> {
     let comp = CompId::first();
     // addi a7,x0,1; ecall; ecall; ecall; ebreak
-    let code = [
-        0x0010_0893,
-        0x0000_0073,
-        0x0000_0073,
-        0x0000_0073,
-        0x0010_0073,
-    ];
+    let code = [0x00100893, 0x00000073, 0x00000073, 0x00000073, 0x00100073];
     let image = alone(rt.alloc(), true, &code, &[])?;
     let mut machine = loaded(rt.alloc(), image, &[-5, 3], 9)?;
     assert_eq!(rt; machine.run(3), StepsOut);
@@ -199,7 +176,7 @@ fn reads_inputs(rt: HostRuntime) -> Result<(), Fail> {
     let events = [
         Event::In {
             comp,
-            value: 0xffff_fffb,
+            value: 0xfffffffb,
         },
         Event::In { comp, value: 3 },
         Event::In { comp, value: 0 },
@@ -215,19 +192,19 @@ fn traps_change_nothing(rt: HostRuntime) -> Result<(), Fail> {
     for (word, reason) in [
         (0, TrapReason::Illegal),
         // jalr x1,0(x1), which is no call; jalr x0,2(x1)
-        (0x0000_80e7, TrapReason::BadJump),
-        (0x0020_8067, TrapReason::Misaligned),
+        (0x000080e7, TrapReason::BadJump),
+        (0x00208067, TrapReason::Misaligned),
         // jal x1,4, past the code; jal x5,2
-        (0x0040_00ef, TrapReason::BadJump),
-        (0x0020_02ef, TrapReason::Misaligned),
+        (0x004000ef, TrapReason::BadJump),
+        (0x002002ef, TrapReason::Misaligned),
         // lw sp,1(sp); lw sp,0(sp); sw sp,0(x0); sb sp,-1(x0)
-        (0x0011_2103, TrapReason::Misaligned),
-        (0x0001_2103, TrapReason::Owner),
-        (0x0020_2023, TrapReason::Owner),
-        (0xfe20_0fa3, TrapReason::Owner),
+        (0x00112103, TrapReason::Misaligned),
+        (0x00012103, TrapReason::Owner),
+        (0x00202023, TrapReason::Owner),
+        (0xfe200fa3, TrapReason::Owner),
         // ecall, with a7 at 0; ebreak
         (0x73, TrapReason::BadCall),
-        (0x0010_0073, TrapReason::Breakpoint),
+        (0x00100073, TrapReason::Breakpoint),
     ] {
         let image = alone(rt.alloc(), true, &[word], &[])?;
         let mut machine = loaded(rt.alloc(), image, &[], 9)?;
@@ -263,10 +240,7 @@ fn pair(alloc: Global, imported: bool, code: &[u32]) -> Result<Image, Fail>
     let second = b"\x01B\0\x01\0\x01f\0\0\0\0\x10\x01\0\0";
     let image = image(
         alloc,
-        &[
-            (first, code, &[]),
-            (second, &[0x0000_8067, 0x0000_8067], &[]),
-        ],
+        &[(first, code, &[]), (second, &[0x00008067, 0x00008067], &[])],
     )?;
     if image.parts().comps.len() == 2 {
         Ok(image)
@@ -276,10 +250,10 @@ fn pair(alloc: Global, imported: bool, code: &[u32]) -> Result<Image, Fail>
 }
 
 // lui x5,0x01100; jalr x1,4(x5): a jump past the entry of `f`
-const PAST_ENTRY: [u32; 2] = [0x0110_02b7, 0x0042_80e7];
+const PAST_ENTRY: [u32; 2] = [0x011002b7, 0x004280e7];
 
 // lui x5,0x01100; jalr x1,0(x5); ecall
-const CALL: [u32; 3] = [0x0110_02b7, 0x0002_80e7, 0x0000_0073];
+const CALL: [u32; 3] = [0x011002b7, 0x000280e7, 0x00000073];
 
 #[test]
 fn refuses_other_jumps(rt: HostRuntime) -> Result<(), Fail> {
@@ -293,7 +267,7 @@ fn refuses_other_jumps(rt: HostRuntime) -> Result<(), Fail> {
         let mut machine = loaded(rt.alloc(), image, &[], 9)?;
         assert_eq!(rt; machine.run(9), trap(reason, 4));
         assert_eq!(rt; machine.trace().len(), 0);
-        assert_eq!(rt; machine.register(5), 0x0110_0000);
+        assert_eq!(rt; machine.register(5), 0x01100000);
     }
     Ok(())
 }
@@ -305,7 +279,7 @@ fn calls_and_returns(rt: HostRuntime) -> Result<(), Fail> {
     let mut machine = loaded(rt.alloc(), image, &[], 9)?;
     assert_eq!(rt; machine.run(2), StepsOut);
     assert_eq!(rt; machine.active(), b);
-    assert_eq!(rt; machine.pc(), 0x0110_0000);
+    assert_eq!(rt; machine.pc(), 0x01100000);
     assert_eq!(rt;
         (machine.register(1), machine.register(2)),
         (0x100, STACK_TOP + 0x10_0000)
@@ -360,16 +334,10 @@ fn hold(machine: &Machine<FlatStore>, words: &[(u8, u32)]) -> bool {
 fn passes_numbers_alone(rt: HostRuntime) -> Result<(), Fail> {
     // addi a0,x0,7; addi a1,x0,8; addi a2,x0,9; addi x5,x0,5; lui x6,0x01100; jalr x1,0(x6); ebreak
     let caller = [
-        0x0070_0513,
-        0x0080_0593,
-        0x0090_0613,
-        0x0050_0293,
-        0x0110_0337,
-        0x0003_00e7,
-        0x0010_0073,
+        0x00700513, 0x00800593, 0x00900613, 0x00500293, 0x01100337, 0x000300e7, 0x00100073,
     ];
     // add a0,a0,a1; addi a1,x0,3; jalr x0,0(x1)
-    let sum = [0x00b5_0533, 0x0030_0593, 0x0000_8067];
+    let sum = [0x00b50533, 0x00300593, 0x00008067];
     let parts: [Part<'_>; 2] = [
         (b"\x01A\0\0\0\x01\0\x01\0\0", &caller, &[]),
         (b"\x01B\0\x01\0\x01f\x02\x01\0\0\x10\x01\0\0", &sum, &[]),
@@ -393,22 +361,11 @@ fn passes_numbers_alone(rt: HostRuntime) -> Result<(), Fail> {
 fn comes_back_below_the_stack_in_use(rt: HostRuntime) -> Result<(), Fail> {
     // addi sp,sp,-16; lui x6,0x01100; jalr x1,0(x6); ebreak; then h: addi a0,sp,0; jalr x0,0(x1)
     let first = [
-        0xff01_0113,
-        0x0110_0337,
-        0x0003_00e7,
-        0x0010_0073,
-        0x0001_0513,
-        0x0000_8067,
+        0xff010113, 0x01100337, 0x000300e7, 0x00100073, 0x00010513, 0x00008067,
     ];
     // addi sp,sp,-16; sw ra,12(sp); lui x6,0x01000; jalr x1,16(x6); lw ra,12(sp); addi sp,sp,16; jalr x0,0(x1)
     let second = [
-        0xff01_0113,
-        0x0011_2623,
-        0x0100_0337,
-        0x0103_00e7,
-        0x00c1_2083,
-        0x0101_0113,
-        0x0000_8067,
+        0xff010113, 0x00112623, 0x01000337, 0x010300e7, 0x00c12083, 0x01010113, 0x00008067,
     ];
     let parts: [Part<'_>; 2] = [
         (
@@ -435,7 +392,7 @@ fn ends_through_the_gate(rt: HostRuntime) -> Result<(), Fail> {
     // jalr x0,1(x1)
     let mut machine = loaded(
         rt.alloc(),
-        alone(rt.alloc(), true, &[0x0010_8067], &[])?,
+        alone(rt.alloc(), true, &[0x00108067], &[])?,
         &[],
         9,
     )?;
