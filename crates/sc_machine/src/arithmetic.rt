@@ -1,5 +1,6 @@
 //! The instructions that only compute (RISC-V Unprivileged ISA, chapters "RV32I Base Integer
 //! Instruction Set" and "M Extension").
+#![tactic(auto, unfolding(sc_image::specs::Step::execute_by))]
 
 ghost use Rattle.sc_machine.specs.Prelude.{Goes, ImageParts, Instr, State, at, compares, computed, execute};
 ghost use Rattle.sc_machine.specs.Prelude.{on_registers, shift_on_registers};

@@ -1,4 +1,5 @@
 //! Calls of other compartments.
+#![tactic(auto, unfolding(sc_image::specs::Step::execute_by))]
 
 ghost use Rattle.sc_machine.specs.Prelude.{IsCallee, IsReady, IsWellFormed, LeavesSound, Memory, State, StaysSound};
 ghost use Rattle.sc_machine.specs.Prelude.{Traps, arguments, called, calls, comp_of_code, entered, export_at};

@@ -1,4 +1,5 @@
 //! Calls of the environment.
+#![tactic(auto, unfolding(sc_image::specs::Step::execute_by))]
 
 ghost use Rattle.sc_machine.specs.Prelude.{Goes, IsReady, LeavesSound, Memory, StaysSound, environment_call, input};
 ghost use Rattle.sc_machine.specs.Prelude.{input_at, may_input, may_output, next, outcome_of, output, state_in};

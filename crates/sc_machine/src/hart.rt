@@ -1,4 +1,5 @@
 //! The state that instructions change, apart from memory.
+#![tactic(auto, unfolding(sc_image::specs::Step::execute_by))]
 
 ghost use Rattle.sc_machine.specs.Prelude.{IsReg, add_word, advanced, linked, word_of, written, written_at_next};
 ghost use Rattle.std.specs.Prelude.{◌≡◌, ◌+◌, ◌^◌, ◌<◌, ◌≤◌, ◌++◌, ◌∷◌, [], length, slice_index, vec_capacity};

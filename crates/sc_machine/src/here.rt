@@ -1,5 +1,6 @@
 //! The compartment whose code runs. What instructions need of it is looked up once, until another
 //! compartment's code runs.
+#![tactic(auto, unfolding(sc_image::specs::Step::execute_by))]
 
 ghost use Rattle.std.specs.List.{HoldsAt};
 ghost use Rattle.std.specs.Prelude.{IfSome, ◌≡◌, ◌+◌, ◌*◌, ◌^◌, ◌<◌, ◌≤◌, length, OnSome, IsTrue};

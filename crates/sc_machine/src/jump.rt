@@ -1,4 +1,5 @@
 //! Jumps and branches, and what lies beyond the own code.
+#![tactic(auto, unfolding(sc_image::specs::Step::execute_by))]
 
 ghost use Rattle.sc_machine.specs.Prelude.{Instr, IsReady, IsReg, LeavesSound, Memory, State, Traps, add_word, at};
 ghost use Rattle.sc_machine.specs.Prelude.{calls, comp_in, execute, jump, outcome_of, state_in, word_of};

@@ -1,4 +1,5 @@
 //! What holds of runs as a whole.
+#![tactic(auto, unfolding(sc_image::specs::Step::execute_by))]
 
 ghost use Rattle.sc_machine.specs.Prelude.{ImageParts, machine};
 ghost use Rattle.std.specs.Prelude.{◌≡◌, ℕ, ◌+◌, ℤ, List, ◌∷◌, sum};

@@ -1,6 +1,6 @@
 //! The machine that runs images. Its runs are those of the images' meaning, in however many pieces
 //! they are taken, and take no memory.
-#![tactic(auto, unfolding(sc_image::specs::Step::execute_by))]
+#![tactic(auto)]
 
 mod arithmetic;
 mod calling;

@@ -1,4 +1,5 @@
 //! The state that a run starts in.
+#![tactic(auto, unfolding(sc_image::specs::Step::execute_by))]
 
 ghost use Rattle.sc_machine.specs.Prelude.{HasBytes, HasRoom, IsSound, stack_tops, start, start_memory, state_in};
 ghost use Rattle.sc_machine.specs.Prelude.{zeros};

@@ -1,4 +1,5 @@
 //! Machines, and their runs in pieces.
+#![tactic(auto, unfolding(sc_image::specs::Step::execute_by))]
 
 ghost use Rattle.std.specs.Prelude.{◌≡◌, ◌<◌, ◌↔◌, length, map, IfOk, IfErr, IsSome, IsTrue};
 ghost use Rattle.sc_word.specs.Word.{word_of};

@@ -1,4 +1,5 @@
 //! Loads and stores, through whatever keeps the bytes.
+#![tactic(auto, unfolding(sc_image::specs::Step::execute_by))]
 
 ghost use Rattle.sc_machine.specs.Prelude.{HasBytes, IsBacked, State, active_in, at, extended, load, load_of};
 ghost use Rattle.sc_machine.specs.Prelude.{load_size, outcome_of, refused, start_memory, store, store_size, stored};

@@ -1,4 +1,5 @@
 //! What belongs to one compartment.
+#![tactic(auto, unfolding(sc_image::specs::Step::execute_by))]
 
 ghost use Rattle.std.specs.Prelude.{◌≡◌, ◌↔◌, ◌<◌, length, IsSome, IsTrue};
 ghost use Rattle.sc_image.specs.Layout.{are_data};

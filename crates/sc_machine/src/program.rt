@@ -1,4 +1,5 @@
 //! A loaded image, with what its compartments may call.
+#![tactic(auto, unfolding(sc_image::specs::Step::execute_by))]
 
 ghost use Rattle.std.specs.Prelude.{◌≡◌, All, IfOk, IfErr, IfSome, IsTrue};
 ghost use Rattle.sc_image.specs.Calls.{imports_of, may_call};

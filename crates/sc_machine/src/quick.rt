@@ -1,5 +1,6 @@
 //! Instructions that show nothing and go on in the own code. Why a run stops before another step, and
 //! which compartment's code runs, is the same after them.
+#![tactic(auto, unfolding(sc_image::specs::Step::execute_by))]
 
 ghost use Rattle.sc_machine.specs.Prelude.{Goes, IsBacked, IsReg, Outcome, State, at, comp_in, execute, jump, running};
 ghost use Rattle.std.specs.Prelude.{◌≡◌, ◌+◌, ◌^◌, ◌<◌, ℕ, List, false, IsTrue};

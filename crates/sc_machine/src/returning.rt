@@ -1,4 +1,5 @@
 //! Returns through the gate.
+#![tactic(auto, unfolding(sc_image::specs::Step::execute_by))]
 
 ghost use Rattle.sc_machine.specs.Prelude.{IsReady, Memory, StaysSound, a0, has_result, resumed, returned, state_in};
 ghost use Rattle.std.specs.Prelude.{◌≡◌, Some, None, if◌then◌else◌, slice_index};

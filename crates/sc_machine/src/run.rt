@@ -1,4 +1,5 @@
 //! A run: steps until something stops it.
+#![tactic(auto, unfolding(sc_image::specs::Step::execute_by))]
 
 ghost use Rattle.sc_machine.specs.Prelude.{CanRun, Run, is_ended, run, state_in, stopped, word_of};
 ghost use Rattle.std.specs.Prelude.{◌≡◌, map};
