@@ -1,4 +1,4 @@
-//! Names, events, blocks and command lines as one sees them from outside. This crate has tests alone.
+//! Names, events, blocks, command lines and reports as one sees them from outside. This crate has tests alone.
 #![tactic(auto)]
 
 #[cfg(test)]
@@ -11,3 +11,5 @@ mod command_line;
 mod edge;
 #[cfg(test)]
 mod event;
+#[cfg(test)]
+mod report;

@@ -14,6 +14,8 @@ mod machine;
 #[cfg(test)]
 mod meaning;
 #[cfg(test)]
+mod refusal;
+#[cfg(test)]
 mod runs;
 #[cfg(test)]
 mod words;

@@ -8,9 +8,15 @@ fn words_that_are_no_command_leave_the_input_unread(rt: HostRuntime) -> Result<(
     let cases = [
         "",
         "meaning x",
+        "meanings",
         "--help",
+        "run --help",
+        "run --events 4097",
+        "meaning --events 1 --events 1",
         "run --",
         "run --in -5",
+        "run --ev 1",
+        "explain --show 33",
         "make --size 1",
     ];
     for words in cases {

@@ -21,6 +21,87 @@ int x;
     ),
 ];
 
+// A text, the first phase that it fails, and the line.
+const REFUSED: [(&[u8], Phase, u32); 8] = [
+    // A compartment line stands inside the comment, so the comment has no end.
+    (
+        b"/*
+#pragma compartment Main
+*/
+",
+        Phase::Lex,
+        1,
+    ),
+    // A bad compartment line comes before an earlier bad byte.
+    (
+        b"@
+#pragma compartment 1
+",
+        Phase::Lex,
+        2,
+    ),
+    (
+        b"
+#pragma compartment A
+
+#
+@
+",
+        Phase::Lex,
+        4,
+    ),
+    // A bad byte of a later section comes before a token that can't go on.
+    (
+        b"#pragma compartment A
+int;
+#pragma compartment B
+@
+",
+        Phase::Lex,
+        4,
+    ),
+    // The preamble has no token.
+    (
+        b"
+int x;
+#pragma compartment A
+int;
+",
+        Phase::Syntax,
+        2,
+    ),
+    // The first bad section decides.
+    (
+        b"#pragma compartment A
+#pragma compartment B
+int;
+#pragma compartment C
+x;
+",
+        Phase::Syntax,
+        3,
+    ),
+    // Where a section ends early, its last token decides.
+    (
+        b"
+#pragma compartment A
+int f(void) {
+  return 0;
+
+",
+        Phase::Syntax,
+        4,
+    ),
+    (
+        b"
+
+#pragma compartment A
+)",
+        Phase::Syntax,
+        4,
+    ),
+];
+
 #[test]
 fn sections_have_their_lines(rt: HostRuntime) -> Result<(), Fail> {
     for (text, lines) in READ {
@@ -32,6 +113,14 @@ fn sections_have_their_lines(rt: HostRuntime) -> Result<(), Fail> {
         assert!(rt; found.as_slice() == lines);
     }
     Ok(())
+}
+
+#[test]
+fn the_first_phase_that_a_text_fails(rt: HostRuntime) {
+    for (text, phase, line) in REFUSED {
+        let fault = read_trees(rt.alloc(), text).err();
+        assert!(rt; fault == Some(TextFault::Refused(Refusal { phase, line })));
+    }
 }
 
 // A section with a declaration, and its height.
@@ -66,6 +155,28 @@ fn the_heights_of_sections(rt: HostRuntime) -> Result<(), Fail> {
     for (declaration, height) in HEIGHTS {
         assert_eq!(rt; height_of(rt.alloc(), declaration)?, Some(height));
     }
+    Ok(())
+}
+
+// A function with so many `while`, each within the one before.
+fn nested(alloc: Global, depth: usize) -> Result<Vec<u8>, Fail> {
+    let mut text = Vec::from_slice(alloc, b"void f(void) { ")?;
+    for _ in 0..depth {
+        text.extend_from_slice(b"while (a) {")?;
+    }
+    for _ in 0..depth {
+        text.push(b'}')?;
+    }
+    text.push(b'}')?;
+    Ok(text)
+}
+
+#[test]
+fn a_section_is_at_most_256_high(rt: HostRuntime) -> Result<(), Fail> {
+    let highest = nested(rt.alloc(), 255)?;
+    assert_eq!(rt; height_of(rt.alloc(), &highest)?, Some(256));
+    let higher = nested(rt.alloc(), 256)?;
+    assert_eq!(rt; height_of(rt.alloc(), &higher)?, None);
     Ok(())
 }
 
