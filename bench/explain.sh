@@ -1,8 +1,8 @@
 #!/bin/sh
 # Times `secomp explain` on texts whose chains have 0, 1, 8 and 31 links, against its parts: `run` on the text, and
-# `meaning` on each text of the chain, with as many turns as the machine may take steps and as many events as it showed.
+# `meaning` on each text of the chain, with as many turns as the machine may take steps and as many events as it emitted.
 # In each text `Main` runs 620,000 rounds of a loop, in as many parts as the chain has texts, and after each but the
-# last calls a compartment that stores behind the end of an array. Then it shows the most memory of `explain` at two
+# last calls a compartment that stores past the end of an array. Then it prints the most memory of `explain` at two
 # numbers of steps, on a text whose `Main` loops for ever once it has called such a compartment.
 # Usage: bench/explain.sh [PROGRAM]. PROGRAM is a built secomp (by default what ./secomp builds and proves first). An
 # unproved build is some thousand times slower.
@@ -14,7 +14,7 @@ work=$(mktemp -d)
 trap 'rm -rf "$work"' EXIT
 steps=16777216
 
-# a program with so many links, whose loops have so many rounds in all; 0 rounds: it loops for ever at its end
+# a program with $1 links, whose loops have $2 rounds in all; 0 rounds: it loops for ever at its end
 text() {
     awk -v links="$1" -v rounds="$2" 'BEGIN {
         print "#pragma compartment Main"

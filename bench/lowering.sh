@@ -15,7 +15,7 @@ mkdir -p "$work/crates/bench_lowering/src"
 cp "$top/bench/lowering_main.txt" "$work/crates/bench_lowering/src/main.rt"
 (cd "$work/crates/bench_lowering" && rt run < /dev/null > "$work/log" 2>&1) || { tail "$work/log"; exit 1; }
 
-# a program of at most so many bytes
+# a program of at most $1 bytes
 text() {
     awk -v most="$1" 'BEGIN {
         size = out(0, "#pragma compartment Main\nint table[16];\nint f0(int a, int b) {\n  return a + b;\n}\n")

@@ -1,8 +1,8 @@
 #!/bin/sh
-# Shows the most memory that `secomp run` and `secomp exec` have on a program of 32 compartments with the largest globals,
+# Prints the most memory that `secomp run` and `secomp exec` have on a program of 32 compartments with the largest globals,
 # 458,752 bytes each, of which each compartment but `Main` stores in the first N pages: 0, 1, 16 and all 112.
 # Usage: bench/memory.sh [PROGRAM]. PROGRAM is a built secomp (by default what ./secomp builds and proves first). An
-# unproved build has other figures. `compile` shows what the image alone takes, which `exec` has beside the machine's pages.
+# unproved build has other figures. `compile` shows what the image by itself takes, which `exec` has beside the machine's pages.
 set -e
 top=$(cd "$(dirname "$0")/.." && pwd)
 program=${1:-$top/secomp}
@@ -10,7 +10,7 @@ work=$(mktemp -d)
 trap 'rm -rf "$work"' EXIT
 steps=16777216
 
-# a program whose 31 compartments store once in each of so many pages
+# a program whose 31 compartments store once in each of $1 pages
 text() {
     awk -v pages="$1" 'BEGIN {
         print "#pragma compartment Main"

@@ -1,6 +1,7 @@
 #!/bin/sh
-# Times `secomp explain --show 32` on a program of 32 compartments whose machine shows 4,096 events. Each compartment commits
-# undefined behaviour in its first call, so each one's section is replaced by a text that performs its part of all events.
+# Times `secomp explain --show 32` on a program of 32 compartments for which the machine emits 4,096 events. Each
+# compartment commits undefined behaviour in its first call, so each one's section is replaced by a text that performs its
+# part of all events.
 # Usage: bench/replace.sh [PROGRAM [FOLDER]]. PROGRAM is a built secomp (by default what ./secomp builds and proves first).
 # FOLDER (by default a new one) gets a copy of the crates and a program over them, which is proved and built there; where it
 # has bench_replace, that program is taken.

@@ -1,6 +1,6 @@
 # For the benchmarks of `check` and `compile`: texts of small functions, and what a command takes on one. $work is a folder.
 
-# a program of at most so many bytes
+# a program of at most $1 bytes
 text() {
     awk -v most="$1" 'BEGIN {
         size = 0; n = 0

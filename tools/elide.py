@@ -2,7 +2,7 @@
 """Leaves out of a crate's lemmas what follows from the rest: tries `_` in place of long arguments, and no type where one stands
 at a `let` or at the variable of a λ, and keeps what the prover still accepts. Statements stay as they are.
 
-usage, at the top of the repository: tools/elide.py CRATE [ROUNDS]     ROUNDS: at most so many checks (60)
+usage, at the top of the repository: tools/elide.py CRATE [ROUNDS]     ROUNDS: the most checks (60)
 
 It tries all at once and withdraws, check by check, what an error points at, until none is left; a lemma that still fails goes
 back as it was. A check reads all files of proofs/ but the answers and takes seconds to a minute, through tools/lemmas.py, so
@@ -37,14 +37,14 @@ def depth_of(line):
 
 
 def block_end(lines, at, indent):
-    """The line behind those that are indented deeper."""
+    """The line after those that are indented deeper."""
     while at < len(lines) and lines[at].strip() and depth_of(lines[at]) > indent:
         at += 1
     return at
 
 
 def equations_end(lines, at, indent, name):
-    """The line behind the equations of a name."""
+    """The line after the equations of a name."""
     own = re.compile(" " * indent + re.escape(name) + r"(\s|$)")
     while at < len(lines) and own.match(lines[at]) and not SIGNATURE.match(lines[at]):
         at += 1
@@ -84,7 +84,7 @@ def lemmas(text):
 
 
 def closing(text, at, end):
-    """The place behind the bracket that closes the one at a place."""
+    """The place after the bracket that closes the one at a place."""
     depth = 0
     for k in range(at, end):
         depth += (text[k] in "([{") - (text[k] in ")]}")

@@ -8,10 +8,10 @@ It writes three kinds of files that declare nothing and pass names on by `pub us
 and gives each file one line of them in place of the lines that they stand for. Prelude.antt serves the crate's own src/ and proofs/ and the crates above.
 
 With --no-code it leaves .rt files as they are that cite none of ours (the other files come out the same).
-With names of crates it writes in those crates' folders alone, and each crate's Prelude.antt as if it had written in all.
+With names of crates it writes only in those crates' folders, and each crate's Prelude.antt as if it had written in all.
 It begins, in memory, by undoing what an earlier run did, so that a run on its own result changes nothing. A name keeps its meaning: where two
 things of one spelling are cited in a folder, one file passes on that which more files cite, and the other's lines stay.
-It leaves alone: modules (`use M as x`), lines of files of the same folder, lines that begin at the name that another line brings, `pub use` lines, imports
+It leaves as they are: modules (`use M as x`), lines of files of the same folder, lines that begin at the name that another line brings, `pub use` lines, imports
 that are indented, generated contracts, names that are spelled like a library, and a file of one of those names that somebody else wrote.
 """
 import collections
@@ -38,7 +38,7 @@ Import = collections.namedtuple("Import", "number before module pairs")
 
 
 def pairs_of(inside):
-    """The names of a group, each with its other name behind `as`, if it has one."""
+    """The names of a group, each with its other name after `as`, if it has one."""
     split = [it.strip().partition(" as ") for it in inside.split(",") if it.strip()]
     return [(name.strip(), other.strip() or None) for name, _, other in split]
 
@@ -144,7 +144,7 @@ class Repository:
                     self.knotted.add(text.crate)
 
     def in_order(self):
-        """The crates, each behind those below it."""
+        """The crates, each after those below it."""
         done = []
 
         def add(crate):
@@ -203,11 +203,11 @@ class Repository:
         return names, unfoldable
 
     def may_unfold(self, module, name):
-        """Whether who has the name from the module may unfold it, as far as can be told: of a module that has no file here, as those that are made from types, all that is unfolded."""
+        """Whether who has the name from the module may unfold it, as far as can be known: of a module that has no file here, as those that are made from types, all that is unfolded."""
         return self.file_of(module) is None or name in self.passed(module)[1]
 
     def undo(self, text):
-        """Gives the file the lines that stand behind its lines of our files."""
+        """Gives the file the lines that its lines of our files stand for."""
         for it in reversed(list(text.imports())):
             path = self.file_of(it.module)
             if it.before == text.mark and path and self.is_ours(path):
@@ -226,7 +226,7 @@ class Repository:
 
     @functools.lru_cache(None)
     def thing(self, module, name):
-        """A thing by the module and name under which it is declared, as far as files tell it, and the name that is said for it."""
+        """A thing by the module and name under which it is declared, as far as files say, and the name that is said for it."""
         at, own = module, name
         for _ in range(20):
             step = self.passed(at)[0].get(own)
@@ -247,7 +247,7 @@ class Repository:
         return fixed
 
     def owner(self, thing):
-        """The crate of the repository a file of whose specs declares the thing. (Made from a type it has none: other crates get it by its own module alone.)"""
+        """The crate of the repository a file of whose specs declares the thing. (Made from a type it has none: other crates get it only by its own module.)"""
         steps = thing.module.split(".")
         return steps[1] if steps[0] == "Rattle" and steps[1] in self.below and steps[2] == "specs" and steps[3] != "declared" else None
 

@@ -6,8 +6,8 @@ below it. The sessions of each document below are written, with the texts that t
 crates/example_tests/src/sessions.rt, whose tests run them over the program. With --check nothing is written, and the
 status is 1 where that file isn't what the documents and the examples give.
 
-What stands behind `> NAME` is kept as NAME. It is known from the document too: `tail -n N NAME` shows its last section,
-and all before is as in FILE. What stands behind `| examples/draw` is drawn here, and compared with the next block
+What follows `> NAME` is kept as NAME. It is known from the document too: `tail -n N NAME` shows its last section,
+and all before is as in FILE. What follows `| examples/draw` is drawn here, and compared with the next block
 marked `mermaid`.
 """
 import re

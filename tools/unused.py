@@ -5,7 +5,7 @@ nor anything else that they cite.
 usage: tools/unused.py [REPO]     prints FILE NAME LINES, and the sum
 
 Answers and invariants of functions count as cited, as do the files of EXAMPLES, which compute what the definitions say.
-Names are told apart by file and import; a name that a contract writes stands for each definition so called in specs/.
+Names are distinguished by file and import; a name that a contract writes stands for each definition so called in specs/.
 """
 import glob
 import os

@@ -127,7 +127,7 @@ impl Draft<'_> {
     }
 }
 
-/// A trace of at most so many events.
+/// A trace of at most `most` events.
 pub fn drawn(
     alloc: Global,
     interfaces: &Interfaces,

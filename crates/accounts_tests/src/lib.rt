@@ -1,5 +1,5 @@
-//! Explanations, and texts in which compartments perform, by runs of the whole program in memory. This crate has tests
-//! alone.
+//! Explanations, and texts in which compartments perform, by runs of the whole program in memory. This crate has only
+//! tests.
 #![tactic(auto)]
 
 #[cfg(test)]

@@ -1,4 +1,4 @@
-// The text that tells a run, written from the format of its lines.
+// The text that reports a run, written from the format of its lines.
 use sc_base::{OutOfMemory, Text};
 use sc_core::{RunEnd, SourceRun};
 use sc_event::{CompId, Event, Interfaces};

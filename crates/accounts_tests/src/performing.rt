@@ -15,7 +15,7 @@ use std::test::Fail;
 // The most events of a trace that a text performs.
 const LIMIT: usize = 4096;
 
-// Up to here each front of a trace is looked at, from here on those twice as long.
+// Up to this length each prefix of a trace is tried; beyond it the lengths double.
 const CLOSE: usize = 64;
 
 // A trace of a program, and what is read.
@@ -26,10 +26,10 @@ struct Matter<'a> {
     trace: &'a [Event],
 }
 
-// How many traces no run shows of each program.
+// How many traces that no run emits are drawn for each program.
 const SEEDS: u32 = 3;
 
-// What the program tells of the text in which a set performs, beside what the source gives where the set performs.
+// What the program reports of the text in which a set performs, beside what the source gives where the set performs.
 #[derive(Clone, Copy, PartialEq, Eq)]
 enum Verdict {
     Same,
@@ -37,7 +37,7 @@ enum Verdict {
     NotLegal,
 }
 
-// What the program tells of a text.
+// Whether this is what the program reports of a text.
 fn is_told(alloc: Global, matter: &Matter, text: &[u8], want: &[u8]) -> Result<bool, Fail> {
     let (events, turns) = (behind(matter.trace), turns(matter.trace));
     let word = matter.inputs.word;
@@ -46,7 +46,7 @@ fn is_told(alloc: Global, matter: &Matter, text: &[u8], want: &[u8]) -> Result<b
     Ok(ran.status == 0 && ran.out.as_slice() == want)
 }
 
-// Turns enough for the trace, and some behind it. `second_meaning` has stack for so many calls within each other.
+// Turns enough for the trace, and some after it. `second_meaning` has stack for this number of nested calls.
 fn turns(trace: &[Event]) -> u32 {
     match u32::try_from(trace.len()) {
         Ok(events) => events.wrapping_mul(2).wrapping_add(200),
@@ -54,7 +54,7 @@ fn turns(trace: &[Event]) -> u32 {
     }
 }
 
-// So many events that what is behind a trace is seen too.
+// A bound on events that lets what follows a trace be seen too.
 fn behind(trace: &[Event]) -> u32 {
     match u32::try_from(trace.len().saturating_add(2).min(LIMIT)) {
         Ok(events) => events,
@@ -90,7 +90,7 @@ fn judge(alloc: Global, matter: &Matter, set: CompSet) -> Result<Verdict, Fail> 
     }
 }
 
-// The length of the front that is looked at next.
+// The length of the prefix that is tried next.
 fn next_length(length: usize) -> usize {
     if length < CLOSE {
         return length.wrapping_add(1);
@@ -98,7 +98,7 @@ fn next_length(length: usize) -> usize {
     length.wrapping_mul(2)
 }
 
-// The lengths of the fronts that are looked at.
+// The lengths of the prefixes that are tried.
 fn lengths(alloc: Global, whole: usize) -> Result<Vec<usize>, OutOfMemory> {
     let mut lengths = Vec::new(alloc);
     let mut length: usize = 0;
@@ -113,7 +113,7 @@ fn lengths(alloc: Global, whole: usize) -> Result<Vec<usize>, OutOfMemory> {
     Ok(lengths)
 }
 
-// For how many fronts of a trace both are the same, `None` where they differ for one.
+// For how many prefixes of a trace both are the same, `None` where they differ for one.
 fn same_fronts(alloc: Global, matter: &Matter, set: CompSet) -> Result<Option<u32>, Fail> {
     let mut count: u32 = 0;
     for length in lengths(alloc, matter.trace.len())? {
@@ -134,7 +134,7 @@ fn same_fronts(alloc: Global, matter: &Matter, set: CompSet) -> Result<Option<u3
     Ok(Some(count))
 }
 
-// For how many fronts and sets of compartments they are.
+// For how many prefixes and sets of compartments they are.
 fn same_sets(alloc: Global, matter: &Matter) -> Result<Option<u32>, Fail> {
     let mut count: u32 = 0;
     let comps = matter.source.program().interfaces().comps.len();
@@ -186,7 +186,7 @@ fn same_of_long(alloc: Global) -> Result<Option<u32>, Fail> {
     Ok(Some(count))
 }
 
-// For how many they are in traces that no run shows.
+// For how many they are in traces that no run emits.
 fn same_of_drawn(alloc: Global) -> Result<Option<u32>, Fail> {
     let mut count: u32 = 0;
     for seed in 1..=SEEDS {

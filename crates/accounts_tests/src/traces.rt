@@ -14,7 +14,7 @@ const STEPS: u32 = 100_000;
 // The events of runs: the most that the law speaks of.
 const EVENTS: u32 = 4096;
 
-// The most events of traces that no run shows.
+// The most events of traces that no run emits.
 const DRAWN: usize = 24;
 
 /// What a run reads, as numbers and as a word of the command line.
@@ -64,7 +64,7 @@ const TAIL: &[u8] = b"  return 0;\n}\n";
 
 const RETURN: &[u8] = b"#pragma compartment Main\nint main(void) {\n  return ";
 
-/// Long and deep programs: as many outputs as a run shows by default, one less, a text of the greatest length, and
+/// Long and deep programs: as many outputs as a run may emit by default, one less, a text of the greatest length, and
 /// operators and brackets up to the greatest height.
 pub const LONG: [&[Repeated]; 5] = [
     &[(HEAD, 1), (OUTPUT, 1024), (TAIL, 1)],

@@ -101,7 +101,7 @@ fn no_words(rt: HostRuntime) {
     assert!(rt; matches!(read_command(rt.alloc(), &[]), Err(WordsFault::Usage)));
 }
 
-// A list of so many zeros.
+// A list of `count` zeros.
 fn zeros(alloc: Global, count: usize) -> Result<String, AllocError> {
     let mut list = String::from_str(alloc, "--in=0")?;
     for _ in 1..count {

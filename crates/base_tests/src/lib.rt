@@ -1,4 +1,4 @@
-//! Names, events, blocks, command lines and reports as one sees them from outside. This crate has tests alone.
+//! Names, events, blocks, command lines and reports as one sees them from outside. This crate has only tests.
 #![tactic(auto)]
 
 #[cfg(test)]

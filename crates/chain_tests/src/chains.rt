@@ -130,7 +130,7 @@ struct Tally {
     long: u32,
 }
 
-// The tally of so many programs from a seed on, `None` where a text of a chain isn't as the account says.
+// The tally of `count` programs from seed `first` on, `None` where a text of a chain isn't as the account says.
 fn counted(alloc: Global, first: u32, count: u32) -> Result<Option<Tally>, Fail> {
     let mut tally = Tally { faults: 0, long: 0 };
     for number in 0..count {
@@ -143,7 +143,7 @@ fn counted(alloc: Global, first: u32, count: u32) -> Result<Option<Tally>, Fail>
     Ok(Some(tally))
 }
 
-// Whether each chain of so many programs is as its account says, and enough of them have links.
+// Whether each chain of `count` programs is as its account says, and enough of them have links.
 fn are_accounted(alloc: Global, first: u32, count: u32) -> Result<bool, Fail> {
     match counted(alloc, first, count)? {
         Some(tally) => Ok(tally.faults >= 100 && tally.long >= 30),

@@ -1,4 +1,4 @@
-//! Explanations of generated programs, looked at from outside. This crate has tests alone.
+//! Explanations of generated programs, looked at from outside. This crate has only tests.
 #![tactic(auto)]
 
 #[cfg(test)]

@@ -1,4 +1,4 @@
-// What generated programs mean, and what the machine shows on them.
+// What generated programs mean, and the machine's traces of them.
 use chain_texts::{EVENTS, FIRST, STEPS, generated};
 use sc_compile::compile;
 use sc_core::RunEnd;
@@ -9,7 +9,7 @@ use sc_types::SourceText;
 use std::alloc::Global;
 use std::test::Fail;
 
-// How a program's meaning ends, and whether the machine shows the same.
+// How a program's meaning ends, and whether the machine's trace is the same.
 #[derive(Clone, Copy, PartialEq, Eq)]
 enum Outcome {
     Refused,

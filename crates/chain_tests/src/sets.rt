@@ -53,7 +53,7 @@ fn are_told_rightly(alloc: Global, seed: u32) -> Result<bool, Fail> {
     Ok(true)
 }
 
-// Whether that is so for so many programs from a seed on.
+// Whether that is so for `count` programs from seed `first` on.
 fn are_all_told_rightly(alloc: Global, first: u32, count: u32) -> Result<bool, Fail> {
     for number in 0..count {
         if !are_told_rightly(alloc, first.wrapping_add(number))? {

@@ -144,7 +144,7 @@ fn append_body(text: &mut Text, draws: &mut Draws, place: Place) -> Result<(), O
     append_statements(text, draws, 2)
 }
 
-// The section of a compartment behind `Main`.
+// The section of a compartment after `Main`.
 fn append_section(text: &mut Text, draws: &mut Draws, place: Place) -> Result<(), OutOfMemory> {
     append_name(text, b"#pragma compartment ", place.name, b"\n")?;
     append_name(text, b"#pragma export f", place.name, b"\n")?;

@@ -1,4 +1,4 @@
-//! Texts of programs for the crates that are tests alone: those that several of them run, and others from a seed.
+//! Texts of programs for the crates that have only tests: those that several of them run, and others from a seed.
 #![tactic(auto)]
 
 mod generate;

@@ -24,7 +24,7 @@ struct Loop<'a> {
     next: &'a [TacStmt],
 }
 
-// How control leaves a loop behind a part of it, if it does.
+// How control leaves a loop after a part of it, if it does.
 fn left(exit: Exit) -> Option<Exit> {
     match exit {
         Exit::Next | Exit::Continue => None,
@@ -67,7 +67,7 @@ impl<'a> Run<'a> {
         Ok(value)
     }
 
-    // A call of another compartment is told, and so is its return.
+    // A call of another compartment emits an event, and so does its return.
     #[cycle(calls)]
     fn cross(
         &mut self,
@@ -185,7 +185,7 @@ impl<'a> Run<'a> {
         Ok(())
     }
 
-    // Each round of a loop takes a turn behind its head.
+    // Each round of a loop takes a turn after its head.
     #[cycle(calls)]
     fn rounds(&mut self, fuel: u32, frame: &mut Frame, parts: &Loop<'a>) -> Result<Exit, Halt> {
         let below = less(fuel)?;

@@ -1,5 +1,5 @@
-//! What three-address code means where each operator on words gives one, told a second time and in another way, for the
-//! crates that are tests alone: by recursion, over one memory for all compartments.
+//! What three-address code means where each operator on words gives one, implemented a second time and in another way,
+//! for the crates that have only tests: by recursion, over one memory for all compartments.
 #![tactic(auto)]
 
 mod arithmetic;

@@ -23,7 +23,7 @@ fn on_words(op: BinaryOp, scalar: Scalar, left: Value, right: Value) -> Result<V
     }
 }
 
-// So many elements forth or back.
+// How many elements a pointer is moved by: forwards, or backwards for `minus`.
 fn elements(minus: bool, index: Scalar, by: Value) -> Result<i64, Cause> {
     let Value::Word(word) = by else {
         return Err(Cause::BadType);

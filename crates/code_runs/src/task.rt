@@ -7,7 +7,7 @@ use sc_tac::{TacSections, TacTree};
 use second_meaning::{Halt, Memory, begin_section};
 use std::alloc::Global;
 
-/// More than calls and statements can be nested in a run of so many turns that the stack has room for it.
+/// More levels than calls and statements can nest in a run with few enough turns for the stack.
 const NESTED: u32 = 1_000_000_000;
 
 /// A program of code, its inputs, and how many turns and events there are.
@@ -50,7 +50,7 @@ fn start<'a>(alloc: Global, task: &CodeTask<'a>) -> Result<Run<'a>, OutOfMemory>
     })
 }
 
-// The first call of `main`, which takes no turn, and the end that is told of it.
+// The first call of `main`, which takes no turn, and the event that ends the run.
 fn main_end(run: &mut Run) -> Result<(), Halt> {
     let comp = run.program.interfaces.main;
     if run.events == 0 {

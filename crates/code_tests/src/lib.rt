@@ -1,4 +1,4 @@
-//! Three-address code, and what a compartment does in a trace. This crate has tests alone.
+//! Three-address code, and what a compartment does in a trace. This crate has only tests.
 #![tactic(auto)]
 
 #[cfg(test)]

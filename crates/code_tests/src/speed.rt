@@ -22,7 +22,7 @@ const BEGIN: &[u8] = b"#pragma compartment Main
 int table[16];
 ";
 
-// What stands behind the number in the name of a function.
+// What follows the number in the name of a function.
 const FUNCTION: &[u8] = b"(int a, int b) {
   int i;
   int sum = 0;
@@ -46,7 +46,7 @@ fn append_function(text: &mut Vec<u8>, number: u32) -> Result<(), OutOfMemory> {
     append(text, &[b"int f", &digits(number), FUNCTION])
 }
 
-// A program of so many small functions.
+// A program of `count` small functions.
 fn many_functions(alloc: Global, count: u32) -> Result<Vec<u8>, OutOfMemory> {
     let mut text = Vec::from_slice(alloc, BEGIN)?;
     for number in 0..count {

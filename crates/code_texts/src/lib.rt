@@ -1,4 +1,4 @@
-//! Texts of programs and their three-address code, for the crates that are tests alone.
+//! Texts of programs and their three-address code, for the crates that have only tests.
 #![tactic(auto)]
 
 mod code;

@@ -1,5 +1,5 @@
 //! The machine code of three-address code, run by the machine over places that the tests choose, beside what the code
-//! means. This crate has tests alone.
+//! means. This crate has only tests.
 #![tactic(auto)]
 
 #[cfg(test)]

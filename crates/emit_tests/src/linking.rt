@@ -1,4 +1,4 @@
-// The words of a section: the codes of its functions one behind the other, and each reference completed with the
+// The words of a section: the codes of its functions one after the other, and each reference completed with the
 // address of its target.
 use crate::placing::{Choice, code_by};
 use rv_code::{Immediate, Instr, JumpOffset, Reg, UpperImmediate, encode};
@@ -94,7 +94,7 @@ fn with_address(instr: Instr, pc: u32, address: u32) -> Option<Instr> {
     }
 }
 
-// What stands behind a LUI, with the low 12 bits of the address.
+// The instruction that follows a LUI, with the low 12 bits of the address.
 fn with_low(instr: Instr, address: u32) -> Option<Instr> {
     let imm = Immediate::new((address << 20).cast_signed() >> 20)?;
     match instr {
@@ -105,7 +105,7 @@ fn with_low(instr: Instr, address: u32) -> Option<Instr> {
 }
 
 impl Section {
-    /// A section with so many exports, whose functions have codes by such a choice.
+    /// A section with this number of exports, whose functions have codes by such a choice.
     pub fn new(
         alloc: Global,
         comp: CompId,
@@ -186,7 +186,7 @@ impl Section {
         Ok(())
     }
 
-    /// All words of a section with so many exports.
+    /// All words of a section with this number of exports.
     pub fn words(
         &self,
         alloc: Global,

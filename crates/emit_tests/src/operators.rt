@@ -201,7 +201,7 @@ const PAIRS: usize = 8;
 
 const TURNS: u32 = 100;
 
-// Whether the machine shows what an operator means on each pair, wherever its operands and results lie.
+// Whether the machine outputs what an operator means on each pair, wherever its operands and results lie.
 fn is_shown(alloc: Global, op: BinaryOp, scalar: Scalar, choices: &[Choice]) -> Result<bool, Fail> {
     let program = program(alloc, op, scalar)?;
     let task = CodeTask {

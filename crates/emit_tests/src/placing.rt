@@ -22,7 +22,7 @@ pub struct Choice {
     pub first_slot: u32,
 }
 
-/// Where slots begin: behind the return address; so that they cross the last offset that one instruction reaches; and
+/// Where slots begin: after the return address; so that they cross the last offset that one instruction reaches; and
 /// beyond it, across the first whose low 12 bits are small again.
 pub const FIRST_SLOTS: [u32; 3] = [1, 508, 1_020];
 
@@ -82,7 +82,7 @@ fn lay_slots(alloc: Global, first: u32, count: u32) -> Result<Offsets, OutOfMemo
     Ok(slots)
 }
 
-// A frame with so many slots from this word on, and objects of so many cells behind them.
+// A frame with `count` slots from the word `first` on, and after them objects of these sizes in cells.
 fn lay(alloc: Global, first: u32, count: u32, cells: &[u32]) -> Result<Option<Frame>, OutOfMemory> {
     let slots = lay_slots(alloc, first, count)?;
     let mut objects = Offsets::new(alloc);
@@ -98,7 +98,7 @@ fn lay(alloc: Global, first: u32, count: u32, cells: &[u32]) -> Result<Option<Fr
     }))
 }
 
-// Registers are given in turn: no temporary of the tests is read so long behind its assignment that it is lost.
+// Registers are taken in turn: no temporary of the tests is read so long after its assignment that it is lost.
 fn place_of(choice: Choice, temp: u32) -> Place {
     let further = temp - temp % 4;
     match choice.places[(temp % 4) as usize] {

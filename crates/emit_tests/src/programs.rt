@@ -354,7 +354,7 @@ int main(void) {
     ],
 );
 
-// The temporaries lie in registers alone, in slots alone, or in both in turn.
+// The temporaries lie only in registers, only in slots, or in both in turn.
 const PLACES: [[Place; 4]; 4] = [
     [Register(0), Register(1), Register(2), Register(3)],
     [Slot(0), Slot(1), Slot(2), Slot(3)],

@@ -1,4 +1,4 @@
-// Runs of programs of code on the machine, and what they show beside what the code means.
+// Runs of programs of code on the machine, and their traces beside what the code means.
 use crate::images::image_by;
 use crate::placing::Choice;
 use code_runs::{CodeTask, run_code};
@@ -30,7 +30,7 @@ fn run_by(
     Ok(Some(machine))
 }
 
-// Whether the machine shows these events where the temporaries lie by such a choice.
+// Whether the machine emits these events where the temporaries lie by such a choice.
 fn is_shown(alloc: Global, task: &CodeTask, meant: &[Event], choice: Choice) -> Result<bool, Fail> {
     match run_by(alloc, task, choice)? {
         None => Ok(false),
@@ -38,7 +38,7 @@ fn is_shown(alloc: Global, task: &CodeTask, meant: &[Event], choice: Choice) -> 
     }
 }
 
-/// What a program of code outputs and ends with, if the machine shows all that the code means, wherever the temporaries
+/// What a program of code outputs and ends with, if the machine emits all that the code means, wherever the temporaries
 /// lie.
 pub fn shown(alloc: Global, task: &CodeTask, choices: &[Choice]) -> Result<Option<Vec<u32>>, Fail> {
     let meant = run_code(alloc, task)?;

@@ -1,4 +1,4 @@
-//! The sessions that the documents show, run in memory. This crate has tests alone.
+//! The sessions that the documents show, run in memory. This crate has only tests.
 #![tactic(auto)]
 
 #[cfg(test)]

@@ -1,4 +1,4 @@
-//! Texts and what they must give, for the crates that are tests alone: their program, or the phase and the line at
+//! Texts and what they must give, for the crates that have only tests: their program, or the phase and the line at
 //! which they are refused.
 #![tactic(auto)]
 

@@ -17,7 +17,7 @@ pub struct Wrong {
     pub answer: Option<Refusal>,
 }
 
-// What stands before and behind each row of a table.
+// What stands before and after each row of a table.
 #[derive(Clone, Copy)]
 pub struct Frame {
     pub before: &'static [u8],

@@ -1,4 +1,4 @@
-//! Images, and machines that run them. This crate has tests alone.
+//! Images, and machines that run them. This crate has only tests.
 #![tactic(auto)]
 
 #[cfg(test)]

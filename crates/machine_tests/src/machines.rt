@@ -73,7 +73,7 @@ fn outputs_and_ends(rt: HostRuntime) -> Result<(), Fail> {
     let all = [Event::Out { comp, value: 7 }, Event::End { comp, value: 0 }];
     let no_import = trap(TrapReason::NoImport, 8);
     // Whether it may output, the room for events, and how many calls of how many steps; then why it
-    // stops, how many events it showed, how far the pc is, and a0.
+    // stops, how many events it emitted, how far the pc is, and a0.
     for (output, events, calls, steps, stop, observation, at, a0) in [
         (true, 10, 1, 0, StepsOut, 0, 0, 0),
         (true, 10, 1, 100, Ended, 2, 16, 0),
@@ -114,7 +114,7 @@ fn trap(reason: TrapReason, offset: u32) -> Stop
     }
 }
 
-// A half word is all that the compartment owns behind its stack, so the load of a word there traps.
+// A half word is all that the compartment owns above its stack, so the load of a word there traps.
 #[test]
 fn owns_a_half_word(rt: HostRuntime) -> Result<(), Fail> {
     // lhu a0,0(sp); lw a0,0(sp)
@@ -305,7 +305,7 @@ fn calls_and_returns(rt: HostRuntime) -> Result<(), Fail> {
     Ok(())
 }
 
-// Each compartment owns its own stack alone.
+// Each compartment owns only its own stack.
 #[test]
 fn owns_its_part(rt: HostRuntime) -> Result<(), Fail> {
     let image = pair(rt.alloc(), true, &CALL)?;

@@ -1,4 +1,4 @@
-//! Runs of the command `make`, in memory. This crate has tests alone.
+//! Runs of the command `make`, in memory. This crate has only tests.
 #![tactic(auto)]
 
 #[cfg(test)]

@@ -1,4 +1,4 @@
-//! Runs of the whole program over memory, for the crates that are tests alone.
+//! Runs of the whole program over memory, for the crates that have only tests.
 #![tactic(auto)]
 
 mod program;

@@ -1,4 +1,4 @@
-//! Pages of a pool, and stores over pages and over flat memory. This crate has tests alone.
+//! Pages of a pool, and stores over pages and over flat memory. This crate has only tests.
 #![tactic(auto)]
 
 #[cfg(test)]

@@ -24,7 +24,7 @@ int main(void) {
 }
 ";
 
-// The intervals of each function, one function behind the other.
+// The intervals of each function, one function after the other.
 fn ends_in(alloc: Global, code: &Tac) -> Result<Vec<Ends>, OutOfMemory> {
     let mut found = Vec::new(alloc);
     for section in code.tree().sections.as_slice() {
@@ -70,7 +70,7 @@ const END: &[u8] = b"  return x;
 }
 ";
 
-// Each of these statements has the same code, so its intervals are those of the one in front of it, further on.
+// Each of these statements has the same code, so its intervals are those of the one before it, further on.
 #[test]
 fn many_temporaries(rt: HostRuntime) -> Result<(), Fail> {
     let text = repeated(rt.alloc(), BEGIN, b"  x = x + 1;\n", 1_000, END)?;

@@ -1,5 +1,5 @@
-//! Where the values of functions lie: intervals, places, frames, and the machine code over them. This crate has tests
-//! alone.
+//! Where the values of functions lie: intervals, places, frames, and the machine code over them. This crate has only
+//! tests.
 #![tactic(auto)]
 
 #[cfg(test)]

@@ -180,7 +180,7 @@ const RETURNED: &[u8] = b"  return x;
 }
 ";
 
-// What a frame of so many slots takes, also where it doesn't fit: the return address, the slots and the cells of
+// What a frame of `slots` slots takes, also where it doesn't fit: the return address, the slots and the cells of
 // objects.
 fn frame_bytes(slots: u32, objects: &[u32]) -> u32 {
     let mut cells = slots.saturating_add(1);

@@ -8,7 +8,7 @@ use sc_tac::{Tac, TacFn};
 use std::alloc::Global;
 use std::test::Fail;
 
-// So many nodes a function has at most whose jumps reach over all of its code.
+// The most nodes of a function whose jumps reach over all of its code.
 const MOST_NODES: u32 = 10_922;
 
 /// The machine code of a function, counted, and its bounds.

@@ -16,7 +16,7 @@ const IMAGE: [u8; 35] = [
 
 const INPUTS: [i32; 3] = [1, 2, 3];
 
-// Room for so many events.
+// Room for this number of events.
 const EVENTS: u32 = 16;
 
 #[derive(Clone, Copy)]

@@ -3,7 +3,7 @@ use judged_texts::{DECLARATIONS, Row, WHOLE, wrong_rows};
 use sc_lex::Phase;
 use std::test::Fail;
 
-// Each stands behind a compartment line, and before `main`.
+// Each stands after a compartment line, and before `main`.
 const IN_A_SECTION: [Row; 29] = [
     // A function has at most 8 parameters, wherever it is declared.
     b"int f(int a, int b, int c, int d, int e, int f, int g, int h) { return h; }\n",

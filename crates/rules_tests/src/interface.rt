@@ -97,7 +97,7 @@ int main(void) { return 0; }
 @#pragma compartment Env
 #pragma compartment Env
 ",
-    // A missing `main` stands behind what is broken at a line.
+    // A missing `main` counts only where nothing is broken at a line.
     b"#pragma compartment A
 
 @#pragma compartment A
@@ -157,7 +157,7 @@ int f(void) { return 0; }
 #pragma compartment A
 int main(void) { return 0; }
 ",
-    // An import of what isn't exported well is broken at the export alone.
+    // An import of what isn't exported well is broken only at the export.
     b"#pragma compartment Main
 #pragma import A f
 int f(void);
@@ -395,7 +395,7 @@ void output(int v);
 int main(void) { return 0; }
 @#pragma compartment Env
 ",
-    // Imported functions take and give integers alone.
+    // Imported functions take and give only integers.
     b"#pragma compartment Main
 #pragma import A f
 @int f(int *p);
@@ -443,7 +443,7 @@ int main(void) { return 0; }
 ",
 ];
 
-// Each stands behind a compartment line, and before `main`.
+// Each stands after a compartment line, and before `main`.
 const IN_A_SECTION: [Row; 54] = [
     // The environment offers `input` and `output`.
     b"#pragma import Env input
@@ -529,7 +529,7 @@ int g(void) { return 0; }
     b"int f(int a); int f(int a); `int` f(void); int f(int a) { return a; }",
     b"int f(int a); `int` f(void); int f(int a) { return a; }",
     b"int f(int a); int g(void); `int` g(int a); int f(void);",
-    // Exported functions take and give integers alone.
+    // Exported functions take and give only integers.
     b"#pragma export f
 #pragma export g
 #pragma export h

@@ -1,5 +1,5 @@
 //! Texts that are accepted or refused by the rules of names, types, interfaces and numbers, with the line of each
-//! refusal. This crate has tests alone.
+//! refusal. This crate has only tests.
 #![tactic(auto)]
 
 #[cfg(test)]

@@ -3,7 +3,7 @@ use judged_texts::{DECLARATIONS, Row, WHOLE, wrong_rows};
 use sc_lex::Phase;
 use std::test::Fail;
 
-// Each stands behind a compartment line, and before `main`.
+// Each stands after a compartment line, and before `main`.
 const IN_A_SECTION: [Row; 81] = [
     // A name has at most one definition as a function or a global.
     b"int x; `int` x; @@ int x; `int` y, x; @@ `int` x, x; @@ int x = 1; `unsigned` int *x;",
@@ -103,7 +103,7 @@ int f(int *input) {
     b"int g(void) { return 0; }\nint f(int a) { int g; return 0; }\nint h(void) { return g(); }\n",
     // A prototype that nobody calls needs no definition.
     b"int g(int a);\nstruct S { int a; };\nstruct S h(struct S, struct S *);\n",
-    // A tag that is used is defined earlier, or is that of the struct being defined, behind a `*`.
+    // A tag that is used is defined earlier, or is that of the struct being defined, as the target of a pointer.
     b"`struct` S s; struct S { int a; }; @@ `struct` S *s; struct S { int a; }; @@ int x; `struct` S x2[3];",
     b"struct S { struct S *s; struct S **t, *u[3]; };\n",
     b"`struct` S { struct S s; }; @@ `struct` S { int a; struct S s[2]; }; @@ `struct` S { struct S *s, t; };",

@@ -63,7 +63,7 @@ const MOVES: [Row; 31] = [
     // A literal of value 0, which has no sign, goes into a pointer.
     b"p = 0; p = 0u; p = 0x0; p = 00; p = (0); p = ((0U)); t = 0; pp = 0; *pp = 0; s.next = 0;",
     b"@p = -0; @@p = +0; @@p = !1; @@p = 1; @@p = 1 - 1; @@p = 0 + 0; @@i = 0; p = i;",
-    // It is compared by `==` and `!=` alone.
+    // It is compared only by `==` and `!=`.
     b"i = p == 0; i = 0 == p; i = p != 0u; i = 0x0 != a; i = pp == (0); i = t == 0;",
     b"@i = p == -0; @@i = p == 1; @@i = 1 != p; @@i = p == i; @@i = p < 0; @@i = 0 >= p; @@i = p - 0;",
     b"@i = p == (p == p);",
@@ -99,7 +99,7 @@ const MOVES: [Row; 31] = [
     b"@int k = s; @@int k = 1, l = 2, *m = 3;",
 ];
 
-// Each stands behind a compartment line, and before `main`.
+// Each stands after a compartment line, and before `main`.
 const DECLARED: [Row; 43] = [
     // A global begins with an integer if it is one.
     b"int x = 5, y = -5, z = 4294967295u, w = 0xffffffff; unsigned int u = -1, v = 1;\n",
@@ -134,7 +134,7 @@ int *j(void) { int a[2]; return a; }
     b"int *f(int a) { `return` a; } @@ int *f(unsigned int *p) { `return` p; } @@ int *f(int **p) { `return` p; }",
     b"struct S { int a; }; struct S f(struct S s) { `return` s; }",
     b"struct S { int a; }; struct S f(void) { `return` 0; }",
-    // Behind `return` a called function has a result, which goes into this one.
+    // After `return` a called function has a result, which goes into this one.
     b"int f(void) { return g(1); }\nunsigned int g(int a) { return f(); }\nint *h(void) { return h(); }\n",
     b"void f(void) { `return` f(); } @@ void g(void) { } int f(void) { `return` g(); }",
     b"int g(void) { return 1; } void f(void) { `return` g(); }",

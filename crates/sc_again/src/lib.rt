@@ -1,4 +1,4 @@
-//! Programs that are read, printed, and read again. This crate has tests alone.
+//! Programs that are read, printed, and read again. This crate has only tests.
 #![tactic(auto)]
 
 #[cfg(test)]

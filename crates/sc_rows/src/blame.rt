@@ -4,7 +4,7 @@ use memory_runs::Run;
 use std::alloc::Global;
 use std::test::Fail;
 
-// What stands behind the compartment line. The last line, a comment, says what the run is blamed for. None of these
+// What follows the compartment line. The last line, a comment, says what the run is blamed for. None of these
 // runs has an event.
 type Blamed = &'static [u8];
 
@@ -103,7 +103,7 @@ const ORDER: [Blamed; 9] = [
     b"int *p;\nint f(void) {\n  return 1;\n}\nint main(void) {\n  *p =\n    f();\n}\n// NullUse 7",
 ];
 
-// What stands behind the last slash of a text.
+// What follows the last slash of a text.
 fn last_comment(text: &[u8]) -> &[u8] {
     let mut rest = text;
     for (place, &byte) in text.iter().enumerate() {
@@ -114,7 +114,7 @@ fn last_comment(text: &[u8]) -> &[u8] {
     rest
 }
 
-// The places of the cases that are told otherwise.
+// The places of the cases that are reported otherwise.
 fn told_otherwise(alloc: Global, cases: &[Blamed]) -> Result<Vec<usize>, Fail> {
     let mut wrong = Vec::new(alloc);
     for (place, section) in cases.iter().enumerate() {

@@ -104,7 +104,7 @@ fn what_is_too_large_is_told_with_its_bytes(rt: HostRuntime) -> Result<(), Fail>
     Ok(())
 }
 
-// Whether the meaning came to its end, or to as many events as it may tell.
+// Whether the meaning came to its end, or to as many events as it may emit.
 fn is_defined(meant: &Ran) -> bool {
     meant.out.ends_with(b"stop ended\n") || meant.out.ends_with(b"stop events\n")
 }

@@ -9,7 +9,7 @@ const SEVEN: [u8; 47] = [
     0,
 ];
 
-// Why the first so many bytes of it are no image.
+// Why its first n bytes are no image, for each n.
 const CAUSES: [u8; 47] = [
     1, 1, 1, 1, 2, 2, 3, 4, 4, 4, 4, 4, 5, 5, 5, 6, 6, 7, 7, 8, 8, 8, 8, 8, 8, 8, 8, 8, 8, 8, 8, 8,
     8, 8, 8, 8, 8, 8, 8, 8, 8, 8, 8, 8, 8, 8, 8,

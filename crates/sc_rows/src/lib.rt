@@ -1,4 +1,4 @@
-//! Runs of the whole program in memory. This crate has tests alone.
+//! Runs of the whole program in memory. This crate has only tests.
 #![tactic(auto)]
 
 #[cfg(test)]

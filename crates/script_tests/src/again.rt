@@ -9,7 +9,7 @@ use std::test::Fail;
 
 const INPUTS: [i32; 8] = [3, 1, 2, 500, 0, -1, -2147483648, 7];
 
-// Whether both runs of a text are the same, with so many turns and events.
+// Whether both runs of a text are the same, with these bounds on turns and events.
 fn is_same(alloc: Global, text: &[u8], turns: u32, events: u32) -> Result<bool, Fail> {
     let source = SourceText::read(alloc, text)?;
     let task = Task {

@@ -1,4 +1,4 @@
-// What the machine shows, and every set of compartments that perform it.
+// What the machine emits, and every set of compartments that perform it.
 use chain_texts::{EVENTS, FIRST, STEPS, generated};
 use code_texts::PROGRAMS;
 use sc_compile::compile;
@@ -36,14 +36,14 @@ const INPUTS: [i32; 21] = [
     -2147483648,
 ];
 
-// What was seen of a program: how many sets tell the whole trace, and how many are blamed before.
+// What was seen of a program: how many sets give the whole trace, and how many are blamed before.
 #[derive(Clone, Copy)]
 struct Seen {
     told: u32,
     blamed: u32,
 }
 
-// What a run that stops short of the trace has to be: blamed outside the set, after a front of the trace.
+// What a run that stops short of the trace has to be: blamed outside the set, after a prefix of the trace.
 fn is_blamed_before(run: &SourceRun, trace: &[Event], set: CompSet) -> bool {
     let RunEnd::Blamed { comp, .. } = run.end else {
         return false;
@@ -80,7 +80,7 @@ fn see(
     Ok(Some(seen))
 }
 
-// What is seen of what the machine shows of a text's program in so many steps, `None` where a set gives neither, or the
+// What is seen of the machine's trace of a text's program in `steps` steps, `None` where a set gives neither, or the
 // trace isn't legal.
 fn judge(alloc: Global, text: &[u8], steps: u32) -> Result<Option<Seen>, Fail> {
     let source = SourceText::read(alloc, text)?;

@@ -151,7 +151,7 @@ impl<'a> Run<'a> {
         self.stop(RunEnd::TurnsOut)
     }
 
-    // A call of another compartment is told, and so is its return.
+    // A call of another compartment emits an event, and so does its return.
     #[cycle(calls)]
     fn cross(&mut self, fuel: u32, crossing: &Crossing, args: Args) -> Result<Option<u32>, Halt> {
         let below = less(fuel)?;
@@ -334,7 +334,7 @@ impl<'a> Run<'a> {
         Ok(())
     }
 
-    // A loop: each round takes a turn behind its head.
+    // A loop: each round takes a turn after its head.
     #[cycle(calls)]
     fn rounds(&mut self, fuel: u32, frame: &Frame, parts: &Loop<'a>) -> Result<Exit, Halt> {
         let below = less(fuel)?;

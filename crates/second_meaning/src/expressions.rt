@@ -56,7 +56,7 @@ fn literal(ty: Ty, word: u32) -> Value {
     }
 }
 
-// What the first operand decides alone.
+// What the first operand decides by itself.
 fn decided(op: BinaryOp, first: Value) -> Option<Value> {
     match op {
         BinaryOp::AndAlso if !words::is_true(first) => Some(words::truth(false)),
@@ -75,7 +75,7 @@ impl Scope<'_> {
         }
     }
 
-    // The place so many elements behind, or before, a pointer of this type.
+    // The place `by` elements after, or before, a pointer of this type.
     fn moved(
         &self,
         op: BinaryOp,

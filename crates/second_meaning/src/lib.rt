@@ -1,6 +1,6 @@
-//! What programs mean where some compartments only perform their part of a trace, told a second time and in another
-//! way, for the crates that are tests alone: by recursion, over one memory, with the place in a part counted anew at
-//! each action.
+//! What programs mean where some compartments only perform their part of a trace, implemented a second time and in
+//! another way, for the crates that have only tests: by recursion, over one memory, with the place in a part counted
+//! anew at each action.
 #![tactic(auto)]
 
 mod calls;

@@ -1,4 +1,4 @@
-//! The variables of all compartments, one behind another (C11 6.2.4, 6.3.2.1).
+//! The variables of all compartments, one after another (C11 6.2.4, 6.3.2.1).
 use sc_base::OutOfMemory;
 use sc_core::{Cause, Cell, Pointer, Value};
 use std::alloc::Global;

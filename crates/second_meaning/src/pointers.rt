@@ -4,7 +4,7 @@ use crate::words::truth;
 use sc_base::BinaryOp;
 use sc_core::{Cause, Pointer, Value};
 
-/// The place so many cells behind another, of the same variable or one past its end.
+/// The place `by` cells after another, of the same variable or one past its end.
 pub fn moved(memory: &Memory, place: Value, by: i64) -> Result<Value, Cause> {
     let pointer = match place {
         Value::Word(_) => return Err(Cause::BadType),
@@ -34,7 +34,7 @@ pub fn number_of(unsigned: bool, word: u32) -> i64 {
     }
 }
 
-/// The place so many elements of so many cells behind another.
+/// The place `elements` elements of `cells` cells after another.
 pub fn moved_on(memory: &Memory, place: Value, cells: u32, elements: i64) -> Result<Value, Cause> {
     let by = (cells as i64)
         .checked_mul(elements)
@@ -42,7 +42,7 @@ pub fn moved_on(memory: &Memory, place: Value, cells: u32, elements: i64) -> Res
     moved(memory, place, by)
 }
 
-// How far the first place lies behind the second, in cells.
+// How far the first place lies after the second, in cells.
 fn apart(left: Value, right: Value) -> Result<i64, Cause> {
     match (left, right) {
         (Value::Ptr(p), Value::Ptr(q)) => {
@@ -77,7 +77,7 @@ fn is_same(memory: &Memory, left: Value, right: Value) -> Result<bool, Cause> {
     }
 }
 
-// So many cells as a number of elements.
+// A distance in cells as a number of elements of `cells` cells.
 fn in_elements(cells: u32, by: i64) -> Result<Value, Cause> {
     let rest = by.checked_rem(cells as i64).ok_or(Cause::BadPointer)?;
     if rest != 0 {
@@ -88,7 +88,7 @@ fn in_elements(cells: u32, by: i64) -> Result<Value, Cause> {
     Ok(Value::Word(number.cast_unsigned()))
 }
 
-/// An operator between two pointers to elements of so many cells.
+/// An operator between two pointers to elements of `cells` cells.
 pub fn between(
     memory: &Memory,
     op: BinaryOp,

@@ -28,7 +28,7 @@ impl<'a> Script<'a> {
         Ok(Script { events, active })
     }
 
-    /// The event that a compartment performs after so many of its own, and the function that does.
+    /// The event that a compartment performs after `done` of its own, and the function that does.
     pub(crate) fn next(&self, comp: CompId, done: usize) -> Option<(Entry, &'a Event)> {
         let mut left = done;
         for (place, event) in self.events.iter().enumerate() {

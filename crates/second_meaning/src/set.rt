@@ -23,7 +23,7 @@ impl CompSet {
         CompSet { bits: u32::MAX }
     }
 
-    /// Each set of so many compartments, that of nobody first; none where they are more than four.
+    /// Each set among `count` compartments, that of nobody first; none where they are more than four.
     pub fn all(alloc: Global, count: usize) -> Result<Vec<CompSet>, OutOfMemory> {
         let sets: u32 = match count {
             1 => 2,
@@ -39,8 +39,8 @@ impl CompSet {
         Ok(all)
     }
 
-    /// Some sets of so many compartments: each one where there are at most four, else that of nobody, that of all, and
-    /// those of one and of two neighbours.
+    /// Some sets among `count` compartments: each one where there are at most four, else that of nobody, that of all,
+    /// and those of one and of two neighbours.
     pub fn samples(alloc: Global, count: usize) -> Result<Vec<CompSet>, OutOfMemory> {
         let mut samples = CompSet::all(alloc, count)?;
         if samples.len() > 0 {

@@ -16,7 +16,7 @@ pub fn truth(holds: bool) -> Value {
     Value::Word(u32::from(holds))
 }
 
-/// An operator in front of a value, which is unsigned or not.
+/// A unary operator on a value, which is unsigned or not.
 pub(crate) fn before(op: UnaryOp, unsigned: bool, value: Value) -> Result<Value, Cause> {
     match (op, value) {
         (UnaryOp::Not, value) => Ok(truth(!is_true(value))),

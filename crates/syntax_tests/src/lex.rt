@@ -5,7 +5,7 @@ use std::test::Fail;
 
 // Each text is whole.
 const COMPARTMENT_LINES: [Row; 28] = [
-    // The line begins with these very bytes, behind which a name stands.
+    // The line begins with these very bytes, and a name follows them.
     b"#pragma compartment Main\nint main(void) { return 0; }\n",
     b"@#pragma compartment  Main\nint main(void) { return 0; }\n",
     b"@#pragma compartment \nint main(void) { return 0; }\n",
@@ -89,7 +89,7 @@ int main(void) { return 0; }
 ",
 ];
 
-// Each stands behind a compartment line, and before `main`.
+// Each stands after a compartment line, and before `main`.
 const DIRECTIVES: [Row; 22] = [
     b"#pragma export f\nint f(void) { return 0; }\n",
     b"#pragma  export \t f \r\nint f(void) { return 0; }\n",
@@ -124,7 +124,7 @@ int f(void) { return 0; }
 ",
 ];
 
-// Each stands behind a compartment line, and before `main`.
+// Each stands after a compartment line, and before `main`.
 const TOKENS: [Row; 41] = [
     // White space is of six kinds.
     b"int\tx\x0b,\x0cy\r\n;\n",
@@ -168,7 +168,7 @@ const TOKENS: [Row; 41] = [
     b"int x = 0xFFFFFFFFU;\n",
     b"int x = 0x00000000000000001;\n",
     b"@int x = 0x100000000; @@int x = 0x100000000u; @@int x = 0x; @@int x = 0xg; @@int x = 0xu;",
-    // No letter, digit or `_` stands right behind an integer.
+    // No letter, digit or `_` stands right after an integer.
     b"@int x = 1uu; @@int x = 1l; @@int x = 1u2; @@int x = 1_; @@int x = 0b1; @@int x = 12ab; @@int x = 1e5;",
     b"@int x = 0x1g;\n",
     b"int x[2]; int y = 1/*,*/;\n",

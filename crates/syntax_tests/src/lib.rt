@@ -1,5 +1,5 @@
 //! Texts that are accepted or refused by their bytes, tokens and grammar, with the line of each refusal. This crate has
-//! tests alone.
+//! only tests.
 #![tactic(auto)]
 
 #[cfg(test)]

@@ -4,8 +4,8 @@ use sc_lex::{Phase, Refusal};
 use std::alloc::Global;
 use std::test::Fail;
 
-// A statement that grows: how it begins, what stands in it so many times, what is in the middle, what stands so many
-// times behind that, and how it ends. The number is the greatest that is taken.
+// A statement that grows: how it begins, what is repeated in it, what is in the middle, what is repeated as often after
+// that, and how it ends. The number is the greatest that is taken.
 type Growing = (
     &'static [u8],
     &'static [u8],
@@ -125,7 +125,7 @@ fn counted(line: u32) -> Option<Refusal> {
     })
 }
 
-// A main compartment of two lines, and so many others, one a line.
+// A main compartment of two lines, and `others` more compartments, one a line.
 fn with_sections(alloc: Global, others: usize) -> Result<Vec<u8>, Fail> {
     let mut text = b"#pragma compartment Main\nint main(void) { return 0; }\n".to_vec(alloc)?;
     for number in 0..others {
@@ -145,7 +145,7 @@ fn sections(rt: HostRuntime) -> Result<(), Fail> {
     Ok(())
 }
 
-// A compartment `A` that exports so many functions, one directive a line.
+// A compartment `A` with `exports` exports, one directive a line.
 fn exporting(alloc: Global, exports: usize) -> Result<Vec<u8>, Fail> {
     let mut text = b"#pragma compartment A\n".to_vec(alloc)?;
     for number in 0..exports {
@@ -159,7 +159,7 @@ fn exporting(alloc: Global, exports: usize) -> Result<Vec<u8>, Fail> {
     Ok(text)
 }
 
-// A compartment `Main` that imports them, and one function of the environment behind these.
+// A compartment `Main` that imports them, and one function of the environment after these.
 fn importing(alloc: Global, imports: usize) -> Result<Vec<u8>, Fail> {
     let mut text = b"#pragma compartment Main\n".to_vec(alloc)?;
     for number in 0..imports {

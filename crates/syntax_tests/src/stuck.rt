@@ -14,16 +14,16 @@ type Change = (u32, &'static [u8], u32);
 
 const CHANGES: [Change; 29] = [
     (7, b"-", 7),
-    // Behind the initialiser.
+    // After the initialiser.
     (12, b"- &", 14),
     (12, b"!", 12),
-    // At the front of a statement.
+    // At the start of a statement.
     (13, b"- + ! ~ & =", 13),
     (13, b"* ( 5 ++", 14),
-    // Behind a value.
+    // After a value.
     (16, b"- &", 17),
     (16, b",", 16),
-    // In place of `++`, and behind it.
+    // In place of `++`, and after it.
     (17, b"- + ! ~ &", 17),
     (17, b"*", 19),
     (18, b"- + ! ~ &", 18),
@@ -39,7 +39,7 @@ const CHANGES: [Change; 29] = [
     (27, b"- + ! ~ &", 27),
     (27, b"* )", 28),
     (30, b"-", 31),
-    // In its body, and behind that.
+    // In its body, and after that.
     (32, b"- &", 32),
     (32, b"++ ;", 37),
     (37, b"-", 37),

@@ -86,7 +86,7 @@ int main(void) {
 ",
 ];
 
-// Each stands behind a compartment line, and before `main`.
+// Each stands after a compartment line, and before `main`.
 const DECLARED: [Row; 10] = [
     b"int a, *b, c[3], **d, *e[2];\n",
     b"signed a; signed int b; unsigned c; unsigned int d;\n",
@@ -100,7 +100,7 @@ const DECLARED: [Row; 10] = [
     b"struct S { int a; }; int f(void); void g(int, unsigned *); int *h(int a, struct S *b, signed);\n",
 ];
 
-// Each stands behind a compartment line, and before `main`. The marked token is the first that can't go on.
+// Each stands after a compartment line, and before `main`. The marked token is the first that can't go on.
 const NOT_DECLARED: [Row; 24] = [
     // Declarations of variables.
     b"int x; `;` int y; @@ int `;` int y; @@ `x` ; @@ int x `int` y; @@ int x, `;` @@ int x `y` ; @@ int x, `int` y;",
@@ -168,7 +168,7 @@ const NOT_STATED: [Row; 28] = [
     // The longest operators are taken.
     b"i = i `++` +j; @@ i = i `--` j; @@ i = i >> `>` 1; @@ i `+` = 1; @@ i `>` >= 1; @@ i = t - `>` n;",
     b"i = i `=` = j; @@ i = `&&` i; @@ i-> `;`",
-    // Calls stand by themselves, on the right of `=`, and behind `return`.
+    // Calls stand by themselves, on the right of `=`, and after `return`.
     b"(nothing `(` )); @@ i = number(1, p) `+` 1; @@ i = 1 + number `(` 1, p); @@ i = (number `(` 1, p));",
     b"i = -number `(` 1, p); @@ i += number `(` 1, p); @@ i = number(number `(` 1, p), p);",
     b"i = a[number `(` 1, p)]; @@ *place `(` ) = 1; @@ i = *place `(` ); @@ if (number `(` 1, p)) { }",
@@ -184,7 +184,7 @@ const NOT_STATED: [Row; 28] = [
     b"for (; ; `;` ) { } @@ for (; ; i++ `;` ) { } @@ for ( `)` { } @@ `do` { } while (i); @@ `switch` (i) { }",
     b"`goto` out; @@ `case` 1; @@ `{` i = 1; } @@ return i `=` 1; @@ return (1) `2` ; @@ return `}` @@ break `1` ;",
     b"break `}` @@ continue `}` @@ if (i) { break `}`",
-    // Locals stand before the first statement, and at the head of a function alone.
+    // Locals stand before the first statement, and only at the head of a function.
     b"; `int` k; @@ if (i) { `int` k; } @@ int k = number `(` 1, p); @@ int k[2] = `{` 1, 2 }; @@ int k = `;`",
     b"int k = j `=` 1; @@ int f `(` void); @@ struct U `{` int x; }; @@ `void` k; @@ int k[ `0` ]; @@ int k `k` ;",
     b"int `;` @@ int k `}`",

@@ -25,7 +25,7 @@ const GROUPED: &str = "\
     a[i][j] => ((a[i])[j]); a[i+1] => (a[(i+1)]); -a[i] => (-(a[i])); *p[i] => (*(p[i])); (*p)[i] => ((*p)[i]); \
     s.m.n => ((s.m).n); p->q->r => ((p->q)->r); *p->q[i].m => (*(((p->q)[i]).m))";
 
-// Texts, and the number of lexemes that are left behind their first expression.
+// Texts, and the number of lexemes that are left after their first expression.
 const FRONTS: [(&[u8], usize); 10] = [
     (b"a;", 1),
     (b"a b", 1),

@@ -1,4 +1,4 @@
-//! From bytes to trees and back: tokens, sections, expressions, trees and their texts. This crate has tests alone.
+//! From bytes to trees and back: tokens, sections, expressions, trees and their texts. This crate has only tests.
 #![tactic(auto)]
 
 #[cfg(test)]

@@ -158,7 +158,7 @@ fn the_heights_of_sections(rt: HostRuntime) -> Result<(), Fail> {
     Ok(())
 }
 
-// A function with so many `while`, each within the one before.
+// A function with `depth` loops `while`, each within the one before.
 fn nested(alloc: Global, depth: usize) -> Result<Vec<u8>, Fail> {
     let mut text = Vec::from_slice(alloc, b"void f(void) { ")?;
     for _ in 0..depth {

@@ -9,7 +9,7 @@ const WORDS: &str = "\
     _Alignas _Alignof _Atomic _Bool _Complex _Generic _Imaginary _Noreturn _Static_assert _Thread_local malloc \
     free";
 
-// What stands before a word, and behind it, in a section that an identifier there makes whole.
+// What stands before a word, and after it, in a section that an identifier there makes whole.
 const AROUND: [(&[u8], &[u8]); 6] = [
     (b"#pragma compartment Main\nint ", b";"),
     (b"#pragma compartment Main\nstruct ", b" { int a; };"),

@@ -1,4 +1,4 @@
-//! Arithmetic on words, and the words of instructions. This crate has tests alone.
+//! Arithmetic on words, and the words of instructions. This crate has only tests.
 #![tactic(auto)]
 
 #[cfg(test)]
