@@ -32,7 +32,7 @@ module _ (P : ExprTree → Type 0) where
   under (term.Address of) = of.1
   under _ = tt
 
-  -- To show P of every expression, show it of one where P holds of each expression directly inside.
+  -- To prove P of every expression, prove it of one where P holds of each expression directly inside.
   pub expr_induction : ((t : ExprTree-F ExprTree) → Under P t → P (roll-ExprTree t)) → (e : ExprTree) → P e
   expr_induction step = ind-ExprTree P (λ x y is. step x (subst (Under P) is (under y)))
 
@@ -63,7 +63,7 @@ module _ (P : StmtTree → Type 0) where
   inside (layer.For first cond next body) = each body
   inside _ = tt
 
-  -- To show P of every statement, show it of one where P holds of each statement directly inside.
+  -- To prove P of every statement, prove it of one where P holds of each statement directly inside.
   pub stmt_induction : ((line : ℕ) (k : StmtKind-F StmtKind StmtTree) → Inside P k →
       P (record { line = line; kind = roll-StmtKind k })) → (s : StmtTree) → P s
   stmt_induction step = ind-StmtTree AnyLine P (λ x y is line. step line x (subst (Inside P) is (inside y)))

@@ -4,7 +4,7 @@ use Rattle.sc_ast.proofs.Common.{param_of, param_words, params_words, piece_text
 use Rattle.sc_ast.proofs.Common.{◌≤◌}
 use Rattle.sc_ast.specs.declared.section.FunctionParam.{FunctionParam}
 
--- the first, and the others behind it
+-- the first parameter, and the others after it
 pub first_param : (params : List FunctionParam) (first : FunctionParam) → first ≡ get_or params 0 first →
     1 ≤ length params → text_of (params_words (map param_of params)) ≡ text_of (param_words (param_of first)) ++
     text_of (flat_map (λ param. comma ++ param_words param) (map param_of (drop 1 params)))

@@ -39,7 +39,7 @@ binary_text binary.Mul = codes "*"
 binary_text binary.Div = codes "/"
 binary_text binary.Rem = codes "%"
 
--- a decimal, with `u` behind it where its type is `unsigned int`
+-- a decimal, with the suffix `u` where its type is `unsigned int`
 abbrev pub literal_text : Number → List ℕ
 literal_text number = decimal number.value ++ (if number.unsigned then codes "u" else [])
 
@@ -51,12 +51,12 @@ is_doubled sign = bytes_eq sign (codes "-") || bytes_eq sign (codes "+") || byte
 abbrev pub apart : List ℕ → List ℕ → List Piece
 apart before sign = if bytes_eq before sign && is_doubled sign then blank ∷ [] else []
 
--- The words of an expression right behind an operator (`[]` where none stands there), where an expression of this level
+-- The words of an expression right after an operator (`[]` where there is none), where an expression of this level
 -- or a tighter one needs no parentheses.
 abbrev pub Printed : Type 0
 Printed = List ℕ → ℕ → List Piece
 
--- an operator in front of an operand
+-- a unary operator before its operand
 abbrev pub prefix_words : List ℕ → Printed → Printed
 prefix_words sign of before level = in_parens (nat_lt level unary_level)
     (apart before sign ++ word sign ∷ of sign unary_level)

@@ -3,7 +3,7 @@ use Rattle.std.specs.Prelude.{ℕ, ◌+◌, ◌*◌, Bool, true, false, codes, L
 use Rattle.std.specs.List.{flat_map}
 use Rattle.sc_ast.specs.Height.{limited}
 
--- A word of the language, a blank, so many levels at the beginning of a line, or the end of a line.
+-- A word of the language, a blank, the indentation of a line by this number of levels, or the end of a line.
 pub data Piece : Type 0 where
   word : List ℕ → Piece
   blank : Piece

@@ -33,7 +33,7 @@ base_words base.Int = word (codes "int") ∷ []
 base_words base.Unsigned = word (codes "unsigned") ∷ blank ∷ word (codes "int") ∷ []
 base_words (base.Struct tag) = word (codes "struct") ∷ blank ∷ word tag ∷ []
 
--- so many `*`
+-- `*`, `stars` times
 abbrev pub star_words : ℕ → List Piece
 star_words stars = replicate stars (word (codes "*"))
 
@@ -106,7 +106,7 @@ value_words (Some value) = equals ++ expr_words value
 abbrev pub local_line : LocalTree → List Piece
 local_line tree = line_of 1 (ended (declared_words tree.ty tree.name ++ value_words tree.init))
 
--- the head, and in braces the locals and the statements, behind an empty line
+-- after an empty line: the head, and in braces the locals and the statements
 abbrev pub function_words : FunctionTree → List Piece
 function_words tree =
     newline ∷ (head_words (head_of tree.head) ++ blank ∷

@@ -53,7 +53,7 @@ for_words first cond next =
     word (codes "for") ∷ blank ∷ word (codes "(") ∷ (first_words first ++ word (codes ";") ∷ blank ∷
     (expr_words cond ++ word (codes ";") ∷ (next_words next ++ word (codes ")") ∷ blank ∷ [])))
 
--- `return` and what stands behind it
+-- `return` and what follows it
 abbrev pub return_words : List Piece → List Piece
 return_words value = ended (word (codes "return") ∷ blank ∷ value)
 
@@ -73,14 +73,14 @@ abbrev pub block_words : ℕ → List Layout → List Piece
 block_words depth stmts = word (codes "{") ∷ newline ∷
     (lines_at (deeper depth) stmts ++ indent depth ∷ word (codes "}") ∷ [])
 
--- all of the statements are one `if`, which goes on behind an `else`
+-- the statements are a single `if`, which follows its `else` without braces
 abbrev pub is_chain : List Layout → Bool
 is_chain stmts = length stmts == 1 && list_all (λ stmt. stmt.is_if) stmts
 
 abbrev pub chain_words : ℕ → List Layout → List Piece
 chain_words depth stmts = flat_map (λ stmt. stmt.words depth) stmts
 
--- what stands behind an `else`
+-- what follows an `else`
 abbrev pub behind_else : ℕ → List Layout → List Piece
 behind_else depth stmts = if is_chain stmts then chain_words depth stmts else block_words depth stmts
 

@@ -71,7 +71,7 @@ impl Model for ArrayLength {
 }
 
 impl ArrayLength {
-    /// The length of so many elements, `None` for 0.
+    /// The length of an array of this number of elements, `None` for 0.
     pub fn new(elements: u32) -> Option<ArrayLength>
         ensures { result ≡ array_length elements }
     {

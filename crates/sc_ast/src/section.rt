@@ -89,7 +89,7 @@ pub enum InitTree {
     Many(Consts),
 }
 
-/// An integer constant, maybe with a `-` in front.
+/// An integer constant, with or without a `-` before it.
 #[derive(Clone, Copy, PartialEq, Eq)]
 pub struct ConstTree {
     pub negative: bool,

@@ -12,7 +12,7 @@ pub enum BaseTree {
     Struct(Ident),
 }
 
-/// The type of a declarator: a base, then so many `*`, then the length where it is an array.
+/// The type of a declarator: a base, then `*` `stars` times, then the length where it is an array.
 #[derive(Clone, Copy, PartialEq, Eq)]
 pub struct TypeTree {
     pub base: BaseTree,
@@ -20,7 +20,7 @@ pub struct TypeTree {
     pub length: Option<ArrayLength>,
 }
 
-/// A type that is no array (a type name of C11 6.7.7): a base, then so many `*`. Parameters and results have one.
+/// A type that is no array (a type name of C11 6.7.7): a base, then `*` `stars` times. Parameters and results have one.
 #[derive(Clone, Copy, PartialEq, Eq)]
 pub struct TypeName {
     pub base: BaseTree,

@@ -1,4 +1,4 @@
--- What an answer that is there came from, and what stands at the front, where reading says so.
+-- What an answer that is there came from, and what the lexemes begin with, where reading says so.
 use Rattle.sc_expr.proofs.Common.{BinaryOp, Bool, Extension, IsIdent, IsMark, Lexeme, List, Mark, None, Option, Prefix}
 use Rattle.sc_expr.proofs.Common.{Some, Symbol, [], ap, append_assoc, arith, behind, binary_of, cases_lt, cond}
 use Rattle.sc_expr.proofs.Common.{cond_some, extension_at, extension_by, extension_level, extension_of}
@@ -31,12 +31,12 @@ pub cond_is : {A : Type 0} (b : Bool) (o : Option A) (x : A) → cond b o None �
 cond_is true o x h = (refl, h)
 cond_is false o x h = absurd (none-some x h)
 
--- one front behind another
+-- two prefixes, one after the other, are one prefix
 pub glued : {A : Type 0} {ts us : List A} (rest first second : List A) → ts ≡ first ++ us → us ≡ second ++ rest →
     ts ≡ (first ++ second) ++ rest
 glued rest first second p q = p ∙ ap (λ l. first ++ l) q ∙ sym (append_assoc first second rest)
 
--- what goes on at the front is of this level or a looser one
+-- an extension at the start of the lexemes is of this level or a looser one
 abbrev pub Onward : ℕ → List Lexeme → Type 0
 Onward level rest = (ext : Extension) → extension_at rest ≡ Some ext → level ≤ extension_level ext
 
@@ -45,7 +45,7 @@ pub operator_low : (op : BinaryOp) → 2 ≤ level_of op
 operator_low binary.Mul = omega arith
 operator_low _ = omega arith
 
--- none of what goes on behind an expression has the level of the prefix operators
+-- no extension of an expression has the level of the unary operators
 pub no_unary : (ext : Extension) → 1 ≤ extension_level ext → 2 ≤ extension_level ext
 no_unary (extension.Operator op) h = operator_low op
 no_unary _ h = absurd (omega arith)
@@ -70,7 +70,7 @@ pub extension_mark : (m : Mark) (ext : Extension) (k : Mark) → extension_of m 
 extension_mark mark.Dot ext k h is = let same = ap (λ (o : Option Extension). o >>= tight_mark) h ∙ is in cc
 extension_mark _ ext k h is = let same = ap (λ (o : Option Extension). o >>= tight_mark) h ∙ is in cc
 
--- A mark stands at the front that goes on with an expression, in a level or a tighter one.
+-- The first lexeme is a mark that extends an expression, at this level or a tighter one.
 pub record Ahead (level : ℕ) (ts : List Lexeme) (ext : Extension) (us : List Lexeme) : Type 0 where
   pub first : Lexeme
   pub m : Mark

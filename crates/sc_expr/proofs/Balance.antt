@@ -1,11 +1,11 @@
--- Brackets along lexemes that spell an expression: behind them as many are open as before.
+-- Brackets along lexemes that spell an expression: after them as many are open as before.
 use Rattle.sc_expr.proofs.Common.{BinaryOp, ExprTree, Lexeme, List, Mark, Prefix, Some, Spells, Symbol, [], ap, arith}
 use Rattle.sc_expr.proofs.Common.{arrow, binary_of, index, joined, literal, looser, max, member, most_open, open_after}
 use Rattle.sc_expr.proofs.Common.{parenthesised, prefix_of, refl, variable, «prefix», ℕ, ◌++◌, ◌+◌, ◌-◌, ◌∷◌, ◌≡◌, ◌≤◌}
 use Rattle.sc_expr.specs.declared.mark.Mark.TheVariants as mark
 use Rattle.sc_expr.specs.declared.lexeme.Symbol.TheVariants as symbol
 
--- how many brackets are open behind lexemes
+-- how many brackets are open after lexemes
 abbrev pub open_along : ℕ → List Lexeme → ℕ
 open_along n [] = n
 open_along n (t ∷ ts) = open_along (open_after t.symbol n) ts
@@ -57,7 +57,7 @@ most_append : (n : ℕ) (ts us : List Lexeme) → most_open n (ts ++ us) ≡
 most_append n [] us = let low = open_low n us in omega arith
 most_append n (t ∷ ts) us = let rest = most_append (open_after t.symbol n) ts us in omega arith
 
--- the most behind an expression is that of the expression or of what follows
+-- the most along an expression and what follows it is the greater of the two
 pub most_behind : {level : ℕ} {ts : List Lexeme} {e : ExprTree} (n : ℕ) (us : List Lexeme) → Spells level ts e →
     most_open n (ts ++ us) ≡ max (most_open n ts) (most_open n us)
 most_behind {ts = ts} n us d = rw (most_append n ts us, balanced d)

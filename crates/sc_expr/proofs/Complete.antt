@@ -35,7 +35,7 @@ prefix_leads : (m : Mark) (p : Prefix) → prefix_of m ≡ Some p → lead_by m 
 prefix_leads mark.OpenParen p h = absurd (none-some p h)
 prefix_leads _ p h = ap (λ o. option_map (λ x. lead.Prefix x) o) h
 
--- Reading these lexemes comes to the expression, and to going on behind it in turns enough.
+-- Reading these lexemes comes to the expression, and to going on after it with enough turns.
 record Arrives (free room level : ℕ) (all : List Lexeme) (e : ExprTree) (rest : List Lexeme) : Type 0 where
   turns : ℕ
   enough : suc room < turns + expr_height e
@@ -47,7 +47,7 @@ abbrev GoesOn : ℕ → List Lexeme → ExprTree → Type 0
 GoesOn c ts e = (free room level n : ℕ) (rest : List Lexeme) → c ≤ level → expr_height e ≤ suc room →
     most_open n ts ≤ n + free → Onward c rest → Arrives free room level (ts ++ rest) e rest
 
--- Reading takes an expression and ends behind it, where nothing of the level goes on.
+-- Reading takes an expression and ends after it, where nothing of the level extends it.
 abbrev pub Takes : ℕ → List Lexeme → ExprTree → Type 0
 Takes c ts e = (free room level n : ℕ) (rest : List Lexeme) → c ≤ level → expr_height e ≤ room →
     most_open n ts ≤ n + free → Onward (suc level) rest →
@@ -69,7 +69,7 @@ module _ {free room level : ℕ} where
     reads = read_goes free _ room level _ _ _ next refl operand;
   }
 
-  -- one turn more, to a higher expression, with a mark and more behind
+  -- one turn more, to a higher expression: a mark and more lexemes follow the one before
   from_turn : {c : ℕ} {ts rest : List Lexeme} {e f : ExprTree} {m : Mark} {ext : Extension} (n : ℕ) (t : Lexeme)
       (more : List Lexeme) → IsMark m t → extension_of m ≡ Some ext → extension_level ext ≡ c → Spells c ts e → GoesOn c
       ts e → c ≤ level → expr_height e < expr_height f → expr_height f ≤ suc room → most_open n (ts ++ t ∷ more) ≤ n +
@@ -146,6 +146,6 @@ goes (joined {level = tight} {us = us} {e = e} {f = f} t m op is of at d g) free
 goes (looser d) free room level n rest inside low few may =
     goes d free room level n rest (omega arith) low few (λ ext at. omega (arith, may ext at))
 
--- what is spelled within the limits is read, where nothing of the level goes on behind it
+-- what is spelled within the limits is read, where nothing of the level extends it
 pub reads_all : {c : ℕ} {ts : List Lexeme} {e : ExprTree} (d : Spells c ts e) → Takes c ts e
 reads_all d = takes d (goes d)

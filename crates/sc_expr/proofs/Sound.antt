@@ -18,8 +18,8 @@ use Rattle.sc_expr.proofs.Heights.{literal_height, variable_height, prefixed_hei
 use Rattle.sc_expr.proofs.Heights.{member_height, arrow_height}
 use Rattle.sc_expr.proofs.Balance.{IsPlain, says, plain_binary, plain_prefix, most_behind, most_bracketed, most_plain}
 
--- An expression stands at the front: it is spelled at this level within the limits, and what goes on behind it is of
--- the second level or a looser one.
+-- The lexemes begin with an expression: it is spelled at this level within the limits, and an extension after it is of
+-- level `least` or a looser one.
 pub record Stands (free room level least : ℕ) (ts : List Lexeme) (x : Found) : Type 0 where
   pub taken : List Lexeme
   pub split : ts ≡ taken ++ x.rest
@@ -57,7 +57,7 @@ module _ (free room : ℕ) (nested : ℕ → ℕ → Reader) (below : ℕ → Re
     (0 < free) × Reads (free - 1) levels level ts x)
     (one_less : (level : ℕ) (ts : List Lexeme) (x : Found) → 0 < level → below level ts ≡ Some x →
     Reads free room level ts x) where
-  -- an expression of this level stands at the front
+  -- the lexemes begin with an expression of this level
   abbrev At : ℕ → List Lexeme → Found → Type 0
   At level ts x = Stands free (suc room) level level ts x
 
@@ -128,7 +128,7 @@ module _ (free room : ℕ) (nested : ℕ → ℕ → Reader) (below : ℕ → Re
   operand_sound [] x h = absurd (none-some x h)
   operand_sound (t ∷ ts) x h = lead_sound t ts x _ refl h
 
-  -- an expression with a mark behind it, and more
+  -- an expression with a mark after it, and more
   grown : {c level : ℕ} {ts us : List Lexeme} {x y : Found} {ext : Extension} (more : List Lexeme) (s : At c ts x)
       (a : Ahead level x.rest ext us) → us ≡ more ++ y.rest → Spells c (s.taken ++ a.first ∷ more) y.tree →
       y.height ≡ expr_height y.tree → y.height ≤ suc room → ((n : ℕ) → most_open n (a.first ∷ more) ≤ n + free) →

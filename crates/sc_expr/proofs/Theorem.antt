@@ -1,4 +1,4 @@
--- Reading gives exactly the fronts within the limits, and lexemes spell one expression at most.
+-- Reading gives exactly the prefixes within the limits, and lexemes spell one expression at most.
 use Rattle.sc_expr.proofs.Common.{Agrees, Bor, Err, ExprTree, Found, IfOk, IsErrOf, IsFront, Lexeme, List, Ok, Refused}
 use Rattle.sc_expr.proofs.Common.{Result, Some, Spells, SyntaxFault, [], ap, arith, expr_height, found, max, most_open}
 use Rattle.sc_expr.proofs.Common.{none-some, read, read_expr, subst, sym, ℕ, ◌-◌, ◌<◌, ◌∙◌, ◌≡◌, ◌≤◌}
@@ -8,7 +8,7 @@ use Rattle.sc_expr.proofs.Balance.{open_low}
 use Rattle.sc_expr.proofs.Sound.{read_sound}
 use Rattle.sc_expr.proofs.Complete.{reads_all}
 
--- a front is read
+-- an expression that a prefix spells is read
 pub front_complete : (level count : ℕ) (ts : List Lexeme) (e : ExprTree) (rest : List Lexeme) →
     IsFront level count ts e rest → read_expr level count ts ≡ Some (found e (expr_height e) rest)
 front_complete level count ts e rest h =
@@ -40,7 +40,7 @@ Answer = Result (Built × Bor (List Lexeme)) SyntaxFault
 abbrev seen : Built × Bor (List Lexeme) → Found
 seen x = found x.0.tree x.0.height x.1.now
 
--- what is read is a front, with its height
+-- what is read is spelled by a prefix, and its height is that of the tree
 pub found_front : (level count : ℕ) (ts : List Lexeme) (answer : Answer) → 0 < level → count ≤ 1024 →
     Agrees seen answer (read_expr level count ts) → IfOk answer (λ x. IsFront level count ts x.0.tree x.1.now)
 found_front level count ts (Ok x) some opened h =
@@ -60,7 +60,7 @@ pub found_height : (level count : ℕ) (ts : List Lexeme) (answer : Answer) → 
 found_height level count ts (Ok x) some h = (read_sound _ 256 level ts _ some h).measured
 found_height level count ts (Err fault) some h = tt
 
--- no front where nothing is read
+-- no prefix spells an expression where nothing is read
 pub refused_front : (level count : ℕ) (ts : List Lexeme) (answer : Answer) →
     Agrees seen answer (read_expr level count ts) → (left : ℕ) → IsErrOf answer (Refused left) →
     (e : ExprTree) (rest : List Lexeme) → IsFront level count ts e rest → ⊥

@@ -6,7 +6,7 @@ use Rattle.sc_expr.specs.declared.lexeme.Symbol.{Symbol}
 use Rattle.sc_expr.specs.declared.lexeme.Symbol.TheVariants as symbol
 use Rattle.sc_expr.specs.declared.lexeme.Lexeme.{Lexeme}
 
--- how many brackets of the three kinds are open behind a mark, where so many were before it
+-- how many brackets of the three kinds are open after a mark, where `count` were before it
 abbrev pub open_behind : Mark → ℕ → ℕ
 open_behind mark.OpenParen count = count + 1
 open_behind mark.OpenSquare count = count + 1

@@ -1,4 +1,4 @@
--- What stands at the front of a list of lexemes.
+-- What a list of lexemes begins with.
 use Rattle.sc_expr.specs.Common.{ExprTree, expr_height}
 use Rattle.std.specs.Prelude.{◌≡◌, ℕ, Bool, false, List, [], ◌∷◌, ◌++◌, ◌≤◌, ◌<◌, Option, Some, None, Result, Ok, Err}
 use Rattle.std.specs.Prelude.{if◌then◌else◌}
@@ -28,12 +28,12 @@ abbrev pub is_mark : Mark → Symbol → Bool
 is_mark m (symbol.Mark other) = marks.eq-value.it other m
 is_mark m _ = false
 
--- the lexemes behind a mark
+-- the lexemes after a mark
 abbrev pub behind : Mark → List Lexeme → Option (List Lexeme)
 behind m [] = None
 behind m (t ∷ ts) = if is_mark m t.symbol then Some ts else None
 
--- what a symbol behind an expression goes on with
+-- the extension that a symbol after an expression begins
 abbrev pub extension_by : Symbol → Option Extension
 extension_by (symbol.Mark m) = extension_of m
 extension_by _ = None
@@ -43,12 +43,12 @@ abbrev pub extension_at : List Lexeme → Option Extension
 extension_at [] = None
 extension_at (t ∷ ts) = extension_by t.symbol
 
--- nothing that goes on with an expression of this level or a tighter one stands at the front
+-- no extension of this level or a tighter one is at the start
 abbrev pub EndsAt : ℕ → List Lexeme → Type 0
 EndsAt level lexemes = (ext : Extension) → extension_at lexemes ≡ Some ext → level < extension_level ext
 
--- The front of the lexemes up to `rest` spells the expression at this level, and what stands behind doesn't go on with
--- it. The tree is at most 256 high, and nowhere more than 1,024 brackets are open, of which `count` are open before.
+-- The prefix of the lexemes up to `rest` spells the expression at this level, and `rest` doesn't go on with it. The
+-- tree is at most 256 high, and nowhere more than 1,024 brackets are open, of which `count` are open before.
 pub record IsFront (level count : ℕ) (lexemes : List Lexeme) (e : ExprTree) (rest : List Lexeme) : Type 0 where
   pub taken : List Lexeme
   pub split : lexemes ≡ taken ++ rest

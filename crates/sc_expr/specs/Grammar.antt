@@ -25,7 +25,7 @@ pub data Spells : ℕ → List Lexeme → ExprTree → Type 0 where
   variable : (t : Lexeme) (name : List ℕ) → IsIdent name t → Spells postfix_level (t ∷ []) (expr.Variable name)
   parenthesised : {ts : List Lexeme} {e : ExprTree} (t u : Lexeme) → IsMark mark.OpenParen t →
       IsMark mark.CloseParen u → Spells loosest_level ts e → Spells postfix_level (t ∷ (ts ++ u ∷ [])) e
-  -- a postfix expression, and an index or the name of a member behind it
+  -- a postfix expression, and an index or the name of a member after it
   index : {ts us : List Lexeme} {e f : ExprTree} (t u : Lexeme) → IsMark mark.OpenSquare t → IsMark mark.CloseSquare u →
       Spells postfix_level ts e → Spells loosest_level us f →
       Spells postfix_level (ts ++ t ∷ (us ++ u ∷ [])) (expr.Index e f)
@@ -33,7 +33,7 @@ pub data Spells : ℕ → List Lexeme → ExprTree → Type 0 where
       Spells postfix_level ts e → Spells postfix_level (ts ++ t ∷ u ∷ []) (expr.Member e name)
   arrow : {ts : List Lexeme} {e : ExprTree} (t u : Lexeme) (name : List ℕ) → IsMark mark.Arrow t → IsIdent name u →
       Spells postfix_level ts e → Spells postfix_level (ts ++ t ∷ u ∷ []) (expr.Arrow e name)
-  -- an operator in front of a unary expression
+  -- a unary operator before a unary expression
   prefix : {ts : List Lexeme} {e : ExprTree} (t : Lexeme) (m : Mark) (p : Prefix) → IsMark m t → prefix_of m ≡ Some p →
       Spells unary_level ts e → Spells unary_level (t ∷ ts) (prefixed p e)
   -- a left part of an operator's own level, the operator, and a right part of the next tighter level

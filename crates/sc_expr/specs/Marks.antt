@@ -1,4 +1,4 @@
--- What marks mean between, before and behind expressions.
+-- What marks mean between, before and after expressions.
 use Rattle.sc_expr.specs.Common.{BinaryOp, ExprTree, level_of, postfix_level}
 use Rattle.std.specs.Prelude.{ℕ, Option, Some, None}
 use Rattle.std.specs.Option.{option_map}
@@ -34,7 +34,7 @@ binary_of mark.AndAnd = Some binary.AndAlso
 binary_of mark.OrOr = Some binary.OrElse
 binary_of _ = None
 
--- the operator that a mark is in front of an operand
+-- the unary operator that a mark is before an operand
 abbrev pub prefix_of : Mark → Option Prefix
 prefix_of mark.Minus = Some (prefix.Operator unary.Minus)
 prefix_of mark.Plus = Some (prefix.Operator unary.Plus)
@@ -50,7 +50,7 @@ prefixed (prefix.Operator op) of = expr.Unary op of
 prefixed prefix.Dereference of = expr.Deref of
 prefixed prefix.Address of = expr.Address of
 
--- what a mark behind an expression goes on with
+-- the extension that a mark after an expression begins
 abbrev pub extension_of : Mark → Option Extension
 extension_of mark.OpenSquare = Some extension.Index
 extension_of mark.Dot = Some extension.Member

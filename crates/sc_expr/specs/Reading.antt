@@ -1,4 +1,4 @@
--- Helping: reading an expression from the front of a list, with so many brackets and levels of height left.
+-- Helping: reading an expression from the start of a list, where the brackets and the levels of height are limited.
 use Rattle.sc_expr.specs.Common.{ExprTree, level_of, loosest_level, unary_level}
 use Rattle.std.specs.Prelude.{ℕ, zero, suc, ◌+◌, ◌-◌, max, nat_le, List, [], ◌∷◌, Option, Some, None, if◌then◌else◌}
 use Rattle.std.specs.Option.{option_map}
@@ -16,7 +16,7 @@ use Rattle.sc_expr.specs.declared.parser.Lead.TheVariants as lead
 use Rattle.sc_expr.specs.Marks.{prefix_of, prefixed, extension_level}
 use Rattle.sc_expr.specs.Fronts.{behind, extension_at}
 
--- A tree that is read, its height, and the lexemes behind it.
+-- A tree that is read, its height, and the lexemes after it.
 pub record Found : Type 0 where
   pub tree : ExprTree
   pub height : ℕ
@@ -49,7 +49,7 @@ abbrev pub lead_of : Symbol → Option Lead
 lead_of (symbol.Mark m) = lead_by m
 lead_of _ = None
 
--- the identifier at the front, and the lexemes behind it
+-- the identifier at the start, and the lexemes after it
 abbrev pub name_by : Symbol → Option (List ℕ)
 name_by (symbol.Ident name) = Some name
 name_by _ = None
@@ -62,7 +62,7 @@ abbrev pub within : ℕ → List Lexeme → Option Extension → Option (Extensi
 within level rest None = None
 within level rest (Some ext) = if nat_le (extension_level ext) level then Some (ext, rest) else None
 
--- what makes an expression of this level or a tighter one, and the lexemes behind its first
+-- what makes an expression of this level or a tighter one, and the lexemes after its first
 abbrev pub extension_within : ℕ → List Lexeme → Option (Extension × List Lexeme)
 extension_within level [] = None
 extension_within level (t ∷ ts) = within level ts (extension_at (t ∷ ts))
@@ -71,7 +71,7 @@ abbrev pub leaf_at : Reader
 leaf_at [] = None
 leaf_at (t ∷ ts) = leaf_of t.symbol >>= (λ e. Some (found e 1 ts))
 
--- a member of a tree, named at the front
+-- a member of a tree, whose name comes first
 abbrev pub named_with : (List ℕ → ExprTree) → ℕ → Reader
 named_with make height ts = name_at ts >>= (λ x. Some (found (make x.0) (height + 1) x.1))
 
@@ -83,7 +83,7 @@ module _ (nested : ℕ → ℕ → Reader) (below : ℕ → Reader) (room : ℕ)
   paren_with ts = nested (room + 1) loosest_level ts >>=
       (λ x. behind mark.CloseParen x.rest >>= (λ rest. Some (found x.tree x.height rest)))
 
-  -- behind a prefix operator
+  -- after a unary operator
   abbrev pub prefix_with : Prefix → Reader
   prefix_with p ts = below unary_level ts >>= (λ x. Some (found (prefixed p x.tree) (x.height + 1) x.rest))
 
@@ -110,35 +110,35 @@ module _ (nested : ℕ → ℕ → Reader) (below : ℕ → Reader) (room : ℕ)
   unfoldable pub extended_with : ExprTree → ℕ → Extension → Reader
   extended_with e height ext ts = if nat_le height room then joined_with e height ext ts else None
 
-  -- where something goes on, one more expression is made, and reading goes on behind that
+  -- where something goes on, one more expression is made, and reading goes on after that
   abbrev pub turn_with : (Found → Option Found) → Found → Option (Extension × List Lexeme) → Option Found
   turn_with onward x None = Some x
   turn_with onward x (Some next) = extended_with x.tree x.height next.0 next.1 >>= onward
 
-  -- Going on behind an expression as long as something of this level stands there, in fewer turns than these.
+  -- Going on after an expression as long as an extension of this level follows, in fewer turns than these.
   unfoldable pub go_on : ℕ → ℕ → Found → Option Found
   go_on level zero x = None
   go_on level (suc turns) x = turn_with (λ y. go_on level turns y) x (extension_within level x.rest)
 
-  -- an operand, and all that goes on behind it
+  -- an operand, and all that extends it
   abbrev pub level_with : ℕ → Reader
   level_with level ts = operand_with ts >>= (λ x. go_on level (room + 1) x)
 
--- reading where so many levels of height are left
+-- reading where this number of levels of height is left
 unfoldable pub read_within : (ℕ → ℕ → Reader) → ℕ → ℕ → Reader
 read_within nested zero level ts = None
 read_within nested (suc room) level ts = level_with nested (read_within nested room) room level ts
 
--- an expression of a level, where so many brackets may still open, at most so high
+-- an expression of a level, where `free` brackets may still open, at most `room` high
 unfoldable pub read : ℕ → ℕ → ℕ → Reader
 read zero = read_within (λ room level ts. None)
 read (suc free) = read_within (read free)
 
--- reading inside a bracket that opens where so many may
+-- reading inside a bracket that opens where `free` brackets may
 abbrev pub read_nested : ℕ → ℕ → ℕ → Reader
 read_nested zero room level ts = None
 read_nested (suc free) room level ts = read free room level ts
 
--- an expression of a level behind so many open brackets, within the limits
+-- an expression of a level after `count` open brackets, within the limits
 abbrev pub read_expr : ℕ → ℕ → Reader
 read_expr level count ts = read (1024 - count) 256 level ts

@@ -6,7 +6,7 @@ use std::alloc::AllocError;
 /// Why lexemes were not parsed.
 #[derive(Clone, Copy, Debug, PartialEq, Eq)]
 pub enum SyntaxFault {
-    /// Nothing is spelled so within the limits. So many lexemes are left from the one that can't go on.
+    /// Nothing is spelled so within the limits. `left` lexemes are left from the one that can't go on.
     Refused { left: usize },
     OutOfMemory,
 }

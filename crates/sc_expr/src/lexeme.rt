@@ -78,7 +78,7 @@ pub fn name_by(symbol: &Symbol) -> Option<Ident>
     }
 }
 
-/// What stands behind a mark at the front, which is refused where another lexeme stands there.
+/// What follows this mark. Lexemes that don't begin with it are refused.
 pub fn expect(mark: Mark, lexemes: &[Lexeme]) -> Result<&[Lexeme], SyntaxFault>
     ensures { Agrees (λ rest. rest.now) result (behind mark lexemes.now) }
 {

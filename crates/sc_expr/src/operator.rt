@@ -6,7 +6,7 @@ use sc_ast::ExprTree;
 use sc_base::{BinaryOp, UnaryOp, level_of};
 use sqlite_items::Boxed;
 
-/// An operator in front of its operand (C11 6.5.3).
+/// A unary operator, before its operand (C11 6.5.3).
 #[derive(Clone, Copy, Debug, PartialEq, Eq)]
 pub enum Prefix {
     Operator(UnaryOp),
@@ -73,7 +73,7 @@ fn binary_of(mark: Mark) -> Option<BinaryOp>
     }
 }
 
-/// What a mark behind an expression goes on with.
+/// The extension that a mark after an expression begins.
 pub fn extension_of(mark: Mark) -> Option<Extension>
     ensures { result ≡ extension_of mark }
 {
@@ -88,7 +88,7 @@ pub fn extension_of(mark: Mark) -> Option<Extension>
     }
 }
 
-/// The operator that a mark is in front of an operand.
+/// The unary operator that a mark is before an operand.
 pub fn prefix_of(mark: Mark) -> Option<Prefix>
     ensures { result ≡ prefix_of mark }
 {

@@ -1,4 +1,4 @@
-//! Reading an expression: an operand, then in one loop all that goes on behind it.
+//! Reading an expression: an operand, then in one loop all that extends it.
 
 ghost use Rattle.sc_expr.specs.Prelude.{Agrees, IsFront, Spells, extended_with, extension_by, extension_within, found};
 ghost use Rattle.sc_expr.specs.Prelude.{joined_with, lead_by, lead_of, leaf_at, leaf_of, loosest_level, named_with};
@@ -31,17 +31,17 @@ pub struct Built {
     pub height: u32,
 }
 
-// What was read, and the lexemes behind it.
+// What was read, and the lexemes after it.
 type Answer<'a> = Result<(Built, &'a [Lexeme]), SyntaxFault>;
 
-/// The expression at the front of the lexemes, as far as it goes, and the lexemes behind it. So many brackets are open
+/// The expression at the start of the lexemes, as far as it goes, and the lexemes after it. `opened` brackets are open
 /// before. A bracket is refused where it is one too many, an operator where what it makes is too high.
 pub fn parse_expr(alloc: Global, opened: u32, lexemes: &[Lexeme]) -> Answer<'_>
     requires { opened ≤ 1024 }
     ensures found { IfOk result (λ x. IsFront loosest_level opened lexemes.now x.0.tree x.1.now) }
     ensures height { IfOk result (λ x. x.0.height ≡ expr_height x.0.tree) }
 
-    // Lexemes are refused where no front of them is spelled so.
+    // Lexemes are refused where no prefix of them is spelled so.
     ensures refused { (left : ℕ) → IsErrOf result (Refused left) → (e : ExprTree) (rest : List Lexeme) →
         IsFront loosest_level opened lexemes.now e rest → ⊥ }
 
@@ -58,7 +58,7 @@ pub fn parse_unary(alloc: Global, opened: u32, lexemes: &[Lexeme]) -> Answer<'_>
     ensures found { IfOk result (λ x. IsFront unary_level opened lexemes.now x.0.tree x.1.now) }
     ensures height { IfOk result (λ x. x.0.height ≡ expr_height x.0.tree) }
 
-    // Lexemes are refused where no front of them is spelled so.
+    // Lexemes are refused where no prefix of them is spelled so.
     ensures refused { (left : ℕ) → IsErrOf result (Refused left) → (e : ExprTree) (rest : List Lexeme) →
         IsFront unary_level opened lexemes.now e rest → ⊥ }
 
@@ -76,7 +76,7 @@ pub fn one_expr()
         e ≡ f }
 {}
 
-/// Lexemes have one expression of a level at their front at most, as far as it goes.
+/// Lexemes have one expression of a level at their start at most, as far as it goes.
 pub fn one_front()
     ensures { (level count : ℕ) (lexemes : List Lexeme) (e f : ExprTree) (rest more : List Lexeme) →
         IsFront level count lexemes e rest → IsFront level count lexemes f more → (e ≡ f) × (rest ≡ more) }

@@ -94,7 +94,7 @@ fn mark_before_equal(first: u8) -> Option<Mark>
     }
 }
 
-// The keyword where this is how it goes on behind its first letter.
+// The keyword where this is how it goes on after its first letter.
 fn keyword_if(ending: &[u8], rest: &[u8], keyword: Keyword) -> Option<Keyword>
     ensures { result ≡ (if bytes_eq ending.now rest.now then Some keyword else None) }
 {

@@ -22,7 +22,7 @@ pub token_le : {directives : Bool} {text : List ℕ} {kind other : TokenKind} (n
 token_le {kind = kind} n m t u = ⊎_elim (λ less. absurd (none-some kind (sym (u.longest n less t.within) ∙ t.spelled)))
     (λ le. le) (cases_lt m n)
 
--- one piece at most stands at the front
+-- at most one piece is at the start
 one_piece : (directives : Bool) (text : List ℕ) (p q : Piece) (n m : ℕ) → IsPiece directives text p n →
     IsPiece directives text q m → (p ≡ q) × (n ≡ m)
 one_piece directives text pieces.Gap pieces.Gap n m h g = (refl, one_gap h g)
@@ -67,7 +67,7 @@ module _ (bytes : List ℕ) where
   cuts_then (gap n h c) d = gap n h (cuts_then c d)
   cuts_then (token k n h c) d = token k n h (cuts_then c d)
 
-  -- behind a piece the bytes are cut on
+  -- after a piece the bytes are cut on
   record Next (at to : ℕ) (tokens : List Token) (p : Piece) (n : ℕ) : Type 0 where
     rest : List Token
     is : tokens ≡ placed p at n (line_at bytes at) ++ rest

@@ -1,4 +1,4 @@
--- The token at the front of a text.
+-- The token at the start of a text.
 use Rattle.sc_lex.proofs.Common.{Bool, IfNone, IfSome, IsToken, IsTrue, List, Mark, NoToken, None, Option, Some}
 use Rattle.sc_lex.proofs.Common.{TokenKind, and_from, and_parts, ap, arith, begins_block_comment, begins_line_comment}
 use Rattle.sc_lex.proofs.Common.{cases_lt, directive_kind, eq-eqb, false, false≢true, get_or-take, is_directive}

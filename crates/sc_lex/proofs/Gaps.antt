@@ -1,4 +1,4 @@
--- White space and comments at the front of a text, and tokens that end where the bytes of a class end.
+-- White space and comments at the start of a text, and tokens that end where the bytes of a class end.
 use Rattle.sc_lex.proofs.Common.{Bool, IsGap, IsToken, IsTrue, List, None, Some, TokenKind, [], ap, arith}
 use Rattle.sc_lex.proofs.Common.{begins_block_comment, begins_line_comment, block_comment, cases_lt, codes, cond_both}
 use Rattle.sc_lex.proofs.Common.{drop, ends_comment, false, false≢true, get_or, get_or-take, is_directive}
@@ -87,7 +87,7 @@ star_second text h = front_byte text (codes "/*") 1 h (omega arith)
 pub white_no_slash : (text : List ℕ) → is_white_space (slice_index text 0) ≡ true → slice_index text 0 ≡ 47 → ⊥
 white_no_slash text h e = false≢true (rw e at h)
 
--- what stands at the front is one gap at most
+-- at most one gap is at the start
 pub one_gap : {text : List ℕ} {n m : ℕ} → IsGap text n → IsGap text m → n ≡ m
 one_gap (white_space h) (white_space q) = refl
 one_gap {text} (white_space h) (block_comment at q low ends first) = absurd (white_no_slash text h (star_first text q))

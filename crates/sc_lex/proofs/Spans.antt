@@ -1,4 +1,4 @@
--- Tokens that cut bytes are slices of them, one behind another.
+-- Tokens that cut bytes are slices of them, one after another.
 use Rattle.sc_lex.proofs.Common.{All, AreSpans, Bool, Cuts, IsCut, IsSpan, IsToken, List, Token, TokenKind, arith, drop}
 use Rattle.sc_lex.proofs.Common.{gap, length-drop, nothing, refl, token, token_at, ℕ, ◌+◌, ◌-◌, ◌≡◌, ◌≤◌}
 use Rattle.std.proofs.lemmas.List.Elements.{All-cons}

@@ -1,4 +1,4 @@
--- The first word of a line, and the words behind it.
+-- The first word of a line, and the words after it.
 use Rattle.sc_lex.proofs.Common.{List, None, [], ap, arith, begins_heading, cases_lt, codes, cond, cond_both, drop}
 use Rattle.sc_lex.proofs.Common.{drop_all, drop_more, eqb, false, filter, get_or, get_or-drop, get_or-take, is_blank}
 use Rattle.sc_lex.proofs.Common.{is_empty, is_name, length, length-take, length-take-le, name_of, nat_eq, ne_eqb, not}
@@ -27,7 +27,7 @@ words-skip [] = refl
 words-skip (b ∷ line) = cond_both (is_blank b) _ _ (λ n. words (drop n (b ∷ line)) ≡ words (b ∷ line))
     (λ h. rw one-add (words-skip line ∙ sym (words-blank b line h))) (λ h. refl)
 
--- a first word, and what stands behind it
+-- a first word, and what follows it
 words-front : (line : List ℕ) (len : ℕ) → len ≡ position_or_len is_blank line → 0 < len →
     words line ≡ take len line ∷ words (drop len line)
 unfolding words
@@ -52,7 +52,7 @@ words-front line len is some = ⊎_elim (λ less.
     full : 0 < length (take len line)
     full = omega (arith, length-take-le len line fits)
 
--- the first word is this long, and the others stand behind it
+-- the first word is this long, and the others follow it
 record Front (line : List ℕ) (len : ℕ) : Type 0 where
   word : take len line ≡ get_or (words line) 0 []
   behind : words (drop len line) ≡ drop 1 (words line)
@@ -137,7 +137,7 @@ heading_fits text h = (begins_with text (codes "#pragma compartment ") h).fits
 
 pub ruleset heading = (heading_fits, take_rest)
 
--- the words behind the first one
+-- the words after the first one
 pub word-next : (line rest word : List ℕ) (k : ℕ) → words rest ≡ drop 1 (words line) → word ≡ get_or (words rest) k [] →
     word ≡ get_or (words line) (k + 1) []
 word-next line rest word k h q = let e : k + 1 ≡ 1 + k = omega arith in

@@ -20,15 +20,15 @@ begins_line_comment text = starts_with nat_eq text (codes "//")
 abbrev pub ends_comment : List ℕ → ℕ → Bool
 ends_comment text at = starts_with nat_eq (drop at text) (codes "*/")
 
--- The first bytes of a text, so many, lie between tokens: one byte of white space, a comment up to the first `*/`
--- behind its opening, or a comment up to the end of its line.
+-- The prefix of this length of a text lies between tokens: one byte of white space, a comment up to the first `*/`
+-- after its opening, or a comment up to the end of its line.
 pub data IsGap (text : List ℕ) : ℕ → Type 0 where
   white_space : IsTrue (is_white_space (slice_index text 0)) → IsGap text 1
   block_comment : (at : ℕ) → IsTrue (begins_block_comment text) → 2 ≤ at → IsTrue (ends_comment text at) →
       ((before : ℕ) → 2 ≤ before → before < at → IsTrue (ends_comment text before) → ⊥) → IsGap text (at + 2)
   line_comment : IsTrue (begins_line_comment text) → IsGap text (line_len text)
 
--- The first bytes of a text, so many, are the token at its front. Directives are allowed in some places only.
+-- The prefix of length `len` of a text is the token at its start. Directives are allowed in some places only.
 pub record IsToken (directives : Bool) (text : List ℕ) (kind : TokenKind) (len : ℕ) : Type 0 where
   pub within : len ≤ length text
   pub spelled : kind_of (take len text) ≡ Some kind

@@ -12,7 +12,7 @@ begins_heading text = starts_with nat_eq text (codes "#pragma compartment ")
 abbrev pub is_heading : List ℕ → ℕ → Bool
 is_heading text at = begins_line text at && begins_heading (drop at text)
 
--- the name that a compartment line gives: it stands right behind those 20 bytes, and only blanks may follow it
+-- the name that a compartment line gives: it follows those 20 bytes directly, and only blanks may follow it
 unfoldable pub heading_name : List ℕ → Option (List ℕ)
 heading_name line =
     if begins_heading line && not (is_blank (slice_index line 20)) then only_name (words (drop 20 line)) else None

@@ -13,7 +13,7 @@ has_suffix text = slice_index text (length text - 1) == 117 || slice_index text 
 abbrev pub without_suffix : List ℕ → List ℕ
 without_suffix text = if has_suffix text then take (length text - 1) text else text
 
--- `0x` or `0X` stands in front
+-- the text begins with `0x` or `0X`
 abbrev pub is_hexadecimal : List ℕ → Bool
 is_hexadecimal body = slice_index body 0 == 48 && (slice_index body 1 == 120 || slice_index body 1 == 88)
 

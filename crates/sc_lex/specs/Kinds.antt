@@ -54,7 +54,7 @@ directive_kind text = if is_pragma text then line_kind text else None
 unfoldable pub kind_of : List ℕ → Option TokenKind
 kind_of text = option_or (word_kind text) (option_or (mark_kind text) (directive_kind text))
 
--- a token of this kind may have this byte right behind it: letters, digits and `_` stand apart from identifiers
+-- this byte may follow a token of this kind directly: letters, digits and `_` stand apart from identifiers
 -- and integers, and directives are whole lines
 abbrev pub may_follow : TokenKind → ℕ → Bool
 may_follow Mark byte = true

@@ -24,7 +24,7 @@ first_line text = take (line_len text) text
 abbrev pub newlines : List ℕ → ℕ
 newlines text = count_by (λ byte. byte == 10) text
 
--- so many lines further on, where 4,294,967,295 is the number of all later lines
+-- `more` lines further on, where 4,294,967,295 is the number of all later lines
 abbrev pub line_after : ℕ → ℕ → ℕ
 line_after line more = min (line + more) 4294967295
 

@@ -6,16 +6,16 @@ use Rattle.sc_lex.specs.declared.token.TokenKind.{TokenKind}
 use Rattle.sc_lex.specs.declared.cut.Piece.{Piece}
 use Rattle.sc_lex.specs.declared.cut.Piece.TheVariants as pieces
 
--- no token stands at the front of a text, also where directives are allowed
+-- no token is at the start of a text, also where directives are allowed
 abbrev pub NoToken : List ℕ → Type 0
 NoToken text = (directives : Bool) (kind : TokenKind) (len : ℕ) → IsToken directives text kind len → ⊥
 
--- the first bytes of a text, so many, are this piece
+-- the prefix of length `len` of a text is this piece
 abbrev pub IsPiece : Bool → List ℕ → Piece → ℕ → Type 0
 IsPiece directives text pieces.Gap len = IsGap text len
 IsPiece directives text (pieces.Token kind) len = IsToken directives text kind len
 
--- no piece stands at the front of a text
+-- no piece is at the start of a text
 abbrev pub NoPiece : Bool → List ℕ → Type 0
 NoPiece directives text = (piece : Piece) (len : ℕ) → IsPiece directives text piece len → ⊥
 

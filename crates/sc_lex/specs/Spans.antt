@@ -11,7 +11,7 @@ pub record IsSpan (bytes : List ℕ) (token : Token) : Type 0 where
   pub kind : kind_of (slice_range bytes token.start token.end) ≡ Some token.kind
   pub line : token.line ≡ line_at bytes token.start
 
--- the tokens are slices of the bytes, one behind another
+-- the tokens are slices of the bytes, one after another
 pub record AreSpans (bytes : List ℕ) (tokens : List Token) : Type 0 where
   pub each : All (λ token. IsSpan bytes token) tokens
   pub apart : AllPairs (λ token later. token.end ≤ later.start) tokens

@@ -61,7 +61,7 @@ fn allows_directive(bytes: &[u8], at: usize) -> bool
     begins_line(bytes, at) && begins_heading(bytes)
 }
 
-// The piece at the front and its length, where directives are allowed or not.
+// The piece at the start and its length, where directives are allowed or not.
 #[tactic(auto, using(crate::proofs::Cuts::fits))]
 fn piece_at(text: &[u8], directives: bool) -> Option<(Piece, usize)>
     requires { 0 < length text.now }
@@ -98,7 +98,7 @@ fn push_piece(
     Ok(())
 }
 
-/// Tokens that cut bytes are slices of them, one behind another.
+/// Tokens that cut bytes are slices of them, one after another.
 pub fn slices_in_order()
     ensures { (bytes : List ℕ) (tokens : List Token) → IsCut bytes tokens → AreSpans bytes tokens }
 {}

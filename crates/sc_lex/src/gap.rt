@@ -51,7 +51,7 @@ fn block_comment_len(text: &[u8]) -> Option<usize>
     None
 }
 
-/// How many bytes at the front are a byte of white space or a comment, `None` where they are neither, or a comment
+/// How many bytes at the start are a byte of white space or a comment, `None` where they are neither, or a comment
 /// that doesn't end.
 #[tactic(auto, using(crate::proofs::Gaps::gaps))]
 pub fn gap_len(text: &[u8]) -> Option<usize>

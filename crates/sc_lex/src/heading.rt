@@ -30,7 +30,7 @@ fn word_len(line: &[u8]) -> usize
     line.iter().take_while(|byte| !is_blank(**byte)).count()
 }
 
-/// The first word of a line, which is empty where the line has none, and what stands behind it.
+/// The first word of a line, which is empty where the line has none, and what follows it.
 #[tactic(auto, using(crate::proofs::Wording::wording))]
 pub fn next_word(line: &[u8]) -> (&[u8], &[u8])
     ensures word { result.0.now ≡ get_or (words line.now) 0 [] }

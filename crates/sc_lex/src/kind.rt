@@ -1,4 +1,4 @@
-//! The kinds of texts, and the token at the front of a text.
+//! The kinds of texts, and the token at the start of a text.
 
 ghost use Rattle.sc_lex.specs.Prelude.{IsToken, NoToken, begins_block_comment, begins_line_comment, is_directive};
 ghost use Rattle.sc_lex.specs.Prelude.{is_export, is_import, is_mark, line_kind, word_kind, words};
@@ -22,7 +22,7 @@ fn is_name_byte(byte: u8) -> bool
     byte.is_ascii_alphanumeric() || byte == b'_'
 }
 
-// How many letters, digits and `_` stand at the front.
+// How many letters, digits and `_` are at the start.
 #[tactic(auto, using(crate::proofs::Wording::lengths))]
 fn name_len(text: &[u8]) -> usize
     ensures value { result ≡ prefix_len is_name_byte text.now }
@@ -147,7 +147,7 @@ fn mark_stands(text: &[u8], len: usize) -> bool
     text.len() >= len && is_mark(&text[..len])
 }
 
-// The longest mark at the front.
+// The longest mark at the start.
 fn mark_at(text: &[u8]) -> Option<(TokenKind, usize)>
     requires some { 0 < length text.now }
     requires no_word { is_name_byte (slice_index text.now 0) ≡ false }
@@ -168,7 +168,7 @@ fn mark_at(text: &[u8]) -> Option<(TokenKind, usize)>
     }
 }
 
-/// The token at the front and its length, where directives are allowed or not.
+/// The token at the start and its length, where directives are allowed or not.
 pub fn token_at(text: &[u8], directives: bool) -> Option<(TokenKind, usize)>
     requires { 0 < length text.now }
     ensures found { IfSome result (λ x. IsToken directives text.now x.0 x.1) }

@@ -12,7 +12,7 @@ use sc_base::Name;
 use sqlite_items::Items;
 use std::alloc::Global;
 
-/// One section of a text: a compartment line and what stands behind it, up to the next one.
+/// One section of a text: a compartment line and what follows it, up to the next one.
 #[derive(Clone, Copy)]
 pub struct Section<'a> {
     /// The name that the compartment line gives.

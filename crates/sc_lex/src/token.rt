@@ -24,7 +24,7 @@ pub struct Token {
     pub kind: TokenKind,
     /// The place of the first byte.
     pub start: usize,
-    /// The place behind the last byte.
+    /// The place after the last byte.
     pub end: usize,
     /// The line of the first byte, where the bytes begin in line 1.
     pub line: u32,

@@ -23,7 +23,7 @@ is_int_word _ h = absurd (false≢true h)
 abbrev pub NoInt : List Lexeme → Type 0
 NoInt rest = is_int (keyword_at rest) ≡ false
 
--- a word, and an `int` that may stand behind it
+-- a word, and an `int` that may follow it
 sign_taken : (ts rest : List Lexeme) (sign : Keyword) (value x : BaseTree) → keyword_at ts ≡ Some sign →
     ((t : Lexeme) → IsKeyword sign t → SpellsBase (t ∷ []) value) →
     ((t u : Lexeme) → IsKeyword sign t → IsKeyword word.Int u → SpellsBase (t ∷ u ∷ []) value) →
@@ -132,7 +132,7 @@ stars_count (star {ts = ts} {stars = n} t p d) rest h =
     let m = stars_count d rest h in
     (rw (p, m.0) (omega arith), let e : n + 1 ≡ suc n = omega arith in rw e m.1)
 
--- no `int` stands at the front of `*` and what is no `int`
+-- stars before lexemes that don't begin with `int` don't begin with it either
 pub stars_no_int : {ts : List Lexeme} {n : ℕ} (d : SpellsStars ts n) (rest : List Lexeme) → NoInt rest →
     NoInt (ts ++ rest)
 stars_no_int none rest h = h
@@ -163,7 +163,7 @@ pub integer_is : (s : Symbol) (number : Number) → integer_by s ≡ Some number
 integer_is (symbol.Integer other) number h = ap (λ n. symbol.Integer n) (same_some h)
 integer_is _ number h = absurd (none-some number h)
 
--- an integer at the front that may be a length
+-- an integer at the start that may be a length
 pub record Elements (ts rest : List Lexeme) (elements : ℕ) : Type 0 where
   pub first : Lexeme
   pub number : Number
@@ -185,7 +185,7 @@ elements_ahead (t ∷ ts) rest x h =
       fits = c.1 ∙ ap (λ n. Some n) same.0;
     }
 
--- What may stand behind the name in a declarator.
+-- What may follow the name in a declarator.
 pub data IsLength : List Lexeme → Option ℕ → Type 0 where
   no_length : IsLength [] None
   in_brackets : (u v w : Lexeme) (number : Number) (elements : ℕ) → IsMark mark.OpenSquare u → IsInteger number v →
@@ -211,7 +211,7 @@ unfolding length_at
 length_complete no_length rest h = rw h
 length_complete (in_brackets u v w number elements p q r k) rest h = rw (p, q, k, r)
 
--- a declarator, as it stands behind each base
+-- a declarator, whatever base it follows
 abbrev pub IsDeclarator : List Lexeme → Declarator → Type 0
 IsDeclarator ts x = (base : BaseTree) → SpellsDeclarator base ts (type_of base x) x.name
 

@@ -28,19 +28,19 @@ use Rattle.sc_parse.proofs.Bodies.{IsBody, a_body, body_sound, named_sound, body
 use Rattle.sc_parse.proofs.Expressions.{Few, few}
 use Rattle.sc_parse.proofs.Naming.{head_named}
 
--- no `{` stands at the front
+-- the lexemes don't begin with `{`
 abbrev NoCurly : List Lexeme → Type 0
 NoCurly ts = begins_with mark.OpenCurly ts ≡ false
 
--- no `(` stands at the front
+-- the lexemes don't begin with `(`
 abbrev NoParen : List Lexeme → Type 0
 NoParen ts = begins_with mark.OpenParen ts ≡ false
 
--- no `(` stands behind stars and a name at the front
+-- the lexemes don't begin with stars, a name and `(`
 abbrev NoCall : List Lexeme → Type 0
 NoCall ts = begins_call (past_stars ts) ≡ false
 
--- no directive stands at the front
+-- the lexemes don't begin with a directive
 abbrev pub NoLine : List Lexeme → Type 0
 NoLine ts = line_at ts ≡ None
 
@@ -49,7 +49,7 @@ stars_no_curly : {ts : List Lexeme} {n : ℕ} (d : SpellsStars ts n) (rest : Lis
 stars_no_curly types.none rest h = h
 stars_no_curly (star t p d) rest h = rw p
 
--- what stands behind stars at the front
+-- what follows the stars at the start
 past_all : {ts : List Lexeme} {n : ℕ} (d : SpellsStars ts n) (rest : List Lexeme) → begins_with mark.Star rest ≡ false →
     past_stars (ts ++ rest) ≡ rest
 past_all {ts} d rest h = let c = stars_count d rest h in ap (λ k. drop k (ts ++ rest)) c.0 ∙ c.1
@@ -79,7 +79,7 @@ init_no_paren (one t p d) rest h = rw p
 init_no_paren (many t u v p q r d) rest h = rw p
 init_no_paren (many_comma t u v w p q r k d) rest h = rw p
 
--- what stands behind the base of globals
+-- what follows the base of globals
 record Front (ts : List Lexeme) : Type 0 where
   no_int : NoInt ts
   no_curly : NoCurly ts
@@ -100,7 +100,7 @@ globals_front (lists.one d) rest h = global_front d rest h
 globals_front (more {ts = ts} {us = us} t p d g) rest h =
     subst Front (sym (append_assoc ts _ rest)) (global_front d (t ∷ us ++ rest) (rw p))
 
--- no struct is declared where no `{` stands behind the base
+-- no struct is declared where no `{` follows the base
 base_no_struct : {ts : List Lexeme} {base : BaseTree} (d : SpellsBase ts base) (rest : List Lexeme) → NoCurly rest →
     begins_struct (ts ++ rest) ≡ false
 base_no_struct (int t p) rest h = rw p
@@ -170,7 +170,7 @@ struct_begins (struct t u v w y tag p q r k l d g) rest = (rw (p, q, r), rw p)
 pub struct_some : {ts : List Lexeme} {x : StructTree} (d : SpellsStruct ts x) → 0 < length ts
 struct_some (struct t u v w y tag p q r k l d g) = omega arith
 
--- declarations whose trees are at most so high
+-- declarations whose trees are at most `limit` high
 abbrev pub IsDecls : ℕ → Form (List Decl)
 IsDecls limit = Low SpellsDecl decls_height limit
 
@@ -203,7 +203,7 @@ struct_one limit ts rest x q h =
     let t = struct_sound ts b.0.1 b.0.0 q b.1 in
     took t.taken b.2 t.split (a_struct t.spelled, omega arith)
 
--- What stands behind the head of a prototype or of a function.
+-- What follows the head of a prototype or of a function.
 data IsHeaded (limit : ℕ) (head : HeadTree) : List Lexeme → Decl → Type 0 where
   ends : (t : Lexeme) → IsMark mark.Semicolon t → IsHeaded limit head (t ∷ []) (decl.Proto head)
   goes_on : {ts : List Lexeme} {named : FunctionHead} {x : FunctionTree} → head_of named ≡ head →
@@ -219,7 +219,7 @@ behind_sound free limit tree ts rest x h = given (λ rest. Some _) _ _ h (λ q e
     let t = behind_mark mark.Semicolon ts vs q in
     took (t.0 ∷ []) e t.1 (ends t.0 t.2))
 
--- a `{` and no `;` stands behind the head of a function
+-- a `{` and no `;` follows the head of a function
 body_opens : {limit : ℕ} {named : FunctionHead} {x : FunctionTree} {ts : List Lexeme} (d : IsBody limit named ts x)
     (rest : List Lexeme) → behind mark.Semicolon (ts ++ rest) ≡ None
 body_opens (a_body t u p q g s) rest = rw p
@@ -291,7 +291,7 @@ global_decls : {ts : List Lexeme} {trees : List GlobalTree} (d : Declares IsGlob
     Declares IsGlobalDecl ts (map (λ tree. decl.Global tree) trees)
 global_decls (declares t p b g) = declares t p b (as_decls g)
 
--- with what stands behind its head
+-- a head and what follows it begin as heads do
 headed_begins : {ts : List Lexeme} {x : HeadTree} (d : SpellsHead ts x) (us rest : List Lexeme) →
     BeginsHead ((ts ++ us) ++ rest)
 headed_begins {ts} d us rest = subst BeginsHead (sym (append_assoc ts us rest)) (head_begins d (us ++ rest))
@@ -325,7 +325,7 @@ decl_some (prototype {ts = ts} t p d) = omega (arith, length-append ts (t ∷ []
 decl_some (a_function (function {ts = ts} {us = us} {vs = vs} t u p q d g s)) =
     omega (arith, length-append ts (t ∷ (us ++ (vs ++ u ∷ []))))
 
--- no directive stands at the front of a declaration
+-- a declaration doesn't begin with a directive
 pub decl_no_line : {ts : List Lexeme} {zs : List Decl} (d : SpellsDecl ts zs) (rest : List Lexeme) → NoLine (ts ++ rest)
 decl_no_line (a_struct d) rest = (struct_begins d rest).1
 decl_no_line (globals d) rest = (globals_begin d rest).no_line

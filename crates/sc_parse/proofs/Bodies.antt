@@ -19,7 +19,7 @@ use Rattle.sc_parse.proofs.Declared.{Valued, declaration_exact, valued, valued_e
 use Rattle.sc_parse.proofs.Expressions.{Few, IsExpr, NoExtension, expr_exact, few}
 use Rattle.sc_parse.proofs.Nested.{IsStmts, stmts_exact}
 
--- what a local begins with, at most so high
+-- the initialiser of a local, at most `limit` high
 abbrev IsValue : ℕ → Form (Option ExprTree)
 IsValue limit = Low SpellsValue init_height limit
 
@@ -50,7 +50,7 @@ value_no_bracket : {limit : ℕ} (ts : List Lexeme) (x : Option ExprTree) → Is
 value_no_bracket _ _ (no_value, low) rest h = h
 value_no_bracket _ _ (a_value t p d, low) rest h = rw p
 
--- a local whose initialiser is at most so high
+-- a local whose initialiser is at most `limit` high
 abbrev pub IsLow : ℕ → BaseTree → ℕ → Form LocalTree
 IsLow limit base line =
     Valued (IsValue limit) (λ ty name value. record { ty = ty; name = name; init = value; line = line }) base
@@ -86,7 +86,7 @@ locals_apart : {limit : ℕ} → Turns (Low (Declares IsLocal) locals_height lim
 locals_apart {limit} _ _ (declares t p d g, low) =
     declares t p d (items_turned local_apart (items_joined local_height limit g low))
 
--- the locals of a function, at most so high
+-- the locals of a function, at most `limit` high
 lows_exact : (free limit : ℕ) → Exact (Few free) (Low (Grouped (Declares IsLocal)) locals_height limit)
     (λ rest. no_base rest ≡ true) (locals_at free limit)
 lows_exact free limit = formed_exact (from_none (grouped_exact (few free) no_base (local_line_exact free limit)
@@ -114,7 +114,7 @@ named_sound head named h =
     ap head_of (sym same) ∙ ap (λ l. record { result = head.result; name = head.name; params = l; line = head.line })
     (params_sound _ b.0 b.1)
 
--- What stands behind the head of a function.
+-- What follows the head of a function.
 pub data IsBody (limit : ℕ) (head : FunctionHead) : List Lexeme → FunctionTree → Type 0 where
   a_body : {us vs : List Lexeme} {locals : List LocalTree} {body : List StmtTree} (t u : Lexeme) →
       IsMark mark.OpenCurly t → IsMark mark.CloseCurly u →

@@ -50,7 +50,7 @@ declarator_complete (array {ts = ts} {stars = n} t u v w name number elements p 
       name_is = refl;
     }
 
--- no `int` stands at the front of a declarator
+-- a declarator doesn't begin with `int`
 pub declarator_no_int : {base : BaseTree} {ts : List Lexeme} {ty : TypeTree} {name : List ℕ}
     (d : SpellsDeclarator base ts ty name) (rest : List Lexeme) → NoInt (ts ++ rest)
 declarator_no_int (plain {ts = ts} t name p d) rest =
@@ -108,7 +108,7 @@ module _ {A : Type 0} {Fits : Property} (parts : Hereditary Fits) {Item : BaseTr
           let items = adding (subst (λ n. Separated (Item base n) us zs) (sym line) g) in
           (lined_exact _ xs).complete _ _ (both b (before t p items)) rest fits tt
 
--- A declarator and a value behind it, which make a tree.
+-- A declarator and a value after it, which make a tree.
 pub data Valued {V T : Type 0} (Value : Form V) (tree : TypeTree → List ℕ → V → T) (base : BaseTree) :
     List Lexeme → T → Type 0 where
   valued : {ts us : List Lexeme} {ty : TypeTree} {name : List ℕ} {value : V} → SpellsDeclarator base ts ty name →
@@ -210,7 +210,7 @@ members_exact = record {
   complete = λ ts x d rest fits h. rw ((from_none lines_exact).complete ts x d.0 rest tt h, non_empty_is x d.1);
 }
 
--- behind `struct` in a line
+-- what follows `struct` in a line
 abbrev Tail : ℕ → Form StructTree
 Tail line = Then IsName (λ tag. Before mark.Semicolon (λ members. struct_tree tag members line)
     (Between mark.OpenCurly mark.CloseCurly IsMembers))
@@ -313,7 +313,7 @@ comma_taken us = given (λ rest. rest) (behind mark.Comma us) us refl
     let t = behind_mark mark.Comma us vs q in
     record { taken = t.0 ∷ []; split = t.1 ∙ ap (λ l. t.0 ∷ l) e; spelled = a_comma t.0 t.2 })
 
--- Constants behind `{`, up to the `}`.
+-- Constants after `{`, up to the `}`.
 data IsListed : List Lexeme → InitTree → Type 0 where
   bare : {ts : List Lexeme} {values : List ConstTree} (v : Lexeme) → IsMark mark.CloseCurly v →
       Separated SpellsConst ts values → IsListed (ts ++ v ∷ []) (init.Many values)

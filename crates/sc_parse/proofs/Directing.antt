@@ -24,7 +24,7 @@ line_is t l h = go t.symbol refl h
     go (symbol.Import comp name) q e = subst (IsLine t) (same_some e) (is_import comp name q)
     go _ q e = absurd (none-some l e)
 
--- a directive at the front
+-- the lexemes begin with a directive
 record Ahead (ts : List Lexeme) (l : Line) : Type 0 where
   first : Lexeme
   is : ts ≡ first ∷ drop 1 ts
@@ -34,7 +34,7 @@ line_ahead : (ts : List Lexeme) (l : Line) → line_at ts ≡ Some l → Ahead t
 line_ahead [] l h = absurd (none-some l h)
 line_ahead (t ∷ ts) l h = record { first = t; is = refl; line = line_is t l h }
 
--- A front of the lexemes, with the directives that it adds to those found before.
+-- A prefix of the lexemes, with the directives that it adds to those found before.
 pub record Directed (found : Directives) (ts : List Lexeme) (all : Directives) (rest : List Lexeme) : Type 0 where
   pub taken : List Lexeme
   pub exports : List ExportLine

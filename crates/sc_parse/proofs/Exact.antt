@@ -1,4 +1,4 @@
--- Readers that read exactly what is spelled, alone and in lists.
+-- Readers that read exactly what is spelled, of single items and of lists.
 use Rattle.sc_parse.proofs.Common.{Adder, Bool, Grouped, IsIdent, IsKeyword, IsMark, Keyword, Lexeme, List, Mark, None}
 use Rattle.sc_parse.proofs.Common.{Option, Reader, Separated, Some, Symbol, [], adds, all_separated, ap, append-nil}
 use Rattle.sc_parse.proofs.Common.{append_assoc, arith, before_mark, behind, behind_mark, bound, cond, drop, ended_by}
@@ -11,14 +11,14 @@ use Rattle.sc_expr.specs.declared.lexeme.Symbol.TheVariants as symbol
 use Rattle.sc_expr.specs.contracts.mark.Mark.{the_type}
 use denote.Enum.Bare.{true_same}
 
--- what is read at the front, as forms that lexemes have and properties of what stands behind
+-- what is read at the start, as forms that lexemes have and properties of what follows
 abbrev pub Form : Type 0 → Type 1
 Form A = List Lexeme → A → Type 0
 
 abbrev pub Property : Type 1
 Property = List Lexeme → Type 0
 
--- A front of the lexemes, with what it spells.
+-- A prefix of the lexemes, with what it spells.
 pub record Taken {A : Type 0} (Item : Form A) (ts : List Lexeme) (x : A) (rest : List Lexeme) : Type 0 where
   pub taken : List Lexeme
   pub split : ts ≡ taken ++ rest
@@ -74,7 +74,7 @@ pub took : {A : Type 0} {Item : Form A} {ts us rest : List Lexeme} {x y : A} (ta
 took {Item = Item} {ts = ts} taken h split spelled =
     subst (λ p. Taken Item ts p.0 p.1) (same_some h) (record { taken = taken; split = split; spelled = spelled })
 
--- What is spelled so and at most so high.
+-- What is spelled so and at most `room` high.
 abbrev pub Low : {A : Type 0} → Form A → (A → ℕ) → ℕ → Form A
 Low Item height room ts x = Item ts x × (height x ≤ room)
 
@@ -87,7 +87,7 @@ as_form turn t = record { taken = t.taken; split = t.split; spelled = turn _ _ t
 pub data Made {A B : Type 0} (f : A → B) (Item : Form A) : List Lexeme → B → Type 0 where
   made : {ts : List Lexeme} {x : A} → Item ts x → Made f Item ts (f x)
 
--- What stands behind a mark, with the mark.
+-- What follows a mark, with the mark.
 pub data After {A : Type 0} (m : Mark) (Item : Form A) : List Lexeme → A → Type 0 where
   after : {ts : List Lexeme} {x : A} (t : Lexeme) → IsMark m t → Item ts x → After m Item (t ∷ ts) x
 
@@ -99,11 +99,11 @@ pub data Before {A B : Type 0} (m : Mark) (f : A → B) (Item : Form A) : List L
 abbrev pub Between : {A : Type 0} → Mark → Mark → Form A → Form A
 Between opens closes Item = After opens (Before closes (λ x. x) Item)
 
--- What stands behind a word, with the word.
+-- What follows a word, with the word.
 pub data Behind {A : Type 0} (word : Keyword) (Item : Form A) : List Lexeme → A → Type 0 where
   behind_word : {ts : List Lexeme} {x : A} (t : Lexeme) → IsKeyword word t → Item ts x → Behind word Item (t ∷ ts) x
 
--- One form behind another, which the value of the first chooses.
+-- One form, then another, which the value of the first chooses.
 pub data Then {A B : Type 0} (Item : Form A) (Next : A → Form B) : List Lexeme → B → Type 0 where
   both : {ts us : List Lexeme} {x : A} {y : B} → Item ts x → Next x us y → Then Item Next (ts ++ us) y
 
@@ -148,7 +148,7 @@ pub made_of : {A B : Type 0} {f : A → B} {Item : Form A} (Other : Form B) →
     ((ts : List Lexeme) (x : A) → Item ts x → Other ts (f x)) → Turns (Made f Item) Other
 made_of Other make _ _ (made d) = make _ _ d
 
--- what was read behind a lexeme, with it
+-- what was read after a lexeme, with it
 pub front_taken : {A : Type 0} {Item Other : Form A} {ts us rest : List Lexeme} {x : A} (t : Lexeme) → ts ≡ t ∷ us →
     Taken Item us x rest → ((vs : List Lexeme) → Item vs x → Other (t ∷ vs) x) → Taken Other ts x rest
 front_taken t is d make =
@@ -158,7 +158,7 @@ keyword_is : (s : Symbol) (word : Keyword) → keyword_by s ≡ Some word → s 
 keyword_is (symbol.Keyword other) word h = ap (λ w. symbol.Keyword w) (same_some h)
 keyword_is _ word h = absurd (none-some word h)
 
--- a reserved word at the front
+-- the lexemes begin with a reserved word
 pub record Word (ts : List Lexeme) (word : Keyword) : Type 0 where
   pub first : Lexeme
   pub is : ts ≡ first ∷ drop 1 ts
@@ -248,7 +248,7 @@ module _ {Fits : Property} (parts : Hereditary Fits) where
     complete = λ ts x d rest fits ends. exact.complete ts x d rest tt ends;
   }
 
--- What stands at the front is added to a list.
+-- What is read at the start is added to a list.
 pub data Adds {A : Type 0} (Group : Form (List A)) (xs : List A) : List Lexeme → List A → Type 0 where
   adding : {ts : List Lexeme} {zs : List A} → Group ts zs → Adds Group xs ts (xs ++ zs)
 

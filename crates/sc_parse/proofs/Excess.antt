@@ -12,7 +12,7 @@ most_snoc : (n : ℕ) (ts : List Lexeme) (t : Lexeme) →
 most_snoc n [] t = refl
 most_snoc n (u ∷ ts) t = let h = most_snoc (open_after u.symbol n) ts t in omega (arith, h)
 
--- so many brackets are open behind the first lexemes, and never too many were
+-- `count` brackets are open after the first `at` lexemes, and never too many were
 pub record IsWithin (lexemes : List Lexeme) (at count : ℕ) : Type 0 where
   pub count_is : count ≡ open_along 0 (take at lexemes)
   pub few : most_open 0 (take at lexemes) ≤ 1024

@@ -54,7 +54,7 @@ few free = record {
   right = λ ts us h. omega (arith, most_right 0 ts us, h);
 }
 
--- an expression that is at most so high
+-- an expression that is at most `room` high
 abbrev pub IsExpr : ℕ → Form ExprTree
 IsExpr room = Low (Spells loosest_level) expr_height room
 
@@ -133,7 +133,7 @@ args_start (one d) rest = expr_starts d rest
 args_start (more {ts = ts} {us = us} t p d g) rest = ap begins_expr (append_assoc ts _ rest) ∙
     expr_starts d (t ∷ us ++ rest)
 
--- behind arguments stands `)`
+-- `)` follows arguments
 abbrev EndsArgs : Property
 EndsArgs rest = (NoExtension rest × (behind mark.Comma rest ≡ None)) × (begins_with mark.CloseParen rest ≡ true)
 
@@ -157,7 +157,7 @@ args_exact free room = record {
       listed.complete _ _ (items_joined expr_height room d low) rest fits ends.0,
     )
 
--- a call whose arguments are at most so high
+-- a call whose arguments are at most `room` high
 abbrev pub IsCall : ℕ → Form CallTree
 IsCall room = Low SpellsCall call_height room
 
@@ -182,7 +182,7 @@ pub call_begins : {ts : List Lexeme} {x : CallTree} (d : SpellsCall ts x) (rest 
     begins_call (ts ++ rest) ≡ true
 call_begins (call t u v name p q r d) rest = rw (p, q)
 
--- no identifier and `(` begin an expression, where no `(` stands behind it
+-- an expression doesn't begin with an identifier and `(`, where no `(` follows it
 pub no_call : {level : ℕ} {ts : List Lexeme} {e : ExprTree} (d : Spells level ts e) (rest : List Lexeme) →
     begins_with mark.OpenParen rest ≡ false → begins_call (ts ++ rest) ≡ false
 no_call (literal t number p) rest h = rw p

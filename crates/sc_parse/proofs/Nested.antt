@@ -29,7 +29,7 @@ use Rattle.sc_parse.proofs.Parts.{IsCondition, IsPart, IsTest, condition_exact, 
 use Rattle.sc_parse.proofs.Parts.{kind_no_word, part_exact, test_exact, IsKind, IsStmt, NoElse, Starts, a_stmt}
 use Rattle.sc_parse.proofs.Parts.{ended_sound, kind_starts, stmt_starts}
 
--- behind a `}` no `else` stands at the front
+-- lexemes that begin with `}` don't begin with `else`
 end_no_else : (rest : List Lexeme) → begins_with mark.CloseCurly rest ≡ true → NoElse rest
 end_no_else [] h = refl
 end_no_else (t ∷ ts) h = let is = mark_is mark.CloseCurly t h in rw is
@@ -38,7 +38,7 @@ is_else_word : (o : Option Keyword) → is_else o ≡ true → o ≡ Some word.E
 is_else_word (Some word.Else) h = refl
 is_else_word _ h = absurd (false≢true h)
 
--- a block, and statements up to `}`, at most so high
+-- a block, and statements up to `}`, at most `room` high
 abbrev pub IsBlock : ℕ → Form (List StmtTree)
 IsBlock room = Low SpellsBlock stmts_height room
 
@@ -48,7 +48,7 @@ IsStmts room = Low SpellsStmts stmts_height room
 abbrev pub AtEnd : Property
 AtEnd rest = begins_with mark.CloseCurly rest ≡ true
 
--- what may stand behind the first block of an `if`
+-- what may follow the first block of an `if`
 pub data IsElse (room : ℕ) : List Lexeme → List StmtTree → Type 0 where
   nothing : IsElse room [] []
   a_block : {ts : List Lexeme} {ss : List StmtTree} (u : Lexeme) → IsKeyword word.Else u → SpellsBlock ts ss →
@@ -88,7 +88,7 @@ plain_ended : (free : ℕ) → (room : ℕ) (ts : List Lexeme) (t : Lexeme) (res
 unfolding ended_at plain_at
 plain_ended free room ts t rest k p none other read = rw (none, other, read, p)
 
--- what stands behind the words of an `if` and of loops, in parts that are at most so high
+-- what follows the words `if`, `while` and `for`, in parts that are at most `room` high
 abbrev IfParts : ℕ → Form StmtKind
 IfParts room = Then (IsCondition room) (λ c. Then (IsBlock room) (λ th. Made (stmt.If c th) (IsElse room)))
 
@@ -294,7 +294,7 @@ module _ (free : ℕ) (room : ℕ) (inner : Reader StmtTree) (exact : Exact (Few
 no_stmt : {ts : List Lexeme} {x : StmtTree} (d : IsStmt 0 ts x) → ⊥
 no_stmt (a_stmt d low) = omega arith
 
--- a statement that is at most so high
+-- a statement that is at most `room` high
 pub stmt_exact : (free room : ℕ) → Exact (Few free) (IsStmt room) NoElse (stmt_at free room)
 unfolding stmt_at
 stmt_exact free zero = record {

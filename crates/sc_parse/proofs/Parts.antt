@@ -27,7 +27,7 @@ use Rattle.sc_parse.specs.Statements.{plain}
 use Rattle.sc_ast.specs.declared.stmt.StmtKind.TheVariants as stmt
 use Rattle.sc_expr.specs.declared.mark.Keyword.TheVariants as word
 
--- a condition that is at most so high
+-- a condition that is at most `room` high
 abbrev pub IsCondition : ℕ → Form ExprTree
 IsCondition room = Low SpellsCondition expr_height room
 
@@ -95,11 +95,11 @@ pub kind_no_mark : (m : Mark) → is_some (lead_by m) ≡ false → is_some (ste
 kind_no_mark m h s d rest = kind_front (begins_with m) false (no_mark m h) (λ t n l p q. other_mark m n t p
     (λ same. false≢true (sym s ∙ ap (λ k. is_some (step_of k)) (sym same) ∙ q))) d rest
 
--- a part of a `for`, at most so high
+-- a part of a `for`, at most `room` high
 abbrev pub IsPart : ℕ → Form (Option SimpleTree)
 IsPart room = Low SpellsPart option_height room
 
--- behind a part stands its mark, which begins no simple statement
+-- a part is followed by its mark, which begins no simple statement
 abbrev pub EndsPart : Mark → Property
 EndsPart m rest = EndsSimple rest × (begins_with m rest ≡ true)
 
@@ -127,7 +127,7 @@ part_exact free room m h s = record {
         let line : first_line (ts ++ rest) ≡ tree.line = first_line_some ts rest (kind_some d.0) ∙ sym d.1 in
         rw (kind_no_mark m h s d.0 rest, le-leb 1 room some, read, line)
 
--- the condition of a `for`, at most so high
+-- the condition of a `for`, at most `room` high
 abbrev pub IsTest : ℕ → Form ExprTree
 IsTest room = Low SpellsTest expr_height room
 
@@ -207,11 +207,11 @@ kind_starts (choice d) = if_starts d
 kind_starts (while_loop t p c b) = word_starts t _ _ _ p refl refl (λ h. absurd (false≢true h))
 kind_starts (for_loop t u v w x p q r s k f c n b) = word_starts t _ _ _ p refl refl (λ h. absurd (false≢true h))
 
--- a kind of statement whose parts are at most so high
+-- a kind of statement whose parts are at most `room` high
 abbrev pub IsKind : ℕ → Form StmtKind
 IsKind room = Low SpellsStmtKind kind_height room
 
--- a statement that is at most so high
+-- a statement that is at most `room` high
 pub data IsStmt (room : ℕ) : List Lexeme → StmtTree → Type 0 where
   a_stmt : {ts : List Lexeme} {k : StmtKind} → SpellsStmtKind ts k → kind_height k < room →
       IsStmt room ts (stmt_tree (first_line ts) k)
@@ -219,11 +219,11 @@ pub data IsStmt (room : ℕ) : List Lexeme → StmtTree → Type 0 where
 pub stmt_starts : {room : ℕ} {ts : List Lexeme} {x : StmtTree} (d : IsStmt room ts x) → Starts ts x.kind
 stmt_starts (a_stmt d h) = kind_starts d
 
--- what is a statement with a `;` behind it
+-- what is a statement with a `;` after it
 abbrev Unended : ℕ → Form StmtKind
 Unended room ts k = (u : Lexeme) → IsMark mark.Semicolon u → IsKind room (ts ++ u ∷ []) k
 
--- what stands behind `return`
+-- what follows `return`
 abbrev Returned : ℕ → Form StmtKind
 Returned room us k = (t : Lexeme) → IsKeyword word.Return t → Unended room (t ∷ us) k
 

@@ -13,7 +13,7 @@ use Rattle.sc_parse.proofs.Expressions.{Few, few}
 use Rattle.sc_parse.proofs.Beginnings.{NoLine, IsDecls, all_exact, decl_exact, decl_no_line}
 use Rattle.sc_parse.proofs.Directing.{lines_sound, lines_complete}
 
--- a compartment line at the front
+-- the lexemes begin with a compartment line
 record Compartment (ts rest : List Lexeme) (name : List ℕ) : Type 0 where
   first : Lexeme
   is : ts ≡ first ∷ rest
@@ -35,7 +35,7 @@ compartment_ahead (t ∷ ts) rest name h =
       names = compartment_is _ b.0 b.1 ∙ ap (λ n. symbol.Compartment n) same.0;
     }
 
--- declarations up to the end, at most so high
+-- declarations up to the end, at most `limit` high
 abbrev Declared : ℕ → Form (List Decl)
 Declared limit = Low (Grouped SpellsDecl) decls_height limit
 
@@ -56,7 +56,7 @@ decls_sound free limit ts rest zs h =
       end,
     )
 
--- a section that is at most so high
+-- a section that is at most `limit` high
 abbrev pub IsSection : ℕ → ℕ → Form SectionTree
 IsSection limit line = Low (SpellsSection line) section_height limit
 

@@ -28,7 +28,7 @@ use Rattle.sc_parse.proofs.Exact.{fits_behind, front_taken, given, made_exact, m
 use Rattle.sc_parse.proofs.Expressions.{Few, IsCall, IsExpr, NoExtension, begins_expr, call_begins, call_exact}
 use Rattle.sc_parse.proofs.Expressions.{call_starts, expr_exact, expr_starts, few, level_reads, no_call, starts_expr}
 
--- a mark at the front
+-- the lexemes begin with a mark
 pub record Marked (ts : List Lexeme) (m : Mark) : Type 0 where
   pub first : Lexeme
   pub is : ts ≡ first ∷ drop 1 ts
@@ -42,7 +42,7 @@ pub mark_ahead : (ts : List Lexeme) (m : Mark) → mark_at ts ≡ Some m → Mar
 mark_ahead [] m h = absurd (none-some m h)
 mark_ahead (t ∷ ts) m h = record { first = t; is = refl; mark = mark_is_by _ m h }
 
--- what stands behind a place, as a mark says
+-- what a mark after a place does to it
 data Changes : Mark → Change → Type 0 where
   sets : Changes mark.Equal change.Set
   by : (m : Mark) (op : BinaryOp) → compound_of m ≡ Some op → Changes m (change.By op)
@@ -57,11 +57,11 @@ changes : (m : Mark) (c : Change) → change_of m ≡ Some c → Changes m c
 changes mark.Equal c h = subst (Changes _) (same_some h) sets
 changes _ c h = change_other _ c h
 
--- a statement that may stand in the head of a `for`, whose parts are at most so high
+-- a statement that may stand in the head of a `for`, whose parts are at most `room` high
 abbrev pub IsSimple : ℕ → Form SimpleKind
 IsSimple room = Low SpellsKind simple_kind_height room
 
--- a place with its height, at most so high
+-- a place with its height, at most `room` high
 abbrev IsPlace : ℕ → Form Placed
 IsPlace room ts x = SpellsPlace ts x.place × (x.height ≡ expr_height x.place) × (x.height ≤ room)
 
@@ -84,7 +84,7 @@ no_value m prefixes.Dereference e h place = star_makes_none m h
 no_value m prefixes.Address e h place = absurd (false≢true (sym (address_no_place e) ∙ place))
 no_value m (prefixes.Operator op) e h place = absurd (false≢true (sym (unary_no_place op e) ∙ place))
 
--- of the operators `*` alone begins a place, and none a postfix expression
+-- of the operators only `*` begins a place, and none a postfix expression
 place_begins : {level : ℕ} {ts : List Lexeme} {e : ExprTree} (d : Spells level ts e) (rest : List Lexeme) →
     (0 < level → IsTrue (is_place e)) → begins_value (ts ++ rest) ≡ false
 place_begins (literal t number p) rest h = rw p
@@ -127,7 +127,7 @@ step_low : (op : BinaryOp) (e : ExprTree) (room : ℕ) → 1 ≤ expr_height e �
     simple_kind_height (updates op e one) ≤ room
 step_low op e room some h = let a = updates_height op e one in let b = one_height in omega arith
 
--- What stands behind a place, from the mark on that says what becomes of it.
+-- What follows a place, from the mark on that says what becomes of it.
 data IsChange (room : ℕ) (x : Placed) : List Lexeme → SimpleKind → Type 0 where
   assigns : {us : List Lexeme} {value : ExprTree} (t : Lexeme) → IsMark mark.Equal t → IsExpr room us value →
       IsChange room x (t ∷ us) (simple.Assign x.place value)
@@ -142,7 +142,7 @@ data IsChange (room : ℕ) (x : Placed) : List Lexeme → SimpleKind → Type 0 
 change_ahead : (ts : List Lexeme) (c : Change) → change_at ts ≡ Some c → (m : Mark) × Marked ts m × Changes m c
 change_ahead ts c h = let b = bound _ _ c h in (b.0, mark_ahead ts b.0 b.1, changes b.0 c b.2)
 
--- what stands behind the mark of such a change
+-- what follows the mark of such a change
 abbrev WithMark : ℕ → Placed → Lexeme → Form SimpleKind
 WithMark room x t us k = IsChange room x (t ∷ us) k
 

@@ -12,7 +12,7 @@ use Rattle.sc_parse.specs.Lists.{IsKeyword, IsInteger, first_line, Separated, Gr
 use Rattle.sc_parse.specs.Types.{SpellsBase, SpellsTypeName, SpellsDeclarator}
 use Rattle.sc_parse.specs.Statements.{SpellsStmts}
 
--- a base, then what Item says of each declarator behind it, with commas between them, then `;`
+-- a base, then what Item says of each declarator after it, with commas between them, then `;`
 pub data Declares {A : Type 0} (Item : BaseTree → ℕ → List Lexeme → A → Type 0) : List Lexeme → List A → Type 0 where
   declares : {ts us : List Lexeme} {base : BaseTree} {xs : List A} (t : Lexeme) → IsMark mark.Semicolon t →
       SpellsBase ts base → Separated (Item base (first_line ts)) us xs → Declares Item (ts ++ (us ++ t ∷ [])) xs
@@ -27,14 +27,14 @@ pub data SpellsStruct : List Lexeme → StructTree → Type 0 where
       SpellsStruct (t ∷ u ∷ v ∷ (ts ++ (us ++ w ∷ x ∷ [])))
       (record { name = tag; members = members ++ others; line = t.line })
 
--- An integer constant, maybe with a `-` in front.
+-- An integer constant, with or without a `-` before it.
 pub data SpellsConst : List Lexeme → ConstTree → Type 0 where
   plain : (t : Lexeme) (number : Number) → IsInteger number t →
       SpellsConst (t ∷ []) (record { negative = false; literal = number })
   negated : (t u : Lexeme) (number : Number) → IsMark mark.Minus t → IsInteger number u →
       SpellsConst (t ∷ u ∷ []) (record { negative = true; literal = number })
 
--- What a global begins with; a comma may stand behind the last constant of a list.
+-- The initialiser of a global; a comma may follow the last constant of a list.
 pub data SpellsInit : List Lexeme → InitTree → Type 0 where
   absent : SpellsInit [] init.Absent
   one : {ts : List Lexeme} {value : ConstTree} (t : Lexeme) → IsMark mark.Equal t → SpellsConst ts value →

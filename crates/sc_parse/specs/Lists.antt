@@ -23,7 +23,7 @@ pub data Separated {A : Type 0} (Item : List Lexeme → A → Type 0) : List Lex
   more : {ts us : List Lexeme} {x : A} {xs : List A} (t : Lexeme) → IsMark mark.Comma t → Item ts x →
       Separated Item us xs → Separated Item (ts ++ t ∷ us) (x ∷ xs)
 
--- Groups of items, one behind another.
+-- Groups of items, one after another.
 pub data Grouped {A : Type 0} (Group : List Lexeme → List A → Type 0) : List Lexeme → List A → Type 0 where
   none : Grouped Group [] []
   next : {ts us : List Lexeme} {xs ys : List A} → Group ts xs → Grouped Group us ys →

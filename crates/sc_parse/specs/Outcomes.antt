@@ -7,7 +7,7 @@ use Rattle.sc_lex.specs.declared.fault.TextFault.{TextFault}
 use Rattle.sc_lex.specs.declared.fault.TextFault.TheVariants as fault
 use Rattle.sc_parse.specs.SectionReaders.{section_at}
 
--- at this place stands the first lexeme behind which more than 1,024 brackets are open
+-- at this place is the first lexeme after which more than 1,024 brackets are open
 pub record IsExcess (lexemes : List Lexeme) (at : ℕ) : Type 0 where
   pub within : at < length lexemes
   pub few : most_open 0 (take at lexemes) ≤ 1024

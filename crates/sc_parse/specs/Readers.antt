@@ -43,7 +43,7 @@ length_at ts = option_map_or bracketed_length (behind mark.OpenSquare ts) (Some 
 abbrev pub declarator : ℕ → List ℕ → Option ℕ → Declarator
 declarator stars name elements = record { stars = stars; name = name; length = elements }
 
--- a declarator behind its base
+-- a declarator after its base
 unfoldable pub declarator_at : Reader Declarator
 declarator_at ts =
     name_at (drop (star_count ts) ts) >>= (λ x. length_at x.1 >>= (λ y. Some (declarator (star_count ts) x.0 y.0, y.1)))
@@ -60,7 +60,7 @@ Adder A = List A → Reader (List A)
 unfoldable pub adds : {A : Type 0} → Reader A → Adder A
 adds item xs ts = item ts >>= (λ x. Some (xs ++ x.0 ∷ [], x.1))
 
--- One or more with commas between them, in at most so many turns.
+-- One or more with commas between them, in at most this number of turns.
 unfoldable pub separated : {A : Type 0} → (List Lexeme → Option (List Lexeme)) → Adder A → ℕ → Adder A
 separated comma adder zero xs ts = None
 separated comma adder (suc turns) xs ts =
@@ -69,13 +69,13 @@ separated comma adder (suc turns) xs ts =
 abbrev pub all_separated : {A : Type 0} → Adder A → Adder A
 all_separated adder xs ts = separated (behind mark.Comma) adder (length ts + 1) xs ts
 
--- Groups up to where they end, in at most so many turns.
+-- Groups up to where they end, in at most this number of turns.
 unfoldable pub grouped : {A : Type 0} → (List Lexeme → Bool) → Adder A → ℕ → Adder A
 grouped ends group zero xs ts = None
 grouped ends group (suc turns) xs ts = if ends ts then Some (xs, ts) else
     (group xs ts >>= (λ x. grouped ends group turns x.0 x.1))
 
--- a base, the items behind it, and `;`
+-- a base, the items after it, and `;`
 unfoldable pub declaration_at : {A : Type 0} → (BaseTree → ℕ → Adder A) → Adder A
 declaration_at adder xs ts =
     base_at ts >>= (λ x. all_separated (adder x.0 (first_line ts)) xs x.1 >>=
@@ -128,7 +128,7 @@ consts_at ts =
 abbrev pub one_at : Reader InitTree
 one_at ts = const_at ts >>= (λ x. Some (init.One x.0, x.1))
 
--- what stands behind `=`
+-- what follows `=`
 unfoldable pub init_behind : Reader InitTree
 init_behind ts = option_map_or consts_at (behind mark.OpenCurly ts) (one_at ts)
 
@@ -170,7 +170,7 @@ unfoldable pub head_at : Reader HeadTree
 head_at ts = result_at ts >>= (λ x. name_at x.1 >>= (λ y.
     params_in_parens y.1 >>= (λ z. Some (head_tree x.0 y.0 z.0 (first_line ts), z.1))))
 
--- `struct`, an identifier and `{` stand at the front
+-- the lexemes begin with `struct`, an identifier and `{`
 abbrev pub names_struct : List Lexeme → Bool
 names_struct [] = false
 names_struct (t ∷ ts) = if is_some (name_at (t ∷ ts)) then begins_with mark.OpenCurly ts else false
@@ -182,7 +182,7 @@ is_struct_word _ = false
 abbrev pub begins_struct : List Lexeme → Bool
 begins_struct ts = if is_struct_word (keyword_at ts) then names_struct (drop 1 ts) else false
 
--- the lexemes behind a base, where one stands at the front
+-- the lexemes after a base, where they begin with one
 abbrev pub past_base_by : Option Keyword → List Lexeme → List Lexeme
 past_base_by (Some word.Signed) ts = past_int ts
 past_base_by (Some word.Unsigned) ts = past_int ts
@@ -195,6 +195,6 @@ past_base ts = past_base_by (keyword_at ts) (drop 1 ts)
 abbrev pub past_stars : List Lexeme → List Lexeme
 past_stars ts = drop (star_count ts) ts
 
--- a declaration at the front begins the head of a function or a prototype
+-- a declaration at the start begins with the head of a function or a prototype
 unfoldable pub begins_head : List Lexeme → Bool
 begins_head ts = is_void (keyword_at ts) || begins_call (past_stars (past_base ts))

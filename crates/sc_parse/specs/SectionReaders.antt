@@ -64,7 +64,7 @@ function_tree head locals body close_line = record {
   close_line = close_line;
 }
 
--- a function behind its head
+-- a function after its head
 unfoldable pub body_behind : (free limit : ℕ) → FunctionHead → Reader FunctionTree
 body_behind free limit head ts =
     behind mark.OpenCurly ts >>= (λ us. locals_at free limit us >>=
@@ -110,7 +110,7 @@ line_by (symbol.Export name) at = Some (line.Export (export_line name at))
 line_by (symbol.Import comp name) at = Some (line.Import (import_line comp name at))
 line_by _ at = None
 
--- the directive at the front
+-- the directive at the start
 abbrev pub line_at : List Lexeme → Option Line
 line_at [] = None
 line_at (t ∷ ts) = line_by t.symbol t.line
@@ -122,7 +122,7 @@ abbrev pub with_line : Directives → Line → Directives
 with_line found (line.Export l) = directives (found.exports ++ l ∷ []) found.imports
 with_line found (line.Import l) = directives found.exports (found.imports ++ l ∷ [])
 
--- Export lines and import lines, in at most so many turns.
+-- Export lines and import lines, in at most this number of turns.
 unfoldable pub lines_at : ℕ → Directives → Reader Directives
 lines_at zero found ts = None
 lines_at (suc turns) found ts = option_map_or (λ l. lines_at turns (with_line found l) (drop 1 ts)) (line_at ts)
@@ -148,8 +148,8 @@ section_tree name at found decls = record {
   decls = decls;
 }
 
--- a section whose compartment line is this one of the whole text, where so many brackets may be open and trees may be
--- so high
+-- a section whose compartment line is line `at` of the whole text, where `free` brackets may be open and trees may be
+-- `limit` high
 unfoldable pub section_within : (free limit : ℕ) → ℕ → Reader SectionTree
 section_within free limit at ts =
     compartment_at ts >>= (λ x. directives_at x.1 >>=

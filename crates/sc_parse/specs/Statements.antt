@@ -110,7 +110,7 @@ mutual
         SpellsPart vs next → SpellsBlock ws body → SpellsStmtKind (t ∷ u ∷ (ts ++ v ∷ (us ++ w ∷ (vs ++ x ∷ ws))))
         (stmt.For first cond next body)
 
-  -- An `if`; one behind `else` is a list of one statement.
+  -- An `if`; one after `else` is a list of one statement.
   pub data SpellsIf : List Lexeme → StmtKind → Type 0 where
     alone : {ts us : List Lexeme} {cond : ExprTree} {then_part : List StmtTree} (t : Lexeme) → IsKeyword word.If t →
         SpellsCondition ts cond → SpellsBlock us then_part → SpellsIf (t ∷ (ts ++ us)) (stmt.If cond then_part [])
@@ -127,7 +127,7 @@ mutual
     block : {ts : List Lexeme} {stmts : List StmtTree} (t u : Lexeme) → IsMark mark.OpenCurly t →
         IsMark mark.CloseCurly u → SpellsStmts ts stmts → SpellsBlock (t ∷ (ts ++ u ∷ [])) stmts
 
-  -- Statements, one behind another, each at the line of its first lexeme.
+  -- Statements, one after another, each at the line of its first lexeme.
   pub data SpellsStmts : List Lexeme → List StmtTree → Type 0 where
     none : SpellsStmts [] []
     next : {ts us : List Lexeme} {kind : StmtKind} {stmts : List StmtTree} → SpellsStmtKind ts kind →

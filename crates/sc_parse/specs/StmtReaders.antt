@@ -1,4 +1,4 @@
--- Helping: reading calls and statements from left to right, where the parts of a statement may be so high and `free`
+-- Helping: reading calls and statements from left to right, where a statement's parts may be `room` high and `free`
 -- brackets may be open.
 use Rattle.sc_parse.specs.Common.{BinaryOp, CallTree, ExprTree, Keyword, Lexeme, Mark, SimpleKind, SimpleTree, StmtKind}
 use Rattle.sc_parse.specs.Common.{StmtTree, Symbol, behind, is_place, kind_of, loosest_level, name_at, read}
@@ -20,7 +20,7 @@ use Rattle.sc_parse.specs.Statements.{compound_of, step_of, one, updates}
 use Rattle.sc_parse.specs.Fronts.{Reader, keyword_at, is_else, begins_with, begins_call}
 use Rattle.sc_parse.specs.Readers.{Adder, adds, all_separated, grouped}
 
--- an expression, at most so high
+-- an expression, at most `room` high
 unfoldable pub expr_at : (free : ℕ) → ℕ → Reader ExprTree
 expr_at free room ts = read free room loosest_level ts >>= (λ x. Some (x.tree, x.rest))
 
@@ -45,12 +45,12 @@ abbrev pub mark_by : Symbol → Option Mark
 mark_by (symbol.Mark m) = Some m
 mark_by _ = None
 
--- the mark at the front
+-- the mark at the start
 abbrev pub mark_at : List Lexeme → Option Mark
 mark_at [] = None
 mark_at (t ∷ ts) = mark_by t.symbol
 
--- what a mark behind a place does to it
+-- what a mark after a place does to it
 abbrev pub change_of : Mark → Option Change
 change_of mark.Equal = Some change.Set
 change_of m = option_map_or (λ op. Some (change.By op)) (compound_of m)
@@ -59,14 +59,14 @@ change_of m = option_map_or (λ op. Some (change.By op)) (compound_of m)
 abbrev pub change_at : List Lexeme → Option Change
 change_at ts = mark_at ts >>= change_of
 
--- the `++` or `--` at the front
+-- the `++` or `--` at the start
 abbrev pub step_at : List Lexeme → Option BinaryOp
 step_at ts = mark_at ts >>= step_of
 
 abbrev pub placed : ExprTree → ℕ → Placed
 placed place height = record { place = place; height = height }
 
--- an operator that makes a value of what stands behind it, and no place
+-- an operator that makes a value of what follows it, and no place
 abbrev pub makes_value : Mark → Bool
 makes_value mark.Minus = true
 makes_value mark.Plus = true
@@ -75,7 +75,7 @@ makes_value mark.Tilde = true
 makes_value mark.And = true
 makes_value _ = false
 
--- such an operator stands at the front, so that no place does
+-- the lexemes begin with such an operator, so with no place
 abbrev pub begins_value : List Lexeme → Bool
 begins_value ts = option_map_or makes_value (mark_at ts) false
 
@@ -87,13 +87,13 @@ unary_place free room ts = read free room unary_level ts >>=
 unfoldable pub place_at : (free : ℕ) → ℕ → Reader Placed
 place_at free room ts = if begins_value ts then None else unary_place free room ts
 
--- what stands behind `=`
+-- what follows `=`
 unfoldable pub value_behind : (free : ℕ) → ℕ → ExprTree → Reader SimpleKind
 value_behind free room place ts =
     if begins_call ts then (call_at free room ts >>= (λ x. Some (simple.AssignCall place x.0, x.1))) else
     (expr_at free room ts >>= (λ x. Some (simple.Assign place x.0, x.1)))
 
--- what stands behind the operator of a compound assignment, where the tree that is made has one level more
+-- what follows the operator of a compound assignment, where the tree that is made has one level more
 unfoldable pub operand_behind : (free : ℕ) → ℕ → BinaryOp → Placed → Reader SimpleKind
 operand_behind free room op x ts = if nat_lt x.height room then
     (expr_at free (room - 1) ts >>= (λ y. Some (updates op x.place y.0, y.1))) else None
@@ -119,7 +119,7 @@ call_alone free room ts = call_at free room ts >>= (λ x. Some (simple.Call x.0,
 abbrev pub unstepped : (free : ℕ) → ℕ → Reader SimpleKind
 unstepped free room ts = if begins_call ts then call_alone free room ts else assignment_at free room ts
 
--- what may stand in the head of a `for`, where its parts may be so high
+-- what may stand in the head of a `for`, where its parts may be `room` high
 unfoldable pub simple_at : (free : ℕ) → ℕ → Reader SimpleKind
 simple_at free room ts = option_map_or (λ op. step_before free room op (drop 1 ts)) (step_at ts)
     (unstepped free room ts)
@@ -151,7 +151,7 @@ value_returned free room ts =
     if begins_call ts then (call_at free room ts >>= (λ x. Some (stmt.ReturnCall x.0, x.1))) else
     (expr_at free room ts >>= (λ x. Some (stmt.ReturnValue x.0, x.1)))
 
--- what stands behind `return`, without the `;`
+-- what follows `return`, without the `;`
 unfoldable pub returned : (free : ℕ) → ℕ → Reader StmtKind
 returned free room ts = if begins_with mark.Semicolon ts then Some (stmt.Return, ts) else value_returned free room ts
 
@@ -186,7 +186,7 @@ last_part free room ts = before_mark mark.CloseParen (part_at free room mark.Clo
 abbrev pub for_parts : Option SimpleTree → ExprTree → Option SimpleTree → ForHead
 for_parts first cond next = record { first = first; cond = cond; next = next }
 
--- what stands behind `for`, up to its body
+-- what follows `for`, up to its body
 unfoldable pub for_head : (free : ℕ) → ℕ → Reader ForHead
 for_head free room ts =
     first_part free room ts >>= (λ w. middle_part free room w.1 >>=
@@ -210,7 +210,7 @@ module _ (inner : Reader StmtTree) where
   abbrev pub alone : Reader (List StmtTree)
   alone ts = inner ts >>= (λ x. Some (x.0 ∷ [], x.1))
 
-  -- behind `else`
+  -- after `else`
   unfoldable pub else_behind : Reader (List StmtTree)
   else_behind ts = if is_if (keyword_at ts) then alone ts else block_at ts
 
@@ -218,16 +218,16 @@ module _ (inner : Reader StmtTree) where
   else_at ts = if is_else (keyword_at ts) then else_behind (drop 1 ts) else Some ([], ts)
 
 module _ (free : ℕ) (inner : Reader StmtTree) (room : ℕ) where
-  -- behind `if`
+  -- after `if`
   unfoldable pub if_behind : Reader StmtKind
   if_behind ts = condition_at free room ts >>= (λ x. block_at inner x.1 >>=
       (λ y. else_at inner y.1 >>= (λ z. Some (stmt.If x.0 y.0 z.0, z.1))))
 
-  -- behind `while`
+  -- after `while`
   unfoldable pub while_behind : Reader StmtKind
   while_behind ts = condition_at free room ts >>= (λ x. block_at inner x.1 >>= (λ y. Some (stmt.While x.0 y.0, y.1)))
 
-  -- behind `for`
+  -- after `for`
   unfoldable pub for_behind : Reader StmtKind
   for_behind ts = for_head free room ts >>= (λ x. block_at inner x.1 >>= (λ y. Some (loop_of x.0 y.0, y.1)))
 
@@ -240,12 +240,12 @@ module _ (free : ℕ) (inner : Reader StmtTree) (room : ℕ) where
 abbrev pub stmt_tree : ℕ → StmtKind → StmtTree
 stmt_tree line kind = record { line = line; kind = kind }
 
--- a statement, where its parts may be so high
+-- a statement, where its parts may be `room` high
 unfoldable pub stmt_within : (free : ℕ) → Reader StmtTree → ℕ → Reader StmtTree
 stmt_within free inner room ts = kind_by free inner room (keyword_at ts) ts >>=
     (λ x. Some (stmt_tree (first_line ts) x.0, x.1))
 
--- a statement, at most so high
+-- a statement, at most this high
 unfoldable pub stmt_at : (free : ℕ) → ℕ → Reader StmtTree
 stmt_at free zero ts = None
 stmt_at free (suc room) ts = stmt_within free (stmt_at free room) room ts

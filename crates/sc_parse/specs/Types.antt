@@ -17,7 +17,7 @@ pub data SpellsBase : List Lexeme → BaseTree → Type 0 where
   struct : (t u : Lexeme) (tag : List ℕ) → IsKeyword word.Struct t → IsIdent tag u →
       SpellsBase (t ∷ u ∷ []) (base.Struct tag)
 
--- So many `*`.
+-- `*`, this number of times.
 pub data SpellsStars : List Lexeme → ℕ → Type 0 where
   none : SpellsStars [] 0
   star : {ts : List Lexeme} {stars : ℕ} (t : Lexeme) → IsMark mark.Star t → SpellsStars ts stars →
@@ -28,7 +28,7 @@ pub data SpellsTypeName : List Lexeme → TypeName → Type 0 where
   type_name : {ts us : List Lexeme} {base : BaseTree} {stars : ℕ} → SpellsBase ts base → SpellsStars us stars →
       SpellsTypeName (ts ++ us) (record { base = base; stars = stars })
 
--- What a declarator behind this base declares: a type and a name.
+-- What a declarator after this base declares: a type and a name.
 pub data SpellsDeclarator (base : BaseTree) : List Lexeme → TypeTree → List ℕ → Type 0 where
   plain : {ts : List Lexeme} {stars : ℕ} (t : Lexeme) (name : List ℕ) → IsIdent name t → SpellsStars ts stars →
       SpellsDeclarator base (ts ++ t ∷ []) (record { base = base; stars = stars; length = None }) name

@@ -27,7 +27,7 @@ fn open_after(symbol: &Symbol, count: u32) -> u32
     }
 }
 
-/// The place of the first lexeme behind which more than 1,024 brackets are open.
+/// The place of the first lexeme after which more than 1,024 brackets are open.
 pub fn first_excess(lexemes: &[Lexeme]) -> Option<usize>
     ensures excess { IfSome result (IsExcess lexemes.now) }
     ensures none { IfNone result (most_open 0 lexemes.now ≤ 1024) }

@@ -1,6 +1,6 @@
-//! What stands at the front of a list of lexemes.
+//! What a list of lexemes begins with.
 //!
-//! A parser takes the lexemes that are left by `&mut`, and leaves those behind what it read.
+//! A parser takes the lexemes that are left by `&mut`, and leaves those after what it read.
 
 ghost use Rattle.sc_parse.specs.Prelude.{Agrees, begins_call, begins_with, behind, behind_inner_comma, ended_by};
 ghost use Rattle.sc_parse.specs.Prelude.{first_line, integer_by, is_base, is_else, is_void, keyword_at, keyword_by};
@@ -10,7 +10,7 @@ ghost use Rattle.std.specs.Prelude.{◌≡◌, ◌≤◌, length, drop, IsSome, 
 use sc_ast::{Ident, Literal};
 use sc_expr::{Keyword, Lexeme, Mark, Symbol, SyntaxFault, expect, is_mark, name_by, refused};
 
-/// Whether a mark stands at the front.
+/// Whether the lexemes begin with a mark.
 pub fn begins_with(mark: Mark, rest: &[Lexeme]) -> bool
     ensures { result ≡ begins_with mark rest.now }
 {
@@ -20,7 +20,7 @@ pub fn begins_with(mark: Mark, rest: &[Lexeme]) -> bool
     is_mark(mark, &first.symbol)
 }
 
-/// Whether an identifier and `(` stand at the front.
+/// Whether the lexemes begin with an identifier and `(`.
 pub fn begins_call(rest: &[Lexeme]) -> bool
     ensures { result ≡ begins_call rest.now }
 {
@@ -40,7 +40,7 @@ pub fn first_line(rest: &[Lexeme]) -> u32
     }
 }
 
-/// Goes past a mark, if it stands at the front.
+/// Goes past a mark, if the lexemes begin with it.
 pub fn skip(mark: Mark, rest: &mut &[Lexeme]) -> bool
     ensures found { result ≡ true → behind mark rest.old.now ≡ Some rest.new.now }
     ensures none { result ≡ false → behind mark rest.old.now ≡ None }
@@ -57,7 +57,7 @@ pub fn skip(mark: Mark, rest: &mut &[Lexeme]) -> bool
     }
 }
 
-/// Goes past a comma, if one stands at the front and no `}` behind it.
+/// Goes past a comma at the start, if there is one and no `}` after it.
 pub fn skip_inner_comma(rest: &mut &[Lexeme]) -> bool
     ensures found { result ≡ true → behind_inner_comma rest.old.now ≡ Some rest.new.now }
     ensures none { result ≡ false → behind_inner_comma rest.old.now ≡ None }
@@ -81,7 +81,7 @@ pub fn take(mark: Mark, rest: &mut &[Lexeme]) -> Result<(), SyntaxFault>
     Ok(())
 }
 
-/// A value that was read, where this mark stands behind it, past which it goes.
+/// A value that was read, where this mark follows it. Goes past the mark.
 pub fn ended_by<T: Drop>(mark: Mark, value: T, rest: &mut &[Lexeme]) -> Result<T, SyntaxFault>
     ensures { Agrees (λ x. (x, rest.new.now)) result (ended_by mark value rest.old.now) }
 {
@@ -98,7 +98,7 @@ fn keyword_by(symbol: &Symbol) -> Option<Keyword>
     }
 }
 
-/// The reserved word at the front.
+/// The reserved word at the start.
 pub fn keyword_at(rest: &[Lexeme]) -> Option<Keyword>
     ensures value { result ≡ keyword_at rest.now }
     ensures some { IsSome result → 1 ≤ length rest.now }
@@ -109,7 +109,7 @@ pub fn keyword_at(rest: &[Lexeme]) -> Option<Keyword>
     keyword_by(&first.symbol)
 }
 
-/// The lexemes without an `int` that may stand at the front.
+/// The lexemes without an `int` that may come first.
 pub fn past_int(rest: &[Lexeme]) -> &[Lexeme]
     ensures { result.now ≡ past_int rest.now }
 {
@@ -158,7 +158,7 @@ pub fn integer_by(symbol: &Symbol) -> Option<Literal>
     }
 }
 
-/// The identifier at the front.
+/// The identifier at the start.
 pub fn name_at(rest: &mut &[Lexeme]) -> Result<Ident, SyntaxFault>
     ensures { Agrees (λ x. (x, rest.new.now)) result (name_at rest.old.now) }
 {
@@ -174,7 +174,7 @@ pub fn name_at(rest: &mut &[Lexeme]) -> Result<Ident, SyntaxFault>
     }
 }
 
-/// The lexemes behind the first.
+/// The lexemes after the first.
 pub fn past(rest: &[Lexeme]) -> &[Lexeme]
     ensures { result.now ≡ drop 1 rest.now }
 {
@@ -184,7 +184,7 @@ pub fn past(rest: &[Lexeme]) -> &[Lexeme]
     behind
 }
 
-/// How many `*` stand at the front.
+/// How many `*` are at the start.
 #[tactic(auto, using(crate::proofs::Steps::lengths), unfolding(crate::specs::Fronts::star_count))]
 pub fn star_count(rest: &[Lexeme]) -> usize
     ensures value { result ≡ star_count rest.now }

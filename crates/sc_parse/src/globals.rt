@@ -69,7 +69,7 @@ fn past_comma(rest: &mut &[Lexeme])
     let _found = skip(Mark::Comma, rest);
 }
 
-// The constants behind `{`, and the `}`.
+// The constants after `{`, and the `}`.
 #[tactic(auto, unfolding(crate::specs::Readers::consts_at))]
 fn consts_at(alloc: Global, rest: &mut &[Lexeme]) -> Result<InitTree, SyntaxFault>
     ensures { Agrees (λ x. (x, rest.new.now)) result (consts_at rest.old.now) }
@@ -89,7 +89,7 @@ fn one_at(rest: &mut &[Lexeme]) -> Result<InitTree, SyntaxFault>
     Ok(InitTree::One(const_at(rest)?))
 }
 
-// What stands behind `=`.
+// What follows `=`.
 #[tactic(auto, unfolding(crate::specs::Readers::init_behind))]
 fn init_behind(alloc: Global, rest: &mut &[Lexeme]) -> Result<InitTree, SyntaxFault>
     ensures { Agrees (λ x. (x, rest.new.now)) result (init_behind rest.old.now) }
@@ -173,7 +173,7 @@ fn with_globals(
     Err(refused(rest))
 }
 
-/// A declaration of globals, behind the declarations before.
+/// A declaration of globals, added to the declarations before.
 #[tactic(auto, unfolding(crate::specs::Readers::declaration_at))]
 pub fn globals_at(alloc: Global, decls: Decls, rest: &mut &[Lexeme]) -> Result<Decls, SyntaxFault>
     ensures { Agrees (λ x. (x, rest.new.now)) result (declaration_at globals_behind decls rest.old.now) }

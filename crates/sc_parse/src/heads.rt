@@ -54,7 +54,7 @@ fn all_params(alloc: Global, rest: &mut &[Lexeme]) -> Result<ParamTrees, SyntaxF
     Err(refused(rest))
 }
 
-// Goes past `void`, if it stands at the front.
+// Goes past `void`, if the lexemes begin with it.
 fn skip_void(rest: &mut &[Lexeme]) -> bool
     ensures value { result ≡ is_void (keyword_at rest.old.now) }
     ensures found { result ≡ true → rest.new.now ≡ drop 1 rest.old.now }
@@ -135,7 +135,7 @@ fn past_stars(rest: &[Lexeme]) -> &[Lexeme]
     &rest[star_count(rest)..]
 }
 
-/// Whether the head of a function or a prototype stands at the front.
+/// Whether the lexemes begin with the head of a function or a prototype.
 #[tactic(auto, unfolding(crate::specs::Readers::begins_head))]
 pub fn begins_head(rest: &[Lexeme]) -> bool
     ensures { result ≡ begins_head rest.now }

@@ -36,7 +36,7 @@ fn with_member(
     Ok(members)
 }
 
-// The declarators of one declaration of members, behind the members before.
+// The declarators of one declaration of members, added to the members before.
 #[tactic(auto, using(crate::proofs::Steps::turns))]
 fn with_members(
     base: &BaseTree,
@@ -54,7 +54,7 @@ fn with_members(
     Err(refused(rest))
 }
 
-// One declaration of members, behind the members before.
+// One declaration of members, added to the members before.
 #[tactic(auto, unfolding(crate::specs::Readers::declaration_at))]
 fn member_line(members: Members, rest: &mut &[Lexeme]) -> Result<Members, SyntaxFault>
     ensures { Agrees (λ x. (x, rest.new.now)) result (declaration_at members_behind members rest.old.now) }
@@ -99,7 +99,7 @@ fn members_in_braces(alloc: Global, rest: &mut &[Lexeme]) -> Result<MemberTrees,
     Ok(members)
 }
 
-/// A struct, where its first word stands at the front.
+/// A struct, where the lexemes begin with its first word.
 #[tactic(auto, unfolding(crate::specs::Readers::struct_at))]
 pub fn struct_at(alloc: Global, rest: &mut &[Lexeme]) -> Result<StructTree, SyntaxFault>
     requires { 1 ≤ length rest.old.now }

@@ -17,7 +17,7 @@ use sc_expr::{Built, Lexeme, Mark, Symbol, SyntaxFault, parse_level, refused, re
 use sqlite_items::Boxed;
 use std::alloc::{AllocError, Global};
 
-/// What a mark behind a place does to it.
+/// What a mark after a place does to it.
 #[derive(Clone, Copy)]
 enum Change {
     /// `=`
@@ -239,7 +239,7 @@ fn changed(
     }
 }
 
-// The change at the front, past which it goes.
+// The change at the start. Goes past the first lexeme.
 fn take_change(rest: &mut &[Lexeme]) -> Option<Change>
     ensures value { result ≡ change_at rest.old.now }
     ensures moved { rest.new.now ≡ drop 1 rest.old.now }

@@ -46,7 +46,7 @@ fn value_returned(alloc: Global, room: u32, rest: &mut &[Lexeme]) -> Result<Stmt
     }
 }
 
-// What stands behind `return`, without the `;`.
+// What follows `return`, without the `;`.
 #[tactic(auto, unfolding(crate::specs::StmtReaders::returned))]
 fn returned(alloc: Global, room: u32, rest: &mut &[Lexeme]) -> Result<StmtKind, SyntaxFault>
     ensures { Agrees (λ x. (x, rest.new.now)) result (returned 1024 room rest.old.now) }
@@ -198,7 +198,7 @@ fn block_at(alloc: Global, room: u32, rest: &mut &[Lexeme]) -> Result<Stmts, Syn
     ended_by(Mark::CloseCurly, stmts, rest)
 }
 
-// The statement behind `else`, alone, where it is an `if`.
+// The `if` after an `else`, as a list of one statement.
 #[cycle(statements)]
 fn alone(alloc: Global, room: u32, rest: &mut &[Lexeme]) -> Result<Stmts, SyntaxFault>
     ensures { Agrees (λ x. (x, rest.new.now)) result (alone (stmt_at 1024 room) rest.old.now) }

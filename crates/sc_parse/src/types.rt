@@ -8,7 +8,7 @@ use crate::front::{integer_by, keyword_at, name_at, past_int, skip, star_count, 
 use sc_ast::{ArrayLength, BaseTree, Ident, TypeName};
 use sc_expr::{Keyword, Lexeme, Mark, SyntaxFault, refused, refused_before};
 
-// The base that a reserved word begins, where these lexemes stand behind it. A word that begins none is refused itself.
+// The base that a reserved word begins, where these lexemes follow it. A word that begins none is refused itself.
 fn base_by(word: Option<Keyword>, rest: &mut &[Lexeme]) -> Result<BaseTree, SyntaxFault>
     ensures { Agrees (λ x. (x, rest.new.now)) result (base_by word rest.old.now) }
 {
@@ -91,7 +91,7 @@ fn length_at(rest: &mut &[Lexeme]) -> Result<Option<ArrayLength>, SyntaxFault>
     }
 }
 
-/// So many `*`, a name, and the length of an array in brackets.
+/// `*` `stars` times, a name, and the length of an array in brackets.
 #[derive(Clone, Copy)]
 pub struct Declarator {
     pub stars: u64,
@@ -99,7 +99,7 @@ pub struct Declarator {
     pub length: Option<ArrayLength>,
 }
 
-/// A declarator, behind its base.
+/// A declarator, after its base.
 #[tactic(auto, unfolding(crate::specs::Readers::declarator_at))]
 pub fn declarator_at(rest: &mut &[Lexeme]) -> Result<Declarator, SyntaxFault>
     ensures { Agrees (λ x. (x, rest.new.now)) result (declarator_at rest.old.now) }

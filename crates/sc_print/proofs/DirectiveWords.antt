@@ -27,7 +27,7 @@ kept_word : (word : List ℕ) (more : List (List ℕ)) → 0 < length word →
     filter (λ w. not (is_empty w)) (word ∷ more) ≡ word ∷ filter (λ w. not (is_empty w)) more
 kept_word word more some = let full = ne_eqb (length word) 0 (λ e. omega (arith, some, e)) in rw full
 
--- a word, a blank and what stands behind it
+-- a word, a blank and what follows
 word_front : (word rest : List ℕ) → list_all solid word ≡ true → 0 < length word →
     words (word ++ 32 ∷ rest) ≡ word ∷ words rest
 unfolding words

@@ -45,7 +45,7 @@ module _ (bytes : List ℕ) where
         says = on.says;
       }
 
-  -- so many blanks
+  -- `count` blanks
   indented : (count : ℕ) (front : List ℕ) (ss : List Symbol) (rest : List ℕ) →
       bytes ≡ front ++ (replicate count 32 ++ rest) →
       ((before : List ℕ) → bytes ≡ before ++ rest → Found bytes (length before) ss) → Found bytes (length front) ss
@@ -81,7 +81,7 @@ module _ (bytes : List ℕ) where
 pub cut_of : (pieces : List Piece) → Tidy pieces [] → Found (text_of pieces) 0 (symbols pieces)
 cut_of pieces t = found_from _ t refl [] refl
 
--- Lines of one word, which is a directive, and tidy pieces behind them.
+-- Lines of one word, which is a directive, and tidy pieces after them.
 pub data Lined : List Piece → Type 0 where
   tidy : {pieces : List Piece} → Tidy pieces [] → Lined pieces
   line : {text : List ℕ} {pieces : List Piece} → IsLine text → Lined pieces → Lined (word text ∷ newline ∷ pieces)
@@ -99,7 +99,7 @@ line_token text rest l =
     (sym l.is ∙ ap line_kind (sym (take-append_seam text _)))).1
 
 module _ (bytes : List ℕ) (heading : begins_heading bytes ≡ true) where
-  -- a line begins behind a newline
+  -- a line begins after a newline
   next_line : (front rest : List ℕ) → bytes ≡ front ++ 10 ∷ rest → begins_line bytes (length (front ++ 10 ∷ [])) ≡ true
   next_line front rest whole =
       let long = length-append front (10 ∷ []) in

@@ -117,7 +117,7 @@ module _ {A : Type 0} (say : A → List Piece) (kept : A → Bool) (Item : List 
       (λ front said t is back behind. more t (is ∙ tables.lone_says tables.comma_mark) (item x k front said)
       (separated y ys parts.0 parts.1 back behind)) ts h
 
--- An item that is spelled, and is this one, lines aside; and items one behind another.
+-- An item that is spelled, and is this one, lines aside; and items one after another.
 pub record Alike {A : Type 0} (Group : List Lexeme → List A → Type 0) (bare : A → A) (ts : List Lexeme)
     (x : A) : Type 0 where
   pub other : A

@@ -56,7 +56,7 @@ length_fits elements h = ⊎_elim (λ small. let low : elements ≤ 2147483647 =
     (λ large. let more = lt-ltb 2147483647 elements (omega (arith, large)) in
     and_from _ (nat_le _ 4294967295) (rw more) (le-leb _ 4294967295 h)) (cases_lt elements 2147483648)
 
--- what stands behind the base of a declaration
+-- what follows the base of a declaration
 abbrev pub declarator_words : TypeTree → List ℕ → List Piece
 declarator_words ty name = star_words ty.stars ++ word name ∷ length_words ty.length
 
@@ -102,7 +102,7 @@ init_reads (init.Many (c ∷ cs)) k =
     decls.many t u v (is ∙ tables.equal) (opens ∙ lone_says open_curly) (closes ∙ lone_says close_curly)
     (separated const_words kept_const SpellsConst (λ c k. const_from _ _ k) c cs parts.0 parts.1 ts said))
 
--- one declarator behind its base, on a line of its own
+-- one declarator after its base, on a line of its own
 single : {A : Type 0} (Item : BaseTree → ℕ → List Lexeme → A → Type 0) (depth : ℕ) (b : BaseTree) (behind : List Piece)
     (entry : ℕ → A) → IsTrue (kept_base b) → ((line : ℕ) → Reading behind (λ ts. Item b line ts (entry line))) → Reading
     (line_of depth (ended (base_words b ++ blank ∷ behind))) (λ ts. (line : ℕ) × Declares Item ts (entry line ∷ []))
@@ -114,7 +114,7 @@ single Item depth b behind entry k item ts h =
     )) ts (h ∙ line_symbols depth (ended (base_words b ++ blank ∷ behind)) ∙
     ap symbols (append_assoc (base_words b) _ _))
 
--- the same, where something stands behind the declarator
+-- the same, where something follows the declarator
 valued : {A : Type 0} (Item : BaseTree → ℕ → List Lexeme → A → Type 0) (depth : ℕ) (ty : TypeTree) (name : List ℕ)
     (value : List Piece) (entry : ℕ → A) (Value : List Lexeme → Type 0) → IsTrue (kept_type ty) →
     IsTrue (is_ident name) → Reading value Value → ((ts us : List Lexeme) (line : ℕ) → SpellsDeclarator ty.base ts ty

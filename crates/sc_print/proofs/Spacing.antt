@@ -1,4 +1,4 @@
--- The words of an expression stand apart: which text may stand behind a word, and that what is printed does.
+-- The words of an expression stand apart: which text may follow a word, and that what is printed does.
 use Rattle.sc_print.proofs.Common.{BinaryOp, Bool, ExprTree, ExprTree-F, IsToken, IsTrue, Keyword, List, Mark, Piece}
 use Rattle.sc_print.proofs.Common.{Printed, Some, TokenKind, UnaryOp, Under, [], and_from, and_parts, ap, append-nil}
 use Rattle.sc_print.proofs.Common.{append_assoc, arith, begins_block_comment, begins_line_comment, binary_text}
@@ -20,12 +20,12 @@ use Rattle.sc_print.proofs.Literals.{no_table, name_kind, name_some, literal_kin
 use Rattle.sc_print.proofs.Tables.{Lone, arrow, keyword_text, plus_plus, at_least_2, open_paren, close_paren}
 use Rattle.sc_print.proofs.Tables.{open_square, close_square, dot}
 
--- The text is the token at the front, where this stands behind it.
+-- The text is the token at the start, where `rest` follows it.
 pub record IsWord (text rest : List ℕ) : Type 0 where
   pub kind : TokenKind
   pub token : (here : Bool) → IsToken here (text ++ rest) kind (length text)
 
--- no letter, digit or `_` stands at the front
+-- the text doesn't begin with a letter, a digit or `_`
 abbrev pub Calm : List ℕ → Type 0
 Calm text = is_name_byte (slice_index text 0) ≡ false
 
@@ -124,11 +124,11 @@ binary_word binary.ShiftLeft rest = two_word 60 60 _ refl refl refl refl refl re
 binary_word binary.ShiftRight rest = two_word 62 62 _ refl refl refl refl refl refl
 binary_word _ rest = one_word _ _ refl refl refl refl refl refl (λ d. refl)
 
--- the bytes that may stand in a mark behind its first
+-- the bytes that may stand in a mark after its first
 abbrev pub is_loud : ℕ → Bool
 is_loud b = b == 43 || b == 45 || b == 38 || b == 124 || b == 60 || b == 61 || b == 62
 
--- no byte at the front goes on with a mark
+-- the first byte doesn't go on with a mark
 abbrev pub Quiet : List ℕ → Type 0
 Quiet text = is_loud (slice_index text 0) ≡ false
 
@@ -142,12 +142,12 @@ pub data IsSign : ℕ → Type 0 where
   minus : IsSign 45
   ampersand : IsSign 38
 
--- What stands behind an operator doesn't run into it.
+-- What follows an operator doesn't run into it.
 pub data Opens (before text : List ℕ) : Type 0 where
   quiet : Quiet text → Opens before text
   sign : IsSign (slice_index text 0) → (before ≡ slice_index text 0 ∷ [] → ⊥) → Opens before text
 
--- what may stand in front of an operand
+-- the byte of a unary operator
 pub data IsPrefix : ℕ → Type 0 where
   signed : {c : ℕ} → IsSign c → IsPrefix c
   bang : IsPrefix 33
@@ -191,7 +191,7 @@ keyword_kind _ = refl
 pub keyword_word : (w : Keyword) (rest : List ℕ) → Calm rest → IsWord (keyword_text w) rest
 keyword_word w rest calm = plain_word _ rest kind.Reserved (keyword_some w) (keyword_kind w) calm
 
--- Each word among the pieces is the token at its place, where this stands behind the pieces.
+-- Each word among the pieces is the token at its place, where this text follows the pieces.
 pub data Tidy : List Piece → List ℕ → Type 0 where
   none : {rest : List ℕ} → Tidy [] rest
   gap : {pieces : List Piece} {rest : List ℕ} → Tidy pieces rest → Tidy (blank ∷ pieces) rest
@@ -200,7 +200,7 @@ pub data Tidy : List Piece → List ℕ → Type 0 where
   next : {text : List ℕ} {pieces : List Piece} {rest : List ℕ} → IsWord text (text_of pieces ++ rest) →
       Tidy pieces rest → Tidy (word text ∷ pieces) rest
 
--- a mark that no longer mark begins with, whatever is behind it
+-- a mark that no longer mark begins with, whatever follows it
 pub lone : {text : List ℕ} {m : Mark} {pieces : List Piece} {rest : List ℕ} → Lone text m → Tidy pieces rest →
     Tidy (word text ∷ pieces) rest
 lone is t = next (lone_word is _) t
@@ -239,7 +239,7 @@ pub word_quiet : (text rest : List ℕ) (k : TokenKind) → 0 < length text → 
 word_quiet text rest k some is = name_quiet (slice_index (text ++ rest) 0)
     (starts text rest some (word_run text k is).run.all)
 
--- what is told of the front of an expression of the two tightest levels
+-- what an expression of the two tightest levels begins with
 abbrev Leads : List ℕ → ℕ → List ℕ → Type 0
 Leads before level text = (level ≡ 0 → Quiet text) × (level ≡ 1 → Opens before text)
 
@@ -250,7 +250,7 @@ quiet_append : (a b : List Piece) (rest : List ℕ) → Quiet (text_of a ++ (tex
     Quiet (text_of (a ++ b) ++ rest)
 quiet_append a b rest q = subst (λ x. Quiet x) (sym (behind a b rest)) q
 
--- pieces that stand apart, whatever calm text is behind them
+-- pieces that stand apart, whatever calm text follows them
 abbrev pub Sound : List Piece → Type 0
 Sound pieces = (rest : List ℕ) → Calm rest → Tidy pieces rest
 
@@ -273,7 +273,7 @@ doubled {c} (signed s) before text q =
     sign s (λ e. false≢true (sym q ∙ ap (λ x. bytes_eq x (c ∷ []) && is_doubled (c ∷ [])) e ∙ twice s))
 doubled _ before text q = quiet refl
 
--- an operator in front of an operand
+-- a unary operator before its operand
 module _ {c : ℕ} (p : IsPrefix c) (of : Printed) (fit : Fits of) where
   with_gap : (wanted : Bool) → Sound ((if wanted then blank ∷ [] else []) ++ word (c ∷ []) ∷ of (c ∷ []) 1)
   with_gap true rest calm = let f = fit _ 1 rest calm in gap (next (prefix_word p _ (f.1.1 refl)) f.0)
@@ -318,7 +318,7 @@ binary_tidy op left right at_left at_right before level rest calm = (
         subst (λ b. Quiet (text_of (in_parens b (left [] (levels.level_of op) ++ blank ∷ word (binary_text op) ∷ blank ∷
         right [] (levels.level_of op - 1))) ++ rest)) (sym wanted) refl
 
--- what stands behind a postfix expression
+-- what follows a postfix expression
 behind_tidy : (base : Printed) (more : List Piece) → Fits base →
     ((rest : List ℕ) → Calm rest → Calm (text_of more ++ rest) × Tidy more rest) →
     Fits (λ before level. base [] 0 ++ more)

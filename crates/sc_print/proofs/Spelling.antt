@@ -80,7 +80,7 @@ index_at e f base place at_base at_place level =
     (index t u (opens ∙ lone_says open_square) (closes ∙ lone_says close_square) (at_base ts said)
     (at_place us inside)))
 
--- a base, and behind a mark a name
+-- a base, and a name after a mark
 named_at : (kind name : List ℕ) (base : List Piece) (e of : ExprTree) → AtLevel 0 base of →
     ((ts : List Lexeme) (t u : Lexeme) → t.symbol ≡ word_symbol kind → u.symbol ≡ word_symbol name → Spells 0 ts of →
     Spells 0 (ts ++ t ∷ u ∷ []) e) → (level : ℕ) → AtLevel level (base ++ word kind ∷ word name ∷ []) e

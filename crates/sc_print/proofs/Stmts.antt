@@ -95,7 +95,7 @@ call_reads c k =
     (λ t is u opens args said v closes. spell.call t u v c.name (is ∙ name_says c.name parts.0)
     (opens ∙ lone_says open_paren) (closes ∙ lone_says close_paren) (args_read c.args parts.1 args said))
 
--- a place, and behind `=` what is assigned
+-- a place, and after `=` what is assigned
 assigned : (place : ExprTree) (value : List Piece) (P : List Lexeme → Type 0) → IsTrue (kept_place place) →
     ((ts : List Lexeme) (t : Lexeme) (us : List Lexeme) → SpellsPlace ts place → IsMark mark.Equal t →
     Say (symbols value) us → P (ts ++ t ∷ us)) → Reading (place_words place ++ (equals ++ value)) P
@@ -125,7 +125,7 @@ condition_reads cond k = reads (written (codes "(") ∷ part (expr_words cond) �
     (λ t opens ts said u closes. spell.condition t u (opens ∙ lone_says open_paren) (closes ∙ lone_says close_paren)
     (expr_reads cond k ts said))
 
--- The lexemes spell a statement, which is an `if` where that is told, and which is this one, lines aside.
+-- The lexemes spell a statement, which is an `if` where `is_if` says so, and which is this one, lines aside.
 pub record Spelled (ts : List Lexeme) (is_if : Bool) (k : StmtKind) : Type 0 where
   pub kind : StmtKind
   pub spelled : SpellsStmtKind ts kind
@@ -181,7 +181,7 @@ block_reads depth stmts each =
       same = inner.same;
     })
 
--- What stands behind the first part of an `if`: nothing, `else` and an `if`, or `else` and a block.
+-- What follows the first part of an `if`: nothing, `else` and an `if`, or `else` and a block.
 data Else (stmts : List StmtTree) : List Lexeme → Type 0 where
   no_else : lineless_stmts [] ≡ lineless_stmts stmts → Else stmts []
   else_if : (u : Lexeme) {vs : List Lexeme} (kind : StmtKind) → u.symbol ≡ word_symbol (codes "else") →

@@ -34,7 +34,7 @@ use Rattle.sc_print.proofs.Tables.{close_square}
 use Rattle.sc_ast.specs.declared.section.StructTree.{StructTree}
 use Rattle.sc_print.proofs.Sections.{length_fits}
 
--- pieces that stand apart whatever is behind them
+-- pieces that stand apart whatever follows them
 abbrev pub Free : List Piece → Type 0
 Free pieces = (rest : List ℕ) → Tidy pieces rest
 
@@ -44,7 +44,7 @@ expr_tidy e k rest calm = (tidy_at e k [] 11 rest calm).0
 place_tidy : (e : ExprTree) → IsTrue (kept_place e) → Sound (place_words e)
 place_tidy e k rest calm = (tidy_at e (and_parts _ _ k).1 [] 1 rest calm).0
 
--- pieces and a word behind them that anything may follow
+-- pieces and a word after them that anything may follow
 pub closing : (pieces : List Piece) (text : List ℕ) → Sound pieces → ((rest : List ℕ) → Calm (text ++ rest)) →
     ((rest : List ℕ) → IsWord text rest) → Free (pieces ++ word text ∷ [])
 closing pieces text t calm w rest = tidy_append pieces _ rest
@@ -137,7 +137,7 @@ choice_tidy : (wanted : Bool) (a b : List Piece) → Free a → Free b → Free 
 choice_tidy true a b s t = s
 choice_tidy false a b s t = t
 
--- what stands behind an `else` begins with a word or with `{`, and a blank stands before it
+-- what follows an `else` begins with a word or with `{`, and a blank stands before it
 else_tidy : (depth : ℕ) (stmts : List StmtTree) → Each (Of Apart) stmts → Free (else_words depth (layouts stmts))
 else_tidy depth stmts each =
     choice_tidy (length (layouts stmts) == 0) [] _ (λ rest. none)
@@ -316,7 +316,7 @@ calm_if : (wanted : Bool) (pieces : List Piece) (rest : List ℕ) → Calm (text
 calm_if true pieces rest calm = refl
 calm_if false pieces rest calm = calm
 
--- pieces that stand apart, whatever calm and quiet text is behind them
+-- pieces that stand apart, whatever calm and quiet text follows them
 abbrev Settled : List Piece → Type 0
 Settled pieces = (rest : List ℕ) → Calm rest → Quiet rest → Tidy pieces rest
 

@@ -160,7 +160,7 @@ pub section_cut : (tree : SectionTree) → IsTrue (kept_section tree) →
     Found (printed tree) 0 (symbols (section_words tree))
 section_cut tree k = cut_with tree k (flat_map decl_words tree.decls) (decls_tidy _ (keeps tree k).decls [])
 
--- an empty line in front may be left out
+-- an empty line at the start may be left out
 without_line : {pieces : List Piece} {rest : List ℕ} → Tidy (newline ∷ pieces) rest → Tidy pieces rest
 without_line (line_end t) = t
 

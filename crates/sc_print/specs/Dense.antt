@@ -5,7 +5,7 @@ use Rattle.std.specs.Prelude.{◌≡◌, ℕ, List, ◌++◌, map, drop}
 use Rattle.std.specs.List.{flat_map}
 use Rattle.sc_ast.specs.declared.section.Decl.TheVariants.{Function}
 
--- a declaration without the empty line in front of a function
+-- a declaration without the empty line before a function
 abbrev pub dense_decl : Decl → List Piece
 dense_decl (Function tree) = drop 1 (decl_words (Function tree))
 dense_decl decl = decl_words decl

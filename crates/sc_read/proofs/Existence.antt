@@ -59,7 +59,7 @@ module _ (text : List ℕ) where
       let within : (at < next) × (next ≤ length text) = (omega (arith, n.low), n.high) in
       record { heading = h; name = is; start = refl; line = refl; bytes = refl; within = within; whole = n.clear }
 
-  -- a bad line behind a section is the first one
+  -- a bad line after a section is the first one
   bad_behind : (at next : ℕ) (name : List ℕ) → name_at text at ≡ Some name → IsNext (at + 1) next → IsFirstBad next →
       IsFirstBad at
   bad_behind at next name is n b = record {

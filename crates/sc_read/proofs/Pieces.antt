@@ -21,7 +21,7 @@ HoldsNot p from to = (at : ℕ) → from ≤ at → at < to → p at ≡ true �
 abbrev Found : (ℕ → Bool) → ℕ → ℕ → Type 0
 Found p from to = ((at : ℕ) × IsFirst p from to at) ⊎ HoldsNot p from to
 
--- where a test doesn't hold at the first place, it holds behind it
+-- where a test doesn't hold at the first place, the place where it holds comes after it
 past : (p : ℕ → Bool) (from at : ℕ) → p from ≡ false → p at ≡ true → from ≤ at → from < at
 past p from at fails holds low = ⊎_elim (λ less. less)
     (λ le. let same : at ≡ from = omega arith in absurd (false≢true (sym fails ∙ subst (λ k. p k ≡ true) same holds)))
@@ -129,7 +129,7 @@ implied false c = inl (λ h. absurd (false≢true h))
 implied true true = inl (λ h. refl)
 implied true false = inr (λ on. false≢true (on refl))
 
--- a front of this length spells a token
+-- a prefix of this length spells a token
 abbrev spells : List ℕ → ℕ → Bool
 spells text len = is_some (kind_of (take len text))
 

@@ -21,7 +21,7 @@ zip_push R [] (b ∷ ys) x y h r = absurd h
 zip_push R (a ∷ xs) [] x y h r = absurd h
 zip_push R (a ∷ xs) (b ∷ ys) x y h r = (h.0, zip_push R xs ys x y h.1 r)
 
--- behind items that are good stands the first bad one
+-- the first bad one of some items is also the first after more that are good
 pub first_behind : {A B : Type 0} {Good Bad : A → Type 0} (R : A → B → Type 0) → ((x : A) (y : B) → R x y → Good x) →
     (xs : List A) (ys : List B) (more : List A) → AllZip R xs ys → First Good Bad more → First Good Bad (xs ++ more)
 first_behind R good [] ys more h f = f
@@ -173,7 +173,7 @@ more_sections R ss ys at s y low is h r =
     subst (λ xs. AllZip R xs (ys ++ y ∷ [])) (ap (λ x. take at ss ++ x ∷ []) is ∙ sym (take_more ss at s low))
     (zip_push R _ ys s y h r)
 
--- behind good sections this one is the first bad one
+-- after good sections this one is the first bad one
 pub first_bad : {B : Type 0} {Good Bad : Section → Type 0} (R : Section → B → Type 0) →
     ((s : Section) (y : B) → R s y → Good s) → (ss : List Section) (ys : List B) (at : ℕ) (s : Section) →
     at < length ss → s ≡ get_or ss at s → AllZip R (take at ss) ys → Bad s → First Good Bad ss
@@ -203,7 +203,7 @@ pub as_many_from : {A B : Type 0} (R : A → B → Type 0) (xs : List A) (ys : L
     AllZip R (drop at xs) (drop at ys) → at < length xs → at < length ys
 as_many_from R xs ys at h low = omega (arith, length-drop at xs, length-drop at ys, as_many R _ _ h)
 
--- what stands behind a place stays, whatever is put there
+-- what follows a place stays, whatever is put there
 pub zip_behind : {A B : Type 0} (R : A → B → Type 0) (xs : List A) (ys : List B) (at : ℕ) (z : B) →
     AllZip R (drop at xs) (drop at ys) → at < length xs → at < length ys →
     AllZip R (drop (suc at) xs) (drop (suc at) (slice_set ys at z))

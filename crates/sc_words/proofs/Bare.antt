@@ -95,7 +95,7 @@ no_options form has (word ∷ words) bare waiting = go (is_bare word) refl waiti
         (later (rw e at bare))
     go false e (Some name) later = waits (begins_with_hyphen word) name (later (rw e at bare) None)
 
--- no command has a hyphen in front
+-- no command begins with a hyphen
 no_command : (name : Text) → is_bare name ≡ true → form_of name ≡ None
 no_command [] bare = absurd (true≢false (sym bare))
 no_command (a ∷ xs) bare = go _ refl

@@ -30,7 +30,7 @@ first_fails (k ∷ ks) b fails e = not_empty k ks e
 pub first_plain : (x : ℕ) (xs : Text) → begins_with_hyphen (x ∷ xs) ≡ false → (x == 45) ≡ false
 first_plain x xs e = sym (and-true (x == 45)) ∙ e
 
--- a word that is not bare has no hyphen in front, or names an option
+-- a word that is not bare doesn't begin with a hyphen, or names an option
 pub by_hyphens : (P : Text → Type 0) → ((word : Text) → begins_with_hyphen word ≡ false → P word) →
     ((x : ℕ) (xs : Text) → P (45 ∷ 45 ∷ x ∷ xs)) → (word : Text) → is_bare word ≡ false → P word
 by_hyphens P plain long [] bare = plain [] refl

@@ -58,7 +58,7 @@ within_by_test {T} f most text = go (nat_lt 0 _ && all_ascii_digits text)
     go true = step _ (nat_le _ most) (le-leb 0 _ (omega arith))
     go false = refl
 
--- the digits of a text with no sign in front
+-- the digits of a text that doesn't begin with `+`
 pub digits_read : {E : Type 0} (text : List ℕ) (r : Result ℕ E) → ParsesUnsigned 32 10 text r →
     (slice_index text 0 == 43) ≡ false → result_ok r ≡ number_within 0 4294967295 text
 digits_read text r h plain =
@@ -68,7 +68,7 @@ digits_read text r h plain =
     (λ e. let all = parts 4294967295 text e in (all.0, all.1, omega (arith, all.2)))
     ∙ (within_by_test _ 4294967295 text ∙ option_map_id _)
 
--- an integer with no `+` in front
+-- an integer that doesn't begin with `+`
 pub integer_read : {E : Type 0} (text : List ℕ) (r : Result ℤ E) → ParsesSigned w32 10 text r →
     (slice_index text 0 == 43) ≡ false → result_ok r ≡ integer text
 integer_read [] r h plain = by_test r _ _ false (parse_signed_plain own w32 [] r h (λ e. absurd (omega arith))
@@ -145,7 +145,7 @@ more_pieces (b ∷ rest) e = go (is_comma b) refl (more_pieces rest)
 
 -- ---- a list that is read piece by piece
 
--- so many pieces of the text are read as these integers, and what is left of it
+-- the first `count` pieces of the text are read as the integers `done`, and `left` is left of it
 pub record IsReadUpTo (text : List ℕ) (count : ℕ) (done : List ℤ) (left : List ℕ) : Type 0 where
   pub values : integers (pieces text) ≡ option_map (λ xs. done ++ xs) (integers (pieces left))
   pub pieces : length (pieces text) ≡ count + length (pieces left)

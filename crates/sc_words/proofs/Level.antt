@@ -1,4 +1,4 @@
--- What a parse makes of the words behind a command's name: the options that they give, or a fault.
+-- What a parse makes of the words after a command's name: the options that they give, or a fault.
 use Rattle.sc_words.proofs.Common.{Bool, Form, Held, Kinds, List, None, Option, Row, Rule, Setting, Shape, Some, Step}
 use Rattle.sc_words.proofs.Common.{Text, Waiting, Walk, [], after_flag, after_step, ap, append-nil, append_assoc, ap₂}
 use Rattle.sc_words.proofs.Common.{arg_by_id, begins_with_hyphen, bytes_eq_self, check_fault, codes, cond}
@@ -81,7 +81,7 @@ module _ (title : Text) (form : Form) where
   waiting_long n h x xs = ap (λ a. fault_by (option n) (45 ∷ 45 ∷ x ∷ xs) a (name_and_value (x ∷ xs)).1 h)
       (by_long form (name_and_value (x ∷ xs)).0)
 
-  -- a word with no hyphen in front is no argument where nothing waits
+  -- a word that doesn't begin with a hyphen is no argument where nothing waits
   idle_plain : (h : Held) (word : Text) → begins_with_hyphen word ≡ false →
       turn_fault s [] (at idle h) word ≡ kind.UnknownArgument ∷ []
   idle_plain h [] e = rw (by_index form 1) refl
@@ -407,7 +407,7 @@ module _ (title : Text) (form : Form) where
       let later = words_agree words parts.1 in
       (idle_next word words parts.0 parts.1 later.0 later.1, waiting_next word words parts.0 parts.1 later.0)
 
-  -- the words behind a command's name are what the definition says
+  -- the words after a command's name are what the definition says
   pub level_agrees : (words : List Text) → list_all (λ word. not (is_bare word)) words ≡ true
       → Agrees (level_fault s [] nothing_held words false []) (rows_after rs [] words) (options form words)
   unfolding faults ends

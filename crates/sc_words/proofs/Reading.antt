@@ -16,7 +16,7 @@ use Rattle.clap.specs.declared.parser.matches.SubCommand.{SubCommand}
 use Rattle.sc_words.proofs.Bare.{by_command, none_bare}
 use Rattle.sc_words.proofs.Top.{Reads, has_matches, words_agree}
 
--- each command reads the options of its form alone
+-- each command reads only the options of its form
 
 abbrev Same : Text → Form → Type 0
 Same name form = (settings : List Setting) (rows : List Row) (summary : Bool) → Tells form settings rows

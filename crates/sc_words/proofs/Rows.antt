@@ -41,7 +41,7 @@ row form o = plain_row o.0 (if has_value form o.0 then o.1 else codes "true")
 abbrev pub rows : Form → List Setting → List Row
 rows form = map (row form)
 
--- the rows at the end, with the defaults of the options that stand alone
+-- the rows at the end, with the defaults of the flags
 abbrev pub final : Form → List Setting → List Row
 final form all = fold with_default (rows form all) (ready_rules form)
 
@@ -121,7 +121,7 @@ or_none : {X : Type 0} (o : Option X) → option_or o None ≡ o
 or_none None = refl
 or_none (Some x) = refl
 
--- what the defaults of the options that stand alone add
+-- what the defaults of the flags add
 found_final : (names : List Text) (now : List Row) (name : Text)
     → find (by_name name) (fold with_default now (map ready_alone names ++ [])) ≡
     option_or (find (by_name name) now) (default_of names name)

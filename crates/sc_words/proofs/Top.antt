@@ -102,7 +102,7 @@ command_passes n name = go _
     go true = refl
     go false = refl
 
--- the words behind the command are kept for it
+-- the words after the command are kept for it
 fold_stopped : (w : Walk) (p : Text × List Text) (words : List Text)
     → fold (walked [] names) (record w { stopped = Some p }) words ≡ record w { stopped = Some (p.0, p.1 ++ words) }
 unfolding walked

@@ -1,4 +1,4 @@
--- Helping: what the parse is told of the commands, and what it finds.
+-- Helping: the commands as the parser gets them, and what it finds.
 use Rattle.std.specs.Prelude.{◌≡◌, Bool, true, false, List, [], ◌++◌, map, codes, Some}
 use Rattle.clap.specs.Walk.{Row, first_of, one_of}
 use Rattle.clap.specs.Words.{App, Rule, Shape, app_of, new_rule, rule_of, subcommand_rows_of}
@@ -23,7 +23,7 @@ rules_of form = map (valued_rule true) form.needed ++ (map (valued_rule false) f
 abbrev pub shape_with : Text → Form → Shape
 shape_with name form = record (new_shape name) { rules = rules_of form }
 
--- nothing of the parser's own: no name in front, no help and no version
+-- nothing of the parser's own: no program name before the words, no help and no version
 abbrev pub top : Shape
 top = record (new_shape (codes "secomp")) {
   no_binary_name = true;

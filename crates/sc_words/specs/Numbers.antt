@@ -5,7 +5,7 @@ use Rattle.std.specs.List.{list_any, before_first, after_first}
 use Rattle.std.specs.Str.{all_ascii_digits}
 use Rattle.std.specs.Str.Parse.{digits_value}
 
--- one decimal digit or more, with as many zeros in front as one likes, and no sign
+-- one decimal digit or more, with any number of leading zeros, and no sign
 abbrev pub number : List ℕ → Option ℕ
 number text = if nat_lt 0 (length text) && all_ascii_digits text then Some (digits_value 10 text) else None
 
@@ -16,7 +16,7 @@ when_within low high n = if nat_le low n && nat_le n high then Some n else None
 abbrev pub number_within : (low high : ℕ) → List ℕ → Option ℕ
 number_within low high text = option_and_then (when_within low high) (number text)
 
--- a number that may have a `-` in front, from -2147483648 to 2147483647
+-- a number, with or without a `-` before it, from -2147483648 to 2147483647
 abbrev pub integer : List ℕ → Option ℤ
 integer [] = None
 integer (byte ∷ rest) =
@@ -30,7 +30,7 @@ abbrev pub onto_first : ℕ → List (List ℕ) → List (List ℕ)
 onto_first byte [] = (byte ∷ []) ∷ []
 onto_first byte (piece ∷ pieces) = (byte ∷ piece) ∷ pieces
 
--- what stands before, between and behind the commas of a text
+-- what stands before, between and after the commas of a text
 unfoldable pub pieces : List ℕ → List (List ℕ)
 pieces [] = [] ∷ []
 pieces (byte ∷ rest) = if is_comma byte then [] ∷ pieces rest else onto_first byte (pieces rest)

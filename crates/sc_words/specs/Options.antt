@@ -7,13 +7,13 @@ use Rattle.std.specs.Str.{bytes_eq}
 abbrev pub Text : Type 0
 Text = List ℕ
 
--- the names of a command's options: those with a value, of which some have to be given, and those that stand alone
+-- the names of a command's options: those with a value, of which some have to be given, and flags, which have none
 pub record Form : Type 0 where
   pub needed : List Text
   pub valued : List Text
   pub alone : List Text
 
--- an option with its value, which is empty where the option stands alone
+-- an option with its value, which is empty for a flag
 abbrev pub Setting : Type 0
 Setting = Text × Text
 
@@ -35,7 +35,7 @@ name_and_value text = (
   if list_any is_equals text then Some (after_first is_equals text) else None,
 )
 
--- `--name` or `--name=value`, where the value stands behind the first `=`
+-- `--name` or `--name=value`, where the value follows the first `=`
 abbrev pub named : Text → Option (Text × Option Text)
 named word = if bytes_eq (take 2 word) (codes "--") then Some (name_and_value (drop 2 word)) else None
 
@@ -46,7 +46,7 @@ is_bare word = begins_with_hyphen word && (not (bytes_eq (take 2 word) (codes "-
 abbrev pub more : Text → Text → Option (List Setting) → Option (List Setting)
 more name value = option_map (λ settings. (name, value) ∷ settings)
 
--- what a word that is no value says, where `behind` reads the words behind it for the option that waits for its value
+-- what a word that is no value says, where `behind` reads the words after it for the option that waits for its value
 abbrev pub named_option : Form → Option (Text × Option Text) → (Option Text → Option (List Setting)) →
     Option (List Setting)
 named_option form None behind = None
@@ -57,7 +57,7 @@ named_option form (Some (name, None)) behind =
     else (if is_among form.alone name then more name [] (behind None) else None)
 
 -- the options that words give, in order, where `waiting` is the option whose value is the first word. A value in a word
--- of its own has no hyphen in front
+-- of its own doesn't begin with a hyphen
 unfoldable pub settings : Form → Option Text → List Text → Option (List Setting)
 settings form None [] = Some []
 settings form (Some name) [] = None

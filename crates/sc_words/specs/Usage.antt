@@ -1,4 +1,4 @@
--- What somebody is told whose words are no command.
+-- What is printed where the words are no command.
 use Rattle.std.specs.Prelude.{ℕ, List, [], ◌∷◌, ◌++◌, codes}
 
 -- lines, each with its end

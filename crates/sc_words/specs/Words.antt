@@ -52,7 +52,7 @@ number_or absent low high (Some text) = number_within low high text
 abbrev pub limit : Option Text → Option ℕ
 limit value = number_or 1000000 0 16777216 value
 
--- how many events a run shows at most
+-- how many events a run emits at most
 abbrev pub events : Option Text → Option ℕ
 events value = number_or 1024 0 4096 value
 
@@ -72,7 +72,7 @@ run value =
     record { steps = steps; events = events; inputs = inputs })
     (inputs (value (codes "in")))) (events (value (codes "events")))) (limit (value (codes "steps")))
 
--- which text of the chain is shown, if the option is given
+-- which text of the chain is printed, if the option is given
 abbrev pub text_to_show : Option Text → Option (Option ℕ)
 text_to_show None = Some None
 text_to_show (Some text) = option_map Some (number_within 0 32 text)

@@ -19,7 +19,7 @@ pub(crate) fn application<'a>(alloc: Global) -> Result<Command<'a>, AllocError>
         .subcommand(make(alloc)?)
 }
 
-// Nothing but the words that the product itself knows: no name in front, no help and no version.
+// Nothing but the words that the product itself knows: no program name before them, no help and no version.
 fn top<'a>(alloc: Global) -> Command<'a>
     ensures { app_of result ≡ record { top = top; subs = [] } }
 {
@@ -74,7 +74,7 @@ fn needed<'a>(alloc: Global, name: &'a str) -> Arg<'a>
         .required(true)
 }
 
-// An option that stands alone.
+// A flag, an option without a value.
 fn alone<'a>(alloc: Global, name: &'a str) -> Arg<'a>
     ensures { IsArgumentOf (alone_rule name.entry.now) result }
 {

@@ -10,7 +10,7 @@
 //! | `make` | `--size K`, `--seed N`, `--summary` |
 //!
 //! The first word is the command. An option is written `--name value` or `--name=value`, in any order, and at most
-//! once. A value in a word of its own has no hyphen in front. `--summary` stands alone, and `make` needs its other two.
+//! once. A value in a word of its own doesn't begin with a hyphen. `--summary` is a flag. `make` needs its other two.
 //! Every other word makes the words no command, also `--`, `-h`, `--help`, `help` and an abbreviation.
 //!
 //! | value | what it may be | where the option isn't given |

@@ -30,7 +30,7 @@ fn read_digits(text: &str) -> Option<u32>
     text.parse::<u32>().ok()
 }
 
-// A number may not have a `+` in front, which `parse` lets pass.
+// A number may not begin with a `+`, which `parse` lets pass.
 fn has_plus(text: &str) -> bool
     ensures { result ≡ (slice_index text.now 0 == 43) }
 {
@@ -68,7 +68,7 @@ pub(crate) fn read_list(alloc: Global, text: &str) -> Result<Items<i32>, WordsFa
     Err(WordsFault::Usage)
 }
 
-// What stands before the first comma, and what stands behind it, if there is one.
+// What stands before the first comma, and what follows it, if there is one.
 #[tactic(auto, using(crate::proofs::Digits::no_comma))]
 fn first_piece(text: &str) -> (&str, Option<&str>)
     ensures piece { result.0.now ≡ first_piece text.now }

@@ -11,7 +11,7 @@ use clap::error::ErrorKind;
 use clap::{ArgMatches, Error};
 use std::alloc::Global;
 
-/// The command that the words are, without the program's own name in front. Where memory runs out, that is the
+/// The command that the words are, without the program's own name before them. Where memory runs out, that is the
 /// answer whatever the words are.
 #[tactic(auto, unfolding(crate::specs::Words::command))]
 pub fn read_command(alloc: Global, words: &[String]) -> Result<Command, WordsFault>

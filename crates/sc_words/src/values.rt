@@ -118,7 +118,7 @@ fn limit(options: &ArgMatches<'_>, name: &str) -> Option<u32>
     }
 }
 
-// How many events a run shows at most.
+// How many events a run emits at most.
 fn events(options: &ArgMatches<'_>) -> Option<u32>
     ensures { result ≡ events (first_value (found_of options.now) (codes "events")) }
 {
@@ -138,7 +138,7 @@ fn inputs(alloc: Global, options: &ArgMatches<'_>) -> Result<Items<i32>, WordsFa
     }
 }
 
-// Which text of the chain is shown, if the option is given.
+// Which text of the chain is printed, if the option is given.
 fn text_to_show(options: &ArgMatches<'_>) -> Option<Option<u32>>
     ensures { result ≡ text_to_show (first_value (found_of options.now) (codes "show")) }
 {

@@ -53,7 +53,7 @@ fn append_length(out: &mut Text, length: Option<ArrayLength>) -> Result<(), OutO
     }
 }
 
-// A base and the blank behind it.
+// A base and the blank after it.
 fn append_specifier(out: &mut Text, base: &BaseTree) -> Result<(), OutOfMemory>
     ensures { OnOk result (out.new ≡ out.old ++ text_of (base_words base.now ++ blank ∷ [])) }
 {

@@ -63,7 +63,7 @@ fn append_apart(out: &mut Text, before: &[u8], sign: &[u8]) -> Result<(), OutOfM
     }
 }
 
-// An operator in front of an operand, and `(` before it where that is wanted.
+// A unary operator, and `(` before it where that is wanted.
 fn append_sign(out: &mut Text, before: &[u8], sign: &[u8], wanted: bool) -> Result<(), OutOfMemory>
     ensures { OnOk result (out.new ≡ out.old ++ text_of
         (opened wanted ++ (apart before.now sign.now ++ word sign.now ∷ []))) }
@@ -82,7 +82,7 @@ fn append_operator(out: &mut Text, op: BinaryOp) -> Result<(), OutOfMemory>
     out.push(b' ')
 }
 
-// Adds an expression behind an operator, which is empty where there is none. An expression of this level or a tighter
+// Adds an expression after an operator, which is empty where there is none. An expression of this level or a tighter
 // one gets no parentheses.
 #[cycle(expr)]
 fn append_at(out: &mut Text, expr: &ExprTree, before: &[u8], level: u8) -> Result<(), OutOfMemory>

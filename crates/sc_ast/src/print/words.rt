@@ -1,4 +1,4 @@
-//! Words that stand alone.
+//! Parentheses, integer constants and indentation.
 
 ghost use Rattle.sc_ast.specs.Prelude.{closed, deeper, indent, literal_text, opened, text_of};
 ghost use Rattle.std.specs.Prelude.{◌≡◌, ◌++◌, [], ◌∷◌, OnOk};
