@@ -17,7 +17,7 @@ filled_is text named = record {
   within = omega (arith, length-append text (zeros_behind (length text)));
 }
 
--- a text copied over the front of zeros
+-- a text copied over the start of zeros
 pub copied_over : (text blank : List ℕ) → blank ≡ replicate 63 0 → text ++ drop (length text) blank ≡ filled text
 copied_over text blank is = ap (λ all. text ++ drop (length text) all) is ∙
     ap (λ rest. text ++ rest) (drop-replicate {X = ℕ} (length text) 63 0)

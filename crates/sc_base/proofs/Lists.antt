@@ -1,4 +1,4 @@
--- Lists: elements at their places, fronts and rests, one step of a loop, the first or the only one that passes, and
+-- Lists: elements at their places, prefixes and rests, one step of a loop, the first or the only one that passes, and
 -- maps.
 use Rattle.sc_base.proofs.Common.{All, Bool, List, None, Some, [], add-one, and_from, and_parts, ap, arith, cases_lt}
 use Rattle.sc_base.proofs.Common.{cond, drop, drop-cons, false, find, get_or, if◌then◌else◌, length, list_all, lt-ltb}
@@ -8,7 +8,7 @@ use Rattle.std.specs.Option.{option_map}
 use Rattle.std.proofs.lemmas.List.Sums.{passes_at_first, fails_before_first}
 use Rattle.std.proofs.lemmas.Option.{get_or_from_slice_get, slice_get-get_or, slice_get_within}
 
--- the element behind a first part
+-- the element after a prefix
 pub get_behind : {A : Type 0} (xs : List A) (y : A) (ys : List A) → slice_get (xs ++ y ∷ ys) (length xs) ≡ Some y
 get_behind [] y ys = refl
 get_behind (x ∷ xs) y ys = get_behind xs y ys

@@ -1,4 +1,4 @@
--- The first places of names in a list, one more name behind.
+-- The first places of names in a list, and in that list with one more name.
 use Rattle.sc_base.proofs.Common.{Bool, HasPlaces, IndexMap, List, None, Option, Some, Updates, [], ap, arith, cond}
 use Rattle.sc_base.proofs.Common.{false, get, is_numbered, is_some, length, list_any, nat_eq, number_of, pointwise}
 use Rattle.sc_base.proofs.Common.{position_from, refl, same_text, suc, sym, true, true≢false, ℕ, ◌++◌, ◌+◌, ◌==◌, ◌||◌}
@@ -6,7 +6,7 @@ use Rattle.sc_base.proofs.Common.{◌∙◌, ◌∷◌, ◌≡◌}
 use Rattle.std.proofs.lemmas.Cmp.{nat_list_eq_equiv}
 use Rattle.std.proofs.lemmas.Iterator.Adapters.{position_from-zero}
 
--- the first place, or else a place behind
+-- the first place, or else this place, where it passes
 abbrev pub or_behind : Option ℕ → Bool → ℕ → Option ℕ
 or_behind (Some i) passes place = Some i
 or_behind None passes place = cond passes (Some place) None

@@ -19,7 +19,7 @@ is_nondigit byte = byte == 95 || (is_between 65 90 byte || is_between 97 122 byt
 abbrev pub is_name_byte : ℕ → Bool
 is_name_byte byte = is_nondigit byte || is_digit byte
 
--- a nondigit and fewer than 63 nondigits and digits behind it
+-- a nondigit and fewer than 63 nondigits and digits after it
 unfoldable pub is_name : List ℕ → Bool
 is_name [] = false
 is_name (first ∷ rest) = is_nondigit first && (list_all is_name_byte rest && nat_lt (length rest) 63)

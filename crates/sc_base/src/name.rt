@@ -14,7 +14,7 @@ use std::marker::Model;
 #[derive(Clone, Copy)]
 pub struct Name {
     len: u8,
-    // The identifier, and zeros behind it.
+    // The identifier, and zeros after it.
     bytes: [u8; 63],
 }
 
@@ -114,7 +114,7 @@ fn filled(text: &[u8]) -> [u8; 63]
     array
 }
 
-// Apart, since a goal that shows each zero is long.
+// Apart, since a goal that lists each zero is long.
 fn blank() -> [u8; 63]
     ensures { result ≡ replicate 63 0 }
 {

@@ -38,7 +38,7 @@ impl NameList {
         }
     }
 
-    /// Adds a name behind the others. A list of 4294967296 names takes no more.
+    /// Adds a name after the others. A list of 4294967296 names takes no more.
     pub fn push(&mut self, name: Name) -> Result<(), OutOfMemory>
         ensures ok { OnOk result (self.new ≡ self.old ++ name ∷ []) }
         ensures err { OnErr result (self.new ≡ self.old) }

@@ -1,7 +1,7 @@
 ghost use Rattle.sc_base.specs.Prelude.{level_of};
 ghost use Rattle.std.specs.Prelude.{◌≡◌, ◌<◌};
 
-/// An operator in front of its operand, other than `*` and `&` (C11 6.5.3.3).
+/// An operator before its operand, other than `*` and `&` (C11 6.5.3.3).
 #[derive(Clone, Copy, Debug, PartialEq, Eq)]
 pub enum UnaryOp {
     /// `-`

@@ -2,7 +2,7 @@ ghost use Rattle.sc_base.specs.Prelude.{is_reserved};
 ghost use Rattle.std.specs.Prelude.{◌≡◌, ◌∷◌, bytes_eq};
 ghost use Rattle.std.specs.List.{list_any};
 
-// How reserved words go on behind an `s`.
+// How reserved words go on after an `s`.
 const BEHIND_S: [&[u8]; 6] = [b"hort", b"igned", b"izeof", b"tatic", b"truct", b"witch"];
 
 /// Whether the text is a keyword of C11 (6.4.1), `malloc` or `free`.

@@ -20,7 +20,7 @@ few_below (s ∷ slots) number = elim (cases_lt _ number) [
   | inr high ↦ omega (arith, not_below number s slots high)
 ]
 
--- one that isn't lower is behind those that are
+-- one that isn't lower comes after those that are
 pub at_most : (slots : List Slot) (number place : ℕ) (d : Slot) → place < length slots →
     number ≤ (get_or slots place d).number → count_below number slots ≤ place
 at_most [] number place d h high = omega (arith, h)
@@ -60,7 +60,7 @@ none_below : (slots : List Slot) (from made number : ℕ) → IsRising from made
 none_below [] from made number up h = refl
 none_below (s ∷ slots) from made number up h = not_below number s slots (omega (arith, h, up.0))
 
--- where a first block is: before those that end, among them, or behind
+-- where a first block is: before those that end, among them, or after
 data Turn (first end : ℕ) (s : Slot) (slots : List Slot) : Type 0 where
   is_before : s.number < first → without first end (s ∷ slots) ≡ s ∷ without first end slots → Turn first end s slots
   is_among : first ≤ s.number → s.number < end → without first end (s ∷ slots) ≡ without first end slots →

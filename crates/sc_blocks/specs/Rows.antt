@@ -36,7 +36,7 @@ ended_block = record { live = false; cells = [] }
 abbrev pub given_back : Block → Block
 given_back block = if block.live then block else ended_block
 
--- the blocks once so many of them, from a number on, have ended, with cells for those alone that live
+-- the blocks once `count` of them, from number `first` on, have ended, with cells only for those that live
 abbrev pub cleared : (first count : ℕ) → Blocks → Blocks
 cleared first count blocks = map given_back (ended first count blocks)
 

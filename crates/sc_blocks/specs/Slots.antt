@@ -17,12 +17,12 @@ abbrev pub cells_among : List Slot → ℕ → Option (List Cell)
 cells_among [] number = None
 cells_among (slot ∷ slots) number = if slot.number == number then Some slot.cells else cells_among slots number
 
--- so many blocks from a number on: those that have cells live
+-- `count` blocks from number `from` on: those that have cells live
 abbrev pub laid_out : (ℕ → Option (List Cell)) → (count from : ℕ) → List Block
 laid_out cells zero from = []
 laid_out cells (suc count) from = block_of (cells from) ∷ laid_out cells count (suc from)
 
--- how many at the front have a lower number
+-- how many at the head have a lower number
 abbrev pub count_below : ℕ → List Slot → ℕ
 count_below number [] = 0
 count_below number (slot ∷ slots) = if nat_lt slot.number number then suc (count_below number slots) else 0

@@ -61,7 +61,7 @@ impl Blocks {
         Ok(())
     }
 
-    // A block with these cells, behind those of the compartment.
+    // A block with these cells, after those of the compartment.
     fn add(&mut self, comp: CompId, cells: Cells) -> Result<u64, OutOfMemory>
         ensures number { IfOk result (λ number. number ≡ length (memory_of self.old comp)) }
         ensures made { OnOk result (memory_of self.new ≡
@@ -87,7 +87,7 @@ impl Blocks {
         self.add(comp, cells)
     }
 
-    /// A new block of so many cells, in which nothing was stored yet.
+    /// A new block of `count` cells, in which nothing was stored yet.
     pub fn new_blank(&mut self, comp: CompId, count: u32) -> Result<u64, OutOfMemory>
         ensures number { IfOk result (λ number. number ≡ length (memory_of self.old comp)) }
         ensures made { OnOk result (memory_of self.new ≡
@@ -108,8 +108,8 @@ impl Blocks {
         }
     }
 
-    /// Ends so many blocks of the compartment, from a number on, as at a return (C11 6.2.4p2). Their cells are given
-    /// back.
+    /// Ends `count` blocks of the compartment, from number `first` on, as at a return (C11 6.2.4p2). Their cells are
+    /// given back.
     pub fn end(&mut self, comp: CompId, first: u64, count: u64)
         ensures { memory_of self.new ≡ with_blocks comp (cleared first count (memory_of self.old comp))
             (memory_of self.old) }

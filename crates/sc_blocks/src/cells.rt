@@ -45,7 +45,7 @@ impl Cells {
         Ok(Cells { kept })
     }
 
-    /// So many cells in which nothing was stored yet.
+    /// `count` cells in which nothing was stored yet.
     pub fn blank(alloc: Global, count: u32) -> Result<Cells, AllocError>
         ensures { IfOk result (λ made. made ≡ replicate count Undef) }
     {

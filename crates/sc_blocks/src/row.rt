@@ -14,8 +14,8 @@ use sc_core::{Cell, Pointer};
 use std::alloc::{AllocError, Global};
 use std::marker::Model;
 
-/// The blocks of one compartment, in the order in which they were made. Those alone that live take memory. Contracts
-/// see all of them.
+/// The blocks of one compartment, in the order in which they were made. Only those that live take memory. Contracts see
+/// all of them.
 #[derive(Drop)]
 pub struct Row {
     slots: Vec<Slot>,
@@ -65,7 +65,7 @@ impl Row {
         Ok(())
     }
 
-    /// Ends so many blocks, from a number on. Those that were never made stay so.
+    /// Ends `count` blocks, from number `first` on. Those that were never made stay so.
     pub fn end(&mut self, first: usize, count: usize)
         ensures { self.new ≡ cleared first count self.old }
     {

@@ -38,7 +38,7 @@ module _ (P : TypedStmt → Type 0) where
   inside (layer.For first cond next body) = each body
   inside _ = tt
 
-  -- To show P of every statement, show it of one where P holds of each statement directly inside.
+  -- To prove P of every statement, prove it of one where P holds of each statement directly inside.
   pub stmt_induction : ((line : ℕ) (k : TypedStmtKind-F TypedStmtKind TypedStmt) → Inside P k → P (on_line line k)) →
       (s : TypedStmt) → P s
   stmt_induction step = ind-TypedStmt AnyLine P (λ x y is line. step line x (subst (Inside P) is (inside y)))
@@ -70,7 +70,7 @@ module _ (P : TypedExpr → Type 0) where
   under (term.Address a) = a.1
   under _ = tt
 
-  -- To show P of every expression, show it of one where P holds of each expression directly inside.
+  -- To prove P of every expression, prove it of one where P holds of each expression directly inside.
   pub expr_induction : ((ty : Ty) (k : TypedKind-F TypedKind TypedExpr) → Under P k → P (typed ty k)) →
       (e : TypedExpr) → P e
   expr_induction step = ind-TypedExpr AnyType P (λ x y is ty. step ty x (subst (Under P) is (under y)))

@@ -1,4 +1,4 @@
--- Programs by plans, whose functions compute: the meaning of a program is the run of its plan's library.
+-- Programs by plans, whose functions compute: the meaning of a program is the run of its plan's denotations.
 use Rattle.sc_core.proofs.Common.{Acts, Arith, Bool, Calls, Event, Function, Here, Interfaces, Library, List, Local}
 use Rattle.sc_core.proofs.Common.{Next, None, Ok, Option, Run, Some, Ty, TypedExpr, TypedGlobal, TypedStruct, []}
 use Rattle.sc_core.proofs.Common.{all_do, and_then, ap, assign, at_place, bytes_eq, closed, codes, entry_in, follow}

@@ -29,7 +29,7 @@ local n = Var ty.Int (Local n)
 abbrev pub plus : Shape → Shape → Shape
 plus a b = Two ty.Int op.Add a b
 
--- an array of so many `int`
+-- an array of `n` elements of type `int`
 abbrev pub ints : ℕ → Ty
 ints n = ty.Array 0 base.Int n
 

@@ -64,7 +64,7 @@ missing_return_wants_a_turn = by_plan alone missing_return [] 0 10
 pub leak_is_blamed : meaning (program alone leak) [] 5 10 ≡ record { trace = []; end = Blamed 0 Dangling 11 }
 leak_is_blamed = by_plan alone leak [] 5 10
 
--- what the machine shows of the store past the end
+-- the machine's trace of the store past the end
 abbrev pub store_trace : List Event
 store_trace = Call 0 1 0 (4 ∷ 9 ∷ []) ∷ Ret 1 0 (Some 9) ∷ Out 0 9 ∷ End 0 0 ∷ []
 
@@ -123,7 +123,7 @@ pub reentry_wants_three_turns : scripted_meaning (program reentry_interfaces ree
     }
 reentry_wants_three_turns = scripted_by_plan reentry_interfaces reentry (λ comp. comp == 1) reentry_trace [] 2 8
 
--- the room that frames took at once: 64 bytes, and 4 for each cell of a variable and each node
+-- the greatest stack depth, where the frame size is 64 bytes, and 4 for each cell of a variable and each node
 pub depth_by_plan : (interfaces : Interfaces) (sheets : List Sheet) (inputs : List ℕ) (turns events comp : ℕ) →
     depth (program interfaces sheets) inputs turns events comp ≡
     deepest events comp 0 (quick_run c_arith interfaces sheets inputs turns).frames
@@ -144,7 +144,7 @@ store_depth_of_none = depth_by_plan store_interfaces store_sheets [] 5 0 1
 pub store_depth_at_the_call : depth (program store_interfaces store_sheets) [] 5 1 1 ≡ 0
 store_depth_at_the_call = depth_by_plan store_interfaces store_sheets [] 5 1 1
 
--- of the three calls of `f` that five events tell, two have a frame within them
+-- of the three calls of `f` among the first five events, two have a frame within them
 pub deep_within_five : depth (program deep_interfaces deep) [] 9 5 1 ≡ 64208
 deep_within_five = depth_by_plan deep_interfaces deep [] 9 5 1
 

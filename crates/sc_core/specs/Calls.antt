@@ -44,7 +44,7 @@ module _ (library : Library) where
   leads comp None = false
   leads comp (Some number) = is_some (function comp number)
 
--- blocks of so many cells each: the first ones hold the arguments, the others nothing yet (C11 6.5.2.2p4, 6.7.9p10)
+-- blocks of these sizes in cells: the first ones hold the arguments, the others nothing yet (C11 6.5.2.2p4, 6.7.9p10)
 abbrev pub blocks_for : List ℕ → List Value → Blocks
 blocks_for [] args = []
 blocks_for (n ∷ cells) [] = record { live = true; cells = replicate n Undef } ∷ blocks_for cells []
@@ -112,7 +112,7 @@ is_word (Word w) = true
 is_word Null = false
 is_word (Ptr p) = false
 
--- a compartment calls its own functions, and what it imports with as many values as are taken; words alone cross
+-- a compartment calls its own functions, and what it imports with as many values as are taken; only words cross
 abbrev pub may_call : Library → ℕ → CallTarget → List Value → Bool
 may_call library from (Own number) args = is_some (function library from number)
 may_call library from (Cross to index) args =
@@ -134,14 +134,14 @@ may_call library from Output args =
 abbrev pub back_own : Option Value → State → Piece (Option Value)
 back_own v s = Reached v s
 
--- a return to another compartment is told, and gives what crossed
+-- a return to another compartment is emitted, and gives what crossed
 abbrev pub back_cross : Interfaces → ℕ → ℕ → ℕ → Option Value → State → Piece (Option Value)
 back_cross interfaces from to index v s =
     Reached (option_value (crossing (export_at interfaces to index) v))
     (tell (Ret to from (crossing (export_at interfaces to index) v)) s)
 
 module _ (library : Library) (body : Body) where
-  -- a function of this number runs from here, and `back` is what is told at its return
+  -- a function of this number runs from here, and `back` is what is done at its return
   abbrev pub run_in : ℕ → ℕ → List Value → (Option Value → State → Piece (Option Value)) → State → Piece (Option Value)
   run_in comp number args back s =
       and_then (found (function library comp number) s) (λ f s.
@@ -152,7 +152,7 @@ module _ (library : Library) (body : Body) where
   abbrev pub call_own : ℕ → ℕ → List Value → State → Piece (Option Value)
   call_own comp number args s = run_in comp number args back_own s
 
-  -- the call is told before the frame begins, and the return after it has ended
+  -- the call is emitted before the frame begins, and the return after it has ended
   abbrev pub call_cross : ℕ → ℕ → ℕ → List Value → State → Piece (Option Value)
   call_cross from to index args s =
       and_then (found (library.entered to (Export index)) s) (λ number s.
@@ -180,7 +180,7 @@ abbrev pub run_step : Library → Step
 run_step library body number here s =
     and_then (found (function library here.comp number) s) (λ f s. f.does (calls library body) here s)
 
--- what a function does where at most so many calls are open in it
+-- what a function does where at most this number of calls are open in it
 abbrev pub within : Step → ℕ → Body
 within step zero number here s = Stopped TurnsOut s
 within step (suc n) number here s = step (within step n) number here s

@@ -184,8 +184,8 @@ run_by library step globals inputs turns =
     (first_state globals inputs turns)) (λ number s.
     call_own library (within step (suc turns)) library.interfaces.main number [] s))
 
--- the greatest room that the open frames of a compartment take at once, by the changes that stand before so many events
--- were told, where its frames take this room already
+-- the greatest stack depth of a compartment, by the changes made while the trace has fewer than `events` events, where
+-- its depth before them is `room`
 abbrev pub deepest : ℕ → ℕ → ℕ → List FrameChange → ℕ
 deepest events comp room [] = room
 deepest events comp room (Opened told c more ∷ changes) =
@@ -211,7 +211,7 @@ module _ (arith : Arith) (program : ProgramTree) (inputs : List ℕ) (turns : �
       (roles_in program.interfaces.main set trace) (run_step (library_of arith program)))
       (globals_of program.sections) inputs turns
 
--- what a program shows under an arithmetic, stopped at a number of events
+-- the run of a program under an arithmetic, stopped at a number of events
 abbrev pub meaning_by : Arith → ProgramTree → List ℕ → ℕ → ℕ → SourceRun
 meaning_by arith program inputs turns events = stopped_at events (run_of arith program inputs turns).behaviour
 
@@ -232,7 +232,7 @@ scripted_meaning program set trace inputs turns events = scripted_by c_arith pro
 abbrev pub scripted_wrapped : ProgramTree → (ℕ → Bool) → List Event → List ℕ → ℕ → ℕ → SourceRun
 scripted_wrapped program set trace inputs turns events = scripted_by wrapping program set trace inputs turns events
 
--- the greatest room that the frames of a compartment take at once, in a run of each of the four forms
+-- the greatest stack depth of a compartment, in a run of each of the four forms
 abbrev pub depth_by : Arith → ProgramTree → List ℕ → ℕ → ℕ → ℕ → ℕ
 depth_by arith program inputs turns events comp = depth_in (run_of arith program inputs turns) events comp
 

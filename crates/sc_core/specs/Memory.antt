@@ -76,7 +76,7 @@ store blocks (Word w) v = Err BadType
 store blocks Null v = Err NullUse
 store blocks (Ptr p) v = bind (cells_at blocks p.block) (with_cell blocks p v)
 
--- the blocks once so many of them, from a number on, have ended
+-- the blocks once `count` of them, from number `first` on, have ended
 abbrev pub ended : (first count : ℕ) → Blocks → Blocks
 ended zero zero blocks = blocks
 ended zero (suc count) [] = []

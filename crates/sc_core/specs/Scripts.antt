@@ -36,7 +36,7 @@ module _ (library : Library) (body : Body) where
       if may_call library comp target args then calls library body comp target args s else Stopped TurnsOut s
 
   -- one action, which is a call of the environment, a call across, or a return. After the environment the function goes
-  -- on with the rows behind; after a call it performs again, the rows that are left then
+  -- on with the rows that follow; after a call it performs again, the rows that are left then
   abbrev pub acts : Action → (State → Piece (Option Value)) → (State → Piece (Option Value)) → ℕ → State →
       Piece (Option Value)
   acts (act.Call to index args) next again comp s =

@@ -56,7 +56,7 @@ wanted ty q want.Value blocks = if is_array ty then Ok q else load blocks (is_po
 abbrev pub at_place : Ty → (Blocks → Result Value Cause) → Ways
 at_place ty place want blocks = bind (place blocks) (λ q. wanted ty q want blocks)
 
--- an expression that names no place: it has a value alone
+-- an expression that names no place: it has only a value
 abbrev pub no_place : (Blocks → Result Value Cause) → Ways
 no_place value want blocks = value blocks
 

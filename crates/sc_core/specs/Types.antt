@@ -33,7 +33,7 @@ module _ (structs : List TypedStruct) where
   base_cells base.Unsigned = 1
   base_cells (base.Struct n) = struct_cells (slice_get structs n)
 
-  -- the cells of a type with so many `*`: a pointer has one
+  -- the cells of a type with this number of `*`: a pointer has one
   abbrev pub starred_cells : ℕ → BaseTy → ℕ
   starred_cells zero base = base_cells base
   starred_cells (suc stars) base = 1

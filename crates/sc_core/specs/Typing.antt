@@ -54,7 +54,7 @@ is_integer ty.Int = true
 is_integer ty.Unsigned = true
 is_integer _ = false
 
--- a type with so many `*`
+-- a type with this number of `*`
 abbrev pub starred : ℕ → BaseTy → Ty
 starred zero base.Int = ty.Int
 starred zero base.Unsigned = ty.Unsigned

@@ -124,19 +124,19 @@ abbrev pub number_of : Bool → ℕ → ℤ
 number_of true w = pos w
 number_of false w = signed_of w
 
--- the place at this index of a block of so many cells, or one past its last (C11 6.5.6p8)
+-- the place at this index of a block of `cells` cells, or one past its last (C11 6.5.6p8)
 abbrev pub place_at : ℕ → ℤ → ℕ → Result Value Cause
 place_at block (negsuc i) cells = Err OutOfBounds
 place_at block (pos i) cells = if nat_le i cells then Ok (Ptr (record { block = block; index = i })) else
     Err OutOfBounds
 
--- the place so many cells behind another
+-- the place `by` cells after another
 abbrev pub moved : Blocks → ℤ → Value → Result Value Cause
 moved blocks by (Word w) = Err BadType
 moved blocks by Null = Err NullUse
 moved blocks by (Ptr p) = bind (cells_at blocks p.block) (λ cells. place_at p.block (pos p.index +ℤ by) (length cells))
 
--- the place so many elements behind, or before, another (C11 6.5.2.1, 6.5.6p8); an element has so many cells
+-- the place this number of elements after, or before, another (C11 6.5.2.1, 6.5.6p8); an element has `cells` cells
 abbrev pub moved_on : Blocks → ℕ → Bool → Value → Value → Result Value Cause
 moved_on blocks cells unsigned q (Word i) = moved blocks (pos cells *ℤ number_of unsigned i) q
 moved_on blocks cells unsigned q i = Err BadType
@@ -145,7 +145,7 @@ abbrev pub moved_back : Blocks → ℕ → Bool → Value → Value → Result V
 moved_back blocks cells unsigned q (Word i) = moved blocks (neg_ℤ (pos cells *ℤ number_of unsigned i)) q
 moved_back blocks cells unsigned q i = Err BadType
 
--- how far the first of two places lies behind the second, in cells: both must be of one block (C11 6.5.6p9, 6.5.8p5)
+-- how far the first of two places lies after the second, in cells: both must be of one block (C11 6.5.6p9, 6.5.8p5)
 abbrev pub apart : Value → Value → Result ℤ Cause
 apart (Ptr p) (Ptr q) = if p.block == q.block then Ok (pos p.index -ℤ pos q.index) else Err BadPointer
 apart v w = Err NullUse
@@ -154,7 +154,7 @@ abbrev pub is_zero : ℤ → Bool
 is_zero (pos n) = n == 0
 is_zero (negsuc n) = false
 
--- so many cells as a whole number of elements
+-- `by` cells as a whole number of elements of `cells` cells
 abbrev pub in_elements : ℕ → ℤ → Result Value Cause
 in_elements cells by = if is_zero (int_rem by (pos cells)) then Ok (Word (word_of (int_div by (pos cells)))) else
     Err BadPointer
@@ -178,7 +178,7 @@ same_place blocks (Ptr p) (Ptr q) =
     bind (is_inside blocks p) (λ a. bind (is_inside blocks q) (λ b. if a && b then Ok false else Err BadPointer))
 same_place blocks v w = Ok false
 
--- an operator between two pointers to elements of so many cells
+-- an operator between two pointers to elements of `cells` cells
 abbrev pub between : Blocks → BinaryOp → ℕ → Value → Value → Result Value Cause
 between blocks op.Sub cells v w = bind (apart v w) (in_elements cells)
 between blocks op.Equal cells v w = bind (same_place blocks v w) (λ b. Ok (of_bool b))

@@ -59,14 +59,14 @@ abbrev pub starred_within : ℕ → ℕ → ℕ → BaseTy → Bool
 starred_within whole pointed zero base = base_within whole base
 starred_within whole pointed (suc stars) base = base_within pointed base
 
--- a type over the first structs: over so many as they are, over so many behind a `*` (C11 6.7.2.1p3)
+-- a type over the first structs: over `whole` of them by value, over `pointed` of them after a `*` (C11 6.7.2.1p3)
 abbrev pub type_within : ℕ → ℕ → Ty → Bool
 type_within whole pointed (ty.Struct n) = nat_lt n whole
 type_within whole pointed (ty.Pointer stars base) = nat_le 1 stars && base_within pointed base
 type_within whole pointed (ty.Array stars base length) = nat_le 1 length && starred_within whole pointed stars base
 type_within whole pointed _ = true
 
--- members stand one behind another, from an offset to the end, and each has a type over the structs before
+-- members stand one after another, from an offset to the end, and each has a type over the structs before
 abbrev pub members_fit : List TypedStruct → ℕ → ℕ → List TypedMember → ℕ → Bool
 members_fit structs k offset [] end = offset == end
 members_fit structs k offset (m ∷ members) end =
@@ -284,7 +284,7 @@ has_fitting_sections program = sections_fit program.interfaces 0 program.interfa
 abbrev pub has_main : ProgramTree → Bool
 has_main program = main_fits (slice_get program.sections program.interfaces.main)
 
--- one section alone has a `main`
+-- exactly one section has a `main`
 abbrev pub has_one_main : ProgramTree → Bool
 has_one_main program = mains_in program.sections == 1
 

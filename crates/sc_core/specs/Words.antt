@@ -1,5 +1,5 @@
--- The words in which the meaning is told, of trees and of code alike: pieces of a run, how control leaves statements,
--- and loops.
+-- The combinators of the meaning, of trees and of code alike: pieces of a run, how control leaves statements, and
+-- loops.
 -- What a run carries beside its state is a parameter `A`: nothing in trees, temporaries in three-address code.
 use Rattle.sc_core.specs.Common.{Event}
 use Rattle.std.specs.Prelude.{ℕ, zero, suc, ◌++◌, List, [], ◌∷◌, Option, Result, Ok, Err, if◌then◌else◌}
@@ -11,7 +11,7 @@ use Rattle.sc_core.specs.declared.value.Value.{Value}
 use Rattle.sc_core.specs.Memory.{Blocks, Memory, with_blocks, store}
 use Rattle.sc_core.specs.Value.{is_true}
 
--- a frame of a function of this compartment begins or ends, when so many events were told; it has room for so many
+-- a frame of a function of this compartment begins or ends, when the trace has `told` events; its frame size is `room`
 -- bytes
 pub data FrameChange : Type 0 where
   Opened : (told comp room : ℕ) → FrameChange
@@ -35,8 +35,8 @@ pub data Piece (V : Type 0) : Type 0 where
   Reached : V → State → Piece V
   Stopped : RunEnd → State → Piece V
 
--- an end that a piece of a run may come to: `Ended` is told of a whole run alone, and `EventsOut` of one that is
--- stopped
+-- an end that a piece of a run may come to: only a whole run has the end `Ended`, and only one that is stopped has
+-- `EventsOut`
 abbrev pub IsStop : RunEnd → Type 0
 IsStop Ended = ⊥
 IsStop (Blamed comp cause line) = Unit {0}
@@ -94,19 +94,19 @@ stored here q v line a s =
     and_then (computed here line (store (s.memory here.comp) q v) s)
     (λ blocks s. leave Next a (with_memory here.comp blocks s))
 
--- where an exit leads: to what stands behind, or further out
+-- where an exit leads: to what follows, or further out
 pub data Route : Type 0 where
   On : Route
   Out : Exit → Route
 
--- behind a statement: the next one
+-- after a statement: the next one
 abbrev pub in_order : Exit → Route
 in_order Next = On
 in_order Break = Out Break
 in_order Continue = Out Continue
 in_order (Return v) = Out (Return v)
 
--- behind a part of a loop: what the loop does next; a `break` ends the loop
+-- after a part of a loop: what the loop does next; a `break` ends the loop
 abbrev pub in_loop : Exit → Route
 in_loop Next = On
 in_loop Break = Out Next
@@ -117,7 +117,7 @@ abbrev pub take : {A : Type 0} → Route → Does A → Does A
 take On go a s = go a s
 take (Out exit) go a s = leave exit a s
 
--- what stands behind runs where the exit leads to it
+-- what follows runs where the exit leads to it
 abbrev pub follow : {A : Type 0} → (Exit → Route) → Piece (Left A) → Does A → Piece (Left A)
 follow route piece go = and_then piece (λ left s. take (route left.exit) go left.carried s)
 
@@ -126,8 +126,8 @@ abbrev pub all_do : {A : Type 0} → List (Does A) → Does A
 all_do [] a s = leave Next a s
 all_do (does ∷ rest) a s = follow in_order (does a s) (all_do rest)
 
--- a loop (C11 6.8.5) of at most so many rounds: its head, a turn, its body, what comes next; a `break` in any of them
--- ends it
+-- a loop (C11 6.8.5) of at most this number of rounds: its head, a turn, its body, what comes next; a `break` in any of
+-- them ends it
 abbrev pub rounds : {A : Type 0} → ℕ → Does A → Does A → Does A → Does A
 rounds zero head body next a s = Stopped TurnsOut s
 rounds (suc n) head body next a s =

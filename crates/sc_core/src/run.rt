@@ -18,7 +18,7 @@ pub enum RunEnd {
     EventsOut,
 }
 
-/// What a run shows, and how it ends.
+/// The trace of a run, and how it ends.
 #[derive(Debug, Drop)]
 pub struct SourceRun {
     pub trace: Trace,

@@ -29,7 +29,7 @@ impl BaseTy {
     }
 }
 
-/// A type (C11 6.2.5): a base, so many `*`, and a length where it is an array.
+/// A type (C11 6.2.5): a base, a number of `*`, and a length where it is an array.
 #[derive(Clone, Copy, Debug, PartialEq, Eq)]
 pub enum Ty {
     /// `int`
@@ -43,7 +43,7 @@ pub enum Ty {
         stars: u64,
         base: BaseTy,
     },
-    /// An array of at least one element, which has so many `*`.
+    /// An array of at least one element, whose type is the base with this number of `*`.
     Array {
         stars: u64,
         base: BaseTy,
@@ -52,7 +52,7 @@ pub enum Ty {
 }
 
 impl Ty {
-    /// The type with so many `*`.
+    /// The type with this number of `*`.
     pub fn starred(stars: u64, base: BaseTy) -> Ty
         ensures { result ≡ starred stars base }
     {
@@ -108,7 +108,7 @@ impl Ty {
         }
     }
 
-    /// Whether two types are one. Structs are told apart by their numbers in the section.
+    /// Whether two types are one. Structs are distinguished by their numbers in the section.
     pub fn same(self, other: Ty) -> bool
         ensures { result ≡ same_ty self other }
     {

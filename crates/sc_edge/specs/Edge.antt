@@ -5,19 +5,19 @@ use Rattle.std.specs.Prelude.{◌≡◌, ◌<◌, ◌⊎◌, ℕ, List, [], ◌+
 abbrev pub Rose : ℕ → ℕ → Type 0
 Rose before after = (before < after) ⊎ (after ≡ 18446744073709551615)
 
--- these bytes were taken from the front of what was left, where it is told
+-- these bytes were the first of what was left, where that is stated
 abbrev pub Takes : Option (List ℕ) → Option (List ℕ) → List ℕ → Type 0
 Takes None after bytes = Unit {0}
 Takes (Some before) None bytes = ⊥
 Takes (Some before) (Some after) bytes = before ≡ bytes ++ after
 
--- these bytes were added to what was written, where it is told
+-- these bytes were added to what was written, where that is stated
 abbrev pub Adds : Option (List ℕ) → Option (List ℕ) → List ℕ → Type 0
 Adds None after bytes = Unit {0}
 Adds (Some before) None bytes = ⊥
 Adds (Some before) (Some after) bytes = after ≡ before ++ bytes
 
--- nothing is left, where it is told
+-- nothing is left, where that is stated
 abbrev pub IsAtEnd : Option (List ℕ) → Type 0
 IsAtEnd None = Unit {0}
 IsAtEnd (Some left) = left ≡ []

@@ -1,3 +1,3 @@
-/// A read or a write that failed. What failed, and why, isn't told.
+/// A read or a write that failed. What failed, and why, isn't reported.
 #[derive(Clone, Copy, Debug, PartialEq, Eq)]
 pub struct Failed;

@@ -1,9 +1,9 @@
 //! The edge of a program: where its bytes come from and where they go.
 //!
-//! A program reads from a [`Source`] and writes to a [`Sink`]. Each tells, in its contract, the bytes that it
-//! still has or that it took, and how often it has failed, so that a caller can say where a failure came from.
-//! [`MemSource`] and [`MemSink`] work in memory and fail where they are told to; [`StdSource`] and [`StdSink`]
-//! stand for the world outside and tell nothing of their bytes.
+//! A program reads from a [`Source`] and writes to a [`Sink`]. Each states, in its contract, the bytes that it still
+//! has or that it took, and how often it has failed, so that a caller can say where a failure came from. [`MemSource`]
+//! and [`MemSink`] work in memory and fail at the calls that they were made to fail at; [`StdSource`] and [`StdSink`]
+//! stand for the world outside and state nothing about their bytes.
 #![tactic(auto)]
 
 mod calls;

@@ -11,7 +11,7 @@ use crate::{Failed, OutOfMemory, Sink};
 use std::alloc::Global;
 use std::marker::Model;
 
-/// A sink that keeps its bytes in memory, up to its room, and fails at the calls that it is told.
+/// A sink that keeps its bytes in memory, up to its room, and fails at the calls that `fails` lists.
 #[derive(Drop)]
 pub struct MemSink {
     bytes: Vec<u8>,

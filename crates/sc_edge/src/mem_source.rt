@@ -11,7 +11,7 @@ use crate::{Failed, OutOfMemory, Source};
 use std::alloc::Global;
 use std::marker::Model;
 
-/// A source that hands out bytes from memory, and fails at the calls that it is told.
+/// A source that hands out bytes from memory, and fails at the calls that `fails` lists.
 #[derive(Drop)]
 pub struct MemSource {
     bytes: Vec<u8>,

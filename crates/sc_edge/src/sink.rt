@@ -8,13 +8,13 @@ use crate::Failed;
 
 /// Something that takes bytes, in order.
 pub trait Sink {
-    /// The bytes taken so far, where the sink tells them.
+    /// The bytes taken so far, where the sink states them.
     ghost written: { Self → Option (List ℕ) };
 
     /// How often writing has failed. It never falls.
     ghost faults: { Self → ℕ };
 
-    /// Takes some bytes from the front of `piece`, at least one, and answers how many.
+    /// Takes the first bytes of `piece`, at least one, and answers how many.
     fn write(&mut self, piece: &[u8]) -> Result<usize, Failed>
         requires { 0 < length piece.now }
         ensures within { IfOk result (λ n. (0 < n) × (n ≤ length piece.now)) }

@@ -8,14 +8,14 @@ use crate::Failed;
 
 /// Something that bytes are read from, in order, each once.
 pub trait Source {
-    /// The bytes not yet read, where the source tells them.
+    /// The bytes not yet read, where the source states them.
     ghost left: { Self → Option (List ℕ) };
 
     /// How often reading has failed. It never falls.
     ghost faults: { Self → ℕ };
 
-    /// Reads some bytes into the front of `buf` and answers how many. 0 is the end of the input; fewer than fit
-    /// aren't. What stands behind them in `buf` isn't told, nor is anything in it after a `Failed`.
+    /// Reads some bytes into the start of `buf` and answers how many. 0 is the end of the input; fewer than fit aren't.
+    /// What follows them in `buf` isn't specified, nor is anything in it after a `Failed`.
     fn read(&mut self, buf: &mut [u8]) -> Result<usize, Failed>
         requires { 0 < length buf.old }
         ensures within { IfOk result (λ n. n ≤ length buf.old) }

@@ -10,7 +10,7 @@ use crate::calls::one_more;
 use crate::{Failed, Sink, Source};
 use std::io::{Read, Write};
 
-/// A reader of std, as standard input. Nothing is told of its bytes, and each error of it is one fault.
+/// A reader of std, as standard input. Nothing is stated about its bytes, and each error of it is one fault.
 #[derive(Drop)]
 pub struct StdSource<R> {
     inner: R,
@@ -36,7 +36,7 @@ impl<R: Read> Source for StdSource<R> {
         requires { 0 < length buf.old }
         ensures within { IfOk result (λ n. n ≤ length buf.old) }
 
-        // Where the reader tells its bytes, those that it gave are passed on.
+        // Where the reader states its bytes, those that it gave are passed on.
         ensures passed { IfOk result (λ n. Takes (R.remaining (reader_of self.old)) (R.remaining (reader_of self.new))
             (take n buf.new)) }
         ensures end { result ≡ Ok 0 → IsAtEnd (R.remaining (reader_of self.old)) }
@@ -54,8 +54,8 @@ impl<R: Read> Source for StdSource<R> {
     }
 }
 
-/// A writer of std, as standard output. Nothing is told of its bytes. Each write is flushed at once, and an error of
-/// either, or a write that takes nothing, is one fault.
+/// A writer of std, as standard output. Nothing is stated about its bytes. Each write is flushed at once, and an error
+/// of either, or a write that takes nothing, is one fault.
 #[derive(Drop)]
 pub struct StdSink<W> {
     inner: W,
@@ -81,7 +81,7 @@ impl<W: Write> Sink for StdSink<W> {
         requires { 0 < length piece.now }
         ensures within { IfOk result (λ n. (0 < n) × (n ≤ length piece.now)) }
 
-        // Where the writer tells its bytes, these were added and no others.
+        // Where the writer states its bytes, these were added and no others.
         ensures passed { IfOk result (λ n. Adds (W.contents (writer_of self.old)) (W.contents (writer_of self.new))
             (take n piece.now)) }
         ensures ok { OnOk result (write_faults self.new ≡ write_faults self.old) }

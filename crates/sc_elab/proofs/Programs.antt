@@ -8,7 +8,7 @@ use Rattle.sc_core.specs.declared.section.TypedSection.{TypedSection}
 use Rattle.sc_event.specs.declared.interface.Interface.{Interface}
 use Rattle.sc_event.specs.declared.interface.Interfaces.{Interfaces}
 
--- what stands at a place, and at the front of what is left from there on
+-- what stands at a place, and at the start of what is left from there on
 pub stands : {A : Type 0} (xs : List A) (i : ℕ) (x : A) → i < length xs → x ≡ get_or xs i x → slice_get xs i ≡ Some x
 stands xs i x low is = slice_get-get_or xs i x low ∙ ap Some (sym is)
 

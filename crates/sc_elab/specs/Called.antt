@@ -20,7 +20,7 @@ import_line_name line = line.name
 abbrev pub function_signature : List (List ℕ) → FunctionTree → Signature
 function_signature tags tree = signature_by tags (head_of tree.head)
 
--- the heads by which calls are typed, each name by its first: those of the functions, and behind them all that are
+-- the heads by which calls are typed, each name by its first: those of the functions, and after them all that are
 -- declared
 abbrev pub calling_heads : List Decl → List HeadTree
 calling_heads decls = map (λ tree. head_of tree.head) (functions_in decls) ++ heads_in decls

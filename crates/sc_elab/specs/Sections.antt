@@ -62,9 +62,9 @@ module _ (tags : List (List ℕ)) where
   abbrev pub type_of : TypeTree → Ty
   type_of t = type_with t.length t.stars (base_of t.base)
 
-  -- Structs: members stand one behind another (C11 6.7.2.1p15).
+  -- Structs: members stand one after another (C11 6.7.2.1p15).
 
-  -- the offset behind a member that stands at this one; offsets stop at 4294967295, far beyond what a struct may hold
+  -- the offset after a member that stands at this one; offsets stop at 4294967295, far beyond what a struct may hold
   abbrev pub end_of_member : List TypedStruct → ℕ → MemberTree → ℕ
   end_of_member structs offset member = limited (offset + cells_of structs (type_of member.ty))
 
@@ -182,7 +182,7 @@ module _ (section : SectionTree) where
   abbrev pub structs : List TypedStruct
   structs = typed_structs tags [] (structs_in section.decls)
 
-  -- what is visible in a function among its first locals, so many
+  -- what is visible in a function, with its first `count` locals
   abbrev pub visible_in : FunctionTree → (locals : ℕ) → Visible
   visible_in tree count = record {
     structs = structs;

@@ -13,7 +13,7 @@ pub record Stands (scope : SectionScope) (section : SectionTree) : Type 0 where
   pub structs : scope.structs ≡ sections.structs section
   pub globals : scope.globals ≡ map (global_variable (sections.tags section)) (globals_in section.decls)
 
--- the parameters of the function, its first locals, so many, and the type of its result
+-- the parameters of the function, its first `count` locals, and the type of its result
 pub record StandsIn (section : SectionTree) (tree : FunctionTree) (count : ℕ) (function : FunctionScope) : Type 0 where
   pub params : function.params ≡ map (typed_param (sections.tags section)) tree.head.params
   pub locals : function.locals ≡ map (local_variable (sections.tags section)) (take count tree.locals)

@@ -73,7 +73,7 @@ struct Heads {
     signatures: Items<Signature>,
 }
 
-// The heads and one more behind them.
+// The heads and one more after them.
 fn with_head(heads: Heads, name: Name, signature: Signature) -> Result<Heads, OutOfMemory>
     ensures names { IfOk result (λ more. more.names ≡ heads.names ++ name ∷ []) }
     ensures signatures { IfOk result (λ more. more.signatures ≡ heads.signatures ++ signature ∷ []) }
@@ -87,7 +87,7 @@ fn with_head(heads: Heads, name: Name, signature: Signature) -> Result<Heads, Ou
     Ok(Heads { names, signatures })
 }
 
-// The heads and that of the function of this declaration, if it is one, behind them.
+// The heads and that of the function of this declaration, if it is one, after them.
 fn with_function(
     alloc: Global,
     tags: &NameList,
@@ -107,7 +107,7 @@ fn with_function(
     }
 }
 
-// The heads and that of this declaration, if it is a function or a prototype, behind them.
+// The heads and that of this declaration, if it is a function or a prototype, after them.
 fn with_declared(
     alloc: Global,
     tags: &NameList,
@@ -147,7 +147,7 @@ fn function_heads(alloc: Global, tags: &NameList, decls: &[Decl]) -> Result<Head
     Ok(heads)
 }
 
-// The heads by which calls are typed: those of the functions, and behind them all that are declared.
+// The heads by which calls are typed: those of the functions, and after them all that are declared.
 fn calling_heads(alloc: Global, tags: &NameList, decls: &[Decl]) -> Result<Heads, OutOfMemory>
     ensures names { IfOk result (λ heads. heads.names ≡ map head_name (calling_heads decls.now)) }
     ensures signatures { IfOk result (λ heads. heads.signatures ≡
@@ -170,7 +170,7 @@ fn function_places(alloc: Global, decls: &[Decl]) -> Result<NameList, OutOfMemor
     Ok(places)
 }
 
-// The names and that of the function of this declaration, if it is one, behind them.
+// The names and that of the function of this declaration, if it is one, after them.
 fn push_function_name(places: &mut NameList, decl: &Decl) -> Result<(), OutOfMemory>
     ensures { OnOk result (places.new ≡ places.old ++ map function_name (functions_in (decl.now ∷ []))) }
 {

@@ -68,7 +68,7 @@ fn build_local(
     })
 }
 
-/// The function's variables and this local behind them.
+/// The function's variables and this local after them.
 pub fn with_local(
     tags: &NameList,
     function: FunctionScope,
@@ -117,7 +117,7 @@ pub fn head_scope(
     })
 }
 
-// The locals of a function, and all that its body sees. The section stands for the contract alone.
+// The locals of a function, and all that its body sees. The section is there only for the contract.
 fn build_locals(
     alloc: Global,
     scope: &SectionScope,
@@ -140,7 +140,7 @@ fn build_locals(
     Ok((function, built))
 }
 
-/// A function of a section, which stands for the contract alone.
+/// A function of a section, which is there only for the contract.
 pub fn build_function(
     alloc: Global,
     scope: &SectionScope,

@@ -68,7 +68,7 @@ fn build_global(
     Ok(TypedGlobal { name, ty, init })
 }
 
-// The globals and the one of this declaration, if it is one, behind them.
+// The globals and the one of this declaration, if it is one, after them.
 fn with_global(
     alloc: Global,
     tags: &NameList,
@@ -101,7 +101,7 @@ pub fn build_globals(
     Ok(globals)
 }
 
-// The variables and the global of this declaration, if it is one, behind them.
+// The variables and the global of this declaration, if it is one, after them.
 fn with_variable(
     tags: &NameList,
     variables: Variables,

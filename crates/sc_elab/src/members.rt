@@ -19,7 +19,7 @@ fn end_of(structs: &Structs, offset: u32, ty: Ty) -> u32
     offset.saturating_add(structs.cells_of(ty))
 }
 
-// Members one behind another, their names, and the cells of them all.
+// Members one after another, their names, and the cells of them all.
 fn build_members(
     alloc: Global,
     tags: &NameList,
@@ -69,7 +69,7 @@ fn build_struct(
     ))
 }
 
-// The structs and the one of this declaration, if it is one, behind them.
+// The structs and the one of this declaration, if it is one, after them.
 #[tactic(auto, using(crate::proofs::Offsets::few_structs))]
 fn with_struct(
     alloc: Global,

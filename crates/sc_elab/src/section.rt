@@ -16,7 +16,7 @@ use sc_event::Import;
 use sqlite_items::Items;
 use std::alloc::Global;
 
-// The tags and that of the struct of this declaration, if it is one, behind them.
+// The tags and that of the struct of this declaration, if it is one, after them.
 fn push_tag(tags: &mut NameList, decl: &Decl) -> Result<(), OutOfMemory>
     ensures { OnOk result (tags.new ≡ tags.old ++ map struct_name (structs_in (decl.now ∷ []))) }
 {
@@ -59,7 +59,7 @@ pub fn build_scope(
     })
 }
 
-// The functions and that of this declaration, if it is one, behind them.
+// The functions and that of this declaration, if it is one, after them.
 fn with_function(
     alloc: Global,
     scope: &SectionScope,

@@ -50,7 +50,7 @@ fn least_in(
     Ok(lines.least)
 }
 
-// Notes the lines of declarations that break rules of types. The section stands for the contract alone, here and below.
+// Notes the lines of declarations that break rules of types. The section is only for the contract, here and below.
 fn note_decls(
     alloc: Global,
     scope: &SectionScope,

@@ -40,7 +40,7 @@ impl Structs {
         }
     }
 
-    /// The structs and this one, whose members have these names, behind them.
+    /// The structs and this one, whose members have these names, after them.
     pub fn with(self, tree: TypedStruct, names: NameList) -> Result<Structs, OutOfMemory>
         requires { names ≡ member_names tree }
         ensures { IfOk result (λ structs. structs ≡ self ++ tree ∷ []) }
@@ -54,7 +54,7 @@ impl Structs {
         Ok(Structs { list, members })
     }
 
-    /// The structs alone.
+    /// Only the structs.
     pub fn into_list(self) -> TypedStructs
         ensures { result ≡ self }
     {
@@ -73,7 +73,7 @@ impl Structs {
         }
     }
 
-    // The cells of a type with so many `*`.
+    // The cells of a type with this number of `*`.
     fn starred_cells(&self, stars: u64, base: BaseTy) -> u32
         ensures { result ≡ starred_cells self.now stars base }
     {

@@ -71,7 +71,7 @@ impl Variables {
         }
     }
 
-    /// The variables and this one behind them.
+    /// The variables and this one after them.
     pub fn with(self, variable: TypedParam) -> Result<Variables, OutOfMemory>
         ensures { IfOk result (λ variables. variables ≡ self ++ variable ∷ []) }
     {
@@ -84,7 +84,7 @@ impl Variables {
         Ok(Variables { list, places })
     }
 
-    /// The variables alone.
+    /// Only the variables.
     pub fn into_list(self) -> TypedParams
         ensures { result ≡ self }
     {

@@ -36,7 +36,7 @@ few (Call from to index args) zero before is = absurd (none-some before is)
 few (Call from to index args) (suc returned) before is = omega (arith, same_Some _ before is)
 few _ returned before is = omega (arith, same_Some _ before is)
 
--- where the run stands once so many more calls have returned
+-- where the run stands once `returned` more calls have returned
 abbrev back : (returned : ℕ) → Standing → Option Standing
 back zero at = Some at
 back (suc returned) at = option_and_then (back returned) (resumed at.waiting)
@@ -50,7 +50,7 @@ module _ (main : ℕ) (trace : List Event) where
   standing_next n event is =
       ap (stands_behind _) (one_more trace n event is) ∙ behind_last (at_start main) (take n trace) event
 
-  -- the open call behind so many events is found, also after further returns
+  -- the open call after `count` events is found, also after further returns
   abbrev Finds : ℕ → Type 0
   Finds count = (returned : ℕ) (at then_at : Standing) → standing count ≡ Some at → back returned at ≡ Some then_at →
       StandsBy main trace (open_call trace count returned) then_at

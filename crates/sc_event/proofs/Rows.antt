@@ -1,4 +1,4 @@
--- A compartment's next row is its next event: what the rows are behind the events that it has performed.
+-- A compartment's next row is its next event: what the rows are after the events that it has performed.
 use Rattle.sc_event.proofs.Common.{Bool, Event, List, None, Option, Some, Standing, [], action_of, ap, arith, at_start}
 use Rattle.sc_event.proofs.Common.{cond, count_of, drop, false, filter, if◌then◌else◌, length, none-some, option_map_or}
 use Rattle.sc_event.proofs.Common.{part, performer, rows_from, stands_after, stands_behind, subst, suc, true, ℕ, ◌++◌}
@@ -10,12 +10,12 @@ abbrev pub row_of : Standing → (number : ℕ) → Event → Row
 row_of at number event = record { entry = at.active.entry; number = number; action = action_of event }
 
 module _ (comp : ℕ) (event : Event) (later : List Event) (at : Standing) (own : (performer event == comp) ≡ true) where
-  -- what is left of the rows behind so many
+  -- what is left of the rows after the first `count`
   abbrev IsNext : (number count : ℕ) → List Row → Type 0
   IsNext number count rows = drop count rows ≡ row_of at (number + count) event ∷ rows_from comp (suc (number + count))
       (stands_after at event) later
 
-  -- one row more stands in front
+  -- one row more stands before them
   one_before : (number count : ℕ) (row : Row) (rows : List Row) → IsNext (suc number) count rows →
       IsNext number (suc count) (row ∷ rows)
   one_before number count row rows is =
@@ -47,7 +47,7 @@ module _ (comp : ℕ) (event : Event) (later : List Event) (at : Standing) (own 
         split true with_it without = one_before number (count_of comp earlier) (row_of s number first) _ with_it
         split false with_it without = without
 
--- behind its own events so far, the rows of a compartment begin with its next event, and the function that is active
+-- after its own events so far, the rows of a compartment begin with its next event, and the function that is active
 -- there
 pub next_row : (main comp : ℕ) (earlier : List Event) (event : Event) (later : List Event) (at : Standing) →
     (performer event == comp) ≡ true → stands_behind (at_start main) earlier ≡ Some at →

@@ -33,7 +33,7 @@ imports_of interfaces comp = option_map_or (λ found. found.imports) (comp_at in
 abbrev pub imports : Interfaces → ℕ → (Import → Bool) → Bool
 imports interfaces comp is_it = list_any is_it (imports_of interfaces comp)
 
--- the export takes so many arguments
+-- the export takes `count` arguments
 abbrev pub takes : Interfaces → (comp index count : ℕ) → Bool
 takes interfaces comp index count = option_map_or (λ found. length found.params == count)
     (export_at interfaces comp index) false

@@ -1,4 +1,4 @@
--- The line that tells an event.
+-- The line that reports an event.
 use Rattle.sc_base.specs.Prelude.{signed_text}
 use Rattle.std.specs.Prelude.{ℕ, List, [], ◌∷◌, ◌++◌, flat_map, codes}
 use Rattle.std.specs.Option.{option_map_or, option_to_list}
@@ -14,7 +14,7 @@ comp_name interfaces comp = option_map_or (λ found. found.name) (comp_at interf
 abbrev pub export_name : Interfaces → (comp index : ℕ) → List ℕ
 export_name interfaces comp index = option_map_or (λ found. found.name) (export_at interfaces comp index) []
 
--- each with a space in front
+-- each with a space before it
 abbrev pub spaced_names : List (List ℕ) → List ℕ
 spaced_names names = flat_map (λ name. codes " " ++ name) names
 

@@ -6,8 +6,8 @@ use Rattle.sc_event.specs.declared.event.Event.TheVariants.{Call, Ret, Out, In, 
 use Rattle.sc_event.specs.declared.row.Entry.TheVariants.{Export}
 use Rattle.sc_event.specs.Standing.{Standing, at_start, stands_behind}
 
--- so many calls have returned behind an event: how many have behind the event before it, `None` where the event is a
--- call that hasn't returned itself
+-- where `returned` calls have returned after an event: how many have after the one before it, `None` where the event is
+-- a call that hasn't returned itself
 abbrev pub returned_before : Event → (returned : ℕ) → Option ℕ
 returned_before (Call from to index args) zero = None
 returned_before (Call from to index args) (suc returned) = Some returned
@@ -20,7 +20,7 @@ abbrev pub here_or : (place : ℕ) → (ℕ → Option ℕ) → Option ℕ → O
 here_or place earlier None = Some place
 here_or place earlier (Some returned) = earlier returned
 
--- the latest of the first `count` events that is a call and hasn't returned, where so many have returned behind them
+-- the latest of the first `count` events that is a call and hasn't returned, where `returned` have returned after them
 abbrev pub open_call : List Event → (count returned : ℕ) → Option ℕ
 open_call trace zero returned = None
 open_call trace (suc count) returned =

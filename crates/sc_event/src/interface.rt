@@ -107,7 +107,7 @@ impl Interfaces {
         imports.iter().any(|import| is_function(to, index, *import))
     }
 
-    /// Whether the export takes so many arguments.
+    /// Whether the export takes `count` arguments.
     pub fn takes(&self, comp: CompId, index: u16, count: usize) -> bool
         ensures { result ≡ takes self.now comp index count }
     {

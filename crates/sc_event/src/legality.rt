@@ -143,7 +143,7 @@ fn open_after(
     }
 }
 
-// The latest of so many events that is a call which they leave open.
+// The latest of the first `count` events that is a call which they leave open.
 fn open_call(events: &[Event], count: usize) -> Option<usize>
     requires { count ≤ length events.now }
     ensures call { result ≡ open_call events.now count 0 }
@@ -160,8 +160,8 @@ fn open_call(events: &[Event], count: usize) -> Option<usize>
     None
 }
 
-// So many calls have returned behind the event: how many have behind the one before it, `None` where it is a call that
-// hasn't returned itself.
+// Where `returned` calls have returned after the event: how many have after the one before it, `None` where it is a
+// call that hasn't returned itself.
 fn returned_before(event: &Event, returned: usize) -> Option<usize>
     requires { returned + 1 < 2 ^ 64 }
     ensures { result ≡ returned_before event.now returned }

@@ -1,4 +1,4 @@
-//! Names, events and traces: what a run of a split program shows to the outside, and the texts that it is told in.
+//! Names, events and traces: what a run of a split program emits, and how it is printed.
 #![tactic(auto)]
 
 mod args;

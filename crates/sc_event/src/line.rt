@@ -1,4 +1,4 @@
-//! The lines that tell events.
+//! The lines that report events.
 
 ghost use Rattle.sc_event.specs.Prelude.{IsKnown, comp_at, comp_name, event_line, export_at, export_name, line};
 ghost use Rattle.sc_event.specs.Prelude.{spaced_names, spaced_words};
@@ -7,7 +7,7 @@ ghost use Rattle.std.specs.Prelude.{◌≡◌, ◌++◌, codes, IsSome, IfOk, On
 use crate::{CompId, Event, Interfaces, Name, OutOfMemory, Text};
 use std::alloc::Global;
 
-/// The line that tells the event, by the names that its numbers stand for.
+/// The line that reports the event, by the names that its numbers stand for.
 pub fn event_text(
     alloc: Global,
     interfaces: &Interfaces,
@@ -21,7 +21,7 @@ pub fn event_text(
     Ok(text)
 }
 
-/// Adds the line that tells the event. After an `Err` a part of it may have been added.
+/// Adds the line that reports the event. After an `Err` a part of it may have been added.
 pub fn append_event(
     text: &mut Text,
     interfaces: &Interfaces,

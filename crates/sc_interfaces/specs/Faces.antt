@@ -94,7 +94,7 @@ input_name = codes "input"
 abbrev pub output_name : Text
 output_name = codes "output"
 
--- `main` is defined by one section, where so many define it before, and is `int main(void)`
+-- `main` is defined by one section, where `mains` says whether one before defines it, and is `int main(void)`
 abbrev pub main_holds : (mains : Bool) → HeadTree → Bool
 main_holds mains head = not (bytes_eq head.name main_name) || not mains && is_main head
 

@@ -1,4 +1,4 @@
--- What statements that fit do: they ask for calls that fit alone, and leave a function with a value of its result's
+-- What statements that fit do: they ask only for calls that fit, and leave a function with a value of its result's
 -- kind.
 use Rattle.sc_kinds.proofs.Common.{Acts, Arith, Blocks, Bool, Break, CallTarget, Callable, Calls, Cause, Continue, Each}
 use Rattle.sc_kinds.proofs.Common.{Exit, Here, Inside, Judged, List, Next, None, Ok, Option, Result, Return, Scope}

@@ -1,5 +1,4 @@
--- Two pieces of a run that are the same, and what is reached is good: what the words of the meaning make of such
--- pieces.
+-- Two pieces of a run that are the same, and what is reached is good: what the combinators make of such pieces.
 use Rattle.sc_kinds.proofs.Common.{Acts, Bool, Break, Cause, Continue, Err, Exit, Here, Left, List, Next, Ok, On}
 use Rattle.sc_kinds.proofs.Common.{Option, Out, Piece, Reached, Result, Return, Route, State, Stopped, Ty, Value, []}
 use Rattle.sc_kinds.proofs.Common.{all_do, and_then, ap, choose, computed, false, follow, if◌then◌else◌, in_loop}

@@ -211,7 +211,7 @@ module _ (arith : Arith) (program : ProgramTree) (typed : is_well_typed program 
   abbrev faces : Interfaces
   faces = program.interfaces
 
-  -- FUNCTIONS OF THE LIBRARY
+  -- DENOTED FUNCTIONS
   library_function : (comp : ℕ) (section : TypedSection) → slice_get program.sections comp ≡ Some section → (n : ℕ) →
       function L comp n ≡ option_map (function_of arith faces.main section.structs) (slice_get section.functions n)
   library_function comp section is n =
@@ -454,7 +454,7 @@ module _ (arith : Arith) (program : ProgramTree) (typed : is_well_typed program 
   within_good zero = λ number here f plain h s. tt
   within_good (suc n) = step_good (its_bodies n) (within_good n)
 
-  -- a function of the library is one of the program
+  -- `g` is the denotation of a function of the program
   record OfTree (comp n : ℕ) (g : Function) : Type 0 where
     pub section : TypedSection
     pub is : slice_get program.sections comp ≡ Some section

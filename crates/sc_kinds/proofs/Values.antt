@@ -150,7 +150,7 @@ ordered_kind a b h =
     (and_first (points a) _ (and_first (is_address a) _ k))
     (and_first (points b) _ (and_first (is_address b) _ (and_rest (is_address a) _ k))))
 
--- the result of an operator is a pointer where one of its operands alone is
+-- the result of an operator is a pointer where exactly one of its operands is
 abbrev GivesKind : Judged → Judged → Ty → Type 0
 GivesKind a b t = is_pointer t ≡ one_of (is_pointer a.ty) (is_pointer b.ty)
 
@@ -373,13 +373,13 @@ place_sound j place h = record {
       by_value true made.first v (h fits blocks made.first made.is) made.gives);
 }
 
--- an expression that has a value alone
+-- an expression that has only a value
 value_sound : (j : Judged) (m : Meant) → m.ty ≡ j.ty → j.place ≡ false →
     (j.fits ≡ true → (blocks : Blocks) → HasKind (is_pointer j.ty) (m.way want.Value blocks)) → Sound j m
 value_sound j m is none h =
     record { same = is; value = h; place = λ fits names. absurd (false≢true (sym none ∙ names)) }
 
--- what stands behind `&`
+-- what follows `&`
 reached_kind : (a t : Ty) → is_type (pointer_to a) t ≡ true → is_pointer t ≡ true
 reached_kind ty.Int t h = sym (same_kind (ty.Pointer 1 base.Int) t h)
 reached_kind ty.Unsigned t h = sym (same_kind (ty.Pointer 1 base.Unsigned) t h)

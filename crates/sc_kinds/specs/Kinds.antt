@@ -1,5 +1,5 @@
 -- Values have the kind of their types: words for integers, pointers and null for pointers. So no operator of a program
--- meets an operand that it has no meaning for, and numbers alone cross between compartments.
+-- meets an operand that it has no meaning for, and only numbers cross between compartments.
 use Rattle.sc_event.specs.Prelude.{export_at}
 use Rattle.sc_core.specs.Prelude.{Arith, Blocks, Body, Function, Here, IsWellTyped, Reached, Roles, Scope, State}
 use Rattle.sc_core.specs.Prelude.{called, calls, crossing, entry_in, function, is_pointer, judged, library_of}
@@ -57,7 +57,7 @@ pub record ValuesHaveKinds : Type 0 where
       (judged scope e).fits ≡ true → (judged scope e).place ≡ true →
       (blocks : Blocks) (q : Value) → ways arith structs here params e want.Place blocks ≡ Ok q → is_of true q ≡ true
 
--- what functions do where at most so many calls may be open and some compartments perform
+-- what functions do where at most `open_calls` calls may be open and some compartments perform
 abbrev pub bodies_of : Arith → ProgramTree → Roles → (open_calls : ℕ) → Body
 bodies_of arith program roles =
     within (scripted_step (library_of arith program) roles (run_step (library_of arith program)))

@@ -1,5 +1,5 @@
 //! What the values of well-typed programs are: laws that say that no operator meets an operand of another kind than its
-//! type's, that calls ask for what may be called alone, and that numbers alone cross between compartments.
+//! type's, that calls ask only for what may be called, and that only numbers cross between compartments.
 #![tactic(auto)]
 
 mod laws;

@@ -1,4 +1,4 @@
--- Libraries that agree function by function run the same, also where compartments perform scripts.
+-- Denotations that agree function by function run the same, also where compartments perform scripts.
 use Rattle.sc_laws.proofs.Common.{Action, AgreeingRunAlike, BodiesAgree, Body, Bool, CallTarget, CallsAgree, Cross}
 use Rattle.sc_laws.proofs.Common.{Function, FunctionsAgree, Here, Input, LibrariesAgree, Library, List, Main, Meets}
 use Rattle.sc_laws.proofs.Common.{Memory, None, Option, Output, Piece, PiecesAgree, Roles, Row, RunsAgree, Some, State}

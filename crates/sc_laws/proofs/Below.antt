@@ -16,7 +16,7 @@ use Rattle.sc_laws.proofs.Twins.{LibraryTwins, may_same}
 use Rattle.sc_laws.proofs.Expressions.{Keeps, alike, blamed}
 use Rattle.sc_event.specs.declared.row.Action.TheVariants as act
 
--- the state with so many more turns
+-- the state with `d` more turns
 abbrev pub richer : ℕ → State → State
 richer d s = record s { turns = s.turns + d }
 
@@ -24,7 +24,7 @@ abbrev pub richer_piece : {V : Type 0} → ℕ → Piece V → Piece V
 richer_piece d (Reached v s) = Reached v (richer d s)
 richer_piece d (Stopped end s) = Stopped end (richer d s)
 
--- what was told and noted before
+-- the second state has the events and the changes of frames of the first, and then those that came later
 pub record Later (s t : State) : Type 0 where
   pub events : Front s.trace t.trace
   pub frames : Front s.frames t.frames
@@ -344,7 +344,7 @@ module _ (d : ℕ) (Soft : Cause → Type 0) (Turns : Type 0) (spent : (d ≡ 0)
                 (call_cross L a here.comp to index args) (call_cross M b here.comp to index args) (λ v. a number here)
                 (λ v. b number here) (cross_below here.comp to index args) (λ v. bodies number here))))
 
-      -- a call of the environment, and then the rows behind it
+      -- a call of the environment, and then the rows after it
       row_then : (from : ℕ) (target : CallTarget) (args : List Value) (next next' : State → Piece (Option Value)) →
           Within next next' → Within (λ s. and_then (asks L a from target args s) (λ v. next))
           (λ s. and_then (asks M b from target args s) (λ v. next'))

@@ -104,7 +104,7 @@ module _ (L : Library) (obedient : Obedient L) (globals : Memory) (inputs : List
   abbrev behaviour : Set → SourceRun
   behaviour set = performed_by L globals inputs turns t set
 
-  -- where the next run is blamed it has told more
+  -- where the next run is blamed it has emitted more
   told_more : (run other : SourceRun) (comp : ℕ) (cause : Cause) (line : ℕ) → other.end ≡ Blamed comp cause line →
       PassesBlame run other → length run.trace < length other.trace
   told_more run other comp cause line ends (turnless is) = let wants : other.end ≡ TurnsOut = ap (λ r. r.end) is in cc

@@ -57,7 +57,7 @@ stores_chain = (
   ),
 )
 
--- no run tells the trace in which one of the two performs nothing
+-- no run emits the trace in which one of the two performs nothing
 pub stores_need_both : (set : Set) → (performed c_arith stores [] 5 two_stores_trace set).trace ≡ two_stores_trace →
     (set 1 ≡ true) × (set 2 ≡ true)
 stores_need_both set tells =
@@ -88,7 +88,7 @@ reentry_chain = (
   ap (λ run. run.trace) first_reenters,
 )
 
--- any set with that compartment tells the trace, whoever else performs
+-- any set with that compartment emits the trace, whoever else performs
 pub reentry_suffices : (set : Set) → set 1 ≡ true →
     (performed c_arith (program reentry_interfaces reentry) [] 5 reentry_trace set).trace ≡ reentry_trace
 reentry_suffices set has = (chain_is_least.programs c_arith (program reentry_interfaces reentry) [] 5 _

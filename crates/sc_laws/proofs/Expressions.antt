@@ -12,7 +12,7 @@ use Rattle.sc_core.specs.declared.expr.TypedKind.{TypedKind, TypedKind-F}
 use Rattle.sc_core.specs.declared.expr.TypedKind.TheOpen as term
 use Rattle.sc_core.specs.declared.value.Want.TheVariants as want
 
--- causes that are blamed in the first arithmetic alone
+-- causes that are blamed only in the first arithmetic
 module _ (Soft : Cause → Type 0) where
   -- the second gives the same, or the first blames so
   pub data Keeps (V : Type 0) (r r' : Result V Cause) : Type 0 where

@@ -33,12 +33,12 @@ module _ (main : ℕ) (t : List Event) (S' : ℕ → Bool) where
   abbrev pub Agreed : (V : Type 0) → RunEnd → State → Piece V → Type 0
   Agreed V end s p = IfBlamed S' false end ((s' : State) × (p ≡ Stopped end s') × (s'.trace ≡ s.trace))
 
-  -- the second run tells an event more, or wants a turn or a row for it
+  -- the second run emits an event more, or wants a turn or a row for it
   pub data MovesOn (V : Type 0) (u : List Event) (p : Piece V) : Type 0 where
     no_turn : (s' : State) → p ≡ Stopped TurnsOut s' → s'.trace ≡ u → MovesOn V u p
     longer : (e : Event) → Front (u ++ e ∷ []) (last p).trace → MovesOn V u p
 
-  -- the same, or it returns, which the caller tells
+  -- the same, or it returns, and its caller emits the return
   pub data MovesOrReturns (u : List Event) (p : Piece (Option Value)) : Type 0 where
     passes : MovesOn (Option Value) u p → MovesOrReturns u p
     hands_back : (v : Option Value) (s' : State) → p ≡ Reached v s' → s'.trace ≡ u → MovesOrReturns u p
@@ -64,7 +64,7 @@ module _ (main : ℕ) (t : List Event) (S' : ℕ → Bool) where
     passed = λ comp cause line is set. passes (by.passed comp cause line is set);
   }
 
-  -- both have told the whole trace; or both come to the same at one place of it; or the first has stopped
+  -- both have emitted the whole trace; or both come to the same at one place of it; or the first has stopped
   pub data KeepsUp (st : Standing) (V : Type 0) (o p : Piece V) : Type 0 where
     done : Front t (last o).trace → Front t (last p).trace → KeepsUp st V o p
     both : (v : V) (s s' : State) → o ≡ Reached v s → p ≡ Reached v s' → Abreast st s s' → KeepsUp st V o p
@@ -100,11 +100,11 @@ module _ (main : ℕ) (t : List Event) (S' : ℕ → Bool) where
         stands = stands_last _ s.trace e st n.stands ∙ moves;
       }
 
-  -- a piece that goes on from the place where the trace ends has told all of it
+  -- a piece that goes on from the place where the trace ends has emitted all of it
   pub whole : (u v : List Event) → t ≡ u → Front u v → Front t v
   whole u v is front = subst (λ x. Front x v) (sym is) front
 
-  -- THE WORDS IN BOTH RUNS
+  -- THE COMBINATORS IN BOTH RUNS
   passed_then : (V W : Type 0) (u : List Event) (p : Piece V) (l : V → State → Piece W) → ((v : V) → Goes (l v)) →
       MovesOn V u p → MovesOn W u (and_then p l)
   passed_then V W u p l goes (no_turn s' is same) = no_turn s' (ap (λ y. and_then y l) is) same
@@ -123,7 +123,7 @@ module _ (main : ℕ) (t : List Event) (S' : ℕ → Bool) where
       ((v : V) → Goes (l v)) → Beyond V end s p → Beyond W end s (and_then p l)
   beyond_then V W end s p l goes = past_then V W _ _ end s p l goes (passed_then V W s.trace p l goes)
 
-  -- what performs returns, and its return is told
+  -- what performs returns, and its return is emitted
   passed_back : (W : Type 0) (u : List Event) (p : Piece (Option Value)) (l : Option Value → State → Piece W) →
       ((v : Option Value) → Goes (l v)) →
       ((v : Option Value) (x : State) → (e : Event) × Front (x.trace ++ e ∷ []) (last (l v x)).trace) →
@@ -318,7 +318,7 @@ module _ (main : ℕ) (t : List Event) (S' : ℕ → Bool) where
           Stands (record s { memory = with_blocks c x s.memory; frames = frames })
       stands_stored c x frames s set at = grind arith
 
-      -- calls of a compartment that performs in the second run alone
+      -- calls of a compartment that performs only in the second run
       pub perform_at : ((s : State) → Stands s → MovesOrReturns s.trace left) → (at : Here) → S' at.comp ≡ true →
           KeptAt OneSided Perform Never at
       perform_at by at set =

@@ -66,7 +66,7 @@ module _ (L : Library) (main : ℕ) (t : List Event) (S S' : ℕ → Bool) (larg
   abbrev Up : Standing → Piece (Option Value) → Piece (Option Value) → Type 0
   Up st o p = KeepsUp main t S' st (Option Value) o p
 
-  -- what the functions of the library keep
+  -- what the denoted functions keep
   abbrev TwinsFollow : Type 0
   TwinsFollow = (st : Standing) → LibraryTwins (N st) (Keeping main t S' st) (λ h. S' h.comp ≡ false) L L
 
@@ -94,7 +94,7 @@ module _ (L : Library) (main : ℕ) (t : List Event) (S S' : ℕ → Bool) (larg
     P st k comp first left o = Perform main t S' st left (Onward k comp first) (second_goes k (at comp first))
         (Option Value) o o
 
-    -- what is to be shown of the bodies of the first run
+    -- what is to be proved of the bodies of the first run
     pub record Bodies (a : Body) : Type 0 where
       pub goes : BodyGoes a
       -- of a compartment that performs in neither run, and of one that performs in the second
@@ -115,7 +115,7 @@ module _ (L : Library) (main : ℕ) (t : List Event) (S S' : ℕ → Bool) (larg
       pub is : second k (at comp first) s ≡ acts L second (action_of e) (performs L second rest k (at comp first))
           (second k (at comp first)) comp s
 
-    -- an event of a compartment that performs: the trace ends, or the second run tells it too
+    -- an event of a compartment that performs: the trace ends, or the second run emits it too
     pub data Tells (k comp first : ℕ) (s s' : State) (e : Event) : Type 0 where
       all_told : t ≡ s.trace → Tells k comp first s s' e
       tells_it : (more : List Event) → t ≡ s.trace ++ e ∷ more → Telling k comp first e s' → Tells k comp first s s' e
@@ -144,14 +144,14 @@ module _ (L : Library) (main : ℕ) (t : List Event) (S S' : ℕ → Bool) (larg
       by_next (next_told more all) =
           tells_it more all (performs_next more (all ∙ ap (λ u. u ++ e ∷ more) (sym n.trace)))
 
-    -- a function that performs tells an event more, wants a turn or a row for it, or returns
+    -- a function that performs emits an event more, wants a turn or a row for it, or returns
     abbrev Passes : State → Piece (Option Value) → Type 0
     Passes s p = MovesOrReturns main t S' s.trace p
 
     halts : (s : State) → Passes s (Stopped TurnsOut s)
     halts s = passing.passes (passed.no_turn s refl refl)
 
-    -- a call tells its event, or there is no turn or no function for it
+    -- a call emits its event, or there is no turn or no function for it
     data Asked (e : Event) (u : List Event) (o : Piece (Option Value)) : Type 0 where
       silent : (y : State) → o ≡ Stopped TurnsOut y → y.trace ≡ u → Asked e u o
       loud : Front (u ++ e ∷ []) (last o).trace → Asked e u o
@@ -230,7 +230,7 @@ module _ (L : Library) (main : ℕ) (t : List Event) (S S' : ℕ → Bool) (larg
     inside st to index =
         record { active = record { comp = to; entry = Export index }; waiting = st.active ∷ st.waiting }
 
-    -- the whole trace is told before this event
+    -- the whole trace is emitted before this event
     abbrev past : (u : List Event) (e : Event) → t ≡ u → Front t (u ++ e ∷ [])
     past u e is = whole main t S' u (u ++ e ∷ []) is (record { more = e ∷ []; is = refl })
 
@@ -250,7 +250,7 @@ module _ (L : Library) (main : ℕ) (t : List Event) (S S' : ℕ → Bool) (larg
       by_next (next_told more all) along = (go (near_tell main t S' st after y y' e more moves all n)).follows along
 
     module _ (st : Standing) (from to index : ℕ) (f : Function) (first : ℕ) where
-      -- what the call does at its end, and what is told then
+      -- what the call does at its end, and what it emits then
       abbrev ends : Option Value → State → Piece (Option Value)
       ends = returns to from index f first
 
@@ -309,7 +309,7 @@ module _ (L : Library) (main : ℕ) (t : List Event) (S S' : ℕ → Bool) (larg
             (returns_goes to from index f first') (λ v u. (told v, front_same (u.trace ++ told v ∷ []))) by)
 
     module _ (a : Body) (bodies : Bodies a) where
-      -- the call once the function is found: its variables and its frame are there, and the call is told
+      -- the call once the function is found: its variables and its frame are there, and the call is emitted
       abbrev starts : (from to index : ℕ) → List Value → Function → State → State
       starts from to index args f s = begun to f (crossed args) (tell (Call from to index (map word_in args)) s)
 
@@ -499,7 +499,7 @@ module _ (L : Library) (main : ℕ) (t : List Event) (S S' : ℕ → Bool) (larg
             asks L second comp target args u ≡ called L second comp target args u
         asks_allowed target args u allowed = grind arith
 
-        -- an event of the environment, behind which these inputs are left in the runs
+        -- an event of the environment, after which these inputs are left in the runs
         event_performs : (e : Event) (v : Option Value) (inputs inputs' : List ℕ) (s : State) (h : H s) →
             performer e ≡ comp → stands_after st e ≡ Some st → N st (record s { inputs = inputs })
             (record h.other { inputs = inputs' }) → ((next : State → Piece (Option Value)) →

@@ -20,13 +20,13 @@ use Rattle.sc_laws.proofs.Rows.{InLine, in_line_before}
 use Rattle.sc_laws.proofs.FollowingCalls.{at, first_step, second_step, N, Bodies, Tells, all_told, tells_it, tells_next}
 use Rattle.sc_laws.proofs.FollowingCalls.{all_bodies}
 
--- what is shown of a piece goes on from where it is
+-- the trace of a whole run begins with that of its piece
 behaviour_front : (main : ℕ) (o : Piece (Option Value)) → Front (last o).trace (run_to main o).behaviour.trace
 behaviour_front main (Reached v s) = record { more = event.End main _ ∷ []; is = refl }
 behaviour_front main (Stopped end s) = front_same s.trace
 
 module _ (t : List Event) (S' : Set) where
-  -- the second run tells the whole trace; or it ends as the first; or it goes on where that stopped, by whether the
+  -- the second run emits the whole trace; or it ends as the first; or it goes on where that stopped, by whether the
   -- blamed compartment performs
   pub data RunsFollow (x y : SourceRun) : Type 0 where
     tells_all : Front t x.trace → Front t y.trace → RunsFollow x y
@@ -35,7 +35,7 @@ module _ (t : List Event) (S' : Set) where
         IfBlamed S' true end (PassesBlame x y) → RunsFollow x y
 
   module _ (main : ℕ) where
-    -- what is told with the end is told in the whole run
+    -- a prefix of the piece's trace is a prefix of the whole run's
     told_on : (u : List Event) (p : Piece (Option Value)) → Front u (last p).trace →
         Front u (run_to main p).behaviour.trace
     told_on u p front = front_more u (last p).trace _ front (behaviour_front main p)
@@ -134,7 +134,7 @@ module _ (L : Library) (obedient : Obedient L) (t : List Event) (S S' : Set) (la
       abbrev ends : Option Value → State → Piece (Option Value)
       ends v u = Reached v (done main f first u)
 
-      -- the blocks of `main` end, and nothing is told
+      -- the blocks of `main` end, and nothing is emitted
       ended_shows : (o : Piece (Option Value)) → (run_to main (and_then o ends)).behaviour ≡ (run_to main o).behaviour
       ended_shows o = grind arith
 
@@ -205,7 +205,7 @@ module _ (t : List Event) (x y : SourceRun) where
   abbrev cut : Bool → SourceRun → SourceRun
   cut = shown (length t)
 
-  -- a run that is stopped at the length of the trace shows the trace where its events begin with it
+  -- a run that is stopped at the length of the trace emits the trace where its events begin with it
   shows : Front t y.trace → (stopped_at (length t) y).trace ≡ t
   shows front = trace_is _ y ∙ ap (take _) front.is ∙ take_front t front.more
 
@@ -223,7 +223,7 @@ module _ (t : List Event) (x y : SourceRun) where
     by_run (ends_so no_blame is) = ap (λ r. (stopped_at (length t) r).trace) is ∙ tells
     by_run (goes_by end ends stop on same passes) = shows (front_more t x.trace y.trace front on)
 
-  -- a run that was blamed before it had so many events
+  -- a run that was blamed before it had as many events as the trace
   blamed_early : (comp : ℕ) (cause : Cause) (line : ℕ) → x.end ≡ Blamed comp cause line →
       reaches (length t) x x.end ≡ false → length x.trace < length t
   blamed_early comp cause line ends is = leb-false _ _ (ap (reaches _ x) (sym ends) ∙ is)
@@ -267,7 +267,7 @@ module _ (t : List Event) (x y : SourceRun) where
       by_run (ends_so no_blame equal) = absurd (no_blame comp cause line ends)
       by_run (goes_by end ends' stop on stays passes) = stopped_on (passes comp cause line (sym ends' ∙ ends) set)
 
-  -- a run that was blamed has not told the whole trace
+  -- a run that was blamed has not emitted the whole trace
   blamed_below : (comp : ℕ) (cause : Cause) (line : ℕ) → (b : Bool) → reaches (length t) x x.end ≡ b →
       (cut b x).end ≡ Blamed comp cause line → (cut b x).trace ≡ t → ⊥
   blamed_below comp cause line b is ends tells = grind (arith, is, ends, tells)

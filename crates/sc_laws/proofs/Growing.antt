@@ -1,4 +1,4 @@
--- Each word of the meaning only goes on: events are appended, and no turns come back.
+-- Each combinator only goes on: events are appended, and no turns come back.
 use Rattle.sc_laws.proofs.Common.{Action, AllFrom, Body, Bool, Call, CallTarget, Calls, Closed, Cross, Does, Event}
 use Rattle.sc_laws.proofs.Common.{Exit, FrameChange, Front, Function, Goes, Gone, Grown, Here, In, Input, Interfaces}
 use Rattle.sc_laws.proofs.Common.{Left, Library, List, None, On, Opened, Option, Output, Own, Piece, Reached, Roles}
@@ -75,7 +75,7 @@ pub then_from : {V W : Type 0} (o : Piece V) (k : V → State → Piece W) → (
 then_from (Reached v s) k h = (h v s).grown
 then_from (Stopped end s) k h = same s
 
--- what was told before a piece is told before what follows it
+-- a prefix of the trace at the end of a piece stays a prefix after what follows
 pub then_front : {V W : Type 0} (u : List Event) (o : Piece V) (k : V → State → Piece W) → ((v : V) → Goes (k v)) →
     Front u (last o).trace → Front u (last (and_then o k)).trace
 then_front u o k goes front = front_more u (last o).trace _ front (then_from o k goes).events

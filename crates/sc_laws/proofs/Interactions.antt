@@ -1,6 +1,5 @@
--- What the words of the meaning make of doings that are trees are trees. For every language whose functions are told in
--- these words: each lemma
--- `match_` is of one word, and together they show that a library obeys.
+-- Combinators make interaction trees of interaction trees, in every language whose denotations are built of them: each
+-- lemma `match_` is of one combinator, and together they prove that denotations obey.
 use Rattle.sc_laws.proofs.Common.{Alike, Asks, Blames, Blocks, Bool, CallTarget, Calls, Cause, Does, Doing, Each, Err}
 use Rattle.sc_laws.proofs.Common.{Exit, Gives, GoFrom, Goes, Gone, Grown, Halts, Here, Interaction, Lasts, Left, List}
 use Rattle.sc_laws.proofs.Common.{Match, Next, Ok, On, Piece, Plays, Reached, Reads, Result, Route, Spends, State}

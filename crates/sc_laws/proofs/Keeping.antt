@@ -1,5 +1,4 @@
--- To show that the functions of a library keep a property of states, show it of what changes memory, of turns and of
--- calls.
+-- To prove that denoted functions keep a property of states, prove it of what changes memory, of turns and of calls.
 use Rattle.sc_laws.proofs.Common.{Action, BadType, Blamed, Blocks, Body, Bool, Call, CallTarget, Calls, Cause, Cross}
 use Rattle.sc_laws.proofs.Common.{Export, Function, Gone, Grown, Here, Input, Kept, Library, List, Main, Meets, Memory}
 use Rattle.sc_laws.proofs.Common.{Never, None, Obedient, Option, Out, Output, Own, Piece, Property, Ret, Roles, Row}
@@ -14,7 +13,7 @@ use Rattle.sc_laws.proofs.Growing.{BodyGoes, CallsGo, calls_go, within_goes}
 use Rattle.sc_laws.proofs.Twins.{Kept as RelationKept, KeptAt, FunctionTwins}
 use Rattle.sc_laws.proofs.Matching.{library_twins, scripted_goes_on}
 
--- what is to be shown of a property, for the functions of a compartment
+-- what is to be proved of a property, for the functions of a compartment
 pub record IsKept (K : Property) (here : Here) : Type 0 where
   pub memory : (s : State) (blocks : Blocks) → K.Goes s →
       K.Goes (record s { memory = with_blocks here.comp blocks s.memory })
@@ -72,7 +71,7 @@ module _ (K : Property) where
         })).both s s (record { goes = at; is = refl }))
     keeps_here _ _ meets h is by goes keeps s at = absurd meets
 
--- a function of a library keeps what its calls keep
+-- a denoted function keeps what its calls keep
 pub function_keeps : (library : Library) → Obedient library → (comp number : ℕ) (f : Function) →
     function library comp number ≡ Some f → (K : Property) (here : Here) → IsKept K here → (by : Calls) → CallsGo by →
     CallsKeep K here.comp by → (s : State) → K.Goes s → Kept K (f.does by here s)
@@ -111,7 +110,7 @@ pub then_other : {V W : Type 0} (K L : Property) (piece : Piece V) (go : V → S
     ((v : V) (s : State) → K.Goes s → Kept L (go v s)) → Kept L (and_then piece go)
 then_other K L piece go ends h k = grind (arith, ends, h)
 
--- A function of a library, and the rows that its compartment performs, keep a property that its calls keep.
+-- A denoted function, and the rows that its compartment performs, keep a property that its calls keep.
 module _ (K : Property) (library : Library) (body : Body) (here : Here) (called_keep : (target : CallTarget)
     (args : List Value) (s : State) → may_call library here.comp target args ≡ true → K.Goes s →
     Kept K (called library body here.comp target args s)) where

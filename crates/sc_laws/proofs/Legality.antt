@@ -1,4 +1,4 @@
--- Every trace that a run shows is legal.
+-- Every trace that a run emits is legal.
 use Rattle.sc_laws.proofs.Common.{Call, Cross, Event, Export, Interfaces, IsStop, Kept, Library, List, Main, Memory}
 use Rattle.sc_laws.proofs.Common.{None, Obedient, Option, Piece, Reached, Ret, Roles, Some, Standing, State, Stopped}
 use Rattle.sc_laws.proofs.Common.{Value, [], and_from, and_parts, ap, arith, at_start, crossing, eq-eqb, export_at}

@@ -25,7 +25,7 @@ use Rattle.sc_laws.specs.Lines.{program_lined}
 use Rattle.sc_laws.proofs.Agreement.{itself, then_agree, agreeing_run_alike}
 use Rattle.sc_laws.proofs.Statements.{Pairs, meets_at, lists_at}
 
--- WORDS
+-- COMBINATORS
 computed_agree : {V : Type 0} (here : Here) (line other : ℕ) (r : Result V Cause) (s : State) →
     PiecesAgree (computed here line r s) (computed here other r s)
 computed_agree here line other r s = grind arith
@@ -230,7 +230,7 @@ module _ (here : Here) where
       PiecesAgree (closed exit has_result is_main line here s) (closed exit has_result is_main other here s)
   closed_agree exit has_result is_main line other s = grind arith
 
--- FUNCTIONS AND LIBRARIES
+-- FUNCTIONS AND DENOTATIONS
 pairs_map : {A A' B : Type 0} (Q : B → B → Type 0) (f : A → B) (g : A' → B) (h : A → A') →
     ((x : A) → Q (f x) (g (h x))) → (xs : List A) → Pairs Q (map f xs) (map g (map h xs))
 pairs_map Q f g h each [] = tt

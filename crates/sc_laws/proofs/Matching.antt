@@ -1,4 +1,4 @@
--- Functions that match are related in every relation that the words of the meaning keep.
+-- Functions that match are related in every relation that the combinators keep.
 use Rattle.sc_laws.proofs.Common.{Alike, Asks, Blamed, Blames, Blocks, Calls, Cause, Does, Doing, Err, Function}
 use Rattle.sc_laws.proofs.Common.{FunctionsMatch, Gives, GoFrom, Goes, Gone, Halts, Here, Interaction, Lasts}
 use Rattle.sc_laws.proofs.Common.{LibrariesMatch, Library, Match, Meets, Never, None, Obedient, Ok, Option, Piece}

@@ -1,4 +1,4 @@
--- The laws: of every library that obeys, and so of every program.
+-- The laws: of all denotations that obey, and so of every program.
 use Rattle.sc_laws.proofs.Common.{BlameIsPassed, BlameRemains, BlamedAreThere, ChainExists, ChainIsLeast, ChainsRise}
 use Rattle.sc_laws.proofs.Common.{EmptySetIsMeaning, Event, FixedPoint, HoldsOfSets, Library, List, MeaningGoesOn}
 use Rattle.sc_laws.proofs.Common.{Memory, MoreGoesOn, MoreMayPerform, NobodyWhoPerformsIsBlamed, Obedient, OnlyGoesOn}
@@ -97,7 +97,7 @@ blamed_are_there = record {
       (globals_of _) inputs turns events (roles_in _ set trace) comp cause line ends);
 }
 
--- what holds of libraries that obey holds of programs
+-- what holds of denotations that obey holds of programs
 of_sets : (law : List Event → (Set → SourceRun) → Type 0) →
     ((library : Library) → Obedient library → (globals : Memory) (inputs : List ℕ) (turns : ℕ) (trace : List Event) →
     law trace (performed_by library globals inputs turns trace)) → HoldsOfSets law

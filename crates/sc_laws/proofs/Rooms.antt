@@ -1,4 +1,4 @@
--- Frames: each change is of a moment within the trace, and a call that returns leaves the open room as it was.
+-- Frames: each change is of a moment within the trace, and a call that returns leaves the stack depths as they were.
 use Rattle.sc_laws.proofs.Common.{AllBefore, AreTold, Body, Closed, DeepestIsReached, End, Event, FrameChange, Function}
 use Rattle.sc_laws.proofs.Common.{In, KeepsRooms, Kept, LeavesRooms, Library, List, Main, Memory, Obedient, Opened}
 use Rattle.sc_laws.proofs.Common.{Option, Piece, Property, Reached, Roles, State, Step, Stopped, TellsNoEnd, Value, []}
@@ -24,7 +24,7 @@ before_append n [] ys h k = k
 before_append n (Opened told c more ∷ xs) ys h k = (h.0, before_append n xs ys h.1 k)
 before_append n (Closed told c less ∷ xs) ys h k = (h.0, before_append n xs ys h.1 k)
 
--- what was told by then was told by later
+-- changes made before a moment were made before any later one
 pub before_more : (n m : ℕ) → n ≤ m → (xs : List FrameChange) → AllBefore n xs → AllBefore m xs
 before_more n m le [] h = tt
 before_more n m le (Opened told c more ∷ xs) h =
@@ -32,7 +32,7 @@ before_more n m le (Opened told c more ∷ xs) h =
 before_more n m le (Closed told c less ∷ xs) h =
     let first = h.0 in (omega (arith, le, first), before_more n m le xs h.1)
 
--- the deepest room is at least the first
+-- the greatest stack depth is at least the first
 deepest_first : (events comp room : ℕ) (ys : List FrameChange) → room ≤ deepest events comp room ys
 deepest_first events comp room [] = omega arith
 deepest_first events comp room (Opened told c more ∷ ys) = grind (arith, deepest_first events comp room ys)
@@ -71,12 +71,12 @@ deepest_is_reached events comp before after h = deepest_from events comp 0 befor
 abbrev Rooms : Type 0
 Rooms = ℕ → ℕ
 
--- the changes so far are of moments within the trace and no end was told, where that was so at the beginning
+-- the changes so far are of moments within the trace and no end was emitted, where that was so at the beginning
 record Told (base : State) (trace : List Event) (frames : List FrameChange) : Type 0 where
   pub moments : AllBefore (suc (length base.trace)) base.frames → AllBefore (suc (length trace)) frames
   pub endless : has_no_end base.trace ≡ true → has_no_end trace ≡ true
 
--- and these rooms are open
+-- and these are the stack depths
 record Noted (base : State) (rooms : Rooms) (trace : List Event) (frames : List FrameChange) : Type 0 where
   pub told : Told base trace frames
   pub open_ : (c : ℕ) → room_after c 0 frames ≡ rooms c
@@ -103,7 +103,7 @@ module _ (base : State) where
         open_ = h.open_;
       }
 
-  -- the rooms where a frame of a compartment is open besides
+  -- the stack depths where a frame of a compartment is open besides
   abbrev wider : ℕ → ℕ → Rooms → Rooms
   wider comp room rooms c = if comp == c then rooms c + room else rooms c
 

@@ -41,7 +41,7 @@ row_of_next main c t u e more st is stands own =
       is = next_row main c u e more st (eq-eqb _ c own) stands;
     })
 
--- once it is told, the rows behind it are left
+-- once it is emitted, the rows after it are left
 pub rows_behind : (main c : ℕ) (t u : List Event) (e : Event) (st : Standing) → performer e ≡ c →
     (next : Next (drop (count_of c u) (part main c t)) st e) → drop (count_of c (u ++ e ∷ [])) (part main c t)
     ≡ next.rest
@@ -49,7 +49,7 @@ rows_behind main c t u e st own next = ap (λ n. drop n (part main c t)) (counts
     ∙ sym (drop_next (part main c t) (count_of c u)) ∙ ap (drop 1) next.is
 
 -- TRACES
--- two fronts of one list: one is a front of the other
+-- two prefixes of one list: one is a prefix of the other
 pub fronts_meet : {A : Type 0} (xs ys more less : List A) → xs ++ more ≡ ys ++ less → Front xs ys ⊎ Front ys xs
 fronts_meet [] ys more less is = inl (record { more = ys; is = refl })
 fronts_meet (x ∷ xs) [] more less is = inr (record { more = x ∷ xs; is = refl })
@@ -72,7 +72,7 @@ pub then_along : {V W : Type 0} (t : List Event) (o : Piece V) (k : V → State 
     InLine t (last (and_then o k)).trace → InLine t (last o).trace
 then_along t o k goes = in_line_before t (last o).trace _ (then_from o k goes).events
 
--- what a trace is where a run that kept to it tells one event more: it ends there, or has that event next
+-- what a trace is where a run that kept to it emits one event more: it ends there, or has that event next
 pub data NextIs (t u : List Event) (e : Event) : Type 0 where
   over : t ≡ u → NextIs t u e
   told : (more : List Event) → t ≡ u ++ e ∷ more → NextIs t u e

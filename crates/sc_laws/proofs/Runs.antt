@@ -1,4 +1,4 @@
--- Whole runs: steps of two libraries, and what they come to when they are stopped at a number of events.
+-- Whole runs: steps of the denotations of two programs, and what they come to when stopped at a number of events.
 use Rattle.sc_laws.proofs.Common.{AllFrom, Blamed, Bool, Cause, End, Ended, Event, EventsOut, FrameChange, Front}
 use Rattle.sc_laws.proofs.Common.{HasFixedPoint, Here, IsFixed, IsSteady, IsStop, LibrariesMatch, Library, List, Main}
 use Rattle.sc_laws.proofs.Common.{Memory, Never, None, Obedient, Option, Piece, Reached, Roles, Run, RunEnd, Some}
@@ -38,7 +38,7 @@ pub unreached : (events : ℕ) (run : SourceRun) (end : RunEnd) → reaches even
     length run.trace ≤ events
 unreached events run end below = grind arith
 
--- a run that is cut at so many events, or not
+-- a run that is cut at `events` events, or not
 abbrev pub shown : ℕ → Bool → SourceRun → SourceRun
 shown events b run = if b then record { trace = take events run.trace; end = EventsOut } else run
 
@@ -87,7 +87,7 @@ module _ (d : ℕ) (Soft : Cause → Type 0) (Turns : Type 0) where
   past main trace (Stopped TurnsOut s) stop front = (front, λ is. absurd (cc))
   past main trace (Stopped EventsOut s) stop front = absurd stop
 
-  -- frames that go on, where they change at so many events and later
+  -- frames that go on, with changes only at `events` events and later
   abbrev FramesOn : ℕ → List FrameChange → List FrameChange → Type 0
   FramesOn events before after = (front : Front before after) × AllFrom events front.more
 

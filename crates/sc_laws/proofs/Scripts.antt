@@ -1,5 +1,5 @@
 -- A run in which a set performs its part of a legal trace: where it is out of turns while it keeps to the trace and
--- hasn't told all of it, it has none left. For there the next row of the active compartment is its next event.
+-- hasn't emitted all of it, it has none left. For there the next row of the active compartment is its next event.
 use Rattle.sc_laws.proofs.Common.{Action, BadType, Blamed, Body, Bool, Call, CallTarget, Cross, End, Ended, Event}
 use Rattle.sc_laws.proofs.Common.{EventsOut, Export, ExportsLead, Here, In, Input, Interfaces, Kept, Library, List}
 use Rattle.sc_laws.proofs.Common.{Main, Memory, None, Obedient, Option, Out, Output, Piece, Property, Ret, Roles, Row}
@@ -169,7 +169,7 @@ module _ (library : Library) (leads_on : ExportsLead library) (trace : List Even
           subst (MayAsk _) (sym (ap (λ r. r.action) (same_row e more following)) ∙ its)
           (may_ask st _ e following.own following.may)
 
-      -- once an event was told, the rows behind are left
+      -- once an event was emitted, the rows after it are left
       rows_then : (e : Event) → performer e ≡ here.comp → rest ≡ rows_left roles here.comp (s.trace ++ e ∷ [])
       rows_then e own = ap (drop 1) rows ∙ drop_next (part main _ trace) (count_of _ s.trace)
           ∙ ap (λ k. drop k (part main here.comp trace)) (sym (counts_its_own _ s.trace e own))

@@ -1,4 +1,4 @@
--- Two runs side by side: which relations of them the words of the meaning keep.
+-- Related runs: which relations of two runs the combinators keep.
 use Rattle.sc_laws.proofs.Common.{Blamed, Blocks, Bool, CallTarget, Calls, Cause, Entry, Function, Goes, Gone, Grown}
 use Rattle.sc_laws.proofs.Common.{Here, Library, List, Meets, Option, Piece, Reached, Result, State, Stopped, Value}
 use Rattle.sc_laws.proofs.Common.{and_then, arith, computed, false, function, if◌then◌else◌, may_call, true, turn}
@@ -14,7 +14,7 @@ module _ (P : State → State → Type 0) (R : (V : Type 0) → Piece V → Piec
     pub second : Goes g
     pub both : (s s' : State) → P s s' → R V (f s) (g s')
 
-  -- what a relation must keep for the words to keep it: to reach something, one piece after another, and a turn
+  -- what a relation must keep for the combinators to keep it: to reach something, one piece after another, and a turn
   pub record Kept : Type 1 where
     pub reached : (V : Type 0) (v : V) (s s' : State) → P s s' → R V (Reached v s) (Reached v s')
     pub after : (V W : Type 0) (s s' : State) (o p : Piece V) (k l : V → State → Piece W) → P s s' → Gone s o →
@@ -53,7 +53,7 @@ module _ (P : State → State → Type 0) (R : (V : Type 0) → Piece V → Piec
           P (record s { memory = with_blocks here.comp blocks s.memory })
           (record s' { memory = with_blocks here.comp blocks s'.memory })
 
--- Two libraries side by side, function by function.
+-- The denotations of two programs, related function by function.
 
 -- a call of any compartment
 abbrev pub Anywhere : Here → Type 0
@@ -66,7 +66,7 @@ module _ (P : State → State → Type 0) (R : (V : Type 0) → Piece V → Piec
   CallsTwins from C D = (target : CallTarget) (args : List Value) →
       Twins P R (Option Value) (C from target args) (D from target args)
 
-  -- functions that callers can't tell apart, and that do related things where their calls do
+  -- functions that callers can't distinguish, and that do related things where their calls do
   pub record FunctionTwins (f g : Function) : Type 0 where
     pub cells : g.cells ≡ f.cells
     pub room : g.room ≡ f.room

@@ -1,4 +1,4 @@
--- Two libraries that do the same, whatever their functions carry, up to the lines of blames.
+-- Denotations of two programs that do the same, whatever their functions carry, up to the lines of blames.
 use Rattle.sc_laws.specs.Common.{Arith, Blamed, Body, CallTarget, Calls, Ended, Entry, EventsOut, Function, Here}
 use Rattle.sc_laws.specs.Common.{Library, Memory, Piece, ProgramTree, Reached, Roles, Run, RunEnd, SourceRun, State}
 use Rattle.sc_laws.specs.Common.{Stopped, TurnsOut, Value, function, library_of, run_by, run_of, run_step}
@@ -36,7 +36,7 @@ abbrev pub BodiesAgree : Body → Body → Type 0
 BodiesAgree body other = (number : ℕ) (here : Here) (s : State) →
     PiecesAgree (body number here s) (other number here s)
 
--- functions that callers can't tell apart, and that do the same where their calls do
+-- functions that callers can't distinguish, and that do the same where their calls do
 pub record FunctionsAgree (f g : Function) : Type 0 where
   pub cells : f.cells ≡ g.cells
   pub room : f.room ≡ g.room
@@ -48,19 +48,19 @@ pub record LibrariesAgree (L M : Library) : Type 0 where
   pub functions : (comp number : ℕ) → Meets FunctionsAgree (function L comp number) (function M comp number)
   pub entered : (comp : ℕ) (entry : Entry) → L.entered comp entry ≡ M.entered comp entry
 
--- what runs show is the same but for the line of a blame
+-- runs with the same trace, and the same end but for the line of a blame
 pub record BehavioursAgree (run other : SourceRun) : Type 0 where
   pub trace : run.trace ≡ other.trace
   pub end : without_line run.end ≡ without_line other.end
 
--- runs that show the same, wherever they are stopped, and whose frames are the same, so that all depths are
+-- runs that agree, wherever they are stopped, and whose frames are the same, so that all depths are
 pub record RunsAgree (run other : Run) : Type 0 where
   pub behaviour : (events : ℕ) → BehavioursAgree (stopped_at events run.behaviour) (stopped_at events other.behaviour)
   pub whole : BehavioursAgree run.behaviour other.behaviour
   pub frames : run.frames ≡ other.frames
 
--- libraries that agree function by function show the same in the same room: in their meaning, and whoever performs
--- whatever script
+-- denotations that agree function by function have runs of the same trace and the same stack depths: in their meaning,
+-- and whoever performs whatever script
 pub record AgreeingRunAlike : Type 0 where
   pub meaning : (L M : Library) → LibrariesAgree L M → (globals : Memory) (inputs : List ℕ) (turns : ℕ) →
       RunsAgree (run_by L (run_step L) globals inputs turns) (run_by M (run_step M) globals inputs turns)
@@ -69,8 +69,8 @@ pub record AgreeingRunAlike : Type 0 where
       RunsAgree (run_by L (scripted_step L roles (run_step L)) globals inputs turns)
       (run_by M (scripted_step M roles (run_step M)) globals inputs turns)
 
--- a program whose trees stand on other lines has a library that agrees, and so it shows the same but for the lines of
--- blames
+-- a program whose trees stand on other lines has denotations that agree, and so its runs are the same but for the lines
+-- of blames
 pub record OtherLinesAgree : Type 0 where
   pub libraries : (arith : Arith) (line_of : ℕ → ℕ) (program : ProgramTree) →
       LibrariesAgree (library_of arith program) (library_of arith (program_lined line_of program))

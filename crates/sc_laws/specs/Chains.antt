@@ -2,7 +2,7 @@
 use Rattle.sc_laws.specs.Common.{Arith, Blamed, Cause, Event, Front, ProgramTree, SourceRun, TurnsOut, scripted_by}
 use Rattle.std.specs.Prelude.{◌≡◌, ℕ, suc, ◌<◌, ◌≤◌, Bool, true, false, ◌||◌, ◌==◌, List, [], ◌∷◌, ◌++◌, length}
 
--- the second run tells an event more than the first, or ends right there for want of a turn or of a row
+-- the second run emits an event more than the first, or ends right there for want of a turn or of a row
 pub data PassesBlame (run other : SourceRun) : Type 0 where
   turnless : other ≡ record { trace = run.trace; end = TurnsOut } → PassesBlame run other
   longer : (event : Event) → Front (run.trace ++ event ∷ []) other.trace → PassesBlame run other
@@ -20,7 +20,7 @@ nobody comp = false
 abbrev pub with : ℕ → Set → Set
 with more set comp = comp == more || set comp
 
--- a compartment that was blamed after so many events, and why
+-- a compartment that was blamed after `after` events, and why
 pub record Link : Type 0 where
   pub comp : ℕ
   pub after : ℕ
@@ -50,12 +50,12 @@ performed arith program inputs turns trace set = scripted_by arith program set t
 -- by the runs in which sets perform
 module _ (runs : Set → SourceRun) (trace : List Event) where
   -- from this set on, each next run keeps to the trace until it is blamed, and then the blamed compartment performs
-  -- too; the last run tells the trace
+  -- too; the last run emits the trace
   abbrev pub IsChain : Set → List Link → Type 0
   IsChain set [] = (runs set).trace ≡ trace
   IsChain set (link ∷ links) = IsLink (runs set) trace link × IsChain (with link.comp set) links
 
--- the blames come after ever more events, at least so many before the first, and after fewer than this
+-- the blames come after ever more events, at least `least` before the first, and after fewer than `count`
 abbrev pub IsRising : (least count : ℕ) → List Link → Type 0
 IsRising least count [] = Unit {0}
 IsRising least count (link ∷ links) =

@@ -1,4 +1,4 @@
--- How a run goes on: events are appended, turns are spent, and it stops for a blame or for want of turns alone.
+-- How a run goes on: events are appended, turns are spent, and it stops only for a blame or for want of turns.
 use Rattle.sc_laws.specs.Common.{Front, IsStop, Piece, Reached, State, Stopped}
 use Rattle.std.specs.Prelude.{◌≤◌, length}
 use Rattle.sc_laws.specs.Rooms.{AllFrom}

@@ -1,6 +1,6 @@
--- What functions may do, whatever they are written in, so that the laws hold of them. It is told as a tree: what is
--- given or blamed, what the blocks of the compartment decide, and what comes after new blocks, after a turn and after a
--- call.
+-- Interaction trees: what functions may do, whatever they are written in, so that the laws hold of them. A tree says
+-- what is given or blamed, what the blocks of the compartment decide, and what comes after new blocks, after a turn and
+-- after a call.
 use Rattle.sc_laws.specs.Common.{Blamed, Blocks, CallTarget, Calls, Cause, Entry, Function, Here, Library, Piece}
 use Rattle.sc_laws.specs.Common.{Reached, State, Stopped, TurnsOut, Value, and_then, function, turn, with_memory}
 use Rattle.std.specs.Prelude.{◌≡◌, ◌⊎◌, ℕ, zero, suc, ◌<◌, List, Option}
@@ -26,7 +26,7 @@ played (Spends go) by here s = and_then (turn s) (λ _ s. played go by here s)
 played (Asks target args go) by here s = and_then (by here.comp target args s) (λ v s. played (go v) by here s)
 played Halts by here s = Stopped TurnsOut s
 
--- so many turns are spent before it halts
+-- at least this number of turns are spent before it halts
 abbrev pub Lasts : {V : Type 0} → ℕ → Interaction V → Type 0
 Lasts zero tree = Unit {0}
 Lasts (suc n) (Gives v) = Unit {0}
@@ -56,9 +56,9 @@ pub record Plays {V : Type 0} (here : Here) (does : Doing V) (tree : ℕ → Int
 abbrev pub Never : Cause → Type 0
 Never cause = ⊥
 
--- causes that are blamed in the first of two alone
+-- causes that are blamed only in the first of two
 module _ (Soft : Cause → Type 0) where
-  -- two trees that differ where the first is so blamed alone
+  -- two trees that differ only where the first is so blamed
   abbrev pub Alike : {V : Type 0} → Interaction V → Interaction V → Type 0
   Alike (Gives v) other = other ≡ Gives v
   Alike (Blames cause line) other = Soft cause ⊎ (other ≡ Blames cause line)
@@ -79,18 +79,18 @@ module _ (Soft : Cause → Type 0) where
     pub second : Plays here other twin
     pub alike : (n : ℕ) → Alike (tree n) (twin n)
 
-  -- functions that callers can't tell apart, and what they do matches
+  -- functions that callers can't distinguish, and what they do matches
   pub record FunctionsMatch (f g : Function) : Type 0 where
     pub cells : g.cells ≡ f.cells
     pub room : g.room ≡ f.room
     pub does : (here : Here) → Match here (λ by. f.does by here) (λ by. g.does by here)
 
-  -- libraries whose functions match, one by one
+  -- denotations whose functions match, one by one
   pub record LibrariesMatch (L M : Library) : Type 0 where
     pub interfaces : M.interfaces ≡ L.interfaces
     pub functions : (comp number : ℕ) → Meets FunctionsMatch (function L comp number) (function M comp number)
     pub entered : (comp : ℕ) (entry : Entry) → M.entered comp entry ≡ L.entered comp entry
 
--- each function of a library is such a tree
+-- denotations of which each function is such a tree
 abbrev pub Obedient : Library → Type 0
 Obedient library = LibrariesMatch Never library library

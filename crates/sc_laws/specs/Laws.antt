@@ -1,4 +1,4 @@
--- Laws of the meaning: of every library whose functions are trees of what they do, and so of every program.
+-- Laws of the meaning: of all denotations whose functions are interaction trees, and so of every program.
 use Rattle.sc_laws.specs.Common.{Arith, Blamed, Cause, Event, FrameChange, Front, Here, Library, Memory, ProgramTree}
 use Rattle.sc_laws.specs.Common.{Reached, Roles, Run, SourceRun, State, Step, Value, c_arith, call_own, deepest, legal}
 use Rattle.sc_laws.specs.Common.{library_of, meaning, meaning_by, roles_in, run_of, run_step, scripted_by}
@@ -40,7 +40,7 @@ abbrev pub IsSteady : Step → Type 0
 IsSteady step = (open_calls more_calls number : ℕ) (here : Here) (s : State) → s.turns < open_calls →
     s.turns < more_calls → within step more_calls number here s ≡ within step open_calls number here s
 
--- so it is of the functions of a library, and where some compartments perform scripts
+-- so it is of these denotations, and where some compartments perform scripts
 pub record HasFixedPoint (library : Library) : Type 0 where
   pub run : IsFixed (run_step library)
   pub scripted : (roles : Roles) → IsFixed (scripted_step library roles (run_step library))
@@ -94,7 +94,7 @@ pub record WrappedAgrees : Type 0 where
   pub programs : (program : ProgramTree) (inputs : List ℕ) (turns : ℕ) →
       AgreesInRoom (run_of c_arith program inputs turns) (run_of wrapping program inputs turns)
 
--- what a run shows is allowed by the interfaces, also where compartments perform, whatever their scripts are
+-- what a run emits is allowed by the interfaces, also where compartments perform, whatever their scripts are
 pub record TracesAreLegal : Type 0 where
   pub libraries : (library : Library) → Obedient library → (globals : Memory) (inputs : List ℕ) (turns events : ℕ) →
       legal library.interfaces (stopped_at events (library_run library globals inputs turns).behaviour).trace ≡ true
@@ -133,7 +133,7 @@ pub record BlamedAreThere : Type 0 where
       comp < length program.sections
 
 -- SETS THAT PERFORM THEIR PARTS OF A TRACE
--- what holds of the runs in which sets perform: of every library that obeys, and so of every program
+-- what holds of the runs in which sets perform: of all denotations that obey, and so of every program
 pub record HoldsOfSets (law : List Event → (Set → SourceRun) → Type 0) : Type 0 where
   pub libraries : (library : Library) → Obedient library →
       (globals : Memory) (inputs : List ℕ) (turns : ℕ) (trace : List Event) →
@@ -142,7 +142,7 @@ pub record HoldsOfSets (law : List Event → (Set → SourceRun) → Type 0) : T
       law trace (performed arith program inputs turns trace)
 
 module _ (trace : List Event) (runs : Set → SourceRun) where
-  -- where more compartments perform their parts of a trace that the run tells, it tells the trace too
+  -- where more compartments perform their parts of a trace that the run emits, it emits the trace too
   abbrev pub TellsWithMore : Type 0
   TellsWithMore = (small large : Set) → IsWithin small large → (runs small).trace ≡ trace → (runs large).trace ≡ trace
 
@@ -170,7 +170,7 @@ module _ (trace : List Event) (runs : Set → SourceRun) where
   ChainRises = (links : List Link) → IsChain runs trace nobody links →
       IsRising 0 (length trace) links × AreFresh nobody links
 
-  -- where every set tells the trace or is blamed outside of itself, there is a chain, of at most as many links as
+  -- where every set emits the trace or is blamed outside of itself, there is a chain, of at most as many links as
   -- compartments
   abbrev pub HasChain : Type 0
   HasChain = (count : ℕ) → ((set : Set) → ((runs set).trace ≡ trace) ⊎ IsBlamedOutside count set (runs set) trace) →
@@ -194,8 +194,8 @@ ChainsRise = HoldsOfSets ChainRises
 abbrev pub ChainExists : Type 0
 ChainExists = HoldsOfSets HasChain
 
--- ROOM
--- the deepest room is at least the room that is open at any moment before the cut
+-- STACK DEPTH
+-- the greatest stack depth is at least the stack depth at any moment before the cut
 abbrev pub DeepestIsReached : Type 0
 DeepestIsReached = (events comp : ℕ) (before after : List FrameChange) → AllBefore events before →
     room_after comp 0 before ≤ deepest events comp 0 (before ++ after)
@@ -204,19 +204,19 @@ DeepestIsReached = (events comp : ℕ) (before after : List FrameChange) → All
 abbrev pub AreTold : Run → Type 0
 AreTold run = AllBefore (suc (length run.behaviour.trace)) run.frames
 
--- a call that returns leaves the room of every compartment as it was
+-- a call that returns leaves the stack depth of every compartment as it was
 abbrev pub LeavesRooms : Library → Step → Type 0
 LeavesRooms library step = (open_calls comp number : ℕ) (args : List Value) (v : Option Value) (s t : State) →
     AllBefore (suc (length s.trace)) s.frames →
     call_own library (within step open_calls) comp number args s ≡ Reached v t →
     (c : ℕ) → open_room c t ≡ open_room c s
 
--- and it tells no end: that is told of a whole run alone
+-- and it emits no end: only a whole run does
 abbrev pub TellsNoEnd : Library → Step → Type 0
 TellsNoEnd library step = (open_calls comp number : ℕ) (args : List Value) (s : State) → has_no_end s.trace ≡ true →
     has_no_end (last (call_own library (within step open_calls) comp number args s)).trace ≡ true
 
--- so it is of the functions of a library, and where some compartments perform
+-- so it is of these denotations, and where some compartments perform
 pub record KeepsRooms (library : Library) : Type 0 where
   pub told : (globals : Memory) (inputs : List ℕ) (turns : ℕ) → AreTold (library_run library globals inputs turns)
   pub scripted_told : (globals : Memory) (inputs : List ℕ) (turns : ℕ) (roles : Roles) →

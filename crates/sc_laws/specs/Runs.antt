@@ -1,4 +1,4 @@
--- Runs of a library, whatever its functions are written in.
+-- Runs of denotations, whatever their functions are written in.
 use Rattle.sc_laws.specs.Common.{Event, Library, Memory, Roles, Run, SourceRun, roles_in, run_by, run_step}
 use Rattle.sc_laws.specs.Common.{scripted_step, stopped_at}
 use Rattle.std.specs.Prelude.{ℕ, Bool, List, length}

@@ -25,7 +25,7 @@ pub data AgreesUntilBlame (run other : SourceRun) : Type 0 where
       Front run.trace other.trace → AgreesUntilBlame run other
 
 -- the same of whole runs: the second is the first, or the first was blamed for arithmetic, and the second goes on in
--- its events and its frames, which change there at later moments alone
+-- its events and its frames, which change there only at later moments
 pub data RunsUntilBlame (run other : Run) : Type 0 where
   same_run : other ≡ run → RunsUntilBlame run other
   blamed_run : (comp : ℕ) (cause : Cause) (line : ℕ) → run.behaviour.end ≡ Blamed comp cause line → IsArithmetic cause →

@@ -13,7 +13,7 @@ use Rattle.sc_laws.specs.Steady.{now}
 abbrev pub IsSpent : {V : Type 0} → Piece V → Type 0
 IsSpent piece = (s : State) → piece ≡ Stopped TurnsOut s → s.turns ≡ 0
 
--- the first call of `main`, of which the run shows what it comes to
+-- the first call of `main`: the whole run, but for its `End`
 abbrev pub main_call : Library → Memory → List ℕ → ℕ → Piece (Option Value)
 main_call library globals inputs turns =
     and_then (found (library.entered library.interfaces.main Main) (first_state globals inputs turns))
@@ -45,7 +45,7 @@ abbrev pub ExportsLead : Library → Type 0
 ExportsLead library = (to index count : ℕ) → takes library.interfaces to index count ≡ true →
     leads library to (library.entered to (Export index)) ≡ true
 
--- where sets perform their parts of a trace: a run that is out of turns, while it keeps to the trace and hasn't told
+-- where sets perform their parts of a trace: a run that is out of turns, while it keeps to the trace and hasn't emitted
 -- all of it, has no turn left
 abbrev pub SpendsAlong : Library → List Event → Type 0
 SpendsAlong library trace = (set : Set) (globals : Memory) (inputs : List ℕ) (turns : ℕ) (s : State) →

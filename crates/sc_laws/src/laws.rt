@@ -6,14 +6,14 @@ ghost use Rattle.sc_laws.specs.Prelude.{MeaningGoesOn, MoreGoesOn, MoreMayPerfor
 ghost use Rattle.sc_laws.specs.Prelude.{OnlyGoesOn, OtherLinesAgree, ProgramsObey, RoomsAreKept, TracesAreLegal};
 ghost use Rattle.sc_laws.specs.Prelude.{TurnsOutMeansTurns, WrappedAgrees, WrappingAgrees};
 
-/// What the functions of a program do is a tree: what is given or blamed, what the blocks of the compartment decide,
-/// and what comes after new blocks, after a turn and after a call. Libraries of such functions have all laws.
+/// The functions of a program denote interaction trees: what is given or blamed, what the blocks of the compartment
+/// decide, and what comes after new blocks, after a turn and after a call. All laws hold of such denotations.
 pub fn programs_obey()
     ensures { ProgramsObey }
 {}
 
-/// Whatever a function does, events are appended to those that were told, no turn comes back, and it stops the run for
-/// a blame or for want of turns alone.
+/// Whatever a function does, events are appended to those that were emitted, no turn comes back, and it stops the run
+/// only for a blame or for want of turns.
 pub fn only_goes_on()
     ensures { OnlyGoesOn }
 {}
@@ -36,7 +36,7 @@ pub fn wrapping_agrees()
     ensures { WrappingAgrees }
 {}
 
-/// Where more compartments perform their parts of a trace that a run tells, it still tells the trace.
+/// Where more compartments perform their parts of a trace that a run emits, it still emits the trace.
 pub fn more_may_perform()
     ensures { MoreMayPerform }
 {}
@@ -66,12 +66,12 @@ pub fn meaning_goes_on()
     ensures { MeaningGoesOn }
 {}
 
-/// Where every operator gives a word, a run shows the same up to the first blame for arithmetic.
+/// Where every operator gives a word, a run emits the same events up to the first blame for arithmetic.
 pub fn wrapped_agrees()
     ensures { WrappedAgrees }
 {}
 
-/// What a run shows is allowed by the interfaces of its program, also where compartments perform.
+/// What a run emits is allowed by the interfaces of its program, also where compartments perform.
 pub fn traces_are_legal()
     ensures { TracesAreLegal }
 {}
@@ -91,19 +91,19 @@ pub fn chains_rise()
     ensures { ChainsRise }
 {}
 
-/// Where every set tells the trace or is blamed outside of itself along it, there is a chain, of at most as many links
+/// Where every set emits the trace or is blamed outside of itself along it, there is a chain, of at most as many links
 /// as there are compartments.
 pub fn chain_exists()
     ensures { ChainExists }
 {}
 
-/// The depth of a run is at least the room that is open at any moment before its cut.
+/// The depth of a run is at least the stack depth at any moment before its cut.
 pub fn deepest_is_reached()
     ensures { DeepestIsReached }
 {}
 
-/// Each change of frames is of a moment within the trace, a call that returns leaves the open room as it was, and no
-/// call tells the end of the run.
+/// Each change of frames is of a moment within the trace, a call that returns leaves the stack depths as they were, and
+/// no call emits the end of the run.
 pub fn rooms_are_kept()
     ensures { RoomsAreKept }
 {}
@@ -113,13 +113,13 @@ pub fn turns_out_means_turns()
     ensures { TurnsOutMeansTurns }
 {}
 
-/// Two libraries whose functions agree, one by one, up to the lines of blames show the same up to that line and take
-/// the same room, whatever their functions carry and whichever compartments perform.
+/// Where two denotations agree function by function but for the lines of blames, so do their runs, in trace, end and
+/// stack depth, whatever their functions carry and whichever compartments perform.
 pub fn agreeing_run_alike()
     ensures { AgreeingRunAlike }
 {}
 
-/// A program whose trees stand on other lines has a library that agrees with its own up to the lines of blames.
+/// A program whose trees stand on other lines has denotations that agree with its own but for the lines of blames.
 pub fn other_lines_agree()
     ensures { OtherLinesAgree }
 {}

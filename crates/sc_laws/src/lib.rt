@@ -1,5 +1,5 @@
-//! Laws of the meaning: what holds of every library of functions, whatever they are written in, and so of every
-//! program.
+//! Laws of the meaning: what holds of all denotations that are interaction trees, whatever their functions are written
+//! in, and so of every program.
 #![tactic(auto)]
 
 mod laws;

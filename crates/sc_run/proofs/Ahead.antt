@@ -45,7 +45,7 @@ then_passes h k =
       fewer = at_most _ _ _ h.fewer k.fewer;
     }
 
--- the same, told otherwise
+-- the same, stated otherwise
 pub passes_as : {before after : Seen} {p q r : Doing} → ((n : ℕ) (s : State) → p n s ≡ q n s) →
     Passes before after q r → Passes before after p r
 passes_as same h =
@@ -140,7 +140,7 @@ module _ (program : ProgramTree) (f : Frame) where
   abbrev block_by : List TypedStmt → Doing
   block_by stmts n s = block_acts program n f stmts tt s
 
-  -- so many of the statements are done
+  -- the first `at` of the statements are done
   abbrev DoneTo : List TypedStmt → ℕ → Seen → Seen → Type 0
   DoneTo stmts at before after = Passes before after (block_by stmts) (block_by (drop at stmts))
 
@@ -242,7 +242,7 @@ module _ (program : ProgramTree) (f : Frame) where
         (loop_acts program n f l)))
     body_done at h k = then_passes h (passes_follow in_loop _ k)
 
-    -- the loop stands behind its body
+    -- the loop stands after its body
     pub behind_body : {before middle after : Seen} (none : Bor (List TypedStmt)) →
         Passes before middle loop_by (in_body program f l l.body.now) →
         Passes middle after (block_by l.body.now) (left_at program f l.body.now None) → none.now ≡ [] →
@@ -271,7 +271,7 @@ module _ (program : ProgramTree) (f : Frame) where
       (λ xs. follow in_order (block_by at.part.now n s) (block_acts program n f xs))
       (sym (same ∙ rest_at _ stmts) ∙ none_in rest none empty) ∙ alone _)
 
-  -- the statements, told otherwise
+  -- the statements, stated otherwise
   pub block_as : {before after : Seen} {work later : List Work} {step : Step} {g : Frame}
       (stmts body : List TypedStmt) → stmts ≡ body →
       Steps program before work f (block_by stmts) step after later g →
@@ -286,7 +286,7 @@ module _ (program : ProgramTree) (f : Frame) where
   rest_behind stmts at empty h k = steps_behind h (steps_as
       (λ n s. no_part stmts at empty n s ∙ ap (λ xs. block_by xs n s) (sym (rest_at _ stmts))) k)
 
-  -- control leaves the function behind the statements that were done
+  -- control leaves the function after the statements that were done
   pub left_behind : {before middle after : Seen} {work later : List Work} (stmts : List TypedStmt) (at : Position)
       (exit : Exit) {step : Step} {g : Frame} → at.part.now ≡ [] →
       Passes before middle (block_by stmts) (left_at program f stmts (Some at)) →

@@ -27,7 +27,7 @@ module _ (program : ProgramTree) (caller : Frame) (callee : Callee) (args : List
   abbrev pub called_function : Function
   called_function = function_of c_arith program.interfaces.main callee.structs.now callee.function.now
 
-  -- the frame of the call, where the compartment had so many blocks
+  -- the frame of the call, where the compartment had `first` blocks
   abbrev pub frame_at : ℕ → Frame
   frame_at first =
       record {
@@ -43,7 +43,7 @@ module _ (program : ProgramTree) (caller : Frame) (callee : Callee) (args : List
   abbrev pub Found : Type 0
   Found = function (library program) callee.comp.now callee.number ≡ Some called_function
 
-  -- the function runs, from where its call was told
+  -- the function runs, from where its call was emitted
   abbrev pub entering : (Option Value → State → Piece (Option Value)) → ℕ → State → Piece (Option Value)
   entering back n s = run_in (library program) (bodies program n) callee.comp.now callee.number args back s
 
@@ -96,7 +96,7 @@ module _ (program : ProgramTree) (caller : Frame) (callee : Callee) (args : List
   entry_turns None s = refl
   entry_turns (Some index) s = refl
 
-  -- a function runs once its call was told
+  -- a function runs once its call was emitted
   abbrev from_call : Option ℕ → ℕ → State → Piece (Option Value)
   from_call crossing n s = entering (back_from program caller callee crossing) n
       (entry_from caller callee args crossing s)

@@ -1,4 +1,4 @@
--- Functions of a program's library, by the program's tree.
+-- Functions of a program's denotations, by the program's tree.
 use Rattle.sc_run.proofs.Common.{EntryAt, List, None, ProgramTree, TypedSection, [], ap, c_arith, function}
 use Rattle.sc_run.proofs.Common.{functions_in, library, map, refl, slice_get, slice_index_or, suc, zero, ℕ, ◌∷◌, ◌≡◌}
 use Rattle.sc_event.specs.declared.row.Entry.{Entry}

@@ -24,7 +24,7 @@ module _ (program : ProgramTree) where
   resume_stopped n (_ ∷ work) f end s = resume_stopped n work f end s
 
   module _ (whole : SourceRun) (work : List Work) (f : Frame) where
-    -- the same, as the piece is told otherwise
+    -- the same, as the piece is stated otherwise
     pub told_as : {seen : Seen} {p q : Doing} → ((n : ℕ) (s : State) → p n s ≡ q n s) →
         Standing program whole seen work f p → Standing program whole seen work f q
     told_as same h =
@@ -213,7 +213,7 @@ module _ {program : ProgramTree} {before after : Seen} {work later : List Work} 
       Steps program before work f (λ n s. leave exit tt s) step after later g
   taken {earlier} exit popped is h same = steps_resume x (popped ∙ ap (λ y. earlier ++ y ∷ []) is) same h
 
--- the same, as what waits is told otherwise
+-- the same, as what waits is stated otherwise
 pub work_as : {program : ProgramTree} {before after : Seen} {work other later : List Work} {f g : Frame} {p : Doing}
     {step : Step} → work ≡ other → Steps program before work f p step after later g →
     Steps program before other f p step after later g

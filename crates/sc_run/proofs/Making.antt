@@ -53,7 +53,7 @@ module _ (structs : List TypedStruct) (here : Here) (params : ℕ) where
   abbrev pub inits_from : List TypedLocal → ℕ → Acts
   inits_from locals k = all_do (inits_do c_arith structs here params k (drop k locals))
 
-  -- so many initialisers are done: those that follow do the same as all
+  -- the first `k` initialisers are done: those that follow do the same as all
   pub record Started (locals : List TypedLocal) (k : ℕ) (before now : Seen) : Type 0 where
     pub fewer : now.turns ≤ before.turns
     pub on : (after : Seen) (r : Result (Left (Unit {0})) RunEnd) → Comes now after r (inits_from locals k tt) →
@@ -129,7 +129,7 @@ module _ {A : Type 0} (f : A → ℕ) (xs : List A) (at : ℕ) (x : A) (there : 
   sizes_length : at ≡ length (take at (map f xs))
   sizes_length = omega (arith, length-take at (map f xs), length-map xs f)
 
-  -- one more variable behind those of a list
+  -- one more variable after those of a list
   pub one_more : (comp : ℕ) (front : List ℕ) (args : List Value) {place count : ℕ} {arg : Option Value}
       (memory : Memory) {now later : Memory} → place ≡ length front + at → count ≡ f x → arg ≡ slice_get args place →
       now ≡ with_sizes comp (front ++ take at (map f xs)) args memory →

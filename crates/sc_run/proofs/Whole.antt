@@ -15,7 +15,7 @@ use Rattle.sc_run.proofs.Going.{block_goes, next_goes, loop_goes, closes_goes, r
 use Rattle.sc_run.proofs.Blank.{blank}
 use Rattle.sc_run.proofs.Calling.{frame_at, enter_is, begun_seen, frame_is}
 
--- two traces have the same front, as long as the shorter one goes
+-- a trace and one that begins with it have the same prefixes, up to the length of the shorter
 take_front : (n : ℕ) (t u : List Event) → n ≤ length t → Front t u → take n u ≡ take n t
 take_front n t u few g = ap (take n) g.is ∙ take-append-le n t g.more few
 
@@ -95,7 +95,7 @@ module _ (program : ProgramTree) (whole : SourceRun) (seen : Seen) (work : List 
         length-append seen.trace h.grown.more,
       )))
 
-  -- a run that has come to so many events is stopped
+  -- a run that has come to `events` events is stopped
   pub stopped_here : (events : ℕ) → events ≤ length seen.trace →
       Standing program whole seen work f (does_now program f now) →
       stopped_at events whole ≡ record { trace = take events seen.trace; end = EventsOut }

@@ -30,7 +30,7 @@ in_body program f l stmts n s =
     follow in_loop (block_acts program n f stmts tt s)
     (λ a s. follow in_loop (next_acts program n f l a s) (loop_acts program n f l))
 
--- what is left of statements, at a place in them or behind the last one
+-- what is left of statements, at a place in them or after the last one
 abbrev pub left_at : ProgramTree → Frame → List TypedStmt → Option Position → Doing
 left_at program f stmts None n s = leave Next tt s
 left_at program f stmts (Some at) n s =

@@ -6,12 +6,12 @@ use Rattle.std.specs.Prelude.{◌≡◌, ℕ, ◌<◌, ◌^◌, ◌++◌, true, 
 use Rattle.sc_run.specs.Seen.{Seen}
 use Rattle.sc_run.specs.Resume.{calls_in}
 
--- the block of a variable of so many cells: it holds its argument, or nothing yet
+-- the block of a variable of `count` cells: it holds its argument, or nothing yet
 abbrev pub block_for : ℕ → Option Value → Block
 block_for count None = record { live = true; cells = replicate count Undef }
 block_for count (Some v) = record { live = true; cells = cell_of v ∷ [] }
 
--- the blocks of the variables of a function, behind those of its compartment
+-- the blocks of the variables of a function, after those of its compartment
 abbrev pub with_variables : Callee → List Value → Memory → Memory
 with_variables callee args memory =
     with_blocks callee.comp.now (memory callee.comp.now ++
@@ -27,7 +27,7 @@ pub record Begun (callee : Callee) (args : List Value) (before after : Seen) (f 
   pub few : length f.function.now.locals < 2 ^ 32
   pub seen : after ≡ record before { memory = with_variables callee args before.memory }
 
--- a call of an export is told
+-- a call of an export is emitted
 abbrev pub told_call : Frame → Callee → List Value → Option ℕ → Seen → Seen
 told_call caller callee args None seen = seen
 told_call caller callee args (Some index) seen =

@@ -37,7 +37,7 @@ module _ (program : ProgramTree) where
   abbrev pub library : Library
   library = library_of c_arith program
 
-  -- functions in which at most so many calls are open, and calls of them
+  -- functions in which at most `n` calls are open, and calls of them
   abbrev pub bodies : ℕ → Body
   bodies n = within (run_step library) n
 

@@ -26,7 +26,7 @@ left_by f seen =
 abbrev pub word_crossing : ProgramTree → Frame → ℕ → Option Value → Option ℕ
 word_crossing program f index v = crossing (export_at program.interfaces f.scope.comp.now index) v
 
--- a return from an export is told
+-- a return from an export is emitted
 abbrev pub told_back : ProgramTree → Frame → Frame → Option ℕ → Option Value → Seen → Seen
 told_back program caller f None v seen = seen
 told_back program caller f (Some index) v seen =

@@ -90,7 +90,7 @@ pub fn begin<'a>(
     })
 }
 
-// A call of an export is told.
+// Emits a call of an export.
 fn tell_call<'a>(
     machine: &mut Machine,
     frame: &Frame<'a>,

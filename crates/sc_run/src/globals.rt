@@ -62,7 +62,7 @@ fn starred_zeros(
     }
 }
 
-// The cells so many times.
+// The cells, repeated `times` times.
 fn repeated(
     alloc: Global,
     zeros: &[Items<Cell>],

@@ -194,7 +194,7 @@ fn word_crossing(
     }
 }
 
-// A return from an export is told; this is what the function that called gets.
+// Emits a return from an export, and gives what the caller gets.
 fn tell_back(
     program: &ProgramTree,
     machine: &mut Machine,

@@ -111,7 +111,7 @@ fn left_of<'a>(
     Some(&part[count..])
 }
 
-/// Does at once what it can of statements: where that stopped, if not behind the last one.
+/// Does at once what it can of statements: where that stopped, if not after the last one.
 pub fn done_first<'a>(
     program: &'a ProgramTree,
     machine: &mut Machine,

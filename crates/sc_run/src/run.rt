@@ -61,7 +61,7 @@ fn behaviour(machine: Machine, end: RunEnd, events: u32) -> SourceRun
     SourceRun { trace, end }
 }
 
-// Steps from the first statements of `main` to the end of the run, or to so many events.
+// Steps from the first statements of `main` to the end of the run, or to `events` events.
 fn run_on<'a>(
     program: &'a ProgramTree,
     run: &mut Run<'a, '_>,
@@ -86,7 +86,7 @@ fn run_on<'a>(
     Err(OutOfMemory)
 }
 
-/// Runs a program as its meaning says, with these inputs, up to so many turns and events.
+/// Runs a program as its meaning says, with these inputs, up to `turns` turns and `events` events.
 pub fn run_source(
     alloc: Global,
     program: &Program,

@@ -72,7 +72,7 @@ fn begin_round<'a>(
     }
 }
 
-/// Statements from a place in them. Those behind a part wait for it, if there are any.
+/// Statements from a place in them. Those after a part wait for it, if there are any.
 pub fn go_on<'a>(
     program: &'a ProgramTree,
     run: &mut Run<'a, '_>,
@@ -232,7 +232,7 @@ fn statement<'a>(
     }
 }
 
-// The first of these statements, or what follows them. Nothing waits behind the last one.
+// The first of these statements, or what follows them. Nothing waits after the last one.
 fn run_first<'a>(
     program: &'a ProgramTree,
     run: &mut Run<'a, '_>,

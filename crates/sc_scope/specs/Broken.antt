@@ -3,7 +3,7 @@ use Rattle.std.specs.Prelude.{ℕ, ◌+◌, ◌-◌, min, Bool, true, false, Lis
 use Rattle.std.specs.Prelude.{if◌then◌else◌, nat_eq}
 use Rattle.sc_scope.specs.declared.broken.BrokenLines.{BrokenLines}
 
--- the last line that is told: all later lines share its number
+-- the last line that is reported: all later lines share its number
 abbrev pub last_line : ℕ
 last_line = 4294967295
 

@@ -122,12 +122,12 @@ module _ {A : Type 0} (p : A → Bool) where
     }
   ]
 
-  -- what is found in a front is found there in the whole
+  -- what is found in a prefix is found there in the whole
   pub find_front : (xs ys : List A) → list_any p xs ≡ true → find p (xs ++ ys) ≡ find p xs
   find_front [] ys h = cc
   find_front (x ∷ xs) ys h = grind (arith, find_front xs ys)
 
-  -- the first one behind a front in which nothing is found
+  -- the first one after a prefix in which nothing is found
   pub find_next : (xs : List A) (y : A) (ys : List A) → list_any p xs ≡ false → p y ≡ true →
       find p (xs ++ y ∷ ys) ≡ Some (length xs)
   find_next [] y ys h k = grind arith

@@ -40,7 +40,7 @@ module _ {A : Type 0} (pick : Decl → Option A) (part : A → List ℕ) where
   kind-noted decls i decl old a b all lt is p q = step old a b _ _ all (ap (with_lines a)
       (sym (ap lines_of (drop-step decls i decl lt is) ∙ lines-append (decl ∷ []) (drop _ decls))) ∙ p) q
 
-  -- behind the last one
+  -- after the last one
   pub kind-done : (decls : List Decl) (i : ℕ) (old a : BrokenLines) (all : List ℕ) →
       length decls ≤ i → with_lines a (lines_of (drop i decls)) ≡ with_lines old all → a ≡ with_lines old all
   kind-done decls i old a all le p = done old a _ all p (ap lines_of (drop_all i decls le))

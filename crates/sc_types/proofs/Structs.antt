@@ -61,7 +61,7 @@ pub name_is_within : (tags more : List Text) (t : TypeName) → base_known tags 
 name_is_within tags more t h =
     starred_within_is _ _ t.stars _ (all_within _ t.stars _ (base_is_within tags more t.base h))
 
--- Members, of the struct behind the first ones.
+-- Members, of the struct after the first ones.
 
 module _ (names : List Text) (self : Text) (more : List Text) (new : is_numbered names self ≡ false) where
   abbrev tags : List Text
@@ -130,7 +130,7 @@ module _ (names : List Text) (self : Text) (after : List Text) (new : is_numbere
   Fits offset members = members_fit (done ++ more)
       (length names) offset (members_from every done offset members) (cells_from every done offset members) ≡ true
 
-  -- the offset behind a member
+  -- the offset after a member
   abbrev end : ℕ → MemberTree → ℕ
   end offset m = end_of_member every done offset m
 
@@ -176,7 +176,7 @@ members_length all structs offset (m ∷ members) = cc (members_length all struc
 
 -- All structs.
 
--- the structs behind those that are done
+-- the structs after those that are done
 abbrev pub rest_of : (all : List Text) → List TypedStruct → List StructTree → List TypedStruct
 rest_of all done [] = []
 rest_of all done (tree ∷ trees) = typed_struct all done tree ∷

@@ -1,4 +1,4 @@
--- Which texts are accepted, and which phase refuses the others: one alone, and always one.
+-- Which texts are accepted, and which phase refuses the others: exactly one, always.
 use Rattle.sc_types.proofs.Common.{Accepts, AllZip, AreLow, Err, Fails, FailsRules, FailsTyped, IfOk, IsRead, IsTyped}
 use Rattle.sc_types.proofs.Common.{List, None, Ok, Option, Part, ProgramTree, Reads, Result, SectionTree, Some, []}
 use Rattle.sc_types.proofs.Common.{and_from, ap, arith, counts_broken, earlier, inl, inr, interface_broken, list_all}

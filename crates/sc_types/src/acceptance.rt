@@ -15,7 +15,7 @@ use sc_scope::broken_name;
 use std::alloc::Global;
 
 /// The program of a text's sections, or the first of the phases names, types, interface and count that they fail, and
-/// the line: the least positive one at which a rule of that phase is broken, or 0 where a `main` is missing alone.
+/// the line: the least positive one at which a rule of that phase is broken, or 0 where only a `main` is missing.
 pub fn type_program(alloc: Global, sections: &[SectionTree]) -> Result<Program, TextFault>
     requires { AreLow sections.now }
     ensures accepted { IfOk result (IsTyped sections.now) }

@@ -10,7 +10,7 @@ by_one blocks offset q = ap (λ n. moved blocks (pos n) q) (mul-one offset)
 times_zero : (m : ℕ) → m * 0 ≡ 0
 times_zero m = omega arith
 
--- so many cells, times a number that is turned round
+-- `m` cells, times a number that is negated
 back : (m : ℕ) (z : ℤ) → pos m *ℤ neg_ℤ z ≡ neg_ℤ (pos m *ℤ z)
 back m (pos zero) = rw (times_zero m) refl
 back m (pos (suc k)) = *ℤ-negsuc (pos m) k

@@ -6,7 +6,7 @@ use Rattle.sc_base.specs.declared.op.BinaryOp.TheVariants as op
 use Rattle.sc_core.specs.declared.section.TypedStruct.{TypedStruct}
 use Rattle.sc_core.specs.declared.ty.Ty.{Ty}
 
--- what the first operand decides alone
+-- what the first operand decides by itself
 abbrev pub decided : BinaryOp → Value → Option Value
 decided op.AndAlso v = if is_true v then None else Some (Word 0)
 decided op.OrElse v = if is_true v then Some (Word 1) else None

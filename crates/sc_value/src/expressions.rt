@@ -106,7 +106,7 @@ fn applied(
     }
 }
 
-// What the first operand of `&&` or `||` decides alone.
+// What the first operand of `&&` or `||` decides by itself.
 fn decided(op: BinaryOp, value: Value) -> Option<Value>
     ensures { result ≡ decided op value }
 {
@@ -147,7 +147,7 @@ fn joined(
     }
 }
 
-// The value of an expression of integers alone, or of an array by its name. None where it isn't found at once.
+// The value of an expression of integers only, or of an array by its name. None where it isn't found at once.
 #[inline(always)]
 pub(crate) fn value_at_once(blocks: &Blocks, scope: &Scope, expr: &TypedExpr) -> Option<Value>
     ensures { IfSome result (λ value. ways c_arith scope.now.structs.now (here_of scope.now) scope.now.params expr.now

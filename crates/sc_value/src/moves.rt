@@ -1,4 +1,4 @@
-//! Places some cells behind others (C11 6.5.2.1, 6.5.6p8).
+//! Places some cells after others (C11 6.5.2.1, 6.5.6p8).
 
 ghost use Rattle.sc_value.specs.Prelude.{count_at, memory_of, moved, moved_back, moved_on, number_of, place_at};
 ghost use Rattle.std.specs.Prelude.{◌≡◌, ◌+◌, ◌<◌, ◌^◌, pos, negsuc, ◌+ℤ◌, ◌*ℤ◌, ◌≤ℤ◌, ◌<ℤ◌, neg_ℤ};
@@ -27,7 +27,7 @@ fn place_at(block: u64, at: i64, cells: u32) -> Result<Value, Cause>
     }))
 }
 
-// The place so many times so many cells behind an index.
+// The place `times` times `cells` cells after this one, in a block of `count` cells.
 fn placed(place: Pointer, cells: u32, times: i64, count: u32) -> Result<Value, Cause>
     ensures { result ≡ place_at place.block (pos place.index +ℤ (pos cells *ℤ times)) count }
 {
@@ -40,7 +40,7 @@ fn placed(place: Pointer, cells: u32, times: i64, count: u32) -> Result<Value, C
     place_at(place.block, at, count)
 }
 
-/// The place so many times so many cells behind another.
+/// The place `times` times `cells` cells after another.
 pub fn moved(
     blocks: &Blocks,
     comp: CompId,
@@ -60,7 +60,7 @@ pub fn moved(
     }
 }
 
-/// The place so many elements behind another; an element has so many cells.
+/// The place `index` elements after another; an element has `cells` cells.
 pub fn moved_on(
     blocks: &Blocks,
     comp: CompId,
@@ -90,7 +90,7 @@ fn back_by(unsigned: bool, word: u32) -> i64
     }
 }
 
-/// The place so many elements before another.
+/// The place `index` elements before another; an element has `cells` cells.
 pub fn moved_back(
     blocks: &Blocks,
     comp: CompId,
@@ -107,7 +107,7 @@ pub fn moved_back(
     moved(blocks, comp, cells, back_by(unsigned, word), place)
 }
 
-/// The place so many cells behind another.
+/// The place `offset` cells after another.
 #[tactic(auto, using(crate::proofs::Shifts::by_one))]
 pub fn offset_by(blocks: &Blocks, comp: CompId, offset: u32, place: Value) -> Result<Value, Cause>
     ensures { result ≡ moved (memory_of blocks.now comp) (pos offset) place }

@@ -12,7 +12,7 @@ use sc_blocks::Blocks;
 use sc_core::{Cause, Pointer, Value};
 use sc_event::CompId;
 
-// How far the first of two places lies behind the second, in cells.
+// How far the first of two places lies after the second, in cells.
 fn apart(left: Value, right: Value) -> Result<i64, Cause>
     ensures apart { result ≡ apart left right }
     ensures short { IfOk result (λ by. (negsuc 4294967295 ≤ℤ by) × (by ≤ℤ pos 4294967295)) }
@@ -41,7 +41,7 @@ fn word_of(z: i64) -> u32
     }
 }
 
-// So many cells as a whole number of elements.
+// `by` cells as a whole number of elements of `cells` cells.
 fn in_elements(cells: u32, by: i64) -> Result<Value, Cause>
     requires low { negsuc 4294967295 ≤ℤ by }
     requires high { by ≤ℤ pos 4294967295 }
@@ -129,7 +129,7 @@ fn subtracted(cells: u32, left: Value, right: Value) -> Result<Value, Cause>
     in_elements(cells, by)
 }
 
-/// An operator between two pointers to elements of so many cells.
+/// An operator between two pointers to elements of `cells` cells.
 pub fn between(
     blocks: &Blocks,
     comp: CompId,

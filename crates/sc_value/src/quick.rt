@@ -1,4 +1,4 @@
-//! Expressions that compute with integers alone, by a way that gives no cause: where it gives nothing, the whole
+//! Expressions that compute only with integers, by a way that gives no cause: where it gives nothing, the whole
 //! evaluation says why.
 
 ghost use Rattle.sc_value.specs.Prelude.{Blocks, Word, applied_one, c_arith, decided, here_of, is_pointer, joined};
@@ -29,7 +29,7 @@ fn variable(row: &Row, scope: &Scope, ty: Ty, variable: VarRef) -> Option<u32>
     row.word(block_of(scope, variable) as usize, 0)
 }
 
-// An operator in front of a word.
+// An operator before a word.
 #[inline(always)]
 fn of_one(unsigned: bool, op: UnaryOp, word: u32) -> Option<u32>
     ensures { IfSome result (λ found. applied_one c_arith unsigned op (Word word) ≡ Ok (Word found)) }
@@ -51,7 +51,7 @@ fn of_two(unsigned: bool, op: BinaryOp, left: u32, right: u32) -> Option<u32>
     }
 }
 
-// What the first operand of `&&` or `||` decides alone.
+// What the first operand of `&&` or `||` decides by itself.
 #[inline(always)]
 fn decided(op: BinaryOp, word: u32) -> Option<u32>
     ensures { MatchOption result (decided op (Word word) ≡ None) (λ found. decided op (Word word) ≡ Some (Word found)) }
@@ -107,7 +107,7 @@ fn leaf(row: &Row, scope: &Scope, expr: &TypedExpr) -> Option<u32>
     }
 }
 
-/// The word of an expression that computes with integers alone, or none where that isn't known at once. Operands that
+/// The word of an expression that computes only with integers, or none where that isn't known at once. Operands that
 /// are leaves are found without a call.
 pub(crate) fn quick(row: &Row, scope: &Scope, expr: &TypedExpr) -> Option<u32>
     ensures { IfSome result (λ word.

@@ -121,7 +121,7 @@ fn negated(unsigned: bool, a: u32) -> Result<u32, Cause>
     }
 }
 
-/// An operator in front of its operand.
+/// An operator before its operand.
 #[inline(always)]
 pub fn applied_one(unsigned: bool, op: UnaryOp, value: Value) -> Result<Value, Cause>
     ensures { result ≡ applied_one c_arith unsigned op value }

@@ -1,4 +1,4 @@
--- One more local stands behind the others, and its initialiser sees it.
+-- One more local stands after the others, and its initialiser sees it.
 use Rattle.sc_elab.proofs.Common.{ap, drop_all, get_or, length, subst, ◌<◌, ◌∙◌, ◌≤◌}
 use Rattle.sc_elab.proofs.Functions.{more_stands, more_built, all_built}
 use Rattle.sc_elab.proofs.function.build_locals.Goals as goal
