@@ -1,5 +1,5 @@
--- A program's interfaces allow what its image shows: which traces are legal doesn't look at the types of scalars, nor
--- at the order of imports.
+-- A program's interfaces allow the traces of its image: whether a trace is legal depends neither on the types of
+-- scalars nor on the order of imports.
 use Rattle.sc_compile.proofs.Common.{All, Bool, CodeTree, Entry, Event, Export, Interface, Interfaces, IsWellFormed}
 use Rattle.sc_compile.proofs.Common.{IsWord, List, Main, None, Option, ProgramTree, Proto, Some, Standing, [], ap, ap₂}
 use Rattle.sc_compile.proofs.Common.{at_start, awaits, comp_at, comp_part, export_at, export_part, false, fits_result}

@@ -31,7 +31,7 @@ module _ (f : TacFnTree) (intervals : List Interval) (places : List Place) (its 
         subst (λ made. IsEmitted f (frame_of f.objects (assigned (intervals_of f))) made) code_is
         (subst (λ made. IsEmitted f made code) frame_is emitted)
 
--- one more code behind those of a section's first functions
+-- one more code after those of a section's first functions
 pub one_more_code : (old : List CodeTree) (fs : List TacFnTree) (i : ℕ) (f : TacFnTree) (code : CodeTree)
     (before after : List CodeTree) → i < length fs → f ≡ get_or fs i f → code ≡ function_code f →
     after ≡ before ++ code ∷ [] → before ≡ old ++ map function_code (take i fs) →
@@ -44,7 +44,7 @@ one_more_code old fs i f code before after within item is pushed so_far =
     ∙ sym (map-append function_code (take i fs) (f ∷ []))
     ∙ ap (map function_code) (sym (take-step fs i f within item)))
 
--- the codes of one more section behind those of the first ones
+-- the codes of one more section after those of the first ones
 pub one_more_section : (sections : List TacSection) (i : ℕ) (section : TacSection) (functions : List TacFnTree)
     (before after : List CodeTree) → i < length sections → section ≡ get_or sections i section →
     functions ≡ section.functions → after ≡ before ++ map function_code functions →

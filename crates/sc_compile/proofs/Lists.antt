@@ -1,4 +1,4 @@
--- Parts of lists that stand one behind the other.
+-- Parts of concatenated lists.
 use Rattle.sc_compile.proofs.Common.{List, [], ap, drop, length, refl, take, ◌++◌, ◌∷◌, ◌≡◌}
 
 module _ {A : Type 0} where

@@ -56,7 +56,7 @@ passed_over : {X : Type 0} (test : X → Bool) (x : X) (xs : List X) → test x 
 passed_over test x xs fails rest =
     counted test x xs ∙ ap (λ b. cond b 1 0 + count_by test xs) fails ∙ from_zero (count_by test xs) ∙ rest
 
--- where nothing is counted, neither the first is nor what is behind it
+-- where nothing is counted, neither the first element is nor what follows it
 first_fails : {X : Type 0} (test : X → Bool) (x : X) (xs : List X) → count_by test (x ∷ xs) ≡ 0 → test x ≡ false
 first_fails test x xs none = by (test x) (count_by test xs) (sym (counted test x xs) ∙ none) where
   by : (b : Bool) (n : ℕ) → cond b 1 0 + n ≡ 0 → b ≡ false

@@ -1,4 +1,4 @@
--- What the functions of lowered code give back: values of the kinds that their sources promise.
+-- What the functions of lowered code return: values of the kinds that their sources promise.
 use Rattle.sc_compile.proofs.Common.{Export, GivesResults, Here, IsSome, IsWellTyped, List, Main, None, Option, Piece}
 use Rattle.sc_compile.proofs.Common.{ProgramTree, Proto, Reached, Roles, Some, State, Stopped, TacFnTree, TypedFunction}
 use Rattle.sc_compile.proofs.Common.{TypedSection, [], and_first, and_rest, ap, are_distinct, bodies, bytes_eq}

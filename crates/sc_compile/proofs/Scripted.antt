@@ -1,4 +1,4 @@
--- The program in which a set performs its part of what the machine shows, by the run of its code.
+-- The program in which a set performs its part of the machine's trace, by the run of its code.
 use Rattle.sc_compile.proofs.Common.{Bool, Event, Front, IsBlamed, IsStop, IsWellTyped, KeepsTo, List, ProgramTree, Run}
 use Rattle.sc_compile.proofs.Common.{Set, TellsOrBlames, ap, c_arith, false, inl, inr, keeps_meaning, length}
 use Rattle.sc_compile.proofs.Common.{lowered_program, ltb-false, ltb-true, nat_lt, refl, scripted_by, scripted_code_run}
@@ -92,7 +92,7 @@ module _ (program : ProgramTree) (typed : IsWellTyped program) (set : Set) (inpu
             inl (told_all (shorter_first shown whole.behaviour.trace shown (front_same shown) front
             (ltb-false (length whole.behaviour.trace) (length shown) is)))
 
-  -- where the run of the code keeps to what is shown
+  -- where the run of the code keeps to the trace
   pub scripted_tells :
       KeepsTo shown (scripted_code_run wrapping (lowered_program program) inputs turns set shown).behaviour →
       TellsOrBlames (length program.sections) set shown cut

@@ -79,7 +79,7 @@ module _ (program : ProgramTree) (typed : IsWellTyped program) (named : AreNamed
   shows_c inputs turns are =
       shows_by c_arith inputs turns are (wrapped_code_agrees.meaning (lowered_program program) inputs turns)
 
-  -- what the machine shows
+  -- the machine's trace
   abbrev shown : (inputs : List ℕ) (steps events : ℕ) → List Event
   shown inputs steps events = (machine image inputs steps events).state.trace
 

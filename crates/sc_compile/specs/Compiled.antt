@@ -18,14 +18,14 @@ use Rattle.sc_core.specs.declared.run.SourceRun.{SourceRun}
 abbrev pub program_nodes : ProgramTree → ℕ
 program_nodes program = total (map {A = TypedSection} (λ section. total (map nodes section.functions)) program.sections)
 
--- the machine stands trapped in a compartment which this depth says to be deeper than a stack, and has shown a front of
--- this trace
+-- the machine stands trapped in a compartment whose stack depth, by `depth`, is more than a stack's size, and has
+-- emitted a prefix of this trace
 pub record StackIsFull (run : Run) (depth : ℕ → ℕ) (meant : SourceRun) : Type 0 where
   pub stop : run.stop ≡ Trap Owner run.state.pc
   pub deep : stack_size < depth run.state.active
   pub trace : Front run.state.trace meant.trace
 
--- Within 24 steps a node for each turn, and for the start, the machine shows all that the program does in this
+-- Within 24 steps a node for each turn, and for the start, the machine emits all that the program emits in this
 -- arithmetic, wherever that run is stopped and however it ends. The one exception is a full stack.
 abbrev pub ShowsAll : Arith → ProgramTree → ImageParts → Type 0
 ShowsAll arith program image = (inputs : List ℕ) (turns events : ℕ) → All IsWord inputs →
@@ -33,16 +33,16 @@ ShowsAll arith program image = (inputs : List ℕ) (turns events : ℕ) → All 
     let meant = meaning_by arith program inputs turns events in
     Front meant.trace run.state.trace ⊎ StackIsFull run (depth_by arith program inputs turns events) meant
 
--- In any number of steps the machine shows nothing that the program doesn't show in as many turns, unless the program
--- is blamed and the machine has shown all of it.
+-- In any number of steps the machine emits nothing that the program doesn't emit in as many turns, unless the program
+-- is blamed and the machine has emitted all of its trace.
 abbrev pub ShowsNothingElse : ProgramTree → ImageParts → Type 0
 ShowsNothingElse program image = (inputs : List ℕ) (steps events : ℕ) → All IsWord inputs →
     let shown = (machine image inputs steps events).state.trace in
     let meant = meaning program inputs steps events in
     Front shown meant.trace ⊎ (IsBlamed meant.end × Front meant.trace shown)
 
--- A run in which a set performs its part of a trace tells the trace, or it is blamed before on a compartment of so
--- many, outside of the set.
+-- A run in which a set performs its part of a trace has this trace, or is blamed before its end, on one of `count`
+-- compartments, outside of the set.
 abbrev pub TellsOrBlames : (count : ℕ) → Set → List Event → SourceRun → Type 0
 TellsOrBlames count set trace run =
     (run.trace ≡ trace) ⊎ (IsBlamedOutside count set run trace × (length run.trace < length trace))
@@ -67,12 +67,12 @@ pub record IsCompiled (program : ProgramTree) (image : ImageParts) : Type 0 wher
   pub backward : ShowsNothingElse program image
   pub no_tests : (comp : ℕ) (section : TypedSection) → slice_get program.sections comp ≡ Some section →
       HasNoTests section (code_of image comp)
-  -- where a set of compartments performs its part of what the machine shows, in as many turns as there were steps, all
-  -- others show the same, or one of them is blamed before
+  -- where a set of compartments performs its part of the machine's trace, the run with as many turns as there were
+  -- steps has the same trace, or a compartment outside of the set is blamed before
   pub scripted : (inputs : List ℕ) (steps events : ℕ) (set : Set) → All IsWord inputs →
       let shown = (machine image inputs steps events).state.trace in
       TellsOrBlames (length program.sections) set shown
       (scripted_meaning program set shown inputs steps (length shown))
-  -- what the machine shows is allowed by the program's interfaces
+  -- the program's interfaces allow the machine's trace
   pub allowed : (inputs : List ℕ) (steps events : ℕ) → All IsWord inputs →
       legal program.interfaces (machine image inputs steps events).state.trace ≡ true

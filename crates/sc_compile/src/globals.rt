@@ -1,4 +1,4 @@
-//! What the types of a program's globals tell: the numbers that they begin with are words.
+//! What follows from the types of a program's globals: the numbers that they begin with are words.
 
 ghost use Rattle.sc_compile.specs.Prelude.{BeginsAsWords};
 ghost use Rattle.sc_linker.specs.Prelude.{AreGivenWords};
@@ -18,7 +18,7 @@ fn begin_as_words(globals: &[TypedGlobal])
     }
 }
 
-/// Tells proofs that globals are declared with words; it does nothing.
+/// States for proofs that globals are declared with words; it does nothing.
 pub fn are_given_words(sections: &[TypedSection])
     ensures { AreGivenWords sections.now }
 {

@@ -39,7 +39,7 @@ fn function_code(alloc: Global, f: &TacFn) -> Result<Code, OutOfMemory>
     Ok(code)
 }
 
-// Those of a section's functions, behind others.
+// Those of a section's functions, after others.
 fn add_codes(alloc: Global, codes: &mut Codes, functions: &[TacFn]) -> Result<(), OutOfMemory>
     requires { All Fits functions.now }
     ensures codes { OnOk result (codes.new ≡ codes.old ++ map function_code functions.now) }

@@ -16,7 +16,7 @@ use sc_tac::{TacFn, TacFnTree, TacSection};
 /// The most bytes of a section's globals.
 const MOST_DATA: u64 = 458_752;
 
-/// The most bytes of a frame, so that a stack has room for two.
+/// The most bytes of a frame, so that two fit into a stack.
 const MOST_FRAME: u64 = 32_768;
 
 /// The most bytes of a section's code.

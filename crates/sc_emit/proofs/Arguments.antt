@@ -26,7 +26,7 @@ read_length temps [] (v ∷ vs) read = absurd read
 read_length temps (t ∷ ts) [] read = absurd read
 read_length temps (t ∷ ts) (v ∷ vs) read = ap suc (read_length temps ts vs read.1)
 
--- those behind a first value
+-- those after a first value
 abbrev rest_read : (here : Here) (ts : List ℕ) (temps : Temps) → Value → Meant → Piece (List Value)
 rest_read here ts temps v s = and_then (read_all here ts temps s) (λ vs s. Reached (v ∷ vs) s)
 
@@ -130,7 +130,7 @@ module _ (T : Setting) (R : Running) (cells : List ℕ) (nodes : ℕ)
       subst (λ p. Walks T.image T.inputs 0 (at pc regs x.bytes (world T R x)) (at p regs x.bytes (world T R x))) e
       (record { by = refl })
 
-  -- behind a value that was brought to the register of an argument
+  -- after a value was brought to the register of an argument
   module _ (regs : Registers) (code : List Instr) (rd : ℕ) (v : Value) (low : 10 ≤ rd) (high : rd < 18)
       (b : Brings regs code rd v) where
     kept : (q : ℕ) → HasNoOtherUse q → b.piece.after q ≡ regs q
@@ -143,7 +143,7 @@ module _ (T : Setting) (R : Running) (cells : List ℕ) (nodes : ℕ)
     kept_sp : regs sp ≡ x.regs sp → b.piece.after sp ≡ x.regs sp
     kept_sp same = b.piece.others sp ((λ e. omega (arith, e, low)), ((λ e. omega (arith, e)), tt)) ∙ same
 
-    -- those behind it are passed, too
+    -- those after it are passed, too
     module _ (ts : List ℕ) (vs : List Value) (rest : Passes b.piece.after (suc rd) ts vs) where
       passed_first : rest.after rd ≡ b.word
       passed_first = rest.below rd (omega arith) (λ e. omega (arith, e, low)) ∙ b.piece.result

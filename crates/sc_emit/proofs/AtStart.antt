@@ -1,4 +1,4 @@
--- The premises can be met: a function that names nothing and makes no call stands alone in an image, and is followed
+-- The premises can be met: a function that names nothing and makes no call is the only one of an image, and is followed
 -- from the start of a run.
 use Rattle.sc_emit.proofs.Common.{Addresses, All, Bool, CallTarget, CodeTree, ImageParts, IsWord, Joint, List, None}
 use Rattle.sc_emit.proofs.Common.{Registers, Setting, State as Meant, TacFnTree, [], calls_only, code_start, false}
@@ -33,7 +33,7 @@ module _ (comp : CompPart) (inputs : List ℕ) (words : All IsWord inputs) (turn
   abbrev image : ImageParts
   image = record { main = 0; entry = code_start 0; comps = comp ∷ [] }
 
-  -- that compartment alone runs its code
+  -- only that compartment runs its code
   abbrev T : Setting
   T = record {
     image = image;

@@ -456,7 +456,7 @@ module _ (test : Line → Bool) (mild : IsMild test) (frame : FrameTree) (places
 abbrev is_sound_line : Line → Bool
 is_sound_line line = is_sound line.instr
 
--- at most so many branches, and all sound
+-- at most `most` branches, and all sound
 record IsShaped (most : ℕ) (piece : Piece) : Type 0 where
   few : (to_break to_continue : ℕ) → count (piece.lines to_break to_continue) ≤ most
   sound : PassesAll is_sound_line piece
@@ -472,7 +472,7 @@ straight_shaped lines h = record {
   };
 }
 
--- at most so many are at most more
+-- at most `few` branches are at most `most`
 weaker : (few most : ℕ) (piece : Piece) → few ≤ most → IsShaped few piece → IsShaped most piece
 weaker few most piece l h = record { few = λ b c. omega (arith, l, h.few b c); sound = h.sound }
 

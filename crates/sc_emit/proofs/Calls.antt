@@ -32,7 +32,7 @@ use Rattle.sc_emit.proofs.Operands.{IsPlace, ArePlaced, slot_from_sp, world, wal
 -- Lines of which some are linked.
 
 module _ (addresses : Addresses) where
-  -- lines behind those that refer to nothing
+  -- lines after those that refer to nothing
   completed_behind : (pc : ℕ) (instrs : List Instr) (lines : List Line) →
       completed addresses pc None (plainly instrs ++ lines) ≡
       instrs ++ completed addresses (pc + 4 * length instrs) None lines
@@ -89,7 +89,7 @@ abbrev pub HasPlace : List Place → Option ℕ → Type 0
 HasPlace places None = Unit {0}
 HasPlace places (Some dest) = (place : Place) × (slice_get places dest ≡ Some place)
 
--- the last point of a statement, behind what it assigns
+-- the last point of a statement, after what it assigns
 abbrev pub last_point : Option ℕ → Lives → Point
 last_point dest lives = record { assigned = dest; calls = false; live = lives.behind }
 
@@ -113,7 +113,7 @@ module _ (T : Setting) (R : Running) (formed : IsWellFormed T.image) (inputs : A
       rw (ne_eqb dest t (λ e. other (sym e))) on
 
   module _ (lives : Lives) (temps : Temps) (y : Joint) (left : ℕ) (reads : List ℕ) where
-    -- behind the code that brings the value to its place
+    -- after the code that brings the value to its place
     abbrev Behind : List Instr → Temps → Type 0
     Behind code after =
         Arrives T R lives.behind y (length code + left) left after y.meant (y.pc + 4 * length code)
@@ -337,7 +337,7 @@ module _ (T : Setting) (R : Running) (formed : IsWellFormed T.image) (inputs : A
     own_call function args pc =
         Jal ra (pos (addresses.function function) -ℤ pos (pc + 4 * length (pass frame R.places a0 args)))
 
-    -- behind the jump there is code
+    -- after the jump there is code
     has_behind : (pc : ℕ) (before : List Instr) (instr : Instr) (after : List Instr) → HasNoGap T R →
         CodeAt T.image A.here.comp pc (before ++ instr ∷ after) →
         pc + 4 * length (before ++ instr ∷ after) ≤ R.last →

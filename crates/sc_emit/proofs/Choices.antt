@@ -40,7 +40,7 @@ module _ (T : Setting) (R : Running) (formed : IsWellFormed T.image) (inputs : A
   abbrev comp : ℕ
   comp = R.activation.here.comp
 
-  -- a jump past so many lines arrives behind them, and where there are none it is there
+  -- a jump past `lines` lines arrives after them, and where there are none it is there
   past_arrives : (live : Set) (temps : Temps) (x : Joint) (lines left : ℕ) → Ready T R live temps x →
       CodeAt T.image comp x.pc (completed (T.addresses comp) x.pc None (past lines)) →
       x.pc + 4 * (length (past lines) + lines) ≤ R.last →
@@ -68,7 +68,7 @@ module _ (T : Setting) (R : Running) (formed : IsWellFormed T.image) (inputs : A
   none_stand pc (line ∷ lines) h = absurd (omega (arith, h))
 
   -- A BRANCH WHERE A VALUE IS TRUE
-  -- wherever it leads, behind the code of its operand
+  -- wherever it leads, after the code of its operand
   module _ (cond : ℕ) (imm : ℤ) where
     abbrev its_take : List Instr
     its_take = take frame R.places first_scratch cond
@@ -171,7 +171,7 @@ module _ (T : Setting) (R : Running) (formed : IsWellFormed T.image) (inputs : A
         by v true temps s = F.goes temps s
         by v false temps s = S.goes temps s
 
-    -- behind the branch, and behind the line that it leads over
+    -- after the branch, and after the line that it leads over
     abbrev not_taken : ℕ → ℕ
     not_taken L = L + 4 * count
 
@@ -219,7 +219,7 @@ module _ (T : Setting) (R : Running) (formed : IsWellFormed T.image) (inputs : A
               MovesOn T R formed inputs cells nodes is live temps x (length before + 1) rest pc after
           moved_to = branch_moves cond (pos 8) live temps x ready code cond_live need v known
 
-          -- the value is true: what comes of the first part, behind the line that the branch leads over
+          -- the value is true: what comes of the first part, after the line that the branch leads over
           first_comes : (rest : ℕ) → length before + 1 + rest ≤ budget → is_true v ≡ true →
               ((y : Joint) → y.pc ≡ taken L → y.meant ≡ x.meant → Ready T R (live_before fs lives) temps y →
               Comes T R lives y rest ends (one temps y.meant)) →
@@ -238,7 +238,7 @@ module _ (T : Setting) (R : Running) (formed : IsWellFormed T.image) (inputs : A
               (leads_less T P x y (length before + 1 + rest) rest budget rest few (omega arith) m.leads)
               (on y refl refl (ready_less T R live (live_before fs lives) temps y first_live m.ready))
 
-          -- it is false: what comes of the second, behind the branch
+          -- it is false: what comes of the second, after the branch
           second_comes : (rest : ℕ) → length before + 1 + rest ≤ budget → is_true v ≡ false →
               ((y : Joint) → y.pc ≡ not_taken L → y.meant ≡ x.meant → Ready T R (live_before ss lives) temps y →
               Comes T R lives y rest ends (two temps y.meant)) →
@@ -285,7 +285,7 @@ module _ (T : Setting) (R : Running) (formed : IsWellFormed T.image) (inputs : A
     abbrev second_pc : ℕ → ℕ
     second_pc L = skip_pc L + 4 * length skip
 
-    -- how far behind the first part a place behind the whole is
+    -- how far after the first part a place after the whole is
     abbrev farther : ℕ → ℕ
     farther n = length skip + (second.size + n)
 

@@ -38,7 +38,7 @@ module _ (T : Setting) (R : Running) (formed : IsWellFormed T.image) (inputs : A
   abbrev pub set : Temps → Temps
   set temps = with_temp dest start temps
 
-  -- what the operator does behind the constant
+  -- what the operator does after the constant
   abbrev pub applies : Codes
   applies temps = code_step wrapping R.activation.here calls (tac.Op dest o left (Some dest)) (set temps)
 
@@ -53,7 +53,7 @@ module _ (T : Setting) (R : Running) (formed : IsWellFormed T.image) (inputs : A
       let none : is_one left (dest ∷ []) ≡ false = ap (λ b. b || false) other_way in
       ap (λ u. is_one u (dest ∷ [])) (sym (eqb-true left t h)) ∙ none
 
-  -- what the operator reads, and what is live behind it, but for the temporary, is live before both
+  -- what the operator reads, and what is live after it, but for the temporary, is live before both
   live_before : (lives : Lives) (t : ℕ) → live_plain (left ∷ []) (Some dest) lives t ≡ true →
       live_at both_steps lives t ≡ true
   live_before lives t h = by (left == t) (is_one t (dest ∷ [])) (lives.behind t) (not_dest t) h

@@ -133,7 +133,7 @@ module _ (f : TacFnTree) (places : List Place) (frame : FrameTree) (rules : IsFu
         ))
         body (brace_returns T f frame places near is.image is.inputs comp)
 
-  -- the way in stands in front
+  -- the prologue comes first
   enters : Front (frame_taken frame.bytes) code.instrs
   enters =
       let later : List Line = (select_all frame places (plan_of f near) f.body).lines 0 0 ++ plainly (closing frame

@@ -1,5 +1,5 @@
--- The code of the way into a function: the frame is taken and arguments go into their variables, or the machine stands
--- trapped where the frame goes below the data.
+-- The code of the prologue: the frame is taken and arguments go into their variables, or the machine stands trapped
+-- where the frame goes below the data.
 use Rattle.sc_emit.proofs.Common.{All, Apart, Begins, CodeAt, Computes, Does, Enters, Fetches, FrameOverflows}
 use Rattle.sc_emit.proofs.Common.{FrameTree, Function, Grown, HasRoom, ImageParts, Instr, IsFrame, IsFromSp}
 use Rattle.sc_emit.proofs.Common.{IsWellFormed, IsWord, Joint, List, Memory as Bytes, Option, Overflows, Piece, Place}
@@ -26,12 +26,12 @@ module _ (image : ImageParts) (inputs : List ℕ) (world : World) (cells : List 
     (frame : FrameTree) (whole : IsFrame frame) (room : HasRoom cells places nodes frame) (aligned : low % 4 ≡ 0)
     (start : data_start world.active ≤ low) (high : low + frame.bytes ≤ stack_top world.active)
     (known : world.active < 32) where
-  -- a word meets no variable of so many from one on
+  -- a word meets none of `count` variables from `from` on
   abbrev MeetsNone : (count from q : ℕ) → Type 0
   MeetsNone count from q =
       (o offset : ℕ) → from ≤ o → o < from + count → slice_get frame.objects o ≡ Some offset → Apart q (low + offset)
 
-  -- the registers of so many arguments from one on go into their variables
+  -- the registers of `count` arguments from `from` on go into their variables
   record StoresArguments (count from : ℕ) (regs : Registers) (bytes : Bytes) : Type 0 where
     after : Registers
     later : Bytes
@@ -64,7 +64,7 @@ module _ (image : ImageParts) (inputs : List ℕ) (world : World) (cells : List 
         };
       }
 
-  -- each of so many parameters has a variable of one cell at least
+  -- each of `params` parameters has a variable of one cell at least
   module _ (params : ℕ) (few : params ≤ 8) (there : params ≤ length cells)
       (some : (o n : ℕ) → o < params → slice_get cells o ≡ Some n → 1 ≤ n) where
     -- a parameter's variable
@@ -237,7 +237,7 @@ module _ (T : Setting) (formed : IsWellFormed T.image) (inputs : All IsWord T.in
   known : P.comp < 32
   known = omega (arith, begins.settled.steady.active, formed.few_comps)
 
-  -- There is no room for the frame: the machine stands trapped at the store of ra.
+  -- The frame doesn't fit: the machine stands trapped at the store of ra.
   pub overflows_below : (budget : ℕ) (piece : Piece (Option Value)) → frame.bytes ≤ 2 ^ 31 →
       P.bound < data_start P.comp + frame.bytes → length (frame_taken frame.bytes) ≤ budget →
       Grown (begun P.comp f args x.meant) (last piece) → Overflows T P x budget piece
@@ -256,7 +256,7 @@ module _ (T : Setting) (formed : IsWellFormed T.image) (inputs : All IsWord T.in
     abbrev pub steps : ℕ
     steps = length (entrance frame places params)
 
-    -- the way in has come to its end
+    -- the prologue has come to its end
     pub record HasEntered : Type 0 where
       pub regs : Registers
       pub bytes : Bytes

@@ -43,7 +43,7 @@ closed_goes Next has_result is_main here = at_brace_goes has_result is_main here
 closed_goes Break has_result is_main here = at_brace_goes has_result is_main here
 closed_goes Continue has_result is_main here = at_brace_goes has_result is_main here
 
--- What comes of a function's body, and of the way out behind it.
+-- What comes of a function's body, and of the epilogue after it.
 module _ (T : Setting) (R : Running) (y : Joint) (budget : ℕ) where
   abbrev P : Standpoint
   P = seen_from R.activation
@@ -268,7 +268,7 @@ module _ (T : Setting) (f : TacFnTree) (frame : FrameTree) (places : List Place)
           whole room room.bounded entrance_at budget told (omega (arith, room.bounded, fits)) low
           (omega (arith, both, all_lines, enough)) told_grown)
 
-      -- There is room for the frame.
+      -- The frame fits.
       module _ (runs : BodyFollows P.comp) (way : BraceReturns P.comp) (low : ℕ)
           (bound_is : P.bound ≡ low + frame.bytes) (start : data_start P.comp ≤ low) where
         entering : HasEntered T formed inputs P function args address ra_is x begins frame places f.nodes f.params whole

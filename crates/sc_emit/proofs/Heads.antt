@@ -1,4 +1,4 @@
--- Heads that end with the test of their loop: behind each statement before it the next one is done, and the test leads
+-- Heads that end with the test of their loop: after each statement before it the next one is done, and the test leads
 -- back to the body.
 use Rattle.sc_emit.proofs.Common.{Ahead, All, Arrives, ArrivesLate, Bne, Bool, Branch, Break, CallTarget, Calls, Cause}
 use Rattle.sc_emit.proofs.Common.{CodeAt, Codes, Continue, Cross, Each, Ends, Err, Exit, ExitGives, Fetches, Follows}
@@ -61,7 +61,7 @@ follow_on (Reached l s) rest h later = by l.exit h
     by Continue h = cc h
     by (Return v) h = refl
 
--- behind a part of a loop, whatever it leaves by
+-- after a part of a loop, whatever it leaves by
 round_on : (piece : Piece (Left Temps)) (rest : Codes) → AlwaysOn rest → GoesOn (then_follow in_loop piece rest)
 round_on (Stopped end s) rest later = tt
 round_on (Reached l s) rest later = by l.exit
@@ -178,7 +178,7 @@ module _ (frame : FrameTree) (places : List Place) (plan : Plan) (here : Here) (
       follow_on (does stmt temps s) (all_do (map does rest)) (plain_goes_on stmt plain.0 temps s)
       (row_goes_on rest plain.1)
 
--- STATEMENTS, AND OTHERS BEHIND THEM
+-- STATEMENTS, AND OTHERS AFTER THEM
 -- what is live before both
 first_of_both : (one two : List Trail) (t : ℕ) (ahead : Ahead) →
     row_first (readings t (one ++ two)) ahead ≡
@@ -251,7 +251,7 @@ module _ (here : Here) (cond : ℕ) where
       follow_goes one_by_one s (test_does temps s) (all_do []) (test_goes temps s)
       (λ temps. stays (record { exit = Next; carried = temps }))
 
-  -- statements, and the test behind them
+  -- statements, and the test after them
   abbrev pub then_test : Codes → Codes
   then_test first temps s = then_follow one_by_one (first temps s) tests
 
@@ -390,7 +390,7 @@ module _ (T : Setting) (R : Running) (formed : IsWellFormed T.image) (inputs : A
           abbrev at_pc : (pc : ℕ) → Joint
           at_pc pc = moved y pc after y.bytes
 
-          -- by so many steps, of which the last one leads to this pc
+          -- by the steps of the test, of which the last one leads to this pc
           abbrev Tested : (pc : ℕ) → Type 0
           Tested pc = Walks T.image T.inputs (length before + 1) (machine P y) (machine P (at_pc pc))
 
@@ -442,7 +442,7 @@ module _ (T : Setting) (R : Running) (formed : IsWellFormed T.image) (inputs : A
               (branch_goes T R formed inputs cells nodes is placed gapless cond back live temps' y g.ready code_here
               cond_live need v known body_pc w true_is target body.aligned there)
 
-          -- it is false: behind the loop
+          -- it is false: after the loop
           goes_out : is_true v ≡ false → Arrives T R lives.broken x budget left temps' y.meant ends.broken
           goes_out false_is =
               let behind : branch_pc + 4 ≡ ends.broken = omega (arith, g.pc_is) in

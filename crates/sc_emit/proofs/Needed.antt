@@ -1,4 +1,4 @@
--- Temporaries that are read in their places: what rows of statements need, and where a store stands alone.
+-- Temporaries that are read in their places: what rows of statements need, and a store that joins nothing before it.
 use Rattle.sc_emit.proofs.Common.{Applies, Bool, FrameTree, List, Loads, Need, None, Operates, Option, Other, Place}
 use Rattle.sc_emit.proofs.Common.{Places, Plan, Role, Sets, Some, TacStmt, TacStmt-F, [], and_first, and_from}
 use Rattle.sc_emit.proofs.Common.{and_parts, ap, break_stmt, ending_test, eq-eqb, eqb-true, false, fold-roll-TacStmt}

@@ -1,4 +1,4 @@
--- A variable that is read: one load, where its place is wanted for that load alone.
+-- A variable that is read: one load, where its place is wanted only for that load.
 use Rattle.sc_emit.proofs.Common.{All, All-cons, All-nil, Bool, Calls, Codes, Follows, FrameTree, Goes, Instr}
 use Rattle.sc_emit.proofs.Common.{IsActivation, IsClear, IsFromSp, IsLoaded, IsWellFormed, IsWord, Joint, List, Lives}
 use Rattle.sc_emit.proofs.Common.{Next, Ok, Place, Point, Ready, Running, Setting, Some, StandsFor, Temps, Trail, Value}
@@ -23,14 +23,14 @@ module _ (T : Setting) (R : Running) (formed : IsWellFormed T.image) (inputs : A
   abbrev start : Value
   start = start_of (R.activation.here.first + object)
 
-  -- what the second of the two statements does behind the first
+  -- what the second of the two statements does after the first
   abbrev pub reads : Codes
   reads temps = code_step wrapping R.activation.here calls (tac.Load dest dest pointer) (with_temp dest start temps)
 
   abbrev pub both_trails : Trail
   both_trails = row (trail_step (tac.ObjectPlace dest object) ∷ trail_step (tac.Load dest dest pointer) ∷ [])
 
-  -- what is live behind both, but for the temporary that they assign, is live before them
+  -- what is live after both, but for the temporary that they assign, is live before them
   live_before_both : (lives : Lives) (t : ℕ) → live_plain [] (Some dest) lives t ≡ true →
       live_at both_trails lives t ≡ true
   live_before_both lives t h = by (is_one t (dest ∷ [])) (lives.behind t) h

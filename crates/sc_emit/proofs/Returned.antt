@@ -1,4 +1,4 @@
--- An operator whose second operand is a constant, and a return of its result: it is computed where it is given back.
+-- An operator whose second operand is a constant, and a return of its result: it is computed where it is returned.
 use Rattle.sc_emit.proofs.Common.{All, Calls, Cause, CodeAt, Codes, Comes, Constant, Ends, Follows, FrameTree, Goes}
 use Rattle.sc_emit.proofs.Common.{Gone, Here, Instr, IsActivation, IsSound, IsWellFormed, IsWord, Joint, Left, List}
 use Rattle.sc_emit.proofs.Common.{Lives, Next, Ok, Piece, Ready, Result, Return, Returns, Running, Setting, ShortForm}
@@ -18,7 +18,7 @@ use Rattle.sc_emit.proofs.Plain.{IsResult, IsWordConstant}
 use Rattle.sc_emit.proofs.Returns.{Puts, leaves_with, return_goes}
 use Rattle.sc_emit.proofs.Straight.{straight_follows}
 
--- the register of what is given back may hold a result
+-- the register of what is returned may hold a result
 pub a0_is : IsResult a0
 a0_is = record {
   writable = record { above = omega arith; below = omega arith };
@@ -49,7 +49,7 @@ module _ (T : Setting) (R : Running) (formed : IsWellFormed T.image) (inputs : A
   abbrev here : Here
   here = R.activation.here
 
-  -- what the operator does behind the constant
+  -- what the operator does after the constant
   abbrev operates : Codes
   operates = applies T R formed inputs cells nodes is placed calls dest left value o apart need
 
@@ -61,7 +61,7 @@ module _ (T : Setting) (R : Running) (formed : IsWellFormed T.image) (inputs : A
   abbrev returns : Codes
   returns = code_step wrapping here calls (tac.Return (Some dest))
 
-  -- what the operator and the return do behind the constant
+  -- what the operator and the return do after the constant
   abbrev pub gives_back : Codes
   gives_back temps s = then_follow one_by_one (operates temps s) returns
 
@@ -82,11 +82,11 @@ module _ (T : Setting) (R : Running) (formed : IsWellFormed T.image) (inputs : A
   abbrev right_read : Temps → Value → Meant → Piece (Left Temps)
   right_read temps v s = and_then (read here dest (set_temps temps) s) (result_known temps v)
 
-  -- what is done behind it
+  -- what is done after it
   abbrev goes_on : Codes → Left Temps → Meant → Piece (Left Temps)
   goes_on more left s = taken_by (one_by_one left.exit) more left.carried s
 
-  -- where the operator gives a value, what is behind it comes to the ends
+  -- where the operator gives a value, what follows it comes to the ends
   comes_applied : (lives : Lives) (temps : Temps) (x : Joint) (budget : ℕ) (ends : Ends) (more : Codes) →
       ((v r : Value) → temps left ≡ Some v →
       operated wrapping (x.meant.memory here.comp) o v (constant_value value) ≡ Ok r →
@@ -140,7 +140,7 @@ module _ (T : Setting) (R : Running) (formed : IsWellFormed T.image) (inputs : A
           value = subst (λ w. StandsFor (x.inj here.comp) w r) (sym g.result) g.stands;
         }
 
-    -- what was assigned last is given back
+    -- what was assigned last is returned
     leaves : (lives : Lives) (temps : Temps) (x : Joint) (n : ℕ) (v r u : Value) →
         Ready T R (live_at all_three lives) temps x → CodeAt T.image here.comp x.pc whole → temps left ≡ Some v →
         operated wrapping (x.meant.memory here.comp) o v (constant_value value) ≡ Ok r →

@@ -1,4 +1,4 @@
--- The way out of a function: a return, and the closing brace.
+-- The epilogue of a function: a return, and the closing brace.
 use Rattle.sc_emit.proofs.Common.{Activation, Addi, All, Bool, Calls, CodeAt, Computes, Does, Entry, Export, Follows}
 use Rattle.sc_emit.proofs.Common.{FrameTree, GivenBack, Goes, Instr, IsActivation, IsWellFormed, IsWord, Jalr, Joint}
 use Rattle.sc_emit.proofs.Common.{LeavesFrame, List, Lives, Main, None, OpImm, Option, Owned, Place, Ready, Registers}

@@ -168,7 +168,7 @@ module _ (frame : FrameTree) (places : List Place) (plan : Plan) where
           (by_instrs (tac.Return (Some pair.temp)) (short_return frame places pair.left form) refl
           (short_return_straight frame places pair.left form))))
 
-  -- a choice and a loop are nothing to the one behind
+  -- a choice and a loop are nothing to the next statement
   other_joins : (before own behind : Role) → own ≡ Other → joins (role_behind before own) behind ≡ true → ⊥
   other_joins before own behind is h = by before (sym (ap (λ r. joins (role_behind before r) behind) is) ∙ h)
     where

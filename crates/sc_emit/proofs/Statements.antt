@@ -204,7 +204,7 @@ module _ (T : Setting) (R : Running) (formed : IsWellFormed T.image) (inputs : A
       (short_follows T R formed inputs cells nodes is placed calls dest left value o apart read form form_is
       (is_sound o k.1.1.1.1.1.0) (is_word dest value h.1.1.1.1.0) place.0 place.1)
 
-  -- the same, given back
+  -- the same, returned
   back_follows_here : (dest left : ℕ) (value : Constant) (o : TacOp) (form : ShortForm) →
       (apart : (left == dest) ≡ false) (read : R.plan.needed left ≡ true) →
       short_form o (word_of_constant value) ≡ Some form →
@@ -424,7 +424,7 @@ module _ (T : Setting) (R : Running) (formed : IsWellFormed T.image) (inputs : A
       back : IsReturned (code stmt).role (code next).role → Row before (stmt ∷ next ∷ rest)
       back pair = absurd (never_applies frame R.places R.plan stmt pair.temp pair.left pair.op pair.word pair.applies)
 
-  -- three statements that are one piece, before others: the third gives back what the two before it compute
+  -- three statements that are one piece, before others: the third returns what the two before it compute
   three_are_one : (before : Role) (stmt next last : TacStmt) (rest : List TacStmt) →
       joins before (code stmt).role ≡ false → joins (code stmt).role (code next).role ≡ true →
       joins (role_behind (code stmt).role (code next).role) (code last).role ≡ true →
@@ -522,7 +522,7 @@ module _ (T : Setting) (R : Running) (formed : IsWellFormed T.image) (inputs : A
             (sym (need_gives frame R.places R.plan stmt)) second.1;
       }
 
-  -- what is read behind two that are one
+  -- what is read after two that are one
   needs_behind : (before own : Role) (rest : List TacStmt) → RowNeeds own rest →
       RowNeeds (role_behind before own) rest
   needs_behind before own rest h =

@@ -31,7 +31,7 @@ module _ (T : Setting) (R : Running) (formed : IsWellFormed T.image) (inputs : A
   abbrev set : Temps → Temps
   set temps = with_temp temp start temps
 
-  -- what the store does behind the place
+  -- what the store does after the place
   abbrev pub assigns : Codes
   assigns temps = code_step wrapping R.activation.here calls (tac.Store temp value) (set temps)
 

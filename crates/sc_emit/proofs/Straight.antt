@@ -24,7 +24,7 @@ module _ (T : Setting) (R : Running) where
       (ends : Ends) → ends.left ≡ left → ends.behind ≡ x.pc + 4 * length instrs →
       Comes T R lives x (length instrs + left) ends piece
 
-  -- it arrives behind
+  -- it arrives past the end of the code
   pub comes_behind : (lives : Lives) (x : Joint) (instrs : List Instr) (left : ℕ) (temps : Temps) (s : Meant) →
       Arrives T R lives.behind x (length instrs + left) left temps s (x.pc + 4 * length instrs) →
       ComesStraight lives x instrs left (Reached (record { exit = Next; carried = temps }) s)

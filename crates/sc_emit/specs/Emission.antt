@@ -44,7 +44,7 @@ pub record IsEmitted (f : TacFnTree) (frame : FrameTree) (code : CodeTree) : Typ
   pub light : length code.instrs ≤ entry_weight f.params + weight f.body
   pub short : length code.instrs < 24 * f.nodes
   -- no instruction is executed twice within one call without an iteration between: all lead on, but for one a loop, and
-  -- else calls come back behind themselves, or the call ends
+  -- else calls return to the instruction after them, or the call ends
   pub back_edges : code_back_edges code ≤ loops f.body
   pub jumps : IsTrue (has_known_jumps code)
   -- a branch at most for each `If`

@@ -13,7 +13,7 @@ leads_on instr = not (leads_back instr)
 abbrev pub LeadOn : List Instr → Type 0
 LeadOn instrs = IsTrue (list_all {X = Instr} leads_on instrs)
 
--- a jump or a branch leads back over so many instructions
+-- a jump or a branch leads back over `count` instructions
 abbrev pub LeadsOver : ℕ → Instr → Type 0
 LeadsOver count instr = distance instr ≡ Some (neg_ℤ (pos (4 * count)))
 
@@ -22,7 +22,7 @@ pub record GoesAround (head body next inside : List Instr) (first last : Instr) 
   -- the head stands before the body, or at the end
   pub order : (inside ≡ head ++ (body ++ next)) ⊎ (inside ≡ body ++ (next ++ head))
   pub on : IsTrue (leads_on first)
-  -- the last leads back to the first, or behind it
+  -- the last leads back to the first, or to the one after it
   pub back : LeadsOver (suc (length inside)) last ⊎ LeadsOver (length inside) last
 
 -- statements in order have these instructions
@@ -41,7 +41,7 @@ pub data HaveCode : List TacStmt → List Instr → Type 0 where
       HaveCode body at_body → HaveCode next at_next → HaveCode rest more →
       HaveCode (tac.Loop head body next ∷ rest) (first ∷ (inside ++ (last ∷ more)))
 
--- the code of a function: the way in, its statements, and its closing brace
+-- the code of a function: the prologue, its statements, and its closing brace
 pub record HasRounds (stmts : List TacStmt) (instrs : List Instr) : Type 0 where
   pub before : List Instr
   pub inside : List Instr

@@ -19,7 +19,7 @@ pub fn emit(alloc: Global, f: &TacFn, places: &Places, frame: &Frame) -> Result<
     ensures code { IfOk result (λ code. code ≡ code_of f.now places.now frame.now) }
     ensures emitted { IfOk result (IsEmitted f.now frame.now) }
 {
-    // That these keep their rules is told by reading them.
+    // Reading these proves that they keep their rules.
     let _function = f.tree();
     let _places = places.as_slice();
     let _frame = frame.tree();

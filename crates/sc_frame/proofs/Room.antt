@@ -1,4 +1,4 @@
--- Frames have room: ranges that stand one behind the other don't meet.
+-- Objects and slots fit into their frame: ranges that stand one after the other don't meet.
 use Rattle.sc_frame.proofs.Common.{All, AllPairs, Apart, HasRoom, IsFrame, List, Range, [], ap, arith, end_of, frame_of}
 use Rattle.sc_frame.proofs.Common.{inl, length, length-map-range_with_len, map, object_range, offsets_from}
 use Rattle.sc_frame.proofs.Common.{range_with_len, ranges_of, refl, slots_of, subst, suc, sym, total, word_at, zero}

@@ -3,10 +3,10 @@ ghost use Rattle.std.specs.Prelude.{◌≤◌, ◌↔◌, IsTrue};
 
 use sc_tac::TacFn;
 
-/// A frame has 64 bytes and, for each cell and node, 4 more at most: so many of these fit into 32,768 bytes.
+/// A frame has 64 bytes and at most 4 more for each cell and node: 8,176 of these fit into 32,768 bytes.
 const MOST: u32 = 8176;
 
-/// Whether the frame of a function fits: it takes at most 32,768 bytes, so that a stack has room for two of them.
+/// Whether the frame of a function fits: it takes at most 32,768 bytes, so that two of them fit into a stack.
 pub fn fits(f: &TacFn) -> bool
     ensures { IsTrue result ↔ (frame_bound f.now.objects f.now.nodes ≤ 32768) }
 {

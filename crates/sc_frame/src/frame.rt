@@ -31,7 +31,7 @@ fn slots_of(places: &[Place], temps: u32) -> u32
     count
 }
 
-// The offsets of so many slots.
+// The offsets of `count` slots.
 fn lay_slots(alloc: Global, count: u32) -> Result<Offsets, OutOfMemory>
     requires { count < 8192 }
     ensures { IfOk result (λ slots. slots ≡ map (λ slot. 4 + 4 * slot) (range_with_len 0 count)) }
@@ -43,14 +43,14 @@ fn lay_slots(alloc: Global, count: u32) -> Result<Offsets, OutOfMemory>
     Ok(slots)
 }
 
-/// Objects one behind the other.
+/// Objects one after the other.
 #[derive(Drop)]
 struct Objects {
     offsets: Offsets,
     end: u32,
 }
 
-// Objects with so many cells each, from this offset on.
+// Objects of these sizes in cells, from this offset on.
 fn lay_objects(alloc: Global, from: u32, cells: &[u32]) -> Result<Objects, OutOfMemory>
     requires { from + 4 * total cells.now ≤ 32768 }
     ensures { IfOk result (λ objects. objects ≡ record {

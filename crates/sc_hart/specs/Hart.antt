@@ -19,7 +19,7 @@ look regs r = if nat_eq r 0 then 0 else regs r
 abbrev pub set : Registers → ℕ → ℕ → Registers
 set regs r word = if nat_eq r 0 then regs else put regs r word
 
--- so many registers from a number on
+-- the words of `count` registers from `first` on
 abbrev pub words_from : (count first : ℕ) → Registers → List ℕ
 words_from zero first regs = []
 words_from (suc count) first regs = regs first ∷ words_from count (suc first) regs
@@ -28,7 +28,7 @@ words_from (suc count) first regs = regs first ∷ words_from count (suc first) 
 abbrev pub listed : Registers → List ℕ
 listed regs = 0 ∷ words_from 31 1 regs
 
--- what instructions leave alone that neither call, return nor ask the environment
+-- what instructions leave unchanged that are no call, return or environment call
 pub record World : Type 0 where
   pub active : ℕ
   pub saved : List ℕ

@@ -19,7 +19,7 @@ pub starts_length : (address : ℕ) (sizes : List ℕ) → length (starts addres
 starts_length address [] = refl
 starts_length address (size ∷ sizes) = ap suc (starts_length (address + 4 * size) sizes)
 
--- each begins behind those before it
+-- each begins after those before it
 pub starts_at : (address : ℕ) (sizes : List ℕ) (n : ℕ) → n < length sizes →
     slice_index (starts address sizes) n ≡ address + 4 * total (take n sizes)
 starts_at address [] n within = absurd (omega arith)

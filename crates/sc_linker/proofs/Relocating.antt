@@ -17,7 +17,7 @@ module _ (A : Addresses) (functions globals : ℕ) where
         by true = and_first (is_known functions globals relocation.target) _ known
         by false = tt
 
-  -- and so is what those behind it refer to
+  -- and so is what those after it refer to
   pub known_behind : (at : ℕ) (relocations rest : List Relocation) → relocations_behind A at relocations ≡ rest →
       AreKnown functions globals relocations → AreKnown functions globals rest
   known_behind at [] rest is known = subst (AreKnown functions globals) is known
@@ -58,7 +58,7 @@ module _ (A : Addresses) (instrs : List Instr) (i : ℕ) (instr : Instr) (within
             word_of (with_low low (with_target A pc (sym is k) instr)) ∷
             map word_of (linked_from A (pc + 4) (sym (add-one at) k) (low_next k) (drop (i + 1) instrs) (left k))
 
--- there is room for the instructions behind one
+-- there is room for the instructions after one
 pub room_behind : {X : Type 0} (comp pc i : ℕ) (xs : List X) → i < length xs → HasRoom comp pc (length (drop i xs)) →
     HasRoom comp (pc + 4) (length (drop (i + 1) xs))
 room_behind comp pc i xs within room =

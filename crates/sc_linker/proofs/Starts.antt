@@ -154,7 +154,7 @@ words_start (w ∷ ws) (cell.Null ∷ cs) below h =
     (words_start ws cs (All-tail (λ word. word < 2 ^ 32) w ws below) (All-tail IsStart cell.Null cs h))
 words_start (w ∷ ws) (cell.Ptr p ∷ cs) below h = absurd (All-head IsStart (cell.Ptr p) cs h)
 
--- a global begins as words and null alone
+-- each cell of a global begins as a word or null
 pub block_start : (structs : List TypedStruct) (g : TypedGlobal) → All (λ word. word < 2 ^ 32) g.init →
     All IsStart (global_block (struct_zeros [] structs) g).cells
 block_start structs g below =

@@ -1,4 +1,4 @@
--- The words of globals at the start are those of their initialisers, and zeros behind them.
+-- The words of globals at the start are those of their initialisers, followed by zeros.
 use Rattle.sc_linker.proofs.Common.{BaseTy, Cell, List, Some, Ty, TypedGlobal, TypedMember, TypedSection, TypedStruct}
 use Rattle.sc_linker.proofs.Common.{[], add-one, and_first, and_rest, ap, append-nil, append_assoc, ap₂, arith}
 use Rattle.sc_linker.proofs.Common.{base_cells, base_within, base_zeros, cases_lt, cell_word, cells_of, eqb-true}
@@ -15,7 +15,7 @@ use Rattle.sc_core.specs.declared.ty.BaseTy.TheVariants as base
 use Rattle.sc_core.specs.declared.ty.Ty.TheVariants as ty
 use Rattle.sc_core.specs.declared.value.Cell.TheVariants as cell
 
--- cells that begin with the word 0, so many
+-- `count` cells that begin with the word 0
 pub record AreZeros (cells : List Cell) (count : ℕ) : Type 0 where
   pub words : map cell_word cells ≡ replicate count 0
 
@@ -62,7 +62,7 @@ module _ (structs : List TypedStruct) where
         times zeros n (starred_zeros zeros stars b) (starred_cells structs stars b)
         (starred_blank stars b (and_rest (nat_le 1 n) (starred_within count pointed stars b) within))
 
-  -- members stand one behind another
+  -- members stand one after another
   members_blank : (zeros : List (List Cell)) (count offset end : ℕ) (members : List TypedMember) →
       AreKnown zeros count → members_fit structs count offset members end ≡ true →
       replicate offset 0 ++ map cell_word (member_zeros zeros members) ≡ replicate end 0

@@ -110,7 +110,7 @@ module _ (program : ProgramTree) (codes : List CodeTree) where
         slice_get cells i ≡ Some one →
         load_of (start_memory (linked_image program codes)) ((addresses_at program codes comp).global number + 4 * i) 4
         ≡ cell_word one
-    -- they begin as words and null alone
+    -- each begins as a word or null
     pub known : (comp number i : ℕ) (cells : List Cell) (one : Cell) →
         slice_get (globals_of program.sections comp) number ≡ Some (record { live = true; cells = cells }) →
         slice_get cells i ≡ Some one → IsStart one

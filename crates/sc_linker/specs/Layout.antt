@@ -15,7 +15,7 @@ cells structs globals = total (map {A = TypedGlobal} (λ g. cells_of structs g.t
 abbrev pub entry_address : (comp index : ℕ) → ℕ
 entry_address comp index = code_start comp + 4 * index
 
--- the functions of a section begin behind its entries, one after the other, and its globals at the top of its stack, a
+-- the functions of a section begin after its entries, one after the other, and its globals at the top of its stack, a
 -- word for each cell
 abbrev pub section_addresses : (comp exports : ℕ) → TypedSection → List CodeTree → Addresses
 section_addresses comp exports section codes = record {

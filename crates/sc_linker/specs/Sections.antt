@@ -11,7 +11,7 @@ use Rattle.sc_linker.specs.declared.layout.SectionLayout.{SectionLayout}
 use Rattle.sc_linker.specs.Layout.{cells, entry_address, instructions, section_addresses}
 use Rattle.sc_linker.specs.Image.{entry_jumps, linked_codes}
 
--- where things begin that stand one behind the other from an address on, of so many words each
+-- where things of these sizes in words begin that stand one after the other from an address on
 abbrev pub starts : (address : ℕ) → (sizes : List ℕ) → List ℕ
 starts address [] = []
 starts address (size ∷ sizes) = address ∷ starts (address + 4 * size) sizes
@@ -22,7 +22,7 @@ code_sizes codes = map {A = CodeTree} (λ code. length code.instrs) codes
 abbrev pub global_sizes : List TypedStruct → List TypedGlobal → List ℕ
 global_sizes structs globals = map {A = TypedGlobal} (λ g. cells_of structs g.ty) globals
 
--- the words of a global: those that it begins with, and zeros behind them
+-- the words of a global: those that it begins with, followed by zeros
 abbrev pub initial_words : List TypedStruct → TypedGlobal → List ℕ
 initial_words structs g = g.init ++ replicate (cells_of structs g.ty - length g.init) 0
 
@@ -47,14 +47,14 @@ pub record IsCodeAddress (comp address : ℕ) : Type 0 where
   pub greatest : address < code_start comp + stretch
   pub whole : address % 4 ≡ 0
 
--- so many may stand from this address on
+-- `count` words fit from this address on
 pub record HasRoom (comp address count : ℕ) : Type 0 where
   pub least : code_start comp ≤ address
   pub greatest : address + 4 * count ≤ code_start comp + stretch
   pub word : address + 4 * count < 2 ^ 32
   pub whole : address % 4 ≡ 0
 
--- a function or a global that there is, where there are so many
+-- a target's function or global exists, where there are `functions` functions and `globals` globals
 abbrev pub is_known : (functions globals : ℕ) → Target → Bool
 is_known functions globals =
     is_named (λ number. nat_lt number functions) (λ to index. true) (λ number. nat_lt number globals)

@@ -36,7 +36,7 @@ fn push_zeros(bytes: &mut Text, count: u64) -> Result<(), OutOfMemory>
     Ok(())
 }
 
-// The words that the global begins with, and zeros behind them.
+// The words that the global begins with, followed by zeros.
 fn push_global(
     bytes: &mut Text,
     structs: &[TypedStruct],

@@ -63,7 +63,7 @@ fn global_starts(
 }
 
 impl SectionLayout {
-    /// The layout of a section with so many exports.
+    /// The layout of a section with `exports` exports.
     pub fn new(
         alloc: Global,
         comp: CompId,

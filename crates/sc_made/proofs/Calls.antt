@@ -133,7 +133,7 @@ end_line = subst (IsLine (stmt_at 0 (return_kind (literal 0)))) zero_text (retur
     (literal_text (literal_number 0)) zero_kept (omega (arith, zero_low)) zero_words
     (even_literal (literal_number 0) refl))
 
--- a text with two parts that aren't told, and what stands behind it
+-- a text of four parts, and what follows it
 pub two_behind : (a m b r more : List ℕ) → (a ++ (m ++ (b ++ r))) ++ more ≡ a ++ (m ++ (b ++ (r ++ more)))
 two_behind a m b r more = append_assoc a (m ++ (b ++ r)) more ∙ ap (λ t. a ++ t)
     (append_assoc m (b ++ r) more ∙ ap (λ t. m ++ t) (append_assoc b r more))

@@ -31,7 +31,7 @@ functions_named seed _ _ no_functions = refl
 functions_named seed _ _ (and_function j lines js trees h) =
     ap (λ x. function_name j ∷ x) (functions_named seed js trees h)
 
--- Prototypes alone, and others behind them.
+-- Only prototypes, and others after them.
 
 pub protos_heads : (heads : List HeadTree) → heads_in (map decl.Proto heads) ≡ heads
 protos_heads [] = refl
@@ -58,7 +58,7 @@ module _ (more : List Decl) where
   behind_heads [] = refl
   behind_heads (h ∷ heads) = ap (λ x. h ∷ x) (behind_heads heads)
 
--- Functions alone.
+-- Only functions.
 
 pub functions_structs : (trees : List FunctionTree) → structs_in (map decl.Function trees) ≡ []
 functions_structs [] = refl

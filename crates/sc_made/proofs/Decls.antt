@@ -23,7 +23,7 @@ pub record IsDecl (d : Decl) (text : List ℕ) : Type 0 where
   pub spelled : text_of pieces ≡ text
   pub nested : Nested 4 pieces
 
--- a declaration as it is printed, but for the empty line in front
+-- a declaration as it is printed, but for the empty line before it
 pub printed_decl : (d : Decl) (text : List ℕ) → is_kept_decl d ≡ true → decl_height d ≤ 8 →
     text_of (dense_decl d) ≡ text → Nested 4 (dense_decl d) → IsDecl d text
 printed_decl d text kept low spelled nested = record {

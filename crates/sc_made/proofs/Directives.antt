@@ -48,7 +48,7 @@ exports_are (j ∷ js) low =
           (plain_append name (codes "\n") (name_plain name named) refl) (rest.headless behind h)));
     }
 
--- an import line in front of others
+-- an import line before others
 module _ (comp name : List ℕ) (owner : is_name comp ≡ true) (named : is_name name ≡ true) where
   abbrev first : ImportLine
   first = record { comp = comp; name = name; line = 0 }

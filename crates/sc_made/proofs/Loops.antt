@@ -53,7 +53,7 @@ add = stmt_at 0 add_kind
 abbrev body : List StmtTree
 body = store ∷ add ∷ []
 
--- `t[i & 15]`, and what stands behind it
+-- `t[i & 15]`, and what follows it
 abbrev element_pieces : List Piece → List Piece
 element_pieces more = word (codes "t") ∷ word (codes "[") ∷ word (codes "i") ∷ blank ∷ word (codes "&") ∷ blank ∷
     word (literal_text (literal_number 15)) ∷ word (codes "]") ∷ more

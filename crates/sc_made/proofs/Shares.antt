@@ -34,7 +34,7 @@ hit_next i first count false is =
     ap (λ b. length (cond b (first ∷ filter (leaves i) (numbers_from (suc first) count))
     (filter (leaves i) (numbers_from (suc first) count)))) is
 
--- where the next one stands behind a gap
+-- where the next one stands after a gap
 few_from : (i first count gap : ℕ) → gap ≤ 30 → (first + gap) % 31 ≡ i → 31 * hits i first count + gap ≤ count + 30
 few_from i first zero gap small at = omega (arith, small)
 few_from i first (suc count) zero small at =

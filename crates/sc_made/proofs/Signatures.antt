@@ -92,7 +92,7 @@ module _ (size seed : ℕ) (section : SectionTree) (main : IsMain size seed sect
   abbrev pub tree_of : FunctionTree
   tree_of = main_at main.head_line main.local_line main.close_line main.body
 
-  -- what stands behind the prototypes of the functions
+  -- what follows the prototypes of the functions
   abbrev pub last_decls : List Decl
   last_decls = decl.Proto (output_proto main.proto_line) ∷ decl.Function tree_of ∷ []
 

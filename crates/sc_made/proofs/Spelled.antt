@@ -37,7 +37,7 @@ decimal_digits = decimal_by_steps (λ n ds. Digits ds)
     some_more [] b some = absurd (omega (arith, some))
     some_more (x ∷ a) b some = omega arith
 
--- what is behind the first byte of a name
+-- what follows the first byte of a name
 record Behind (ds : List ℕ) : Type 0 where
   digits : Digits ds
   bytes : list_all is_name_byte ds ≡ true

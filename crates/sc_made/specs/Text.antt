@@ -1,10 +1,10 @@
--- The text of a program that is made from a size and a seed: `Main` calls so many functions, which stand in at most 31
+-- The text of a program that is made from a size and a seed: `Main` calls `size` functions, which stand in at most 31
 -- other compartments, each with a number that is drawn, and writes what they give.
 use Rattle.std.specs.Prelude.{ℕ, zero, suc, ◌+◌, ◌*◌, ◌/◌, ◌%◌, ◌^◌, min, nat_eq, codes, List, [], ◌∷◌, ◌++◌, filter}
 use Rattle.std.specs.Prelude.{flat_map}
 use Rattle.std.specs.Fmt.{decimal}
 
--- so many numbers, from the first on
+-- `count` numbers, from the first on
 abbrev pub numbers_from : (first count : ℕ) → List ℕ
 numbers_from first zero = []
 numbers_from first (suc count) = first ∷ numbers_from (suc first) count
@@ -18,7 +18,7 @@ abbrev pub state_after : (seed draws : ℕ) → ℕ
 state_after seed zero = seed
 state_after seed (suc draws) = next_state (state_after seed draws)
 
--- the draw of this number, from 0: the upper 16 bits of the state behind it
+-- the draw of this number, from 0: the upper 16 bits of the state after it
 abbrev pub drawn : (seed number : ℕ) → ℕ
 drawn seed number = state_after seed (suc number) / 65536
 

@@ -33,7 +33,7 @@ int_type = record { base = base.Int; stars = 0; length = None }
 abbrev pub literal : (value : ℕ) → ExprTree
 literal value = Literal (record { value = value; unsigned = false })
 
--- Lines of statements, heads and so on are parameters: the text alone tells them.
+-- Lines of statements, heads and so on are parameters: only the text determines them.
 
 abbrev pub stmt_at : (line : ℕ) → StmtKind → StmtTree
 stmt_at line kind = record { line = line; kind = kind }

@@ -1,4 +1,4 @@
-//! Laws alone: the texts that are made from a size and a seed are programs, and small ones.
+//! Only laws: the texts that are made from a size and a seed are programs, and small ones.
 #![tactic(auto)]
 
 mod laws;

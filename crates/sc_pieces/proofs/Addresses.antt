@@ -1,4 +1,4 @@
--- Addresses of places of one block: so many cells further or back, modulo 2 ^ 32, and how far apart.
+-- Addresses of places of one block: a number of cells further or back, modulo 2 ^ 32, and how far apart.
 use Rattle.sc_pieces.proofs.Common.{Bool, add_word, ap, ap₂, arith, bytes_of, div_word, false, if◌then◌else◌, inl, inr}
 use Rattle.sc_pieces.proofs.Common.{int_div, int_lt, mul-add, mul-mod_second, mul_word, nat_lt, neg_ℤ, negsuc}
 use Rattle.sc_pieces.proofs.Common.{number_of, pos, refl, signed_of, stepped_word, sub_word, subst, suc, sym, true}
@@ -41,7 +41,7 @@ number : (unsigned : Bool) (i : ℕ) → i < 2 ^ 32 → IsNumber (number_of unsi
 number true i h = inl refl
 number false i h = signed_number i (nat_lt i (2 ^ 31)) refl h
 
--- elements of so many cells
+-- elements of `cells` cells
 product : (i cells : ℕ) → mul_word i (bytes_of cells) ≡ 4 * (cells * i) % 2 ^ 32
 product i cells =
     mul-mod_second i (4 * cells) (2 ^ 32) ∙
@@ -82,7 +82,7 @@ module _ (x i m cells index : ℕ) (from : x + 4 * i < 2 ^ 32) (to : x + 4 * m <
       cells_round_back x i (cells * index) (cells * suc n) cells m from to
       (let e : i + cells * suc n ≡ m = omega (arith, ints, whole) in e) (round cells index n w)
 
-  -- so many elements on, and back
+  -- a number of elements on, and back
   pub elements_on : (unsigned : Bool) → index < 2 ^ 32 → pos i +ℤ pos cells *ℤ number_of unsigned index ≡ pos m →
       stepped_word false cells (x + 4 * i) index ≡ x + 4 * m
   elements_on unsigned h sum =

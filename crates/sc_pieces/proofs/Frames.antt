@@ -1,4 +1,4 @@
--- The way into a function, and the way out of it.
+-- The prologue of a function, and its epilogue.
 use Rattle.sc_pieces.proofs.Common.{CodeAt, Computes, ImageParts, Instr, List, Load, Lw, Memory, Owned, Registers}
 use Rattle.sc_pieces.proofs.Common.{Store, Stores, Sw, World, [], add_word, ap, arith, back_at, data_start, frame_taken}
 use Rattle.sc_pieces.proofs.Common.{front_at, length, length-append, moved_by, pos, refl, sub_word, sw_traps, word}

@@ -60,7 +60,7 @@ module _ (image : ImageParts) (inputs : List ℕ) (world : World) (memory : Memo
       computes image inputs world (7 ∷ []) (add_word a bytes) near refl (λ q k. (k.0, tt))
   moves_by false regs rd rs bytes a h k not is below = moves_far regs rd rs bytes a h k not is below
 
-  -- a register and so many bytes
+  -- a register plus a number of bytes
   pub moves_on : (regs : Registers) (rd rs bytes a : ℕ) → IsWritable rd → rs < 32 → rs ≢ 7 → look regs rs ≡ a →
       bytes < 2 ^ 32 →
       Computes image inputs world (moved_by rd rs bytes) (7 ∷ []) regs memory rd (add_word a bytes)

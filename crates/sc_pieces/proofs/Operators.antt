@@ -152,7 +152,7 @@ module _ (image : ImageParts) (inputs : List ℕ) (world : World) (memory : Memo
   gives_binary true op.Rem = single Remu _ refl
   gives_binary false op.Rem = single Rem _ refl
 
-  -- the bytes of so many elements, by a shift or by a product
+  -- the bytes of `b` elements, by a shift or by a product
   times_four : mul_word b 4 ≡ computed (shift_on_registers Slli) b 2
   times_four = omega (arith, operands.right_word)
 

@@ -44,7 +44,7 @@ module _ (image : ImageParts) (inputs : List ℕ) (world : World) where
         (second.walks (pc + 4 * length xs) (back_at image world.active pc xs ys code)))));
   }
 
-  -- a piece that another follows, which begins with the registers behind it
+  -- a piece that another follows, which begins with the registers after it
   pub followed_by : {xs ys : List Instr} {rs ss : List ℕ} {regs : Registers} {memory : Memory} {r v rd w : ℕ} →
       (first : Computes image inputs world xs rs regs memory r v) →
       Computes image inputs world ys ss first.after memory rd w →

@@ -1,4 +1,4 @@
--- What the way into a function does, and the way out of it.
+-- What the prologue of a function does, and its epilogue.
 use Rattle.sc_pieces.specs.Common.{ImageParts, Instr, Memory, Registers, Traps, Walks, World, address_scratch, at}
 use Rattle.sc_pieces.specs.Common.{frame_taken, moved_by, put_word, ra, sp, step, word}
 use Rattle.std.specs.Prelude.{◌≡◌, ℕ, ◌+◌, ◌<◌, List, [], ◌∷◌, length, pos}
@@ -7,7 +7,7 @@ use Rattle.rv_code.specs.declared.instr.LoadOp.TheVariants.{Lw}
 use Rattle.sc_base.specs.declared.stop.TrapReason.TheVariants.{Owner}
 use Rattle.sc_pieces.specs.Pieces.{Besides, Does}
 
--- the way out but for the jump that ends it
+-- the epilogue but for the jump that ends it
 abbrev pub frame_raised : ℕ → List Instr
 frame_raised bytes = Load Lw ra sp (pos 0) ∷ moved_by sp sp bytes
 

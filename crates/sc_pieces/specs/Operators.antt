@@ -15,7 +15,7 @@ unary_word unsigned unary.Plus a = a
 unary_word unsigned unary.Not a = truth (a == 0)
 unary_word unsigned unary.BitNot a = 2 ^ 32 - 1 - a
 
--- an address so many elements further, or back
+-- an address `b` elements further, or back
 abbrev pub stepped_word : (minus : Bool) → (cells a b : ℕ) → ℕ
 stepped_word true cells a b = sub_word a (mul_word b (bytes_of cells))
 stepped_word false cells a b = add_word a (mul_word b (bytes_of cells))

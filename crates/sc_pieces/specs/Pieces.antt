@@ -19,7 +19,7 @@ pub record IsFromSp (image : ImageParts) (world : World) (regs : Registers) (off
   pub owned : Owned image world.active a
 
 module _ (image : ImageParts) (inputs : List ℕ) (world : World) where
-  -- code leads from registers and a memory to those behind it
+  -- code leads from registers and a memory to those after it
   pub record Does (code : List Instr) (regs : Registers) (memory : Memory) (after : Registers) (left : Memory) :
       Type 0 where
     pub walks : (pc : ℕ) → CodeAt image world.active pc code →

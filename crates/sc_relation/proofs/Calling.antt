@@ -84,7 +84,7 @@ module _ (T : Setting) (formed : IsWellFormed T.image) (inputs : All IsWord T.in
       };
     }
 
-    -- what the code of the way in has done, in so many steps
+    -- what the code of the prologue has done, in `n` steps
     pub record Enters (n pc : ℕ) (regs : Registers) (bytes : Bytes) : Type 0 where
       pub walks : Walks T.image T.inputs n (machine P x)
           (machine (seen_from A) (entered P x f args frame low pc regs bytes))
@@ -173,7 +173,7 @@ module _ (T : Setting) (formed : IsWellFormed T.image) (inputs : All IsWord T.in
         sp = enters.sp;
       }
 
-      -- What was protected from the call is protected from its code, and was left alone so far.
+      -- What was protected from the call is protected from its code, and was left unchanged so far.
 
       protected_entered : (k q : ℕ) → Protected T P x.inj x.meant.memory k q →
           Protected T (seen_from A) y.inj y.meant.memory k q

@@ -1,4 +1,4 @@
--- A run that came to a state comes to where so many steps lead from it.
+-- A run that came to a state comes to where `n` steps lead from it.
 use Rattle.sc_relation.proofs.Common.{Came, Setting, Walks, ℕ, ◌+◌}
 use Rattle.sc_image.specs.Prelude.{State}
 use Rattle.sc_image.proofs.Running.{walk_together}

@@ -1,4 +1,4 @@
--- A call ends: its blocks no longer live, and the room of its frame is free again.
+-- A call ends: its blocks no longer live, and the stack depth is less by its frame size.
 use Rattle.sc_relation.proofs.Common.{AllBefore, Block, Blocks, Bool, Cell, Closed, FrameChange, Function, List, LiveAt}
 use Rattle.sc_relation.proofs.Common.{Opened, Option, Some, State as Meant, Value, [], ap, arith, begun, cases_eq, done}
 use Rattle.sc_relation.proofs.Common.{ended, eq-eqb, false, if◌then◌else◌, inl, inr, length, ne_eqb, open_room, refl}

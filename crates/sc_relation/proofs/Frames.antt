@@ -56,7 +56,7 @@ module _ (cells : List ℕ) (places : List Place) (nodes : ℕ) (frame : FrameTr
       (λ w. ⊎_elim (λ l. in_order i j o u l e f)
       (λ l. ⊎_elim (λ x. inr x) (λ x. inl x) (in_order j i u o l f e)) w) (cases_order i j)
 
-  -- Objects of so many cells each.
+  -- Objects of these sizes in cells.
 
   abbrev behind : ℕ
   behind = length (map word_at (own_words frame))

@@ -16,11 +16,11 @@ module _ (T : Setting) (formed : IsWellFormed T.image) (inputs : All IsWord T.in
   abbrev first : ℕ
   first = length (x.meant.memory P.comp)
 
-  -- what is told of a call once its body has given its value
+  -- a call from the piece of its body on: its variables and its frame end where that has given a value
   abbrev pub with_end : Piece (Option Value) → Piece (Option Value)
   with_end piece = and_then piece (λ v t. Reached v (done P.comp f first t))
 
-  -- There is no room for the frame: the machine stands trapped in the way in.
+  -- The frame doesn't fit: the machine stands trapped in the prologue.
   pub overflows_entering : (frame : FrameTree) (steps budget : ℕ) (stands : State) (piece : Piece (Option Value)) →
       frame.bytes ≤ f.room → P.bound < data_start P.comp + frame.bytes →
       Walks T.image T.inputs steps (machine P x) stands → step T.image T.inputs stands ≡ Traps Owner →

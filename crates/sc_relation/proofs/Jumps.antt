@@ -8,7 +8,7 @@ use Rattle.sc_relation.proofs.Coming.{came_by}
 use Rattle.sc_tac.specs.declared.stmt.TacStmt.TheOpen as tac
 use Rattle.sc_relation.proofs.Stretches.{effect_still, arrives_with}
 
--- minus so many bytes, as a word
+-- minus `n` bytes, as a word
 neg_word : (n : ℕ) → 0 < n → n < 2 ^ 32 → word_of (neg_ℤ (pos n)) ≡ 2 ^ 32 - n
 neg_word zero h k = absurd (omega (arith, h))
 neg_word (suc n) h k = omega (arith, k)
@@ -80,7 +80,7 @@ module _ (T : Setting) (R : Running) (formed : IsWellFormed T.image) (words : Al
       sp = ready.sp;
     }
 
-    -- a jump over so many lines arrives behind them
+    -- a jump over `lines` lines arrives after them
     pub over : (live : Set) (temps : Temps) (x : Joint) (lines left : ℕ) → Ready T R live temps x →
         Fetches T.image comp x.pc (Jal 0 (pos (4 * suc lines))) → x.pc + 4 * suc lines ≤ R.last →
         Arrives T R live x (suc left) left temps x.meant (x.pc + 4 * suc lines)

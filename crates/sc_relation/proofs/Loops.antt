@@ -94,7 +94,7 @@ module _ (T : Setting) (R : Running) (formed : IsWellFormed T.image) (words : Al
       abbrev head_left : ℕ
       head_left = b.size + (1 + (n.size + left))
 
-      -- a round behind the head; the jump back is left behind it
+      -- a round after the head; the jump back is left after it
       abbrev round : Round T R b n ends
       round = record {
         body_pc = body_pc L;
@@ -188,7 +188,7 @@ module _ (T : Setting) (R : Running) (formed : IsWellFormed T.image) (words : Al
               l.carried s ends.behind ends.behind (omega arith) (omega arith) refl g))
           by (Return v) g = then_on (Reached (record { exit = Return v; carried = l.carried }) s) (inl g)
 
-      -- so many rounds
+      -- `k` rounds
       rounds_follow : (k : ℕ) → Rounds k
       rounds_follow zero temps x budget ready leads one = inl (shows_here T P x budget)
       rounds_follow (suc k) temps x budget ready leads one =

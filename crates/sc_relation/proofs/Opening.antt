@@ -23,7 +23,7 @@ other_range image k c q low bytes formed n o start high =
     (λ w. ⊎_elim (λ below. inl (omega (arith, few, o.high, below, start)))
     (λ above. inr (omega (arith, o.low, above, high))) w) (cases_order k c)
 
--- a new block: with an argument in its one cell, or with nothing in so many
+-- a new block: with an argument in its one cell, or with nothing in `size` cells
 pub record New (cells : List ℕ) (args : List Value) (o : ℕ) (block : Block) : Type 0 where
   pub size : ℕ
   pub its : slice_get cells o ≡ Some size

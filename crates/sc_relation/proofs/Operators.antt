@@ -85,7 +85,7 @@ module _ (image : ImageParts) (formed : IsWellFormed image) (performs : ℕ → 
     (honest : performs comp ≡ false) (known : comp < 32) where
   -- where a place is
 
-  -- a place in a block that lives, or just behind its last cell
+  -- a place in a block that lives, or one past its last cell
   pub place_address : (b x i : ℕ) (cells : List Cell) → LiveAt memory comp b cells → inj comp b ≡ Some x →
       i ≤ length cells → IsAddress (x + 4 * i)
   place_address b x i cells live lies inside =

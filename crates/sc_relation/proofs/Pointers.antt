@@ -32,7 +32,7 @@ lives_at blocks b cells (Some block) is h = lives_by blocks b cells block is blo
 pub cells_live : (blocks : Blocks) (b : ℕ) (cells : List Cell) → cells_at blocks b ≡ Ok cells → LivesIn blocks b cells
 cells_live blocks b cells h = lives_at blocks b cells (slice_get blocks b) refl h
 
--- a place so many cells further, in a block that lives
+-- a place `by` cells further, in a block that lives
 pub record Moves (blocks : Blocks) (by : ℤ) (v r : Value) : Type 0 where
   pub from : Pointer
   pub index : ℕ

@@ -40,7 +40,7 @@ module _ (T : Setting) (R : Running) where
       HeadGives lives x budget ends piece ⊎ Overflows T (seen_from R.activation) x budget piece
 
   -- A head that ends with its test: the code of what stands before it, then the test, which leads back to the body over
-  -- so many lines of the body and of what follows it.
+  -- `body_lines` lines of the body and of what follows it.
   module _ (cond : ℕ) (head : Codes) (i : Code) (hs : List Trail) (body_lines : ℕ) where
     abbrev test_size : ℕ
     test_size = suc (length (take R.activation.frame R.places first_scratch cond))
@@ -140,7 +140,7 @@ module _ (T : Setting) (R : Running) (formed : IsWellFormed T.image) (words : Al
       abbrev budget : ℕ
       budget = i.size + (test + left)
 
-      -- a round behind the head; behind it the head follows
+      -- a round after the head; after it the head follows
       abbrev round : Round T R b n ends
       round = record {
         body_pc = L + 4;
@@ -185,7 +185,7 @@ module _ (T : Setting) (R : Running) (formed : IsWellFormed T.image) (words : Al
           by Break g = inl g
           by (Return v) g = inl g
 
-      -- so many rounds
+      -- `k` rounds
       rounds_follow : (k : ℕ) → Rounds k
       rounds_follow zero temps x ready place = inl (shows_here T P x budget)
       rounds_follow (suc k) temps x ready place =

@@ -1,4 +1,4 @@
--- A round of a loop behind its head: the turn, the body, and what comes next.
+-- A round of a loop after its head: the turn, the body, and what comes next.
 use Rattle.sc_relation.proofs.Common.{All, All-tail, Arrives, Bool, Break, Codes, Comes, Continue, Does, Ends, Exit}
 use Rattle.sc_relation.proofs.Common.{ExitGives, Follows, Gives, Goes, IsClear, Joint, Leads, Left, List, Lives, Next}
 use Rattle.sc_relation.proofs.Common.{Overflows, Piece, Place, Point, Reached, Ready, Return, Running, Set, Setting}
@@ -30,7 +30,7 @@ head_live hs bs ns lives t h = twice_by round (round false) refl h
         (row_first (readings t ns) (part_ahead (ahead_at lives t) x)))))
 
 module _ {A : Type 0} (head body next : Does A) where
-  -- the meaning's rest of a round: what comes next, and all behind the head
+  -- the meaning's rest of a round: what comes next, and all after the head
   abbrev rest : ℕ → Does A
   rest k a s = follow in_loop (next a s) (rounds k head body next)
 
@@ -68,9 +68,9 @@ module _ (T : Setting) (R : Running) where
     sp = ready.sp;
   }
 
-  -- the code of a round behind its head, in a loop with these ends: the body, and behind it what comes next, from each
-  -- of which a break leads over so many lines; and the budget that is left where the turn is taken, and behind what
-  -- comes next
+  -- the code of a round after its head, in a loop with these ends: the body, and after it what comes next, from which a
+  -- break leads over `body_break` and `next_break` lines; and the budget that is left where the turn is taken, and
+  -- after what comes next
   pub record Round (b n : Code) (ends : Ends) : Type 0 where
     pub body_pc : ℕ
     pub body_break : ℕ
@@ -161,7 +161,7 @@ module _ (T : Setting) (R : Running) (head body next : Codes) (b n : Code) (hs b
       abbrev body_budget : ℕ
       body_budget = b.size + next_budget
 
-      -- what comes of one more round, as it is known of fewer, where the code has come behind what comes next
+      -- what comes of `k` more rounds, where the code has come past what comes next
       abbrev pub Again : ℕ → Type 0
       Again k = (temps : Temps) (x : Joint) → Ready T R begin temps x → x.pc ≡ next_pc + 4 * n.size →
           Goal x round.round_left (rounds k head body next temps x.meant)

@@ -28,7 +28,7 @@ module _ (T : Setting) (R : Running) where
     });
   }
 
-  -- a statement, and those behind it
+  -- a statement, and those after it
   module _ (one rest : Codes) (first second : Code) (trail : Trail) (trails : List Trail)
       (F : Follows T R one first trail) (S : Follows T R rest second (row trails)) where
     abbrev whole : Code

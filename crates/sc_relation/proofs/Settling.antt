@@ -1,5 +1,5 @@
 -- Both sides stay settled while code of the running call changes registers and words of its frame, and across a store
--- through a pointer; and what such a stretch leaves alone.
+-- through a pointer; and what such a stretch leaves unchanged.
 use Rattle.sc_relation.proofs.Common.{Activation, All, Apart, Blocks, FrameMatches, IsActivation, IsWellFormed, IsWord}
 use Rattle.sc_relation.proofs.Common.{Joint, Leads, List, Memory as Bytes, Ok, Place, Pointer, Protected, Ptr}
 use Rattle.sc_relation.proofs.Common.{Registers, Setting, Settled, Some, Standpoint, StandsFor, Value, Walks, arith}
@@ -34,7 +34,7 @@ module _ (T : Setting) (formed : IsWellFormed T.image) (inputs : All IsWord T.in
     told = s.told;
   }
 
-  -- a stretch that leaves protected words alone
+  -- a stretch that leaves protected words unchanged
   pub leads_moved : (x : Joint) (n left pc : ℕ) (regs : Registers) (later : Bytes) →
       ((k q : ℕ) → Protected T P x.inj x.meant.memory k q → word later q ≡ word x.bytes q) →
       Walks T.image T.inputs n (machine P x) (machine P (moved x pc regs later)) →

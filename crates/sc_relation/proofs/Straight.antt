@@ -29,7 +29,7 @@ module _ (reads : List ℕ) (assigned : Option ℕ) (lives : Lives) where
   abbrev pub live_plain : Set
   live_plain t = (plain t reads assigned).first (ahead_at lives t)
 
-  -- what is live behind it and isn't assigned
+  -- what is live after it and isn't assigned
   pub across_live : (t : ℕ) → live_across reads false assigned lives t ≡ true → live_plain t ≡ true
   across_live t is = or_right (is_one t reads) _ is
 
@@ -357,7 +357,7 @@ module _ (T : Setting) (R : Running) where
       sp = same ∙ ready.sp;
     }
 
-    -- behind the call of a statement that calls: what isn't assigned by it is as it was
+    -- after the call of a statement that calls: what isn't assigned by it is as it was
     pub called : (reads : List ℕ) (dest : Option ℕ) (lives : Lives) (temps : Temps) →
         Ready T R (live_plain reads dest lives) temps x →
         All (IsClear R.places) (plain_points reads true dest lives) → Settled T call_from y →
@@ -368,7 +368,7 @@ module _ (T : Setting) (R : Running) where
         temps ready (all_at (IsClear R.places) (plain_points reads true dest lives) 1 _ clear refl) refl
         (across_live reads dest lives) settled same
 
-    -- behind a call of the environment that leaves registers with no other use as they were, all is as it was
+    -- after an environment call that leaves registers with no other use as they were, all is as it was
     pub asked : (live : Set) (temps : Temps) → Ready T R live temps x → Settled T call_from y →
         y.regs sp ≡ x.regs sp → ((q : ℕ) → HasNoOtherUse q → y.regs q ≡ x.regs q) → Ready T R live temps y
     asked live temps ready settled same others = record {

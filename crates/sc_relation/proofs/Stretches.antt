@@ -117,7 +117,7 @@ module _ (T : Setting) (P : Standpoint) where
     costs = costs_none budget 0 x.meant (omega arith);
   }
 
-  -- an overflow behind a stretch, and one that something comes behind
+  -- an overflow after a stretch, and one that something comes after
   pub overflows_after : {V : Type 0} (x y : Joint) (a b : ℕ) (piece : Piece V) → Leads T P x y a b →
       Overflows T P y b piece → Overflows T P x a piece
   overflows_after x y a b piece l o = record {
@@ -199,7 +199,7 @@ module _ (T : Setting) (R : Running) where
       exit_after lives x y a b ends l.exit l.carried s settled leads g
   gives_after lives x y a b ends (Stopped end s) settled leads g = shows_after T P x y a b s leads g
 
-  -- a stretch, and what comes behind it
+  -- a stretch, and what comes after it
   pub comes_after : (lives : Lives) (x y : Joint) (a b : ℕ) (ends : Ends) (piece : Piece (Left Temps)) →
       Settled T P x → Leads T P x y a b → Comes T R lives y b ends piece → Comes T R lives x a ends piece
   comes_after lives x y a b ends piece settled leads g =

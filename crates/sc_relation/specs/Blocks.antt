@@ -38,11 +38,11 @@ InCell place w (cell.Ptr p) = StandsFor place w (Ptr p)
 abbrev pub LiveAt : Memory → (k b : ℕ) → List Cell → Type 0
 LiveAt memory k b cells = slice_get (memory k) b ≡ Some (record { live = true; cells = cells })
 
--- so many words from a on don't meet the word at p
+-- `words` words from a on don't meet the word at p
 abbrev pub Beside : (a words p : ℕ) → Type 0
 Beside a words p = (p + 4 ≤ a) ⊎ (a + 4 * words ≤ p)
 
--- so many words from a on lie in k's data, from its floor on
+-- `words` words from a on lie in k's data, from its floor on
 pub record Placed (image : ImageParts) (floor k a words : ℕ) : Type 0 where
   pub aligned : a % 4 ≡ 0
   pub above : floor ≤ a

@@ -52,7 +52,7 @@ module _ (T : Setting) where
   CallGives P x target (Reached v s) = ComesBack P x target v s
   CallGives P x target (Stopped end s) = Shows T P x 1 s
 
-  -- the instruction of a call of each kind, at the pc; behind that of an own function there is code, to come back to
+  -- the instruction of a call of each kind, at the pc; after that of an own function there is code, to come back to
   abbrev pub CallStands : Standpoint → Joint → CallTarget → Type 0
   CallStands P x (Own number) =
       (imm : ℤ) × Fetches T.image P.comp x.pc (Jal ra imm) ×
@@ -102,7 +102,7 @@ module _ (T : Setting) where
   FunctionGives P x budget ra_is (Reached v s) = IsLeft P x budget ra_is v s
   FunctionGives P x budget ra_is (Stopped end s) = Shows T P x budget s
 
-  -- what a call of it does once it was told: its variables and frame begin, it runs, and they end
+  -- what a call of it does after its event, if it has one: its variables and frame begin, it runs, and they end
   abbrev pub runs_with : Calls → ℕ → Function → List Value → Meant → Piece (Option Value)
   runs_with calls comp f args s =
       and_then (f.does calls (record { comp = comp; first = length (s.memory comp) }) (begun comp f args s))

@@ -19,7 +19,7 @@ row trails = record {
 abbrev pub live_at : Trail → Lives → Set
 live_at trail lives t = (trail.reading t).first (ahead_at lives t)
 
--- code of the running call leaves alone what lies above its frame
+-- code of the running call leaves unchanged what lies above its frame
 abbrev pub seen_from : Activation → Standpoint
 seen_from A = record { comp = A.here.comp; cross = A.cross; bound = A.sp + A.frame.bytes; floor = A.floor }
 
@@ -42,7 +42,7 @@ pub record Ends : Type 0 where
   pub broken : ℕ
   pub continued : ℕ
 
--- of a piece at pc whose break and continue lie so far behind it
+-- of a piece at pc from whose end a break leads over `to_break` lines, and a continue over `to_continue`
 abbrev pub ends_of : Code → (pc left to_break to_continue : ℕ) → Ends
 ends_of code pc left to_break to_continue = record {
   left = left;
@@ -78,7 +78,7 @@ module _ (T : Setting) (R : Running) where
     pub leads : Leads T (seen_from R.activation) x y budget 1
     pub settled : Settled T (seen_from R.activation) y
 
-  -- what comes of code: behind it, where a break leads, where a continue leads, or at the jump back
+  -- what comes of code: after it, where a break leads, where a continue leads, or at the jump back
   abbrev pub ExitGives : Lives → Joint → (budget : ℕ) → Ends → Exit → Temps → Meant → Type 0
   ExitGives lives x budget ends Next temps s = Arrives lives.behind x budget ends.left temps s ends.behind
   ExitGives lives x budget ends Break temps s = Arrives lives.broken x budget ends.left temps s ends.broken
@@ -99,7 +99,7 @@ module _ (T : Setting) (R : Running) where
       let comp = R.activation.here.comp in
       CodeAt T.image comp pc (completed (T.addresses comp) pc None (code.lines to_break to_continue))
 
-  -- what is the case where a piece starts whose break and continue lie so far behind it
+  -- at the start of a piece from whose end a break leads over `to_break` lines, and a continue over `to_continue`
   pub record Starts (code : Code) (trail : Trail) (lives : Lives) (temps : Temps) (x : Joint) (to_break to_continue :
       ℕ) :
       Type 0 where

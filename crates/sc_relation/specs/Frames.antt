@@ -26,7 +26,7 @@ pub record AreFloors (performs : ℕ → Bool) (floor : ℕ → ℕ) : Type 0 wh
 abbrev pub own_words : FrameTree → List ℕ
 own_words frame = 0 ∷ frame.slots
 
--- a frame that has room for its function's variables and slots, in the stack of a compartment that runs its code
+-- a frame that its function's variables and slots fit into, in the stack of a compartment that runs its code
 pub record IsActivation (performs : ℕ → Bool) (cells : List ℕ) (places : List Place) (nodes : ℕ) (A : Activation) :
     Type 0 where
   pub honest : performs A.here.comp ≡ false

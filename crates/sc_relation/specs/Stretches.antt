@@ -11,7 +11,7 @@ use Rattle.sc_relation.specs.Blocks.{Injection, StandsFor, LiveAt, BlocksMatch, 
 
 -- what stays for a whole run: the image, the inputs and the state that it began in, the compartments that perform in
 -- place of running their code, how many steps a turn pays for, where what code refers to lies, how many globals each
--- compartment has, which calls its code makes with so many arguments, and which of them come back with a value
+-- compartment has, which calls its code makes with `args` arguments, and which of them come back with a value
 pub record Setting : Type 0 where
   pub image : ImageParts
   pub inputs : List ℕ
@@ -62,7 +62,7 @@ module _ (T : Setting) where
     pub inputs : x.meant.inputs ≡ drop x.input T.inputs
     pub steady : IsSteady T.image (machine P x)
     pub came : Came (machine P x)
-    -- what is open of a stack is no more than the room of the frames that the meaning has open
+    -- what is in use of a stack is no more than its stack depth in the meaning
     pub room : (k : ℕ) → T.performs k ≡ false → stack_top k ≤ P.floor k + open_room k x.meant
     -- each change of frames was made within the trace
     pub told : AllBefore (suc (length x.meant.trace)) x.meant.frames
@@ -74,10 +74,10 @@ module _ (T : Setting) where
     pub own : k ≡ P.comp → P.bound ≤ q
     pub other : k ≢ P.comp → P.floor k ≤ q
 
-  -- what a stretch leaves alone
+  -- what a stretch leaves unchanged
   pub record Effect (P : Standpoint) (x y : Joint) : Type 0 where
     pub grows : (k b a : ℕ) → x.inj k b ≡ Some a → y.inj k b ≡ Some a
-    -- what lives behind it lived before, with as many cells
+    -- what lives after it lived before, with as many cells
     pub lived : (k b : ℕ) (cells : List Cell) → T.performs k ≡ false → LiveAt y.meant.memory k b cells →
         (old : List Cell) × LiveAt x.meant.memory k b old × (length cells ≡ length old)
     pub keeps : (k q : ℕ) → Protected P x.inj x.meant.memory k q → word y.bytes q ≡ word x.bytes q
@@ -87,8 +87,8 @@ module _ (T : Setting) where
   abbrev pub AllHonest : Type 0
   AllHonest = (k : ℕ) → k < length T.image.comps → T.performs k ≡ false
 
-  -- so many steps lead on both sides from x, with a budget of so many steps, to where this much of it and so many turns
-  -- are left: a turn pays for steps
+  -- `steps` steps lead on both sides from x to y: no more turns are taken than these steps, and `left` steps are left
+  -- of a budget of `budget`, to which each turn that is taken adds what it pays for
   pub record Costs (steps budget left : ℕ) (x y : Meant) : Type 0 where
     pub least : x.turns ≤ y.turns + steps
     pub most : AllHonest → steps + left + T.turn_pays * y.turns ≤ budget + T.turn_pays * x.turns
@@ -99,7 +99,7 @@ module _ (T : Setting) where
     pub costs : Costs steps budget left x.meant y.meant
     pub effect : Effect P x y
 
-  -- the meaning ends: the machine has shown its events
+  -- the meaning ends: the machine has emitted its events
   pub record Shows (P : Standpoint) (x : Joint) (budget : ℕ) (meant : Meant) : Type 0 where
     pub steps : ℕ
     pub reached : State
@@ -122,7 +122,7 @@ module _ (T : Setting) where
     pub grown : Grown begun (last piece)
     pub costs : Costs steps budget 0 x.meant begun
 
-  -- a value that is given back, in a0
+  -- a value that is returned, in a0
   abbrev pub GivenBack : (ℕ → Option ℕ) → ℕ → Option Value → Type 0
   GivenBack place w None = Unit {0}
   GivenBack place w (Some v) = StandsFor place w v

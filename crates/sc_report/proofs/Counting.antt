@@ -1,4 +1,4 @@
--- Texts that are told number by number.
+-- Texts that are printed number by number.
 use Rattle.sc_report.proofs.Common.{Bool, List, [], ap, append-nil, arith, cond, false, filter, flat_map, flat_map_more}
 use Rattle.sc_report.proofs.Common.{numbers_from, suc, sym, true, zero, ℕ, ◌++◌, ◌+◌, ◌∙◌, ◌∷◌, ◌≡◌}
 use Rattle.std.proofs.lemmas.List.Elements.{filter-append}

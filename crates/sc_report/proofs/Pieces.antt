@@ -1,8 +1,8 @@
--- Texts that are told piece by piece.
+-- Texts that are printed piece by piece.
 use Rattle.sc_report.proofs.Common.{Err, List, Ok, OnOk, Result, [], ap, append_assoc, flat_map, flat_map_more, get_or}
 use Rattle.sc_report.proofs.Common.{length, sym, take, take_more, ℕ, ◌++◌, ◌+◌, ◌<◌, ◌∙◌, ◌∷◌, ◌≡◌}
 
--- three pieces, one behind the other
+-- three pieces, one after the other
 pub three_pieces : {E : Type 0} (r : Result (Unit {0}) E) (old o1 o2 o3 a b c : List ℕ) → o1 ≡ old ++ a → o2 ≡ o1 ++ b →
     OnOk r (o3 ≡ o2 ++ c) → OnOk r (o3 ≡ old ++ (a ++ (b ++ c)))
 three_pieces (Ok v) old o1 o2 o3 a b c first second third =

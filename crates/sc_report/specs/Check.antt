@@ -1,4 +1,4 @@
--- The lines that tell the interfaces of a program.
+-- The lines that list the interfaces of a program.
 use Rattle.sc_event.specs.Prelude.{comp_name, export_at, spaced_names}
 use Rattle.std.specs.Prelude.{ℕ, List, ◌++◌, flat_map, map, codes, Option, Some, None}
 use Rattle.std.specs.Option.{option_map_or}

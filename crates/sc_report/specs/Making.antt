@@ -18,11 +18,11 @@ function_with j addend =
     codes "int " ++ (function_name j ++ (codes "(int x) {\n  int i;\n  int s;\n  s = " ++
     (decimal addend ++ rounds_text)))
 
--- the state behind the draws for so many functions
+-- the state after the draws for `j` functions
 abbrev pub state_at : (seed j : ℕ) → ℕ
 state_at seed j = state_after seed (2 * j)
 
--- where the draws for so many functions were made before, this is drawn for the next
+-- where the draws for `j` functions were made before, this is drawn for the next
 pub record IsDrawn (seed j : ℕ) (drawn : Drawn) (after : ℕ) : Type 0 where
   pub argument : drawn.argument ≡ argument seed j
   pub addend : drawn.addend ≡ addend seed j

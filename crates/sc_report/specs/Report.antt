@@ -1,4 +1,4 @@
--- The lines that tell of a run.
+-- The lines that report a run.
 use Rattle.sc_event.specs.Prelude.{comp_name, event_line}
 use Rattle.std.specs.Prelude.{ℕ, List, ◌++◌, length, flat_map, codes, decimal}
 use Rattle.std.specs.Int.{w32, to_be_bytes}

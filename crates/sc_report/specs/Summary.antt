@@ -22,8 +22,8 @@ count_line word number = word ++ number_end number
 abbrev pub trace_lines : List Event → List ℕ
 trace_lines trace = count_line (codes "events") (length trace) ++ count_line (codes "sum") (output_sum trace)
 
--- how many functions and compartments there are, what is shown of them, why the machine stops, and how many sections
--- are replaced
+-- how many functions and compartments there are, how many events are emitted and what the outputs add up to, why the
+-- machine stops, and how many sections are replaced
 abbrev pub summary_text : (size : ℕ) → Interfaces → Explanation → List ℕ
 summary_text size interfaces explanation =
     count_line (codes "functions") size ++ (count_line (codes "compartments") (length interfaces.comps) ++

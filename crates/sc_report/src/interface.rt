@@ -8,8 +8,8 @@ use sc_base::{OutOfMemory, Text};
 use sc_event::{CompId, Import, Interface, Interfaces, Proto, Scalar};
 use std::alloc::Global;
 
-/// The compartments with their exports and imports, and the main compartment. What an import names is told where it is
-/// in the interfaces.
+/// The compartments with their exports and imports, and the main compartment. An imported function is listed where the
+/// interfaces have it.
 pub fn check_text(alloc: Global, interfaces: &Interfaces) -> Result<Text, OutOfMemory>
     ensures { IfOk result (λ text. text ≡ check_text interfaces.now) }
 {

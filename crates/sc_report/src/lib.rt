@@ -1,4 +1,4 @@
-//! The texts that tell interfaces, runs and explanations, and those of made programs: what the commands write.
+//! The texts that list interfaces, report runs and explanations, and those of made programs: what the commands write.
 #![tactic(auto)]
 
 mod chain;

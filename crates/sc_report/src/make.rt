@@ -10,7 +10,7 @@ use itoa::Buffer;
 use sc_base::{OutOfMemory, Text};
 use std::alloc::Global;
 
-/// The text of the program with so many functions, at least one, whose numbers are drawn from the seed.
+/// The text of the program with `size` functions, at least one, whose numbers are drawn from the seed.
 pub fn make_text(alloc: Global, size: u32, seed: u32) -> Result<Text, OutOfMemory>
     requires { 1 ≤ size }
     ensures { IfOk result (λ text. text ≡ made_text size seed) }

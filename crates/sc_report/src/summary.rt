@@ -9,7 +9,7 @@ use sc_chain::Explanation;
 use sc_event::{Event, Interfaces};
 use std::alloc::Global;
 
-/// How many functions and compartments a made program has, how many events the machine shows of it, what its outputs
+/// How many functions and compartments a made program has, how many events the machine emits on it, what its outputs
 /// add up to, why the machine stops, and how many sections the chain replaces.
 pub fn summary_text(
     alloc: Global,

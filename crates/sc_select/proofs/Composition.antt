@@ -112,13 +112,13 @@ module _ (frame : FrameTree) (places : List Place) (plan : Plan) where
   abbrev size : List TacStmt → ℕ
   size stmts = (select_all frame places plan stmts).size
 
-  -- a statement alone
+  -- a single statement
   pub alone : (b c : ℕ) (stmt : TacStmt) → size (stmt ∷ []) ≡ (select frame places plan stmt).size + 0
   alone b c stmt =
       ap (λ (behind : Bool). (if behind then nothing else select frame places plan stmt).size + 0)
       (none_behind (select frame places plan stmt).role)
 
-  -- how many lines statements have put in front
+  -- how many lines statements have prepended
   pub counted : (stmts : List TacStmt) (b c : ℕ) (new old : List Line) (n m : ℕ) → n ≡ length new → m ≡ length old →
       new ≡ (select_all frame places plan stmts).lines b c ++ old → n ≡ size stmts + m
   counted stmts b c new old n m hn hm h =
@@ -186,7 +186,7 @@ module _ (frame : FrameTree) (places : List Place) (plan : Plan) where
       let whole : n ≡ size stmts + m = counted stmts b c new old n m hn hm h in
       omega (arith, whole)
 
-  -- the second part is written, and so many lines were there before
+  -- the second part is written, and `end` lines were there before
   module _ (cond : ℕ) (first second : List TacStmt) (b c : ℕ)
       (fits : Fits frame places plan (emit.If cond first second ∷ []) b c) (old l1 : List Line) (end n1 : ℕ)
       (n1_is : n1 ≡ length l1) (end_is : end ≡ length old) (h1 : l1 ≡ (select_all frame places plan second).lines b c
@@ -315,7 +315,7 @@ module _ (frame : FrameTree) (places : List Place) (plan : Plan) where
       continues = omega (arith, fits.reaches);
     }
 
-  -- how far it is to the end of the loop, before each of its parts is written and behind the last
+  -- how far it is to the end of the loop, before each of its parts is written and after the last
   next_distance : (first : Instr) (old l1 : List Line) (end : ℕ) → l1 ≡ plain first ∷ old → end ≡ length old →
       length l1 - end ≡ 1
   next_distance first old l1 end h1 end_is =
@@ -465,7 +465,7 @@ module _ (frame : FrameTree) (places : List Place) (plan : Plan) where
   turn_from [] (suc i) = omega arith
   turn_from (part ∷ parts) (suc i) = omega (arith, turn_from parts i)
 
-  -- how many lines those have put in front
+  -- how many lines those have prepended
   written_from : (stmts : List TacStmt) (i b c n m : ℕ) (new old : List Line) → n ≡ length new → m ≡ length old →
       new ≡ (from stmts i).lines b c ++ old → n - m ≡ (from stmts i).size
   written_from stmts i b c n m new old hn hm h =
@@ -473,7 +473,7 @@ module _ (frame : FrameTree) (places : List Place) (plan : Plan) where
       let whole : length new ≡ length (lines ++ old) = ap length h in
       omega (arith, hn, hm, whole, length-append lines old, (row_from_sized frame places plan stmts i).sized b c)
 
-  -- one of them, and those behind it
+  -- one of them, and those after it
   abbrev one : List TacStmt → ℕ → TacStmt → Piece
   one stmts i stmt =
       between frame places (role_before (map (select frame places plan) stmts) i) (select frame places plan stmt)

@@ -44,7 +44,7 @@ role_alone (Applies temp left o word) own h = refl
 role_alone (Returns temp) own h = refl
 role_alone Other own h = refl
 
--- what it is depends on the one before it alone
+-- what it is depends only on the one before it
 role_twice : (first second third : Role) →
     role_behind (role_behind first second) third ≡ role_behind second third
 role_twice (Sets temp word) (Operates other left o) third = by (temp == other && is_some (short_form o word))
@@ -96,7 +96,7 @@ pub record IsShort (first second : Role) : Type 0 where
   pub form_is : short_form op word ≡ Some form
   pub behind : role_behind first second ≡ Applies temp left op word
 
--- two that give back what the first computes
+-- two that return what the first computes
 pub record IsReturned (first second : Role) : Type 0 where
   pub temp : ℕ
   pub left : ℕ
@@ -234,7 +234,7 @@ past_few zero = omega arith
 past_few (suc n) = omega arith
 
 module _ (frame : FrameTree) (places : List Place) where
-  -- what holds of the branch, of a jump over lines, and of pieces one behind the other holds of a choice
+  -- what holds of the branch, of a jump over lines, and of pieces one after the other holds of a choice
   pub fork_keeps : (P : Piece → Type 0) → P nothing → ((lines : ℕ) → P (straight (jump_over lines ∷ []))) →
       ((e f : Piece) → P e → P f → P (followed e f)) →
       ((piece : Piece) (kind : Kind) → P piece → P (record piece { kind = kind })) →
@@ -742,7 +742,7 @@ module _ (frame : FrameTree) (places : List Place) (plan : Plan) where
   joined_at before (first ∷ pieces) (suc i) piece h is =
       joined_at (role_behind before first.role) pieces i piece (omega (arith, h)) is
 
-  -- the last two pieces alone decide
+  -- only the last two pieces decide
   role_of_two : (before : Role) (pieces : List Piece) (at : ℕ) → suc at < length pieces →
       role_in before pieces (suc (suc at)) ≡
       role_behind (role_first (drop at pieces)) (role_first (drop (suc at) pieces))

@@ -78,7 +78,7 @@ left is js ts us i t h hi ht =
     let other : length ts ≡ length (us ++ t ∷ []) = ap length ht in
     omega (arith, h, whole, other, length-append js (i ∷ []), length-append us (t ∷ []))
 
--- the line in front is the last of what is kept
+-- the first line is the last of what is kept
 pub first_taken : (is js : List Instr) (ts us : List (Option Target)) (i : Instr) (t : Option Target) →
     length is ≡ length ts → is ≡ js ++ i ∷ [] → ts ≡ us ++ t ∷ [] →
     reverse (lines_of is ts) ≡ record { instr = i; target = t } ∷ reverse (lines_of js us)

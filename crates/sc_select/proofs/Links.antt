@@ -28,7 +28,7 @@ abbrev first_of : List Line → Option Instr
 first_of [] = None
 first_of (line ∷ lines) = Some line.instr
 
--- the linker can complete an instruction with the one behind it
+-- the linker can complete an instruction with the one after it
 abbrev completes : Option Target → Instr → Option Instr → Bool
 completes None instr next = true
 completes (Some (Function number)) instr next = is_jal (Some instr)
@@ -41,7 +41,7 @@ abbrev all_complete : List Line → Bool
 all_complete [] = true
 all_complete (line ∷ lines) = completes line.target line.instr (first_of lines) && all_complete lines
 
--- what stands behind lines that are complete changes nothing
+-- what follows lines that are complete changes nothing
 completes_before : (target : Option Target) (instr : Instr) (lines more : List Line) →
     completes target instr (first_of lines) ≡ true → completes target instr (first_of (lines ++ more)) ≡ true
 completes_before target instr (line ∷ lines) more h = h

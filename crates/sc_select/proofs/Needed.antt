@@ -1,4 +1,4 @@
--- What statements need, mark by mark; and that it names temporaries of their function alone.
+-- What statements need, mark by mark; and that it names only temporaries of their function.
 use Rattle.sc_select.proofs.Common.{Bool, Each, Inside, IsFunction, List, Marked, Need, None, Option, Some, TacFnTree}
 use Rattle.sc_select.proofs.Common.{TacStmt, TacStmt-F, [], add-one, all_true, and_first, and_rest, ap, arith, drop}
 use Rattle.sc_select.proofs.Common.{drop-cons, everywhere, false, fold-TacStmt, fold-roll-TacStmt, get_or, has_mark}

@@ -18,7 +18,7 @@ four_parts ws xs ys zs rest =
     append_assoc ws (xs ++ (ys ++ zs)) rest ∙ ap (λ t. ws ++ t) (append_assoc xs (ys ++ zs) rest ∙
     ap (λ t. xs ++ t) (append_assoc ys zs rest))
 
--- THE FRONT OF A HEAD
+-- THE PREFIX OF A HEAD
 few_in_front : (stmts : List TacStmt) (n : ℕ) → everywhere passes_few stmts ≡ true →
     everywhere passes_few (take_front n stmts) ≡ true
 few_in_front stmts zero h = refl

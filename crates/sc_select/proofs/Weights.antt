@@ -494,7 +494,7 @@ module _ (frame : FrameTree) (places : List Place) (plan : Plan) where
           straightly_few _ 9 (short_return_few pair.left form) in
           omega (arith, heavy, code, few)
 
-  -- a statement that is one with the one behind it has no code, so that what that one takes of its weight is left
+  -- a statement that is one with the one after it has no code, so that what that one takes of its weight is left
   between_few : (before : Role) (stmt : TacStmt) (behind : Role) →
       (select frame places plan stmt).size ≤ stmt_weight stmt →
       (between frame places before (select frame places plan stmt) behind).size +

@@ -23,7 +23,7 @@ pub record FitsBetween (frame : FrameTree) (places : List Place) (plan : Plan) (
   pub continues :
       (between frame places before (select frame places plan stmt) behind).size + to_continue < most_lines
 
--- Helping: the parts of a loop, which has so many lines besides
+-- Helping: the parts of a loop, which has `more` lines besides
 pub record FitsLoop (frame : FrameTree) (places : List Place) (plan : Plan) (head body next : List TacStmt) (more : ℕ)
     : Type 0 where
   pub few_in_head : IsTrue (everywhere passes_few head)

@@ -12,7 +12,7 @@ pub record Addresses : Type 0 where
   pub entry : (comp index : ℕ) → ℕ
   pub global : (number : ℕ) → ℕ
 
--- the instruction behind a LUI of an address adds its low 12 bits
+-- the instruction after a LUI of an address adds its low 12 bits
 abbrev pub with_low : Option ℕ → Instr → Instr
 with_low (Some address) (OpImm op rd rs1 imm) = OpImm op rd rs1 (lower_part address)
 with_low (Some address) (Jalr rd rs1 imm) = Jalr rd rs1 (lower_part address)
@@ -38,14 +38,14 @@ module _ (addresses : Addresses) where
   completed pc low (line ∷ lines) =
       with_low low (with_target pc line.target line.instr) ∷ completed (pc + 4) (low_behind line.target) lines
 
-  -- what the line behind these adds
+  -- what the line after these adds
   abbrev pub low_after : Option ℕ → List Line → Option ℕ
   low_after low [] = low
   low_after low (line ∷ lines) = low_after (low_behind line.target) lines
 
   -- The same by the relocations of code, whose instructions are counted from a number on.
 
-  -- what the instruction at a number refers to, where it is the next to refer to something; and the relocations behind
+  -- what the instruction at a number refers to, where it is the next to refer to something; and the relocations after
   -- it
   abbrev pub target_at : ℕ → List Relocation → Option Target
   target_at at [] = None

@@ -1,4 +1,4 @@
--- Which temporaries are read in their places. A store behind the statement that gives the place of a variable is one
+-- Which temporaries are read in their places. A store after the statement that gives the place of a variable is one
 -- with it, so that place isn't read; and a temporary that only such stores read needs no word in its place.
 use Rattle.sc_select.specs.Common.{TacStmt, TacStmt-F, fold-TacStmt, is_one, temps_read}
 use Rattle.std.specs.Prelude.{ℕ, Bool, false, ◌==◌, if◌then◌else◌, List, [], ◌∷◌, ◌++◌, map, Option, None, Some}
@@ -22,7 +22,7 @@ place_needed before None = []
 place_needed None (Some place) = place ∷ []
 place_needed (Some temp) (Some place) = if temp == place then [] else place ∷ []
 
--- what statements in order read, behind one that gives a place
+-- what statements in order read, after one that gives a place
 abbrev pub row_needs : (before : Option ℕ) → List Need → List ℕ
 row_needs before [] = []
 row_needs before (need ∷ needs) = place_needed before need.stores ++ (need.reads ++ row_needs need.gives needs)

@@ -21,7 +21,7 @@ abbrev pub by_sign : Bool → (of_signed of_unsigned : OpOp) → OpOp
 by_sign true of_signed of_unsigned = of_unsigned
 by_sign false of_signed of_unsigned = of_signed
 
--- the bytes of so many cells, as a word
+-- the bytes of `cells` cells, as a word
 abbrev pub bytes_of : ℕ → ℕ
 bytes_of cells = 4 * cells % 2 ^ 32
 
@@ -67,12 +67,12 @@ binary_code rd left right unsigned op.Mul = Op Mul rd left right ∷ []
 binary_code rd left right unsigned op.Div = Op (by_sign unsigned Div Divu) rd left right ∷ []
 binary_code rd left right unsigned op.Rem = Op (by_sign unsigned Rem Remu) rd left right ∷ []
 
--- so many elements forth or back
+-- by elements back or forth
 abbrev pub stepped : Bool → OpOp
 stepped true = Sub
 stepped false = Add
 
--- the bytes of so many elements: four for each, where an element is one cell
+-- the bytes of as many elements as a register says: four for each, where an element is one cell
 abbrev pub bytes_ahead : (right cells : ℕ) → List Instr
 bytes_ahead right cells =
     if cells == 1 then Shift Slli second_scratch right 2 ∷ []

@@ -1,5 +1,5 @@
 -- Pieces of machine code: a word loaded into a register, words of the frame near the stack pointer and far from it, the
--- places of temporaries, the way into a function and out of it (RISC-V Unprivileged ISA, RV32I).
+-- places of temporaries, the prologue and the epilogue of a function (RISC-V Unprivileged ISA, RV32I).
 use Rattle.sc_select.specs.Common.{Add, Addi, Instr, Jalr, Load, Lui, Lw, Op, OpImm, Store, Sw, Upper, signed_of}
 use Rattle.sc_select.specs.Common.{sub_word}
 use Rattle.rv_code.specs.Prelude.{signed}
@@ -57,7 +57,7 @@ loading rd word =
     if is_short word then OpImm Addi rd 0 (signed_of word) ∷ []
     else Upper Lui rd (upper_part word) ∷ OpImm Addi rd rd (lower_part word) ∷ []
 
--- a register and so many bytes into another
+-- a register plus `bytes` into another
 abbrev pub moved_by : (rd rs bytes : ℕ) → List Instr
 moved_by rd rs bytes =
     if is_short bytes then OpImm Addi rd rs (signed_of bytes) ∷ []
@@ -79,10 +79,10 @@ store_word rs offset =
     if is_short offset then Store Sw sp rs (signed_of offset) ∷ []
     else far_from_sp offset ++ Store Sw address_scratch rs (lower_part offset) ∷ []
 
--- into a function: the frame is taken, and the return address is stored at the new stack pointer before anything else
+-- the start of a prologue: the frame is taken, and first of all the return address is stored at the new stack pointer
 abbrev pub frame_taken : ℕ → List Instr
 frame_taken bytes = moved_by sp sp (sub_word 0 bytes) ++ Store Sw sp ra (pos 0) ∷ []
 
--- out of it
+-- the epilogue
 abbrev pub frame_left : ℕ → List Instr
 frame_left bytes = Load Lw ra sp (pos 0) ∷ moved_by sp sp bytes ++ Jalr 0 ra (pos 0) ∷ []

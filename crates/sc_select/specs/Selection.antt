@@ -35,16 +35,16 @@ pub record Plan : Type 0 where
 abbrev pub plan_by : List Bool → Bool → Plan
 plan_by marks near = record { needed = has_mark marks; near = near }
 
--- what a statement is to the loop in whose head it stands: behind it the next one is done, if the call goes on; or it
--- is a break; or it breaks where a value is false; or it may break or continue
+-- what a statement is to the loop in whose head it stands: after it the next one is done, if the call goes on; or it is
+-- a break; or it breaks where a value is false; or it may break or continue
 pub data Kind : Type 0 where
   Plain : Kind
   Breaks : Kind
   Tests : (cond : ℕ) → Kind
   Strays : Kind
 
--- how many lines a piece of code has, and which, where so many lie between its end and where a break leads, and a
--- continue; whether one piece may stand for it and its neighbour; and what it is to a loop
+-- how many lines a piece of code has, and which, where `to_break` lines lie between its end and where a break leads,
+-- and `to_continue` for a continue; whether one piece may stand for it and its neighbour; and what it is to a loop
 pub record Piece : Type 0 where
   pub size : ℕ
   pub lines : (to_break to_continue : ℕ) → List Line
@@ -67,14 +67,14 @@ followed first second = record {
   kind = Strays;
 }
 
--- one piece behind the other
+-- one piece after the other
 abbrev pub in_turn : List Piece → Piece
 in_turn [] = nothing
 in_turn (piece ∷ pieces) = followed piece (in_turn pieces)
 
 -- two neighbours that are one piece: the second loads what stands at the place that the first gives, in place of that,
 -- or stores there; or its result takes the place of the constant that the first sets and its operator reads; or it
--- gives back what the first computes
+-- returns what the first computes
 abbrev pub joins : (first second : Role) → Bool
 joins (Places temp object) (Loads other) = temp == other
 joins (Places temp object) (Stores other value) = temp == other
@@ -82,7 +82,7 @@ joins (Sets temp word) (Operates other left o) = temp == other && is_some (short
 joins (Applies temp left o word) (Returns other) = temp == other
 joins _ _ = false
 
--- what a statement is to its neighbour behind, with the one before it
+-- what a statement is to the next one, with the one before it
 abbrev pub role_behind : (before own : Role) → Role
 role_behind (Sets temp word) (Operates other left o) =
     if temp == other && is_some (short_form o word) then Applies other left o word else Operates other left o
@@ -108,7 +108,7 @@ role_before pieces zero = Other
 role_before pieces (suc zero) = role_first pieces
 role_before pieces (suc (suc at)) = role_behind (role_first (drop at pieces)) (role_first (drop (suc at) pieces))
 
--- what a value that is given back is to the statement before it
+-- what a value that is returned is to the statement before it
 abbrev pub role_of_return : Option ℕ → Role
 role_of_return None = Other
 role_of_return (Some temp) = Returns temp
@@ -160,11 +160,11 @@ before_test pieces = take_front (length pieces - 1) pieces
 abbrev pub branch_reach : ℕ
 branch_reach = 1024
 
--- a jump over so many lines
+-- a jump over `lines` lines
 abbrev pub jump_over : ℕ → Line
 jump_over lines = plain (Jal 0 (pos (4 * suc lines)))
 
--- a jump past so many lines, where there are any
+-- a jump past `lines` lines, where there are any
 abbrev pub past : ℕ → List Line
 past zero = []
 past (suc lines) = jump_over (suc lines) ∷ []
@@ -176,7 +176,7 @@ abbrev pub continuing : Piece
 continuing =
     record { size = 1; lines = λ to_break to_continue. jump_over to_continue ∷ []; role = Other; kind = Strays }
 
--- a jump back to where so many lines begin, behind which it stands
+-- a jump back to where the `lines` lines before it begin
 abbrev pub jump_back : ℕ → Line
 jump_back lines = plain (Jal 0 (neg_ℤ (pos (4 * lines))))
 
@@ -304,7 +304,7 @@ module _ (frame : FrameTree) (places : List Place) where
   abbrev pub straightly : List Instr → Piece
   straightly instrs = straight (plainly instrs)
 
-  -- a branch over the instruction behind it, where a value is true
+  -- a branch over the instruction after it, where a value is true
   abbrev pub choice : ℕ → List Instr
   choice cond = take first_scratch cond ++ Branch Bne (operand first_scratch cond) 0 (pos 8) ∷ []
 
@@ -322,7 +322,7 @@ module _ (frame : FrameTree) (places : List Place) where
   abbrev pub skipping : ℕ → Piece → Piece
   skipping cond line = followed (straightly (choice cond)) line
 
-  -- a break leads behind the jump back, a continue to the next part. The jump back leads to the head
+  -- a break leads past the jump back, a continue to the next part. The jump back leads to the head
   abbrev pub cycle : Piece → Piece → Piece → Piece
   cycle head body next = record {
     size = 2 + (head.size + (body.size + next.size));
@@ -333,14 +333,14 @@ module _ (frame : FrameTree) (places : List Place) where
     kind = Plain;
   }
 
-  -- a branch back to where so many lines begin, behind which it stands, where a value is true. Where it doesn't reach,
-  -- a jump stands for it, in code that isn't taken
+  -- a branch back to where the `lines` lines before it begin, where a value is true. Where it doesn't reach, a jump
+  -- stands for it, in code that isn't taken
   abbrev pub branch_back : (cond lines : ℕ) → Line
   branch_back cond lines =
       if nat_lt lines branch_reach
       then plain (Branch Bne (operand first_scratch cond) 0 (neg_ℤ (pos (4 * lines)))) else jump_back lines
 
-  -- the test at the end of a loop, with so many lines before it, all of which a further round repeats
+  -- the test at the end of a loop, with `lines` lines before it, all of which a further round repeats
   abbrev pub testing : (cond lines : ℕ) → List Line
   testing cond lines =
       plainly (take first_scratch cond) ++ branch_back cond (lines + length (take first_scratch cond)) ∷ []
@@ -374,7 +374,7 @@ module _ (frame : FrameTree) (places : List Place) where
   short_operation dest left form =
       take first_scratch left ++ short_code (result_register dest) (operand first_scratch left) form ++ keep dest
 
-  -- it gives back what an operator gives of a temporary and a constant
+  -- it returns what an operator gives of a temporary and a constant
   abbrev pub short_return : (left : ℕ) → Option ShortForm → List Instr
   short_return left form =
       take first_scratch left ++ short_code a0 (operand first_scratch left) form ++ frame_left frame.bytes
@@ -423,7 +423,7 @@ module _ (frame : FrameTree) (places : List Place) where
   store_arguments (suc params) from =
       store_word (a0 + from) (object_offset frame from) ++ store_arguments params (suc from)
 
-  -- the way into a function
+  -- the prologue of a function: its frame is taken, and its arguments go into their variables
   abbrev pub entrance : ℕ → List Instr
   entrance params = frame_taken frame.bytes ++ store_arguments params 0
 

@@ -57,21 +57,21 @@ impl Backward {
         Ok(())
     }
 
-    /// Puts an instruction in front that refers to nothing.
+    /// Prepends an instruction that refers to nothing.
     pub fn plain(&mut self, instr: Instr) -> Result<(), OutOfMemory>
         ensures { OnOk result (self.new ≡ plain instr ∷ self.old) }
     {
         self.prepend(instr, None)
     }
 
-    /// Puts an instruction in front that refers to a target.
+    /// Prepends an instruction that refers to a target.
     pub fn referring(&mut self, target: Target, instr: Instr) -> Result<(), OutOfMemory>
         ensures { OnOk result (self.new ≡ referring target instr ∷ self.old) }
     {
         self.prepend(instr, Some(target))
     }
 
-    /// Takes the line in front away.
+    /// Takes the first line away.
     #[tactic(auto, using(crate::proofs::Lines::first_taken, crate::proofs::Lines::none_left))]
     pub fn first(&mut self) -> Option<(Instr, Option<Target>)>
         ensures { MatchOption result ((self.old ≡ []) × (self.new ≡ [])) (λ line. self.old ≡
@@ -82,7 +82,7 @@ impl Backward {
         Some((instr, target))
     }
 
-    /// Puts another instruction in the place of the one that has so many lines behind it.
+    /// Puts another instruction in the place of the one that has `behind` lines after it.
     #[tactic(auto, using(crate::proofs::Lines::replaced, crate::proofs::Lines::reversed_length))]
     pub fn replace(&mut self, behind: usize, instr: Instr)
         requires { behind < length self.now }

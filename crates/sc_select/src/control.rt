@@ -100,7 +100,7 @@ impl Backward {
         self.statement(homes, distances, stmt)
     }
 
-    // A part of a loop: a break leads to where the loop ends, which has so many lines behind it.
+    // A part of a loop: a break leads to where the loop ends, which has `end` lines after it.
     #[cycle(control)]
     fn part(&mut self, homes: &Homes, end: usize, part: &[TacStmt]) -> Result<(), OutOfMemory>
         requires behind { end ≤ length self.now }
@@ -118,7 +118,7 @@ impl Backward {
         self.in_order(homes, distances, part)
     }
 
-    // A jump past so many lines, where there are any.
+    // A jump past `lines` lines, where there are any.
     fn past(&mut self, lines: usize) -> Result<(), OutOfMemory>
         requires { lines < most_lines }
         ensures { OnOk result (self.new ≡ past lines ++ self.old) }

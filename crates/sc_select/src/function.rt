@@ -29,7 +29,7 @@ impl Backward {
         Ok(())
     }
 
-    // The way into a function.
+    // The prologue of a function.
     fn entrance(&mut self, homes: &Homes, params: u8) -> Result<(), OutOfMemory>
         requires { params ≤ 8 }
         ensures { OnOk result (self.new ≡

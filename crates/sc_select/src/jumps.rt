@@ -12,7 +12,7 @@ use sc_tac::TacStmt;
 /// Fewer lines than a branch can lead back over.
 pub(crate) const BRANCH_REACH: usize = 1024;
 
-// A jump by so many bytes from its own address.
+// A jump by `bytes` bytes from its own address.
 fn jump(bytes: i32) -> Instr
     requires { IsJumpOffset bytes }
     ensures { result ≡ Jal 0 bytes }
@@ -23,7 +23,7 @@ fn jump(bytes: i32) -> Instr
     }
 }
 
-/// A jump over so many lines.
+/// A jump over `lines` lines.
 pub(crate) fn jump_over(lines: usize) -> Instr
     requires { lines < most_lines }
     ensures { plain result ≡ jump_over lines }
@@ -31,7 +31,7 @@ pub(crate) fn jump_over(lines: usize) -> Instr
     jump(4 * (lines as i32 + 1))
 }
 
-/// A jump back to where so many lines begin, behind which it stands.
+/// A jump back to where the `lines` lines before it begin.
 pub(crate) fn jump_back(lines: usize) -> Instr
     requires { lines < most_lines }
     ensures { plain result ≡ jump_back lines }
@@ -39,7 +39,7 @@ pub(crate) fn jump_back(lines: usize) -> Instr
     jump(-4 * lines as i32)
 }
 
-/// Whether a branch leads over the second part of a choice alone: one line, where there is no first part.
+/// Whether a branch leads over only the second part of a choice: one line, where there is no first part.
 pub(crate) fn is_skip(first: &[TacStmt], lines: usize) -> bool
     ensures { result ≡ (length first.now == 0 && lines == 1) }
 {
@@ -54,7 +54,7 @@ pub(crate) fn loop_begins() -> Instr
     addi(zero, zero, immediate(0))
 }
 
-/// The branch back from the test of a loop to where so many lines begin, or a jump where a branch doesn't reach.
+/// The branch back from the test of a loop over the `lines` lines before it, or a jump where a branch doesn't reach.
 pub(crate) fn branch_back(homes: &Homes, cond: u32, lines: usize) -> Instr
     requires { lines < most_lines }
     ensures { plain result ≡ branch_back homes.now.frame.now homes.now.places.now cond lines }

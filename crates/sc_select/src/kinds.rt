@@ -6,7 +6,7 @@ ghost use Rattle.std.specs.Prelude.{◌≡◌, List, map};
 
 use sc_tac::TacStmt;
 
-// Whether the next statement is done behind this one, if the call goes on.
+// Whether the next statement is done after this one, if the call goes on.
 #[cycle(plain)]
 fn is_plain(stmt: &TacStmt) -> bool
     ensures { (frame : FrameTree) (places : List Place) (plan : Plan) → result ≡
@@ -23,7 +23,7 @@ fn is_plain(stmt: &TacStmt) -> bool
     }
 }
 
-// Whether that is so behind each of these.
+// Whether that is so after each of these.
 #[cycle(plain)]
 fn all_plain(stmts: &[TacStmt]) -> bool
     ensures { (frame : FrameTree) (places : List Place) (plan : Plan) → result ≡

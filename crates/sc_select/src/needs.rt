@@ -47,7 +47,7 @@ fn stored(stmt: &TacStmt) -> Option<u32>
 }
 
 impl Needs {
-    // None of so many temporaries.
+    // None of `temps` temporaries.
     fn none(alloc: Global, temps: u32) -> Result<Needs, OutOfMemory>
         ensures { IfOk result (λ needs. needs ≡ replicate temps false) }
     {

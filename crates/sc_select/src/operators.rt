@@ -169,7 +169,7 @@ pub struct Operands {
 }
 
 impl Backward {
-    // An operation whose result is 0 or 1, behind another into a scratch register.
+    // An operation whose result is 0 or 1, after another into a scratch register.
     fn judged(
         &mut self,
         judgement: Instr,
@@ -233,7 +233,7 @@ impl Backward {
         self.plain(on_registers(direct, rd, left, right))
     }
 
-    // The bytes of so many elements.
+    // The bytes of as many elements as a register says.
     fn bytes_ahead(&mut self, right: Reg, cells: u32) -> Result<(), OutOfMemory>
         ensures { OnOk result (self.new ≡ plainly (bytes_ahead right cells) ++ self.old) }
     {

@@ -1,4 +1,4 @@
-//! Pieces of code: constants, words of the frame, the way into a function and out of it.
+//! Pieces of code: constants, words of the frame, the prologue and the epilogue of a function.
 
 ghost use Rattle.sc_select.specs.Prelude.{Add, Addi, IsImmediate, IsReg, Load, Op, OpImm, Store, Upper, far_from_sp};
 ghost use Rattle.sc_select.specs.Prelude.{frame_left, frame_taken, load_word, loading, lower_part, move, moved_by};
@@ -156,7 +156,7 @@ impl Backward {
         self.plain(load_upper(rd, word))
     }
 
-    /// A register and so many bytes into another.
+    /// A register plus `bytes` into another.
     pub fn moved_by(&mut self, rd: Reg, rs: Reg, bytes: u32) -> Result<(), OutOfMemory>
         ensures { OnOk result (self.new ≡ plainly (moved_by rd rs bytes) ++ self.old) }
     {
@@ -198,7 +198,7 @@ impl Backward {
         self.far_from_sp(offset)
     }
 
-    /// The way into a function.
+    /// The start of a prologue: the frame is taken.
     pub fn frame_taken(&mut self, bytes: u32) -> Result<(), OutOfMemory>
         ensures { OnOk result (self.new ≡ plainly (frame_taken bytes) ++ self.old) }
     {
@@ -207,7 +207,7 @@ impl Backward {
         self.moved_by(sp, sp, bytes.wrapping_neg())
     }
 
-    /// The way out of it.
+    /// The epilogue.
     pub fn frame_left(&mut self, bytes: u32) -> Result<(), OutOfMemory>
         ensures { OnOk result (self.new ≡ plainly (frame_left bytes) ++ self.old) }
     {

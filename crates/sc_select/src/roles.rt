@@ -1,6 +1,6 @@
 //! Statements that are one piece of code: the first gives the place of a variable and the second loads what stands
 //! there or stores there, or the first sets a constant and the second is an operator that reads it and takes its
-//! temporary, which a third may give back.
+//! temporary, which a third may return.
 
 ghost use Rattle.sc_select.specs.Prelude.{FrameTree, Place, has_mark, joins, plan_by, role_before, role_behind};
 ghost use Rattle.sc_select.specs.Prelude.{role_first, role_of_operation, role_of_return, role_of_store, select};
@@ -34,7 +34,7 @@ pub enum Role {
         left: u32,
         op: TacOp,
     },
-    /// A value is stored at the place that a temporary holds, which only such stores behind its statement read.
+    /// A value is stored at the place that a temporary holds, which only such stores after its statement read.
     Stores {
         temp: u32,
         value: u32,
@@ -46,7 +46,7 @@ pub enum Role {
         op: TacOp,
         word: u32,
     },
-    /// A temporary is given back.
+    /// A temporary is returned.
     Returns {
         temp: u32,
     },
@@ -130,7 +130,7 @@ pub(crate) fn role_at(needs: &Needs, stmts: &[TacStmt], at: usize) -> Role
     Role::Other
 }
 
-/// What a statement is to its neighbour behind, with the one before it.
+/// What a statement is to the next one, with the one before it.
 pub(crate) fn role_behind(before: Role, own: Role) -> Role
     ensures { result ≡ role_behind before own }
 {

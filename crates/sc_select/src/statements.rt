@@ -192,7 +192,7 @@ impl Backward {
         self.take(homes, first, left)
     }
 
-    // The end of a call that gives back what an operator gives of a temporary and a constant.
+    // The end of a call that returns what an operator gives of a temporary and a constant.
     fn short_return(
         &mut self,
         homes: &Homes,

@@ -36,7 +36,7 @@ module _ (T : Setting) (formed : IsWellFormed T.image) (inputs : All IsWord T.in
   abbrev params : ℕ
   params = length args
 
-  -- the call is told, and control is at an address of the callee, with words in the registers of arguments alone
+  -- the call is emitted, and control is at an address of the callee, with words only in the registers of arguments
   abbrev pub across : (turns pc : ℕ) → Joint
   across turns pc = record x {
     meant = tell (Call P.comp to index (map word_in args)) (turned turns x.meant);
@@ -48,7 +48,7 @@ module _ (T : Setting) (formed : IsWellFormed T.image) (inputs : All IsWord T.in
   -- what the machine does at a call, on both sides
   module _ (turns entry : ℕ) (takes : params_of T.image to index ≡ params) (few_args : params ≤ 8)
       (all : list_all is_word args ≡ true) (passed : ArePassed (x.inj P.comp) x.regs args) where
-    -- with these registers, and these words told
+    -- with these registers, and these words in the event
     abbrev built : List ℕ → List ℕ → State
     built regs told = record {
       regs = regs;
@@ -177,7 +177,7 @@ module _ (T : Setting) (formed : IsWellFormed T.image) (inputs : All IsWord T.in
           saved = slice_set w.saved to (slice_index x.saved to);
         }
 
-        -- with these registers, and this told
+        -- with these registers, and this in the event
         abbrev built_back : List ℕ → Option ℕ → State
         built_back regs told = record {
           regs = regs;

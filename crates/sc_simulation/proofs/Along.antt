@@ -1,4 +1,4 @@
--- Runs along a stretch on which no end is told.
+-- Runs along a stretch on which no end is emitted.
 use Rattle.sc_simulation.proofs.Common.{Bool, Call, End, Event, Front, Goes, ImageParts, In, IsFront, IsWellFormed}
 use Rattle.sc_simulation.proofs.Common.{List, None, Option, Out, Outcome, Ret, Some, Stop, Traps, [], ap, arith, false}
 use Rattle.sc_simulation.proofs.Common.{front_long, front_more, front_same, goes_adds, goes_one, has_no_end, is_end}
@@ -12,7 +12,7 @@ use Rattle.sc_base.specs.declared.stop.Stop.TheVariants.{EventsOut}
 
 -- LISTS
 
--- a front that is as long as this
+-- a prefix of this length
 pub take_front : {A : Type 0} (n : ℕ) (xs ys : List A) → Front xs ys → length xs ≡ n → take n ys ≡ xs
 take_front n xs ys front long =
     ap (take n) front.is ∙ ap (λ m. take m (xs ++ front.more)) (sym long) ∙ take_exactly xs front.more
@@ -87,7 +87,7 @@ module _ (image : ImageParts) (inputs : List ℕ) (formed : IsWellFormed image) 
         ap (λ r. r.state) (run_stopped image inputs events n state EventsOut (full_stops state.trace going le))
 
     module _ (to : State) (going : has_no_end to.trace ≡ true) where
-      -- what a run of this many steps, and more or fewer, shows of a stretch from this state
+      -- what a run of this many steps, and more or fewer, emits of a stretch from this state
       pub record Along (n : ℕ) (from : State) : Type 0 where
         pub fewer : (m : ℕ) → m ≤ n → Front (run image inputs events m from).state.trace (take events to.trace)
         pub full : (m : ℕ) → n ≤ m → events ≤ length to.trace →

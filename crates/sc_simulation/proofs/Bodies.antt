@@ -24,7 +24,7 @@ not_true : (b : Bool) → not b ≡ true → b ≡ false
 not_true true h = cc h
 not_true false h = refl
 
--- an own function that may be called with so many arguments
+-- an own function that may be called with `count` arguments
 record IsOwn (program : TacTree) (comp number count : ℕ) : Type 0 where
   f : TacFnTree
   its : slice_get (functions_in program comp) number ≡ Some f
@@ -173,7 +173,7 @@ module _ (program : TacTree) (image : ImageParts) (inputs : List ℕ) (roles : R
         ),
       )
 
-  -- from bodies with so many open calls to those with one more
+  -- from bodies with at most `n` open calls to those with one more
   pub more_follow : (n : ℕ) → BodiesFollow program roles T n → PerformersFollow program roles T n →
       BodiesFollow program roles T (suc n)
   more_follow n runs perform P x number f args ra_is its passes long starts =

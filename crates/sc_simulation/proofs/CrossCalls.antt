@@ -24,7 +24,7 @@ use Rattle.sc_simulation.proofs.Turning.{CallComes, GoesIn, overflows_in, shows_
 use Rattle.sc_simulation.proofs.Crossing.{called_ra, called_sp, crossed_passed}
 use Rattle.sc_simulation.proofs.OwnCalls.{back_to}
 
--- an export that takes so many arguments
+-- an export that takes `count` arguments
 pub record IsOffered (program : TacTree) (to index count : ℕ) : Type 0 where
   pub proto : Proto
   pub export : export_at program.interfaces to index ≡ Some proto

@@ -83,7 +83,7 @@ words_are place (v ∷ args) first regs all passed =
     (λ i u e. (let there : first + suc i ≡ suc first + i = omega arith in
     subst (λ r. StandsFor place (regs r) u) there (passed (suc i) u e))))
 
--- the event of a call tells them
+-- the event of a call has these arguments
 pub arguments_are : (place : ℕ → Option ℕ) (args : List Value) (regs : Registers) → length args ≤ 8 →
     list_all is_word args ≡ true → ArePassed place regs args →
     arguments (length args) (listed regs) ≡ map word_in args
@@ -129,7 +129,7 @@ crossed_passed place other args low regs all passed i v e =
 
 -- Results.
 
--- what the machine gives back is what the meaning does
+-- what the machine returns is what the meaning does
 pub given_is : (T : Setting) (place : ℕ → Option ℕ) (w : ℕ) (result : Option Scalar) (v : Option Value) →
     option_value (word_back result v) ≡ v → GivenBack T place w v →
     (if is_some result then Some w else None) ≡ word_back result v

@@ -105,7 +105,7 @@ module _ (program : TacTree) (image : ImageParts) (turn_pays : ℕ) (built : IsB
   run_is : code_run wrapping program inputs turns ≡ run_to main whole
   run_is = ap (run_to main) called_whole
 
-  -- it tells no end, and goes on from the first state
+  -- it emits no end, and goes on from the first state
   no_end : has_no_end (last whole).trace ≡ true
   no_end =
       (keeps_rooms library (code_obeys.itself wrapping program)).no_end (suc turns) image.main number [] x.meant refl

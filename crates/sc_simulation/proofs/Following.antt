@@ -22,7 +22,7 @@ module _ (program : TacTree) (image : ImageParts) (inputs : List ℕ) (set : ℕ
   abbrev T : Setting
   T = setting program image inputs set turn_pays addresses
 
-  -- bodies with so many open calls, of both kinds
+  -- bodies with at most `n` open calls, of both kinds
   pub record AllFollow (n : ℕ) : Type 0 where
     pub run : BodiesFollow program roles T n
     pub perform : PerformersDo program roles T n

@@ -15,7 +15,7 @@ back_to base a is below even =
 
 module _ (T : Setting) (formed : IsWellFormed T.image) (inputs : All IsWord T.inputs) (P : Standpoint) (x : Joint)
     (address turns : ℕ) where
-  -- a turn is taken, and control is at the function, with the address behind the jump in ra
+  -- a turn is taken, and control is at the function, with the address after the jump in ra
   abbrev pub entered : Joint
   entered = record x {
     meant = turned turns x.meant;

@@ -1,4 +1,4 @@
--- A state that the machine reaches, and what a run of so many steps shows: the run doesn't come so far, or it passes.
+-- A state that the machine reaches, and the trace of a run of `steps` steps: the run doesn't come so far, or it passes.
 use Rattle.sc_simulation.proofs.Common.{Blamed, Bool, End, Ended, Event, EventsOut, Front, Goes, ImageParts, IsBlamed}
 use Rattle.sc_simulation.proofs.Common.{IsStop, IsWellFormed, KeepsTo, List, Owner, Reaches, RunEnd, SourceRun, Traps}
 use Rattle.sc_simulation.proofs.Common.{TurnsOut, [], append-nil, arith, drop, ended, false, front_more, front_same}
@@ -19,7 +19,7 @@ module _ (image : ImageParts) (inputs : List ℕ) (formed : IsWellFormed image) 
     abbrev there : List Event
     there = place.reached.trace
 
-    -- the run has come there, and has room for more events
+    -- the run has come there, and may emit more events
     record Passes : Type 0 where
       pub more : place.steps < steps
       pub room : length there < events
@@ -65,7 +65,7 @@ module _ (image : ImageParts) (inputs : List ℕ) (formed : IsWellFormed image) 
         (λ past. subst (λ r. Front r.state.trace whole)
         (sym (trapped_is image inputs formed bound place events steps past.more past.room traps)) begins) passes
 
-    -- a run that stops for want of turns there has told all that the machine shows, or the machine has used its steps
+    -- a run that stops there for want of turns has emitted the machine's whole trace, or the machine's steps are used
     abbrev IsUsed : SourceRun → Type 0
     IsUsed run =
         run.end ≡ TurnsOut → (event : Event) (more : List Event) → shown ≡ run.trace ++ event ∷ more →

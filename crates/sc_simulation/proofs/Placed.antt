@@ -61,7 +61,7 @@ standing_in s = record {
   waiting = waiting_in s.cross;
 }
 
--- what a trace tells has begun
+-- after this trace the run stands here: it hasn't ended
 pub record HasStood (from : Option Standing) (trace : List Event) : Type 0 where
   pub at : Standing
   pub stood : stands_behind from trace ≡ Some at
@@ -151,7 +151,7 @@ module _ (image : ImageParts) (inputs : List ℕ) (formed : IsWellFormed image) 
 
 -- LEGAL TRACES
 
--- what an event of a legal trace comes behind has not ended
+-- before an event of a legal trace the run hasn't ended
 pub legal_stood : (interfaces : Interfaces) (from : Option Standing) (before : List Event) (event : Event)
     (more : List Event) → is_legal_from interfaces from (before ++ event ∷ more) ≡ true → HasStood from before
 legal_stood interfaces None [] event more legal = cc legal

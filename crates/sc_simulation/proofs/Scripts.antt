@@ -1,4 +1,4 @@
--- The run of a program's code in which a set performs its part of what the machine shows keeps to that, by what its
+-- The run of a program's code in which a set performs its part of the machine's trace keeps to that trace, by what its
 -- code comes to once `main` has begun.
 use Rattle.sc_simulation.proofs.Common.{BodiesFollow, Body, Bool, Departs, End, Event, Front, Function, FunctionGives}
 use Rattle.sc_simulation.proofs.Common.{Gone, Here, ImageParts, IsBuilt, IsLeft, IsRun, IsUnknown, Joint, KeepsTo}
@@ -24,7 +24,7 @@ use Rattle.sc_simulation.proofs.UnknownFrames.{settled_started, started}
 
 module _ (program : TacTree) (image : ImageParts) (turn_pays : ℕ) (built : IsBuilt program image turn_pays)
     (inputs : List ℕ) (steps events : ℕ) (set : ℕ → Bool) where
-  -- what the machine shows
+  -- the machine's trace
   abbrev pub trace : List Event
   trace = (ran_by image inputs steps events).state.trace
 
@@ -80,7 +80,7 @@ module _ (program : TacTree) (image : ImageParts) (turn_pays : ℕ) (built : IsB
   run_is : scripted_code_run wrapping program inputs steps set trace ≡ run_to main whole
   run_is = ap (run_to main) called_whole
 
-  -- it tells no end, and goes on from the first state
+  -- it emits no end, and goes on from the first state
   no_end : has_no_end (last whole).trace ≡ true
   no_end =
       (keeps_rooms library (code_obeys.itself wrapping program)).scripted_no_end roles (suc steps) image.main
@@ -106,12 +106,12 @@ module _ (program : TacTree) (image : ImageParts) (turn_pays : ℕ) (built : IsB
     going = going;
   }
 
-  -- what the machine shows where `main` returns, and where it stops
+  -- the machine's trace where `main` returns, and where it stops
   abbrev pub MainGives : Piece (Option Value) → Type 0
   MainGives (Reached v s) = Front trace (run_to main (Reached v s)).behaviour.trace
   MainGives (Stopped end s) = (budget : ℕ) × Shows T P x budget s
 
-  -- the machine stands trapped, and has shown a front of what is told
+  -- the machine stands trapped, and has emitted a prefix of the piece's trace
   pub record IsTrapped (piece : Piece (Option Value)) : Type 0 where
     pub taken : ℕ
     pub reached : State
@@ -134,7 +134,7 @@ module _ (program : TacTree) (image : ImageParts) (turn_pays : ℕ) (built : IsB
   module _ (is_legal : legal program.interfaces trace ≡ true) where
     -- WHERE IT STOPS
     module _ (end : RunEnd) (s : Meant) (is : whole ≡ Stopped end s) (budget : ℕ) (shown : Shows T P x budget s) where
-      -- where it is out of turns, and hasn't told all of it, none is left
+      -- where it is out of turns, and hasn't emitted all of the trace, no step is left
       used : end ≡ TurnsOut → (event : Event) (more : List Event) → trace ≡ s.trace ++ event ∷ more →
           steps ≤ shown.steps
       used out event more along =
@@ -167,7 +167,7 @@ module _ (program : TacTree) (image : ImageParts) (turn_pays : ℕ) (built : IsB
         (front_more at.reached.trace (last whole).trace (run_to main whole).behaviour.trace at.front
         (run_front main whole)))
 
-    -- where `main` is followed, the run keeps to what the machine shows
+    -- where `main` is followed, the run keeps to the machine's trace
     pub keeps_trace : MainFollowed main_ran →
         KeepsTo trace (scripted_code_run wrapping program inputs steps set trace).behaviour
     keeps_trace followed =
@@ -300,7 +300,7 @@ module _ (program : TacTree) (image : ImageParts) (turn_pays : ℕ) (built : IsB
         ⊎_elim (λ gives. inl (performs_by performed refl gives)) (λ over. inr (traps_by over))
         (perform (suc steps) P opened there.number its_first unknown)
 
-  -- where the functions of all compartments are followed, the run keeps to what the machine shows
+  -- where the functions of all compartments are followed, the run keeps to the machine's trace
   pub keeps : legal program.interfaces trace ≡ true → ((n : ℕ) → BodiesFollow program roles T n) →
       ((n : ℕ) → PerformersDo program roles T n) →
       KeepsTo trace (scripted_code_run wrapping program inputs steps set trace).behaviour

@@ -1,11 +1,11 @@
--- What a run shows was shown by so many steps.
+-- Some number of steps from the start emits the trace of a run.
 use Rattle.sc_simulation.proofs.Common.{Goes, ImageParts, IsShown, List, None, Option, Outcome, Some, Stop, Traps, ap}
 use Rattle.sc_simulation.proofs.Common.{refl, run, run_goes, run_out, run_stopped, run_traps, start, step, stopped, suc}
 use Rattle.sc_simulation.proofs.Common.{sym, then_on, walk, zero, ℕ, ◌∙◌, ◌≡◌}
 use Rattle.sc_image.specs.Prelude.{State, machine}
 
 module _ (image : ImageParts) (inputs : List ℕ) (events : ℕ) where
-  -- so many steps lead from a state to where a run from it stops
+  -- `taken` steps lead from a state to where a run from it stops
   record IsWalked (from to : State) : Type 0 where
     taken : ℕ
     walks : walk image inputs taken from ≡ Goes to

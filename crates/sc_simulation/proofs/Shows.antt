@@ -1,4 +1,4 @@
--- What the machine's runs show, by what it does beside a run.
+-- The traces of the machine's runs, by what it does beside a run.
 use Rattle.sc_simulation.proofs.Common.{AgreesInRoom, AgreesUntilBlame, AllBefore, AllFrom, Blamed, Bool, Closed, End}
 use Rattle.sc_simulation.proofs.Common.{Ended, Event, EventsOut, Finishes, FrameChange, Front, Goes, ImageParts}
 use Rattle.sc_simulation.proofs.Common.{IsBlamed, IsFull, IsStop, IsWellFormed, List, None, Opened, OutcomesShow, Owner}
@@ -19,7 +19,7 @@ use Rattle.sc_simulation.proofs.Along.{Along, along, front_taken, not_over, run_
 
 -- FRAMES
 
--- changes that were made before a moment stand in front of those that were made after it
+-- changes that were made before a moment stand before those that were made after it
 earlier_first : (n m : ℕ) → n ≤ m → (xs ys more less : List FrameChange) → xs ++ more ≡ ys ++ less →
     AllBefore n xs → AllFrom m less → Front xs ys
 earlier_first n m le [] ys more less is before late = record { more = ys; is = refl }
@@ -51,7 +51,7 @@ take_within (suc n) (x ∷ xs) more le = ap (λ ys. x ∷ ys) (take_within n xs 
 take_same : {A : Type 0} (n : ℕ) (xs ys : List A) → Front xs ys → n ≤ length xs → take n xs ≡ take n ys
 take_same n xs ys front le = take_within n xs front.more le ∙ ap (take n) (sym front.is)
 
--- of two fronts of a list the one that is no longer is a front of the other
+-- of two prefixes of a list the one that is no longer is a prefix of the other
 pub shorter_first : {A : Type 0} (xs ys zs : List A) → Front xs zs → Front ys zs → length xs ≤ length ys → Front xs ys
 shorter_first xs ys zs a b le =
     let begins : take (length xs) ys ≡ xs =
@@ -91,12 +91,12 @@ module _ (image : ImageParts) (inputs : List ℕ) (formed : IsWellFormed image) 
     pub few : (steps : ℕ) → steps ≤ place.steps → Front (shown steps) (take events reached.trace)
     few steps le = way.fewer steps le
 
-    -- more, and so many events are told on it
+    -- at least as many steps, where the trace of the stretch has `events` events or more
     pub full : (steps : ℕ) → place.steps ≤ steps → events ≤ length reached.trace →
         shown steps ≡ take events reached.trace
     full steps le long = way.full steps le long
 
-    -- more, and so many events aren't told on it
+    -- at least as many, where it has fewer
     room : (more : ℕ) → length reached.trace < events →
         machine image inputs (place.steps + more) events ≡ run image inputs events more reached
     room more short = way.room more short
@@ -104,7 +104,7 @@ module _ (image : ImageParts) (inputs : List ℕ) (formed : IsWellFormed image) 
     early : length reached.trace < events → stopped events reached.trace ≡ None
     early short = not_stopped image inputs formed events reached.trace (not_over reached.trace place.going) short
 
-    -- the rest of so many steps
+    -- the steps that are left after the stretch
     rest_is : (steps : ℕ) → place.steps ≤ steps → place.steps + (steps - place.steps) ≡ steps
     rest_is steps le = omega (arith, le)
 
@@ -139,7 +139,7 @@ module _ (image : ImageParts) (inputs : List ℕ) (formed : IsWellFormed image) 
         subst (λ r. Front reached.trace r.state.trace) (sym (on_from steps le short))
         (run_front image inputs formed events (steps - place.steps) reached)
 
-    -- what a longer trace shows of the stretch
+    -- by a longer trace, of which that of the stretch is a prefix
     covered : (whole : List Event) → Front reached.trace whole → (steps : ℕ) → place.steps ≤ steps →
         events ≤ length reached.trace → shown steps ≡ take events whole
     covered whole front steps le long = full steps le long ∙ take_same events reached.trace whole front long
@@ -197,7 +197,7 @@ module _ (image : ImageParts) (inputs : List ℕ) (formed : IsWellFormed image) 
     all_is : length there.trace < events → take events all ≡ there.trace
     all_is short = ap (take events) (sym f.trace) ∙ take_all events there.trace (omega (arith, short))
 
-    -- behind the stretch the machine has shown all of it
+    -- after the stretch the machine has emitted all of it
     stand_shows : (steps : ℕ) → f.place.steps ≤ steps → Front (take events all) (shown bound f.place events steps)
     stand_shows steps le = by (nat_le events (length there.trace)) refl where
       by : (b : Bool) → nat_le events (length there.trace) ≡ b →
@@ -210,7 +210,7 @@ module _ (image : ImageParts) (inputs : List ℕ) (formed : IsWellFormed image) 
           subst (λ t. Front t (shown bound f.place events steps)) (sym (all_is short))
           (later_front bound f.place events steps le short)
 
-    -- it shows nothing else up to there; what comes behind a blame may be anything
+    -- it emits nothing else up to there; what comes after a blame may be anything
     stand_back : (steps : ℕ) → steps ≤ turns →
         Front (shown bound f.place events steps) (take events all)
         ⊎ (IsBlamed (stopped_at events run.behaviour).end ×
@@ -422,7 +422,7 @@ module _ (image : ImageParts) (inputs : List ℕ) (formed : IsWellFormed image) 
       abbrev told : List Event
       told = (machine image inputs steps events).state.trace
 
-      -- it shows a front of this, or all of it, where it is blamed
+      -- its trace is a prefix of this run's, or this run is blamed and its trace is a prefix of the machine's
       abbrev Behind : SourceRun → Type 0
       Behind r = Front told r.trace ⊎ (IsBlamed r.end × Front r.trace told)
 

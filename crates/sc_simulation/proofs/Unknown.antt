@@ -165,7 +165,7 @@ module _ (program : TacTree) (image : ImageParts) (inputs : List ℕ) (set : ℕ
           (leads_moved T linked.formed words P x 1 0 pc (λ r. slice_index regs r) after
           (λ k q p. keeps.word_is k q (other_than k p.honest) p.guard.owned) walks_moved)
 
-    -- A STEP THAT TELLS AN EVENT
+    -- A STEP THAT EMITS AN EVENT
     module _ (x : Joint) (settled : Settled T P x) (m : ℕ) (next : State) (event : Event)
         (goes : step image inputs (machine P x) ≡ Steps next) (tells : next.trace ≡ x.meant.trace ++ event ∷ [])
         (rest : Walks image inputs m next shown.last) where
@@ -383,7 +383,7 @@ module _ (program : TacTree) (image : ImageParts) (inputs : List ℕ) (set : ℕ
           abbrev again : Option Value → Meant → Piece (Option Value)
           again v s = bodies program roles n number here s
 
-          -- behind the call the function performs again
+          -- after the call the function performs again
           goes_on : (v : Option Value) (s : Meant) → ComesBack T P x (Cross to index) v s →
               UnknownComes program roles T P x (again v s)
           goes_on v s c =
@@ -459,7 +459,7 @@ module _ (program : TacTree) (image : ImageParts) (inputs : List ℕ) (set : ℕ
               (ap (λ w. option_value (if has_result image c.callee c.entry then Some w else None)) a0_is ∙
               ap (departing image (x.regs a0)) (sym is)))
 
-      -- ONE STEP, AND ALL BEHIND IT
+      -- ONE STEP, AND ALL AFTER IT
       abbrev Later : ℕ → Type 0
       Later m = (y : Joint) → Settled T P y → Walks image inputs m (machine P y) shown.last →
           UnknownComes program roles T P y (does y.meant)

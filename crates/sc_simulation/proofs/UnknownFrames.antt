@@ -1,4 +1,4 @@
--- The variables and the frame of a function that performs, in the meaning alone: the machine knows nothing of them.
+-- The variables and the frame of a function that performs, only in the meaning: the machine knows nothing of them.
 use Rattle.sc_simulation.proofs.Common.{AllBefore, Cell, Effect, FrameChange, Function, Joint, List, LiveAt, Memory}
 use Rattle.sc_simulation.proofs.Common.{Protected, Setting, Settled, Standpoint, Value, ap, arith, begun, cases_eq}
 use Rattle.sc_simulation.proofs.Common.{done, false, length, ne_eqb, open_room, refl, room_after, slice_get, suc, sym}

@@ -12,7 +12,7 @@ use Rattle.sc_simulation.proofs.Crossing.{take_words}
 
 -- EXPORTS
 
--- an export that takes so many words is offered
+-- an export that takes `count` words is offered
 offered_at : (program : TacTree) (to index count : ℕ) (o : Option Proto) → export_at program.interfaces to index ≡ o →
     option_map_or (λ found. length found.params == count) o false ≡ true → IsOffered program to index count
 offered_at program to index count None is h = cc h

@@ -24,7 +24,7 @@ abbrev pub departing : ImageParts → ℕ → List Crossing → Option Value
 departing image w [] = Some (Word w)
 departing image w (x ∷ xs) = option_value (if has_result image x.callee x.entry then Some w else None)
 
--- some steps from its start, the machine has shown these events
+-- some steps from its start, the machine has emitted these events
 pub record IsShown (image : ImageParts) (inputs : List ℕ) (trace : List Event) : Type 0 where
   pub steps : ℕ
   pub last : State
@@ -32,7 +32,7 @@ pub record IsShown (image : ImageParts) (inputs : List ℕ) (trace : List Event)
   pub trace_is : last.trace ≡ trace
 
 module _ (program : TacTree) (roles : Roles) where
-  -- what calls do whose functions may have so many calls open
+  -- what calls do whose functions may have at most `open_calls` calls open
   abbrev pub calls_of : (open_calls : ℕ) → Calls
   calls_of open_calls = calls (code_library wrapping program) (bodies program roles open_calls)
 

@@ -33,7 +33,7 @@ module _ (program : TacTree) where
   abbrev pub functions_in : (comp : ℕ) → List TacFnTree
   functions_in comp = functions_or_none (slice_get program.sections comp)
 
-  -- the calls that a compartment's code may make, with so many arguments
+  -- the calls that a compartment's code may make, with `args` arguments
   abbrev pub makes : (comp : ℕ) → CallTarget → (args : ℕ) → Bool
   makes comp (Own number) args = own_call_fits (slice_get (functions_in comp) number) None args
   makes comp (Cross to index) args =
@@ -86,7 +86,7 @@ pub record GlobalStands (image : ImageParts) (comp address : ℕ) (cells : List 
   pub holds : (i : ℕ) (c : Cell) → slice_get cells i ≡ Some c →
       InCell (λ b. None) (word (start_memory image) (address + 4 * i)) c
 
--- an image in which the code of a program stands, which shows its interfaces
+-- an image in which the code of a program stands, and which has its interfaces
 pub record IsLinked (program : TacTree) (image : ImageParts) (turn_pays : ℕ) (addresses : ℕ → Addresses) :
     Type 0 where
   pub formed : IsWellFormed image

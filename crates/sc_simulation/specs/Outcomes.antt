@@ -5,7 +5,7 @@ use Rattle.sc_simulation.specs.Common.{step}
 use Rattle.sc_image.specs.Prelude.{State}
 use Rattle.std.specs.Prelude.{◌≡◌, ℕ, suc, ◌<◌, ◌≤◌, true, List, length}
 
--- the machine reaches a state within a bound on steps, and no end was told on the way
+-- the machine reaches a state within a bound on steps, and no end was emitted on the way
 pub record Reaches (image : ImageParts) (inputs : List ℕ) (bound : ℕ) : Type 0 where
   pub steps : ℕ
   pub reached : State
@@ -21,7 +21,7 @@ module _ (image : ImageParts) (inputs : List ℕ) (bound turns : ℕ) (run : Run
     pub trace : (ended place.reached).trace ≡ run.behaviour.trace
     pub end : run.behaviour.end ≡ Ended
 
-  -- the run stops, and the machine has shown its events; where that is for want of turns, it has taken as many steps
+  -- the run stops, and the machine has emitted its events; where that is for want of turns, it has taken as many steps
   pub record Stands : Type 0 where
     pub place : Reaches image inputs bound
     pub trace : place.reached.trace ≡ run.behaviour.trace

@@ -1,4 +1,4 @@
--- What the machine's runs show of a program's run, wherever either is stopped.
+-- The traces of the machine's runs beside a program's run, wherever either is stopped.
 use Rattle.sc_simulation.specs.Common.{AgreesInRoom, Blamed, Ended, Event, EventsOut, Front, ImageParts, IsWellFormed}
 use Rattle.sc_simulation.specs.Common.{IsWord, Owner, Run, RunsAgree, TurnsOut, depth_in, machine, stack_size}
 use Rattle.sc_simulation.specs.Common.{stopped_at}
@@ -15,23 +15,23 @@ IsBlamed Ended = ⊥
 IsBlamed TurnsOut = ⊥
 IsBlamed EventsOut = ⊥
 
--- a run keeps to a trace: it tells all of it, or is blamed before
+-- a run keeps to a trace: it emits all of it, or is blamed before
 abbrev pub KeepsTo : List Event → SourceRun → Type 0
 KeepsTo trace run = Front trace run.trace ⊎ (IsBlamed run.end × Front run.trace trace)
 
--- the machine stands trapped in a compartment that the run, stopped at so many events, takes deeper than a stack is; it
--- has shown a front of the run
+-- the machine stands trapped in a compartment whose stack depth in the run, stopped at `events` events, is more than a
+-- stack's size; it has emitted a prefix of the run's trace
 pub record TrapsFull (machine : MachineRun) (run : Run) (events : ℕ) : Type 0 where
   pub stop : machine.stop ≡ Trap Owner machine.state.pc
   pub deep : stack_size < depth_in run events machine.state.active
   pub trace : Front machine.state.trace (stopped_at events run.behaviour).trace
 
 pub record ShowsRun (image : ImageParts) (inputs : List ℕ) (bound turns : ℕ) (run : Run) : Type 0 where
-  -- within the bound on steps the machine shows all that the run shows, or it stands trapped since a stack is full
+  -- within the bound on steps the machine emits all that the run emits, or it stands trapped since a stack is full
   pub forward : (events : ℕ) →
       Front (stopped_at events run.behaviour).trace (machine image inputs bound events).state.trace
       ⊎ TrapsFull (machine image inputs bound events) run events
-  -- in no more steps than the run had turns it shows nothing else, unless the run is blamed and it has shown all of it
+  -- in no more steps than the run had turns it emits nothing else, unless the run is blamed and it emitted all of that
   pub backward : (steps events : ℕ) → steps ≤ turns →
       Front (machine image inputs steps events).state.trace (stopped_at events run.behaviour).trace
       ⊎ (IsBlamed (stopped_at events run.behaviour).end ×

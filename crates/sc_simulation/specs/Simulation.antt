@@ -27,8 +27,8 @@ Simulates = (program : TacTree) (image : ImageParts) (turn_pays : ℕ) → IsBui
     (inputs : List ℕ) (turns : ℕ) → All IsWord inputs →
     Outcome image inputs (turn_pays * suc turns) turns (code_run wrapping program inputs turns)
 
--- where a set performs its part of what the machine shows, whatever its code does, the run of all other code keeps to
--- that, with as many turns as the machine may take steps
+-- where a set performs its part of the machine's trace, whatever its code does, the run of all other code keeps to that
+-- trace, with as many turns as the machine may take steps
 abbrev pub ScriptsSimulate : Type 0
 ScriptsSimulate = (program : TacTree) (image : ImageParts) (turn_pays : ℕ) → IsBuilt program image turn_pays →
     (inputs : List ℕ) (steps events : ℕ) (set : ℕ → Bool) → All IsWord inputs →

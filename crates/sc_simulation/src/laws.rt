@@ -2,20 +2,20 @@
 
 ghost use Rattle.sc_simulation.specs.Prelude.{OutcomesShow, ScriptsSimulate, Simulates};
 
-/// From its start, the machine on an image in which the code of a program stands shows what a run of that code shows,
+/// From its start, the machine on an image in which the code of a program stands emits what a run of that code emits,
 /// unless a stack is full; and it takes no more steps than the turns pay for.
 pub fn simulates()
     ensures { Simulates }
 {}
 
-/// What the machine does beside a run, in steps, is what its runs show wherever they are stopped: all that the run
-/// shows within a bound on steps, or a full stack, and nothing else in as many steps as the run has turns.
+/// What the machine does beside a run, in steps, gives the traces of its runs wherever they are stopped: all that the
+/// run emits within a bound on steps, or a full stack, and nothing else in as many steps as the run has turns.
 pub fn outcomes_show()
     ensures { OutcomesShow }
 {}
 
-/// Where a set of compartments performs its part of what the machine shows, whatever its code does, the run of all
-/// other code shows the same, or is blamed before, with as many turns as the machine may take steps.
+/// Where a set of compartments performs its part of the machine's trace, whatever its code does, the run of all other
+/// code emits all of that trace, or is blamed before, with as many turns as the machine may take steps.
 pub fn scripts_simulate()
     ensures { ScriptsSimulate }
 {}

@@ -1,7 +1,7 @@
 use Rattle.sc_select.proofs.Common.{Line, length, map, relocations_from, ◌++◌, ◌+◌, ◌≡◌}
 use Rattle.sc_select.proofs.function.read.Given as goal
 
--- so many lines are read
+-- `at` lines are read
 abbrev pub invariant-loop-at : goal.invariant-loop-at
 invariant-loop-at l = record {
   count : l.at + length l.lines ≡ length l.initial.lines;

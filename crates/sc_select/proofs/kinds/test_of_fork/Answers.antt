@@ -3,7 +3,7 @@ use Rattle.sc_select.proofs.Common.{ℕ, ◌&&◌, ◌∙◌}
 use Rattle.sc_select.proofs.Turning.{forked}
 use Rattle.sc_select.proofs.kinds.test_of_fork.Goals as goal
 
--- what is given back, by the two tests
+-- what is returned, by the two tests
 given : (cond : ℕ) → Bool → Bool → Option ℕ
 given cond none broken = if none && broken then Some cond else None
 
