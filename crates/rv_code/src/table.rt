@@ -27,10 +27,10 @@ pub(crate) const OP: u32 = 0b0110011;
 
 pub(crate) const FENCE: u32 = 0b0001111;
 
-/// ECALL is this word alone.
+/// ECALL is encoded by this word only.
 pub(crate) const ECALL_WORD: u32 = 0x0000_0073;
 
-/// EBREAK is this word alone.
+/// EBREAK is encoded by this word only.
 pub(crate) const EBREAK_WORD: u32 = 0x0010_0073;
 
 impl UpperOp {

@@ -1,4 +1,4 @@
--- Where a count is at most one, a test passes at one place alone.
+-- Where a count is at most one, a test passes at one place at most.
 use Rattle.sc_alloc.proofs.Common.{Bool, Interval, List, Some, [], ap, arith, cases_eq, cond, count_by, eq-eqb, nat_eq}
 use Rattle.sc_alloc.proofs.Common.{ne_eqb, refl, same_Some, slice_get, suc, sum_by-cons, true, zero, ℕ, ⊎_elim, ◌+◌}
 use Rattle.sc_alloc.proofs.Common.{◌<◌, ◌∙◌, ◌∷◌, ◌≡◌, ◌≢◌, ◌≤◌}

@@ -66,7 +66,7 @@ module _ (slots : List ℕ) (at : ℕ) where
       from_first (nat_lt l at) (list_all (nat_le l) slots) (grind (arith, nat_tests))))
       (λ less. absurd (omega arith))
 
-  -- the top is the slot for what begins behind its end
+  -- the top is the slot for what begins after its end
   module _ (ends : List (Reverse SlotEnd)) (count : ℕ) (x : Reverse SlotEnd) (has : HasEnds slots ends count)
       (top : IsTop x ends) (its : slice_get slots x.0.slot ≡ Some x.0.last) where
     pub soonest_is : x.0.last < at → slot_for at slots ≡ x.0.slot

@@ -1,4 +1,4 @@
--- Sorting by keys: a stable sort gives one list alone.
+-- Sorting by keys: the result of a stable sort is unique.
 use Rattle.sc_alloc.proofs.Common.{All, All-cons, All-nil, All-tail, Bool, IsNonDecreasingBy, IsPermutation}
 use Rattle.sc_alloc.proofs.Common.{IsPermutation-cons, IsPermutation-refl, IsPermutation-swap, IsPermutation-trans}
 use Rattle.sc_alloc.proofs.Common.{IsStableByKey, List, [], ap, arith, cases_order, cond, false, filter, get_or}
@@ -20,7 +20,7 @@ without_first : {A : Type 0} (b : Bool) (x : A) (ys zs : List A) → cond b (x �
 without_first true x ys zs same = cc
 without_first false x ys zs same = same
 
--- two elements of which one alone passes stand in either order
+-- two elements of which at most one passes stand in either order
 either_order : {A : Type 0} (b c : Bool) (x y : A) (ys : List A) → (b && c) ≡ false →
     cond b (x ∷ cond c (y ∷ ys) ys) (cond c (y ∷ ys) ys) ≡ cond c (y ∷ cond b (x ∷ ys) ys) (cond b (x ∷ ys) ys)
 either_order true true x y ys apart = absurd (cc apart)

@@ -116,7 +116,7 @@ pub record IsFair (given : List Given) (x : Interval) (place : Place) : Type 0 w
 abbrev pub IsHeldWithin : List Given → ℕ → ℕ → Type 0
 IsHeldWithin given r at = (held : IsHeld given r at) × (held.holder.interval.first ≤ at)
 
--- each got its place fairly, behind those that came before
+-- each got its place fairly, after those before it
 pub record AreFair (given : List Given) : Type 0 where
   pub apart : (i j : ℕ) (g h : Given) → i < j → slice_get given i ≡ Some g → slice_get given j ≡ Some h →
       g.place ≡ h.place → g.interval.last < h.interval.first

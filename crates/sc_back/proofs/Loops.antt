@@ -15,7 +15,7 @@ stepped F xs i x piece old new whole within is told adds so_far =
     ap (λ m. old ++ m) (sym (at_drop_more F xs i x within ∙ ap (λ y. F (y ∷ drop (i + 1) xs)) (sym is) ∙ adds)) ∙
     so_far
 
--- pieces one behind the other
+-- pieces one after another
 pub three_pieces : (old a b c one two three : List ℕ) → one ≡ old ++ a → two ≡ one ++ b → three ≡ two ++ c →
     three ≡ old ++ (a ++ (b ++ c))
 three_pieces old a b c one two three first second third =
@@ -28,7 +28,7 @@ four_pieces old a b c d one two three four first second third fourth =
     three_pieces old a b (c ++ d) one two four first second
     (fourth ∙ ap (λ t. t ++ d) third ∙ append_assoc two c d)
 
--- behind a heading
+-- after a heading
 pub headed : (old mark name end exports imports one two three : List ℕ) → one ≡ old ++ (mark ++ (name ++ end)) →
     two ≡ one ++ exports → three ≡ two ++ imports →
     three ≡ old ++ (mark ++ (name ++ (end ++ (exports ++ imports))))

@@ -3,7 +3,7 @@ use Rattle.sc_back.specs.Common.{Entry, Export, Interface, Interfaces, Main, Row
 use Rattle.std.specs.Prelude.{ℕ, suc, ◌<◌, ◌^◌, ◌++◌, if◌then◌else◌, codes, List, [], flat_map, Option, None, Some}
 use Rattle.sc_back.specs.Text.{export_text, functions_text, import_text, is_of, main_text, proto_text, row_text}
 
--- the number behind that of a row is a word
+-- the number after that of a row is a word
 abbrev pub HasNext : Row → Type 0
 HasNext row = suc row.number < 2 ^ 32
 

@@ -123,7 +123,7 @@ is_of entry row = same entry row.entry where
   same (Export index) (Export other) = index == other
   same _ _ = false
 
--- a function performs the actions of its entry; behind the last it never ends
+-- a function performs the actions of its entry; after the last it never ends
 abbrev pub function_text : Interfaces → List Row → Entry → Proto → List ℕ
 function_text interfaces rows entry f =
     head_text f ++ (codes " {\n" ++

@@ -44,7 +44,7 @@ fn append_next_value(text: &mut Text, ty: Scalar, word: u32) -> Result<(), OutOf
     append_value(text, ty, word)
 }
 
-// Values behind the first.
+// Values after the first.
 fn append_more_values(text: &mut Text, types: &[Scalar], words: &[u32]) -> Result<(), OutOfMemory>
     ensures { OnOk result (text.new ≡ text.old ++ flat_map behind_comma (value_texts types.now words.now)) }
 {

@@ -43,7 +43,7 @@ fn append_next_param(text: &mut Text, number: usize, ty: Scalar) -> Result<(), O
     append_param(text, number, ty)
 }
 
-// Parameters behind the first.
+// Parameters after the first.
 fn append_more_params(text: &mut Text, params: &[Scalar]) -> Result<(), OutOfMemory>
     requires { suc (length params.now) ≤ 8 }
     ensures { OnOk result (text.new ≡ text.old ++ flat_map behind_comma (param_texts 1 params.now)) }

@@ -1,4 +1,4 @@
--- What a run of the machine shows has no more events than were allowed.
+-- A run of the machine emits no more events than were allowed.
 use Rattle.sc_chain.proofs.Common.{Goes, ImageParts, IsWellFormed, List, None, Option, Outcome, Run, Some, State, Stop}
 use Rattle.sc_chain.proofs.Common.{Traps, arith, length, machine, refl, run, start, step, stopped, subst, suc, sym}
 use Rattle.sc_chain.proofs.Common.{zero, ℕ, ◌+◌, ◌≡◌, ◌≤◌}

@@ -1,4 +1,4 @@
--- What the machine shows on the image of a program, as the chain of texts needs it.
+-- The machine's trace on the image of a program, as the chain of texts needs it.
 use Rattle.sc_chain.proofs.Common.{All, All-map, Event, ImageParts, IsChain, IsCompiled, IsExplained, IsWord, Link}
 use Rattle.sc_chain.proofs.Common.{List, Ok, ProgramTree, Run, Set, SourceParts, Stop, TellsOrBlames, get_or, image_of}
 use Rattle.sc_chain.proofs.Common.{legal, length, machine, map, scripted_meaning, subst, sym, true, word_of, ℕ, ℤ, ◌≡◌}

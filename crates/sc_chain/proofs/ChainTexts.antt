@@ -20,7 +20,7 @@ one_also : {A : Type 0} (P : A → Type 0) (x : A) (xs : List A) → P x → All
 one_also P x xs this all =
     All-append P (x ∷ []) xs (All-push P [] x (λ k d inside. absurd (omega (arith, inside))) this) all
 
--- a front, by its length
+-- a prefix, by its length
 front_taken : (run trace : List Event) (n : ℕ) → Front run trace → length run ≡ n → run ≡ take n trace
 front_taken run trace n front long =
     sym (take_all n run (omega (arith, long))) ∙

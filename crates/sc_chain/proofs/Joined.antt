@@ -1,4 +1,4 @@
--- Sections one behind the other.
+-- Sections one after another.
 use Rattle.sc_chain.proofs.Common.{List, Option, ap, append-nil, at_drop_all, concat, drop, length, new_texts, sym, ℕ}
 use Rattle.sc_chain.proofs.Common.{◌++◌, ◌+◌, ◌∙◌, ◌≡◌, ◌≤◌}
 
@@ -6,7 +6,7 @@ use Rattle.sc_chain.proofs.Common.{◌++◌, ◌+◌, ◌∙◌, ◌≡◌, ◌�
 abbrev pub rest_of : (replace : ℕ → Option (List ℕ)) → (number : ℕ) → List (List ℕ) → List ℕ
 rest_of replace number sections = concat (new_texts replace number (drop number sections))
 
--- behind the last
+-- after the last
 pub ended : (replace : ℕ → Option (List ℕ)) (sections : List (List ℕ)) (number : ℕ) (text whole : List ℕ) →
     length sections ≤ number → text ++ rest_of replace number sections ≡ whole → text ≡ whole
 ended replace sections number text whole past so_far =

@@ -1,4 +1,4 @@
--- Behind each row of a trace that isn't too long there is another number.
+-- The number of each row of a trace that isn't too long has a successor that is a word.
 use Rattle.sc_chain.proofs.Common.{All, All-from_recursion, AllByRecursion, Bool, Event, HasNext, List, None, Option}
 use Rattle.sc_chain.proofs.Common.{Row, Some, Standing, [], action_of, arith, at_start, false, if◌then◌else◌, length}
 use Rattle.sc_chain.proofs.Common.{part, performer, rows_from, stands_after, subst, suc, sym, true, ℕ, ◌+◌, ◌<◌, ◌==◌}

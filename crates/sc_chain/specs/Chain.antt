@@ -1,6 +1,6 @@
 -- The account of a run of the machine: a chain of texts. The first is the program's own; each later one has one section
 -- more that performs its part of the trace, that of the compartment which the meaning of the text before it blames
--- after a proper, ever longer front of the trace; the meaning of the last is the trace.
+-- after a proper, ever longer prefix of the trace; the meaning of the last is the trace.
 use Rattle.sc_chain.specs.Common.{Accepts, Blamed, Event, Link, ProgramTree, SourceParts, image_of, meaning}
 use Rattle.sc_image.specs.Prelude.{machine}
 use Rattle.std.specs.Prelude.{◌≡◌, ◌↔◌, ℕ, suc, ◌<◌, ◌≤◌, Bool, true, false, List, [], ◌∷◌, length, take, Ok}
@@ -8,8 +8,8 @@ use Rattle.sc_image.specs.declared.parts.ImageParts.{ImageParts}
 use Rattle.sc_chain.specs.Recompose.{among, performing_text, recomposed}
 use Rattle.sc_chain.specs.declared.explanation.Explanation.{Explanation}
 
--- The meaning of a program, with as many turns as the machine had steps and as many events as it showed, is blamed so,
--- after a proper front of the trace.
+-- The meaning of a program, with as many turns as the machine had steps and as many events as it emitted, is blamed so,
+-- after a proper prefix of the trace.
 pub record IsBlamedSo (program : ProgramTree) (inputs : List ℕ) (steps : ℕ) (trace : List Event) (link : Link) :
     Type 0 where
   pub end : (meaning program inputs steps (length trace)).end ≡ Blamed link.comp link.cause link.line
@@ -27,8 +27,8 @@ module _ (source : SourceParts) (inputs : List ℕ) (steps : ℕ) (trace : List 
     pub text : HasProgram set
     pub tells : (meaning text.program inputs steps (length trace)).trace ≡ trace
 
-  -- the text in which these compartments perform is blamed by the link's account, on none of them, after at least so
-  -- many events; and the link's text is that of the blamed compartment's section
+  -- the text in which these compartments perform is blamed by the link's account, on none of them, after at least
+  -- `least` events; and the link's text is that of the blamed compartment's section
   pub record IsNext (comps : List ℕ) (least : ℕ) (link : Link) : Type 0 where
     pub text : HasProgram (among comps)
     pub blamed : IsBlamedSo text.program inputs steps trace link

@@ -21,7 +21,7 @@ use sc_types::{SourceText, one_program};
 use sqlite_items::Items;
 use std::alloc::Global;
 
-// What a run of the machine shows, and why it stopped.
+// The trace of a run of the machine, and why it stopped.
 #[derive(Drop)]
 struct Shown {
     trace: Trace,
@@ -75,7 +75,7 @@ fn copied_trace(alloc: Global, events: &[Event]) -> Result<Trace, OutOfMemory>
     Ok(trace)
 }
 
-// What the machine shows on an image in at most so many steps and events.
+// The machine's trace on an image in at most `steps` steps and `events` events.
 fn run_image(
     alloc: Global,
     image: Image,
@@ -156,8 +156,8 @@ fn chain(
     Ok(links)
 }
 
-/// What the machine shows on the image of a program in at most so many steps and events, and the chain of texts that
-/// accounts for it.
+/// The machine's trace on the image of a program in at most `steps` steps and `events` events, and the chain of texts
+/// that accounts for it.
 pub fn explain(
     alloc: Global,
     source: &SourceText,

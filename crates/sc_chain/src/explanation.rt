@@ -6,7 +6,7 @@ use sc_core::Cause;
 use sc_event::{CompId, Trace};
 use sqlite_items::Items;
 
-/// A compartment that was blamed after so many events of the trace, why, and at which line of its section; and the text
+/// A compartment that was blamed after `after` events of the trace, why, and at which line of its section; and the text
 /// that stands in the place of that section from there on.
 #[derive(Drop)]
 pub struct Link {

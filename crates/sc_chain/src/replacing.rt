@@ -39,7 +39,7 @@ fn has_words(event: &Event)
     }
 }
 
-// Tells proofs that the values of events are words; it does nothing.
+// States for proofs that the values of events are words; it does nothing.
 pub(crate) fn have_words(events: &[Event])
     ensures { All HasWords events.now }
 {
@@ -80,7 +80,7 @@ fn replacements(
     Ok(items)
 }
 
-// Reads a text that is accepted, so that memory alone may be wanting.
+// Reads a text that is accepted, so that it can fail only for want of memory.
 fn read_accepted(alloc: Global, text: &[u8]) -> Result<SourceText, OutOfMemory>
     requires { (program : ProgramTree) × Accepts text.now program }
     ensures bytes { IfOk result (λ new. new.bytes ≡ text.now) }

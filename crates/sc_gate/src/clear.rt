@@ -3,8 +3,7 @@ ghost use Rattle.std.specs.Prelude.{◌≡◌, ◌≤◌};
 
 use sc_image::layout::A0;
 
-/// Puts 0 into every register that doesn't hold one of so many arguments, at most 8. They lie in a0
-/// to a7.
+/// Puts 0 into every register that doesn't hold one of `params` arguments, at most 8. They lie in a0 to a7.
 pub fn clear_for_call(regs: &mut [u32; 32], params: u8)
     requires { params ≤ 8 }
     ensures { regs.new ≡ cleared_for_call params regs.old }
@@ -19,7 +18,7 @@ pub fn clear_for_ret(regs: &mut [u32; 32], has_result: bool)
     keep(regs, usize::from(has_result));
 }
 
-/// Puts 0 into every register but so many from a0 on.
+/// Puts 0 into every register but the `count` from a0 on.
 fn keep(regs: &mut [u32; 32], count: usize)
     requires { count ≤ 8 }
     ensures { regs.new ≡ kept (is_argument count) regs.old }

@@ -5,7 +5,7 @@ use sc_event::{CompId, Entry};
 pub struct CrossEntry {
     /// The compartment that called.
     pub caller: CompId,
-    /// The address where it goes on.
+    /// Its return address.
     pub pc: u32,
     /// Its stack pointer.
     pub sp: u32,

@@ -1,4 +1,4 @@
--- What a step can come to, in two states at once that a compartment can't tell apart: the same registers, pc, inputs
+-- What a step can come to, in two states at once that a compartment can't distinguish: the same registers, pc, inputs
 -- and events, and the same bytes at its addresses. A relation between the outcomes holds if it holds of each kind of
 -- outcome.
 use Rattle.sc_image.proofs.Common.{Auipc, BadCall, BadJump, Bool, Branch, Breakpoint, Crossing, Ebreak, Ecall, Export}

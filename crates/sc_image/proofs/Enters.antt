@@ -14,7 +14,7 @@ use Rattle.sc_image.proofs.Common.{◌==◌, ◌∙◌, ◌∷◌, ◌≡◌, �
 use Rattle.sc_image.proofs.Cases.{crossing_to, step_of}
 use Rattle.sc_image.proofs.Words.{comp_found, no_export}
 
--- The words of so many registers from r on, with 0 in each that isn't kept.
+-- The words of `count` registers from r on, with 0 in each that isn't kept.
 abbrev chosen : (keeps : ℕ → Bool) (word : ℕ → ℕ) (r count : ℕ) → List ℕ
 chosen keeps word r zero = []
 chosen keeps word r (suc count) = (if keeps r then word r else 0) ∷ chosen keeps word (suc r) count
@@ -185,7 +185,7 @@ module _ (image : ImageParts) (inputs : List ℕ) (state : State) (d : ℕ) (for
     reads = λ may active event same. absurd (differ active);
   })
 
--- Who is active after a step that shows this one event, a call of d or a return to it.
+-- Who is active after a step that emits this one event, a call of d or a return to it.
 
 module _ (image : ImageParts) (inputs : List ℕ) (state : State) (d : ℕ) (formed : IsWellFormed image) (event : Event)
     (activating : activates d event ≡ true) where

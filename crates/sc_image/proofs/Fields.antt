@@ -1,5 +1,5 @@
--- Fields: what a field's reader took from the front of the bytes is the field as it is written, and what is written is
--- read again.
+-- Fields: the first bytes, which a field's reader took, are the field as it is written, and what is written is read
+-- again.
 use Rattle.sc_image.proofs.Common.{All, AllByRecursion, BadImage, Bool, Err, List, Ok, Read, Result, [], ap}
 use Rattle.sc_image.proofs.Common.{append_assoc, arith, bytes_at, cases_lt, drop, drop_at, false, fields_at, flat_map}
 use Rattle.sc_image.proofs.Common.{get_or, get_or-drop, get_or-take, get_or_past, if_good, inl, inr, le-leb, le_bytes_2}
@@ -48,7 +48,7 @@ done x = Ok x
 ok_is : {A : Type 0} (x y : A) → done x ≡ done y → x ≡ y
 ok_is x y e = cc
 
--- what a reader took from the front
+-- the first bytes, which a reader took
 pub record Takes (bytes text rest : List ℕ) : Type 0 where
   pub parts : bytes ≡ text ++ rest
   pub rest_fits : IsBytes rest
@@ -124,7 +124,7 @@ followed {A} {B} {f} {t} {F} {g} {u} {G} h first k keeps = record {
       ap (λ r. r >>= (λ x. g x.0 x.1)) one ∙ (k b fits.0).again y rest fits.1;
 }
 
--- so many bytes
+-- `size` bytes
 pub bytes_field : (cause : BadImage) (size : ℕ) → IsField (bytes_at cause size) (λ x. x)
     (λ x. (length x ≡ size) × IsBytes x)
 bytes_field cause size = record {
@@ -231,7 +231,7 @@ module _ {A : Type 0} (f : List ℕ → Read A) (t : A → List ℕ) (F : A → 
       ap (λ r. r >>= (λ y. fields_at f (length xs) y.1 >>= (λ others. Ok (y.0 ∷ others.0, others.1)))) one ∙
       ap (λ r. r >>= (λ others. Ok (x ∷ others.0, others.1))) (many_again xs rest all.1)
 
-  -- so many of them
+  -- `count` of them
   pub many_field : (count : ℕ) → IsField (fields_at f count) (flat_map t)
       (λ xs. (length xs ≡ count) × AllByRecursion F xs)
   many_field count = record {

@@ -187,7 +187,7 @@ grouped : (name exports imports code globals : List ℕ) (f : ℕ) →
     name ++ (f ∷ (exports ++ (imports ++ (code ++ globals)))) ≡ name ++ f ∷ exports ++ imports ++ code ++ globals
 grouped name exports imports code globals f = simp append_assoc
 
--- an image of so many compartments
+-- an image of `comps` compartments
 module _ (comps : ℕ) (few : comps ≤ 32) where
   import_field : IsField (import_at comps) import_bytes (FitsImport comps)
   unfolding import_at

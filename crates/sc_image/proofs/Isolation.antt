@@ -91,7 +91,7 @@ module _ (image : ImageParts) (inputs : List ℕ) (state : State) (d : ℕ) (for
     reads = λ may next. own_kept (with_pc (input inputs state) (state.pc + 4)) next refl refl refl;
   })
 
--- Who is active after a step that shows no entry of d.
+-- Who is active after a step that emits no entry of d.
 
 entry_by : (to d : ℕ) → (to == d || false) ≡ false → to ≢ d
 entry_by to d none same = let yes : (to == d || false) ≡ true = rw (eq-eqb to d same) refl in let never =
@@ -152,7 +152,7 @@ stored_same : (image : ImageParts) (c a size word : ℕ) (memory memory' : Memor
     data_of image c (stored memory a size word) ≡ data_of image c (stored memory' a size word)
 stored_same image c a size word memory memory' same = λ i x. stored_at image c a size word x memory _ same _ refl i
 
--- What comes next in two states of which the compartment can't tell which one it is in.
+-- What comes next in two states that the compartment can't distinguish.
 pub record Follow (image : ImageParts) (c : ℕ) (s t : State) (x x' : Outcome) : Type 0 where
   pub shows : observation_of s x ≡ observation_of t x'
   pub parts : own image (after_outcome s x) c ≡ own image (after_outcome t x') c

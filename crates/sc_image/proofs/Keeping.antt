@@ -63,7 +63,7 @@ pub entries_count : {S : Type 0} (exports : List ExportPart) (set : HashSet ℕ 
 entries_count exports set len made len-is =
     count_tells ◌==◌ (equivalence ◌==◌ unsigned_Decides) _ set len _ made len-is (sym (length-map _ _))
 
--- imports are told apart by their numbers
+-- imports are distinguished by their numbers
 
 abbrev numbers : ImportPart → ℕ × ℕ
 numbers import = (import.comp, import.index)
@@ -102,7 +102,7 @@ imports_count imports set len made len-is = count_tells _ (equivalence _ pairs_d
 
 pub ruleset counted = (comp_names_count, export_names_count, entries_count, imports_count)
 
--- so many of eight
+-- the first `m` of eight
 pub ints_taken : (n m : ℕ) → n ≤ 8 → m ≡ n → take m (Int ∷ Int ∷ Int ∷ Int ∷ Int ∷ Int ∷ Int ∷ Int ∷ []) ≡
     replicate n Int
 ints_taken n m few is =

@@ -21,7 +21,7 @@ next_is : (low high a k : ℕ) → ((nat_le low a && nat_le (a + suc k) high) &&
     (nat_le low (a + suc k) && nat_le (a + suc k + 1) high)) ≡ (nat_le low a && nat_le (a + suc (suc k)) high)
 next_is low high a k = grind (arith, nat_tests)
 
--- so the first and the last of some bytes tell of all
+-- so the first and the last of some bytes decide for all
 pub data_range : (image : ImageParts) (c a k : ℕ) → are_data image c a
     (suc k) ≡ (nat_le (data_start c) a && nat_le (a + suc k) (stack_top c + length (globals_of image c)))
 unfolding are_data

@@ -17,7 +17,7 @@ from_start = 1 ∷ 0x4d ∷ 2 ∷ 0 ∷ 0 ∷ 0 ∷ 0 ∷ 0x14 ∷ 0 ∷ 0 ∷ 0
 abbrev seven : List ℕ
 seven = 0x53 ∷ 0x43 ∷ 0x49 ∷ 0x4d ∷ 1 ∷ 0 ∷ 1 ∷ 0 ∷ 0 ∷ 0 ∷ 0 ∷ 1 ∷ from_start
 
--- each front of it that is shorter, and one byte more
+-- each proper prefix of it, and it with one byte more
 fronts : (map (λ k. bad (take k seven)) (range_with_len 0 47) ≡
     replicate 4 (Some Mark) ++ (replicate 2 (Some Version) ++
     (replicate 1 (Some Count) ++ (replicate 5 (Some Start) ++ (replicate 3 (Some Compartment) ++

@@ -1,4 +1,4 @@
--- Runs along stretches, the states that runs reach, and stretches that tell events.
+-- Runs along stretches, the states that runs reach, and stretches that emit events.
 use Rattle.sc_image.proofs.Common.{Bool, Crossing, Ended, Event, EventsOut, Goes, ImageParts, IsCall, IsReached}
 use Rattle.sc_image.proofs.Common.{IsWellFormed, List, None, Option, Outcome, Some, State, StepsOut, StepsTell, Stop}
 use Rattle.sc_image.proofs.Common.{StretchesCompose, TellingComposes, Tells, Traps, Walks, [], ap, append-nil}
@@ -145,7 +145,7 @@ module _ (image : ImageParts) (inputs : List ℕ) (formed : IsWellFormed image) 
 
   -- The states that runs reach.
 
-  -- so many steps lead from one state to another, with no end before the last
+  -- n steps lead from one state to another, with no end before the last
   abbrev OpenWalk : ℕ → State → State → Type 0
   OpenWalk zero from to = from ≡ to
   OpenWalk (suc n) from to = (is_ended from.trace ≡ false) ×
@@ -226,7 +226,7 @@ stretches_compose = record {
   reached_next = λ image inputs from to formed. reached_next image inputs formed from to;
 }
 
--- Stretches that tell events, and the steps that tell one.
+-- Stretches that emit events, and the steps that emit one.
 
 -- Stretches.
 

@@ -1,5 +1,5 @@
 -- What passes between compartments, and between a compartment and the environment: calls, returns, outputs and inputs.
--- Numbers alone pass: every register that isn't named here is 0 on the other side.
+-- Only numbers pass: every register that isn't named here is 0 on the other side.
 use Rattle.sc_image.specs.Common.{Call, End, Export, In, Out, Ret}
 use Rattle.std.specs.Prelude.{ℕ, suc, ◌+◌, Bool, ◌&&◌, nat_eq, nat_le, nat_lt, List, [], ◌∷◌, ◌++◌, take, drop}
 use Rattle.std.specs.Prelude.{slice_get, slice_set, Option, Some, None, unwrap_or, if◌then◌else◌}
@@ -16,7 +16,7 @@ kept_from keeps r (word ∷ words) = (if keeps r then word else 0) ∷ kept_from
 abbrev pub kept : (ℕ → Bool) → List ℕ → List ℕ
 kept keeps regs = kept_from keeps 0 regs
 
--- a register that holds an argument, of so many: a0 and on
+-- a register that holds one of `params` arguments: a0 and on
 abbrev pub is_argument : (params r : ℕ) → Bool
 is_argument params r = nat_le a0 r && nat_lt r (a0 + params)
 
@@ -30,11 +30,11 @@ cleared_for_call params regs = kept (is_argument params) regs
 abbrev pub cleared_for_return : (result : Bool) → List ℕ → List ℕ
 cleared_for_return result regs = kept (is_result result) regs
 
--- the words of so many arguments
+-- the words of `params` arguments
 abbrev pub arguments : (params : ℕ) → List ℕ → List ℕ
 arguments params regs = take params (drop a0 regs)
 
--- a call of the export of that index of compartment `to`, which takes so many words and begins at `entry`
+-- a call of the export of that index of compartment `to`, which takes `params` words and begins at `entry`
 abbrev pub called : State → (to index params entry : ℕ) → State
 called state to index params entry = record {
   regs = written (written (cleared_for_call params state.regs) ra gate) sp (saved_sp state to);
@@ -85,7 +85,7 @@ returned image state (crossing ∷ waiting) = returned_to
 
 -- The environment.
 
--- a0 is shown
+-- a0 is emitted
 abbrev pub output : State → State
 output state = with_event state (Out state.active (reg state a0))
 

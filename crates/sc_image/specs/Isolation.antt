@@ -14,7 +14,7 @@ use Rattle.sc_image.specs.Steady.{IsSteady}
 abbrev pub IsReached : ImageParts → List ℕ → State → Type 0
 IsReached image inputs state = (steps : ℕ) × ((events : ℕ) × ((machine image inputs steps events).state ≡ state))
 
--- what a step shows: the events that it adds, or its trap
+-- what can be observed of a step: the events that it emits, or its trap
 pub data Observation : Type 0 where
   Adds : (events : List Event) → Observation
   Stops : (reason : TrapReason) → Observation
@@ -38,13 +38,13 @@ after_step image inputs state = after_outcome state (step image inputs state)
 abbrev pub IsSilent : ImageParts → List ℕ → State → Type 0
 IsSilent image inputs state = observation image inputs state ≡ Adds []
 
--- so many steps from a state on are silent
+-- `steps` steps from a state on are silent
 abbrev pub AreSilent : ImageParts → List ℕ → (steps : ℕ) → State → Type 0
 AreSilent image inputs zero state = Unit {0}
 AreSilent image inputs (suc steps) state = IsSilent image inputs state ×
     AreSilent image inputs steps (after_step image inputs state)
 
--- the state after so many steps
+-- the state after `steps` steps
 abbrev pub after_steps : ImageParts → List ℕ → (steps : ℕ) → State → State
 after_steps image inputs zero state = state
 after_steps image inputs (suc steps) state = after_steps image inputs steps (after_step image inputs state)
@@ -57,7 +57,7 @@ activates d (Out comp value) = false
 activates d (In comp value) = false
 activates d (End comp value) = false
 
--- a step shows an event that makes d active
+-- a step emits an event that makes d active
 abbrev pub shows_entry : ℕ → Observation → Bool
 shows_entry d (Adds events) = list_any (activates d) events
 shows_entry d (Stops reason) = false
@@ -70,7 +70,7 @@ LeavesOthers =
     d ≢ state.active → shows_entry d (observation image inputs state) ≡ false →
     own image (after_step image inputs state) d ≡ own image state d
 
--- Two states that a compartment can't tell apart: it is active in both, with the same events before and the same own
+-- Two states that a compartment can't distinguish: it is active in both, with the same events before and the same own
 -- parts. So the same calls are open. All that belongs to others may differ: their data, their saved sps and their
 -- numbers on the cross stack.
 pub record LooksSame (image : ImageParts) (c : ℕ) (one other : State) : Type 0 where
@@ -81,7 +81,7 @@ pub record LooksSame (image : ImageParts) (c : ℕ) (one other : State) : Type 0
   pub other_active : other.active ≡ c
   pub own_parts : own image one c ≡ own image other c
 
--- after so many silent steps from both, the compartment's own parts are the same, and so is what comes next
+-- after any number of silent steps from both, the compartment's own parts are the same, and so is what comes next
 pub record GoesOnSame (image : ImageParts) (inputs : List ℕ) (c : ℕ) (one other : State) : Type 0 where
   pub own_parts : own image one c ≡ own image other c
   pub next : observation image inputs one ≡ observation image inputs other

@@ -69,7 +69,7 @@ data_with c globals =
 abbrev pub data_regions : ImageParts → ℕ → List Region
 data_regions image c = map (λ filled. filled.region) (data_with c (globals_of image c))
 
--- so many bytes from an address on all lie in c's data
+-- the `size` bytes from an address on all lie in c's data
 unfoldable pub are_data : ImageParts → (c address size : ℕ) → Bool
 are_data image c address zero = true
 are_data image c address (suc size) =

@@ -20,7 +20,7 @@ is_end _ = false
 abbrev pub is_ended : List Event → Bool
 is_ended trace = option_map_or is_end (slice_get trace (length trace - 1)) false
 
--- why a run with room for so many events stops before another step, if it does
+-- why a run of at most `events` events stops before another step, if it does
 unfoldable pub stopped : ℕ → List Event → Option Stop
 stopped events trace = if is_ended trace then Some Ended else if nat_le events (length trace) then Some EventsOut else
     None
@@ -35,18 +35,18 @@ abbrev pub after : State → Outcome → (State → Run) → Run
 after state (Goes next) run = run next
 after state (Traps reason) run = record { state = state; stop = Trap reason state.pc }
 
--- at most so many steps from a state on, with room for so many events in the whole trace
+-- at most `steps` steps from a state on, with at most `events` events in the whole trace
 unfoldable pub run : ImageParts → List ℕ → (events steps : ℕ) → State → Run
 run image inputs events zero state = stops_or (stopped events state.trace) state
     (record { state = state; stop = StepsOut })
 run image inputs events (suc steps) state =
     stops_or (stopped events state.trace) state (after state (step image inputs state) (run image inputs events steps))
 
--- at most so many steps from the start
+-- at most `steps` steps from the start, with at most `events` events
 abbrev pub machine : ImageParts → List ℕ → (steps events : ℕ) → Run
 machine image inputs steps events = run image inputs events steps (start image)
 
--- a run with more steps: it goes on where it stopped for want of steps alone
+-- a run with more steps: it goes on only where it stopped for want of steps
 abbrev pub unless_stopped : Stop → (earlier later : Run) → Run
 unless_stopped StepsOut earlier later = later
 unless_stopped _ earlier later = earlier

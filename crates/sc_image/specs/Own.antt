@@ -5,8 +5,8 @@ use Rattle.sc_image.specs.declared.parts.ImageParts.{ImageParts}
 use Rattle.sc_image.specs.Layout.{are_data}
 use Rattle.sc_image.specs.State.{State, Crossing, saved_sp}
 
--- what a compartment has on the cross stack in a call: where it goes on and its sp as the caller, or its saved sp of
--- before as the one called
+-- what a compartment has on the cross stack in a call: its return address and sp as the caller, or its saved sp of
+-- before as the callee
 pub data Kept : Type 0 where
   Waits : (pc sp : ℕ) → Kept
   Entered : (saved : ℕ) → Kept

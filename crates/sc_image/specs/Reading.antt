@@ -41,11 +41,11 @@ Read A = Result (A × List ℕ) BadImage
 abbrev pub if_good : {A : Type 0} → BadImage → Bool → A → Result A BadImage
 if_good cause good x = if good then Ok x else Err cause
 
--- so many bytes
+-- `size` bytes
 abbrev pub bytes_at : BadImage → (size : ℕ) → List ℕ → Read (List ℕ)
 bytes_at cause size bytes = if_good cause (nat_le size (length bytes)) (take size bytes, drop size bytes)
 
--- a number of so many bytes
+-- a number of `size` bytes
 abbrev pub number_at : BadImage → (size : ℕ) → List ℕ → Read ℕ
 number_at cause size bytes = if_good cause (nat_le size (length bytes)) (little_number size bytes, drop size bytes)
 
@@ -55,7 +55,7 @@ number_that passes cause size bytes = do
   number ← number_at cause size bytes
   if_good cause (passes number.0) number
 
--- so many fields of one kind
+-- `count` fields of one kind
 unfoldable pub fields_at : {A : Type 0} → (List ℕ → Read A) → (count : ℕ) → List ℕ → Read (List A)
 fields_at field zero bytes = Ok ([], bytes)
 fields_at field (suc count) bytes = do
@@ -99,7 +99,7 @@ exports_at bytes = do
   count ← number_that (λ n. nat_le n 4096) Exports 2 bytes
   fields_at export_at count.0 count.1
 
--- a function that may be called, in an image of so many compartments: the one that offers it, and its index there
+-- a function that may be called, in an image of `comps` compartments: the one that offers it, and its index there
 unfoldable pub import_at : (comps : ℕ) → List ℕ → Read ImportPart
 import_at comps bytes = do
   comp ← number_that (λ c. nat_lt c comps) Imports 1 bytes
@@ -123,7 +123,7 @@ globals_at bytes = do
   size ← number_that (λ n. nat_le n most_globals) Contents 4 bytes
   bytes_at Contents size.0 size.1
 
--- a compartment of an image of so many: bit 0 of the flags allows `input`, and bit 1 `output`
+-- a compartment of an image of `comps`: bit 0 of the flags allows `input`, and bit 1 `output`
 unfoldable pub comp_at : (comps : ℕ) → List ℕ → Read CompPart
 comp_at comps bytes = do
   name ← comp_name_at bytes

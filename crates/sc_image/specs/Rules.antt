@@ -1,4 +1,4 @@
--- The rules on a whole image, as tests: what its fields don't show one by one.
+-- The rules on a whole image, as tests: what can't be checked field by field.
 use Rattle.std.specs.Prelude.{ℕ, suc, Bool, true, false, ◌&&◌, ◌==◌, not, nat_lt, List, [], ◌∷◌, length, map, slice_get}
 use Rattle.std.specs.Prelude.{is_some}
 use Rattle.std.specs.Option.{option_map_or}

@@ -9,11 +9,11 @@ use Rattle.sc_image.specs.Layout.{comp_of_data, stack_top, gate, Filled, data_wi
 
 -- a call of another compartment that hasn't returned
 pub record Crossing : Type 0 where
-  -- who called, where it goes on, and its sp
+  -- the caller, its return address and its sp
   pub caller : ℕ
   pub pc : ℕ
   pub sp : ℕ
-  -- what was called, and that compartment's saved sp before the call
+  -- the callee, its entry, and the callee's saved sp before the call
   pub callee : ℕ
   pub entry : Entry
   pub saved : ℕ

@@ -66,6 +66,6 @@ pub record IsSteady (image : ImageParts) (state : State) : Type 0 where
   pub bytes : HoldsBytes state.memory
   pub chain : IsChain (length image.comps) state.active state.cross
   pub kept : All KeepsWords state.cross
-  -- the cross stack and the inputs are as the trace tells
+  -- the cross stack and the inputs agree with the trace
   pub calls : map call_of state.cross ≡ open_calls state.trace
   pub input : state.input ≡ inputs_in state.trace

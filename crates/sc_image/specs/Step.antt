@@ -100,7 +100,7 @@ store_size Sb = 1
 store_size Sh = 2
 store_size Sw = 4
 
--- why so many bytes from an address on may not be accessed: it isn't a multiple of their number, or the access isn't
+-- why the `size` bytes from an address on may not be accessed: it isn't a multiple of `size`, or the access isn't
 -- allowed
 abbrev pub refused_by : (allowed : Bool) → (size address : ℕ) → Option TrapReason
 refused_by allowed size address =
@@ -146,7 +146,7 @@ jalr_target base imm = add_word base (word_of imm) / 2 * 2
 pub record Protection : Type 0 where
   -- the word that compartment c may execute at an address
   pub fetched : (c address : ℕ) → Option ℕ
-  -- whether c may load so many bytes from an address on, or store there
+  -- whether c may load the `size` bytes from an address on, or store there
   pub may_load : (c address size : ℕ) → Bool
   pub may_store : (c address size : ℕ) → Bool
   -- where a jump leads whose target is out of the own code: of JAL, and of JALR

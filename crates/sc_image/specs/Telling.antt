@@ -1,5 +1,5 @@
--- Stretches of a run that tell events, for proofs about code that calls and is called: a whole run is cut into silent
--- stretches and steps that tell one event each.
+-- Stretches of a run that emit events, for proofs about code that calls and is called: a whole run is cut into silent
+-- stretches and steps that emit one event each.
 use Rattle.sc_image.specs.Common.{Call, Ecall, Ended, Event, In, Jal, Jalr, Out, Ret, Stop, add_word, word_of}
 use Rattle.std.specs.Prelude.{◌≡◌, ℕ, suc, ◌+◌, ◌<◌, ℤ, true, false, List, [], ◌∷◌, ◌++◌, length, Some, None}
 use Rattle.std.specs.List.{list_any}
@@ -13,13 +13,13 @@ use Rattle.sc_image.specs.Step.{Goes, jalr_target, step}
 use Rattle.sc_image.specs.Machine.{is_end, stopped, run}
 use Rattle.sc_image.specs.Walks.{Walks, IsAt}
 
--- so many steps lead from one state to another and tell these events, of which none is the end
+-- `steps` steps lead from one state to another and emit these events, of which none is the end
 pub record Tells (image : ImageParts) (inputs : List ℕ) (steps : ℕ) (told : List Event) (from to : State) : Type 0 where
   pub walks : Walks image inputs steps from to
   pub trace : to.trace ≡ from.trace ++ told
   pub no_end : list_any is_end told ≡ false
 
--- Stretches that tell events follow one another, and a run goes along them while there is room for what they tell.
+-- Stretches that emit events follow one another, and a run goes along them while its bound on events isn't reached.
 pub record TellingComposes : Type 0 where
   pub silent : (image : ImageParts) (inputs : List ℕ) (steps : ℕ) (from to : State) →
       Walks image inputs steps from to → from.trace ≡ to.trace → Tells image inputs steps [] from to
@@ -32,7 +32,7 @@ pub record TellingComposes : Type 0 where
   pub run_along : (image : ImageParts) (inputs : List ℕ) (events steps more : ℕ) (told : List Event) (from to : State) →
       IsWellFormed image → Tells image inputs steps told from to → stopped events from.trace ≡ None →
       length to.trace < events → run image inputs events (steps + more) from ≡ run image inputs events more to
-  -- up to a step whose event is the last: the end, or the last that there is room for
+  -- up to a step whose event is the last: the end, or the last that the bound allows
   pub run_to_stop : (image : ImageParts) (inputs : List ℕ) (events steps more : ℕ) (told : List Event)
       (from last to : State) (stop : Stop) → IsWellFormed image → Tells image inputs steps told from last →
       stopped events from.trace ≡ None → length last.trace < events → step image inputs last ≡ Goes to →
@@ -44,14 +44,14 @@ pub record IsCall (image : ImageParts) (state : State) (to index target : ℕ) :
   pub entry : export_at image to target ≡ Some index
   pub may : may_call image state.active to index ≡ true
 
--- what a call tells and leads to
+-- what a call emits and leads to
 abbrev pub TellsCall : (image : ImageParts) (inputs : List ℕ) (state : State) (to index target : ℕ) → Type 0
 TellsCall image inputs state to index target =
     let params = params_of image to index in
     let event = Call state.active to index (arguments params state.regs) in
     Tells image inputs 1 (event ∷ []) state (called state to index params target)
 
--- The steps that tell an event, by their instruction.
+-- The steps that emit an event, by their instruction.
 pub record StepsTell : Type 0 where
   pub jal_calls : (image : ImageParts) (inputs : List ℕ) (state : State) (imm : ℤ) (to index target : ℕ) →
       IsWellFormed image → IsAt image state (Jal ra imm) → add_word state.pc (word_of imm) ≡ target →

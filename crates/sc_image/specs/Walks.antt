@@ -1,4 +1,4 @@
--- Stretches of a run, for proofs about code: so many steps that lead from one state to another, and what they say of
+-- Stretches of a run, for proofs about code: numbers of steps that lead from one state to another, and what they say of
 -- whole runs.
 use Rattle.sc_image.specs.Common.{Auipc, BadJump, Branch, BranchOp, Breakpoint, Ebreak, Ecall, Fence, Instr, Jal, Jalr}
 use Rattle.sc_image.specs.Common.{Load, LoadOp, Lui, Op, OpImm, OpImmOp, OpOp, Region, Shift, ShiftOp, StepsOut, Stop}
@@ -22,12 +22,12 @@ abbrev pub then_on : Outcome → (State → Outcome) → Outcome
 then_on (Goes state) go = go state
 then_on (Traps reason) go = Traps reason
 
--- so many steps from a state on, whatever they show, up to the first trap
+-- `steps` steps from a state on, whatever they emit, up to the first trap
 abbrev pub walk : ImageParts → List ℕ → (steps : ℕ) → State → Outcome
 walk image inputs zero state = Goes state
 walk image inputs (suc steps) state = then_on (step image inputs state) (walk image inputs steps)
 
--- so many steps lead from one state to another
+-- `steps` steps lead from one state to another
 pub record Walks (image : ImageParts) (inputs : List ℕ) (steps : ℕ) (from to : State) : Type 0 where
   pub by : walk image inputs steps from ≡ Goes to
 
@@ -37,8 +37,8 @@ pub record IsAt (image : ImageParts) (state : State) (instr : Instr) : Type 0 wh
   pub fetched : word_at image state.active state.pc ≡ Some word
   pub decodes : decoded word ≡ Some instr
 
--- Stretches follow one another, and a run goes along a stretch as long as it neither ends nor has shown all the events
--- that it may.
+-- Stretches follow one another, and a run goes along a stretch as long as it neither ends nor has emitted all the
+-- events that it may.
 pub record StretchesCompose : Type 0 where
   pub one_step : (image : ImageParts) (inputs : List ℕ) (from to : State) → step image inputs from ≡ Goes to →
       Walks image inputs 1 from to

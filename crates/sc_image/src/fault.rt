@@ -31,7 +31,7 @@ pub enum BadImage {
 }
 
 impl BadImage {
-    /// The number that the cause is told by, 1 to 9 in the order of the fields.
+    /// The number by which the cause is reported, 1 to 9 in the order of the fields.
     pub fn number(self) -> u8
         ensures { result ≡ cause_number self }
     {

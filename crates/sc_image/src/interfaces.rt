@@ -9,8 +9,8 @@ use sc_event::{
 };
 use std::alloc::Global;
 
-/// The interfaces of the image's compartments. An image doesn't tell `int` from `unsigned int`: every parameter and
-/// every result is an `int`.
+/// The interfaces of the image's compartments. An image doesn't distinguish `int` and `unsigned int`: every parameter
+/// and every result is an `int`.
 pub fn image_interfaces(alloc: Global, image: &Image) -> Result<Interfaces, OutOfMemory>
     ensures { IfOk result (λ interfaces. interfaces ≡ interfaces_of image.now) }
 {
@@ -64,7 +64,7 @@ fn proto_of(alloc: Global, export: &ExportPart) -> Proto
     }
 }
 
-// So many parameters.
+// `count` parameters, each an `int`.
 #[tactic(auto, using(crate::proofs::Keeping::ints_taken))]
 fn ints(alloc: Global, count: u8) -> Params
     requires { count ≤ 8 }

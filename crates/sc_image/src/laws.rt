@@ -68,13 +68,13 @@ pub fn steps_by_instruction()
     ensures { StepsByInstruction }
 {}
 
-/// Stretches that tell events follow one another, and a run goes along them with the trace that they tell.
+/// Stretches that emit events follow one another, and a run goes along them with the trace that they emit.
 #[tactic(auto, using(crate::proofs::Stretches::telling_composes))]
 pub fn telling_composes()
     ensures { TellingComposes }
 {}
 
-/// What a call, a return, an output, an input and the end of a run tell, by the instruction at the pc.
+/// What a call, a return, an output, an input and the end of a run emit, by the instruction at the pc.
 #[tactic(auto, using(crate::proofs::Stretches::steps_tell))]
 pub fn steps_tell()
     ensures { StepsTell }

@@ -1,4 +1,4 @@
-//! Images read from their bytes. Behind the first two, each function takes a field from the front of the bytes that are
+//! Images read from their bytes. After the first two, each function takes a field from the start of the bytes that are
 //! left.
 
 ghost use Rattle.sc_image.specs.Prelude.{Gives, bad, bytes_at, code_at, comp_at, comp_name_at, exports_at, fields_at};
@@ -254,7 +254,7 @@ fn name_at(cause: BadImage, bytes: &mut &[u8]) -> Result<Name, ImageFault>
     Ok(name)
 }
 
-// The number of one of so many compartments.
+// The number of one of `comps` compartments.
 fn comp_id_at(cause: BadImage, comps: u8, bytes: &mut &[u8]) -> Result<CompId, ImageFault>
     requires { comps ≤ 32 }
     ensures { Gives (λ x. (x, bytes.new.now)) result (number_that (λ c. nat_lt c comps) cause 1 bytes.old.now) }
@@ -307,7 +307,7 @@ fn u32_at(cause: BadImage, bytes: &mut &[u8]) -> Result<u32, ImageFault>
     Ok(LittleEndian::read_u32(front))
 }
 
-// So many bytes from the front.
+// The first `size` bytes.
 fn bytes_at<'a>(cause: BadImage, size: usize, bytes: &mut &'a [u8]) -> Result<&'a [u8], ImageFault>
     ensures { Gives (λ x. (x.now, bytes.new.now)) result (bytes_at cause size bytes.old.now) }
 {

@@ -12,8 +12,8 @@ use sc_base::Name;
 use std::alloc::{AllocError, Global};
 use std::collections::HashSet;
 
-/// Whether the parts keep the rules that no field shows alone: distinct names, entries and imports, entries at words of
-/// the code, and imports of what another compartment offers.
+/// Whether the parts keep the rules that can't be checked field by field: distinct names, entries and imports, entries
+/// at words of the code, and imports of what another compartment offers.
 pub fn keeps_rules(alloc: Global, parts: &ImageParts) -> Result<bool, AllocError>
     requires { length parts.now.comps ≤ 32 }
     ensures { IfOk result (λ keeps. keeps ≡ keeps_rules parts.now) }
@@ -171,7 +171,7 @@ fn are_distinct_imports(alloc: Global, imports: &[ImportPart]) -> Result<bool, A
     Ok(pairs.len() == imports.len())
 }
 
-// Each import as the numbers that it is told apart by.
+// Each import as the numbers that distinguish it.
 fn pairs_of(alloc: Global, imports: &[ImportPart]) -> Result<HashSet<(u8, u16)>, AllocError>
     ensures { IfOk result (IsFromIterResult (λ a b. a.0 == b.0 && a.1 == b.1)
         (map (λ import. (import.comp, import.index)) imports.now)) }

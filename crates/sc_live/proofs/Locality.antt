@@ -1,4 +1,4 @@
--- What a piece of code says of a temporary depends on what is live of that temporary alone.
+-- What a piece of code says of a temporary depends only on what is live of that temporary.
 use Rattle.sc_live.proofs.Common.{Bool, List, Lives, None, Option, Point, Set, Some, TacStmt, TacStmt-F, Trail, []}
 use Rattle.sc_live.proofs.Common.{ahead_at, ap, false, fold-roll-TacStmt, if_calls, in_body, in_head, in_next, is_one}
 use Rattle.sc_live.proofs.Common.{live_across, live_at_start, live_before, loop_points, map, map-TacStmt, not}

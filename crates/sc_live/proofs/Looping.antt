@@ -1,5 +1,5 @@
--- One round of a loop, from nothing that is live at its end, tells its points: what is then live at its start is used
--- from the loop's start to its end, and of nothing else do the points differ.
+-- One round of a loop, from nothing that is live at its end, determines its points: what is then live at its start is
+-- used from the loop's start to its end, and of nothing else do the points differ.
 use Rattle.sc_live.proofs.Common.{Bool, Holds, List, Lives, Mark, None, Option, Passed, Point, Set, Some, TacStmt}
 use Rattle.sc_live.proofs.Common.{Trail, Walk, Walked, WalkedAll, WalkedOver, [], ap, append_assoc, arith, false}
 use Rattle.sc_live.proofs.Common.{if◌then◌else◌, in_body, in_head, in_next, is_one, is_used, length, live_at_start}
@@ -47,7 +47,7 @@ capped : (at end : ℕ) (known : Option Mark) → end ≤ at → last_or end kno
 capped at end None h k = omega (arith, h)
 capped at end (Some mark) h k = omega (arith, k)
 
--- capped at the end of a piece of code, a mark ends where it would end behind the piece
+-- capped at the end of a piece of code, a mark ends where it would end after the piece
 capped_behind : (t at : ℕ) (xs ys : List Point) → length ys ≤ at →
     min (last_or at (mark_of t (xs ++ ys))) (length ys) ≡ last_or (length ys) (mark_of t ys)
 capped_behind t at [] ys h = capped at (length ys) (mark_of t ys) h (ends_within t (length ys) ys (omega arith))
@@ -64,7 +64,7 @@ capped_behind t at (x ∷ xs) ys h =
     longer [] ys = omega arith
     longer (x ∷ xs) ys = omega (arith, longer xs ys)
 
--- a mark ends where it ends behind what stands in front
+-- points before those of a mark don't change where it ends
 ends_behind : (t at : ℕ) (mark : Mark) (xs ys : List Point) → mark_of t ys ≡ Some mark →
     last_or at (mark_of t (xs ++ ys)) ≡ mark.last
 ends_behind t at mark [] ys is = ap (last_or at) is
@@ -105,7 +105,7 @@ module _ (head body next : List TacStmt) (lives : Lives) where
   abbrev pub round_head : Lives
   round_head = part_lives lives (live_before B round_body)
 
-  -- the points of one round, and those of the loop behind its first
+  -- the points of one round, and those of the loop after its first
   abbrev pub round : List Point
   round =
       row_points H round_head ++ (row_points B round_body ++ (row_points N round_next ++ point false nothing ∷ []))
@@ -164,7 +164,7 @@ module _ (head body next : List TacStmt) (lives : Lives) where
       abbrev end : ℕ
       end = length behind
 
-      -- where it is live at the start, its mark ends behind the loop or at its end
+      -- where it is live at the start, its mark ends after the loop or at its end
       end_is : (t : ℕ) → start t ≡ true →
           last_or at (mark_of t (whole ++ behind)) ≡ last_or end (mark_of t behind)
       end_is t live =

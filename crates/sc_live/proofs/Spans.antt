@@ -1,4 +1,4 @@
--- Marks among all points of a function tell its intervals.
+-- Marks among all points of a function give its intervals.
 use Rattle.sc_live.proofs.Common.{AreIntervals, Bool, Holds, List, Mark, None, Option, Point, Some, Span, Walk, [], ap}
 use Rattle.sc_live.proofs.Common.{arith, drop, false, from_here, has_call, if◌then◌else◌, inl, inr, interval_at}
 use Rattle.sc_live.proofs.Common.{interval_of, is_met, is_used, leb, length, list_any, map, mark_from, mark_here}
@@ -60,7 +60,7 @@ met_more last x xs k (inr h) =
       | false ↦ k ∙ ap (λ n. any_call (take n xs)) fewer
     ] ∙ ap (λ n. any_call (take n (x ∷ xs))) (sym none)
 
--- the nearest call is met where there is one in front of what stands behind
+-- the nearest call is met where a function is called at a point up to the last
 met : (last : ℕ) (points : List Point) → Met last points
 met last [] =
     let none : 0 ≡ 0 - last = omega arith in ap (λ n. any_call (take n [])) none
@@ -85,7 +85,7 @@ inside t (x ∷ xs) =
     longer None h = tt
     longer (Some mark) h = (omega (arith, h.0), omega (arith, h.1))
 
--- a mark tells whether a function is called at a point of it
+-- a mark says whether a function is called at a point of it
 abbrev Calls : List Point → Option Mark → Type 0
 Calls points None = Unit {0}
 Calls points (Some mark) = mark.spans_call ≡ has_call points (flip (length points) mark)

@@ -27,7 +27,7 @@ relived_before points set before after live h = record {
       h.holds temps behind (record { counted = k.counted; call = k.call; marks = k.marks });
 }
 
--- one piece in front of another
+-- one piece before another
 pub walked_on : (xs ys : List Point) (set set' : Set) (before between after : Walk) →
     Walked ys set before between → Walked xs set' between after → Walked (xs ++ ys) set' before after
 walked_on xs ys set set' before between after h k = record {
@@ -62,7 +62,7 @@ plain_walked reads calls assigned a b c d first second third =
     (subst (λ s. Walked (if_calls calls (point true s)) s b c) b_is second))
     (subst (λ s. Walked (point false (λ t. is_one t reads || s t) ∷ []) (λ t. is_one t reads || s t) c d) c_is third)
 
--- a statement in front of others
+-- a statement before others
 pub row_walked : (stmt : TacStmt) (rest : List TacStmt) (lives : Lives) (a b c : Walk) → WalkedAll rest lives a b →
     WalkedOver stmt (record lives { behind = set_of b.live }) b c → WalkedAll (stmt ∷ rest) lives a c
 row_walked stmt rest lives a b c h k =

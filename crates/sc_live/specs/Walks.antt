@@ -7,13 +7,13 @@ use Rattle.sc_live.specs.declared.marks.Mark.{Mark}
 use Rattle.sc_live.specs.declared.walk.Walk.{Walk}
 use Rattle.sc_live.specs.Marks.{mark_of, marked, nearest_call, set_of}
 
--- the walk has passed these points, and knows of each of so many temporaries where it is used at them
+-- the walk has passed these points, and knows of each of `temps` temporaries where it is used at them
 pub record Holds (temps : ℕ) (walk : Walk) (points : List Point) : Type 0 where
   pub counted : walk.points ≡ length points
   pub call : walk.call ≡ nearest_call points
   pub marks : (t : ℕ) → t < temps → slice_get walk.marks t ≡ Some (mark_of t points)
 
--- it goes on over these points, which stand in front of those that it has passed; this is live at their start
+-- it goes on over these points, which stand before those that it has passed; this is live at their start
 pub record Walked (points : List Point) (set : Set) (before after : Walk) : Type 0 where
   pub live : set_of after.live ≡ set
   pub holds : (temps : ℕ) (behind : List Point) → Holds temps before behind → Holds temps after (points ++ behind)

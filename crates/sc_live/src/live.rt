@@ -30,7 +30,7 @@ impl LiveSet {
         }
     }
 
-    /// This one alone, if it is one.
+    /// Only this one, or none.
     pub fn one(alloc: Global, temp: Option<u32>) -> Result<LiveSet, OutOfMemory>
         ensures { IfOk result (λ set. set ≡ one_or_none temp) }
     {

@@ -5,7 +5,7 @@ ghost use Rattle.sc_live.specs.Marks.{is_met, mark_to, marked};
 use crate::live::LiveSet;
 use sqlite_items::Items;
 
-/// Where a temporary is used, from one point to another, each told by how many points stand behind it.
+/// Where a temporary is used, from one point to another, each named by how many points follow it.
 #[derive(Clone, Copy)]
 pub struct Mark {
     pub first: u32,
@@ -17,8 +17,8 @@ pub struct Mark {
 /// What is known of each temporary: where it is used, if it is.
 pub type Marks = Items<Option<Mark>>;
 
-/// A point: how many stand behind it, the nearest from it at which a function is called, and how far those that are
-/// used at it are used at least.
+/// A point: how many follow it, the nearest from it at which a function is called, and how far those that are used at
+/// it are used at least.
 #[derive(Clone, Copy)]
 pub struct Here {
     pub at: u32,

@@ -40,7 +40,7 @@ fn one_more(number: u32) -> Result<u32, OutOfMemory>
 }
 
 impl Walk {
-    /// A walk that stands behind all points, of a function with so many temporaries.
+    /// A walk that stands after all points, of a function with `temps` temporaries.
     pub fn new(alloc: Global, temps: u32) -> Result<Walk, OutOfMemory>
         ensures { IfOk result (λ walk. (walk.live ≡ []) × Holds temps walk []) }
     {
@@ -137,7 +137,7 @@ impl Walk {
         Ok(())
     }
 
-    // An operator, which may read one value alone.
+    // An operator, which may read only one value.
     fn op(&mut self, dest: u32, left: u32, right: Option<u32>) -> Result<(), OutOfMemory>
         ensures { IfOk result (λ _. Walked
             (plain_points (left ∷ one_or_none right) false (Some dest) (lives_at self.old.live [] []))

@@ -103,7 +103,7 @@ straight_fresh (x ∷ xs) all t ahead =
 pub is_it : (x t : ℕ) → (x == t) ≡ true → t ≡ x
 is_it x t h = sym (eqb-true x t h)
 
--- a statement that reads, then assigns: what is read first is read by it, or isn't what it assigns and is read behind
+-- a statement that reads, then assigns: what is read first is read by it, or isn't what it assigns and is read after it
 pub plain_reads : {B : Type 0} (t d : ℕ) (reads behind : Bool) → (reads || (not (d == t || false) && behind)) ≡ true →
     (reads ≡ true → B) → (behind ≡ true → (t ≡ d) ⊎ B) → B
 plain_reads {B} t d reads behind h read later =
@@ -130,7 +130,7 @@ pub two_read : {B : Type 0} (x y t : ℕ) → (x == t || (y == t || false)) ≡ 
 two_read x y t h left right = either (x == t) (y == t || false) h (λ k. left (is_it x t k)) (λ k. one_read y t k right)
 
 -- SHAPES
--- where what stands behind reads first nothing but `at` and what A holds of, the code reads first only what A holds of
+-- where what follows reads `t` first only if `t` is `at` or `b` holds, the code reads `t` first only if `b` holds
 abbrev pub Settles : ℕ → List TacStmt → Type 0
 Settles at xs = (b : Bool) (t : ℕ) (ahead : Ahead) → (ahead.behind ≡ true → (t ≡ at) ⊎ (b ≡ true)) →
     first t xs ahead ≡ true → b ≡ true

@@ -85,8 +85,8 @@ not_at_most d t x =
       by false = omega numbers
 
 -- SHAPES
--- code that takes its temporaries from the free ones on, at most one for each of so many nodes, and weighs at most 24
--- for each, less 11
+-- code that takes its temporaries from the free ones on, at most one for each of `k` nodes, and weighs at most 24 for
+-- each, less 11
 pub record Rises (l : Lows) (k : ℕ) : Type 0 where
   pub above : (n : ℕ) → n ≤ (l n).at
   pub below : (n : ℕ) → (l n).at < (l n).next

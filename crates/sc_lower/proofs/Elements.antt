@@ -25,7 +25,7 @@ use Rattle.sc_tac.specs.declared.stmt.TacOp.TheVariants as tacop
 use Rattle.sc_lower.proofs.Tests.{PointsToElements}
 
 -- TYPES OVER THE FIRST STRUCTS
--- a type, and what it points to, is over so many structs
+-- a type, and what it points to, is over the first `count` structs
 abbrev known : ℕ → Ty → Bool
 known count ty.Int = true
 known count ty.Unsigned = true

@@ -67,7 +67,7 @@ too_many t m one le sum = omega (numbers, one, le, sum)
 last_one : (t m : ℕ) → 1 ≤ m → t + m ≡ 1 → m ≡ 1
 last_one t m le sum = omega (numbers, le, sum)
 
--- one section alone has `main`
+-- only one section has `main`
 mains_apart : (sections : List TypedSection) (i j : ℕ) (a b : TypedSection) → slice_get sections i ≡ Some a →
     list_any is_main a.functions ≡ true → slice_get sections j ≡ Some b → list_any is_main b.functions ≡ true →
     mains_in sections ≡ 1 → i ≡ j

@@ -34,7 +34,7 @@ or_turn : (p q r : Bool) → (p || q || r) ≡ true → (q || (p || r)) ≡ true
 or_turn true q r h = or_right q true refl
 or_turn false q r h = h
 
--- what stands behind reads first nothing but what b allows, by every way out
+-- what follows reads first nothing but what b allows, by every way out
 record Allows (b : Bool) (ahead : Ahead) : Type 0 where
   pub behind : ahead.behind ≡ true → b ≡ true
   pub broken : ahead.broken ≡ true → b ≡ true
@@ -230,7 +230,7 @@ test_with = record {
       (emit.rolls-If at [] (emit.Break ∷ [])) (and_from true _ refl (break_steady.fresh n t ahead none));
 }
 
--- a part of a loop begins with no read, where nothing is read first behind the loop
+-- a part of a loop begins with no read, where nothing is read first after the loop
 part_begins : (p : Parts) → Steady p → (n t : ℕ) (ahead : Ahead) → ahead.behind ≡ false →
     (not (first t (p n).code (part_ahead ahead false)) && fresh t (p n).code (part_ahead ahead false)) ≡ true
 part_begins p hp n t ahead none =

@@ -57,7 +57,7 @@ module _ (arith : Arith) (here : Here) (calls : Calls) where
       ap (follow in_order (stmt_does arith here calls x t s)) (λ i u w. run_append xs ys u w i)
       ∙ sym (follow_assoc (stmt_does arith here calls x t s) (run xs) (run ys))
 
-  -- one statement at the front
+  -- one statement at the start
   pub first_is : (k : TacStmt-F TacStmt) (c : TacStmt) (t : Temps) (s : State) → roll-TacStmt k ≡ c →
       stmt_does arith here calls c t s ≡ code_step arith here calls (map-TacStmt _ _ (stmt_does arith here calls) k) t s
   first_is k c t s is =

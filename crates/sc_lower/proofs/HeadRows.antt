@@ -29,7 +29,7 @@ abbrev pub part_in : HeadPart → Option TypedSimple
 part_in None = None
 part_in (Some x) = part 1 x.0 x.1
 
--- `for (first; cond; next) { body }`, and what stands behind it
+-- `for (first; cond; next) { body }`, and what follows it
 pub record Looped : Type 0 where
   pub first : HeadPart
   pub cond : Shape

@@ -1,5 +1,5 @@
--- A library whose functions have their variables and frames, and nothing that they do: callers can't tell the
--- difference.
+-- A hollow copy of denotations, whose functions have their variables and frames but do nothing: callers can't
+-- distinguish the two.
 use Rattle.sc_lower.proofs.Common.{BadType, Blamed, BodiesAgree, Body, Call, CallTarget, CallsAgree, Cross, Export}
 use Rattle.sc_lower.proofs.Common.{Function, FunctionsAgree, Here, Input, LibrariesAgree, Library, List, Meets, None}
 use Rattle.sc_lower.proofs.Common.{Option, Output, Own, Piece, PiecesAgree, Some, State, Stopped, TurnsOut, Value, Word}
@@ -119,7 +119,7 @@ hollow_agrees L = record {
   entered = λ comp entry. refl;
 }
 
--- two libraries that callers can't tell apart
+-- the denotations of two programs, which callers can't distinguish
 module _ (L M : Library) (alike : hollow L ≡ hollow M) (body other : Body) (bodies : BodiesAgree body other) where
   pub calls_alike : CallsAgree (calls L body) (calls M other)
   calls_alike =

@@ -10,11 +10,11 @@ use Rattle.sc_core.specs.declared.value.Want.TheVariants as want
 use Rattle.sc_lower.specs.declared.code.Code.{Code}
 use Rattle.sc_lower.specs.declared.code.Fragment.{Fragment}
 
--- code that is there already, and the code of values behind it
+-- code that is there already, and the code of values after it
 abbrev pub values_behind : List TacStmt → List ℕ → Many → Values
 values_behind stmts at rest = record { stmts = stmts ++ rest.code; at = at ++ rest.at; next = rest.next }
 
--- code that is there already, and more behind it
+-- code that is there already, and more after it
 abbrev pub fragment_behind : List TacStmt → Part → Fragment
 fragment_behind stmts rest = record { stmts = stmts ++ rest.code; next = rest.next }
 

@@ -222,7 +222,7 @@ module _ (result : Bool) where
     GivesAll n at t s (Err cause) o = o ≡ Stopped (Blamed here.comp cause 0) s
     GivesAll n at t s (Ok vs) o = GotAll n at t s vs o
 
-    -- one more value in front
+    -- one more value at the head
     more_given : (m n i : ℕ) (at : List ℕ) (t u : Temps) (s : State) (v : Value) (r : Result (List Value) Cause)
         (o : Piece (Left Temps)) →
         m ≤ n → i < n → u i ≡ Some v → Keeps m t u → GivesAll n at u s r o →

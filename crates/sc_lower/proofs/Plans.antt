@@ -1,4 +1,4 @@
--- The code of programs by plans: what it means is the run of a library that computes, where its code is known.
+-- The code of programs by plans: its meaning is the run of denotations that compute, where its code is known.
 use Rattle.sc_lower.proofs.Common.{Arith, Codes, Function, Interfaces, Library, List, Local, Main, None, Option, Parts}
 use Rattle.sc_lower.proofs.Common.{Plan, Shape, Sheet, Slot, Some, SourceRun, TacStmt, TypedStruct, [], all_do, alone}
 use Rattle.sc_lower.proofs.Common.{and_then, ap, assign, at_place, body_code, both, closed, code_function}

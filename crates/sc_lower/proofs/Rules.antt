@@ -464,7 +464,7 @@ module _ (program : ProgramTree) (typed : is_well_typed program ≡ true) where
       params_same : length scope.params ≡ length f.params
       params_same = length-map f.params (λ p. p.ty)
 
-      -- the code of the body, where so many parameters stand before the locals
+      -- the code of the body, where `params` parameters stand before the locals
       abbrev code_with : ℕ → Part
       code_with params =
           both (in_turn (inits_code section.structs params 0 f.locals)) (block_code section.structs params f.body) 0

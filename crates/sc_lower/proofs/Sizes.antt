@@ -19,7 +19,7 @@ use Rattle.sc_tac.specs.declared.stmt.TacStmt.TheVariants as emit
 use Rattle.sc_lower.proofs.Bounds.{weight_append, weight_one, at_most, place_weight, if_weight, Rises, place_rises}
 use Rattle.sc_lower.proofs.Bounds.{alone_rises, expr_rises}
 
--- code that takes at most so many temporaries from the free ones on, and weighs at most 24 for each, and so much more
+-- code that takes at most `k` temporaries from the free ones on, and weighs at most 24 for each, and `more` besides
 pub record Grows (p : Parts) (k more : ℕ) : Type 0 where
   pub up : (n : ℕ) → n ≤ (p n).next
   pub few : (n : ℕ) → (p n).next ≤ n + k

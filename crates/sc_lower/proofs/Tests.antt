@@ -207,7 +207,7 @@ abbrev pub AllBelow : ℕ → List ℕ → Type 0
 AllBelow temps [] = Unit {0}
 AllBelow temps (t ∷ ts) = (t < temps) × AllBelow temps ts
 
--- a test that is passed by what expressions emit, where they name the variables of a scope and so many temporaries
+-- a test that is passed by what expressions emit, where they name the variables of a scope and `temps` temporaries
 pub record PassedBy (temps : ℕ) (scope : Scope) (test : TacStmt-F Bool → Bool) : Type 0 where
   pub constant : (d : ℕ) (c : Constant) → is_machine_word c ≡ true → d < temps → test (tac.Const d c) ≡ true
   pub one : (d : ℕ) (o : TacOp) (x : ℕ) → takes_two o ≡ false → d < temps → x < temps → test (tac.Op d o x None) ≡ true

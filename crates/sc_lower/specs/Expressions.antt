@@ -49,12 +49,12 @@ abbrev pub from_one : Lows → (ℕ → ℕ → TacStmt) → Lows
 from_one a make n = let x = a n in record { code = x.code ++ make x.at x.at ∷ []; at = x.at; next = x.next }
 
 -- two values, and then a statement that computes from them; the temporary of the last one takes the result, so that
--- this one is overwritten, and not live behind the statement
+-- this one is overwritten, and not live after the statement
 abbrev pub from_two : Lows → Lows → (ℕ → ℕ → ℕ → TacStmt) → Lows
 from_two a b make n = let x = a n in let y = b x.next in
     record { code = x.code ++ (y.code ++ make y.at x.at y.at ∷ []); at = y.at; next = y.next }
 
--- a value, and then a statement that runs the code of a second one where it needs it, and `last` behind that; a
+-- a value, and then a statement that runs the code of a second one where it needs it, and `last` after that; a
 -- temporary of its own takes the result
 abbrev pub from_first : Lows → Lows → (ℕ → ℕ → List TacStmt) → (ℕ → ℕ → List TacStmt → TacStmt) → Lows
 from_first a b last make n = let x = a n in let y = b x.next in
@@ -100,7 +100,7 @@ abbrev pub is_sub : BinaryOp → Bool
 is_sub op.Sub = true
 is_sub o = false
 
--- an operator between two pointers to elements of so many cells
+-- an operator between two pointers to elements of `cells` cells
 abbrev pub between_op : BinaryOp → ℕ → TacOp
 between_op op.Sub cells = tacop.PointerDifference cells
 between_op o cells = tacop.PointerCompare o
@@ -118,7 +118,7 @@ abbrev pub or_code : ℕ → ℕ → List TacStmt → TacStmt
 or_code dest first second = If first (Const dest (constant.Word 1) ∷ []) second
 
 module _ (structs : List TypedStruct) where
-  -- a pointer so many elements further, or back; an integer of the type `index` counts them
+  -- a pointer moved on or back by a number of elements; an integer of the type `index` counts them
   abbrev pub move_op : BinaryOp → (pointer index : Ty) → TacOp
   move_op o pointer index = tacop.PointerMove (is_sub o) (target_cells structs pointer) (scalar_of index)
 

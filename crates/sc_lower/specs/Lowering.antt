@@ -18,7 +18,7 @@ pub record KeepsMeaning : Type 0 where
       (set : ℕ → Bool) (trace : List Event) →
       RunsAgree (scripted_run_of arith program inputs turns set trace)
       (scripted_code_run arith (lowered_program program) inputs turns set trace)
-  -- the frames take the same room
+  -- the stack depths are the same
   pub depth : (arith : Arith) (program : ProgramTree) → IsWellTyped program →
       (inputs : List ℕ) (turns events comp : ℕ) →
       depth_by arith program inputs turns events comp

@@ -16,7 +16,7 @@ use Rattle.sc_lower.specs.Programs.{exports_of, lowered_function}
 abbrev pub code_of : Low → Code
 code_of low = record { stmts = low.code; at = low.at; next = low.next }
 
--- the code of two operands of these types, one behind the other
+-- the code of two operands of these types, one after the other
 pub record IsOperands (types : Ty × Ty) (a b : Lowered) (left right : Code) (free : ℕ) : Type 0 where
   pub first : types.0 ≡ a.ty
   pub second : types.1 ≡ b.ty

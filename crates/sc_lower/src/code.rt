@@ -45,7 +45,7 @@ pub fn alone(alloc: Global, stmt: TacStmt, free: u32) -> Result<Code, OutOfMemor
     })
 }
 
-/// The code with a statement behind it that assigns the temporary in which the code left its value.
+/// The code with a statement after it that assigns the temporary in which the code left its value.
 pub fn with_last(code: Code, last: TacStmt) -> Result<Code, OutOfMemory>
     ensures { IfOk result (λ longer. longer ≡ record {
       stmts = code.stmts ++ last ∷ [];
@@ -62,7 +62,7 @@ pub fn with_last(code: Code, last: TacStmt) -> Result<Code, OutOfMemory>
     })
 }
 
-/// The code behind other statements.
+/// The code after other statements.
 pub fn behind(first: TacStmts, code: Code) -> Result<Code, OutOfMemory>
     ensures { IfOk result (λ longer. longer ≡ record { stmts = first ++ code.stmts; at = code.at; next = code.next }) }
 {
@@ -118,7 +118,7 @@ pub fn single(alloc: Global, stmt: TacStmt, free: u32) -> Result<Fragment, OutOf
     Ok(Fragment { stmts, next: free })
 }
 
-/// The code with a statement behind it that assigns no temporary.
+/// The code with a statement after it that assigns no temporary.
 pub fn ended(code: Code, last: TacStmt) -> Result<Fragment, OutOfMemory>
     ensures { IfOk result (λ fragment. fragment ≡ record { stmts = code.stmts ++ last ∷ []; next = code.next }) }
 {
@@ -130,7 +130,7 @@ pub fn ended(code: Code, last: TacStmt) -> Result<Fragment, OutOfMemory>
     })
 }
 
-/// A fragment behind other statements.
+/// A fragment after other statements.
 pub fn after(first: TacStmts, rest: Fragment) -> Result<Fragment, OutOfMemory>
     ensures { IfOk result (λ fragment. fragment ≡ record { stmts = first ++ rest.stmts; next = rest.next }) }
 {

@@ -3,7 +3,7 @@
 ghost use Rattle.sc_lower.specs.Prelude.{KeepsBranches, KeepsMeaning, KeepsRules};
 
 /// The code of a well-typed program runs as the program does, up to the lines of blames: in each arithmetic, also where
-/// compartments perform their parts of a trace, and in frames that take the same room.
+/// compartments perform their parts of a trace, and with the same stack depths.
 pub fn keeps_meaning()
     ensures { KeepsMeaning }
 {}

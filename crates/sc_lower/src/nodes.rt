@@ -138,7 +138,7 @@ fn locals_nodes(locals: &TypedLocals) -> u32
     count
 }
 
-/// The nodes of a function with so many parameters.
+/// The nodes of a function with `params` parameters.
 pub fn function_nodes(function: &TypedFunction, params: u32) -> u32
     requires counted { params ≡ length function.now.params }
     requires few { nodes function.now ≤ most_nodes }

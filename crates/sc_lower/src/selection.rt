@@ -87,7 +87,7 @@ fn is_sub(op: BinaryOp) -> bool
     }
 }
 
-// An operator between two pointers to elements of so many cells.
+// An operator between two pointers to elements of `cells` cells.
 fn between_op(op: BinaryOp, cells: u32) -> TacOp
     ensures { result ≡ between_op op cells }
 {
@@ -97,7 +97,7 @@ fn between_op(op: BinaryOp, cells: u32) -> TacOp
     }
 }
 
-/// A pointer so many elements further, or back.
+/// A pointer moved on or back by a number of elements.
 pub fn move_op(structs: &[TypedStruct], op: BinaryOp, pointer: Ty, index: Ty) -> TacOp
     ensures { result ≡ move_op structs.now op pointer index }
 {

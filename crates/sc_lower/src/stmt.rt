@@ -137,7 +137,7 @@ fn forked(cond: Code, first: Fragment, second: Fragment) -> Result<Fragment, Out
     })
 }
 
-// A loop of three parts behind other statements.
+// A loop of three parts after other statements.
 fn looped(
     first: TacStmts,
     head: TacStmts,

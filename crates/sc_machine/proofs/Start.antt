@@ -25,7 +25,7 @@ one_stored m a x h = sym (written-stored m a (x ∷ []) x (λ k below. byte_is x
 pub all_few : (image : ImageParts) → IsWellFormed image → All HasFewGlobals image.comps
 all_few image formed = λ i d within. (formed.comps i (get_or _ i d) (slice_get-get_or _ i d within)).short_globals
 
--- Regions one behind the other, from an address on.
+-- Regions one after another, from an address on.
 
 abbrev Ordered : ℕ → List Region → Type 0
 Ordered low [] = Unit {0}
@@ -149,7 +149,7 @@ filled_is (filled ∷ others) low a order within = ⊎_elim (λ inside. kept_bel
 
 -- So far of the compartments: one more of them.
 
--- its data behind those before
+-- its data after those of the compartments before it
 data_more : (comps : List CompPart) (c i n : ℕ) (comp : CompPart) → n ≡ c + i → slice_get comps i ≡ Some comp →
     all_data c (take (suc i) comps) ≡ all_data c (take i comps) ++ stack comp n ∷ globals comp n ∷ []
 data_more [] c i n comp place is = let never = is in cc never

@@ -7,7 +7,7 @@ use Rattle.sc_base.specs.declared.stop.Stop.TheVariants.{StepsOut}
 abbrev pub loaded : ImageParts → Run
 loaded image = record { state = start image; stop = StepsOut }
 
--- the run after a list of calls, each with at most so many steps more
+-- the run after calls with at most these numbers of further steps
 abbrev pub calls : ImageParts → List ℕ → (events : ℕ) → (steps : List ℕ) → Run
 calls image inputs events steps = fold (λ earlier more. continued (run image inputs events more) earlier)
     (loaded image) steps

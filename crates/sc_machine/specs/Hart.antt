@@ -58,7 +58,7 @@ pub record IsSound (image : ImageParts) (hart : Hart) : Type 0 where
   pub saved : length hart.saved.items ≡ length image.comps
   pub input : hart.input ≤ length hart.trace.items
 
--- there is room for a trace of so many events, and for as many calls as it may still get
+-- there is room for a trace of `events` events, and for as many calls as it may still get
 pub record HasRoom (events : ℕ) (hart : Hart) : Type 0 where
   pub trace : events ≤ vec_capacity hart.trace
   pub cross : events ≤ length hart.trace.items + hart.cross.room
@@ -69,7 +69,7 @@ pub record HasRoomForOne (hart : Hart) : Type 0 where
   pub cross : 0 < hart.cross.room
 
 -- a hart that an instruction of this compartment's code can change: its code runs, and there is room for what the
--- instruction shows
+-- instruction emits
 pub record IsReady (site : Site) (hart : Hart) : Type 0 where
   pub here : site.comp ≡ hart.active
   pub sound : IsSound site.image hart
@@ -90,7 +90,7 @@ pub record LeavesSound {A : Type 0} (image : ImageParts) (result : Result A Trap
 abbrev pub IsBacked : ImageParts → Memory → Type 0
 IsBacked image memory = (address : ℕ) → is_some (memory address) ≡ is_some (start_memory image address)
 
--- a hart and a memory that a run of the image can go on from, with room for so many events in the whole trace
+-- a hart and a memory that a run of the image can go on from, with room for `events` events in the whole trace
 pub record CanRun (image : ImageParts) (events : ℕ) (hart : Hart) (memory : Memory) : Type 0 where
   pub room : HasRoom events hart
   pub sound : IsSound image hart

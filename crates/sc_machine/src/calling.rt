@@ -146,7 +146,7 @@ fn call(here: &Here<'_>, hart: &mut Hart, callee: &Callee)
     hart.active = callee.comp;
 }
 
-/// The words of so many arguments.
+/// The words of `params` arguments.
 fn arguments(alloc: Global, core: &Core, params: u8) -> Args
     requires { params ≤ 8 }
     ensures { result ≡ arguments params core.now.registers }

@@ -38,7 +38,7 @@ pub(crate) fn environment_call(
     }
 }
 
-/// Shows a0.
+/// Emits a0.
 fn output(here: &Here<'_>, hart: &mut Hart)
     requires pc { hart.old.core.pc + 4 < 2 ^ 32 }
     requires ready { IsReady here.now hart.old }
@@ -62,7 +62,7 @@ fn input_at(inputs: &[i32], number: usize) -> u32
     }
 }
 
-/// Puts the next input into a0, and shows it.
+/// Puts the next input into a0, and emits it.
 fn input(here: &Here<'_>, inputs: &[i32], hart: &mut Hart)
     requires pc { hart.old.core.pc + 4 < 2 ^ 32 }
     requires ready { IsReady here.now hart.old }

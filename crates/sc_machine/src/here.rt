@@ -123,7 +123,7 @@ impl<'a> Here<'a> {
         Some(&self.callees[place])
     }
 
-    /// Whether so many bytes from an address on all lie in the compartment's stack and globals.
+    /// Whether the `size` bytes from an address on all lie in the compartment's stack and globals.
     #[tactic(auto, using(crate::proofs::Words::looked_data, crate::proofs::Words::looked_there))]
     pub fn are_data(&self, address: u32, size: u32) -> bool
         requires some { 0 < size }

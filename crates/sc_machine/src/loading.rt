@@ -15,7 +15,7 @@ use sc_image::{CompPart, Image};
 use sc_store::{Region, Store};
 use std::alloc::{AllocError, Global};
 
-/// At the image's entry, with room for so many events.
+/// At the image's entry, with room for `events` events.
 pub(crate) fn start(alloc: Global, image: &Image, events: u32) -> Result<Hart, OutOfMemory>
     ensures state { IfOk result (λ hart. state_in (start_memory image.now) hart ≡ start image.now) }
     ensures sound { IfOk result (IsSound image.now) }

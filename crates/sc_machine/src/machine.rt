@@ -108,8 +108,8 @@ impl<S: Store> Machine<S> {
         })
     }
 
-    /// Goes on for at most so many steps, and says why it stopped. A run that stopped for another
-    /// reason than `StepsOut` stays so: the answer is the same, and nothing changes.
+    /// Goes on for at most `steps` steps, and says why it stopped. A run that stopped for another reason than
+    /// `StepsOut` stays so: the answer is the same, and nothing changes.
     pub fn run(&mut self, steps: u32) -> Stop
         ensures run { run_of S.bytes self.new ≡ continued (run self.old.image self.old.inputs self.old.events steps)
             (run_of S.bytes self.old) }

@@ -61,7 +61,7 @@ pub(crate) fn store<S: Store>(
     Ok(())
 }
 
-/// Why the compartment may not access so many bytes from an address on, if it may not.
+/// Why the compartment may not access the `size` bytes from an address on, if it may not.
 fn refused(here: &Here<'_>, size: u32, address: u32) -> Option<TrapReason>
     requires some { 0 < size }
     requires few { size ≤ 4 }

@@ -1,4 +1,4 @@
-//! Instructions that show nothing and go on in the own code. Why a run stops before another step, and
+//! Instructions that emit nothing and go on in the own code. Why a run stops before another step, and
 //! which compartment's code runs, is the same after them.
 #![tactic(auto, unfolding(sc_image::specs::Step::execute_by))]
 
@@ -13,7 +13,7 @@ use crate::memory::{load, store};
 use rv_code::Instr;
 use sc_store::Store;
 
-/// Executes an instruction, if that shows nothing and goes on in the own code, and says whether it
+/// Executes an instruction, if that emits nothing and goes on in the own code, and says whether it
 /// did. Otherwise nothing changes.
 #[inline(always)]
 pub(crate) fn execute_quick<S: Store>(

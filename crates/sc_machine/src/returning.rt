@@ -61,7 +61,7 @@ fn given_back(core: &Core, has_result: bool) -> Option<u32>
     has_result.then_some(core.registers[A0])
 }
 
-/// Goes on behind a call, with nothing in the registers but the result and the own stack.
+/// Goes on after a call, with nothing in the registers but the result and the own stack.
 fn go_on(core: &mut Core, has_result: bool, sp: u32, pc: u32)
     ensures { core.new ≡ resumed core.old has_result sp pc }
 {

@@ -13,7 +13,7 @@ use sc_event::Event;
 use sc_image::layout::data_start;
 use sc_store::Store;
 
-/// Takes at most so many steps, with room for so many events in the whole trace.
+/// Takes at most `steps` steps, with room for `events` events in the whole trace.
 #[inline(never)]
 pub(crate) fn run<S: Store>(
     program: &Program,

@@ -121,7 +121,7 @@ at_end : (x : HeadTree) (xs : List HeadTree) → IsAmong x (xs ++ x ∷ [])
 at_end x [] = first []
 at_end x (y ∷ xs) = later y (xs ++ x ∷ []) (at_end x xs)
 
--- those behind a head agree with it
+-- those after a head agree with it
 behind_agree : (x : HeadTree) (before heads : List HeadTree) → AreAgreed before heads → IsAmong x before →
     agrees_with heads x ≡ true
 behind_agree x before [] h there = refl

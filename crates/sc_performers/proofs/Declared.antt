@@ -8,7 +8,7 @@ use Rattle.sc_ast.specs.declared.section.Decl.TheVariants.{Proto}
 abbrev pub decls_of : List HeadTree → GlobalTree → List FunctionTree → List Decl
 decls_of heads global functions = map Proto heads ++ Global global ∷ map Function functions
 
--- prototypes alone
+-- only prototypes
 
 pub protos_structs : (heads : List HeadTree) → structs_in (map Proto heads) ≡ []
 protos_structs [] = refl
@@ -26,7 +26,7 @@ pub protos_protos : (heads : List HeadTree) → protos_in (map Proto heads) ≡ 
 protos_protos [] = refl
 protos_protos (h ∷ heads) = ap (λ x. h ∷ x) (protos_protos heads)
 
--- functions alone
+-- only functions
 
 functions_structs : (trees : List FunctionTree) → structs_in (map Function trees) ≡ []
 functions_structs [] = refl

@@ -83,7 +83,7 @@ module _ (olds news : List SectionTree) (typed : IsTyped olds (program_of olds))
     all : AreSeenAs olds news
     all = seen_from olds typed.interfaces typed.counts set trace right 0 olds news turn
 
-    -- rules that are told section by section
+    -- rules whose offending lines are listed section by section
     told_empty : (lines_of : SectionTree → List ℕ) →
         ((k : ℕ) (old new : SectionTree) → OneTurns k old new → lines_of new ≡ []) →
         (k : ℕ) (xs ys : List SectionTree) →

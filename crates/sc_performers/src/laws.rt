@@ -14,7 +14,7 @@ pub fn types_hold()
     ensures { TypesHold }
 {}
 
-/// With its types, it has a counter alone, and functions that perform its rows, each those of its entry.
+/// With its types, its only global is a counter, and its functions perform its rows, each those of its entry.
 pub fn rows_perform()
     ensures { RowsPerform }
 {}

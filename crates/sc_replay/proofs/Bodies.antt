@@ -22,7 +22,7 @@ module _ (roles : Roles) (L M : Library) (r : Recomposed roles L M) (obedient : 
   abbrev pub scripts : Body
   scripts = now (scripted_step L roles step)
 
-  -- what is to be shown of bodies in the run of the texts, where they have fewer turns than this
+  -- what is to be proved of bodies in the run of the texts, where they have fewer turns than this
   pub record BodiesAlike (a : Body) : Type 0 where
     pub kept : (number : ℕ) (here : Here) (s s' : State) → roles.scripted here.comp ≡ false → Near roles most s s' →
         s.turns < most → Both (Reaches roles most) (a number here s) (scripts number here s')

@@ -19,7 +19,7 @@ inside body comp args back number f s =
     (λ v t. back v (done comp f (length (s.memory comp)) t))
 
 module _ (roles : Roles) (most : ℕ) where
-  -- what the body of a called function reached: once its return is told, the counters are right
+  -- what the body of a called function reached: once its return is emitted, the counters are right
   pub record Came (c : ℕ) (v w : Option Value) (s s' : State) : Type 0 where
     pub same : v ≡ w
     pub counters : ℕ → ℕ
@@ -45,7 +45,7 @@ module _ (roles : Roles) (most : ℕ) where
         told = λ e own. told_ahead roles most c e s.trace own;
       })
 
-  -- the return is told in both
+  -- the return is emitted in both
   back_both : (interfaces : Interfaces) (from to index : ℕ) (v w : Option Value) (s s' : State) →
       Came to v w s s' →
       Both (Reaches roles most) (back_cross interfaces from to index v s) (back_cross interfaces from to index w s')
@@ -65,7 +65,7 @@ module _ (roles : Roles) (most : ℕ) where
       (first first' : ℕ) (t t' : State) → Firsts roles most c first first' → Near roles most t t' → t.turns < most →
       Both R (a k' (at c first) t) (b k (at c first') t')
 
-  -- A CALL ACROSS, once its event is told and its functions are found
+  -- A CALL ACROSS, once its event is emitted and its functions are found
   pub inside_cross : (interfaces : Interfaces) (from to index : ℕ) (args : List Value) (a b : Body) (k' k : ℕ)
       (f' f : Function) → (roles.scripted to ≡ false → f'.cells ≡ f.cells) → BodiesMeet to (Came to) a k' b k →
       (s s' : State) → Near roles most s s' → s.turns < most →

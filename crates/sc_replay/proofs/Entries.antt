@@ -45,7 +45,7 @@ one_place (x ∷ exports) distinct (suc i) (suc j) p q is js same =
     ap suc (one_place exports (and_rest (not (list_any (bytes_eq x.name) (map named exports))) _ distinct) i j p q is js
     same)
 
--- FUNCTIONS OF LIBRARIES
+-- FUNCTIONS OF DENOTATIONS
 abbrev name_of : TypedFunction → List ℕ
 name_of f = f.name
 

@@ -33,7 +33,7 @@ counts trace c = count_of c trace
 abbrev pub with_count : ℕ → ℕ → (ℕ → ℕ) → ℕ → ℕ
 with_count c n counters d = if d == c then n else counters d
 
--- the counters where a compartment has set its own for an event that isn't told yet
+-- the counters where a compartment has set its own for an event that isn't emitted yet
 abbrev pub ahead : ℕ → List Event → ℕ → ℕ
 ahead c trace = with_count c (suc (count_of c trace)) (counts trace)
 
@@ -48,7 +48,7 @@ count_other c (x ∷ u) e ne = by_first (performer x == c) (count_other c u e ne
   by_first true h = ap suc h
   by_first false h = h
 
--- once the event is told, the counters are right again
+-- once the event is emitted, the counters are right again
 pub count_ahead : (c : ℕ) (u : List Event) (e : Event) → performer e ≡ c → (d : ℕ) →
     ahead c u d ≡ count_of d (u ++ e ∷ [])
 count_ahead c u e own d =
@@ -59,7 +59,7 @@ count_ahead c u e own d =
 
 module _ (roles : Roles) (most : ℕ) where
   -- the same events, turns and inputs; the compartments that don't perform have the same blocks, and each that does has
-  -- its counter in front
+  -- its counter as the first block
   pub record NearBy (counters : ℕ → ℕ) (s s' : State) : Type 0 where
     pub trace : s.trace ≡ s'.trace
     pub turns : s.turns ≡ s'.turns
@@ -108,7 +108,7 @@ module _ (roles : Roles) (most : ℕ) where
     counter = near.counter;
   }
 
-  -- once this event is told, the counters are those of the trace
+  -- once this event is emitted, the counters are those of the trace
   abbrev pub Told : (ℕ → ℕ) → Event → List Event → Type 0
   Told counters e u = (d : ℕ) → roles.scripted d ≡ true → counters d ≡ count_of d (u ++ e ∷ [])
 
@@ -174,7 +174,7 @@ module _ (roles : Roles) (most : ℕ) where
         ap (λ x. x ++ blocks_for f.cells args) (near.counter c performs).1,
       )) near
 
-  -- where the blocks of a call begin: behind the counter, where the compartment performs
+  -- where the blocks of a call begin: after the counter, where the compartment performs
   pub record Firsts (c first first' : ℕ) : Type 0 where
     pub kept : roles.scripted c ≡ false → first ≡ first'
     pub behind : roles.scripted c ≡ true → (n : ℕ) × (first ≡ suc n)
@@ -204,7 +204,7 @@ module _ (roles : Roles) (most : ℕ) where
     pub same : v ≡ w
     pub near : Near s s'
 
-  -- a function of this compartment reaches its end: its return is told by the caller, so that its counter is ahead
+  -- a function of this compartment reaches its end: its return is emitted by the caller, so that its counter is ahead
   pub record Returns (c : ℕ) (v w : Option Value) (s s' : State) : Type 0 where
     pub same : v ≡ w
     pub near : NearBy (ahead c s.trace) s s'

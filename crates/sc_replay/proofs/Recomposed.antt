@@ -1,4 +1,5 @@
--- Two libraries, of which the other has functions that perform rows by their texts: the same calls may be made in both.
+-- The denotations L and M of two programs, where M has functions that perform rows by their texts: the same calls may
+-- be made in both.
 use Rattle.sc_replay.proofs.Common.{Bool, CallTarget, Calls, Cross, Entry, Export, Function, Input, IsPerforming}
 use Rattle.sc_replay.proofs.Common.{IsSome, Left, Library, List, None, Option, Output, Own, Piece, Proto, Reached}
 use Rattle.sc_replay.proofs.Common.{Return, Roles, Scalar, Some, State, TypedStmt, TypedStruct, Value, and_then, ap}
@@ -10,7 +11,7 @@ use Rattle.sc_replay.proofs.Crossing.{at}
 use Rattle.sc_replay.proofs.Step.{Fair, IsOut}
 
 module _ (roles : Roles) (L M : Library) where
-  -- a function of the other library that performs the rows of an entry by its text
+  -- a function of M that performs the rows of an entry by its text
   pub record Performer (c : ℕ) (entry : Entry) (number : ℕ) : Type 0 where
     pub item : Function
     pub is : function M c number ≡ Some item
@@ -26,7 +27,7 @@ module _ (roles : Roles) (L M : Library) where
         item.does by (at c first) s ≡
         and_then (block_does c_arith structs (at c first) params by stmts tt s) (close first)
 
-  -- the functions of an entry in both libraries
+  -- the functions of an entry in both denotations
   pub record Performed (c : ℕ) (entry : Entry) : Type 0 where
     pub number : ℕ
     pub f : Function

@@ -21,7 +21,7 @@ suits [] (word ∷ words) same small = absurd (omega (arith, same))
 suits (param ∷ params) [] same small = absurd (omega (arith, same))
 suits (param ∷ params) (word ∷ words) same small = (small.0, suits params words (omega (arith, same)) small.1)
 
--- a library in which exports lead to functions
+-- the denotations of a program in which exports lead to functions
 module _ (L : Library)
     (leads_so : (to index : ℕ) → IsSome (export_at L.interfaces to index) →
     leads L to (L.entered to (Export index)) ≡ true) where

@@ -1,4 +1,4 @@
--- Whole runs: the other library's run is the one in which the compartments of a set perform.
+-- Whole runs: the run of the second program's denotations is the one in which the compartments of a set perform.
 use Rattle.sc_replay.proofs.Common.{Blocks, Body, BodyGoes, Bool, End, Ended, Function, Here, IsFixed, IsSome, Library}
 use Rattle.sc_replay.proofs.Common.{List, Main, Memory, None, Obedient, Option, Piece, Roles, Some, State, Step}
 use Rattle.sc_replay.proofs.Common.{TurnsOut, Value, [], and_then, ap, ap₂, arith, back_own, begun, call_own, done}
@@ -77,7 +77,7 @@ module _ (roles : Roles) (L M : Library) (r : Recomposed roles L M) (obedient : 
   }
   bodies_alike (suc n) = more_calls n (bodies_alike n)
 
-  -- what both runs show in the end
+  -- what both runs come to in the end: the same result and trace
   record Shows (v w : Option Value) (s s' : State) : Type 0 where
     pub same : v ≡ w
     pub trace : s.trace ≡ s'.trace

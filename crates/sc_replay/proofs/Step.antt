@@ -78,7 +78,7 @@ module _ (roles : Roles) (most : ℕ) (L : Library) (step : Step) (fixed : IsFix
       ap (λ x. if x then performs L b (rows_left roles here.comp s.trace) k here s else step b k here s) set ∙
       ap (λ rows. performs L b rows k here s) is
 
-  -- a call of a row came back: after one of the environment just its event was told
+  -- a call of a row came back: a call of the environment has emitted just its own event
   pub record Back (target : CallTarget) (c n : ℕ) (v w : Option Value) (s s' : State) : Type 0 where
     pub near : Near roles most s s'
     pub least : n ≤ count_of c s.trace
@@ -145,7 +145,7 @@ module _ (roles : Roles) (most : ℕ) (L : Library) (step : Step) (fixed : IsFix
       near1 : NearBy roles most (ahead c s.trace) s1 s'
       near1 = near_counted roles most (counts s.trace) s s' c n blocks set near
 
-      -- the statement of an action, and what stands behind it
+      -- the statement of an action, and what follows it
       abbrev acted : ℕ → Action → Piece (Option Value)
       acted line action =
           and_then (follow in_order
@@ -168,7 +168,7 @@ module _ (roles : Roles) (most : ℕ) (L : Library) (step : Step) (fixed : IsFix
           (calls L b c target (map (λ w. Word w) ws) s') (λ v. run stmts) (λ v. on)
           (alike target (map (λ w. Word w) ws) s1 s' out may near1) go_on))
 
-      -- behind an action of the environment the rows behind are left
+      -- after an action of the environment the later rows are left
       behind : (u u' : State) → Near roles most u u' → count_of c u.trace ≡ n →
           Both R (run stmts u) (performs L b rest k here' u')
       behind u u' near_u is =

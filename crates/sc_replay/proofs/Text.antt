@@ -133,7 +133,7 @@ module _ (structs : List TypedStruct) (here : Here) (params : ℕ) (by : Calls) 
       (lines_are c_arith structs here params by (row_line interfaces result row line set_line at))
 
   module _ (line set_line : ℕ) (x : List Acts) (y : Acts) (rest : Blocks) (s : State) where
-    -- the row, then what stands behind
+    -- the row, then what follows
     abbrev row_then : ℕ → Piece (Left (Unit {0}))
     row_then number = follow in_order (row_does line set_line number x tt s) y
 
@@ -147,7 +147,7 @@ module _ (structs : List TypedStruct) (here : Here) (params : ℕ) (by : Calls) 
         (λ v s. choose v (all_do (assign here (way_of bt_n) (way_of (Lit ty.Unsigned (suc number))) set_line ∷ x) tt s)
         (leave Next tt s))) y) is
 
-    -- where the counter is elsewhere, the text goes on behind the row
+    -- where the counter is elsewhere, the text goes on after the row
     pub passes : (number n : ℕ) → s.memory here.comp ≡ counting n ∷ rest → (n ≡ number → ⊥) →
         row_then number ≡ y tt s
     passes number n is ne =

@@ -2,8 +2,8 @@
 
 ghost use Rattle.sc_replay.specs.Replay.{TextsPerform};
 
-/// A program in which texts perform parts of a trace that its interfaces allow, by a counter in each compartment, shows
-/// what the program shows in which these compartments perform their parts, and blames none of them.
+/// A program in which texts perform parts of a trace that its interfaces allow, by a counter in each compartment, emits
+/// what the program emits in which these compartments perform their parts, and blames none of them.
 pub fn texts_perform()
     ensures { TextsPerform }
 {}

@@ -43,7 +43,7 @@ args_low (ty ∷ types) (a ∷ args) h =
     let rest = args_low types args h.1 in
     omega arith
 
--- an argument behind another one
+-- an argument after another one
 abbrev next_words : ExprTree → List Piece
 next_words e = comma ++ expr_words e
 

@@ -13,7 +13,7 @@ use Rattle.std.proofs.lemmas.Slice.Eq.{slice_eq-Decides}
 abbrev pub mark : List ℕ
 mark = codes "#pragma compartment "
 
--- a text that begins with them, and what stands behind
+-- a text that begins with them, and what follows
 pub record Begins (text : List ℕ) : Type 0 where
   pub rest : List ℕ
   pub is : text ≡ mark ++ rest
@@ -55,7 +55,7 @@ last_at d (x ∷ y ∷ text) some =
     slice_index (x ∷ y ∷ text) (length (x ∷ y ∷ text) - 1) = ap (λ n. slice_index (x ∷ y ∷ text) n) count in
     last_at x (y ∷ text) (omega arith) ∙ back
 
--- nothing stands behind the text, or it ends with a newline
+-- nothing follows the text, or it ends with a newline
 abbrev pub Ends : (text behind : List ℕ) → Type 0
 Ends text behind = (behind ≡ []) ⊎ (last 10 text ≡ 10)
 
@@ -118,7 +118,7 @@ heading_outside text behind k low h =
     (line_inside text behind k low ∙ parts.0)
     (subst (λ b. begins_heading b ≡ true) (sym cut) (begins_outside (drop k text) behind parts.1))
 
--- a place behind a front
+-- a place after a prefix
 later : (front text : List ℕ) (k : ℕ) → slice_index (front ++ text) (length front + k) ≡ slice_index text k
 later front text k = sym (get_or-drop (length front) (front ++ text) k 0) ∙
     ap (λ b. slice_index b k) (drop-append_seam front text)
@@ -138,7 +138,7 @@ heading_behind front text k low =
     sym (drop-drop k (length front) (front ++ text)) ∙ ap (drop k) (drop-append_seam front text) in
     ap₂ (λ a b. a && begins_heading b) line behind
 
--- the heading right behind a front that is empty or ends with a newline
+-- the heading right after a prefix that is empty or ends with a newline
 pub heading_first : (front text : List ℕ) → last 10 front ≡ 10 → begins_heading text ≡ true →
     is_heading (front ++ text) (length front) ≡ true
 heading_first front text newline h =
@@ -153,7 +153,7 @@ heading_first front text newline h =
         (get_or_append_left (x ∷ front) text 0 (length (x ∷ front) - 1) (omega arith) ∙
         sym (last_at 10 (x ∷ front) (omega arith)) ∙ newline)
 
--- and the front is so, where a heading stands behind it
+-- and the prefix is so, where a heading follows it
 pub front_ends : (front text : List ℕ) → is_heading (front ++ text) (length front) ≡ true → last 10 front ≡ 10
 front_ends [] text h = refl
 front_ends (x ∷ front) text h =
@@ -169,7 +169,7 @@ pub heading_begins_behind : (front text : List ℕ) → is_heading (front ++ tex
 heading_begins_behind front text h = subst (λ b. begins_heading b ≡ true) (drop-append_seam front text)
     (and_parts (begins_line (front ++ text) (length front)) (begins_heading (drop (length front) (front ++ text))) h).1
 
--- the first line of a text that ends with a newline, or behind which nothing stands
+-- the first line of a text that ends with a newline, or that nothing follows
 line_len_kept : (text behind : List ℕ) (d : ℕ) → last d text ≡ 10 → 0 < length text →
     (line_len (text ++ behind) ≡ line_len text) × (line_len text < length text)
 line_len_kept [] behind d l some = absurd (omega (arith, some))

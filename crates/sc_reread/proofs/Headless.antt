@@ -165,7 +165,7 @@ imports_headless interfaces (import ∷ imports) h behind k =
     (plain_append f.name (codes "\n") (name_plain f.name (ident_name f.name h.0.called.name)) refl))
     (imports_headless interfaces imports h.1 behind k)))
 
--- The text of a section, whose compartment line tells its name, and in which no other stands.
+-- The text of a section, whose compartment line states its name, and in which no other stands.
 
 module _ (name behind : List ℕ) where
   abbrev pub headed : List ℕ

@@ -61,7 +61,7 @@ params_kept number (scalar.Int ∷ types) few = and_from (is_ident (param_name n
 params_kept number (scalar.Unsigned ∷ types) few = and_from (is_ident (param_name number)) _
     (param_ident number (omega (arith, few))) (params_kept (suc number) types (omega (arith, few)))
 
--- a parameter behind another one
+-- a parameter after another one
 abbrev next_words : ParamTree → List Piece
 next_words p = comma ++ param_words p
 

@@ -15,7 +15,7 @@ ends_of text texts ends = elim ends [
   | inr newline ↦ inr newline
 ]
 
--- one section between a front and what stands behind
+-- one section between a prefix and what follows
 module _ (front u behind : List ℕ) (t : IsText u) (newline : last 10 front ≡ 10) (ends : Ends u behind) where
   abbrev text : List ℕ
   text = front ++ (u ++ behind)

@@ -18,7 +18,7 @@ pub opens_lexemes : (count : ℕ) (ts : List Lexeme) → most_open count ts ≡ 
 opens_lexemes count [] = refl
 opens_lexemes count (t ∷ ts) = ap (λ n. max count n) (opens_lexemes (open_after t.symbol count) ts)
 
--- at most so many are open along the symbols
+-- at most `most` are open along the symbols
 pub record AtMost (count : ℕ) (ss : List Symbol) (most : ℕ) : Type 0 where
   pub within : opens count ss ≤ most
 
@@ -43,7 +43,7 @@ Opens s = (count : ℕ) → open_after s count ≡ count + 1
 abbrev pub Closes : Symbol → Type 0
 Closes s = (count : ℕ) → open_after s count ≡ count - 1
 
--- along the words so many more are open at most, and behind them as many as before
+-- along the words at most `depth` more are open, and after them as many as before
 pub record Nested (depth : ℕ) (pieces : List Piece) : Type 0 where
   pub under : (count most : ℕ) (rest : List Symbol) → count + depth ≤ most → AtMost count rest most →
       AtMost count (symbols pieces ++ rest) most

@@ -75,7 +75,7 @@ record AreImports (interfaces : Interfaces) (imports : List Import) : Type 0 whe
       flat_map (import_text interfaces) imports
   nested : Nested 0 (flat_map import_words (filter_map (import_line interfaces) imports))
 
--- an import in front of others
+-- an import before others
 module _ (interfaces : Interfaces) (import : Import) (imports : List Import) (f : Proto)
     (is : imported interfaces import ≡ Some f) (owner : is_name (owner_name interfaces import) ≡ true)
     (name : is_name f.name ≡ true) (rest : AreImports interfaces imports) where

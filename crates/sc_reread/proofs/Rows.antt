@@ -32,7 +32,7 @@ pub counter_ident : IsTrue (is_ident counter_name)
 unfolding is_name is_reserved
 counter_ident = refl
 
--- pieces that stand apart, come to this text, say what those of the tree say, and open so many brackets at most
+-- pieces that stand apart, come to this text, say what those of the tree say, and open at most `depth` brackets
 pub record Same (depth : ℕ) (printed pieces : List Piece) (text : List ℕ) : Type 0 where
   pub tidy : Free pieces
   pub spelled : text_of pieces ≡ text

@@ -22,7 +22,7 @@ some_bytes text h =
     let long : length text ≡ length (mark ++ b.rest) = ap length b.is in
     omega (arith, long)
 
--- texts of sections one behind another: each but the last ends with a newline
+-- texts of sections one after another: each but the last ends with a newline
 pub data Joined : List (List ℕ) → Type 0 where
   nothing : Joined []
   more : {text : List ℕ} {texts : List (List ℕ)} → IsText text → (texts ≡ []) ⊎ (last 10 text ≡ 10) → Joined texts →

@@ -16,7 +16,7 @@ pub record IsPerformer (interfaces : Interfaces) (comp : ℕ) (rows : List Row) 
   pub can : CanPerform interfaces rows interface
 
 -- The compartments of a set, and no others, are replaced by the texts by which they perform their rows, and those among
--- the first so many can.
+-- the first `count` can.
 pub record IsReplacement (interfaces : Interfaces) (rows : ℕ → List Row) (set : ℕ → Bool)
     (replace : ℕ → Option (List ℕ)) (count : ℕ) : Type 0 where
   pub texts : (comp : ℕ) → replace comp ≡

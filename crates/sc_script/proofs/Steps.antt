@@ -12,7 +12,7 @@ pub none_behind : (comp number : ℕ) (later : List Event) → rows_from comp nu
 none_behind comp number [] = refl
 none_behind comp number (event ∷ later) = refl
 
--- the first event's row, and those behind it
+-- the first event's row, and those after it
 pub one_event : (comp number : ℕ) (at : Standing) (event : Event) (later : List Event) →
     rows_from comp number (Some at) (event ∷ later) ≡
     row_of comp number at.active.entry event ++

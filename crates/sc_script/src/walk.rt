@@ -61,7 +61,7 @@ impl Walk {
         self.active.entry
     }
 
-    /// Passes an event: whether the run goes on behind it, and where it stands then.
+    /// Passes an event: whether the run goes on after it, and where it stands then.
     pub fn goes_on(&mut self, event: &Event) -> Result<bool, OutOfMemory>
         ensures { IfOk result (λ on. stands_after self.old event.now ≡ (if on then Some self.new else None)) }
     {

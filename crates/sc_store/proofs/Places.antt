@@ -296,7 +296,7 @@ pub has_place : (rs : List Area) (f : ℕ → ℕ) (a : ℕ) (o : Option ℕ) �
 has_place rs f a o e = ap is_some (e ∙ one_place rs a) ∙ sym (map_some f _)
 
 -- ---- a write
--- places that a write leaves alone
+-- places that a write leaves unchanged
 kept_bytes : (f g : ℕ → ℕ) (o : Option ℕ) → ((j : ℕ) → o ≡ Some j → g j ≡ f j) → option_map g o ≡ option_map f o
 kept_bytes f g None h = refl
 kept_bytes f g (Some j) h = ap Some (h j refl)

@@ -68,7 +68,7 @@ pow_pos (suc k) = rw (pow-suc 256 k) (omega (arith, pow_pos k))
 cut_more : (v k : ℕ) → v % 256 ^ k + byte_of v k * 256 ^ k ≡ v % 256 ^ suc k
 cut_more v k = rw (pow-succ' 256 k) (omega (arith, mod-mul v {m = 256} {c = 256 ^ k} (omega arith) (pow_pos k)))
 
--- a front of what was stored
+-- the first `k` bytes of what was stored
 front_stored : (m : Memory) (a n v k : ℕ) → k ≤ n → load_of (stored m a n v) a k ≡ v % 256 ^ k
 front_stored m a n v zero h = omega arith
 front_stored m a n v (suc k) h = ap (λ w. w + unwrap_or (stored m a n v (a + k)) 0 * 256 ^ k)

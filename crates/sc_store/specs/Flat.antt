@@ -25,7 +25,7 @@ abbrev pub bytes_of : List Part → Memory
 bytes_of [] a = None
 bytes_of (p ∷ ps) a = option_or (piece_of p a) (bytes_of ps a)
 
--- the part has the addresses from `a` on, so many
+-- the part has the `size` addresses from `a` on
 abbrev pub spans : ℕ → ℕ → Part → Bool
 spans a size p = nat_le p.start a && nat_le (a + size) (p.start + length p.bytes.items)
 

@@ -2,7 +2,7 @@
 use Rattle.std.specs.Prelude.{◌≡◌, ℕ, ◌+◌, ◌%◌, ◌^◌, ◌≤◌, ◌⊎◌, ◌↔◌, IsSome}
 use Rattle.sc_store.specs.Memory.{Memory, HasBytes, load_of, stored}
 
--- a load of what was stored gives the number, cut to so many bytes
+-- a load of what was stored gives the number, cut to `size` bytes
 abbrev pub GivesStored : Type 0
 GivesStored = (m : Memory) (a size value : ℕ) → load_of (stored m a size value) a size ≡ value % 256 ^ size
 

@@ -21,7 +21,7 @@ abbrev pub zeros : List Region → Memory
 zeros [] a = None
 zeros (r ∷ rs) a = if is_in r a then Some 0 else zeros rs a
 
--- the number that so many bytes from `a` on make, the first worth 1, the next 256, and so on
+-- the number that n bytes from `a` on make, the first worth 1, the next 256, and so on
 abbrev pub load_of : Memory → ℕ → ℕ → ℕ
 load_of m a zero = 0
 load_of m a (suc k) = load_of m a k + unwrap_or (m (a + k)) 0 * 256 ^ k
@@ -30,6 +30,6 @@ load_of m a (suc k) = load_of m a k + unwrap_or (m (a + k)) 0 * 256 ^ k
 abbrev pub byte_of : ℕ → ℕ → ℕ
 byte_of value k = value / 256 ^ k % 256
 
--- the memory with the bytes of a number, the first worth 1, at so many addresses from `a` on
+-- the memory with the bytes of a number, the first worth 1, at the `size` addresses from `a` on
 abbrev pub stored : Memory → ℕ → ℕ → ℕ → Memory
 stored m a size value b = if nat_le a b && nat_lt b (a + size) then Some (byte_of value (b - a)) else m b

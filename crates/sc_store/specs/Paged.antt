@@ -7,7 +7,7 @@ use Rattle.sc_store.specs.declared.area.Area.{Area}
 use Rattle.sc_store.specs.Memory.{Memory}
 use Rattle.sc_store.specs.Region.{is_in}
 
--- the region has the addresses from `a` on, so many
+-- the region has the `size` addresses from `a` on
 abbrev pub reaches : ℕ → ℕ → Area → Bool
 reaches a size r = nat_le r.region.start a && nat_le (a + size) (r.region.start + r.region.bytes)
 
@@ -24,7 +24,7 @@ abbrev pub place_of : List Area → ℕ → Option ℕ
 place_of [] a = None
 place_of (r ∷ rs) a = if is_in r.region a then Some (place_in a r) else place_of rs a
 
--- the place of `a`, where an area has all the addresses from it on, so many
+-- the place of `a`, where an area has all the `size` addresses from it on
 abbrev pub place_found : List Area → ℕ → ℕ → Option ℕ
 place_found rs a size = option_map (place_in a) (find (reaches a size) rs)
 
@@ -37,7 +37,7 @@ IsFocus focus rs = (a size : ℕ) → 0 < size → reaches a size focus ≡ true
 abbrev pub AreSingle : List Area → Type 0
 AreSingle rs = (a b i : ℕ) → place_of rs a ≡ Some i → place_of rs b ≡ Some i → a ≡ b
 
--- every place is on one of so many pages
+-- every place is on one of `pages` pages
 abbrev pub ArePlaced : List Area → ℕ → Type 0
 ArePlaced rs pages = (a i : ℕ) → place_of rs a ≡ Some i → i < pages * 4096
 

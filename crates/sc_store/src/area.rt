@@ -26,7 +26,7 @@ impl Area {
         }
     }
 
-    // Whether this region has the addresses from `at` on, so many.
+    // Whether this region has the `size` addresses from `at` on.
     #[inline(always)]
     pub(crate) fn reaches(&self, at: u32, size: usize) -> bool
         requires { size ≤ 4 }

@@ -37,7 +37,7 @@ fn are_zero(bytes: &[u8]) -> bool
 }
 
 impl Cells {
-    // Zeros on so many pages, none of which is taken.
+    // Zeros on `pages` pages, none of which is taken.
     pub(crate) fn zeroed(alloc: Global, pages: u32) -> Result<Cells, OutOfMemory>
         ensures length { IfOk result (λ cells. length cells.table.items ≡ pages) }
         ensures zero { IfOk result (λ cells. (k : ℕ) → cell cells.table.items cells.pool k ≡ 0) }

@@ -15,7 +15,7 @@ use std::alloc::{AllocError, Global};
 #[derive(Drop)]
 pub struct FlatStore {
     parts: Vec<Part>,
-    // The place of the part that is looked at first. The one behind it is the second.
+    // The place of the part that is looked at first. The one after it is the second.
     focus: usize,
     ghost apart: { AreApart (regions_of parts.items) },
     ghost holds: { HoldsBytes (bytes_of parts.items) },
@@ -33,7 +33,7 @@ fn zeroed_parts(alloc: Global, regions: &[Region]) -> Result<Vec<Part>, AllocErr
 }
 
 impl FlatStore {
-    // The place of the part that has all these addresses, so many from `at` on.
+    // The place of the part that has all the `size` addresses from `at` on.
     #[inline(always)]
     fn find(&self, at: u32, size: usize) -> Option<usize>
         requires some { 0 < size }
@@ -57,7 +57,7 @@ impl FlatStore {
         number < self.parts.len() && self.parts[number].spans(at, size)
     }
 
-    // Where it isn't the part in focus: the one behind that, or any other.
+    // Where it isn't the part in focus: the one after that, or any other.
     #[inline(never)]
     fn search(&self, at: u32, size: usize) -> Option<usize>
         requires some { 0 < size }

@@ -21,7 +21,7 @@ use std::alloc::Global;
 #[derive(Drop)]
 pub struct PagedStore {
     areas: Vec<Area>,
-    // The areas that are looked at first, the one in focus and the one behind it, or ones without addresses.
+    // The areas that are looked at first, the one in focus and the one after it, or ones without addresses.
     focus: Area,
     next: Area,
     cells: Cells,
@@ -58,7 +58,7 @@ fn laid(alloc: Global, regions: &[Region]) -> Result<(Vec<Area>, u32), OutOfMemo
 impl PagedStore {
     ghost use Rattle.sc_store.specs.Store.{bytes_in};
 
-    // The place of the first byte, where one region has all these addresses, so many from `at` on.
+    // The place of the first byte, where one region has all the `size` addresses from `at` on.
     #[inline(always)]
     fn place(&self, at: u32, size: usize) -> Option<usize>
         requires some { 0 < size }

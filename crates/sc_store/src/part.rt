@@ -26,7 +26,7 @@ impl Part {
         })
     }
 
-    // Whether this region has the addresses from `at` on, so many.
+    // Whether this region has the `size` addresses from `at` on.
     pub(crate) fn spans(&self, at: u32, size: usize) -> bool
         requires { size < 2 ^ 32 }
         ensures { result ≡ spans at size self.now }

@@ -23,8 +23,8 @@ pub trait Store: Drop {
         requires below { AreBelow regions.now }
         ensures { IfOk result (λ store. bytes store ≡ zeros regions.now) };
 
-    /// Looks first in the region of this address from now on, and then in the one that `zeroed` was given behind it.
-    /// Loads and stores answer as before; those in these two are found at once.
+    /// Looks first in the region of this address from now on, and then in the one that follows it in the list for
+    /// `zeroed`. Loads and stores answer as before; those in these two are found at once.
     fn focus(&mut self, at: u32)
         ensures { bytes self.new ≡ bytes self.old };
 

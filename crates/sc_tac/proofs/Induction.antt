@@ -32,6 +32,6 @@ module _ (P : TacStmt → Type 0) where
   inside (tac.Output value) = tt
   inside (tac.Return value) = tt
 
-  -- To show P of every statement, show it of one where P holds of each statement directly inside.
+  -- To prove P of every statement, prove it of one where P holds of each statement directly inside.
   pub stmt_induction : ((layer : TacStmt-F TacStmt) → Inside P layer → P (roll-TacStmt layer)) → (s : TacStmt) → P s
   stmt_induction step = ind-TacStmt P (λ x y is. step x (subst (Inside P) is (inside y)))

@@ -48,7 +48,7 @@ a_foreign_object = everywhere_is (names_own_object 1) (Fork 0 Done (Line (tac.Ob
 pub no_word : everywhere has_words (stmts (word 0 4294967296 Done)) ≡ false
 no_word = everywhere_is has_words (word 0 4294967296 Done)
 
--- how many elements of so many cells two places are apart
+-- how many elements of `cells` cells two places are apart
 abbrev counted : ℕ → Shape
 counted cells = Line (tac.Op 2 (tacop.PointerDifference cells) 0 (Some 1)) Done
 
@@ -116,7 +116,7 @@ assigned_in_the_head = assigned_first_is 0 (Cycle (word 0 1 Done) (output 0 Done
 pub assigned_in_the_body : is_assigned_first 0 (stmts (Cycle Done (word 0 1 Done) (output 0 Done) Done)) ≡ false
 assigned_in_the_body = assigned_first_is 0 (Cycle Done (word 0 1 Done) (output 0 Done) Done)
 
--- a read behind the loop, which the body may leave before the head assigns
+-- a read after the loop, which the body may leave before the head assigns
 pub read_behind_the_loop : is_assigned_first 0
     (stmts (Cycle (word 0 1 Done) (Line tac.Break Done) Done (output 0 Done))) ≡ false
 read_behind_the_loop = assigned_first_is 0 (Cycle (word 0 1 Done) (Line tac.Break Done) Done (output 0 Done))
@@ -134,7 +134,7 @@ heavy_code kept =
 pub too_many_temporaries : (IsFunction (function (main_with 30 [] 20 Done))) → ⊥
 too_many_temporaries kept = let few : 30 ≤ 20 = kept.few_temps in omega (arith, few)
 
--- a function without code of so many parameters, variables and nodes
+-- a function without code, of `params` parameters, variables of these sizes and `nodes` nodes
 abbrev hollow : ℕ → List ℕ → ℕ → Plan
 hollow params objects nodes =
     record {

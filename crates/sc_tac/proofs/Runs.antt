@@ -158,7 +158,7 @@ pub past_the_end_is_blamed : code_meaning (program alone past_the_end) [] 0 10 â
     record { trace = []; end = Blamed 0 OutOfBounds 0 }
 past_the_end_is_blamed = meaning_is c_arith alone past_the_end [] 0 10
 
--- the closing brace gives 0 in `main` alone
+-- the closing brace gives 0 only in `main`
 abbrev pub braces : Shape â†’ List Sheet
 braces body =
     record {

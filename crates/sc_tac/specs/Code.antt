@@ -1,4 +1,4 @@
--- The meaning of three-address code, in the words in which programs' meaning is told.
+-- The meaning of three-address code, by the combinators of programs' meaning.
 use Rattle.sc_tac.specs.Common.{Arith, Blocks, Break, Calls, Continue, Does, Entry, Event, Function, Here, Library}
 use Rattle.sc_tac.specs.Common.{Main, Memory, Next, Piece, Reached, Return, Run, State, Step, all_do, and_then}
 use Rattle.sc_tac.specs.Common.{applied_one, between, c_arith, choose, closed, computed, depth_in, frame_bound}
@@ -102,7 +102,7 @@ module _ (here : Here) where
   abbrev pub read : ℕ → Temps → State → Piece Value
   read t temps s = computed here 0 (known (temps t)) s
 
-  -- the second value of an operator; one that takes one value alone has use for none
+  -- the second value of an operator; one that takes only one value has no use for it
   abbrev pub second : Option ℕ → Value → Temps → State → Piece Value
   second None v temps s = Reached v s
   second (Some t) v temps s = read t temps s
@@ -220,7 +220,7 @@ module _ (arith : Arith) (program : TacTree) (inputs : List ℕ) (turns : ℕ) w
   abbrev pub scripted_code_run : (ℕ → Bool) → List Event → Run
   scripted_code_run set trace = code_run_by (code_performs arith program set trace)
 
--- what code shows under an arithmetic, stopped at a number of events
+-- the behaviour of code under an arithmetic, stopped at `events` events
 abbrev pub code_meaning_by : Arith → TacTree → List ℕ → ℕ → ℕ → SourceRun
 code_meaning_by arith program inputs turns events = stopped_at events (code_run arith program inputs turns).behaviour
 
@@ -243,7 +243,7 @@ abbrev pub scripted_code_wrapped : TacTree → (ℕ → Bool) → List Event →
 scripted_code_wrapped program set trace inputs turns events =
     scripted_code_by wrapping program set trace inputs turns events
 
--- the greatest room that the frames of a compartment take at once
+-- the greatest stack depth of a compartment
 abbrev pub code_depth_by : Arith → TacTree → List ℕ → ℕ → ℕ → ℕ → ℕ
 code_depth_by arith program inputs turns events comp = depth_in (code_run arith program inputs turns) events comp
 

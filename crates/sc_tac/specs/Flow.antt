@@ -5,7 +5,7 @@ use Rattle.sc_tac.specs.Parts.{one_or_none, temps_read, temp_assigned}
 use Rattle.sc_tac.specs.declared.stmt.TacStmt.{TacStmt, TacStmt-F, fold-TacStmt}
 use Rattle.sc_tac.specs.declared.stmt.TacStmt.TheOpen as tac
 
--- whether a temporary is read first on some path from where control goes on: behind the code, at a break, at a continue
+-- whether a temporary is read first on some path from where control goes on: after the code, at a break, at a continue
 pub record Ahead : Type 0 where
   pub behind : Bool
   pub broken : Bool
@@ -32,7 +32,7 @@ abbrev pub row_fresh : List Reading → Ahead → Bool
 row_fresh [] ahead = true
 row_fresh (r ∷ rs) ahead = r.fresh (record ahead { behind = row_first rs ahead }) && row_fresh rs ahead
 
--- a part of a loop that has this ahead at its end; a break leads behind the loop
+-- a part of a loop that has this ahead at its end; a break leads to what follows the loop
 abbrev pub part_ahead : Ahead → Bool → Ahead
 part_ahead ahead end = record { behind = end; broken = ahead.behind; continued = end }
 
@@ -52,7 +52,7 @@ module _ (t : ℕ) where
     fresh = λ ahead. true;
   }
 
-  -- control doesn't go on behind it
+  -- control doesn't go on after it
   abbrev pub leaving : (Ahead → Bool) → Reading
   leaving first = record { first = first; fresh = λ ahead. true }
 

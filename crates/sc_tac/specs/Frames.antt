@@ -1,4 +1,4 @@
--- The frame of a function: the return address, the slots of temporaries, the objects of variables.
+-- The frame of a function: the return address, the spill slots of temporaries, the objects of variables.
 use Rattle.sc_tac.specs.Common.{frame_bound, total}
 use Rattle.std.specs.Prelude.{◌≡◌, ◌≤◌, ◌⊎◌, ℕ, suc, ◌+◌, ◌*◌, ◌%◌, max, List, [], ◌∷◌, ◌++◌, map, zip, length, All}
 use Rattle.std.specs.Prelude.{AllPairs}
@@ -7,7 +7,7 @@ use Rattle.sc_tac.specs.declared.frame.FrameTree.{FrameTree}
 use Rattle.sc_tac.specs.declared.place.Place.{Place}
 use Rattle.sc_tac.specs.declared.place.Place.TheVariants.{Register, Slot}
 
--- what frames keep: words alone stand in them
+-- what frames keep: only words stand in them
 pub record IsFrame (frame : FrameTree) : Type 0 where
   pub bytes : frame.bytes % 4 ≡ 0
   pub objects : All (λ offset. offset % 4 ≡ 0) frame.objects
@@ -50,14 +50,14 @@ word_at offset = record { offset = offset; bytes = 4 }
 abbrev pub object_range : ℕ × ℕ → Range
 object_range object = record { offset = object.0; bytes = 4 * object.1 }
 
--- the return address, the slots and the objects of variables with so many cells each
+-- the return address, the slots, and the objects of variables of these sizes in cells
 abbrev pub ranges_of : List ℕ → FrameTree → List Range
 ranges_of cells frame = word_at 0 ∷ map word_at frame.slots ++ map object_range (zip frame.objects cells)
 
 abbrev pub Apart : Range → Range → Type 0
 Apart a b = (end_of a ≤ b.offset) ⊎ (end_of b ≤ a.offset)
 
--- a frame has room for all that it keeps, nothing meets, and it is no larger than its bound
+-- all that a frame keeps fits and doesn't overlap, and the frame is no larger than its bound
 pub record HasRoom (cells : List ℕ) (places : List Place) (nodes : ℕ) (frame : FrameTree) : Type 0 where
   pub objects : length frame.objects ≡ length cells
   pub slots : length frame.slots ≡ slots_of places

@@ -87,7 +87,7 @@ stray_continue stmt = list_any some_hold (parts stmt)
 abbrev pub has_none : (TacStmt-F Bool → Bool) → List TacStmt → Bool
 has_none stray stmts = not (some_hold (map (fold-TacStmt Bool stray) stmts))
 
--- so many parameters have variables, of one cell each
+-- the first `params` variables, those of the parameters, have one cell each
 abbrev pub passes_words : ℕ → List ℕ → Bool
 passes_words params cells = list_all (λ n. n == 1) (take params cells)
 

@@ -1,4 +1,4 @@
--- The intervals of temporaries: from the first point of a function's code at which one is used to the last.
+-- The live intervals of temporaries: from the first point of a function's code at which one is used to the last.
 use Rattle.std.specs.Prelude.{◌≡◌, ◌≤◌, ℕ, suc, ◌-◌, Bool, ◌||◌, if◌then◌else◌, List, [], ◌∷◌, map, take, drop, Option}
 use Rattle.std.specs.Prelude.{None, Some, slice_get}
 use Rattle.std.specs.List.{list_any, range_with_len}
@@ -29,7 +29,7 @@ span_from t at [] = None
 span_from t at (x ∷ xs) =
     if is_used t x then Some (from_here at (span_from t (suc at) xs)) else span_from t (suc at) xs
 
--- one that is never used has the first point alone
+-- one that is never used has only the first point
 abbrev pub or_first : Option Span → Span
 or_first None = record { first = 0; last = 0 }
 or_first (Some span) = span

@@ -1,12 +1,12 @@
--- Laws of code: what holds of every library that obeys holds of it.
+-- Laws of code: what holds of all denotations that obey holds of those of code.
 use Rattle.sc_tac.specs.Common.{Arith, Event, c_arith, wrapping}
 use Rattle.sc_laws.specs.Prelude.{AgreesInRoom, IsArithmetic, LibrariesMatch, Obedient}
 use Rattle.std.specs.Prelude.{ℕ, Bool, List}
 use Rattle.sc_tac.specs.declared.program.TacTree.{TacTree}
 use Rattle.sc_tac.specs.Code.{code_library, code_run, scripted_code_run}
 
--- what functions of code do is such trees as the laws of libraries want, and in the arithmetic that wraps the same but
--- for blames for arithmetic
+-- the functions of code denote such interaction trees as the laws of denotations want, and in the arithmetic that wraps
+-- the same but for blames for arithmetic
 pub record CodeObeys : Type 0 where
   pub itself : (arith : Arith) (program : TacTree) → Obedient (code_library arith program)
   pub wraps : (program : TacTree) →

@@ -1,4 +1,4 @@
--- The places of temporaries: registers and slots of the frame.
+-- The places of temporaries: registers and spill slots of the frame.
 use Rattle.std.specs.Prelude.{◌≡◌, ◌<◌, ℕ, Bool, true, false, nat_lt, List, length, All, Some, slice_get, IsTrue}
 use Rattle.std.specs.List.{list_all}
 use Rattle.sc_tac.specs.declared.function.TacFnTree.{TacFnTree}
@@ -13,7 +13,7 @@ use Rattle.sc_tac.specs.Points.{Point, function_points}
 abbrev pub register_count : ℕ
 register_count = 18
 
--- a register or slot that there is among so many temporaries
+-- a register, or one of `temps` spill slots
 abbrev pub is_place : ℕ → Place → Bool
 is_place temps (Register r) = nat_lt r register_count
 is_place temps (Slot k) = nat_lt k temps

@@ -18,7 +18,7 @@ pub record Point : Type 0 where
   pub calls : Bool
   pub live : Set
 
--- what is live where control goes on: behind the code, at a break, at a continue
+-- what is live where control goes on: after the code, at a break, at a continue
 pub record Lives : Type 0 where
   pub behind : Set
   pub broken : Set
@@ -71,7 +71,7 @@ module _ (reads : List ℕ) (calls : Bool) (assigned : Option ℕ) (lives : Live
       if_calls calls (point true live_across) ++
       record { assigned = assigned; calls = false; live = lives.behind } ∷ []
 
--- what is live in a part of a loop at whose end this is live; a break leads behind the loop
+-- what is live in a part of a loop at whose end this is live; a break leads to what follows the loop
 abbrev pub part_lives : Lives → Set → Lives
 part_lives lives end = record { behind = end; broken = lives.behind; continued = end }
 
@@ -120,10 +120,10 @@ trail_step stmt = record {
 abbrev pub trail : TacStmt → Trail
 trail = fold-TacStmt Trail trail_step
 
--- the points of code behind which something is live
+-- the points of code after which something is live
 abbrev pub points : List TacStmt → Lives → List Point
 points stmts lives = row_points (map trail stmts) lives
 
--- the points of a function's code, behind which nothing is live
+-- the points of a function's code, after which nothing is live
 abbrev pub function_points : TacFnTree → List Point
 function_points f = points f.body nothing_live

@@ -20,13 +20,13 @@ use Rattle.sc_tac.specs.Parts.{everywhere}
 abbrev pub takes_result : Option ℕ → Bool → Bool
 takes_result dest result = not (is_some dest) || result
 
--- the function of the section takes so many arguments, and its parameters are words
+-- the function of the section takes `count` arguments, and its parameters are words
 abbrev pub own_call_fits : Option TacFnTree → Option ℕ → ℕ → Bool
 own_call_fits None dest count = false
 own_call_fits (Some f) dest count =
     f.params == count && (passes_words f.params f.objects && takes_result dest f.result)
 
--- the export takes so many arguments
+-- the export takes `count` arguments
 abbrev pub cross_call_fits : Option Proto → Option ℕ → ℕ → Bool
 cross_call_fits None dest count = false
 cross_call_fits (Some proto) dest count = length proto.params == count && takes_result dest (is_some proto.result)
@@ -77,7 +77,7 @@ abbrev pub are_headed : Entry → ℕ → Bool → List TacFnTree → Bool
 are_headed entry params result functions =
     list_all {X = TacFnTree} (λ f. not (same_entry entry f.entry) || has_head params result f) functions
 
--- an entry belongs to exactly one function, which has so many parameters and such a result
+-- an entry belongs to exactly one function, which has `params` parameters and such a result
 abbrev pub is_entered : Entry → ℕ → Bool → TacSection → Bool
 is_entered entry params result section =
     count {X = TacFnTree} (λ f. same_entry entry f.entry) section.functions == 1 &&

@@ -18,7 +18,7 @@ pub struct FrameTree {
     pub slots: Offsets,
 }
 
-/// The frame of a function: words alone stand in it.
+/// The frame of a function: only words stand in it.
 #[derive(Drop)]
 pub struct Frame {
     tree: FrameTree,

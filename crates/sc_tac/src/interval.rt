@@ -4,7 +4,7 @@ ghost use Rattle.sc_tac.specs.Intervals.{AreIntervals};
 use sqlite_items::Items;
 use std::marker::Model;
 
-/// Where a temporary is used: from one point of its function's code to another, both counted from the beginning.
+/// The live interval of a temporary: from one point of its function's code to another, both counted from the beginning.
 #[derive(Clone, Copy, Debug, PartialEq, Eq)]
 pub struct Interval {
     pub temp: u32,

@@ -38,7 +38,7 @@ pub struct CodeTree {
 }
 
 /// The code of a function, whose relocations stand at instructions that the linker can complete: a JAL for a function,
-/// and a LUI with an instruction behind it that adds the low 12 bits for an entry or a global.
+/// and a LUI with an instruction after it that adds the low 12 bits for an entry or a global.
 #[derive(Drop)]
 pub struct Code {
     tree: CodeTree,

@@ -9,7 +9,7 @@ use std::marker::Model;
 pub enum Place {
     /// A register, by its number among those for temporaries.
     Register(u8),
-    /// A word of the frame, by its number among the slots.
+    /// A spill slot of the frame, by its number.
     Slot(u32),
 }
 

@@ -25,8 +25,8 @@ pub enum TacOp {
     },
     /// `!` before a pointer.
     PointerNot,
-    /// A pointer so many elements further, or back where it is a minus. An element has `cells` cells, and the number of
-    /// elements has the type `index`.
+    /// A pointer moved on by a number of elements, or back where it is a minus. An element has `cells` cells, and the
+    /// number of elements has the type `index`.
     PointerMove {
         minus: bool,
         cells: u32,

@@ -34,7 +34,7 @@ all_left limit text bytes (Some rest) w =
     let nothing = w.ended in
     sym (taken ∙ ap (λ r. bytes ++ r) nothing ∙ append-nil bytes)
 
--- what was read is a front of the text
+-- what was read is a prefix of the text
 as_long : (text bytes : List ℕ) (after : Option (List ℕ)) → Takes (Some text) after bytes → length bytes ≤ length text
 as_long text bytes None taken = absurd taken
 as_long text bytes (Some rest) taken = omega (arith, length-append bytes rest, ap length taken)

@@ -131,7 +131,7 @@ module _
     same_program comps least link next other accepted =
         one_program (recomposed source trace _) _ other next.text.accepted accepted
 
-    -- a front with fewer events is not the trace
+    -- a prefix with fewer events is not the trace
     long_take : (n : ℕ) (xs : List Event) → length (take n xs) ≤ n
     long_take zero xs = omega arith
     long_take (suc n) [] = omega arith

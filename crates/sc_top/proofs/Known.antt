@@ -64,7 +64,7 @@ program_main program typed =
     within program.interfaces.comps program.interfaces.main
     (subst (λ n. program.interfaces.main < n) (sym has.as_many) has.main)
 
--- what a program shows is known by its names: such traces are legal
+-- the trace of a program is known by its names: such traces are legal
 pub meant_known : SourceTracesAreLegal → (options : MeaningOptions) (program : ProgramTree) → IsWellTyped program →
     All (IsKnown program.interfaces) (meant options program).trace
 meant_known legal options program typed =
@@ -74,7 +74,7 @@ meant_known legal options program typed =
 pub inputs_are_words : (inputs : List ℤ) → All IsWord (map word_of inputs)
 inputs_are_words inputs = All-map IsWord word_of inputs (λ i d within. word_of-lt _)
 
--- what the machine shows on the image of a program is known by the program's names: such traces are legal
+-- the machine's trace on the image of a program is known by the program's names: such traces are legal
 pub compiled_known : (options : RunOptions) (program : ProgramTree) (image : ImageParts) → IsWellTyped program →
     IsCompiled program image → All (IsKnown program.interfaces) (machine_run options image).state.trace
 compiled_known options program image typed is =
@@ -86,7 +86,7 @@ pub legal_known : (program : ProgramTree) (trace : List Event) → IsWellTyped p
     is_legal program.interfaces trace ≡ true → All (IsKnown program.interfaces) trace
 legal_known program trace typed allowed = legal_is_known _ trace (program_main program typed) allowed
 
--- what the machine shows on an image is known by the image's names: such traces are legal
+-- the machine's trace on an image is known by the image's names: such traces are legal
 pub machine_run_known : TracesAreLegal → (options : RunOptions) (image : ImageParts) → IsWellFormed image →
     All (IsKnown (interfaces_of image)) (machine_run options image).state.trace
 machine_run_known legal options image formed =

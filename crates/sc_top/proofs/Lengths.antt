@@ -10,7 +10,7 @@ use Rattle.sc_image.specs.declared.parts.ExportPart.{ExportPart}
 use Rattle.sc_image.specs.declared.parts.ImportPart.{ImportPart}
 use Rattle.sc_base.proofs.Filled.{name_is_short}
 
--- pieces of at most so many bytes
+-- pieces of at most `most` bytes
 module _ {A : Type 0} (f : A → List ℕ) (most : ℕ) (bound : ℕ → ℕ)
     (step : (n : ℕ) → most + bound n ≤ bound (suc n)) where
   many : (xs : List A) → AllByRecursion (λ x. length (f x) ≤ most) xs → length (flat_map f xs) ≤ bound (length xs)

@@ -58,7 +58,7 @@ compiled_cause command bytes program other f same accepted compiled why =
 
 -- ONE OUTPUT
 
--- what is written depends on the image of a command that compiles alone
+-- what is written depends on the image only for a command that compiles
 same_output : (command : Command) (program : ProgramTree) (one other : ImageParts) →
     (IsTrue (compiles command) → one ≡ other) → output command program one ≡ output command program other
 same_output commands.Check program one other same = refl

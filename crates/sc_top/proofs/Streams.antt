@@ -29,7 +29,7 @@ Adds-more (Some a) (Some b) (Some c) x y p q = q ∙ ap (λ t. t ++ y) p ∙ app
 Adds-more (Some a) (Some b) None x y p q = q
 Adds-more (Some a) None c x y p q = absurd p
 
--- these bytes were read, at most so many
+-- these bytes were read, at most `most`
 pub record HasTaken (most : ℕ) (left left' : Option (List ℕ)) (faults faults' : ℕ) (text : List ℕ) : Type 0 where
   pub taken : Takes left left' text
   pub within : length text ≤ most
@@ -64,7 +64,7 @@ pub enough_taken : (limit : ℕ) (a b : Option (List ℕ)) (f g : ℕ) (text : L
 enough_taken limit a b f g text so_far long =
     record { taken = so_far.taken; few = so_far.within; ended = λ short. absurd (omega arith) }
 
--- so many of the bytes were written
+-- the first `count` of the bytes were written
 pub record HasAdded (bytes : List ℕ) (written written' : Option (List ℕ)) (faults faults' count : ℕ) : Type 0 where
   pub within : count ≤ length bytes
   pub added : Adds written written' (take count bytes)
@@ -93,7 +93,7 @@ pub all_added : (bytes : List ℕ) (a b : Option (List ℕ)) (f g count : ℕ) �
     length bytes ≤ count → Adds a b bytes
 all_added bytes a b f g count so_far whole = subst (Adds a b) (take_all count bytes whole) so_far.added
 
--- where a write fails, what came before it is a front of the bytes
+-- where a write fails, what came before it is a prefix of the bytes
 pub cut_short : (bytes : List ℕ) (a b c : Option (List ℕ)) (f g h count : ℕ) → HasAdded bytes a b f g count → c ≡ b →
     Rose g h → Tells bytes a c f h
 cut_short bytes a b c f g h count so_far same rose =
@@ -104,7 +104,7 @@ cut_short bytes a b c f g h count so_far same rose =
       whole = inr (rose_since f g h so_far.counted rose);
     }
 
--- a text that was cut short is the front of a longer one
+-- what was written of a text that was cut short is a prefix of any longer one
 first_cut : (a b : List ℕ) (w w' : Option (List ℕ)) (f f' : ℕ) → Tells a w w' f f' → Rose f f' →
     Tells (a ++ b) w w' f f'
 first_cut a b w w' f f' t rose =
@@ -118,7 +118,7 @@ first_cut a b w w' f f' t rose =
       whole = inr rose;
     }
 
--- behind a text that was written whole, the next is told
+-- a text that was written whole, and then another, whole or cut short
 then_told : (a b : List ℕ) (w u w' : Option (List ℕ)) (f g f' : ℕ) → Adds w u a → f ≤ g → Tells b u w' g f' →
     Tells (a ++ b) w w' f f'
 then_told a b w u w' f g f' added low t =
@@ -132,7 +132,7 @@ then_told a b w u w' f g f' added low t =
       whole = ⊎_elim (λ same. inl (ap (λ x. a ++ x) same)) (λ rose. inr (rose_since f g f' low rose)) t.whole;
     }
 
--- a text whose front was cut short, so that the call fails
+-- a text with a prefix that was cut short, so that the call fails
 pub cut_wrote : {T E : Type 0} (text a b : List ℕ) (r : Result T E) (w w' : Option (List ℕ)) (f f' : ℕ) →
     text ≡ a ++ b → OnOk r ⊥ → Tells a w w' f f' → Rose f f' → f ≤ f' → Wrote text r w w' f f'
 cut_wrote text a b (Ok value) w w' f f' joined fails told rose low = absurd fails
@@ -144,7 +144,7 @@ cut_wrote text a b (Err error) w w' f f' joined fails told rose low =
       counted = low;
     }
 
--- a text whose front was written whole, and what is behind it by this call
+-- a text with a prefix that was written whole, and the rest by this call
 pub then_wrote : {T E : Type 0} (text a b : List ℕ) (r : Result T E) (w u w' : Option (List ℕ)) (f g f' : ℕ) →
     text ≡ a ++ b → Adds w u a → f ≤ g → Wrote b r u w' g f' → Wrote text r w w' f f'
 then_wrote text a b (Ok value) w u w' f g f' joined added low wrote =
@@ -177,7 +177,7 @@ part_wrote bytes (Err error) a b c f g h count fails so_far same rose low =
       counted = omega (arith, counted, low);
     }
 
--- a text was told, whether or not the call failed
+-- a text was written, whole or cut short, whether or not the call failed
 pub told_by : {T E : Type 0} (text : List ℕ) (r : Result T E) (w w' : Option (List ℕ)) (f f' : ℕ) →
     Wrote text r w w' f f' → Tells text w w' f f'
 told_by text (Ok value) w w' f f' wrote =

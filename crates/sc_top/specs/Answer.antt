@@ -13,7 +13,7 @@ use Rattle.sc_top.specs.Command.{Intake, Text, Image, Nothing, intake, limit_of}
 use Rattle.sc_top.specs.Large.{large_in}
 use Rattle.sc_top.specs.Output.{compiles, IsOutput}
 
--- what a call saw of the outside: the bytes that were left to read and those that were written, where these are told,
+-- what a call saw of the outside: the bytes that were left to read and those that were written, where these are known,
 -- and the counts of faults, each before the call and after it
 pub record Traffic : Type 0 where
   pub left : Option (List ℕ)
@@ -25,7 +25,7 @@ pub record Traffic : Type 0 where
   pub write_faults : ℕ
   pub write_faults_after : ℕ
 
--- a text begins with this front
+-- a text begins with this prefix
 pub record IsFront (front text : List ℕ) : Type 0 where
   pub rest : List ℕ
   pub joined : text ≡ front ++ rest
@@ -42,7 +42,7 @@ pub record IsLonger (limit : ℕ) (left left_after : Option (List ℕ)) : Type 0
   pub read : Takes left left_after bytes
   pub long : length bytes ≡ limit + 1
 
--- these bytes are the whole input, where a command reads so many at most; or it reads nothing
+-- these bytes are the whole input, where a command reads at most `limit`; or it reads nothing
 abbrev pub IsInput : Option ℕ → (left left_after : Option (List ℕ)) → List ℕ → Type 0
 IsInput (Some limit) left left_after bytes = IsWhole limit left left_after bytes
 IsInput None left left_after bytes = (bytes ≡ []) × (left_after ≡ left)
@@ -59,7 +59,7 @@ pub record HasWritten (command : Command) (traffic : Traffic) (bytes : List ℕ)
   pub output : IsOutput command bytes text
   pub whole : Adds traffic.written traffic.written_after text
 
--- a front of the text was written
+-- a prefix of the text was written
 pub record HasBegun (command : Command) (traffic : Traffic) (bytes : List ℕ) : Type 0 where
   pub text : List ℕ
   pub front : List ℕ
@@ -164,7 +164,7 @@ pub record Answers (asked : Option Command) (traffic : Traffic) (status : Status
   pub no_command : asked ≡ None → (status ≡ Usage) ⊎ (status ≡ OutOfMemory)
   -- with a command, the status says what was read and written
   pub says : (command : Command) → asked ≡ Some command → Says command traffic status
-  -- bytes that the source tells have their one answer, unless memory runs out or the outside fails
+  -- bytes that are known to be left to read have their one answer, unless memory runs out or the outside fails
   pub answered : (command : Command) (bytes : List ℕ) → asked ≡ Some command → traffic.left ≡ Some bytes →
       IsUndisturbed traffic →
       IsAnswer command bytes status ⊎ (status ≡ OutOfMemory)
@@ -172,11 +172,11 @@ pub record Answers (asked : Option Command) (traffic : Traffic) (status : Status
   pub complete : (command : Command) (bytes : List ℕ) → asked ≡ Some command → traffic.left ≡ Some bytes →
       IsUndisturbed traffic →
       IsWithin command bytes → IsGood command bytes → (status ≡ Done) ⊎ (status ≡ OutOfMemory)
-  -- so is a command that reads nothing, whatever the source tells
+  -- so is a command that reads nothing, whatever is left to read
   pub made : (command : Command) → asked ≡ Some command → limit_of command ≡ None → IsUndisturbed traffic →
       (status ≡ Done) ⊎ (status ≡ OutOfMemory)
 
--- two answers are the same; which line of a section phase Syntax refuses isn't told
+-- two answers are the same, but for the line of a section that phase Syntax refuses
 abbrev pub SameAnswer : Status → Status → Type 0
 SameAnswer (Refused refusal) (Refused other) =
     (refusal.phase ≡ other.phase) × (refusal.phase ≢ Syntax → refusal.line ≡ other.line)

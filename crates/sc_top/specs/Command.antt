@@ -3,7 +3,7 @@ use Rattle.sc_top.specs.Common.{Command}
 use Rattle.std.specs.Prelude.{ℕ, Option, Some, None}
 use Rattle.sc_words.specs.declared.command.Command.TheVariants.{Check, Meaning, Compile, Run, Exec, Explain, Make}
 
--- a text or an image of at most so many bytes, or nothing
+-- a text or an image of at most `limit` bytes, or nothing
 pub data Intake : Type 0 where
   Text : (limit : ℕ) → Intake
   Image : (limit : ℕ) → Intake

@@ -17,11 +17,11 @@ use Rattle.sc_words.specs.declared.command.Command.TheVariants as commands
 use Rattle.sc_words.specs.declared.command.MakeOptions.{MakeOptions}
 use Rattle.sc_words.specs.declared.command.MeaningOptions.{MeaningOptions}
 
--- what a program means, with so many turns and events and these inputs
+-- what a program means, with the turns, events and inputs of the options
 abbrev pub meant : MeaningOptions → ProgramTree → SourceRun
 meant options program = meaning program (map word_of options.inputs) options.turns options.events
 
--- what the machine shows on an image
+-- the machine's run on an image
 abbrev pub machine_run : RunOptions → ImageParts → Run
 machine_run options image = machine image (map word_of options.inputs) options.steps options.events
 
@@ -62,7 +62,7 @@ pub record IsTextOutput (command : Command) (bytes text : List ℕ) : Type 0 whe
 abbrev pub comp_of : Link → ℕ
 comp_of link = link.comp
 
--- the text of the chain after so many links, or after all where there are fewer: the compartments of those links
+-- the text of the chain after `links` links, or after all where there are fewer: the compartments of those links
 -- perform their parts of the trace
 abbrev pub text_after : SourceParts → Explanation → (links : ℕ) → List ℕ
 text_after source explanation links =
@@ -73,8 +73,8 @@ abbrev pub account : (show : Option ℕ) → SourceParts → Explanation → Lis
 account None source explanation = explain_text source.program.interfaces explanation
 account (Some links) source explanation = text_after source explanation links
 
--- the bytes are an accepted text, what the machine shows on its program's image is explained by a chain of texts, and
--- this is the account of it
+-- the bytes are an accepted text, the machine's trace on its program's image is explained by a chain of texts, and this
+-- is the account of it
 pub record IsAccounted (options : RunOptions) (show : Option ℕ) (bytes text : List ℕ) : Type 0 where
   pub source : SourceParts
   pub parts : IsSource source
@@ -83,7 +83,7 @@ pub record IsAccounted (options : RunOptions) (show : Option ℕ) (bytes text : 
   pub explained : IsExplained source (map word_of options.inputs) options.steps options.events explanation
   pub written : text ≡ account show source explanation
 
--- the bytes are those of an image, and the text tells what the machine shows on it, by the image's own names
+-- the bytes are those of an image, and the text reports the machine's run on it, by the image's own names
 pub record IsExecuted (options : RunOptions) (bytes text : List ℕ) : Type 0 where
   pub read : IsImage bytes
   pub written : text ≡ machine_text (interfaces_of read.image) options read.image
@@ -96,7 +96,7 @@ pub record IsMadeText (options : MakeOptions) (text : List ℕ) : Type 0 where
   pub image : ImageParts
   pub compiled : image_of program ≡ Ok image
 
--- what the machine shows on the image of a made program is explained by a chain of texts, and the text sums it up
+-- the machine's trace on the image of a made program is explained by a chain of texts, and the text sums it up
 pub record IsSummary (options : MakeOptions) (text : List ℕ) : Type 0 where
   pub source : SourceParts
   pub parts : IsSource source

@@ -39,7 +39,7 @@ kind_text (which.Code comp number) = codes "code of "
 kind_text (which.Globals comp number) = codes "data of "
 kind_text (which.Frame comp function number) = codes "frame of "
 
--- whose it is, by names with a blank behind each
+-- whose it is, by names with a blank after each
 abbrev pub owner_text : large.TooLarge → List ℕ
 owner_text (which.Code comp number) = comp ++ codes " "
 owner_text (which.Globals comp number) = comp ++ codes " "
@@ -66,7 +66,7 @@ fixed_text ReadFault = codes "secomp: read fault\n"
 fixed_text WriteFault = codes "secomp: write fault\n"
 fixed_text OutOfMemory = codes "secomp: out of memory\n"
 
--- what stands behind it
+-- what follows it
 abbrev pub own_text : Status → List ℕ
 own_text (Refused refusal) = refusal_text refusal
 own_text (TooLarge fault) = large_text fault

@@ -34,7 +34,7 @@ abbrev pub ArePerforming : SourceParts → List Event → List Link → Type 0
 ArePerforming source trace links =
     All (λ link. link.text ≡ performing_text source.program.interfaces trace link.comp) links
 
--- the compartment of which a fault tells is there
+-- the compartment that a fault names is there
 abbrev pub IsNamed : Interfaces → CompileFault → Type 0
 IsNamed interfaces (compiling.CodeTooLarge comp bound) = IsSome (comp_at interfaces comp)
 IsNamed interfaces (compiling.DataTooLarge comp bytes) = IsSome (comp_at interfaces comp)

@@ -15,7 +15,7 @@ use sc_words::RunOptions;
 use sqlite_items::Items;
 use std::alloc::Global;
 
-/// What the machine shows on the image of the text, with a chain of texts that accounts for it; or one of these texts.
+/// The machine's trace on the image of the text, with a chain of texts that accounts for it; or one of these texts.
 pub(crate) fn explain(
     alloc: Global,
     options: &RunOptions,
@@ -64,7 +64,7 @@ fn explain_failure(program: &Program, fault: ExplainFault) -> Failure
     }
 }
 
-// The report, or the text of the chain after so many links.
+// The report, or the text of the chain after `show` links.
 fn account(
     alloc: Global,
     source: &SourceText,
@@ -109,7 +109,7 @@ fn text_after(
     recompose(alloc, source, replacements.as_slice())
 }
 
-// So many links, or all where there are fewer.
+// The first `most` links, or all where there are fewer.
 fn first_links(links: &[Link], most: u32) -> &[Link]
     ensures { result.now ≡ take most links.now }
 {

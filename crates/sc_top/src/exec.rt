@@ -8,7 +8,7 @@ use sc_image::{image_interfaces, read_image, traces_are_legal};
 use sc_words::RunOptions;
 use std::alloc::Global;
 
-/// What the machine shows on the image that the bytes are.
+/// The machine's trace on the image that the bytes are.
 pub(crate) fn execute(alloc: Global, options: &RunOptions, bytes: &[u8]) -> Result<Text, Failure>
     ensures ok { IfOk result (IsOutput (Exec options.now) bytes.now) }
     ensures cause { IfErr result (IsOutputCause (Exec options.now) bytes.now) }

@@ -10,7 +10,7 @@ use sc_store::PagedStore;
 use sc_words::RunOptions;
 use std::alloc::Global;
 
-/// What the machine shows on the image: its events, by these names, and why it stops.
+/// The machine's trace on the image, by these names, and why it stops.
 pub(crate) fn machine_text(
     alloc: Global,
     names: &Interfaces,
@@ -28,7 +28,7 @@ pub(crate) fn machine_text(
     sc_report::run_text(alloc, names, machine.trace(), stop)
 }
 
-/// What the machine shows on the image of a program, by the program's names.
+/// The machine's trace on the image of a program, by the program's names.
 pub(crate) fn compiled_text(
     alloc: Global,
     program: &Program,

@@ -38,7 +38,7 @@ fn text(alloc: Global, options: &MakeOptions) -> Result<Text, OutOfMemory>
     make_text(alloc, options.size, options.seed)
 }
 
-// What the machine shows of the text's program, and the chain, in short.
+// The machine's trace on the image of the text's program, and the chain, in short.
 fn summary(alloc: Global, options: &MakeOptions) -> Result<Text, OutOfMemory>
     requires { IsAsked options.now.size options.now.seed }
     ensures { IfOk result (IsSummary options.now) }

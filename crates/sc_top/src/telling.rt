@@ -9,7 +9,7 @@ use sc_base::Name;
 use sc_edge::{Failed, Sink};
 use sc_lex::Refusal;
 
-/// Writes the text of a status, without memory. The status stands, whether or not it can be told.
+/// Writes the text of a status, without memory. The status stands, whether or not it can be printed.
 pub fn tell<E: Sink>(err: &mut E, status: &Status)
     ensures { Tells (status_text status.now) (E.written err.old) (E.written err.new)
         (E.faults err.old) (E.faults err.new) }

@@ -55,7 +55,7 @@ fn meaning_text(
 ) -> Result<Text, OutOfMemory>
     ensures { IfOk result (λ text. text ≡ meaning_text program.now.interfaces (meant options.now program.now)) }
 {
-    // Every program is well typed, so that its main compartment is there, and what it shows is legal.
+    // Every program is well typed, so that its main compartment is there, and its trace is legal.
     let _tree = program.tree();
     traces_are_legal();
     let inputs = options.inputs.as_slice();
@@ -86,7 +86,7 @@ pub(crate) fn compiled(alloc: Global, bytes: &[u8]) -> Result<Text, Failure>
     Ok(write_image(alloc, &image)?)
 }
 
-/// What the machine shows on that image, by the names of the text.
+/// The machine's trace on that image, by the names of the text.
 pub(crate) fn run(alloc: Global, options: &RunOptions, bytes: &[u8]) -> Result<Text, Failure>
     ensures ok { IfOk result (IsOutput (Run options.now) bytes.now) }
     ensures cause { IfErr result (IsOutputCause (Run options.now) bytes.now) }

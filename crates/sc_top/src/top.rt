@@ -21,7 +21,7 @@ use sc_types::{accepted_or_refused, one_phase, one_program};
 use sc_words::{Command, read_command};
 use std::alloc::Global;
 
-/// Runs the program on its words, without its own name in front. A status other than `Done` is told on `err`.
+/// Runs the program on its words, without its own name before them. A status other than `Done` is printed on `err`.
 pub fn secomp<S: Source, O: Sink, E: Sink>(
     alloc: Global,
     words: &[String],

@@ -30,7 +30,7 @@ pub fn mul_signed(a: u32, b: u32) -> Result<u32, WordFault>
     Ok(product.ok_or(WordFault::Overflow)?.cast_unsigned())
 }
 
-/// The signed negation (C11 6.5.3.3). `Overflow` at -2^31 alone.
+/// The signed negation (C11 6.5.3.3). `Overflow` only at -2^31.
 pub fn neg_signed(a: u32) -> Result<u32, WordFault>
     ensures { result ≡ neg_signed a }
 {
