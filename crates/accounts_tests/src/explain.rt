@@ -12,7 +12,7 @@ struct Case<'a> {
     want: &'a [u8],
 }
 
-fn told(alloc: Global, case: Case) -> Result<bool, Fail> {
+fn reported(alloc: Global, case: Case) -> Result<bool, Fail> {
     let ran = Run::new(case.words, case.program).run(alloc)?;
     Ok(ran.status == 0 && ran.out.as_slice() == case.want && ran.err.len() == 0 && ran.unread == 0)
 }
@@ -115,7 +115,7 @@ replace Reader after 24 OutOfBounds line 16
         },
     ];
     for case in cases {
-        assert!(rt; told(rt.alloc(), case)?);
+        assert!(rt; reported(rt.alloc(), case)?);
     }
     Ok(())
 }
@@ -145,7 +145,7 @@ fn the_first_text_is_the_program(rt: HostRuntime) -> Result<(), Fail> {
         },
     ];
     for case in cases {
-        assert!(rt; told(rt.alloc(), case)?);
+        assert!(rt; reported(rt.alloc(), case)?);
     }
     Ok(())
 }
@@ -249,7 +249,7 @@ int g(int a, unsigned int b) {
         },
     ];
     for case in cases {
-        assert!(rt; told(rt.alloc(), case)?);
+        assert!(rt; reported(rt.alloc(), case)?);
     }
     Ok(())
 }

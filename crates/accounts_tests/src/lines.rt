@@ -71,7 +71,7 @@ fn append_event(
 }
 
 /// The lines of a run: its events, and how it ends.
-pub fn told(alloc: Global, interfaces: &Interfaces, run: &SourceRun) -> Result<Text, Fail> {
+pub fn reported(alloc: Global, interfaces: &Interfaces, run: &SourceRun) -> Result<Text, Fail> {
     let mut text = Text::new(alloc);
     for event in run.trace.as_slice() {
         append_event(&mut text, interfaces, event)?;

@@ -1,5 +1,5 @@
 // Texts in which compartments perform a trace, read and run by the program.
-use crate::lines::told;
+use crate::lines::reported;
 use crate::traces::{Inputs, LIKE_IMAGES, LONG, Origin, long_text};
 use chain_texts::programs::{INPUTS, LEFT_OUT, STORE};
 use code_texts::PROGRAMS;
@@ -38,8 +38,8 @@ enum Verdict {
 }
 
 // Whether this is what the program reports of a text.
-fn is_told(alloc: Global, matter: &Matter, text: &[u8], want: &[u8]) -> Result<bool, Fail> {
-    let (events, turns) = (behind(matter.trace), turns(matter.trace));
+fn is_reported(alloc: Global, matter: &Matter, text: &[u8], want: &[u8]) -> Result<bool, Fail> {
+    let (events, turns) = (event_bound(matter.trace), turns(matter.trace));
     let word = matter.inputs.word;
     let words = format!(in alloc; "meaning {word} --turns {turns} --events {events}")?;
     let ran = Run::new(words.as_str(), text).run(alloc)?;
@@ -55,7 +55,7 @@ fn turns(trace: &[Event]) -> u32 {
 }
 
 // A bound on events that lets what follows a trace be seen too.
-fn behind(trace: &[Event]) -> u32 {
+fn event_bound(trace: &[Event]) -> u32 {
     match u32::try_from(trace.len().saturating_add(2).min(LIMIT)) {
         Ok(events) => events,
         Err(_) => 0,
@@ -80,11 +80,11 @@ fn judge(alloc: Global, matter: &Matter, set: CompSet) -> Result<Verdict, Fail> 
         trace,
         inputs: inputs.numbers,
         turns: turns(trace),
-        events: behind(trace),
+        events: event_bound(trace),
     };
     let run = run_task(alloc, &task)?;
-    let want = told(alloc, interfaces, &run)?;
-    match is_told(alloc, matter, text.bytes(), want.as_bytes())? {
+    let want = reported(alloc, interfaces, &run)?;
+    match is_reported(alloc, matter, text.bytes(), want.as_bytes())? {
         true => Ok(Verdict::Same),
         false => Ok(Verdict::Different),
     }
@@ -114,19 +114,19 @@ fn lengths(alloc: Global, whole: usize) -> Result<Vec<usize>, OutOfMemory> {
 }
 
 // For how many prefixes of a trace both are the same, `None` where they differ for one.
-fn same_fronts(alloc: Global, matter: &Matter, set: CompSet) -> Result<Option<u32>, Fail> {
+fn same_prefixes(alloc: Global, matter: &Matter, set: CompSet) -> Result<Option<u32>, Fail> {
     let mut count: u32 = 0;
     for length in lengths(alloc, matter.trace.len())? {
         let Some(trace) = matter.trace.get(..length) else {
             return Ok(None);
         };
         let inputs = matter.inputs;
-        let front = Matter {
+        let prefix = Matter {
             source: matter.source,
             inputs,
             trace,
         };
-        if judge(alloc, &front, set)? != Verdict::Same {
+        if judge(alloc, &prefix, set)? != Verdict::Same {
             return Ok(None);
         }
         count = count.wrapping_add(1);
@@ -139,10 +139,10 @@ fn same_sets(alloc: Global, matter: &Matter) -> Result<Option<u32>, Fail> {
     let mut count: u32 = 0;
     let comps = matter.source.program().interfaces().comps.len();
     for set in CompSet::samples(alloc, comps)? {
-        let Some(fronts) = same_fronts(alloc, matter, set)? else {
+        let Some(prefixes) = same_prefixes(alloc, matter, set)? else {
             return Ok(None);
         };
-        count = count.wrapping_add(fronts);
+        count = count.wrapping_add(prefixes);
     }
     Ok(Some(count))
 }
@@ -211,7 +211,7 @@ fn judge_strange(alloc: Global, text: &[u8], other: &[u8], skip: usize) -> Resul
     let source = SourceText::read(alloc, text)?;
     let stranger = SourceText::read(alloc, other)?;
     let inputs = Inputs::of(text);
-    let trace = Origin::Shown.trace(alloc, &stranger, inputs)?;
+    let trace = Origin::Emitted.trace(alloc, &stranger, inputs)?;
     let trace = trace.as_slice().get(skip..).unwrap_or(&[]);
     let matter = Matter {
         source: &source,
@@ -229,14 +229,14 @@ fn what_programs_mean_is_performed(rt: HostRuntime) -> Result<(), Fail> {
 }
 
 #[test]
-fn what_the_machine_shows_is_performed(rt: HostRuntime) -> Result<(), Fail> {
-    let count = same_of_all(rt.alloc(), PROGRAMS, Origin::Shown)?;
+fn what_the_machine_emits_is_performed(rt: HostRuntime) -> Result<(), Fail> {
+    let count = same_of_all(rt.alloc(), PROGRAMS, Origin::Emitted)?;
     assert!(rt; reaches(count, 1000));
     Ok(())
 }
 
 #[test]
-fn what_images_show_is_performed(rt: HostRuntime) -> Result<(), Fail> {
+fn what_images_emit_is_performed(rt: HostRuntime) -> Result<(), Fail> {
     let count = same_of_all(rt.alloc(), &LIKE_IMAGES, Origin::Meant)?;
     assert!(rt; reaches(count, 18));
     Ok(())
@@ -249,7 +249,7 @@ fn what_long_programs_mean_is_performed(rt: HostRuntime) -> Result<(), Fail> {
 }
 
 #[test]
-fn what_no_run_shows_is_performed(rt: HostRuntime) -> Result<(), Fail> {
+fn what_no_run_emits_is_performed(rt: HostRuntime) -> Result<(), Fail> {
     assert!(rt; reaches(same_of_drawn(rt.alloc())?, 4200));
     Ok(())
 }

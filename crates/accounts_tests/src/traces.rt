@@ -125,7 +125,7 @@ pub fn long_text(alloc: Global, parts: &[Repeated]) -> Result<Vec<u8>, Fail> {
 #[derive(Clone, Copy)]
 pub enum Origin {
     Meant,
-    Shown,
+    Emitted,
     Drawn(u32),
 }
 
@@ -137,7 +137,7 @@ impl Origin {
                 let run = run_source(alloc, source.program(), inputs.numbers, STEPS, EVENTS)?;
                 Ok(run.trace)
             }
-            Origin::Shown => match explain(alloc, source, inputs.numbers, STEPS, EVENTS) {
+            Origin::Emitted => match explain(alloc, source, inputs.numbers, STEPS, EVENTS) {
                 Ok(explanation) => Ok(explanation.trace),
                 Err(_) => Ok(Trace::new(alloc)),
             },

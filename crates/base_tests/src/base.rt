@@ -63,7 +63,7 @@ fn a_name_keeps_its_first_value(rt: HostRuntime) -> Result<(), Fail> {
 }
 
 #[test]
-fn words_are_told_signed(rt: HostRuntime) -> Result<(), Fail> {
+fn words_are_printed_signed(rt: HostRuntime) -> Result<(), Fail> {
     let mut text = Text::new(rt.alloc());
     text.append(b"a ")?;
     text.append_signed(0xFFFF_FFFF)?;

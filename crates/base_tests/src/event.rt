@@ -124,7 +124,7 @@ fn put_back(value: Option<u32>) -> Event
 }
 
 #[test]
-fn events_are_told_by_names(rt: HostRuntime) -> Result<(), Fail> {
+fn events_are_printed_by_names(rt: HostRuntime) -> Result<(), Fail> {
     let interfaces = fixture(rt.alloc())?;
     let comp = CompId::first();
     let call = event_text(rt.alloc(), &interfaces, &put(rt.alloc()))?;

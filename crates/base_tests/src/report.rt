@@ -41,7 +41,7 @@ fn interfaces(alloc: Global) -> Result<Interfaces, Fail> {
 }
 
 #[test]
-fn tells_interfaces(rt: HostRuntime) -> Result<(), Fail> {
+fn prints_interfaces(rt: HostRuntime) -> Result<(), Fail> {
     let interfaces = interfaces(rt.alloc())?;
     let text = check_text(rt.alloc(), &interfaces)?;
     assert!(rt; text.as_bytes() == CHECKED);
@@ -49,7 +49,7 @@ fn tells_interfaces(rt: HostRuntime) -> Result<(), Fail> {
 }
 
 #[test]
-fn tells_ends(rt: HostRuntime) -> Result<(), Fail> {
+fn prints_ends(rt: HostRuntime) -> Result<(), Fail> {
     let interfaces = interfaces(rt.alloc())?;
     let end = RunEnd::Blamed {
         comp: CompId::first(),
@@ -63,7 +63,7 @@ fn tells_ends(rt: HostRuntime) -> Result<(), Fail> {
 }
 
 #[test]
-fn tells_stops(rt: HostRuntime) -> Result<(), Fail> {
+fn prints_stops(rt: HostRuntime) -> Result<(), Fail> {
     let interfaces = interfaces(rt.alloc())?;
     let stop = Stop::Trap {
         reason: TrapReason::Illegal,

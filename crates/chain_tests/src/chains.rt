@@ -152,13 +152,13 @@ fn are_accounted(alloc: Global, first: u32, count: u32) -> Result<bool, Fail> {
 }
 
 #[test]
-fn chains_account_for_what_the_machine_shows(rt: HostRuntime) -> Result<(), Fail> {
+fn chains_account_for_what_the_machine_emits(rt: HostRuntime) -> Result<(), Fail> {
     assert!(rt; are_accounted(rt.alloc(), FIRST, 130)?);
     Ok(())
 }
 
 #[test]
-fn more_chains_account_for_what_the_machine_shows(rt: HostRuntime) -> Result<(), Fail> {
+fn more_chains_account_for_what_the_machine_emits(rt: HostRuntime) -> Result<(), Fail> {
     assert!(rt; are_accounted(rt.alloc(), FIRST.wrapping_add(130), 130)?);
     Ok(())
 }

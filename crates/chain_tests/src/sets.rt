@@ -18,7 +18,7 @@ fn has_all(set: CompSet, links: &[Link]) -> bool {
 }
 
 // Whether the text in which a set performs means the trace exactly where the set has the chain's compartments.
-fn is_told_rightly(
+fn agrees_with_chain(
     alloc: Global,
     source: &SourceText,
     explanation: &Explanation,
@@ -32,12 +32,12 @@ fn is_told_rightly(
     let comps = set.members(alloc, interfaces.comps.len())?;
     let text = replaced(alloc, source, trace, comps.as_slice())?;
     let run = run_source(alloc, text.program(), &[], STEPS, trace.len() as u32)?;
-    let tells = run.trace.as_slice() == trace;
-    Ok(tells == has_all(set, explanation.links.as_slice()))
+    let gives = run.trace.as_slice() == trace;
+    Ok(gives == has_all(set, explanation.links.as_slice()))
 }
 
 // Whether that is so for all sets of the compartments of a program, of which there are at most four.
-fn are_told_rightly(alloc: Global, seed: u32) -> Result<bool, Fail> {
+fn sets_agree_with_chain(alloc: Global, seed: u32) -> Result<bool, Fail> {
     let bytes = generated(alloc, seed)?;
     let Ok(source) = SourceText::read(alloc, bytes.as_bytes()) else {
         return Ok(false);
@@ -46,7 +46,7 @@ fn are_told_rightly(alloc: Global, seed: u32) -> Result<bool, Fail> {
         return Ok(false);
     };
     for set in CompSet::all(alloc, source.program().tree().interfaces.comps.len())? {
-        if !is_told_rightly(alloc, &source, &explanation, set)? {
+        if !agrees_with_chain(alloc, &source, &explanation, set)? {
             return Ok(false);
         }
     }
@@ -54,9 +54,9 @@ fn are_told_rightly(alloc: Global, seed: u32) -> Result<bool, Fail> {
 }
 
 // Whether that is so for `count` programs from seed `first` on.
-fn are_all_told_rightly(alloc: Global, first: u32, count: u32) -> Result<bool, Fail> {
+fn all_sets_agree_with_chain(alloc: Global, first: u32, count: u32) -> Result<bool, Fail> {
     for number in 0..count {
-        if !are_told_rightly(alloc, first.wrapping_add(number))? {
+        if !sets_agree_with_chain(alloc, first.wrapping_add(number))? {
             return Ok(false);
         }
     }
@@ -65,29 +65,29 @@ fn are_all_told_rightly(alloc: Global, first: u32, count: u32) -> Result<bool, F
 
 // A part of the programs, of which each set is looked at.
 fn part(alloc: Global, number: u32) -> Result<bool, Fail> {
-    are_all_told_rightly(alloc, FIRST.wrapping_add(number.wrapping_mul(65)), 65)
+    all_sets_agree_with_chain(alloc, FIRST.wrapping_add(number.wrapping_mul(65)), 65)
 }
 
 #[test]
-fn a_set_tells_the_trace_where_it_has_the_chain(rt: HostRuntime) -> Result<(), Fail> {
+fn a_set_gives_the_trace_where_it_has_the_chain(rt: HostRuntime) -> Result<(), Fail> {
     assert!(rt; part(rt.alloc(), 0)?);
     Ok(())
 }
 
 #[test]
-fn a_second_part_is_told_rightly(rt: HostRuntime) -> Result<(), Fail> {
+fn a_second_part_agrees_with_the_chains(rt: HostRuntime) -> Result<(), Fail> {
     assert!(rt; part(rt.alloc(), 1)?);
     Ok(())
 }
 
 #[test]
-fn a_third_part_is_told_rightly(rt: HostRuntime) -> Result<(), Fail> {
+fn a_third_part_agrees_with_the_chains(rt: HostRuntime) -> Result<(), Fail> {
     assert!(rt; part(rt.alloc(), 2)?);
     Ok(())
 }
 
 #[test]
-fn a_fourth_part_is_told_rightly(rt: HostRuntime) -> Result<(), Fail> {
+fn a_fourth_part_agrees_with_the_chains(rt: HostRuntime) -> Result<(), Fail> {
     assert!(rt; part(rt.alloc(), 3)?);
     Ok(())
 }

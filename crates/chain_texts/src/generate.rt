@@ -45,11 +45,11 @@ fn append_number(
     text: &mut Text,
     before: &[u8],
     number: u32,
-    behind: &[u8],
+    following: &[u8],
 ) -> Result<(), OutOfMemory> {
     text.append(before)?;
     text.append_signed(number)?;
-    text.append(behind)
+    text.append(following)
 }
 
 // A name between two texts.
@@ -57,11 +57,11 @@ fn append_name(
     text: &mut Text,
     before: &[u8],
     name: &[u8],
-    behind: &[u8],
+    following: &[u8],
 ) -> Result<(), OutOfMemory> {
     text.append(before)?;
     text.append(name)?;
-    text.append(behind)
+    text.append(following)
 }
 
 // A statement, or none, of a function with the variables `i`, `s` and `u`.

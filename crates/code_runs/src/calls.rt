@@ -58,12 +58,12 @@ impl<'a> Run<'a> {
             return self.stop(RunEnd::TurnsOut);
         };
         let mut frame = self.begin(comp, function, args)?;
-        let behind = self.memory.len();
+        let following = self.memory.len();
         let value = match self.statements(below, &mut frame, function.body.as_slice())? {
             Exit::Return(value) => value,
             _ => self.brace(comp, function)?,
         };
-        self.memory.end(frame.first, behind);
+        self.memory.end(frame.first, following);
         Ok(value)
     }
 
@@ -82,7 +82,7 @@ impl<'a> Run<'a> {
             return self.stop(RunEnd::TurnsOut);
         };
         let args = self.words_of(values)?;
-        self.tell(Event::Call {
+        self.emit_event(Event::Call {
             from,
             to,
             index,
@@ -91,7 +91,7 @@ impl<'a> Run<'a> {
         self.turn()?;
         let given = self.enter(below, to, number, values)?;
         let value = self.crossing(to, index, given);
-        self.tell(Event::Ret {
+        self.emit_event(Event::Ret {
             from: to,
             to: from,
             value,
@@ -178,7 +178,7 @@ impl<'a> Run<'a> {
             }
             TacStmt::Output { value } => {
                 let value = word_in(self.read(frame, *value)?);
-                self.tell(Event::Out { comp, value })?;
+                self.emit_event(Event::Out { comp, value })?;
             }
             _ => self.compute(frame, stmt)?,
         }

@@ -124,7 +124,7 @@ impl<'a> Run<'a> {
     }
 
     /// Adds an event, and stops where no further one is left.
-    pub(crate) fn tell(&mut self, event: Event) -> Result<(), Halt> {
+    pub(crate) fn emit_event(&mut self, event: Event) -> Result<(), Halt> {
         self.trace.push(event)?;
         self.events = self.events.saturating_sub(1);
         if self.events == 0 {
@@ -140,7 +140,7 @@ impl<'a> Run<'a> {
             value = first.cast_unsigned();
             self.inputs = rest;
         }
-        self.tell(Event::In { comp, value })?;
+        self.emit_event(Event::In { comp, value })?;
         Ok(Value::Word(value))
     }
 

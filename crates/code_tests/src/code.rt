@@ -52,7 +52,7 @@ fn a_function(rt: HostRuntime) {
 
 // One compartment without imports.
 #[tactic(auto, unfolding(sc_base::specs::Identifier::is_name))]
-fn alone(alloc: Global) -> Result<Interfaces, OutOfMemory>
+fn one_compartment(alloc: Global) -> Result<Interfaces, OutOfMemory>
     ensures { IfOk result (λ interfaces. interfaces ≡ record {
       comps = record { name = codes "Main"; exports = []; imports = [] } ∷ [];
       main = 0;
@@ -102,7 +102,7 @@ fn a_program(rt: HostRuntime) -> Result<(), Fail> {
     let mut sections = TacSections::new(alloc);
     sections.push(main_section(alloc)?)?;
     let program = Tac::new(TacTree {
-        interfaces: alone(alloc)?,
+        interfaces: one_compartment(alloc)?,
         sections,
     });
     assert_eq!(rt; program.tree().sections.as_slice().len(), 1);

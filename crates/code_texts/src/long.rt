@@ -15,13 +15,13 @@ pub fn repeated(
     before: &[u8],
     part: &[u8],
     count: usize,
-    behind: &[u8],
+    following: &[u8],
 ) -> Result<Vec<u8>, OutOfMemory> {
     let mut text = Vec::new(alloc);
     text.extend_from_slice(before)?;
     for _ in 0..count {
         text.extend_from_slice(part)?;
     }
-    text.extend_from_slice(behind)?;
+    text.extend_from_slice(following)?;
     Ok(text)
 }

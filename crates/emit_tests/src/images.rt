@@ -143,14 +143,14 @@ pub fn image_by(
 ) -> Result<Option<Vec<u8>>, OutOfMemory> {
     let interfaces = &program.interfaces;
     let comps = interfaces.comps.as_slice();
-    let mut behind = Vec::new(alloc);
+    let mut following = Vec::new(alloc);
     let mut main = 0u32;
     let mut number = 0u8;
     for (interface, tree) in comps.iter().zip(program.sections.as_slice()) {
         let Some(comp) = CompId::new(number) else {
             return Ok(None);
         };
-        match append_comp(&mut behind, alloc, comp, interface, tree, choice)? {
+        match append_comp(&mut following, alloc, comp, interface, tree, choice)? {
             None => return Ok(None),
             Some(entered) => main |= entered,
         }
@@ -160,6 +160,6 @@ pub fn image_by(
     append_byte(&mut bytes, comps.len())?;
     bytes.push(interfaces.main.number())?;
     append_word(&mut bytes, main)?;
-    bytes.extend_from_slice(behind.as_slice())?;
+    bytes.extend_from_slice(following.as_slice())?;
     Ok(Some(bytes))
 }

@@ -5,7 +5,7 @@ ghost use Rattle.emit_tests.specs.Made.{operating, operation, operations};
 ghost use Rattle.std.specs.Prelude.{◌≡◌, [], ◌∷◌, IfOk, Some, codes};
 
 use crate::placing::{Choice, FIRST_SLOTS};
-use crate::runs::shown;
+use crate::runs::agreed_outputs;
 use code_runs::CodeTask;
 use sc_base::{BinaryOp, Name, OutOfMemory};
 use sc_core::{TypedGlobals, TypedStructs};
@@ -82,7 +82,7 @@ fn operating(alloc: Global, op: BinaryOp, scalar: Scalar) -> Result<TacFn, OutOf
 }
 
 // One compartment that may read inputs and output.
-fn alone(alloc: Global) -> Result<Interfaces, OutOfMemory> {
+fn one_compartment(alloc: Global) -> Result<Interfaces, OutOfMemory> {
     let mut imports = Imports::new(alloc);
     imports.push(Import::Input)?;
     imports.push(Import::Output)?;
@@ -109,7 +109,7 @@ fn program(alloc: Global, op: BinaryOp, scalar: Scalar) -> Result<TacTree, OutOf
         functions,
     })?;
     Ok(TacTree {
-        interfaces: alone(alloc)?,
+        interfaces: one_compartment(alloc)?,
         sections,
     })
 }
@@ -202,7 +202,7 @@ const PAIRS: usize = 8;
 const TURNS: u32 = 100;
 
 // Whether the machine outputs what an operator means on each pair, wherever its operands and results lie.
-fn is_shown(alloc: Global, op: BinaryOp, scalar: Scalar, choices: &[Choice]) -> Result<bool, Fail> {
+fn agrees(alloc: Global, op: BinaryOp, scalar: Scalar, choices: &[Choice]) -> Result<bool, Fail> {
     let program = program(alloc, op, scalar)?;
     let task = CodeTask {
         program: &program,
@@ -210,9 +210,9 @@ fn is_shown(alloc: Global, op: BinaryOp, scalar: Scalar, choices: &[Choice]) -> 
         turns: TURNS,
         events: EVENTS,
     };
-    match shown(alloc, &task, choices)? {
+    match agreed_outputs(alloc, &task, choices)? {
         None => Ok(false),
-        Some(told) => Ok(told.len() == PAIRS),
+        Some(output_words) => Ok(output_words.len() == PAIRS),
     }
 }
 
@@ -221,7 +221,7 @@ fn operators_give_what_they_mean(rt: HostRuntime) -> Result<(), Fail> {
     let choices = choices(rt.alloc())?;
     for op in OPERATORS {
         for scalar in [Scalar::Int, Scalar::Unsigned] {
-            assert!(rt; is_shown(rt.alloc(), op, scalar, choices.as_slice())?);
+            assert!(rt; agrees(rt.alloc(), op, scalar, choices.as_slice())?);
         }
     }
     Ok(())

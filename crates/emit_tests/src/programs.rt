@@ -1,6 +1,6 @@
 // Programs whose statements are of each kind, over each kind of place.
 use crate::placing::{Choice, FIRST_SLOTS};
-use crate::runs::shown;
+use crate::runs::agreed_outputs;
 use code_runs::CodeTask;
 use sc_base::OutOfMemory;
 use sc_lower::lower;
@@ -374,7 +374,7 @@ fn choices(alloc: Global) -> Result<Vec<Choice>, OutOfMemory> {
     Ok(choices)
 }
 
-fn is_shown(alloc: Global, case: Case, choices: &[Choice]) -> Result<bool, Fail> {
+fn agrees(alloc: Global, case: Case, choices: &[Choice]) -> Result<bool, Fail> {
     let (text, inputs, words) = case;
     let source = SourceText::read(alloc, text)?;
     let code = lower(alloc, source.program())?;
@@ -384,9 +384,9 @@ fn is_shown(alloc: Global, case: Case, choices: &[Choice]) -> Result<bool, Fail>
         turns: TURNS,
         events: EVENTS,
     };
-    match shown(alloc, &task, choices)? {
+    match agreed_outputs(alloc, &task, choices)? {
         None => Ok(false),
-        Some(told) => Ok(told.as_slice() == words),
+        Some(output_words) => Ok(output_words.as_slice() == words),
     }
 }
 
@@ -394,7 +394,7 @@ fn is_shown(alloc: Global, case: Case, choices: &[Choice]) -> Result<bool, Fail>
 fn statements_do_what_they_mean(rt: HostRuntime) -> Result<(), Fail> {
     let choices = choices(rt.alloc())?;
     for case in [CONTROL, OWN, ACROSS, ENVIRONMENT, POINTERS, WORDS] {
-        assert!(rt; is_shown(rt.alloc(), case, choices.as_slice())?);
+        assert!(rt; agrees(rt.alloc(), case, choices.as_slice())?);
     }
     Ok(())
 }

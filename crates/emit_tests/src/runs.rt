@@ -31,7 +31,7 @@ fn run_by(
 }
 
 // Whether the machine emits these events where the temporaries lie by such a choice.
-fn is_shown(alloc: Global, task: &CodeTask, meant: &[Event], choice: Choice) -> Result<bool, Fail> {
+fn agrees(alloc: Global, task: &CodeTask, meant: &[Event], choice: Choice) -> Result<bool, Fail> {
     match run_by(alloc, task, choice)? {
         None => Ok(false),
         Some(machine) => Ok(machine.trace() == meant),
@@ -40,18 +40,18 @@ fn is_shown(alloc: Global, task: &CodeTask, meant: &[Event], choice: Choice) -> 
 
 /// What a program of code outputs and ends with, if the machine emits all that the code means, wherever the temporaries
 /// lie.
-pub fn shown(alloc: Global, task: &CodeTask, choices: &[Choice]) -> Result<Option<Vec<u32>>, Fail> {
+pub fn agreed_outputs(alloc: Global, task: &CodeTask, choices: &[Choice]) -> Result<Option<Vec<u32>>, Fail> {
     let meant = run_code(alloc, task)?;
     for choice in choices {
-        if !is_shown(alloc, task, meant.trace.as_slice(), *choice)? {
+        if !agrees(alloc, task, meant.trace.as_slice(), *choice)? {
             return Ok(None);
         }
     }
-    Ok(Some(told(alloc, meant.trace.as_slice())?))
+    Ok(Some(output_words(alloc, meant.trace.as_slice())?))
 }
 
 // The words that are output, and that the run ends with.
-fn told(alloc: Global, trace: &[Event]) -> Result<Vec<u32>, Fail> {
+fn output_words(alloc: Global, trace: &[Event]) -> Result<Vec<u32>, Fail> {
     let mut words = Vec::new(alloc);
     for event in trace {
         match event {

@@ -13,20 +13,20 @@ pub(crate) struct Session<'a> {
 }
 
 // Whether the program writes what the session shows.
-fn is_as_shown(alloc: Global, session: Session) -> Result<bool, Fail> {
+fn is_as_documented(alloc: Global, session: Session) -> Result<bool, Fail> {
     let ran = Run::new(session.words, session.input.text()).run(alloc)?;
-    let (shown, silent) = if ran.status == 0 {
+    let (answered, silent) = if ran.status == 0 {
         (&ran.out, &ran.err)
     } else {
         (&ran.err, &ran.out)
     };
-    Ok(shown.as_slice() == session.want && silent.len() == 0)
+    Ok(answered.as_slice() == session.want && silent.len() == 0)
 }
 
 fn first_other(alloc: Global, sessions: &[Session]) -> Result<Option<usize>, Fail> {
     let mut number: usize = 0;
     for session in sessions {
-        if !is_as_shown(alloc, *session)? {
+        if !is_as_documented(alloc, *session)? {
             return Ok(Some(number));
         }
         number = number.wrapping_add(1);
@@ -35,21 +35,21 @@ fn first_other(alloc: Global, sessions: &[Session]) -> Result<Option<usize>, Fai
 }
 
 #[test]
-fn the_tutorial_shows_what_the_program_writes(rt: HostRuntime) -> Result<(), Fail> {
+fn the_tutorial_has_what_the_program_writes(rt: HostRuntime) -> Result<(), Fail> {
     let other = first_other(rt.alloc(), TUTORIAL)?;
     assert!(rt; other == None);
     Ok(())
 }
 
 #[test]
-fn the_list_of_examples_shows_what_the_program_writes(rt: HostRuntime) -> Result<(), Fail> {
+fn the_list_of_examples_has_what_the_program_writes(rt: HostRuntime) -> Result<(), Fail> {
     let other = first_other(rt.alloc(), EXAMPLES)?;
     assert!(rt; other == None);
     Ok(())
 }
 
 #[test]
-fn the_page_on_explanations_shows_what_the_program_writes(rt: HostRuntime) -> Result<(), Fail> {
+fn the_page_on_explanations_has_what_the_program_writes(rt: HostRuntime) -> Result<(), Fail> {
     let other = first_other(rt.alloc(), EXPLAIN)?;
     assert!(rt; other == None);
     Ok(())

@@ -27,7 +27,7 @@ fn cause(alloc: Global, bytes: &[u8]) -> u8 {
 }
 
 #[test]
-fn tells_the_cause(rt: HostRuntime) {
+fn gives_the_cause(rt: HostRuntime) {
     assert!(rt; cause(rt.alloc(), &SEVEN[..3]) == 1);
     assert!(rt; cause(rt.alloc(), &SEVEN[..11]) == 4);
     assert!(rt; cause(rt.alloc(), &SEVEN[..46]) == 8);

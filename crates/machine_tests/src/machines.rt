@@ -44,7 +44,7 @@ fn image(alloc: Global, parts: &[Part<'_>]) -> Result<Image, Fail> {
 }
 
 // One compartment with this code and these globals, which may read inputs and may output or not.
-fn alone(alloc: Global, output: bool, code: &[u32], globals: &[u8]) -> Result<Image, Fail> {
+fn single(alloc: Global, output: bool, code: &[u32], globals: &[u8]) -> Result<Image, Fail> {
     let interface: &[u8] = if output {
         b"\x01A\x03\0\0\0\0"
     } else {
@@ -87,7 +87,7 @@ fn outputs_and_ends(rt: HostRuntime) -> Result<(), Fail> {
         (false, 10, 5, 2, no_import, 0, 8, 7),
         (false, 10, 1, 4_294_967_295, no_import, 0, 8, 7),
     ] {
-        let image = alone(rt.alloc(), output, &SEVEN, &[])?;
+        let image = single(rt.alloc(), output, &SEVEN, &[])?;
         let mut machine = loaded(rt.alloc(), image, &[], events)?;
         let mut last = StepsOut;
         for _ in 0..calls {
@@ -118,7 +118,7 @@ fn trap(reason: TrapReason, offset: u32) -> Stop
 #[test]
 fn owns_a_half_word(rt: HostRuntime) -> Result<(), Fail> {
     // lhu a0,0(sp); lw a0,0(sp)
-    let image = alone(rt.alloc(), true, &[0x00015503, 0x00012503], &[0x34, 0x12])?;
+    let image = single(rt.alloc(), true, &[0x00015503, 0x00012503], &[0x34, 0x12])?;
     let mut machine = loaded(rt.alloc(), image, &[], 9)?;
     assert_eq!(rt; machine.run(9), trap(TrapReason::Owner, 4));
     assert_eq!(rt; machine.register(10), 0x1234);
@@ -145,7 +145,7 @@ fn loads_and_stores(rt: HostRuntime) -> Result<(), Fail> {
         0xf8000513, 0xfea12e23, 0xffc10583, 0xffc14603, 0x00b66463, 0x00100073, 0x02c58533,
         0xfec11d23, 0xffa11683, 0x0080006f, 0x00100073, 0xff812703, 0x00212783,
     ];
-    let image = alone(rt.alloc(), true, &code, &[])?;
+    let image = single(rt.alloc(), true, &code, &[])?;
     let mut machine = loaded(rt.alloc(), image, &[], 1)?;
     assert_eq!(rt; machine.run(20), trap(TrapReason::Misaligned, 48));
     for (register, word) in [
@@ -168,7 +168,7 @@ fn reads_inputs(rt: HostRuntime) -> Result<(), Fail> {
     let comp = CompId::first();
     // addi a7,x0,1; ecall; ecall; ecall; ebreak
     let code = [0x00100893, 0x00000073, 0x00000073, 0x00000073, 0x00100073];
-    let image = alone(rt.alloc(), true, &code, &[])?;
+    let image = single(rt.alloc(), true, &code, &[])?;
     let mut machine = loaded(rt.alloc(), image, &[-5, 3], 9)?;
     assert_eq!(rt; machine.run(3), StepsOut);
     assert_eq!(rt; machine.register(10), 3);
@@ -206,7 +206,7 @@ fn traps_change_nothing(rt: HostRuntime) -> Result<(), Fail> {
         (0x73, TrapReason::BadCall),
         (0x00100073, TrapReason::Breakpoint),
     ] {
-        let image = alone(rt.alloc(), true, &[word], &[])?;
+        let image = single(rt.alloc(), true, &[word], &[])?;
         let mut machine = loaded(rt.alloc(), image, &[], 9)?;
         assert_eq!(rt; machine.run(9), trap(reason, 0));
         assert_eq!(rt; machine.pc(), START);
@@ -331,7 +331,7 @@ fn hold(machine: &Machine<FlatStore>, words: &[(u8, u32)]) -> bool {
 // A function gets its arguments, its own stack and the gate, and its caller the result and its own stack. Every other
 // register is 0.
 #[test]
-fn passes_numbers_alone(rt: HostRuntime) -> Result<(), Fail> {
+fn passes_only_numbers(rt: HostRuntime) -> Result<(), Fail> {
     // addi a0,x0,7; addi a1,x0,8; addi a2,x0,9; addi x5,x0,5; lui x6,0x01100; jalr x1,0(x6); ebreak
     let caller = [
         0x00700513, 0x00800593, 0x00900613, 0x00500293, 0x01100337, 0x000300e7, 0x00100073,
@@ -392,7 +392,7 @@ fn ends_through_the_gate(rt: HostRuntime) -> Result<(), Fail> {
     // jalr x0,1(x1)
     let mut machine = loaded(
         rt.alloc(),
-        alone(rt.alloc(), true, &[0x00108067], &[])?,
+        single(rt.alloc(), true, &[0x00108067], &[])?,
         &[],
         9,
     )?;

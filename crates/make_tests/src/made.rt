@@ -28,7 +28,7 @@ int f0(int x) {
 }
 ";
 
-const TWO_FACES: &[u8] = b"compartment Main
+const TWO_INTERFACES: &[u8] = b"compartment Main
 import W0 f0 int int
 import W1 f1 int int
 import Env output void int
@@ -52,7 +52,7 @@ fn a_made_program_has_a_compartment_for_each_worker(rt: HostRuntime) -> Result<(
     assert_eq!(rt; made.status, 0);
     let checked = Run::new("check", &made.out).run(rt.alloc())?;
     assert_eq!(rt; checked.status, 0);
-    assert!(rt; checked.out.as_slice() == TWO_FACES);
+    assert!(rt; checked.out.as_slice() == TWO_INTERFACES);
     Ok(())
 }
 

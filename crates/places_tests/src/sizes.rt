@@ -75,8 +75,8 @@ fn all_taken(alloc: Global, code: &Tac, text: &[u8]) -> Result<Option<Vec<Taken>
     let mut found = Vec::new(alloc);
     for section in code.tree().sections.as_slice() {
         for function in section.functions.as_slice() {
-            let (own, behind) = split_function(rest);
-            rest = behind;
+            let (own, following) = split_function(rest);
+            rest = following;
             match taken_by(alloc, function, own)? {
                 None => return Ok(None),
                 Some(taken) => found.push(taken)?,

@@ -10,7 +10,7 @@ int main(void) {
   int i, *p, a[2]; unsigned int u, *r, b[2]; struct S s, *t; int **z;
   if (";
 
-const BEHIND: &[u8] = b") { }
+const AFTER: &[u8] = b") { }
 }
 ";
 
@@ -118,7 +118,7 @@ const RESULTS: [(&[u8], Ty); 71] = [
 
 // The type of the condition that the first statement of the only function has.
 fn type_of(alloc: Global, expression: &[u8]) -> Result<Ty, Fail> {
-    let text = [BEFORE, expression, BEHIND].concat(alloc)?;
+    let text = [BEFORE, expression, AFTER].concat(alloc)?;
     let source = SourceText::read(alloc, text.as_slice())?;
     let section = source.program().tree().sections.get(0).ok_or("no section")?;
     let main = section.functions.get(0).ok_or("no function")?;

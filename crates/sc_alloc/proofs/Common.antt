@@ -20,11 +20,11 @@ pub use Rattle.std.specs.List.Sorted.{IsNonDecreasingBy, IsPermutation, IsStable
 pub use Rattle.std.specs.Option.{IfNone, IfSome, option_map}
 pub use Rattle.std.specs.Ordering.{is_lt, nat_cmp, ordering_then}
 pub use Rattle.std.specs.declared.cmp.Reverse.{Reverse}
-pub use Rattle.sc_base.proofs.Lists.{get_behind, is_there, position-cons}
+pub use Rattle.sc_base.proofs.Lists.{get_after, is_there, position-cons}
 pub use Rattle.sc_tac.specs.Prelude.{AreIntervals, ArePlaces, IsAssignment, IsSparing, is_place, register_count}
 pub use Rattle.sc_alloc.specs.Common.{Interval, Place, Register, Slot}
 pub use Rattle.sc_alloc.specs.Places.{insert_by, is_soonest, slot_for, with_place, with_slot}
 pub use Rattle.sc_alloc.specs.Prelude.{AllBegun, AreFair, AreKnown, AreNumbered, ArePlaced, AreRegisters, AreSlots}
-pub use Rattle.sc_alloc.specs.Prelude.{Given, HasEnds, IsAt, IsOut, IsScan, at_first, is_over, scan_next, sorted_by}
-pub use Rattle.sc_alloc.specs.Scan.{AllOver, IsFair, IsHeld, IsHeldWithin, LacksOne, is_of, soonest_first}
+pub use Rattle.sc_alloc.specs.Prelude.{Placement, HasEnds, IsAt, IsOut, IsScan, at_first, is_over, scan_next, sorted_by}
+pub use Rattle.sc_alloc.specs.Scan.{AllOver, IsFair, IsInUse, IsInUseWithin, LacksOne, is_of, soonest_first}
 pub use Rattle.sc_alloc.specs.declared.slots.SlotEnd.{SlotEnd}

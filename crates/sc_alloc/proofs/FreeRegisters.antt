@@ -1,29 +1,29 @@
 -- A register that is given, and one that isn't.
-use Rattle.sc_alloc.proofs.Common.{AllOver, AreRegisters, Given, Interval, IsHeld, List, None, Option, Place, Register}
-use Rattle.sc_alloc.proofs.Common.{Slot, Some, [], ap, arith, cases_eq, false, get_behind, get_or, is_over, length}
+use Rattle.sc_alloc.proofs.Common.{AllOver, AreRegisters, Placement, Interval, IsInUse, List, None, Option, Place, Register}
+use Rattle.sc_alloc.proofs.Common.{Slot, Some, [], ap, arith, cases_eq, false, get_after, get_or, is_over, length}
 use Rattle.sc_alloc.proofs.Common.{length-set, position, refl, register_count, slice_get, slice_get-get_or, slice_set}
 use Rattle.sc_alloc.proofs.Common.{subst, suc, sym, true, with_place, zero, ℕ, ⊎_elim, ◌++◌, ◌<◌, ◌∙◌, ◌∷◌, ◌≡◌, ◌≤◌}
 use Rattle.sc_alloc.proofs.Lists.{get_pushed, get_kept, get_set_same, get_set_other, all_fail}
 
-pub all_over_pushed : (given : List Given) (x : Interval) (place other : Place) (at : ℕ) → AllOver given other at →
-    (place ≡ other → x.last < at) → AllOver (with_place given x place) other at
-all_over_pushed given x place other at old new i g get same =
+pub all_over_pushed : (placements : List Placement) (x : Interval) (place other : Place) (at : ℕ) → AllOver placements other at →
+    (place ≡ other → x.last < at) → AllOver (with_place placements x place) other at
+all_over_pushed placements x place other at old new i g get same =
     ⊎_elim
     (λ its. old i g its same)
-    (λ is. subst (λ (g : Given). g.place ≡ other → g.interval.last < at) is.1 new same)
-    (get_pushed given (record { interval = x; place = place }) g i get)
+    (λ is. subst (λ (g : Placement). g.place ≡ other → g.interval.last < at) is.1 new same)
+    (get_pushed placements (record { interval = x; place = place }) g i get)
 
-abbrev pub held_kept : (given more : List Given) (r at : ℕ) → IsHeld given r at → IsHeld (given ++ more) r at
-held_kept given more r at h = record {
+abbrev pub in_use_kept : (placements more : List Placement) (r at : ℕ) → IsInUse placements r at → IsInUse (placements ++ more) r at
+in_use_kept placements more r at h = record {
   by = h.by;
   holder = h.holder;
-  its = get_kept given more h.holder h.by h.its;
+  its = get_kept placements more h.holder h.by h.its;
   place = h.place;
   lasts = h.lasts;
 }
 
-held_before : (given : List Given) (r at last : ℕ) → at ≤ last → IsHeld given r last → IsHeld given r at
-held_before given r at last le h = record {
+in_use_before : (placements : List Placement) (r at last : ℕ) → at ≤ last → IsInUse placements r last → IsInUse placements r at
+in_use_before placements r at last le h = record {
   by = h.by;
   holder = h.holder;
   its = h.its;
@@ -31,69 +31,69 @@ held_before given r at last le h = record {
   lasts = omega (arith, le, h.lasts);
 }
 
-free_over : (given : List Given) (lasts : List (Option ℕ)) (r at : ℕ) (last : Option ℕ) → AreRegisters given lasts →
-    slice_get lasts r ≡ Some last → is_over at last ≡ true → AllOver given (Register r) at
-free_over given lasts r at None regs get is = regs.unheld r get at
-free_over given lasts r at (Some last) regs get is = λ i g its same. grind (arith, regs.over r last get i g its same)
+free_over : (placements : List Placement) (lasts : List (Option ℕ)) (r at : ℕ) (last : Option ℕ) → AreRegisters placements lasts →
+    slice_get lasts r ≡ Some last → is_over at last ≡ true → AllOver placements (Register r) at
+free_over placements lasts r at None regs get is = regs.unused r get at
+free_over placements lasts r at (Some last) regs get is = λ i g its same. grind (arith, regs.over r last get i g its same)
 
-module _ (given : List Given) (x : Interval) (lasts : List (Option ℕ)) (r : ℕ) (regs : AreRegisters given lasts)
-    (own : r < register_count) (free : AllOver given (Register r) x.first) (ordered : x.first ≤ x.last) where
+module _ (placements : List Placement) (x : Interval) (lasts : List (Option ℕ)) (r : ℕ) (regs : AreRegisters placements lasts)
+    (own : r < register_count) (free : AllOver placements (Register r) x.first) (ordered : x.first ≤ x.last) where
   set_here : slice_get (slice_set lasts r (Some x.last)) r ≡ Some (Some x.last)
   set_here = get_set_same lasts r (Some x.last) (omega (arith, own, regs.count))
 
-  pub register_given : AreRegisters (with_place given x (Register r)) (slice_set lasts r (Some x.last))
+  pub register_given : AreRegisters (with_place placements x (Register r)) (slice_set lasts r (Some x.last))
   register_given = record {
     count = length-set lasts r (Some x.last) ∙ regs.count;
     known = λ i q g get same. ⊎_elim
         (λ its. regs.known i q g its same)
-        (λ is. (let e : r ≡ q = (let p : Register r ≡ g.place = ap (λ (g : Given). g.place) is.1 in cc) in
+        (λ is. (let e : r ≡ q = (let p : Register r ≡ g.place = ap (λ (g : Placement). g.place) is.1 in cc) in
         subst (λ q. q < register_count) e own))
-        (get_pushed given (record { interval = x; place = Register r }) g i get);
-    held = λ q last get. ⊎_elim
+        (get_pushed placements (record { interval = x; place = Register r }) g i get);
+    in_use = λ q last get. ⊎_elim
         (λ e. (let same : x.last ≡ last = (let s : slice_get (slice_set lasts r (Some x.last)) r ≡ Some (Some last) =
         subst (λ q. slice_get (slice_set lasts r (Some x.last)) q ≡ Some (Some last)) (sym e) get in cc set_here) in
         record {
-          by = length given;
+          by = length placements;
           holder = record { interval = x; place = Register r };
-          its = get_behind given (record { interval = x; place = Register r }) [];
+          its = get_after placements (record { interval = x; place = Register r }) [];
           place = ap Register e;
           lasts = omega (arith, same);
         }))
-        (λ ne. held_kept given _ q last (regs.held q last (sym (get_set_other lasts r q (Some x.last) ne) ∙ get)))
+        (λ ne. in_use_kept placements _ q last (regs.in_use q last (sym (get_set_other lasts r q (Some x.last) ne) ∙ get)))
         (cases_eq r q);
-    unheld = λ q get at. ⊎_elim
+    unused = λ q get at. ⊎_elim
         (λ e. absurd (let s : slice_get (slice_set lasts r (Some x.last)) r ≡ Some None =
         subst (λ q. slice_get (slice_set lasts r (Some x.last)) q ≡ Some None) (sym e) get in cc set_here))
-        (λ ne. all_over_pushed given x (Register r) (Register q) at
-        (regs.unheld q (sym (get_set_other lasts r q (Some x.last) ne) ∙ get) at)
+        (λ ne. all_over_pushed placements x (Register r) (Register q) at
+        (regs.unused q (sym (get_set_other lasts r q (Some x.last) ne) ∙ get) at)
         (λ same. absurd (ne (cc same))))
         (cases_eq r q);
     over = λ q last get. ⊎_elim
         (λ e. (let same : x.last ≡ last = (let s : slice_get (slice_set lasts r (Some x.last)) r ≡ Some (Some last) =
         subst (λ q. slice_get (slice_set lasts r (Some x.last)) q ≡ Some (Some last)) (sym e) get in cc set_here) in
-        all_over_pushed given x (Register r) (Register q) (suc last)
+        all_over_pushed placements x (Register r) (Register q) (suc last)
         (λ i g its place. (let h : g.interval.last < x.first = free i g its (place ∙ ap Register (sym e)) in
         omega (arith, h, ordered, same)))
         (λ p. omega (arith, same))))
-        (λ ne. all_over_pushed given x (Register r) (Register q) (suc last)
+        (λ ne. all_over_pushed placements x (Register r) (Register q) (suc last)
         (regs.over q last (sym (get_set_other lasts r q (Some x.last) ne) ∙ get))
         (λ same. absurd (ne (cc same))))
         (cases_eq r q);
   }
 
 -- an interval that gets a slot leaves registers as they are
-pub registers_kept : (given : List Given) (x : Interval) (lasts : List (Option ℕ)) (k : ℕ) → AreRegisters given lasts →
-    AreRegisters (with_place given x (Slot k)) lasts
-registers_kept given x lasts k regs = record {
+pub registers_kept : (placements : List Placement) (x : Interval) (lasts : List (Option ℕ)) (k : ℕ) → AreRegisters placements lasts →
+    AreRegisters (with_place placements x (Slot k)) lasts
+registers_kept placements x lasts k regs = record {
   count = regs.count;
   known = λ i q g get same. ⊎_elim
       (λ its. regs.known i q g its same)
-      (λ is. absurd (let p : Slot k ≡ g.place = ap (λ (g : Given). g.place) is.1 in cc))
-      (get_pushed given (record { interval = x; place = Slot k }) g i get);
-  held = λ q last get. held_kept given _ q last (regs.held q last get);
-  unheld = λ q get at. all_over_pushed given x (Slot k) (Register q) at (regs.unheld q get at)
+      (λ is. absurd (let p : Slot k ≡ g.place = ap (λ (g : Placement). g.place) is.1 in cc))
+      (get_pushed placements (record { interval = x; place = Slot k }) g i get);
+  in_use = λ q last get. in_use_kept placements _ q last (regs.in_use q last get);
+  unused = λ q get at. all_over_pushed placements x (Slot k) (Register q) at (regs.unused q get at)
       (λ same. absurd (cc same));
-  over = λ q last get. all_over_pushed given x (Slot k) (Register q) (suc last) (regs.over q last get)
+  over = λ q last get. all_over_pushed placements x (Slot k) (Register q) (suc last) (regs.over q last get)
       (λ same. absurd (cc same));
 }
 
@@ -103,22 +103,22 @@ entry [] r h = absurd (omega arith)
 entry (last ∷ lasts) zero h = (last, refl)
 entry (last ∷ lasts) (suc r) h = entry lasts r (omega (arith, h))
 
-held_by : (given : List Given) (lasts : List (Option ℕ)) (r at : ℕ) (last : Option ℕ) → AreRegisters given lasts →
-    slice_get lasts r ≡ Some last → is_over at last ≡ false → IsHeld given r at
-held_by given lasts r at None regs get is = absurd (cc is)
-held_by given lasts r at (Some last) regs get is =
-    held_before given r at last (grind (arith, is)) (regs.held r last get)
+in_use_by : (placements : List Placement) (lasts : List (Option ℕ)) (r at : ℕ) (last : Option ℕ) → AreRegisters placements lasts →
+    slice_get lasts r ≡ Some last → is_over at last ≡ false → IsInUse placements r at
+in_use_by placements lasts r at None regs get is = absurd (cc is)
+in_use_by placements lasts r at (Some last) regs get is =
+    in_use_before placements r at last (grind (arith, is)) (regs.in_use r last get)
 
 -- where no register is free, each is held
-pub all_held : (given : List Given) (lasts : List (Option ℕ)) (at : ℕ) → AreRegisters given lasts →
-    position (is_over at) lasts ≡ None → (r : ℕ) → r < register_count → IsHeld given r at
-all_held given lasts at regs none r own =
+pub all_in_use : (placements : List Placement) (lasts : List (Option ℕ)) (at : ℕ) → AreRegisters placements lasts →
+    position (is_over at) lasts ≡ None → (r : ℕ) → r < register_count → IsInUse placements r at
+all_in_use placements lasts at regs none r own =
     (let last = entry lasts r (omega (arith, own, regs.count)) in
-    held_by given lasts r at last.0 regs last.1 (all_fail (is_over at) lasts r last.0 none last.1))
+    in_use_by placements lasts r at last.0 regs last.1 (all_fail (is_over at) lasts r last.0 none last.1))
 
 -- what the first free register keeps
-pub found_over : (given : List Given) (lasts : List (Option ℕ)) (r at : ℕ) → AreRegisters given lasts →
+pub found_over : (placements : List Placement) (lasts : List (Option ℕ)) (r at : ℕ) → AreRegisters placements lasts →
     r < length lasts → is_over at (get_or lasts r None) ≡ true →
-    AllOver given (Register r) at
-found_over given lasts r at regs own is =
-    free_over given lasts r at _ regs (slice_get-get_or lasts r None own) is
+    AllOver placements (Register r) at
+found_over placements lasts r at regs own is =
+    free_over placements lasts r at _ regs (slice_get-get_or lasts r None own) is

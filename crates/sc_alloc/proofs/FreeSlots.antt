@@ -1,5 +1,5 @@
 -- A slot that is taken, and one that is given.
-use Rattle.sc_alloc.proofs.Common.{All, All-cons, All-nil, All-permutation, All-tail, AllOver, AreSlots, Given, IfNone}
+use Rattle.sc_alloc.proofs.Common.{All, All-cons, All-nil, All-permutation, All-tail, AllOver, AreSlots, Placement, IfNone}
 use Rattle.sc_alloc.proofs.Common.{IfSome, Interval, IsOut, IsPermutation, List, None, Option, Register, Reverse, Slot}
 use Rattle.sc_alloc.proofs.Common.{SlotEnd, Some, [], ap, arith, cases_eq, cond, count_by, eq-eqb, get_or, is_of}
 use Rattle.sc_alloc.proofs.Common.{length, length-append, length_permutation, ne_eqb, refl, subst, suc, sum_by-cons}
@@ -39,14 +39,14 @@ counts_none slot (end ∷ ends) h =
 abbrev IsBelow : ℕ → Reverse SlotEnd → Type 0
 IsBelow count end = end.0.slot < count
 
-abbrev IsLast : List Given → Reverse SlotEnd → Type 0
-IsLast given end = AllOver given (Slot end.0.slot) (suc end.0.last)
+abbrev IsLast : List Placement → Reverse SlotEnd → Type 0
+IsLast placements end = AllOver placements (Slot end.0.slot) (suc end.0.last)
 
 -- the slot that is over first is taken where it is over
-module _ (given : List Given) (ends rest : List (Reverse SlotEnd)) (end : Reverse SlotEnd) (count at : ℕ)
-    (slots : AreSlots given ends count) (moved : IsPermutation ends (end ∷ rest)) (ended : end.0.last < at) where
-  over_all : All (IsLast given) (end ∷ rest)
-  over_all = All-permutation (IsLast given) ends (end ∷ rest) moved slots.knows.over
+module _ (placements : List Placement) (ends rest : List (Reverse SlotEnd)) (end : Reverse SlotEnd) (count at : ℕ)
+    (slots : AreSlots placements ends count) (moved : IsPermutation ends (end ∷ rest)) (ended : end.0.last < at) where
+  over_all : All (IsLast placements) (end ∷ rest)
+  over_all = All-permutation (IsLast placements) ends (end ∷ rest) moved slots.knows.over
 
   below_all : All (IsBelow count) (end ∷ rest)
   below_all = All-permutation (IsBelow count) ends (end ∷ rest) moved slots.knows.below
@@ -56,14 +56,14 @@ module _ (given : List Given) (ends rest : List (Reverse SlotEnd)) (end : Revers
       sum_by_popped (one_of slot) end ends rest moved in
       omega (arith, e, slots.knows.once slot))
 
-  pub taken : IsOut given rest count at end.0.slot
+  pub taken : IsOut placements rest count at end.0.slot
   taken = record {
     few = omega (arith, slots.few);
     knows = record {
       once = λ slot. omega (arith, fewer slot);
       below = All-tail (IsBelow count) end rest below_all;
       known = slots.knows.known;
-      over = All-tail (IsLast given) end rest over_all;
+      over = All-tail (IsLast placements) end rest over_all;
     };
     own = below_all 0 end (omega arith);
     out = none_of end.0.slot rest (omega (arith, fewer end.0.slot, is_one end.0.slot end refl));
@@ -72,9 +72,9 @@ module _ (given : List Given) (ends rest : List (Reverse SlotEnd)) (end : Revers
   }
 
 -- a new one is taken
-pub fresh : (given : List Given) (ends : List (Reverse SlotEnd)) (count at : ℕ) → AreSlots given ends count →
-    IsOut given ends (suc count) at count
-fresh given ends count at slots = record {
+pub fresh : (placements : List Placement) (ends : List (Reverse SlotEnd)) (count at : ℕ) → AreSlots placements ends count →
+    IsOut placements ends (suc count) at count
+fresh placements ends count at slots = record {
   few = omega (arith, slots.few);
   knows = record {
     once = slots.knows.once;
@@ -88,13 +88,13 @@ fresh given ends count at slots = record {
 }
 
 -- the slot that was taken is given
-module _ (given : List Given) (x : Interval) (ends new : List (Reverse SlotEnd)) (count slot : ℕ)
-    (taken : IsOut given ends count x.first slot) (ordered : x.first ≤ x.last) where
+module _ (placements : List Placement) (x : Interval) (ends new : List (Reverse SlotEnd)) (count slot : ℕ)
+    (taken : IsOut placements ends count x.first slot) (ordered : x.first ≤ x.last) where
   abbrev its : Reverse SlotEnd
   its = record { 0 = record { last = x.last; slot = slot } }
 
-  abbrev more : List Given
-  more = with_place given x (Slot slot)
+  abbrev more : List Placement
+  more = with_place placements x (Slot slot)
 
   module _ (moved : IsPermutation (its ∷ ends) new) where
     once_here : (k : ℕ) → one_of k its + count_by (is_of k) ends ≤ 1
@@ -106,17 +106,17 @@ module _ (given : List Given) (x : Interval) (ends new : List (Reverse SlotEnd))
         (cases_eq slot k)
 
     over_here : IsLast more its
-    over_here = all_over_pushed given x (Slot slot) (Slot slot) (suc x.last)
+    over_here = all_over_pushed placements x (Slot slot) (Slot slot) (suc x.last)
         (λ i g get same. (let h : g.interval.last < x.first = taken.free i g get same in omega (arith, h, ordered)))
         (λ same. omega arith)
 
     over_rest : All (IsLast more) ends
-    over_rest = λ k d lt. all_over_pushed given x (Slot slot) (Slot (get_or ends k d).0.slot)
+    over_rest = λ k d lt. all_over_pushed placements x (Slot slot) (Slot (get_or ends k d).0.slot)
         (suc (get_or ends k d).0.last) (taken.knows.over k d lt) (λ same. absurd (taken.out k d lt (cc same)))
 
     pub slot_given : AreSlots more new count
     slot_given = record {
-      few = omega (arith, taken.few, length-append given (record { interval = x; place = Slot slot } ∷ []));
+      few = omega (arith, taken.few, length-append placements (record { interval = x; place = Slot slot } ∷ []));
       knows = record {
         once = λ k. (let e : count_by (is_of k) new ≡ one_of k its + count_by (is_of k) ends =
             sum_by_pushed (one_of k) its ends new moved in
@@ -125,27 +125,27 @@ module _ (given : List Given) (x : Interval) (ends new : List (Reverse SlotEnd))
             (All-cons (IsBelow count) its ends taken.own taken.knows.below);
         known = λ i k g get same. ⊎_elim
             (λ old. taken.knows.known i k g old same)
-            (λ is. (let e : slot ≡ k = (let p : Slot slot ≡ g.place = ap (λ (g : Given). g.place) is.1 in cc) in
+            (λ is. (let e : slot ≡ k = (let p : Slot slot ≡ g.place = ap (λ (g : Placement). g.place) is.1 in cc) in
             subst (λ k. k < count) e taken.own))
-            (get_pushed given (record { interval = x; place = Slot slot }) g i get);
+            (get_pushed placements (record { interval = x; place = Slot slot }) g i get);
         over = All-permutation (IsLast more) (its ∷ ends) new moved
             (All-cons (IsLast more) its ends over_here over_rest);
       };
     }
 
 -- an interval that gets a register leaves slots as they are
-pub slots_kept : (given : List Given) (x : Interval) (ends : List (Reverse SlotEnd)) (count r : ℕ) →
-    AreSlots given ends count → AreSlots (with_place given x (Register r)) ends count
-slots_kept given x ends count r slots = record {
-  few = omega (arith, slots.few, length-append given (record { interval = x; place = Register r } ∷ []));
+pub slots_kept : (placements : List Placement) (x : Interval) (ends : List (Reverse SlotEnd)) (count r : ℕ) →
+    AreSlots placements ends count → AreSlots (with_place placements x (Register r)) ends count
+slots_kept placements x ends count r slots = record {
+  few = omega (arith, slots.few, length-append placements (record { interval = x; place = Register r } ∷ []));
   knows = record {
     once = slots.knows.once;
     below = slots.knows.below;
     known = λ i k g get same. ⊎_elim
         (λ old. slots.knows.known i k g old same)
-        (λ is. absurd (let p : Register r ≡ g.place = ap (λ (g : Given). g.place) is.1 in cc))
-        (get_pushed given (record { interval = x; place = Register r }) g i get);
-    over = λ k d lt. all_over_pushed given x (Register r) (Slot (get_or ends k d).0.slot)
+        (λ is. absurd (let p : Register r ≡ g.place = ap (λ (g : Placement). g.place) is.1 in cc))
+        (get_pushed placements (record { interval = x; place = Register r }) g i get);
+    over = λ k d lt. all_over_pushed placements x (Register r) (Slot (get_or ends k d).0.slot)
         (suc (get_or ends k d).0.last) (slots.knows.over k d lt) (λ same. absurd (cc same));
   };
 }

@@ -31,16 +31,16 @@ get_set_other (z ∷ xs) zero (suc j) x h = refl
 get_set_other (z ∷ xs) (suc i) zero x h = refl
 get_set_other (z ∷ xs) (suc i) (suc j) x h = get_set_other xs i j x (λ e. h (ap suc e))
 
-none_behind : (o : Option ℕ) → option_map suc o ≡ None → o ≡ None
-none_behind None same = refl
-none_behind (Some k) same = absurd (cc same)
+none_after : (o : Option ℕ) → option_map suc o ≡ None → o ≡ None
+none_after None same = refl
+none_after (Some k) same = absurd (cc same)
 
 first_fails : {A : Type 0} (p : A → Bool) (x : A) (xs : List A) (b : Bool) → p x ≡ b → position p (x ∷ xs) ≡ None →
     (b ≡ false) × (position p xs ≡ None)
 first_fails p x xs true is none =
     absurd (let first : position p (x ∷ xs) ≡ Some 0 = position-cons p x xs ∙ rw is refl in cc)
 first_fails p x xs false is none =
-    (refl, none_behind (position p xs) (sym (position-cons p x xs ∙ rw is refl) ∙ none))
+    (refl, none_after (position p xs) (sym (position-cons p x xs ∙ rw is refl) ∙ none))
 
 -- where no element passes a test, each fails it
 pub all_fail : {A : Type 0} (p : A → Bool) (xs : List A) (i : ℕ) (x : A) → position p xs ≡ None →

@@ -3,4 +3,4 @@ pub use Rattle.sc_tac.specs.Prelude.{is_place, register_count}
 pub use Rattle.sc_tac.specs.declared.interval.Interval.{Interval}
 pub use Rattle.sc_tac.specs.declared.place.Place.{Place}
 pub use Rattle.sc_tac.specs.declared.place.Place.TheVariants.{Register, Slot}
-pub use Rattle.sc_alloc.specs.declared.given.Given.{Given}
+pub use Rattle.sc_alloc.specs.declared.placements.Placement.{Placement}

@@ -1,5 +1,5 @@
 -- The places that linear scan gives to temporaries (Poletto and Sarkar, Linear Scan Register Allocation).
-use Rattle.sc_alloc.specs.Common.{Given, Interval, Place, Register, Slot, register_count}
+use Rattle.sc_alloc.specs.Common.{Placement, Interval, Place, Register, Slot, register_count}
 use Rattle.std.specs.Prelude.{ℕ, suc, Bool, true, ◌&&◌, nat_lt, nat_le, if◌then◌else◌, List, [], ◌∷◌, ◌++◌, map, take}
 use Rattle.std.specs.Prelude.{drop, replicate, Option, None, Some}
 use Rattle.std.specs.List.{fold, list_all, position, position_or_len, slice_set}
@@ -17,17 +17,17 @@ sorted_by key (x ∷ xs) = insert_by key x (sorted_by key xs)
 -- how far the scan has come: the intervals with the places that they got, and of each register and each slot so far the
 -- end of the interval that got it last
 pub record Scanned : Type 0 where
-  pub given : List Given
+  pub placements : List Placement
   pub registers : List (Option ℕ)
   pub slots : List ℕ
 
 -- at first no register is held, and there is no slot
 abbrev pub at_first : Scanned
-at_first = record { given = []; registers = replicate register_count None; slots = [] }
+at_first = record { placements = []; registers = replicate register_count None; slots = [] }
 
 -- one more interval has a place
-abbrev pub with_place : List Given → Interval → Place → List Given
-with_place given x place = given ++ record { interval = x; place = place } ∷ []
+abbrev pub with_place : List Placement → Interval → Place → List Placement
+with_place placements x place = placements ++ record { interval = x; place = place } ∷ []
 
 -- the interval that had a register last ends before this point
 abbrev pub is_over : ℕ → Option ℕ → Bool
@@ -53,11 +53,11 @@ with_slot slots k last = take k slots ++ last ∷ drop (suc k) slots
 -- an interval gets this register
 abbrev pub in_register : Scanned → Interval → ℕ → Scanned
 in_register s x r =
-    record s { given = with_place s.given x (Register r); registers = slice_set s.registers r (Some x.last) }
+    record s { placements = with_place s.placements x (Register r); registers = slice_set s.registers r (Some x.last) }
 
 -- an interval gets this slot
 abbrev pub in_slot : Scanned → Interval → ℕ → Scanned
-in_slot s x k = record s { given = with_place s.given x (Slot k); slots = with_slot s.slots k x.last }
+in_slot s x k = record s { placements = with_place s.placements x (Slot k); slots = with_slot s.slots k x.last }
 
 -- an interval gets the register, if there is one for it, and else a slot
 abbrev pub in_place : Scanned → Interval → Option ℕ → Scanned
@@ -73,4 +73,4 @@ scan_next s x = in_place s x (register_for x s.registers)
 abbrev pub assigned : List Interval → List Place
 assigned intervals =
     map (λ g. g.place)
-    (sorted_by (λ g. g.interval.temp) (fold scan_next at_first (sorted_by (λ x. x.first) intervals)).given)
+    (sorted_by (λ g. g.interval.temp) (fold scan_next at_first (sorted_by (λ x. x.first) intervals)).placements)

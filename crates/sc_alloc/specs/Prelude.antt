@@ -4,4 +4,4 @@ pub use Rattle.sc_alloc.specs.Places.{Scanned, assigned, at_first, is_over, regi
 pub use Rattle.sc_alloc.specs.Scan.{AllBegun, AreFair, AreKnown, AreNumbered, ArePlaced, AreRegisters, AreSlots}
 pub use Rattle.sc_alloc.specs.Scan.{GivesRegister, GivesSlot, HasCome, HasEnds, HasSlot, IsAt, IsChosen, IsNext, IsOut}
 pub use Rattle.sc_alloc.specs.Scan.{IsScan, IsTaken, NoneFree}
-pub use Rattle.sc_alloc.specs.declared.given.Given.{Given}
+pub use Rattle.sc_alloc.specs.declared.placements.Placement.{Placement}

@@ -1,7 +1,7 @@
 //! Places of temporaries by linear scan (Poletto and Sarkar, Linear Scan Register Allocation).
 #![tactic(auto)]
 
-mod given;
+mod placements;
 mod places;
 mod registers;
 mod scan;

@@ -1,11 +1,11 @@
-ghost use Rattle.sc_alloc.specs.Prelude.{AreFair, AreKnown, AreNumbered, ArePlaced, Given, IsAssignment, IsSparing};
+ghost use Rattle.sc_alloc.specs.Prelude.{AreFair, AreKnown, AreNumbered, ArePlaced, Placement, IsAssignment, IsSparing};
 ghost use Rattle.sc_alloc.specs.Prelude.{assigned, at_first, scan_next, sorted_by};
 ghost use Rattle.std.specs.Prelude.{◌≡◌, ◌≤◌, map, All, IfOk};
 ghost use Rattle.std.specs.List.{fold};
 ghost use Rattle.std.specs.List.Sorted.{IsNonDecreasingBy, IsPermutation};
 ghost use Rattle.sc_tac.specs.declared.interval.Interval.{Interval};
 
-use crate::given::Given;
+use crate::placements::Placement;
 use crate::scan::Scan;
 use sc_base::OutOfMemory;
 use sc_tac::{Interval, Intervals, Place, Places};
@@ -23,11 +23,11 @@ fn by_start(alloc: Global, intervals: &[Interval]) -> Result<Vec<Interval>, OutO
 }
 
 // A place for each of the intervals, which come in the order in which they begin.
-fn scan(alloc: Global, order: &[Interval]) -> Result<Items<Given>, OutOfMemory>
+fn scan(alloc: Global, order: &[Interval]) -> Result<Items<Placement>, OutOfMemory>
     requires ordered { All (λ (x : Interval). x.first ≤ x.last) order.now }
     requires rising { IsNonDecreasingBy {X = Interval} (λ x. x.first) order.now }
-    ensures places { IfOk result (λ given. given ≡ (fold scan_next at_first order.now).given) }
-    ensures each { IfOk result (λ given. map {A = Given} (λ g. g.interval) given ≡ order.now) }
+    ensures places { IfOk result (λ placements. placements ≡ (fold scan_next at_first order.now).placements) }
+    ensures each { IfOk result (λ placements. map {A = Placement} (λ g. g.interval) placements ≡ order.now) }
     ensures fair { IfOk result AreFair }
     ensures known { IfOk result AreKnown }
 {
@@ -39,12 +39,12 @@ fn scan(alloc: Global, order: &[Interval]) -> Result<Items<Given>, OutOfMemory>
 }
 
 // The places in the order of the temporaries' numbers. Each of those that it begins with is replaced.
-fn by_temp(alloc: Global, given: &[Given]) -> Result<Items<Place>, OutOfMemory>
-    requires { AreNumbered given.now }
-    ensures { IfOk result (ArePlaced given.now) }
+fn by_temp(alloc: Global, placements: &[Placement]) -> Result<Items<Place>, OutOfMemory>
+    requires { AreNumbered placements.now }
+    ensures { IfOk result (ArePlaced placements.now) }
 {
-    let mut places = Items::from_vec(vec![in alloc; Place::Slot(0); given.len()]?);
-    for one in given {
+    let mut places = Items::from_vec(vec![in alloc; Place::Slot(0); placements.len()]?);
+    for one in placements {
         places.set(one.interval.temp as usize, one.place);
     }
     Ok(places)
@@ -58,6 +58,6 @@ pub fn assign(alloc: Global, intervals: &Intervals) -> Result<Places, OutOfMemor
     ensures sparing { IfOk result (IsSparing intervals.now) }
 {
     let order = by_start(alloc, intervals.as_slice())?;
-    let given = scan(alloc, order.as_slice())?;
-    Ok(Places::new(by_temp(alloc, given.as_slice())?))
+    let placements = scan(alloc, order.as_slice())?;
+    Ok(Places::new(by_temp(alloc, placements.as_slice())?))
 }

@@ -1,4 +1,4 @@
-ghost use Rattle.sc_alloc.specs.Prelude.{AreRegisters, Given, GivesRegister, is_over, register_count, register_for};
+ghost use Rattle.sc_alloc.specs.Prelude.{AreRegisters, Placement, GivesRegister, is_over, register_count, register_for};
 ghost use Rattle.std.specs.Prelude.{◌≡◌, ◌≤◌, [], List, Some, None, MatchOption, replicate};
 ghost use Rattle.std.specs.List.{position, slice_set};
 
@@ -40,8 +40,8 @@ impl Registers {
         ensures register { result ≡ register_for interval.now self.old.lasts }
         ensures lasts { MatchOption result (self.new.lasts ≡ self.old.lasts)
             (λ r. self.new.lasts ≡ slice_set self.old.lasts r (Some interval.now.last)) }
-        ensures rules { (given : List Given) → AreRegisters given self.old.lasts →
-            GivesRegister given interval.now self.new.lasts result }
+        ensures rules { (placements : List Placement) → AreRegisters placements self.old.lasts →
+            GivesRegister placements interval.now self.new.lasts result }
     {
         if interval.spans_call {
             return None;

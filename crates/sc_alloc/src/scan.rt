@@ -1,8 +1,8 @@
-ghost use Rattle.sc_alloc.specs.Prelude.{AllBegun, AreFair, AreKnown, Given, HasCome, IsAt, IsChosen, IsNext, IsScan};
+ghost use Rattle.sc_alloc.specs.Prelude.{AllBegun, AreFair, AreKnown, Placement, HasCome, IsAt, IsChosen, IsNext, IsScan};
 ghost use Rattle.sc_alloc.specs.Prelude.{Scanned, at_first, scan_next};
 ghost use Rattle.std.specs.Prelude.{◌≡◌, ◌≤◌, [], ◌++◌, ◌∷◌, map, IfOk, OnOk};
 
-use crate::given::Given;
+use crate::placements::Placement;
 use crate::registers::Registers;
 use crate::slots::Slots;
 use sc_base::OutOfMemory;
@@ -13,19 +13,19 @@ use std::alloc::Global;
 /// Intervals with their places, in the order in which they begin, and what is known of registers and slots.
 #[derive(Drop)]
 pub struct Scan {
-    given: Items<Given>,
+    placements: Items<Placement>,
     registers: Registers,
     slots: Slots,
 }
 
 impl Scan {
     pub fn new(alloc: Global) -> Scan
-        ensures given { result.given ≡ [] }
+        ensures placements { result.placements ≡ [] }
         ensures at { IsAt at_first result }
         ensures rules { IsScan result }
     {
         Scan {
-            given: Items::new(alloc),
+            placements: Items::new(alloc),
             registers: Registers::new(),
             slots: Slots::new(alloc),
         }
@@ -35,10 +35,10 @@ impl Scan {
     fn choose(&mut self, interval: &Interval) -> Result<Place, OutOfMemory>
         requires ordered { interval.now.first ≤ interval.now.last }
         requires rules { IsScan self.old }
-        ensures given { self.new.given ≡ self.old.given }
+        ensures placements { self.new.placements ≡ self.old.placements }
         ensures next { (s : Scanned) → HasCome s self.old.registers self.old.slots →
             IfOk result (IsNext s interval.now self.new.registers self.new.slots) }
-        ensures chosen { IfOk result (IsChosen self.old.given interval.now self.new.registers self.new.slots) }
+        ensures chosen { IfOk result (IsChosen self.old.placements interval.now self.new.registers self.new.slots) }
     {
         match self.registers.give(interval) {
             Some(register) => Ok(Place::Register(register)),
@@ -49,26 +49,26 @@ impl Scan {
     /// Gives the next interval its place.
     pub fn add(&mut self, interval: Interval) -> Result<(), OutOfMemory>
         requires ordered { interval.first ≤ interval.last }
-        requires begun { AllBegun self.old.given interval.first }
+        requires begun { AllBegun self.old.placements interval.first }
         requires rules { IsScan self.old }
-        ensures given { OnOk result (map {A = Given} (λ g. g.interval) self.new.given ≡
-            map {A = Given} (λ g. g.interval) self.old.given ++ interval ∷ []) }
+        ensures placements { OnOk result (map {A = Placement} (λ g. g.interval) self.new.placements ≡
+            map {A = Placement} (λ g. g.interval) self.old.placements ++ interval ∷ []) }
         ensures at { (s : Scanned) → IsAt s self.old → OnOk result (IsAt (scan_next s interval) self.new) }
         ensures rules { OnOk result (IsScan self.new) }
     {
         let place = self.choose(&interval)?;
-        self.given.push(Given { interval, place })?;
+        self.placements.push(Placement { interval, place })?;
         Ok(())
     }
 
     /// The intervals with their places.
-    pub fn finish(self) -> Items<Given>
+    pub fn finish(self) -> Items<Placement>
         requires { IsScan self }
-        ensures given { result ≡ self.given }
+        ensures placements { result ≡ self.placements }
         ensures fair { AreFair result }
         ensures known { AreKnown result }
     {
-        let Scan { given, .. } = self;
-        given
+        let Scan { placements, .. } = self;
+        placements
     }
 }

@@ -1,4 +1,4 @@
-ghost use Rattle.sc_alloc.specs.Prelude.{AreSlots, Given, GivesSlot, HasEnds, HasSlot, IsOut, IsTaken, NoneFree};
+ghost use Rattle.sc_alloc.specs.Prelude.{AreSlots, Placement, GivesSlot, HasEnds, HasSlot, IsOut, IsTaken, NoneFree};
 ghost use Rattle.std.specs.Prelude.{◌≡◌, ◌≤◌, ℕ, suc, [], List, IfOk, MatchOption};
 ghost use Rattle.std.specs.BinaryHeap.{heap_items};
 
@@ -47,9 +47,9 @@ impl Slots {
         ensures soonest { (slots : List ℕ) → HasEnds slots (heap_items self.old.ends) self.old.count →
             MatchOption result (NoneFree slots (heap_items self.new.ends) self.new.count at)
             (IsTaken slots (heap_items self.new.ends) self.new.count at) }
-        ensures rules { (given : List Given) → AreSlots given (heap_items self.old.ends) self.old.count →
-            MatchOption result (AreSlots given (heap_items self.new.ends) self.new.count)
-            (IsOut given (heap_items self.new.ends) self.new.count at) }
+        ensures rules { (placements : List Placement) → AreSlots placements (heap_items self.old.ends) self.old.count →
+            MatchOption result (AreSlots placements (heap_items self.new.ends) self.new.count)
+            (IsOut placements (heap_items self.new.ends) self.new.count at) }
     {
         let Reverse(soonest) = *self.ends.peek()?;
         if at <= soonest.last {
@@ -64,8 +64,8 @@ impl Slots {
     fn take(&mut self, at: u32) -> Result<u32, OutOfMemory>
         ensures slot { (slots : List ℕ) → HasEnds slots (heap_items self.old.ends) self.old.count →
             IfOk result (IsTaken slots (heap_items self.new.ends) self.new.count at) }
-        ensures rules { (given : List Given) → AreSlots given (heap_items self.old.ends) self.old.count →
-            IfOk result (IsOut given (heap_items self.new.ends) self.new.count at) }
+        ensures rules { (placements : List Placement) → AreSlots placements (heap_items self.old.ends) self.old.count →
+            IfOk result (IsOut placements (heap_items self.new.ends) self.new.count at) }
     {
         match self.take_free(at) {
             Some(slot) => Ok(slot),
@@ -83,8 +83,8 @@ impl Slots {
         requires { interval.now.first ≤ interval.now.last }
         ensures slot { (slots : List ℕ) → HasEnds slots (heap_items self.old.ends) self.old.count →
             IfOk result (HasSlot slots interval.now (heap_items self.new.ends) self.new.count) }
-        ensures rules { (given : List Given) → AreSlots given (heap_items self.old.ends) self.old.count →
-            IfOk result (GivesSlot given interval.now (heap_items self.new.ends) self.new.count) }
+        ensures rules { (placements : List Placement) → AreSlots placements (heap_items self.old.ends) self.old.count →
+            IfOk result (GivesSlot placements interval.now (heap_items self.new.ends) self.new.count) }
     {
         let slot = self.take(interval.first)?;
         self.ends.push(Reverse(SlotEnd {

@@ -81,12 +81,12 @@ abbrev pub chain_words : ℕ → List Layout → List Piece
 chain_words depth stmts = flat_map (λ stmt. stmt.words depth) stmts
 
 -- what follows an `else`
-abbrev pub behind_else : ℕ → List Layout → List Piece
-behind_else depth stmts = if is_chain stmts then chain_words depth stmts else block_words depth stmts
+abbrev pub after_else : ℕ → List Layout → List Piece
+after_else depth stmts = if is_chain stmts then chain_words depth stmts else block_words depth stmts
 
 abbrev pub else_words : ℕ → List Layout → List Piece
 else_words depth stmts = if length stmts == 0 then [] else
-    (blank ∷ word (codes "else") ∷ blank ∷ behind_else depth stmts)
+    (blank ∷ word (codes "else") ∷ blank ∷ after_else depth stmts)
 
 abbrev pub if_words : ExprTree → List Layout → List Layout → ℕ → List Piece
 if_words cond then_part else_part depth = condition_words (codes "if") cond ++

@@ -10,8 +10,8 @@ pub stepped : {A : Type 0} (F : List A → List ℕ) (xs : List A) (i : ℕ) (x 
     i < length xs → x ≡ slice_index_or xs i x → new ≡ old ++ piece →
     F (x ∷ drop (i + 1) xs) ≡ piece ++ F (drop (i + 1) xs) → old ++ F (drop i xs) ≡ whole →
     new ++ F (drop (i + 1) xs) ≡ whole
-stepped F xs i x piece old new whole within is told adds so_far =
-    ap (λ n. n ++ F (drop (i + 1) xs)) told ∙ append_assoc old piece (F (drop (i + 1) xs)) ∙
+stepped F xs i x piece old new whole within is printed adds so_far =
+    ap (λ n. n ++ F (drop (i + 1) xs)) printed ∙ append_assoc old piece (F (drop (i + 1) xs)) ∙
     ap (λ m. old ++ m) (sym (at_drop_more F xs i x within ∙ ap (λ y. F (y ∷ drop (i + 1) xs)) (sym is) ∙ adds)) ∙
     so_far
 
@@ -58,10 +58,10 @@ pub whole_section : (interfaces : Interfaces) (comp : ℕ) (rows : List Row) (in
     two ≡ one ++ declarations_text interfaces comp rows interface →
     two ≡ old ++ section_text interfaces comp rows interface
 whole_section interfaces comp rows interface old one two first second =
-    let behind : List ℕ = declarations_text interfaces comp rows interface in
+    let following : List ℕ = declarations_text interfaces comp rows interface in
     let exports : List ℕ = flat_map export_text interface.exports in
     let imports : List ℕ = flat_map (import_text interfaces) interface.imports in
     let mark : List ℕ = codes "#pragma compartment " in
-    second ∙ ap (λ t. t ++ behind) first ∙ append_assoc old (directives_text interfaces interface) behind ∙
-    ap (λ t. old ++ (mark ++ t)) (append_assoc interface.name (codes "\n" ++ (exports ++ imports)) behind ∙
-    ap (λ t. interface.name ++ (codes "\n" ++ t)) (append_assoc exports imports behind))
+    second ∙ ap (λ t. t ++ following) first ∙ append_assoc old (directives_text interfaces interface) following ∙
+    ap (λ t. old ++ (mark ++ t)) (append_assoc interface.name (codes "\n" ++ (exports ++ imports)) following ∙
+    ap (λ t. interface.name ++ (codes "\n" ++ t)) (append_assoc exports imports following))

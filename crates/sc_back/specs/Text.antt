@@ -27,12 +27,12 @@ abbrev pub param_texts : (number : ℕ) → List Scalar → List (List ℕ)
 param_texts number [] = []
 param_texts number (ty ∷ types) = param_text number ty ∷ param_texts (suc number) types
 
-abbrev pub behind_comma : List ℕ → List ℕ
-behind_comma text = codes ", " ++ text
+abbrev pub after_comma : List ℕ → List ℕ
+after_comma text = codes ", " ++ text
 
 abbrev pub joined : List (List ℕ) → List ℕ
 joined [] = []
-joined (text ∷ texts) = text ++ flat_map behind_comma texts
+joined (text ∷ texts) = text ++ flat_map after_comma texts
 
 abbrev pub params_text : List Scalar → List ℕ
 params_text [] = codes "void"

@@ -1,6 +1,6 @@
 //! The statements that perform actions.
 
-ghost use Rattle.sc_back.specs.Prelude.{action_text, behind_comma, call_text, joined, return_text, value_text};
+ghost use Rattle.sc_back.specs.Prelude.{action_text, after_comma, call_text, joined, return_text, value_text};
 ghost use Rattle.sc_back.specs.Prelude.{value_texts};
 ghost use Rattle.std.specs.Prelude.{◌≡◌, ◌++◌, ◌∷◌, [], None, codes, flat_map, OnOk};
 ghost use Rattle.sc_event.specs.declared.interface.Scalar.TheVariants as scalar;
@@ -38,7 +38,7 @@ fn append_unsigned(text: &mut Text, word: u32) -> Result<(), OutOfMemory>
 }
 
 fn append_next_value(text: &mut Text, ty: Scalar, word: u32) -> Result<(), OutOfMemory>
-    ensures { OnOk result (text.new ≡ text.old ++ behind_comma (value_text ty word)) }
+    ensures { OnOk result (text.new ≡ text.old ++ after_comma (value_text ty word)) }
 {
     text.append(b", ")?;
     append_value(text, ty, word)
@@ -46,7 +46,7 @@ fn append_next_value(text: &mut Text, ty: Scalar, word: u32) -> Result<(), OutOf
 
 // Values after the first.
 fn append_more_values(text: &mut Text, types: &[Scalar], words: &[u32]) -> Result<(), OutOfMemory>
-    ensures { OnOk result (text.new ≡ text.old ++ flat_map behind_comma (value_texts types.now words.now)) }
+    ensures { OnOk result (text.new ≡ text.old ++ flat_map after_comma (value_texts types.now words.now)) }
 {
     let [ty, types @ ..] = types else {
         return text.append(b"");

@@ -1,6 +1,6 @@
 //! Heads of functions.
 
-ghost use Rattle.sc_back.specs.Prelude.{behind_comma, head_text, param_text, param_texts, params_text, result_text};
+ghost use Rattle.sc_back.specs.Prelude.{after_comma, head_text, param_text, param_texts, params_text, result_text};
 ghost use Rattle.sc_back.specs.Prelude.{type_text};
 ghost use Rattle.std.specs.Prelude.{◌≡◌, ◌++◌, ◌≤◌, suc, codes, flat_map, length, OnOk};
 
@@ -37,7 +37,7 @@ fn append_param(text: &mut Text, number: usize, ty: Scalar) -> Result<(), OutOfM
 }
 
 fn append_next_param(text: &mut Text, number: usize, ty: Scalar) -> Result<(), OutOfMemory>
-    ensures { OnOk result (text.new ≡ text.old ++ behind_comma (param_text number ty)) }
+    ensures { OnOk result (text.new ≡ text.old ++ after_comma (param_text number ty)) }
 {
     text.append(b", ")?;
     append_param(text, number, ty)
@@ -46,7 +46,7 @@ fn append_next_param(text: &mut Text, number: usize, ty: Scalar) -> Result<(), O
 // Parameters after the first.
 fn append_more_params(text: &mut Text, params: &[Scalar]) -> Result<(), OutOfMemory>
     requires { suc (length params.now) ≤ 8 }
-    ensures { OnOk result (text.new ≡ text.old ++ flat_map behind_comma (param_texts 1 params.now)) }
+    ensures { OnOk result (text.new ≡ text.old ++ flat_map after_comma (param_texts 1 params.now)) }
 {
     for place in 0..params.len() {
         append_next_param(text, place + 1, params[place])?;

@@ -1,6 +1,6 @@
 -- An array that was filled with a name holds that name and nothing else.
 use Rattle.sc_base.proofs.Common.{IsFilled, IsTrue, List, [], ap, arith, drop, drop-replicate, filled, is_name, length}
-use Rattle.sc_base.proofs.Common.{length-append, replicate, subst, sym, true, zeros_behind, ℕ, ◌++◌, ◌∙◌, ◌∷◌, ◌≡◌, ◌≤◌}
+use Rattle.sc_base.proofs.Common.{length-append, replicate, subst, sym, true, zeros_after, ℕ, ◌++◌, ◌∙◌, ◌∷◌, ◌≡◌, ◌≤◌}
 use Rattle.std.proofs.Math.Seq.{take-append_seam, drop-append_seam}
 use Rattle.std.proofs.lemmas.Bool.Decides.{nat_tests}
 
@@ -11,10 +11,10 @@ name_is_short (first ∷ rest) named = grind (arith, nat_tests)
 
 pub filled_is : (text : List ℕ) → is_name text ≡ true → IsFilled (length text) (filled text)
 filled_is text named = record {
-  front = subst (λ front. IsTrue (is_name front)) (sym (take-append_seam text (zeros_behind (length text))))
+  prefix = subst (λ prefix. IsTrue (is_name prefix)) (sym (take-append_seam text (zeros_after (length text))))
       (search named);
-  behind = drop-append_seam text (zeros_behind (length text));
-  within = omega (arith, length-append text (zeros_behind (length text)));
+  following = drop-append_seam text (zeros_after (length text));
+  within = omega (arith, length-append text (zeros_after (length text)));
 }
 
 -- a text copied over the start of zeros

@@ -7,24 +7,24 @@ use Rattle.std.proofs.lemmas.Cmp.{nat_list_eq_equiv}
 use Rattle.std.proofs.lemmas.Iterator.Adapters.{position_from-zero}
 
 -- the first place, or else this place, where it passes
-abbrev pub or_behind : Option ℕ → Bool → ℕ → Option ℕ
-or_behind (Some i) passes place = Some i
-or_behind None passes place = cond passes (Some place) None
+abbrev pub or_after : Option ℕ → Bool → ℕ → Option ℕ
+or_after (Some i) passes place = Some i
+or_after None passes place = cond passes (Some place) None
 
-more-behind : (b passes : Bool) (i place : ℕ) (whole part : Option ℕ) → whole ≡ or_behind part passes place →
-    cond b (Some i) whole ≡ or_behind (cond b (Some i) part) passes place
-more-behind true passes i place whole part h = refl
-more-behind false passes i place whole part h = h
+more-following : (b passes : Bool) (i place : ℕ) (whole part : Option ℕ) → whole ≡ or_after part passes place →
+    cond b (Some i) whole ≡ or_after (cond b (Some i) part) passes place
+more-following true passes i place whole part h = refl
+more-following false passes i place whole part h = h
 
 one-further : (i n : ℕ) → i + 1 + n ≡ i + suc n
 one-further i n = omega arith
 
 from-more : {X : Type 0} (p : X → Bool) (i : ℕ) (xs : List X) (x : X) →
-    position_from p i (xs ++ x ∷ []) ≡ or_behind (position_from p i xs) (p x) (i + length xs)
+    position_from p i (xs ++ x ∷ []) ≡ or_after (position_from p i xs) (p x) (i + length xs)
 from-more p i [] x = let e : i ≡ i + 0 = omega arith in ap (λ n. cond (p x) (Some n) None) e
-from-more p i (y ∷ xs) x = more-behind (p y) (p x) i (i + suc (length xs)) (position_from p (i + 1) (xs ++ x ∷ []))
+from-more p i (y ∷ xs) x = more-following (p y) (p x) i (i + suc (length xs)) (position_from p (i + 1) (xs ++ x ∷ []))
     (position_from p (i + 1) xs)
-    (from-more p (i + 1) xs x ∙ ap (or_behind (position_from p (i + 1) xs) (p x)) (one-further i (length xs)))
+    (from-more p (i + 1) xs x ∙ ap (or_after (position_from p (i + 1) xs) (p x)) (one-further i (length xs)))
 
 some-or : (b rest : Bool) (i : ℕ) (o : Option ℕ) → is_some o ≡ rest → is_some (cond b (Some i) o) ≡ (b || rest)
 some-or true rest i o h = refl
@@ -35,13 +35,13 @@ from-some p i [] = refl
 from-some p i (x ∷ xs) = some-or (p x) (list_any p xs) i (position_from p (i + 1) xs) (from-some p (i + 1) xs)
 
 number-more : (names : List (List ℕ)) (name other : List ℕ) → number_of (names ++ name ∷ []) other ≡
-    or_behind (number_of names other) (pointwise nat_eq other name) (length names)
+    or_after (number_of names other) (pointwise nat_eq other name) (length names)
 number-more names name other =
     position_from-zero (pointwise nat_eq other) (names ++ name ∷ [])
     ∙ (from-more (pointwise nat_eq other) 0 names name
-    ∙ (ap (λ o. or_behind o (pointwise nat_eq other name) (0 + length names))
+    ∙ (ap (λ o. or_after o (pointwise nat_eq other name) (0 + length names))
     (sym (position_from-zero (pointwise nat_eq other) names))
-    ∙ ap (or_behind (number_of names other) (pointwise nat_eq other name)) (omega arith)))
+    ∙ ap (or_after (number_of names other) (pointwise nat_eq other name)) (omega arith)))
 
 -- a name that has a number is one of the names
 pub has-number : (names : List (List ℕ)) (name : List ℕ) → is_some (number_of names name) ≡ is_numbered names name
@@ -57,7 +57,7 @@ numbers-alike names name other h = ap (number_of names) (same_text other name (s
 
 old-place : (names : List (List ℕ)) (name other : List ℕ) (o : Option ℕ) (b : Bool) →
     is_some (number_of names name) ≡ true → number_of names other ≡ o → pointwise nat_eq other name ≡ b →
-    o ≡ or_behind o b (length names)
+    o ≡ or_after o b (length names)
 old-place names name other (Some i) b h e s = refl
 old-place names name other None false h e s = refl
 old-place names name other None true h e s =
@@ -65,7 +65,7 @@ old-place names name other None true h e s =
 
 new-place : (names : List (List ℕ)) (name other : List ℕ) (o : Option ℕ) (b : Bool) →
     is_some (number_of names name) ≡ false → number_of names other ≡ o → pointwise nat_eq other name ≡ b →
-    cond b (Some (length names)) o ≡ or_behind o b (length names)
+    cond b (Some (length names)) o ≡ or_after o b (length names)
 new-place names name other None b h e s = refl
 new-place names name other (Some i) false h e s = refl
 new-place names name other (Some i) true h e s =

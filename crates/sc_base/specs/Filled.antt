@@ -4,24 +4,24 @@ use Rattle.std.proofs.Common.{sym, ap, ◌∙◌, take-append-drop, length-take-
 use Rattle.sc_base.specs.Identifier.{is_name}
 
 -- the zeros that follow a name of `len` bytes, in an array of 63
-abbrev pub zeros_behind : (len : ℕ) → List ℕ
-zeros_behind len = replicate (63 - len) 0
+abbrev pub zeros_after : (len : ℕ) → List ℕ
+zeros_after len = replicate (63 - len) 0
 
 abbrev pub filled : (text : List ℕ) → List ℕ
-filled text = text ++ zeros_behind (length text)
+filled text = text ++ zeros_after (length text)
 
 -- the first `len` bytes of the array are a name, and the others are zeros
 pub record IsFilled (len : ℕ) (bytes : List ℕ) : Type 0 where
-  pub front : IsTrue (is_name (take len bytes))
-  pub behind : drop len bytes ≡ zeros_behind len
+  pub prefix : IsTrue (is_name (take len bytes))
+  pub following : drop len bytes ≡ zeros_after len
   pub within : len ≤ length bytes
 
 -- the length is that of the prefix
-pub front_length : (len : ℕ) (bytes : List ℕ) → IsFilled len bytes → length (take len bytes) ≡ len
-front_length len bytes is = length-take-le len bytes is.within
+pub prefix_length : (len : ℕ) (bytes : List ℕ) → IsFilled len bytes → length (take len bytes) ≡ len
+prefix_length len bytes is = length-take-le len bytes is.within
 
 -- filling an array with its own prefix changes nothing
 pub refilled : (len : ℕ) (bytes : List ℕ) → IsFilled len bytes → filled (take len bytes) ≡ bytes
 refilled len bytes is =
-    ap (λ n. take len bytes ++ zeros_behind n) (front_length len bytes is) ∙
-    ap (λ rest. take len bytes ++ rest) (sym is.behind) ∙ take-append-drop len bytes
+    ap (λ n. take len bytes ++ zeros_after n) (prefix_length len bytes is) ∙
+    ap (λ rest. take len bytes ++ rest) (sym is.following) ∙ take-append-drop len bytes

@@ -1,5 +1,5 @@
 -- What this crate's contracts, its proofs and the crates above cite, passed on from one place. Declares nothing.
-pub use Rattle.sc_base.specs.Filled.{IsFilled, filled, zeros_behind}
+pub use Rattle.sc_base.specs.Filled.{IsFilled, filled, zeros_after}
 pub use Rattle.sc_base.specs.FirstByName.{first_by_name, with_first}
 pub use Rattle.sc_base.specs.Identifier.{is_between, is_digit, is_name_byte, is_nondigit, name_of}
 unfoldable pub use Rattle.sc_base.specs.Identifier.{is_name}

@@ -21,7 +21,7 @@ pub struct Name {
 impl Model for Name {
     ghost use Rattle.std.specs.Prelude.{List, ℕ, take, length};
     ghost use Rattle.std.specs.Coded.{coded_list, coded_ℕ};
-    ghost use Rattle.sc_base.specs.Filled.{filled, IsFilled, refilled, front_length};
+    ghost use Rattle.sc_base.specs.Filled.{filled, IsFilled, refilled, prefix_length};
 
     ghost Value = { List ℕ };
 
@@ -34,7 +34,7 @@ impl Model for Name {
     ghost inverse = { λ text. record { len = length text; bytes = filled text } };
 
     ghost inverse_ok = { λ name is i. record {
-      len = front_length name.len name.bytes is i;
+      len = prefix_length name.len name.bytes is i;
       bytes = refilled name.len name.bytes is i;
     } };
 }

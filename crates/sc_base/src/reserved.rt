@@ -3,7 +3,7 @@ ghost use Rattle.std.specs.Prelude.{◌≡◌, ◌∷◌, bytes_eq};
 ghost use Rattle.std.specs.List.{list_any};
 
 // How reserved words go on after an `s`.
-const BEHIND_S: [&[u8]; 6] = [b"hort", b"igned", b"izeof", b"tatic", b"truct", b"witch"];
+const AFTER_S: [&[u8]; 6] = [b"hort", b"igned", b"izeof", b"tatic", b"truct", b"witch"];
 
 /// Whether the text is a keyword of C11 (6.4.1), `malloc` or `free`.
 #[tactic(auto, unfolding(crate::specs::Reserved::is_reserved))]
@@ -25,18 +25,18 @@ pub fn is_reserved(text: &[u8]) -> bool
         b'l' => rest == b"ong".as_slice(),
         b'm' => rest == b"alloc".as_slice(),
         b'r' => contains(&[b"egister", b"estrict", b"eturn"], rest),
-        b's' => contains(&BEHIND_S, rest),
+        b's' => contains(&AFTER_S, rest),
         b't' => rest == b"ypedef".as_slice(),
         b'u' => contains(&[b"nion", b"nsigned"], rest),
         b'v' => contains(&[b"oid", b"olatile"], rest),
         b'w' => rest == b"hile".as_slice(),
-        b'_' => is_reserved_behind_underscore(rest),
+        b'_' => is_reserved_after_underscore(rest),
         _ => false,
     }
 }
 
 #[tactic(auto, unfolding(crate::specs::Reserved::is_reserved))]
-fn is_reserved_behind_underscore(rest: &[u8]) -> bool
+fn is_reserved_after_underscore(rest: &[u8]) -> bool
     ensures { result ≡ is_reserved (95 ∷ rest.now) }
 {
     let [first, rest @ ..] = rest else {

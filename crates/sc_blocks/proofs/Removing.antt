@@ -65,7 +65,7 @@ data Turn (first end : ℕ) (s : Slot) (slots : List Slot) : Type 0 where
   is_before : s.number < first → without first end (s ∷ slots) ≡ s ∷ without first end slots → Turn first end s slots
   is_among : first ≤ s.number → s.number < end → without first end (s ∷ slots) ≡ without first end slots →
       Turn first end s slots
-  is_behind : first ≤ s.number → end ≤ s.number → without first end (s ∷ slots) ≡ s ∷ without first end slots →
+  is_after : first ≤ s.number → end ≤ s.number → without first end (s ∷ slots) ≡ s ∷ without first end slots →
       Turn first end s slots
 
 turn : (first end : ℕ) (s : Slot) (slots : List Slot) → Turn first end s slots
@@ -73,7 +73,7 @@ turn first end s slots = elim (cases_lt s.number first) [
   | inl h ↦ is_before h (rw (lt-ltb _ first h) refl)
   | inr h ↦ elim (cases_lt s.number end) [
     | inl k ↦ is_among h k (rw (le-ltb _ first h) (rw (lt-ltb _ end k) refl))
-    | inr k ↦ is_behind h k (rw (le-ltb _ first h) (rw (le-ltb _ end k) refl))
+    | inr k ↦ is_after h k (rw (le-ltb _ first h) (rw (le-ltb _ end k) refl))
   ]
 ]
 
@@ -92,7 +92,7 @@ removed (s ∷ slots) from made first end order up =
           let none = none_below slots _ made first up.1 (omega (arith, h)) in
           (λ i. remove_range (s ∷ slots) (not_below first s slots h i) (below end s slots k i))
           ∙ sym (ap (λ n. remove_range slots n b) none) ∙ later ∙ sym is
-      | is_behind h k is ↦
+      | is_after h k is ↦
           let none = none_below slots _ made first up.1 (omega (arith, h)) in
           let none_too = none_below slots _ made end up.1 (omega (arith, k)) in
           (λ i. remove_range (s ∷ slots) (not_below first s slots h i) (not_below end s slots k i))
@@ -107,7 +107,7 @@ rising_without (s ∷ slots) from made first end up =
     elim (turn first end s slots) [
       | is_before h is ↦ rw is (up.0, later)
       | is_among h k is ↦ rw is (rising_down _ _ made from later (omega (arith, up.0)))
-      | is_behind h k is ↦ rw is (up.0, later)
+      | is_after h k is ↦ rw is (up.0, later)
     ]
 
 -- no block that ends is found
@@ -121,7 +121,7 @@ ended_found (s ∷ slots) first end n lower within =
     elim (turn first end s slots) [
       | is_before h is ↦ rw is (other (λ same. omega (arith, same, h, lower)))
       | is_among h k is ↦ rw is later
-      | is_behind h k is ↦ rw is (other (λ same. omega (arith, same, k, within)))
+      | is_after h k is ↦ rw is (other (λ same. omega (arith, same, k, within)))
     ]
 
 outsider : (n k first end : ℕ) → n < first ⊎ end ≤ n → first ≤ k → k < end → k ≡ n → ⊥
@@ -138,7 +138,7 @@ rest_found (s ∷ slots) first end n outside =
     elim (turn first end s slots) [
       | is_before h is ↦ rw is kept
       | is_among h k is ↦ rw is (later ∙ sym (skipped s slots n (λ same. outsider n _ first end outside h k same)))
-      | is_behind h k is ↦ rw is kept
+      | is_after h k is ↦ rw is kept
     ]
 
 -- a row once blocks have ended, by those that still live

@@ -125,8 +125,8 @@ module _ (source : SourceParts) (inputs : List ℕ) (steps : ℕ) (trace : List 
       by : (rest : List Blame) → IsChain runs trace nobody (map blame_of links ++ rest) →
           length (map blame_of links ++ rest) ≤ count → IsChain runs trace (among comps) rest →
           IsRising at.least (length trace) rest → IsAt later (links ++ link ∷ []) (comps ++ link.comp ∷ [])
-      by [] whole few tells rising =
-          let here : length run.trace ≡ length trace = ap (λ r. length r.trace) at.same ∙ ap length tells in
+      by [] whole few is_trace rising =
+          let here : length run.trace ≡ length trace = ap (λ r. length r.trace) at.same ∙ ap length is_trace in
           absurd (omega (arith, here, next.after, next.proper))
       by (blame ∷ rest) whole few chain rising =
           let is : blame ≡ blame_of link = next_is (among comps) link blame next at.same chain.0 in
@@ -153,7 +153,7 @@ module _ (source : SourceParts) (inputs : List ℕ) (steps : ℕ) (trace : List 
       by : (rest : List Blame) → IsChain runs trace nobody (map blame_of links ++ rest) →
           length (map blame_of links ++ rest) ≤ count → IsChain runs trace (among comps) rest →
           IsRising at.least (length trace) rest → IsFound links
-      by [] whole few tells rising =
+      by [] whole few is_trace rising =
           record {
             chain = subst (λ blames. IsChain runs trace nobody blames) (append-nil (map blame_of links)) whole;
             few = omega (arith, few, length-append (map blame_of links) [], length-map links blame_of);

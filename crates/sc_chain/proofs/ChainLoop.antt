@@ -1,7 +1,7 @@
 -- The loop that follows the chain of a trace: how it begins, goes on and ends.
 use Rattle.sc_chain.proofs.Common.{Accepts, All, Event, HasWords, Interfaces, IsChain, IsNextOf, IsReplaced, IsSource}
 use Rattle.sc_chain.proofs.Common.{IsWellTyped, Link, List, None, Option, ProgramTree, Set, Some, SourceParts}
-use Rattle.sc_chain.proofs.Common.{SourceRun, TellsOrBlames, [], among, ap, inl, inr, legal, length, meaning, refl}
+use Rattle.sc_chain.proofs.Common.{SourceRun, EmitsOrIsBlamed, [], among, ap, inl, inr, legal, length, meaning, refl}
 use Rattle.sc_chain.proofs.Common.{scripted_meaning, subst, sym, true, ℕ, ⊎_elim, ◌++◌, ◌-◌, ◌<◌, ◌∙◌, ◌∷◌, ◌≡◌, ◌≤◌}
 use Rattle.sc_chain.proofs.Common.{◌⊎◌}
 use Rattle.sc_linker.proofs.Comps.{same_count}
@@ -15,7 +15,7 @@ sections_are source program same typed = same_count source.program (subst IsWell
 
 module _ (source : SourceParts) (inputs : List ℕ) (steps : ℕ) (trace : List Event)
     (as_many : length source.program.interfaces.comps ≡ length source.program.sections) where
-  pub at_first : ((set : Set) → TellsOrBlames (length source.program.sections) set trace
+  pub at_first : ((set : Set) → EmitsOrIsBlamed (length source.program.sections) set trace
       (scripted_meaning source.program set trace inputs steps (length trace))) →
       (program : ProgramTree) → program ≡ source.program → (run : SourceRun) →
       run ≡ meaning program inputs steps (length trace) → (links : List Link) → links ≡ [] → (comps : List ℕ) →
@@ -23,7 +23,7 @@ module _ (source : SourceParts) (inputs : List ℕ) (steps : ℕ) (trace : List 
   at_first scripted program same run is links no_links comps no_comps =
       subst (λ cs. IsAt source inputs steps trace run links cs) (sym no_comps)
       (subst (λ ls. IsAt source inputs steps trace run ls []) (sym no_links)
-      (begins source inputs steps trace as_many (λ set. ⊎_elim (λ told. inl told) (λ blamed. inr blamed.0)
+      (begins source inputs steps trace as_many (λ set. ⊎_elim (λ emitted. inl emitted) (λ blamed. inr blamed.0)
       (scripted set)) run (is ∙ ap (λ p. meaning p inputs steps (length trace)) same)))
 
   module _ (run : SourceRun) (links : List Link) (comps : List ℕ) (at : IsAt source inputs steps trace run links comps)

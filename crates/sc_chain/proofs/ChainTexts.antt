@@ -1,7 +1,7 @@
 -- The chain of a trace as a chain of texts: each set's text is accepted, and means what the set's scripts say.
-use Rattle.sc_chain.proofs.Common.{Accepts, All, All-append, All-push, AreFresh, Bool, Event, Front, HasProgram}
+use Rattle.sc_chain.proofs.Common.{Accepts, All, All-append, All-push, AreFresh, Bool, Event, IsPrefix, HasProgram}
 use Rattle.sc_chain.proofs.Common.{Includes, IsChain, IsChainFrom, IsRising, IsSource, Link, List, ProgramTree, Set}
-use Rattle.sc_chain.proofs.Common.{SourceParts, SourceRun, TellsTrace, [], among, ap, arith, blamed_are_there, c_arith}
+use Rattle.sc_chain.proofs.Common.{SourceParts, SourceRun, MeansTrace, [], among, ap, arith, blamed_are_there, c_arith}
 use Rattle.sc_chain.proofs.Common.{chain_is_least, chains_rise, concat, empty_set, eqb-true, false, length, map}
 use Rattle.sc_chain.proofs.Common.{meaning, new_texts, nobody, performing, recomposed, refl, scripted_meaning, subst}
 use Rattle.sc_chain.proofs.Common.{suc, sym, take, take-append-le, take_all, true, ℕ, ◌++◌, ◌<◌, ◌==◌, ◌||◌, ◌∙◌, ◌∷◌}
@@ -21,10 +21,10 @@ one_also P x xs this all =
     All-append P (x ∷ []) xs (All-push P [] x (λ k d inside. absurd (omega (arith, inside))) this) all
 
 -- a prefix, by its length
-front_taken : (run trace : List Event) (n : ℕ) → Front run trace → length run ≡ n → run ≡ take n trace
-front_taken run trace n front long =
+prefix_taken : (run trace : List Event) (n : ℕ) → IsPrefix run trace → length run ≡ n → run ≡ take n trace
+prefix_taken run trace n prefix long =
     sym (take_all n run (omega (arith, long))) ∙
-    (sym (take-append-le n run front.more (omega (arith, long))) ∙ ap (take n) (sym front.is))
+    (sym (take-append-le n run prefix.more (omega (arith, long))) ∙ ap (take n) (sym prefix.is))
 
 among_known : (comps : List ℕ) (n : ℕ) → All (λ comp. comp < n) comps → (comp : ℕ) → among comps comp ≡ true →
     comp < n
@@ -73,13 +73,13 @@ module _ (source : SourceParts) (inputs : List ℕ) (steps : ℕ) (trace : List 
       text.program (meant set known).0 text.accepted (meant set known).1)
       ∙ (meant set known).2 inputs steps (length trace)
 
-  tells : (set : Set) → IsKnown set → (run_of set).trace ≡ trace → TellsTrace source inputs steps trace set
-  tells set known told =
+  is_trace : (set : Set) → IsKnown set → (run_of set).trace ≡ trace → MeansTrace source inputs steps trace set
+  is_trace set known emitted =
       let text = has_program set known in
-      record { text = text; tells = ap (λ r. r.trace) (means set known text) ∙ told }
+      record { text = text; is_trace = ap (λ r. r.trace) (means set known text) ∙ emitted }
 
-  told_by : (set : Set) → IsKnown set → TellsTrace source inputs steps trace set → (run_of set).trace ≡ trace
-  told_by set known that = sym (ap (λ r. r.trace) (means set known that.text)) ∙ that.tells
+  emitted_by : (set : Set) → IsKnown set → MeansTrace source inputs steps trace set → (run_of set).trace ≡ trace
+  emitted_by set known that = sym (ap (λ r. r.trace) (means set known that.text)) ∙ that.is_trace
 
   -- the links of a chain of blames that rise and are fresh are a chain of texts
   texts_from : (comps : List ℕ) (least : ℕ) (links : List Link) →
@@ -88,7 +88,7 @@ module _ (source : SourceParts) (inputs : List ℕ) (steps : ℕ) (trace : List 
       IsRising least (length trace) (map blame_of links) → AreFresh (among comps) (map blame_of links) →
       All Perform links → IsChainFrom source inputs steps trace comps least links
   texts_from comps least [] known chain rising fresh texts =
-      tells (among comps) (among_known comps _ known) chain
+      is_trace (among comps) (among_known comps _ known) chain
   texts_from comps least (link ∷ links) known chain rising fresh texts =
       let here = among_known comps (length source.program.interfaces.comps) known in
       let text = has_program (among comps) here in
@@ -101,8 +101,8 @@ module _ (source : SourceParts) (inputs : List ℕ) (steps : ℕ) (trace : List 
           text = text;
           blamed = record {
             end = ap (λ r. r.end) same ∙ chain.0.blamed;
-            front = ap (λ r. r.trace) same ∙
-                front_taken (run_of (among comps)).trace trace link.after chain.0.front chain.0.after;
+            prefix = ap (λ r. r.trace) same ∙
+                prefix_taken (run_of (among comps)).trace trace link.after chain.0.prefix chain.0.after;
             proper = rising.1;
           };
           later = rising.0;
@@ -143,11 +143,11 @@ module _ (source : SourceParts) (inputs : List ℕ) (steps : ℕ) (trace : List 
 
     no_blame : (ls : List Link) → laws.IsChain run_of trace nobody (map blame_of ls) →
         IsRising 0 (length trace) (map blame_of ls) → own_meaning.trace ≡ trace → ls ≡ []
-    no_blame [] chain rising told = refl
-    no_blame (link ∷ ls) chain rising told =
+    no_blame [] chain rising emitted = refl
+    no_blame (link ∷ ls) chain rising emitted =
         let long : length own_meaning.trace ≡ link.after =
         sym (ap (λ r. length r.trace) own_is) ∙ chain.0.after in
-        absurd (omega (arith, long, ap length told, rising.1))
+        absurd (omega (arith, long, ap length emitted, rising.1))
 
     pub is_chain : IsChain source inputs steps trace links
     is_chain = record {
@@ -160,7 +160,7 @@ module _ (source : SourceParts) (inputs : List ℕ) (steps : ℕ) (trace : List 
       least = λ set known.
           let law = chain_is_least.programs c_arith source.program inputs steps trace (map blame_of links) set
           found.chain in (
-            λ that. includes set links (law.0 (told_by set known that)),
-            λ all. tells set known (law.1 (included set links all)),
+            λ that. includes set links (law.0 (emitted_by set known that)),
+            λ all. is_trace set known (law.1 (included set links all)),
           );
     }

@@ -3,7 +3,7 @@ pub mod Accepted
 mod ChainFollowing
 mod ChainLoop
 mod ChainMachine
-mod ChainShown
+mod ChainTrace
 mod ChainTexts
 pub mod Joined
 pub mod Recomposed

@@ -13,7 +13,7 @@ use Rattle.sc_chain.specs.declared.explanation.Explanation.{Explanation}
 pub record IsBlamedSo (program : ProgramTree) (inputs : List ℕ) (steps : ℕ) (trace : List Event) (link : Link) :
     Type 0 where
   pub end : (meaning program inputs steps (length trace)).end ≡ Blamed link.comp link.cause link.line
-  pub front : (meaning program inputs steps (length trace)).trace ≡ take link.after trace
+  pub prefix : (meaning program inputs steps (length trace)).trace ≡ take link.after trace
   pub proper : link.after < length trace
 
 module _ (source : SourceParts) (inputs : List ℕ) (steps : ℕ) (trace : List Event) where
@@ -23,9 +23,9 @@ module _ (source : SourceParts) (inputs : List ℕ) (steps : ℕ) (trace : List 
     pub accepted : Accepts (recomposed source trace set) program
 
   -- the meaning of the text in which a set performs is the trace
-  pub record TellsTrace (set : ℕ → Bool) : Type 0 where
+  pub record MeansTrace (set : ℕ → Bool) : Type 0 where
     pub text : HasProgram set
-    pub tells : (meaning text.program inputs steps (length trace)).trace ≡ trace
+    pub is_trace : (meaning text.program inputs steps (length trace)).trace ≡ trace
 
   -- the text in which these compartments perform is blamed by the link's account, on none of them, after at least
   -- `least` events; and the link's text is that of the blamed compartment's section
@@ -39,7 +39,7 @@ module _ (source : SourceParts) (inputs : List ℕ) (steps : ℕ) (trace : List 
 
   -- from the text in which these compartments perform on
   abbrev pub IsChainFrom : (comps : List ℕ) → (least : ℕ) → List Link → Type 0
-  IsChainFrom comps least [] = TellsTrace (among comps)
+  IsChainFrom comps least [] = MeansTrace (among comps)
   IsChainFrom comps least (link ∷ links) =
       IsNext comps least link × IsChainFrom (link.comp ∷ comps) (suc link.after) links
 
@@ -58,7 +58,7 @@ module _ (source : SourceParts) (inputs : List ℕ) (steps : ℕ) (trace : List 
     -- of all sets of compartments exactly those give the trace that have every compartment of the chain
     pub least : (set : ℕ → Bool) →
         ((comp : ℕ) → set comp ≡ true → comp < length source.program.interfaces.comps) →
-        TellsTrace set ↔ Includes set links
+        MeansTrace set ↔ Includes set links
 
 -- the trace and the stop are those of the machine on the program's image, and the links are a chain for them
 pub record IsExplained (source : SourceParts) (inputs : List ℕ) (steps events : ℕ) (explanation : Explanation) :

@@ -1,7 +1,7 @@
 -- What this crate's contracts, its proofs and the crates above cite, passed on from one place. Declares nothing.
 pub use Rattle.sc_event.specs.Prelude.{legal, part}
 pub use Rattle.sc_types.specs.Prelude.{Accepts, IsSource}
-pub use Rattle.sc_chain.specs.Chain.{HasProgram, Includes, IsChain, IsChainFrom, IsExplained, IsNext, TellsTrace}
+pub use Rattle.sc_chain.specs.Chain.{HasProgram, Includes, IsChain, IsChainFrom, IsExplained, IsNext, MeansTrace}
 pub use Rattle.sc_chain.specs.Faults.{IsFault}
 pub use Rattle.sc_chain.specs.Following.{IsNextLink, IsNextOf}
 pub use Rattle.sc_chain.specs.Recompose.{among, joined, performing, performing_text, recomposed, text_for}

@@ -4,7 +4,7 @@ ghost use Rattle.sc_chain.specs.Prelude.{IsChain, IsExplained, IsFault, IsNextOf
 ghost use Rattle.sc_word.specs.Prelude.{word_of};
 ghost use Rattle.sc_core.specs.Prelude.{scripted_meaning};
 ghost use Rattle.sc_image.specs.Prelude.{machine};
-ghost use Rattle.sc_compile.specs.Prelude.{TellsOrBlames};
+ghost use Rattle.sc_compile.specs.Prelude.{EmitsOrIsBlamed};
 ghost use Rattle.std.specs.Prelude.{◌≡◌, ◌≤◌, ℕ, Bool, true, length, map, IfOk, IfErr};
 
 use crate::explanation::{ExplainFault, Explanation, Link, Links};
@@ -23,7 +23,7 @@ use std::alloc::Global;
 
 // The trace of a run of the machine, and why it stopped.
 #[derive(Drop)]
-struct Shown {
+struct MachineRun {
     trace: Trace,
     stop: Stop,
 }
@@ -82,11 +82,11 @@ fn run_image(
     inputs: &[i32],
     steps: u32,
     events: u32,
-) -> Result<Shown, OutOfMemory>
-    ensures trace { IfOk result (λ shown. shown.trace ≡
+) -> Result<MachineRun, OutOfMemory>
+    ensures trace { IfOk result (λ observed. observed.trace ≡
         (machine image (map word_of inputs.now) steps events).state.trace) }
-    ensures stop { IfOk result (λ shown. shown.stop ≡ (machine image (map word_of inputs.now) steps events).stop) }
-    ensures few { IfOk result (λ shown. length shown.trace ≤ events) }
+    ensures stop { IfOk result (λ observed. observed.stop ≡ (machine image (map word_of inputs.now) steps events).stop) }
+    ensures few { IfOk result (λ observed. length observed.trace ≤ events) }
 {
     // An image is well formed.
     let _parts = image.parts();
@@ -95,7 +95,7 @@ fn run_image(
     )?;
     let stop = machine.run(steps);
     let trace = copied_trace(alloc, machine.trace())?;
-    Ok(Shown { trace, stop })
+    Ok(MachineRun { trace, stop })
 }
 
 // The link of a run that is blamed before the end of the trace.
@@ -135,7 +135,7 @@ fn chain(
 ) -> Result<Links, OutOfMemory>
     requires allowed { legal source.now.program.interfaces trace.now ≡ true }
     requires few { length trace.now ≤ 4096 }
-    requires scripted { (set : ℕ → Bool) → TellsOrBlames (length source.now.program.sections) set trace.now
+    requires scripted { (set : ℕ → Bool) → EmitsOrIsBlamed (length source.now.program.sections) set trace.now
         (scripted_meaning source.now.program set trace.now (map word_of inputs.now) steps (length trace.now)) }
     ensures { IfOk result (IsChain source.now (map word_of inputs.now) steps trace.now) }
 {
@@ -175,12 +175,12 @@ pub fn explain(
         Err(CompileFault::OutOfMemory) => return Err(ExplainFault::OutOfMemory),
         Err(fault) => return Err(ExplainFault::CompileFault(fault)),
     };
-    let Ok(shown) = run_image(alloc, image, inputs, steps, events) else {
+    let Ok(observed) = run_image(alloc, image, inputs, steps, events) else {
         return Err(ExplainFault::OutOfMemory);
     };
-    let Ok(links) = chain(alloc, source, inputs, steps, shown.trace.as_slice()) else {
+    let Ok(links) = chain(alloc, source, inputs, steps, observed.trace.as_slice()) else {
         return Err(ExplainFault::OutOfMemory);
     };
-    let Shown { trace, stop } = shown;
+    let MachineRun { trace, stop } = observed;
     Ok(Explanation { trace, stop, links })
 }

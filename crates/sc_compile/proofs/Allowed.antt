@@ -20,8 +20,8 @@ use Rattle.sc_image.proofs.Traces.{all_traces_legal}
 
 -- IMPORTS
 -- as an image says them: input, output, and then functions
-abbrev shown_imports : (input output : Bool) → List ImportPart → List Import
-shown_imports input output parts =
+abbrev image_imports : (input output : Bool) → List ImportPart → List Import
+image_imports input output parts =
     (if input then Input ∷ [] else []) ++ ((if output then Output ∷ [] else []) ++ map import_of parts)
 
 no_input : (parts : List ImportPart) → list_any is_input (map import_of parts) ≡ false
@@ -32,34 +32,34 @@ no_output : (parts : List ImportPart) → list_any is_output (map import_of part
 no_output [] = refl
 no_output (part ∷ parts) = no_output parts
 
-input_shown : (input output : Bool) (parts : List ImportPart) →
-    list_any is_input (shown_imports input output parts) ≡ input
-input_shown true output parts = refl
-input_shown false true parts = no_input parts
-input_shown false false parts = no_input parts
+same_input_import : (input output : Bool) (parts : List ImportPart) →
+    list_any is_input (image_imports input output parts) ≡ input
+same_input_import true output parts = refl
+same_input_import false true parts = no_input parts
+same_input_import false false parts = no_input parts
 
-output_shown : (input output : Bool) (parts : List ImportPart) →
-    list_any is_output (shown_imports input output parts) ≡ output
-output_shown true true parts = refl
-output_shown false true parts = refl
-output_shown true false parts = no_output parts
-output_shown false false parts = no_output parts
+same_output_import : (input output : Bool) (parts : List ImportPart) →
+    list_any is_output (image_imports input output parts) ≡ output
+same_output_import true true parts = refl
+same_output_import false true parts = refl
+same_output_import true false parts = no_output parts
+same_output_import false false parts = no_output parts
 
-functions_shown : (to index : ℕ) (each : List Import) →
+same_function_imports : (to index : ℕ) (each : List Import) →
     list_any (is_function to index) (map import_of (flat_map import_part each)) ≡ list_any (is_function to index) each
-functions_shown to index [] = refl
-functions_shown to index (Input ∷ each) = functions_shown to index each
-functions_shown to index (Output ∷ each) = functions_shown to index each
-functions_shown to index (Function comp place ∷ each) =
-    ap (λ b. (comp == to && place == index) || b) (functions_shown to index each)
+same_function_imports to index [] = refl
+same_function_imports to index (Input ∷ each) = same_function_imports to index each
+same_function_imports to index (Output ∷ each) = same_function_imports to index each
+same_function_imports to index (Function comp place ∷ each) =
+    ap (λ b. (comp == to && place == index) || b) (same_function_imports to index each)
 
-function_shown : (to index : ℕ) (input output : Bool) (each : List Import) →
-    list_any (is_function to index) (shown_imports input output (flat_map import_part each))
+same_function_import : (to index : ℕ) (input output : Bool) (each : List Import) →
+    list_any (is_function to index) (image_imports input output (flat_map import_part each))
     ≡ list_any (is_function to index) each
-function_shown to index true true each = functions_shown to index each
-function_shown to index true false each = functions_shown to index each
-function_shown to index false true each = functions_shown to index each
-function_shown to index false false each = functions_shown to index each
+same_function_import to index true true each = same_function_imports to index each
+same_function_import to index true false each = same_function_imports to index each
+same_function_import to index false true each = same_function_imports to index each
+same_function_import to index false false each = same_function_imports to index each
 
 -- EXPORTS
 fits_by : (result : Option Scalar) (value : Option ℕ) →
@@ -70,55 +70,55 @@ fits_by (Some type) None = refl
 fits_by (Some type) (Some word) = refl
 
 module _ (program : ProgramTree) (codes : List CodeTree) where
-  abbrev shown : Interfaces
-  shown = interfaces_of (linked_image program codes)
+  abbrev observed : Interfaces
+  observed = interfaces_of (linked_image program codes)
 
   abbrev wanted : Interfaces
   wanted = program.interfaces
 
-  abbrev face : (comp : ℕ) → Interface → Interface
-  face comp interface = interface_of (comp_part program codes comp interface)
+  abbrev part_interface : (comp : ℕ) → Interface → Interface
+  part_interface comp interface = interface_of (comp_part program codes comp interface)
 
-  face_by : (comp : ℕ) (found : Option Interface) →
-      option_map interface_of (option_map (comp_part program codes comp) found) ≡ option_map (face comp) found
-  face_by comp None = refl
-  face_by comp (Some interface) = refl
+  interface_by : (comp : ℕ) (found : Option Interface) →
+      option_map interface_of (option_map (comp_part program codes comp) found) ≡ option_map (part_interface comp) found
+  interface_by comp None = refl
+  interface_by comp (Some interface) = refl
 
-  same_comp : (comp : ℕ) → comp_at shown comp ≡ option_map (face comp) (comp_at wanted comp)
+  same_comp : (comp : ℕ) → comp_at observed comp ≡ option_map (part_interface comp) (comp_at wanted comp)
   same_comp comp =
       slice_get-map interface_of (linked_image program codes).comps comp
-      ∙ ap (option_map interface_of) (part_at program codes comp) ∙ face_by comp (comp_at wanted comp)
+      ∙ ap (option_map interface_of) (part_at program codes comp) ∙ interface_by comp (comp_at wanted comp)
 
   abbrev any_import : (Import → Bool) → Option Interface → Bool
   any_import is_it found = list_any is_it (option_map_or (λ (i : Interface). i.imports) found [])
 
-  same_input : (comp : ℕ) → imports shown comp is_input ≡ imports wanted comp is_input
+  same_input : (comp : ℕ) → imports observed comp is_input ≡ imports wanted comp is_input
   same_input comp = ap (any_import is_input) (same_comp comp) ∙ by (comp_at wanted comp) refl where
     by : (o : Option Interface) → comp_at wanted comp ≡ o →
-        any_import is_input (option_map (face comp) o) ≡ imports wanted comp is_input
+        any_import is_input (option_map (part_interface comp) o) ≡ imports wanted comp is_input
     by None at = sym (ap (any_import is_input) at)
     by (Some interface) at =
-        input_shown (imports wanted comp is_input) (imports wanted comp is_output) (flat_map import_part
+        same_input_import (imports wanted comp is_input) (imports wanted comp is_output) (flat_map import_part
         interface.imports)
 
-  same_output : (comp : ℕ) → imports shown comp is_output ≡ imports wanted comp is_output
+  same_output : (comp : ℕ) → imports observed comp is_output ≡ imports wanted comp is_output
   same_output comp = ap (any_import is_output) (same_comp comp) ∙ by (comp_at wanted comp) refl where
     by : (o : Option Interface) → comp_at wanted comp ≡ o →
-        any_import is_output (option_map (face comp) o) ≡ imports wanted comp is_output
+        any_import is_output (option_map (part_interface comp) o) ≡ imports wanted comp is_output
     by None at = sym (ap (any_import is_output) at)
     by (Some interface) at =
-        output_shown (imports wanted comp is_input) (imports wanted comp is_output) (flat_map import_part
+        same_output_import (imports wanted comp is_input) (imports wanted comp is_output) (flat_map import_part
         interface.imports)
 
   same_function : (comp to index : ℕ) →
-      imports shown comp (is_function to index) ≡ imports wanted comp (is_function to index)
+      imports observed comp (is_function to index) ≡ imports wanted comp (is_function to index)
   same_function comp to index =
       ap (any_import (is_function to index)) (same_comp comp) ∙ by (comp_at wanted comp) where
         by : (o : Option Interface) →
-            any_import (is_function to index) (option_map (face comp) o) ≡ any_import (is_function to index) o
+            any_import (is_function to index) (option_map (part_interface comp) o) ≡ any_import (is_function to index) o
         by None = refl
         by (Some interface) =
-            function_shown to index (imports wanted comp is_input) (imports wanted comp is_output) interface.imports
+            same_function_import to index (imports wanted comp is_input) (imports wanted comp is_output) interface.imports
 
   -- exports
 
@@ -132,7 +132,7 @@ module _ (program : ProgramTree) (codes : List CodeTree) where
   part_by comp index (Some proto) = refl
 
   export_by : (comp index : ℕ) (found : Option Interface) →
-      export_in index (option_map (face comp) found)
+      export_in index (option_map (part_interface comp) found)
       ≡ option_map (λ proto. proto_of (export_part comp index proto)) (export_in index found)
   export_by comp index None = refl
   export_by comp index (Some interface) =
@@ -140,22 +140,22 @@ module _ (program : ProgramTree) (codes : List CodeTree) where
       ∙ ap (option_map proto_of) (part_first comp interface.exports index)
       ∙ part_by comp index (slice_get interface.exports index)
 
-  same_export : (comp index : ℕ) → export_at shown comp index
+  same_export : (comp index : ℕ) → export_at observed comp index
       ≡ option_map (λ proto. proto_of (export_part comp index proto)) (export_at wanted comp index)
   same_export comp index = ap (export_in index) (same_comp comp) ∙ export_by comp index (comp_at wanted comp)
 
-  abbrev takes_so_many : ℕ → Option Proto → Bool
-  takes_so_many count found = option_map_or (λ (p : Proto). length p.params == count) found false
+  abbrev takes_count : ℕ → Option Proto → Bool
+  takes_count count found = option_map_or (λ (p : Proto). length p.params == count) found false
 
   takes_by : (comp index count : ℕ) (found : Option Proto) →
-      takes_so_many count (option_map (λ proto. proto_of (export_part comp index proto)) found)
-      ≡ takes_so_many count found
+      takes_count count (option_map (λ proto. proto_of (export_part comp index proto)) found)
+      ≡ takes_count count found
   takes_by comp index count None = refl
   takes_by comp index count (Some proto) = ap (λ (n : ℕ). n == count) (length-replicate (length proto.params) Int)
 
-  same_takes : (comp index count : ℕ) → takes shown comp index count ≡ takes wanted comp index count
+  same_takes : (comp index count : ℕ) → takes observed comp index count ≡ takes wanted comp index count
   same_takes comp index count =
-      ap (takes_so_many count) (same_export comp index) ∙ takes_by comp index count (export_at wanted comp index)
+      ap (takes_count count) (same_export comp index) ∙ takes_by comp index count (export_at wanted comp index)
 
   abbrev gives_back : Option ℕ → Option Proto → Bool
   gives_back value found = option_map_or (λ (p : Proto). fits_result p.result value) found false
@@ -166,14 +166,14 @@ module _ (program : ProgramTree) (codes : List CodeTree) where
   result_by comp index value (Some proto) = fits_by proto.result value
 
   same_return : (comp : ℕ) (entry : Entry) (value : Option ℕ) →
-      may_return shown comp entry value ≡ may_return wanted comp entry value
+      may_return observed comp entry value ≡ may_return wanted comp entry value
   same_return comp Main value = refl
   same_return comp (Export index) value =
       ap (gives_back value) (same_export comp index) ∙ result_by comp index value (export_at wanted comp index)
 
   -- events
 
-  same_event : (at : Standing) (event : Event) → may_perform shown at event ≡ may_perform wanted at event
+  same_event : (at : Standing) (event : Event) → may_perform observed at event ≡ may_perform wanted at event
   same_event at (Call from to index args) =
       ap₂ (λ x y. x && y) (same_function from to index) (same_takes to index (length args))
   same_event at (Ret from to value) = ap (λ x. awaits at.waiting to && x) (same_return from at.active.entry value)
@@ -182,7 +182,7 @@ module _ (program : ProgramTree) (codes : List CodeTree) where
   same_event at (End comp value) = refl
 
   same_from : (at : Option Standing) (trace : List Event) →
-      is_legal_from shown at trace ≡ is_legal_from wanted at trace
+      is_legal_from observed at trace ≡ is_legal_from wanted at trace
   same_from at [] = refl
   same_from None (event ∷ later) = refl
   same_from (Some at) (event ∷ later) =
@@ -190,7 +190,7 @@ module _ (program : ProgramTree) (codes : List CodeTree) where
       (same_from (stands_after at event) later)
 
   -- a linked image's interfaces allow the traces that its program's allow
-  pub same_legal : (trace : List Event) → legal shown trace ≡ legal wanted trace
+  pub same_legal : (trace : List Event) → legal observed trace ≡ legal wanted trace
   same_legal trace = same_from (at_start wanted.main) trace
 
 pub allowed : (program : ProgramTree) (codes : List CodeTree) → IsWellFormed (linked_image program codes) →

@@ -1,11 +1,11 @@
 -- What the passes give together.
-use Rattle.sc_compile.proofs.Common.{All, AreGivenWords, AreNamed, CodeTree, EmitsAll, ImageParts, IsCompiled}
+use Rattle.sc_compile.proofs.Common.{All, GlobalsAreWords, AreNamed, CodeTree, EmitsAll, ImageParts, IsCompiled}
 use Rattle.sc_compile.proofs.Common.{IsLinkable, IsWellTyped, IsWhole, List, None, ProgramTree, TacSection, all_codes}
 use Rattle.sc_compile.proofs.Common.{ap, built_image, flat_map, linked_image, lowered_program, section_codes, subst}
 use Rattle.sc_compile.proofs.Common.{sym, too_large, ◌∙◌, ◌≡◌}
 use Rattle.sc_compile.proofs.Counted.{each_emits}
 use Rattle.sc_compile.proofs.Linkable.{is_linkable}
-use Rattle.sc_compile.proofs.Shown.{compiled}
+use Rattle.sc_compile.proofs.Emitted.{compiled}
 
 module _ (program : ProgramTree) (typed : IsWellTyped program) (fits : too_large program ≡ None)
     (sections : List TacSection) (are : sections ≡ (lowered_program program).sections)
@@ -27,7 +27,7 @@ module _ (program : ProgramTree) (typed : IsWellTyped program) (fits : too_large
     image_is = linked ∙ ap (linked_image program) codes_are_all
 
     -- and what comes of it does what the program means
-    pub whole_compiled : AreNamed program.interfaces → AreGivenWords program.sections → All IsWhole codes →
+    pub whole_compiled : AreNamed program.interfaces → GlobalsAreWords program.sections → All IsWhole codes →
         IsCompiled program image
     whole_compiled named words whole =
         subst (IsCompiled program) (sym image_is)

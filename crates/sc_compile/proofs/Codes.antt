@@ -5,7 +5,7 @@ use Rattle.sc_compile.proofs.Common.{functions_in, functions_or_none, length, le
 use Rattle.sc_compile.proofs.Common.{lowered_function, lowered_program, lowered_section, lowered_sections, map}
 use Rattle.sc_compile.proofs.Common.{option_map, refl, slice_get, slice_get-map, suc, sym, take, total, zero, ℕ, ◌++◌}
 use Rattle.sc_compile.proofs.Common.{◌∙◌, ◌∷◌, ◌≡◌}
-use Rattle.sc_compile.proofs.Lists.{drop_front, take_front}
+use Rattle.sc_compile.proofs.Lists.{drop_prefix, take_prefix}
 
 abbrev section_codes : TacSection → List CodeTree
 section_codes section = map function_code section.functions
@@ -25,11 +25,11 @@ module _ (interfaces : Interfaces) where
   codes_along k zero (section ∷ sections) =
       let here : List CodeTree = section_codes (lowered_section interfaces k section) in
       let rest : List CodeTree = flat_map section_codes (lowered_sections interfaces (suc k) sections) in
-      ap (λ n. take n (here ++ rest)) (sym (count_is k section)) ∙ take_front here rest
+      ap (λ n. take n (here ++ rest)) (sym (count_is k section)) ∙ take_prefix here rest
   codes_along k (suc comp) (section ∷ sections) =
       let here : List CodeTree = section_codes (lowered_section interfaces k section) in
       let rest : List CodeTree = flat_map section_codes (lowered_sections interfaces (suc k) sections) in
-      ap (codes_in comp sections) (ap (λ n. drop n (here ++ rest)) (sym (count_is k section)) ∙ drop_front here rest)
+      ap (codes_in comp sections) (ap (λ n. drop n (here ++ rest)) (sym (count_is k section)) ∙ drop_prefix here rest)
       ∙ codes_along (suc k) comp sections
 
   counted : (k : ℕ) (sections : List TypedSection) →

@@ -18,7 +18,7 @@ use Rattle.sc_compile.specs.Prelude.{Fits}
 use Rattle.sc_kinds.proofs.Sections.{all_at}
 use Rattle.sc_core.specs.declared.section.TypedLocal.{TypedLocal}
 use Rattle.sc_core.specs.declared.section.TypedParam.{TypedParam}
-use Rattle.sc_compile.proofs.Fitting.{code_fits, frames_fit, front_none, rest_none, within}
+use Rattle.sc_compile.proofs.Fitting.{code_fits, frames_fit, prefix_none, rest_none, within}
 use Rattle.sc_compile.proofs.Results.{mapped}
 use Rattle.sc_lower.proofs.Beyond.{locals_few}
 
@@ -41,7 +41,7 @@ none_at : {X : Type 0} (find : X → List CompileFault) (xs : List X) (i : ℕ) 
     slice_get xs i ≡ Some x → find x ≡ []
 none_at find [] i x none is = absurd (cc)
 none_at find (y ∷ ys) zero x none is =
-    let same : y ≡ x = cc in subst (λ z. find z ≡ []) same (front_none (find y) (flat_map find ys) none)
+    let same : y ≡ x = cc in subst (λ z. find z ≡ []) same (prefix_none (find y) (flat_map find ys) none)
 none_at find (y ∷ ys) (suc i) x none is = none_at find ys i x (rest_none (find y) (flat_map find ys) none) is
 
 -- THE SAME SIZES

@@ -4,9 +4,9 @@ use Rattle.sc_compile.proofs.Common.{code_bytes, data_bytes, false, first, found
 use Rattle.sc_compile.proofs.Common.{large_data, large_frames, ltb-false, most_globals, nat_lt, refl, slice_get}
 use Rattle.sc_compile.proofs.Common.{stretch, subst, suc, too_large, true, zero, ℕ, ◌++◌, ◌+◌, ◌∷◌, ◌≡◌, ◌≤◌}
 
-pub front_none : (xs ys : List CompileFault) → xs ++ ys ≡ [] → xs ≡ []
-front_none [] ys none = refl
-front_none (x ∷ xs) ys none = absurd (cc)
+pub prefix_none : (xs ys : List CompileFault) → xs ++ ys ≡ [] → xs ≡ []
+prefix_none [] ys none = refl
+prefix_none (x ∷ xs) ys none = absurd (cc)
 
 pub rest_none : (xs ys : List CompileFault) → xs ++ ys ≡ [] → ys ≡ []
 rest_none [] ys none = none
@@ -24,7 +24,7 @@ found_none find k number (s ∷ sections) zero section e none is =
     let same : s ≡ section = cc in
     let own : k ≡ number = omega (arith, e) in
     subst (λ n. find n section ≡ []) own
-    (subst (λ s. find k s ≡ []) same (front_none (find k s) (found_in find (suc k) sections) none))
+    (subst (λ s. find k s ≡ []) same (prefix_none (find k s) (found_in find (suc k) sections) none))
 found_none find k number (s ∷ sections) (suc n) section e none is =
     found_none find (suc k) number sections n section (omega (arith, e))
     (rest_none (find k s) (found_in find (suc k) sections) none) is
@@ -54,7 +54,7 @@ module _ (program : ProgramTree) (fits : too_large program ≡ None) (comp : ℕ
     data_fits =
         within most_globals (data_bytes section) _
         (found_none large_data 0 comp program.sections comp section (omega arith)
-        (front_none data_found (frames_found ++ code_found) nothing) is)
+        (prefix_none data_found (frames_found ++ code_found) nothing) is)
 
     pub code_fits : code_bytes section ≤ stretch
     code_fits =
@@ -65,4 +65,4 @@ module _ (program : ProgramTree) (fits : too_large program ≡ None) (comp : ℕ
     pub frames_fit : large_frames comp section ≡ []
     frames_fit =
         found_none large_frames 0 comp program.sections comp section (omega arith)
-        (front_none frames_found code_found (rest_none data_found (frames_found ++ code_found) nothing)) is
+        (prefix_none frames_found code_found (rest_none data_found (frames_found ++ code_found) nothing)) is

@@ -12,4 +12,4 @@ pub mod Names
 pub mod NoTests
 pub mod Results
 pub mod Scripted
-pub mod Shown
+pub mod Emitted

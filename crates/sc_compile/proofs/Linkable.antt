@@ -125,7 +125,7 @@ module _ (program : ProgramTree) (typed : IsWellTyped program) (fits : too_large
           ap instructions made,
           short,
           ap length (exports_are program comp there),
-          exports_few program.interfaces comp there.interface there.section there.faces,
+          exports_few program.interfaces comp there.interface there.section there.interface_fitting,
           code_fits program fits comp there.section there.is,
         )
 

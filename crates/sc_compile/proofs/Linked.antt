@@ -1,5 +1,5 @@
 -- The code of a program stands in its image.
-use Rattle.sc_compile.proofs.Common.{Addresses, AreEmitted, AreGivenWords, AreNamed, Block, CodeTree, EntersBy}
+use Rattle.sc_compile.proofs.Common.{Addresses, AreEmitted, GlobalsAreWords, AreNamed, Block, CodeTree, EntersBy}
 use Rattle.sc_compile.proofs.Common.{EntriesStand, Entry, Export, Fits, FunctionsStand, GlobalStands, GlobalsStand}
 use Rattle.sc_compile.proofs.Common.{HasCode, ImageParts, ImportsStand, Instr, IsCodeAddress, IsLinkable, IsLinked}
 use Rattle.sc_compile.proofs.Common.{IsStart, IsWellTyped, List, Main, None, Option, ProgramTree, Some, StandFrom}
@@ -144,7 +144,7 @@ module _ (program : ProgramTree) (typed : IsWellTyped program) where
         let jump = entries.jump to index number (entered to number (Export index) is) in
         record { imm = jump.0; jump = fetches image to _ _ _ refl jump.1; leads = jump.2 }
 
-    module _ (given : AreGivenWords program.sections) where
+    module _ (given : GlobalsAreWords program.sections) where
       globals : GlobalsStand program codes
       globals = linked_images_hold.globals program codes typed given linkable
 
@@ -202,7 +202,7 @@ module _ (program : ProgramTree) (typed : IsWellTyped program) where
         }
 
 pub is_linked : (program : ProgramTree) → IsWellTyped program → AreNamed program.interfaces →
-    AreGivenWords program.sections → too_large program ≡ None → AreEmitted program →
+    GlobalsAreWords program.sections → too_large program ≡ None → AreEmitted program →
     IsLinked (lowered_program program) (built_image program) (24 * program_nodes program)
     (addresses_at program (all_codes (lowered_program program)))
 is_linked program typed named given fits emitted =

@@ -43,7 +43,7 @@ module _ {A : Type 0} where
       omega (arith, rest, one_less ys here.0 x here.1)
 
 module _ (interfaces : Interfaces) (c : ℕ) (interface : Interface) (section : TypedSection)
-    (faces : interface_fits interfaces c interface section ≡ true)
+    (interface_fitting : interface_fits interfaces c interface section ≡ true)
   where
     abbrev called : TypedFunction → List ℕ
     called f = f.name
@@ -53,7 +53,7 @@ module _ (interfaces : Interfaces) (c : ℕ) (interface : Interface) (section : 
     defined i name is =
         let export = mapped name_of interface.exports i name is in
         let named : Named section (name_of export.0) =
-        export_named interfaces c interface section faces i export.0 export.1.0 in
+        export_named interfaces c interface section interface_fitting i export.0 export.1.0 in
         let found = found_passes _ section.functions named.number named.found in
         let same : found.item.name ≡ export.0.name = same_text found.item.name export.0.name found.passes in (
           named.number,
@@ -67,7 +67,7 @@ module _ (interfaces : Interfaces) (c : ℕ) (interface : Interface) (section : 
         omega (
           arith,
           no_more (map name_of interface.exports) (map called section.functions)
-              (distinct_at (map name_of interface.exports) (names_apart interfaces c interface section faces)) defined,
+              (distinct_at (map name_of interface.exports) (names_apart interfaces c interface section interface_fitting)) defined,
           length-map interface.exports name_of,
           length-map section.functions called,
         )

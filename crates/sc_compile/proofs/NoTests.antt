@@ -6,9 +6,9 @@ use Rattle.sc_compile.proofs.Common.{all_codes, and_first, and_rest, ap, arith, 
 use Rattle.sc_compile.proofs.Common.{built_image, code_of, codes_at, comp_code, cond, count_by, entry_address}
 use Rattle.sc_compile.proofs.Common.{entry_jump, entry_jumps, exports_at, false, first_at, fold-TacStmt, function_code}
 use Rattle.sc_compile.proofs.Common.{functions_in, functions_or_none, ifs, ifs_step, is_branch, is_ebreak, length}
-use Rattle.sc_compile.proofs.Common.{linked, linked_codes, linked_from, list_all, low_behind, lower_part}
+use Rattle.sc_compile.proofs.Common.{linked, linked_codes, linked_from, list_all, low_of_target, lower_part}
 use Rattle.sc_compile.proofs.Common.{lowered_function, lowered_program, lowered_section, map, not, of_section}
-use Rattle.sc_compile.proofs.Common.{option_map, option_map_or, part_is, pos, refl, relocations_behind, section_at}
+use Rattle.sc_compile.proofs.Common.{option_map, option_map_or, part_is, pos, refl, relocations_after, section_at}
 use Rattle.sc_compile.proofs.Common.{slice_get, subst, suc, sym, target_at, test_word, total, true, upper_part}
 use Rattle.sc_compile.proofs.Common.{with_low, with_target, ℕ, ℤ, ◌*◌, ◌++◌, ◌+◌, ◌-ℤ◌, ◌∙◌, ◌∷◌, ◌≡◌, ◌≤◌}
 use Rattle.rv_code.specs.Prelude.{IsInstr, word_of}
@@ -134,11 +134,11 @@ module _ (test : Instr → Bool) (skipped : AreSkipped test) where
     from_counted pc at low (instr ∷ instrs) relocations =
         let target : Option Target = target_at A at relocations in
         let changed : Instr = with_target A pc target instr in
-        let rest : List Instr = linked_from A (pc + 4) (suc at) (low_behind A target) instrs
-        (relocations_behind A at relocations) in
+        let rest : List Instr = linked_from A (pc + 4) (suc at) (low_of_target A target) instrs
+        (relocations_after A at relocations) in
         one_more test test (with_low low changed) instr rest instrs
         (low_kept low changed ∙ target_kept pc target instr)
-        (from_counted (pc + 4) (suc at) (low_behind A target) instrs (relocations_behind A at relocations))
+        (from_counted (pc + 4) (suc at) (low_of_target A target) instrs (relocations_after A at relocations))
 
     codes_counted : (address : ℕ) (codes : List CodeTree) →
         count_by test (linked_codes A address codes) ≡ total (map {A = CodeTree} (λ code. count_by test code.instrs)

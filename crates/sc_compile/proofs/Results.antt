@@ -96,7 +96,7 @@ module _ (program : ProgramTree) (typed : IsWellTyped program) where
       let same : fits.section ≡ section = cc in
       let any : main_fits (Some section) ≡ true = subst (λ o. main_fits o ≡ true) is (main_so program typed) in
       let names = map (import_name program.interfaces) fits.interface.imports in
-      let distinct = own_names_differ names fits.section.functions (and_first _ _ fits.faces) in
+      let distinct = own_names_differ names fits.section.functions (and_first _ _ fits.interface_fitting) in
       let signature = named_so main_name (λ f. same_signature (signature_of f) main_signature) section.functions
       (subst (λ (s : TypedSection). are_distinct (map {A = TypedFunction} (λ f. f.name) s.functions) ≡ true) same
       distinct) any number found.item found.is found.passes in (

@@ -1,6 +1,6 @@
 -- The program in which a set performs its part of the machine's trace, by the run of its code.
-use Rattle.sc_compile.proofs.Common.{Bool, Event, Front, IsBlamed, IsStop, IsWellTyped, KeepsTo, List, ProgramTree, Run}
-use Rattle.sc_compile.proofs.Common.{Set, TellsOrBlames, ap, c_arith, false, inl, inr, keeps_meaning, length}
+use Rattle.sc_compile.proofs.Common.{Bool, Event, IsPrefix, IsBlamed, IsStop, IsWellTyped, KeepsTo, List, ProgramTree, Run}
+use Rattle.sc_compile.proofs.Common.{Set, EmitsOrIsBlamed, ap, c_arith, false, inl, inr, keeps_meaning, length}
 use Rattle.sc_compile.proofs.Common.{lowered_program, ltb-false, ltb-true, nat_lt, refl, scripted_by, scripted_code_run}
 use Rattle.sc_compile.proofs.Common.{scripted_run_of, shorter_first, subst, sym, true, unstopped, wrapped_code_agrees}
 use Rattle.sc_compile.proofs.Common.{wrapping, ℕ, ⊎_elim, ◌<◌, ◌∙◌, ◌≡◌}
@@ -9,9 +9,9 @@ use Rattle.sc_core.specs.declared.run.RunEnd.{RunEnd}
 use Rattle.sc_core.specs.declared.run.RunEnd.TheVariants.{Blamed, Ended, EventsOut, TurnsOut}
 use Rattle.sc_core.specs.declared.run.SourceRun.{SourceRun}
 use Rattle.sc_laws.proofs.ProgramLaws.{blamed_are_there, nobody_who_performs_is_blamed}
-use Rattle.sc_laws.proofs.Growing.{front_same}
+use Rattle.sc_laws.proofs.Growing.{prefix_same}
 use Rattle.sc_laws.proofs.Runs.{trace_is}
-use Rattle.sc_simulation.proofs.Along.{take_front}
+use Rattle.sc_simulation.proofs.Along.{take_prefix}
 use Rattle.sc_simulation.proofs.Kept.{keeps_along, keeps_until_blame}
 
 -- a blame with its compartment
@@ -34,34 +34,34 @@ stops_so TurnsOut h = absurd h
 stops_so EventsOut h = absurd h
 
 module _ (program : ProgramTree) (typed : IsWellTyped program) (set : Set) (inputs : List ℕ) (turns : ℕ)
-    (shown : List Event) where
+    (observed : List Event) where
   abbrev whole : Run
-  whole = scripted_run_of c_arith program inputs turns set shown
+  whole = scripted_run_of c_arith program inputs turns set observed
 
   abbrev cut : SourceRun
-  cut = scripted_by c_arith program set shown inputs turns (length shown)
+  cut = scripted_by c_arith program set observed inputs turns (length observed)
 
   -- what the code keeps to its program keeps to
-  program_keeps : KeepsTo shown (scripted_code_run wrapping (lowered_program program) inputs turns set
-      shown).behaviour →
-      KeepsTo shown whole.behaviour
+  program_keeps : KeepsTo observed (scripted_code_run wrapping (lowered_program program) inputs turns set
+      observed).behaviour →
+      KeepsTo observed whole.behaviour
   program_keeps keeps =
-      keeps_along shown whole (scripted_code_run c_arith (lowered_program program) inputs turns set shown)
-      (keeps_meaning.scripted c_arith program typed inputs turns set shown)
-      (keeps_until_blame shown (scripted_code_run c_arith (lowered_program program) inputs turns set shown)
-      (scripted_code_run wrapping (lowered_program program) inputs turns set shown)
-      (wrapped_code_agrees.scripted (lowered_program program) set shown inputs turns) keeps)
+      keeps_along observed whole (scripted_code_run c_arith (lowered_program program) inputs turns set observed)
+      (keeps_meaning.scripted c_arith program typed inputs turns set observed)
+      (keeps_until_blame observed (scripted_code_run c_arith (lowered_program program) inputs turns set observed)
+      (scripted_code_run wrapping (lowered_program program) inputs turns set observed)
+      (wrapped_code_agrees.scripted (lowered_program program) set observed inputs turns) keeps)
 
-  told_all : Front shown whole.behaviour.trace → cut.trace ≡ shown
-  told_all front =
-      trace_is (length shown) whole.behaviour ∙
-      take_front (length shown) shown whole.behaviour.trace front refl
+  observed_all : IsPrefix observed whole.behaviour.trace → cut.trace ≡ observed
+  observed_all prefix =
+      trace_is (length observed) whole.behaviour ∙
+      take_prefix (length observed) observed whole.behaviour.trace prefix refl
 
-  blamed_before : IsBlamed whole.behaviour.end → Front whole.behaviour.trace shown →
-      length whole.behaviour.trace < length shown → TellsOrBlames (length program.sections) set shown cut
-  blamed_before ends front less =
+  blamed_before : IsBlamed whole.behaviour.end → IsPrefix whole.behaviour.trace observed →
+      length whole.behaviour.trace < length observed → EmitsOrIsBlamed (length program.sections) set observed cut
+  blamed_before ends prefix less =
       let same : cut ≡ whole.behaviour =
-      unstopped (length shown) whole.behaviour (stops_so whole.behaviour.end ends) less in
+      unstopped (length observed) whole.behaviour (stops_so whole.behaviour.end ends) less in
       let blame = blame_of whole.behaviour.end ends in
       let is : cut.end ≡ Blamed blame.comp blame.cause blame.line = ap (λ (r : SourceRun). r.end) same ∙ blame.is in
       inr (
@@ -69,31 +69,31 @@ module _ (program : ProgramTree) (typed : IsWellTyped program) (set : Set) (inpu
           comp = blame.comp;
           cause = blame.cause;
           line = blame.line;
-          compartment = blamed_are_there.programs c_arith program set shown inputs turns (length shown) blame.comp
+          compartment = blamed_are_there.programs c_arith program set observed inputs turns (length observed) blame.comp
               blame.cause blame.line is;
-          outside = nobody_who_performs_is_blamed.programs c_arith program set shown inputs turns (length shown)
+          outside = nobody_who_performs_is_blamed.programs c_arith program set observed inputs turns (length observed)
               blame.comp blame.cause blame.line is;
           blamed = is;
-          front = subst (λ (r : SourceRun). Front r.trace shown) (sym same) front;
+          prefix = subst (λ (r : SourceRun). IsPrefix r.trace observed) (sym same) prefix;
         },
-        subst (λ (r : SourceRun). length r.trace < length shown) (sym same) less,
+        subst (λ (r : SourceRun). length r.trace < length observed) (sym same) less,
       )
 
-  pub tells_or_blames : KeepsTo shown whole.behaviour → TellsOrBlames (length program.sections) set shown cut
-  tells_or_blames keeps =
-      ⊎_elim (λ told. inl (told_all told))
-      (λ h. by h.0 h.1 (nat_lt (length whole.behaviour.trace) (length shown)) refl) keeps where
-        by : IsBlamed whole.behaviour.end → Front whole.behaviour.trace shown → (b : Bool) →
-            nat_lt (length whole.behaviour.trace) (length shown) ≡ b →
-            TellsOrBlames (length program.sections) set shown cut
-        by ends front true is =
-            blamed_before ends front (ltb-true (length whole.behaviour.trace) (length shown) is)
-        by ends front false is =
-            inl (told_all (shorter_first shown whole.behaviour.trace shown (front_same shown) front
-            (ltb-false (length whole.behaviour.trace) (length shown) is)))
+  pub emits_or_is_blamed : KeepsTo observed whole.behaviour → EmitsOrIsBlamed (length program.sections) set observed cut
+  emits_or_is_blamed keeps =
+      ⊎_elim (λ emitted. inl (observed_all emitted))
+      (λ h. by h.0 h.1 (nat_lt (length whole.behaviour.trace) (length observed)) refl) keeps where
+        by : IsBlamed whole.behaviour.end → IsPrefix whole.behaviour.trace observed → (b : Bool) →
+            nat_lt (length whole.behaviour.trace) (length observed) ≡ b →
+            EmitsOrIsBlamed (length program.sections) set observed cut
+        by ends prefix true is =
+            blamed_before ends prefix (ltb-true (length whole.behaviour.trace) (length observed) is)
+        by ends prefix false is =
+            inl (observed_all (shorter_first observed whole.behaviour.trace observed (prefix_same observed) prefix
+            (ltb-false (length whole.behaviour.trace) (length observed) is)))
 
   -- where the run of the code keeps to the trace
-  pub scripted_tells :
-      KeepsTo shown (scripted_code_run wrapping (lowered_program program) inputs turns set shown).behaviour →
-      TellsOrBlames (length program.sections) set shown cut
-  scripted_tells keeps = tells_or_blames (program_keeps keeps)
+  pub scripted_emits :
+      KeepsTo observed (scripted_code_run wrapping (lowered_program program) inputs turns set observed).behaviour →
+      EmitsOrIsBlamed (length program.sections) set observed cut
+  scripted_emits keeps = emits_or_is_blamed (program_keeps keeps)

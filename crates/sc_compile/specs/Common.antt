@@ -1,5 +1,5 @@
 -- The names from below that several definitions of this crate cite, passed on from one place. Declares nothing.
-pub use Rattle.sc_core.specs.Prelude.{Arith, Front, c_arith, cells_of, code_bound, depth_by, frame_bound, meaning}
+pub use Rattle.sc_core.specs.Prelude.{Arith, IsPrefix, c_arith, cells_of, code_bound, depth_by, frame_bound, meaning}
 pub use Rattle.sc_core.specs.Prelude.{meaning_by, nodes, scripted_meaning, total, variables, wrapping}
 pub use Rattle.sc_core.specs.declared.program.ProgramTree.{ProgramTree}
 pub use Rattle.sc_core.specs.declared.section.TypedGlobal.{TypedGlobal}

@@ -1,5 +1,5 @@
 -- What an image does, and what its program means.
-use Rattle.sc_compile.specs.Common.{Arith, Front, ImageParts, IsBlamed, IsWord, ProgramTree, Run, TypedSection}
+use Rattle.sc_compile.specs.Common.{Arith, IsPrefix, ImageParts, IsBlamed, IsWord, ProgramTree, Run, TypedSection}
 use Rattle.sc_compile.specs.Common.{branches, c_arith, code_of, depth_by, is_branch, is_ebreak, machine, meaning}
 use Rattle.sc_compile.specs.Common.{meaning_by, nodes, scripted_meaning, stack_size, total, wrapping}
 use Rattle.sc_event.specs.Prelude.{legal}
@@ -23,28 +23,28 @@ program_nodes program = total (map {A = TypedSection} (λ section. total (map no
 pub record StackIsFull (run : Run) (depth : ℕ → ℕ) (meant : SourceRun) : Type 0 where
   pub stop : run.stop ≡ Trap Owner run.state.pc
   pub deep : stack_size < depth run.state.active
-  pub trace : Front run.state.trace meant.trace
+  pub trace : IsPrefix run.state.trace meant.trace
 
 -- Within 24 steps a node for each turn, and for the start, the machine emits all that the program emits in this
 -- arithmetic, wherever that run is stopped and however it ends. The one exception is a full stack.
-abbrev pub ShowsAll : Arith → ProgramTree → ImageParts → Type 0
-ShowsAll arith program image = (inputs : List ℕ) (turns events : ℕ) → All IsWord inputs →
+abbrev pub ForwardSimulation : Arith → ProgramTree → ImageParts → Type 0
+ForwardSimulation arith program image = (inputs : List ℕ) (turns events : ℕ) → All IsWord inputs →
     let run = machine image inputs (24 * program_nodes program * suc turns) events in
     let meant = meaning_by arith program inputs turns events in
-    Front meant.trace run.state.trace ⊎ StackIsFull run (depth_by arith program inputs turns events) meant
+    IsPrefix meant.trace run.state.trace ⊎ StackIsFull run (depth_by arith program inputs turns events) meant
 
 -- In any number of steps the machine emits nothing that the program doesn't emit in as many turns, unless the program
 -- is blamed and the machine has emitted all of its trace.
-abbrev pub ShowsNothingElse : ProgramTree → ImageParts → Type 0
-ShowsNothingElse program image = (inputs : List ℕ) (steps events : ℕ) → All IsWord inputs →
-    let shown = (machine image inputs steps events).state.trace in
+abbrev pub BackwardSimulation : ProgramTree → ImageParts → Type 0
+BackwardSimulation program image = (inputs : List ℕ) (steps events : ℕ) → All IsWord inputs →
+    let observed = (machine image inputs steps events).state.trace in
     let meant = meaning program inputs steps events in
-    Front shown meant.trace ⊎ (IsBlamed meant.end × Front meant.trace shown)
+    IsPrefix observed meant.trace ⊎ (IsBlamed meant.end × IsPrefix meant.trace observed)
 
 -- A run in which a set performs its part of a trace has this trace, or is blamed before its end, on one of `count`
 -- compartments, outside of the set.
-abbrev pub TellsOrBlames : (count : ℕ) → Set → List Event → SourceRun → Type 0
-TellsOrBlames count set trace run =
+abbrev pub EmitsOrIsBlamed : (count : ℕ) → Set → List Event → SourceRun → Type 0
+EmitsOrIsBlamed count set trace run =
     (run.trace ≡ trace) ⊎ (IsBlamedOutside count set run trace × (length run.trace < length trace))
 
 abbrev pub test_word : (Instr → Bool) → ℕ → Bool
@@ -61,18 +61,18 @@ pub record HasNoTests (section : TypedSection) (code : List ℕ) : Type 0 where
   pub branches : count_by (test_word is_branch) code ≤ total (map branches section.functions)
 
 pub record IsCompiled (program : ProgramTree) (image : ImageParts) : Type 0 where
-  pub forward : ShowsAll c_arith program image
+  pub forward : ForwardSimulation c_arith program image
   -- after undefined arithmetic the code goes on with what the machine's operations give
-  pub wrapped : ShowsAll wrapping program image
-  pub backward : ShowsNothingElse program image
+  pub wrapped : ForwardSimulation wrapping program image
+  pub backward : BackwardSimulation program image
   pub no_tests : (comp : ℕ) (section : TypedSection) → slice_get program.sections comp ≡ Some section →
       HasNoTests section (code_of image comp)
   -- where a set of compartments performs its part of the machine's trace, the run with as many turns as there were
   -- steps has the same trace, or a compartment outside of the set is blamed before
   pub scripted : (inputs : List ℕ) (steps events : ℕ) (set : Set) → All IsWord inputs →
-      let shown = (machine image inputs steps events).state.trace in
-      TellsOrBlames (length program.sections) set shown
-      (scripted_meaning program set shown inputs steps (length shown))
+      let observed = (machine image inputs steps events).state.trace in
+      EmitsOrIsBlamed (length program.sections) set observed
+      (scripted_meaning program set observed inputs steps (length observed))
   -- the program's interfaces allow the machine's trace
   pub allowed : (inputs : List ℕ) (steps events : ℕ) → All IsWord inputs →
       legal program.interfaces (machine image inputs steps events).state.trace ≡ true

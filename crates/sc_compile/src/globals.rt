@@ -1,7 +1,7 @@
 //! What follows from the types of a program's globals: the numbers that they begin with are words.
 
 ghost use Rattle.sc_compile.specs.Prelude.{BeginsAsWords};
-ghost use Rattle.sc_linker.specs.Prelude.{AreGivenWords};
+ghost use Rattle.sc_linker.specs.Prelude.{GlobalsAreWords};
 ghost use Rattle.std.specs.Prelude.{◌<◌, ◌^◌, All};
 
 use sc_core::{TypedGlobal, TypedSection};
@@ -19,8 +19,8 @@ fn begin_as_words(globals: &[TypedGlobal])
 }
 
 /// States for proofs that globals are declared with words; it does nothing.
-pub fn are_given_words(sections: &[TypedSection])
-    ensures { AreGivenWords sections.now }
+pub fn globals_are_words(sections: &[TypedSection])
+    ensures { GlobalsAreWords sections.now }
 {
     for section in sections {
         begin_as_words(section.globals.as_slice());

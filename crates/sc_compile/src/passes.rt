@@ -8,7 +8,7 @@ ghost use Rattle.std.specs.Prelude.{◌≡◌, ◌++◌, Ok, None, Some, All, If
 ghost use Rattle.sc_tac.specs.declared.program.TacSection.{TacSection};
 
 use crate::fault::CompileFault;
-use crate::globals::are_given_words;
+use crate::globals::globals_are_words;
 use crate::sizes::check_sizes;
 use sc_alloc::assign;
 use sc_base::OutOfMemory;
@@ -71,7 +71,7 @@ fn build(alloc: Global, program: &Program, tac: &Tac) -> Result<Image, OutOfMemo
     ensures image { IfOk result (λ image. image ≡ built_image program.now) }
     ensures compiled { IfOk result (IsCompiled program.now) }
 {
-    are_given_words(program.tree().sections.as_slice());
+    globals_are_words(program.tree().sections.as_slice());
     let codes = all_codes(alloc, tac.tree().sections.as_slice())?;
     let image = link(alloc, codes.as_slice(), program)?;
     Ok(image)

@@ -1,9 +1,9 @@
 -- Programs by plans, whose functions compute: the meaning of a program is the run of its plan's denotations.
-use Rattle.sc_core.proofs.Common.{Acts, Arith, Bool, Calls, Event, Function, Here, Interfaces, Library, List, Local}
+use Rattle.sc_core.proofs.Common.{Acts, Arith, Bool, Calls, Event, Function, Here, Interfaces, Denotations, List, Local}
 use Rattle.sc_core.proofs.Common.{Next, None, Ok, Option, Run, Some, Ty, TypedExpr, TypedGlobal, TypedStruct, []}
 use Rattle.sc_core.proofs.Common.{all_do, and_then, ap, assign, at_place, bytes_eq, closed, codes, entry_in, follow}
 use Rattle.sc_core.proofs.Common.{frame_bound, function_of, functions_in, globals_of, in_order, init_nodes, inits_do}
-use Rattle.sc_core.proofs.Common.{is_some, leave, length, library_of, local_nodes, main_name, map, nodes, refl}
+use Rattle.sc_core.proofs.Common.{is_some, leave, length, denotations_of, local_nodes, main_name, map, nodes, refl}
 use Rattle.sc_core.proofs.Common.{roles_in, run_by, run_of, run_step, scripted_run_of, scripted_step, suc, total}
 use Rattle.sc_core.proofs.Common.{variable_at, variables, ℕ, ◌&&◌, ◌+◌, ◌==◌, ◌∷◌, ◌≡◌}
 use Rattle.sc_core.specs.declared.section.TypedSection.{TypedSection}
@@ -111,7 +111,7 @@ module _ (arith : Arith) (main : ℕ) where
   abbrev made : List TypedStruct → Plan → ℕ → (Here → List Acts) → (Here → Calls → List Acts) → Function
   made structs plan nodes inits lines = record {
     cells = variables structs (function plan);
-    room = frame_bound (variables structs (function plan)) nodes;
+    frame_size = frame_bound (variables structs (function plan)) nodes;
     does = λ by here s. and_then (follow in_order (all_do (inits here) tt s) (all_do (lines here by))) (λ left s. closed
         left.exit (is_some plan.result) (here.comp == main && bytes_eq plan.name main_name) plan.close_line here s);
   }
@@ -141,15 +141,15 @@ module _ (arith : Arith) (main : ℕ) where
   sections_are (sheet ∷ sheets) = λ i. functions_are sheet.structs sheet.plans i ∷ sections_are sheets i
 
 module _ (arith : Arith) (interfaces : Interfaces) (sheets : List Sheet) where
-  abbrev pub quick_library : Library
-  quick_library = record {
+  abbrev pub quick_denotations : Denotations
+  quick_denotations = record {
     interfaces = interfaces;
     functions = map (quick_section arith interfaces.main) sheets;
     entered = entry_in (program interfaces sheets);
   }
 
-  pub library_is : library_of arith (program interfaces sheets) ≡ quick_library
-  library_is = λ i. record {
+  pub denotations_are : denotations_of arith (program interfaces sheets) ≡ quick_denotations
+  denotations_are = λ i. record {
     interfaces = interfaces;
     functions = sections_are arith interfaces.main sheets i;
     entered = entry_in (program interfaces sheets);
@@ -157,18 +157,18 @@ module _ (arith : Arith) (interfaces : Interfaces) (sheets : List Sheet) where
 
   module _ (inputs : List ℕ) (turns : ℕ) where
     abbrev pub quick_run : Run
-    quick_run = run_by quick_library (run_step quick_library) (globals_of (map section sheets)) inputs turns
+    quick_run = run_by quick_denotations (run_step quick_denotations) (globals_of (map section sheets)) inputs turns
 
     pub run_is : run_of arith (program interfaces sheets) inputs turns ≡ quick_run
-    run_is = ap (λ library. run_by library (run_step library) (globals_of (map section sheets)) inputs turns) library_is
+    run_is = ap (λ denotations. run_by denotations (run_step denotations) (globals_of (map section sheets)) inputs turns) denotations_are
 
     abbrev pub quick_scripted : (ℕ → Bool) → List Event → Run
     quick_scripted set trace =
-        run_by quick_library (scripted_step quick_library (roles_in interfaces.main set trace) (run_step quick_library))
+        run_by quick_denotations (scripted_step quick_denotations (roles_in interfaces.main set trace) (run_step quick_denotations))
         (globals_of (map section sheets)) inputs turns
 
     pub scripted_run_is : (set : ℕ → Bool) (trace : List Event) →
         scripted_run_of arith (program interfaces sheets) inputs turns set trace ≡ quick_scripted set trace
     scripted_run_is set trace =
-        ap (λ library. run_by library (scripted_step library (roles_in interfaces.main set trace) (run_step library))
-        (globals_of (map section sheets)) inputs turns) library_is
+        ap (λ denotations. run_by denotations (scripted_step denotations (roles_in interfaces.main set trace) (run_step denotations))
+        (globals_of (map section sheets)) inputs turns) denotations_are

@@ -73,8 +73,8 @@ abbrev pub sheet : List TypedGlobal → List Plan → Sheet
 sheet globals plans = record { structs = []; globals = globals; plans = plans }
 
 -- one compartment that may output
-abbrev pub alone : Interfaces
-alone = record { comps = interface (codes "Main") [] (import.Output ∷ []) ∷ []; main = 0 }
+abbrev pub one_compartment : Interfaces
+one_compartment = record { comps = interface (codes "Main") [] (import.Output ∷ []) ∷ []; main = 0 }
 
 abbrev pub output_then : ℕ → Shape → Lines → Lines
 output_then line e rest = CallLine line Output (e ∷ []) rest

@@ -7,7 +7,7 @@ use Rattle.sc_core.specs.declared.run.RunEnd.TheVariants.{Blamed, Ended, EventsO
 use Rattle.sc_core.specs.declared.cause.Cause.TheVariants.{Dangling, Indeterminate, NoReturn, OutOfBounds, Overflow}
 use Rattle.sc_base.specs.declared.op.BinaryOp.TheVariants as op
 use Rattle.sc_core.proofs.Plans.{Sheet, program, quick_run, quick_scripted, run_is, scripted_run_is}
-use Rattle.sc_core.proofs.Programs.{alone, seven, min_by_minus_one, uninitialised, missing_return, leak}
+use Rattle.sc_core.proofs.Programs.{one_compartment, seven, min_by_minus_one, uninitialised, missing_return, leak}
 use Rattle.sc_core.proofs.Programs.{store_interfaces, store_sheets, deep_interfaces, deep, two_stores_interfaces}
 use Rattle.sc_core.proofs.Programs.{two_stores, reentry_interfaces, reentry}
 
@@ -30,39 +30,39 @@ pub scripted_by_plan : (interfaces : Interfaces) (sheets : List Sheet) (set : �
 scripted_by_plan interfaces sheets set trace inputs turns events =
     ap (λ run. stopped_at events run.behaviour) (scripted_run_is c_arith interfaces sheets inputs turns set trace)
 
-pub seven_means : meaning (program alone seven) [] 0 10 ≡ record { trace = Out 0 7 ∷ End 0 0 ∷ []; end = Ended }
-seven_means = by_plan alone seven [] 0 10
+pub seven_means : meaning (program one_compartment seven) [] 0 10 ≡ record { trace = Out 0 7 ∷ End 0 0 ∷ []; end = Ended }
+seven_means = by_plan one_compartment seven [] 0 10
 
-pub seven_within_2 : meaning (program alone seven) [] 0 2 ≡ record { trace = Out 0 7 ∷ End 0 0 ∷ []; end = Ended }
-seven_within_2 = by_plan alone seven [] 0 2
+pub seven_within_2 : meaning (program one_compartment seven) [] 0 2 ≡ record { trace = Out 0 7 ∷ End 0 0 ∷ []; end = Ended }
+seven_within_2 = by_plan one_compartment seven [] 0 2
 
-pub seven_within_1 : meaning (program alone seven) [] 0 1 ≡ record { trace = Out 0 7 ∷ []; end = EventsOut }
-seven_within_1 = by_plan alone seven [] 0 1
+pub seven_within_1 : meaning (program one_compartment seven) [] 0 1 ≡ record { trace = Out 0 7 ∷ []; end = EventsOut }
+seven_within_1 = by_plan one_compartment seven [] 0 1
 
-pub seven_within_0 : meaning (program alone seven) [] 0 0 ≡ record { trace = []; end = EventsOut }
-seven_within_0 = by_plan alone seven [] 0 0
+pub seven_within_0 : meaning (program one_compartment seven) [] 0 0 ≡ record { trace = []; end = EventsOut }
+seven_within_0 = by_plan one_compartment seven [] 0 0
 
-pub minimum_is_blamed : meaning (program alone min_by_minus_one) [] 0 10 ≡
+pub minimum_is_blamed : meaning (program one_compartment min_by_minus_one) [] 0 10 ≡
     record { trace = []; end = Blamed 0 Overflow 9 }
-minimum_is_blamed = by_plan alone min_by_minus_one [] 0 10
+minimum_is_blamed = by_plan one_compartment min_by_minus_one [] 0 10
 
-pub minimum_wraps : wrapped (program alone min_by_minus_one) [] 0 10 ≡
+pub minimum_wraps : wrapped (program one_compartment min_by_minus_one) [] 0 10 ≡
     record { trace = Out 0 2147483648 ∷ End 0 0 ∷ []; end = Ended }
-minimum_wraps = wrapped_by_plan alone min_by_minus_one [] 0 10
+minimum_wraps = wrapped_by_plan one_compartment min_by_minus_one [] 0 10
 
-pub uninitialised_is_blamed : meaning (program alone uninitialised) [] 0 10 ≡
+pub uninitialised_is_blamed : meaning (program one_compartment uninitialised) [] 0 10 ≡
     record { trace = Out 0 1 ∷ []; end = Blamed 0 Indeterminate 7 }
-uninitialised_is_blamed = by_plan alone uninitialised [] 0 10
+uninitialised_is_blamed = by_plan one_compartment uninitialised [] 0 10
 
-pub missing_return_is_blamed : meaning (program alone missing_return) [] 5 10 ≡
+pub missing_return_is_blamed : meaning (program one_compartment missing_return) [] 5 10 ≡
     record { trace = []; end = Blamed 0 NoReturn 3 }
-missing_return_is_blamed = by_plan alone missing_return [] 5 10
+missing_return_is_blamed = by_plan one_compartment missing_return [] 5 10
 
-pub missing_return_wants_a_turn : meaning (program alone missing_return) [] 0 10 ≡ record { trace = []; end = TurnsOut }
-missing_return_wants_a_turn = by_plan alone missing_return [] 0 10
+pub missing_return_wants_a_turn : meaning (program one_compartment missing_return) [] 0 10 ≡ record { trace = []; end = TurnsOut }
+missing_return_wants_a_turn = by_plan one_compartment missing_return [] 0 10
 
-pub leak_is_blamed : meaning (program alone leak) [] 5 10 ≡ record { trace = []; end = Blamed 0 Dangling 11 }
-leak_is_blamed = by_plan alone leak [] 5 10
+pub leak_is_blamed : meaning (program one_compartment leak) [] 5 10 ≡ record { trace = []; end = Blamed 0 Dangling 11 }
+leak_is_blamed = by_plan one_compartment leak [] 5 10
 
 -- the machine's trace of the store past the end
 abbrev pub store_trace : List Event

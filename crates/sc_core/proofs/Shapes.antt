@@ -3,7 +3,7 @@
 use Rattle.sc_core.proofs.Common.{Acts, Arith, BinaryOp, Break, CallTarget, Calls, Continue, Here, List, Meant, Next}
 use Rattle.sc_core.proofs.Common.{None, Option, Return, Some, Ty, TypedExpr, TypedExpr-F, TypedKind-F, TypedStmt}
 use Rattle.sc_core.proofs.Common.{TypedStruct, UnaryOp, Ways, [], all_do, and_then, ap, assign, assign_call, call}
-use Rattle.sc_core.proofs.Common.{call_alone, choose, evaluated, fold-TypedExpr, follow, in_order, leave, loop, map}
+use Rattle.sc_core.proofs.Common.{call_statement, choose, evaluated, fold-TypedExpr, follow, in_order, leave, loop, map}
 use Rattle.sc_core.proofs.Common.{meant, meant_step, refl, stmt_does, term_step, test, ways, ℕ, ◌∙◌, ◌∷◌, ◌≡◌}
 use Rattle.sc_core.specs.declared.expr.TypedKind.TheOpen as term
 use Rattle.sc_core.specs.declared.expr.VarRef.{VarRef}
@@ -133,7 +133,7 @@ module _ (arith : Arith) (structs : List TypedStruct) (here : Here) (params : �
     lines_do (AssignLine line place e rest) = assign here (way place) (way e) line ∷ lines_do rest
     lines_do (AssignCallLine line place target args rest) =
         assign_call here calls (way place) target (map way args) line ∷ lines_do rest
-    lines_do (CallLine line target args rest) = call_alone here calls target (map way args) line ∷ lines_do rest
+    lines_do (CallLine line target args rest) = call_statement here calls target (map way args) line ∷ lines_do rest
     lines_do (IfLine line cond x y rest) = (λ a s. and_then (evaluated here want.Value (way cond) line s)
         (λ v s. choose v (all_do (lines_do x) a s) (all_do (lines_do y) a s))) ∷ lines_do rest
     lines_do (WhileLine line cond x rest) = loop (test here (way cond) line) (all_do (lines_do x)) (leave Next) ∷
@@ -158,7 +158,7 @@ module _ (arith : Arith) (structs : List TypedStruct) (here : Here) (params : �
     lines_are (AssignCallLine line place target args rest) =
         next_line _ _ _ _ (λ j. assign_call here calls (way_is place j) target (ways_are args j) line) (lines_are rest)
     lines_are (CallLine line target args rest) =
-        next_line _ _ _ _ (λ j. call_alone here calls target (ways_are args j) line) (lines_are rest)
+        next_line _ _ _ _ (λ j. call_statement here calls target (ways_are args j) line) (lines_are rest)
     lines_are (IfLine line cond x y rest) =
         next_line _ _ _ _ (λ j a s. and_then (evaluated here want.Value (way_is cond j) line s)
         (λ v s. choose v (all_do (lines_are x j) a s) (all_do (lines_are y j) a s))) (lines_are rest)

@@ -13,17 +13,17 @@ use Rattle.sc_core.specs.declared.value.Cell.TheVariants.{Undef}
 use Rattle.sc_core.specs.declared.value.Value.{Value}
 use Rattle.sc_core.specs.declared.value.Value.TheVariants.{Word, Null, Ptr}
 use Rattle.sc_core.specs.Memory.{Blocks, with_blocks, cell_of, ended}
-use Rattle.sc_core.specs.Words.{Opened, Closed, State, Here, Piece, Reached, Stopped, and_then, turn, tell, Calls}
+use Rattle.sc_core.specs.Combinators.{Opened, Closed, State, Here, Piece, Reached, Stopped, and_then, turn, emit_event, Calls}
 
 -- a function as a call sees it, whatever it is written in: the cells of its variables, parameters first, the bytes of
 -- its frame at most, and what it does by what its calls do
 pub record Function : Type 0 where
   pub cells : List ℕ
-  pub room : ℕ
+  pub frame_size : ℕ
   pub does : Calls → Here → State → Piece (Option Value)
 
 -- a program as calls see it: the functions of each compartment, and the number of the function that an entry leads to
-pub record Library : Type 0 where
+pub record Denotations : Type 0 where
   pub interfaces : Interfaces
   pub functions : List (List Function)
   pub entered : ℕ → Entry → Option ℕ
@@ -32,9 +32,9 @@ pub record Library : Type 0 where
 abbrev pub Body : Type 0
 Body = ℕ → Here → State → Piece (Option Value)
 
-module _ (library : Library) where
+module _ (denotations : Denotations) where
   abbrev pub functions_of : ℕ → List Function
-  functions_of comp = slice_index_or library.functions comp []
+  functions_of comp = slice_index_or denotations.functions comp []
 
   abbrev pub function : ℕ → ℕ → Option Function
   function comp number = slice_get (functions_of comp) number
@@ -55,7 +55,7 @@ abbrev pub begun : ℕ → Function → List Value → State → State
 begun comp f args s =
     record s {
       memory = with_blocks comp (s.memory comp ++ blocks_for f.cells args) s.memory;
-      frames = s.frames ++ Opened (length s.trace) comp f.room ∷ [];
+      frames = s.frames ++ Opened (length s.trace) comp f.frame_size ∷ [];
     }
 
 -- the state once the variables of a function, whose first block is this, have ended, and its frame with them
@@ -63,7 +63,7 @@ abbrev pub done : ℕ → Function → ℕ → State → State
 done comp f first s =
     record s {
       memory = with_blocks comp (ended first (length f.cells) (s.memory comp)) s.memory;
-      frames = s.frames ++ Closed (length s.trace) comp f.room ∷ [];
+      frames = s.frames ++ Closed (length s.trace) comp f.frame_size ∷ [];
     }
 
 -- what was tested to be there
@@ -105,7 +105,7 @@ next_input [] = 0
 next_input (w ∷ rest) = w
 
 abbrev pub read_input : ℕ → State → State
-read_input comp s = tell (In comp (next_input s.inputs)) (record s { inputs = drop 1 s.inputs })
+read_input comp s = emit_event (In comp (next_input s.inputs)) (record s { inputs = drop 1 s.inputs })
 
 abbrev pub is_word : Value → Bool
 is_word (Word w) = true
@@ -113,19 +113,19 @@ is_word Null = false
 is_word (Ptr p) = false
 
 -- a compartment calls its own functions, and what it imports with as many values as are taken; only words cross
-abbrev pub may_call : Library → ℕ → CallTarget → List Value → Bool
-may_call library from (Own number) args = is_some (function library from number)
-may_call library from (Cross to index) args =
+abbrev pub may_call : Denotations → ℕ → CallTarget → List Value → Bool
+may_call denotations from (Own number) args = is_some (function denotations from number)
+may_call denotations from (Cross to index) args =
     all_hold (
-    imports library.interfaces from (is_function to index) ∷
-    takes library.interfaces to index (length args) ∷
+    imports denotations.interfaces from (is_function to index) ∷
+    takes denotations.interfaces to index (length args) ∷
     list_all is_word args ∷
-    leads library to (library.entered to (Export index)) ∷ []
+    leads denotations to (denotations.entered to (Export index)) ∷ []
     )
-may_call library from Input args = imports library.interfaces from is_input
-may_call library from Output args =
+may_call denotations from Input args = imports denotations.interfaces from is_input
+may_call denotations from Output args =
     all_hold (
-    imports library.interfaces from is_output ∷
+    imports denotations.interfaces from is_output ∷
     (length args == 1) ∷
     list_all is_word args ∷ []
     )
@@ -138,13 +138,13 @@ back_own v s = Reached v s
 abbrev pub back_cross : Interfaces → ℕ → ℕ → ℕ → Option Value → State → Piece (Option Value)
 back_cross interfaces from to index v s =
     Reached (option_value (crossing (export_at interfaces to index) v))
-    (tell (Ret to from (crossing (export_at interfaces to index) v)) s)
+    (emit_event (Ret to from (crossing (export_at interfaces to index) v)) s)
 
-module _ (library : Library) (body : Body) where
+module _ (denotations : Denotations) (body : Body) where
   -- a function of this number runs from here, and `back` is what is done at its return
   abbrev pub run_in : ℕ → ℕ → List Value → (Option Value → State → Piece (Option Value)) → State → Piece (Option Value)
   run_in comp number args back s =
-      and_then (found (function library comp number) s) (λ f s.
+      and_then (found (function denotations comp number) s) (λ f s.
       and_then (body number (record { comp = comp; first = length (s.memory comp) }) (begun comp f args s)) (λ v t.
       back v (done comp f (length (s.memory comp)) t)))
 
@@ -155,30 +155,30 @@ module _ (library : Library) (body : Body) where
   -- the call is emitted before the frame begins, and the return after it has ended
   abbrev pub call_cross : ℕ → ℕ → ℕ → List Value → State → Piece (Option Value)
   call_cross from to index args s =
-      and_then (found (library.entered to (Export index)) s) (λ number s.
-      run_in to number (crossed args) (back_cross library.interfaces from to index)
-      (tell (Call from to index (map word_in args)) s))
+      and_then (found (denotations.entered to (Export index)) s) (λ number s.
+      run_in to number (crossed args) (back_cross denotations.interfaces from to index)
+      (emit_event (Call from to index (map word_in args)) s))
 
   -- a call takes its turn once its arguments are there and before its event; the environment takes none
   abbrev pub called : Calls
   called from (Own number) args s = and_then (turn s) (λ _ s. call_own from number args s)
   called from (Cross to index) args s = and_then (turn s) (λ _ s. call_cross from to index args s)
   called from Input args s = Reached (Some (Word (next_input s.inputs))) (read_input from s)
-  called from Output args s = Reached None (tell (Out from (first_word args)) s)
+  called from Output args s = Reached None (emit_event (Out from (first_word args)) s)
 
   -- any other call, which no typed program makes, is blamed, at no line
   abbrev pub calls : Calls
   calls from target args s =
-      if may_call library from target args then called from target args s else Stopped (Blamed from BadType 0) s
+      if may_call denotations from target args then called from target args s else Stopped (Blamed from BadType 0) s
 
 -- functions, from what functions do that have one call less to make
 abbrev pub Step : Type 0
 Step = Body → Body
 
 -- functions that do what they say
-abbrev pub run_step : Library → Step
-run_step library body number here s =
-    and_then (found (function library here.comp number) s) (λ f s. f.does (calls library body) here s)
+abbrev pub run_step : Denotations → Step
+run_step denotations body number here s =
+    and_then (found (function denotations here.comp number) s) (λ f s. f.does (calls denotations body) here s)
 
 -- what a function does where at most this number of calls are open in it
 abbrev pub within : Step → ℕ → Body

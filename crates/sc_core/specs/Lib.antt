@@ -14,4 +14,4 @@ pub mod Types
 pub mod Typing
 pub mod Value
 pub mod WellTyped
-pub mod Words
+pub mod Combinators

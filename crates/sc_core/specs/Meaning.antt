@@ -29,10 +29,10 @@ use Rattle.sc_core.specs.Value.{Arith, c_arith, wrapping}
 use Rattle.sc_core.specs.Types.{variables}
 use Rattle.sc_core.specs.Sizes.{nodes, frame_bound}
 use Rattle.sc_core.specs.Run.{stopped_at}
-use Rattle.sc_core.specs.Words.{FrameChange, Opened, Closed, State, Here, Piece, Reached, Stopped, and_then, Exit, Next}
-use Rattle.sc_core.specs.Words.{Break, Continue, Return, leave, follow, in_order, all_do, Calls}
+use Rattle.sc_core.specs.Combinators.{FrameChange, Opened, Closed, State, Here, Piece, Reached, Stopped, and_then, Exit, Next}
+use Rattle.sc_core.specs.Combinators.{Break, Continue, Return, leave, follow, in_order, all_do, Calls}
 use Rattle.sc_core.specs.Tree.{Acts, at_place, variable_at, ways, assign, block_does}
-use Rattle.sc_core.specs.Calls.{Function, Library, Step, found, word_in, call_own, run_step, within}
+use Rattle.sc_core.specs.Calls.{Function, Denotations, Step, found, word_in, call_own, run_step, within}
 use Rattle.sc_core.specs.Scripts.{roles_in, scripted_step}
 
 abbrev pub main_name : List ℕ
@@ -73,7 +73,7 @@ abbrev pub function_of : Arith → ℕ → List TypedStruct → TypedFunction �
 function_of arith main structs f =
     record {
       cells = variables structs f;
-      room = frame_bound (variables structs f) (nodes f);
+      frame_size = frame_bound (variables structs f) (nodes f);
       does = λ by here s. and_then (body_does arith structs here (length f.params) by f tt s)
           (λ left s. closed left.exit (is_some f.result)
           (here.comp == main && bytes_eq f.name main_name) f.close_line here s);
@@ -97,8 +97,8 @@ entry_in program comp Main = place_named main_name (slice_get program.sections c
 entry_in program comp (Export index) = place_of_export (export_at program.interfaces comp index)
     (slice_get program.sections comp)
 
-abbrev pub library_of : Arith → ProgramTree → Library
-library_of arith program =
+abbrev pub denotations_of : Arith → ProgramTree → Denotations
+denotations_of arith program =
     record {
       interfaces = program.interfaces;
       functions = map (functions_in arith program.interfaces.main) program.sections;
@@ -178,22 +178,22 @@ first_state globals inputs turns =
 
 -- the run in which functions do this step. The start of `main` takes no turn, so there are never more open calls than
 -- turns and one
-abbrev pub run_by : Library → Step → Memory → List ℕ → ℕ → Run
-run_by library step globals inputs turns =
-    run_to library.interfaces.main (and_then (found (library.entered library.interfaces.main Main)
+abbrev pub run_by : Denotations → Step → Memory → List ℕ → ℕ → Run
+run_by denotations step globals inputs turns =
+    run_to denotations.interfaces.main (and_then (found (denotations.entered denotations.interfaces.main Main)
     (first_state globals inputs turns)) (λ number s.
-    call_own library (within step (suc turns)) library.interfaces.main number [] s))
+    call_own denotations (within step (suc turns)) denotations.interfaces.main number [] s))
 
 -- the greatest stack depth of a compartment, by the changes made while the trace has fewer than `events` events, where
 -- its depth before them is `room`
 abbrev pub deepest : ℕ → ℕ → ℕ → List FrameChange → ℕ
-deepest events comp room [] = room
-deepest events comp room (Opened told c more ∷ changes) =
-    if c == comp && nat_lt told events then max room (deepest events comp (room + more) changes) else
-    deepest events comp room changes
-deepest events comp room (Closed told c less ∷ changes) =
-    if c == comp && nat_lt told events then max room (deepest events comp (room - less) changes) else
-    deepest events comp room changes
+deepest events comp depth [] = depth
+deepest events comp depth (Opened emitted c more ∷ changes) =
+    if c == comp && nat_lt emitted events then max depth (deepest events comp (depth + more) changes) else
+    deepest events comp depth changes
+deepest events comp depth (Closed emitted c less ∷ changes) =
+    if c == comp && nat_lt emitted events then max depth (deepest events comp (depth - less) changes) else
+    deepest events comp depth changes
 
 -- how deep a compartment gets in a run that is stopped at a number of events
 abbrev pub depth_in : Run → ℕ → ℕ → ℕ
@@ -202,13 +202,13 @@ depth_in run events comp = deepest events comp 0 run.frames
 module _ (arith : Arith) (program : ProgramTree) (inputs : List ℕ) (turns : ℕ) where
   abbrev pub run_of : Run
   run_of =
-      run_by (library_of arith program) (run_step (library_of arith program)) (globals_of program.sections) inputs turns
+      run_by (denotations_of arith program) (run_step (denotations_of arith program)) (globals_of program.sections) inputs turns
 
   -- the run in which the compartments of a set perform their parts of a trace
   abbrev pub scripted_run_of : (ℕ → Bool) → List Event → Run
   scripted_run_of set trace =
-      run_by (library_of arith program) (scripted_step (library_of arith program)
-      (roles_in program.interfaces.main set trace) (run_step (library_of arith program)))
+      run_by (denotations_of arith program) (scripted_step (denotations_of arith program)
+      (roles_in program.interfaces.main set trace) (run_step (denotations_of arith program)))
       (globals_of program.sections) inputs turns
 
 -- the run of a program under an arithmetic, stopped at a number of events

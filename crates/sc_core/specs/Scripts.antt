@@ -9,8 +9,8 @@ use Rattle.sc_core.specs.declared.expr.CallTarget.TheVariants.{Cross, Input, Out
 use Rattle.sc_core.specs.declared.run.RunEnd.TheVariants.{TurnsOut}
 use Rattle.sc_core.specs.declared.value.Value.{Value}
 use Rattle.sc_core.specs.declared.value.Value.TheVariants.{Word}
-use Rattle.sc_core.specs.Words.{State, Piece, Reached, Stopped, and_then}
-use Rattle.sc_core.specs.Calls.{Library, Body, Step, may_call, calls, option_value}
+use Rattle.sc_core.specs.Combinators.{State, Piece, Reached, Stopped, and_then}
+use Rattle.sc_core.specs.Calls.{Denotations, Body, Step, may_call, calls, option_value}
 
 -- who performs, and the rows of each
 pub record Roles : Type 0 where
@@ -29,11 +29,11 @@ abbrev pub is_number : ℕ → Option ℕ → Bool
 is_number number None = false
 is_number number (Some n) = n == number
 
-module _ (library : Library) (body : Body) where
+module _ (denotations : Denotations) (body : Body) where
   -- a call that a script asks for; where it may not be made, the run ends
   abbrev pub asks : ℕ → CallTarget → List Value → State → Piece (Option Value)
   asks comp target args s =
-      if may_call library comp target args then calls library body comp target args s else Stopped TurnsOut s
+      if may_call denotations comp target args then calls denotations body comp target args s else Stopped TurnsOut s
 
   -- one action, which is a call of the environment, a call across, or a return. After the environment the function goes
   -- on with the rows that follow; after a call it performs again, the rows that are left then
@@ -50,11 +50,11 @@ module _ (library : Library) (body : Body) where
   abbrev pub performs : List Row → Body
   performs [] number here s = Stopped TurnsOut s
   performs (row ∷ rest) number here s =
-      if is_number number (library.entered here.comp row.entry) then
+      if is_number number (denotations.entered here.comp row.entry) then
       acts row.action (performs rest number here) (body number here) here.comp s else Stopped TurnsOut s
 
 -- functions of scripted compartments perform, all others do this step
-abbrev pub scripted_step : Library → Roles → Step → Step
-scripted_step library roles step body number here s =
-    if roles.scripted here.comp then performs library body (rows_left roles here.comp s.trace) number here s else
+abbrev pub scripted_step : Denotations → Roles → Step → Step
+scripted_step denotations roles step body number here s =
+    if roles.scripted here.comp then performs denotations body (rows_left roles here.comp s.trace) number here s else
     step body number here s

@@ -25,8 +25,8 @@ use Rattle.sc_core.specs.declared.value.Want.TheVariants as want
 use Rattle.sc_core.specs.Memory.{Blocks, bind, load, store, with_blocks}
 use Rattle.sc_core.specs.Value.{Arith, is_true, of_bool, moved, moved_on, moved_back, between, on_words, applied_one}
 use Rattle.sc_core.specs.Types.{is_unsigned, is_array, is_pointer, target_cells}
-use Rattle.sc_core.specs.Words.{State, Here, Piece, and_then, computed, Next, Break, Continue, Return, Does, leave}
-use Rattle.sc_core.specs.Words.{stored, follow, in_order, all_do, loop, choose, Calls}
+use Rattle.sc_core.specs.Combinators.{State, Here, Piece, and_then, computed, Next, Break, Continue, Return, Does, leave}
+use Rattle.sc_core.specs.Combinators.{stored, follow, in_order, all_do, loop, choose, Calls}
 
 -- an expression's place or value, as it is wanted, in the blocks of its compartment
 abbrev pub Ways : Type 0
@@ -120,8 +120,8 @@ module _ (here : Here) where
     assign_call place target args line a s =
         and_then (call target args line s) (λ result s. store_result place result line a s)
 
-    abbrev pub call_alone : CallTarget → List Ways → ℕ → Acts
-    call_alone target args line a s = and_then (call target args line s) (λ result s. leave Next a s)
+    abbrev pub call_statement : CallTarget → List Ways → ℕ → Acts
+    call_statement target args line a s = and_then (call target args line s) (λ result s. leave Next a s)
 
 module _ (structs : List TypedStruct) where
   -- the operator between a pointer and an integer
@@ -178,7 +178,7 @@ module _ (arith : Arith) (structs : List TypedStruct) where
       abbrev pub simple_does : TypedSimpleKind → ℕ → Acts
       simple_does (simple.Assign place e) line = assign here (ways place) (ways e) line
       simple_does (simple.AssignCall place c) line = assign_call here calls (ways place) c.target (map ways c.args) line
-      simple_does (simple.Call c) line = call_alone here calls c.target (map ways c.args) line
+      simple_does (simple.Call c) line = call_statement here calls c.target (map ways c.args) line
 
       -- a part in the head of a `for`, if it is there
       abbrev pub part_does : Option TypedSimple → Acts
@@ -191,7 +191,7 @@ module _ (arith : Arith) (structs : List TypedStruct) where
       kind_step (layer.Assign place e) line a s = assign here (ways place) (ways e) line a s
       kind_step (layer.AssignCall place c) line a s =
           assign_call here calls (ways place) c.target (map ways c.args) line a s
-      kind_step (layer.Call c) line a s = call_alone here calls c.target (map ways c.args) line a s
+      kind_step (layer.Call c) line a s = call_statement here calls c.target (map ways c.args) line a s
       kind_step (layer.If cond first second) line a s =
           and_then (evaluated here want.Value (ways cond) line s)
           (λ v s. choose v (all_do first a s) (all_do second a s))

@@ -18,7 +18,7 @@ pub(crate) fn is_listed(fails: &[u32], call: u64) -> bool
 }
 
 // Copies as many bytes as both have, and answers how many.
-pub(crate) fn copy_front(from: &[u8], to: &mut [u8]) -> usize
+pub(crate) fn copy_prefix(from: &[u8], to: &mut [u8]) -> usize
     ensures count { result ≡ min (length to.old) (length from.now) }
     ensures copied { to.new ≡ take result from.now ++ drop result to.old }
 {

@@ -6,7 +6,7 @@ ghost use Rattle.std.specs.Prelude.{OnErr, IsErr, Contains};
 ghost use Rattle.sc_edge.specs.Edge.{Rose, Takes, IsAtEnd};
 ghost use Rattle.sc_edge.specs.Memory.{SourceState, after_read, after_failed_read};
 
-use crate::calls::{copy_front, is_listed, one_more};
+use crate::calls::{copy_prefix, is_listed, one_more};
 use crate::{Failed, OutOfMemory, Source};
 use std::alloc::Global;
 use std::marker::Model;
@@ -69,7 +69,7 @@ impl Source for MemSource {
 
     ghost faults = { λ s. s.faults };
 
-    #[tactic(auto, using(crate::proofs::Front::front_taken))]
+    #[tactic(auto, using(crate::proofs::Prefixes::prefix_taken))]
     fn read(&mut self, buf: &mut [u8]) -> Result<usize, Failed>
         requires { 0 < length buf.old }
         ensures within { IfOk result (λ n. n ≤ length buf.old) }
@@ -89,7 +89,7 @@ impl Source for MemSource {
             self.faults = one_more(self.faults);
             return Err(Failed);
         }
-        let n = copy_front(&self.bytes[self.at..], buf);
+        let n = copy_prefix(&self.bytes[self.at..], buf);
         self.at += n;
         Ok(n)
     }

@@ -12,11 +12,11 @@ use Rattle.sc_event.specs.declared.interface.Interfaces.{Interfaces}
 pub stands : {A : Type 0} (xs : List A) (i : ℕ) (x : A) → i < length xs → x ≡ get_or xs i x → slice_get xs i ≡ Some x
 stands xs i x low is = slice_get-get_or xs i x low ∙ ap Some (sym is)
 
-pub at_front : {A : Type 0} (xs : List A) (i : ℕ) (x : A) → slice_get (drop i xs) 0 ≡ Some x → slice_get xs i ≡ Some x
-at_front [] zero x h = h
-at_front [] (suc i) x h = h
-at_front (y ∷ xs) zero x h = h
-at_front (y ∷ xs) (suc i) x h = at_front xs i x h
+pub at_head : {A : Type 0} (xs : List A) (i : ℕ) (x : A) → slice_get (drop i xs) 0 ≡ Some x → slice_get xs i ≡ Some x
+at_head [] zero x h = h
+at_head [] (suc i) x h = h
+at_head (y ∷ xs) zero x h = h
+at_head (y ∷ xs) (suc i) x h = at_head xs i x h
 
 pub left_from : {A : Type 0} (xs : List A) (i : ℕ) (x : A) → slice_get xs i ≡ Some x → drop i xs ≡ x ∷ drop (i + 1) xs
 left_from xs i x h = drop-step xs i x (slice_get_within xs i x h) (sym (get_or_from_slice_get xs i x x h))

@@ -193,7 +193,7 @@ if_ok P Q R (Err e) both p q = tt
 pub variable_built : (scope : Scope) (visible : Visible) → Suits visible scope → (name : List ℕ) (f : Option Found)
     (b : Built) → f ≡ found visible name → b.expr ≡ variable_typed f →
     b.judged ≡ place (variable_typed f).ty (is_some f) → b.judged ≡ judged scope b.expr
-variable_built scope visible suits name f b is typed told =
+variable_built scope visible suits name f b is typed reported =
     cc (variable_judged scope visible suits name)
 
 module _ (scope : Scope) (visible : Visible) (suits : Suits visible scope) (name : List ℕ) (a : TypedExpr) (j : Judged)

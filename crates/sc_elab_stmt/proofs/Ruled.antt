@@ -28,11 +28,11 @@ module _ (goes : Ty → ExprTree → Bool) where
 
     pub all_go-not : (whole holds : Bool) → holds ≡ goes (get_or types i t) x → holds ≡ false →
         all_go goes (drop i types) (drop i args) ≡ whole → false ≡ whole
-    all_go-not whole holds told fails so = cc all_go-at
+    all_go-not whole holds reported fails so = cc all_go-at
 
     pub all_go-next : (whole holds : Bool) → holds ≡ goes (get_or types i t) x → holds ≡ true →
         all_go goes (drop i types) (drop i args) ≡ whole → rest ≡ whole
-    all_go-next whole holds told fits so = cc all_go-at
+    all_go-next whole holds reported fits so = cc all_go-at
 
 pub ruleset arguments = (all_go-lengths)
 
@@ -53,12 +53,12 @@ module _ (visible : Visible) (scope : Scope) where
   -- what a place takes
   pub takes_is : (p : TypedExpr) (j : Judged) (goes holds : Bool) (value : Judged) → j ≡ judged scope p →
       goes ≡ goes_into p.ty value → holds ≡ (is_target j && goes) → holds ≡ assign_fits (judged scope p) value
-  takes_is p j goes holds value is told so = cc (judged_ty scope p)
+  takes_is p j goes holds value is reported so = cc (judged_ty scope p)
 
   pub takes_call_is : (p e : TypedExpr) (j : Judged) (gives holds : Bool) (fits : Bool) (result : Ty → Bool) →
       j ≡ judged scope p → p ≡ e → gives ≡ (fits && result p.ty) → holds ≡ (is_target j && gives) →
       holds ≡ (is_target (judged scope e) && (fits && result e.ty))
-  takes_call_is p e j gives holds fits result is same told so = cc
+  takes_call_is p e j gives holds fits result is same reported so = cc
 
 pub ok_map : {A E : Type 0} (P Q : A → Type 0) (r : Result A E) → ((x : A) → P x → Q x) → IfOk r P → IfOk r Q
 ok_map P Q (Ok x) f p = f x p

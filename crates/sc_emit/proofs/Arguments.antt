@@ -1,6 +1,6 @@
 -- Values brought into registers that temporaries don't have: the arguments of a call, and what a function returns.
-use Rattle.sc_emit.proofs.Common.{AreHeld, Comes, Computes, Does, Ends, FrameMatches, FrameTree, Goes, HasNoOtherUse}
-use Rattle.sc_emit.proofs.Common.{Here, InPlace, Instr, IsActivation, IsHeld, IsWritable, Joint, Left, List, Lives}
+use Rattle.sc_emit.proofs.Common.{AreInPlace, Comes, Computes, Does, Ends, FrameMatches, FrameTree, Goes, HasNoOtherUse}
+use Rattle.sc_emit.proofs.Common.{Here, InPlace, Instr, IsActivation, IsInPlace, IsWritable, Joint, Left, List, Lives}
 use Rattle.sc_emit.proofs.Common.{Piece, Place, Reached, Register, Registers, Running, Set, Setting, Slot, Some}
 use Rattle.sc_emit.proofs.Common.{StandsFor, State as Meant, Temps, Value, Walks, [], and_then, ap, arith, at, brought}
 use Rattle.sc_emit.proofs.Common.{comes_read, computes, eq-eqb, in_row, is_one, length, load_word, loads_word, look_at}
@@ -100,7 +100,7 @@ module _ (T : Setting) (R : Running) (cells : List ℕ) (nodes : ℕ)
 
   -- a temporary that has its value, also where registers with another use changed
   pub brings : (regs : Registers) (rd t : ℕ) (v : Value) → IsWritable rd →
-      IsHeld R.activation R.places x.inj x.regs x.bytes t v → regs sp ≡ x.regs sp →
+      IsInPlace R.activation R.places x.inj x.regs x.bytes t v → regs sp ≡ x.regs sp →
       ((q : ℕ) → HasNoOtherUse q → regs q ≡ x.regs q) →
       Brings regs (brought its_frame rd (place_of its_frame R.places t)) rd v
   brings regs rd t v w held same others =
@@ -176,7 +176,7 @@ module _ (T : Setting) (R : Running) (cells : List ℕ) (nodes : ℕ)
         others = λ q h. rest.others q h ∙ kept regs code rd v low high b q h;
       }
 
-  module _ (live : Set) (temps : Temps) (held : AreHeld R.activation R.places x.inj x.regs x.bytes live temps) where
+  module _ (live : Set) (temps : Temps) (held : AreInPlace R.activation R.places x.inj x.regs x.bytes live temps) where
     pub passes : (regs : Registers) (rd : ℕ) (ts : List ℕ) (vs : List Value) → 10 ≤ rd → rd + length ts ≤ 18 →
         ((t : ℕ) → is_one t ts ≡ true → live t ≡ true) → AreRead temps ts vs → regs sp ≡ x.regs sp →
         ((q : ℕ) → HasNoOtherUse q → regs q ≡ x.regs q) → Passes regs rd ts vs
@@ -191,11 +191,11 @@ module _ (T : Setting) (R : Running) (cells : List ℕ) (nodes : ℕ)
     passes regs rd (t ∷ ts) [] low high on all same others = absurd all
     passes regs rd (t ∷ ts) (v ∷ vs) low high on all same others =
         let code : List Instr = brought its_frame rd (place_of its_frame R.places t) in
-        let room : rd < 18 = omega (arith, high) in
+        let frame_fits : rd < 18 = omega (arith, high) in
         let b : Brings regs code rd v =
-        brings regs rd t v (record { above = omega (arith, low); below = omega (arith, room) })
+        brings regs rd t v (record { above = omega (arith, low); below = omega (arith, frame_fits) })
         (held t v (on t (only_one t ts)) all.0) same others in
-        joined regs rd t ts v vs low room b
+        joined regs rd t ts v vs low frame_fits b
         (passes b.piece.after (suc rd) ts vs (omega (arith, low)) (omega (arith, high))
-        (λ u e. on u (or_right (t == u) _ e)) all.1 (kept_sp regs code rd v low room b same)
-        (kept_all regs code rd v low room b others))
+        (λ u e. on u (or_right (t == u) _ e)) all.1 (kept_sp regs code rd v low frame_fits b same)
+        (kept_all regs code rd v low frame_fits b others))

@@ -6,16 +6,16 @@ use Rattle.sc_emit.proofs.Common.{Sets, ShortForm, Slot, Some, Store, Sw, TacFnT
 use Rattle.sc_emit.proofs.Common.{address_scratch, and_first, and_from, and_rest, arith, at_hand, between}
 use Rattle.sc_emit.proofs.Common.{between_keeps, binary_code, branch_back, branch_reach, branch_step, branches, brought}
 use Rattle.sc_emit.proofs.Common.{bytes_ahead, bytes_of, call_cross, call_own, choice, choosing, closing, code_branches}
-use Rattle.sc_emit.proofs.Common.{code_of, cond, copied, count_by, cycle, each_before, ending_past, entrance}
+use Rattle.sc_emit.proofs.Common.{code_of, cond, copied, count_by, cycle, each_before, ending_past, prologue}
 use Rattle.sc_emit.proofs.Common.{environment_call, everywhere, false, first_scratch, fold-roll-TacStmt, followed, fork}
-use Rattle.sc_emit.proofs.Common.{fork_keeps, frame_left, frame_taken, function_lines, has_known_jumps, has_no_ebreak}
+use Rattle.sc_emit.proofs.Common.{fork_keeps, epilogue, frame_taken, function_lines, has_known_jumps, has_no_ebreak}
 use Rattle.sc_emit.proofs.Common.{if◌then◌else◌, in_order, in_turn, is_branch, is_ebreak, is_known_jump, is_near}
 use Rattle.sc_emit.proofs.Common.{is_short, joined, jump_back, jump_over, keep, kept, length, list_all, list_all-append}
 use Rattle.sc_emit.proofs.Common.{list_all-map, list_all_along, load_from, load_word, loading, loop_begins, map}
 use Rattle.sc_emit.proofs.Common.{map-TacStmt, moved_by, nat_lt, neg_ℤ, not, object_offset, object_read, object_store}
 use Rattle.sc_emit.proofs.Common.{op_code, operand, operation, pass, past, place_of, place_of_global, plain, plainly}
 use Rattle.sc_emit.proofs.Common.{plan_of, pos, put, ra, receive, refl, register_of, result_register, return}
-use Rattle.sc_emit.proofs.Common.{role_behind, role_first, role_of_load, role_of_operation, role_of_return}
+use Rattle.sc_emit.proofs.Common.{role_to_next, role_first, role_of_load, role_of_operation, role_of_return}
 use Rattle.sc_emit.proofs.Common.{role_of_store, rotated, second_operand, second_scratch, select, select_all}
 use Rattle.sc_emit.proofs.Common.{select_step, short_code, short_form, short_operation, short_return, skipping}
 use Rattle.sc_emit.proofs.Common.{slot_offset, sp, stmt_branches, stmt_induction, store_arguments, store_to, store_word}
@@ -86,7 +86,7 @@ taken_frame_straight bytes =
     let size = sub_word 0 bytes in
     both (moved_by sp sp size) (Store Sw sp ra (pos 0) ∷ []) (moved_straight sp sp size) refl
 
-left_frame_straight : (bytes : ℕ) → Straight (frame_left bytes)
+left_frame_straight : (bytes : ℕ) → Straight (epilogue bytes)
 left_frame_straight bytes = both (moved_by sp sp bytes) _ (moved_straight sp sp bytes) refl
 
 -- OPERATORS
@@ -194,9 +194,9 @@ module _ (frame : FrameTree) (places : List Place) where
       let rd = result_register frame places dest in
       let a = operand frame places first_scratch left in
       let b = second_operand frame places right in
-      let front : List Instr = take frame places first_scratch left ++ take_second frame places right in
-      both (front ++ op_code rd a b o) (keep frame places dest)
-      (both front (op_code rd a b o)
+      let prefix : List Instr = take frame places first_scratch left ++ take_second frame places right in
+      both (prefix ++ op_code rd a b o) (keep frame places dest)
+      (both prefix (op_code rd a b o)
       (both (take frame places first_scratch left) (take_second frame places right) (take_straight first_scratch left)
       (second_straight right)) (op_straight rd a b o)) (keep_straight dest)
 
@@ -257,7 +257,7 @@ module _ (frame : FrameTree) (places : List Place) where
   pub short_return_straight : (left : ℕ) (form : Option ShortForm) → Straight (short_return frame places left form)
   short_return_straight left form =
       let code : List Instr = short_code a0 (operand frame places first_scratch left) form in
-      both (take frame places first_scratch left ++ code) (frame_left frame.bytes)
+      both (take frame places first_scratch left ++ code) (epilogue frame.bytes)
       (both (take frame places first_scratch left) code (take_straight first_scratch left)
       (short_code_straight _ _ form)) (left_frame_straight frame.bytes)
 
@@ -294,7 +294,7 @@ module _ (frame : FrameTree) (places : List Place) where
       both (store_word (a0 + from) (object_offset frame from)) _
       (store_straight (a0 + from) (object_offset frame from)) (store_arguments_straight params (suc from))
 
-  pub entrance_straight : (params : ℕ) → Straight (entrance frame places params)
+  pub entrance_straight : (params : ℕ) → Straight (prologue frame places params)
   entrance_straight params =
       both (frame_taken frame.bytes) _ (taken_frame_straight frame.bytes) (store_arguments_straight params 0)
 
@@ -622,10 +622,10 @@ module _ (frame : FrameTree) (places : List Place) (plan : Plan) where
       (in_turn (joined frame places before (map (select frame places plan) stmts)))
   turn_shaped before [] h = straight_shaped [] refl
   turn_shaped before (stmt ∷ rest) h =
-      let behind : Role = role_first (map (select frame places plan) rest) in
+      let following : Role = role_first (map (select frame places plan) rest) in
       followed_shaped (stmt_branches stmt) (total (map stmt_branches rest))
-      (between frame places before (select frame places plan stmt) behind)
-      (in_turn (joined frame places (role_behind before (select frame places plan stmt).role) (map (select frame places
+      (between frame places before (select frame places plan stmt) following)
+      (in_turn (joined frame places (role_to_next before (select frame places plan stmt).role) (map (select frame places
       plan) rest)))
       (between_keeps frame places plan (IsShaped (stmt_branches stmt))
       (any_more (stmt_branches stmt) (straight []) (straight_shaped [] refl))
@@ -639,8 +639,8 @@ module _ (frame : FrameTree) (places : List Place) (plan : Plan) where
       (plainly_shaped (object_store frame places v o) (object_store_straight frame places v o)))
       (λ l o w. any_more (stmt_branches stmt) (straightly frame places (short_return frame places l (short_form o w)))
       (plainly_shaped (short_return frame places l (short_form o w))
-      (short_return_straight frame places l (short_form o w)))) before behind
-      (select frame places plan stmt) h.0) (turn_shaped (role_behind before (select frame places plan stmt).role) rest
+      (short_return_straight frame places l (short_form o w)))) before following
+      (select frame places plan stmt) h.0) (turn_shaped (role_to_next before (select frame places plan stmt).role) rest
       h.1)
 
   row_shaped : (stmts : List TacStmt) → Each Shaped stmts →
@@ -718,26 +718,26 @@ module _ (frame : FrameTree) (places : List Place) (plan : Plan) where
       PassesAll test (select_all frame places plan f.body) → list_all test (function_lines frame places plan f) ≡
       true
   function_passes test mild f h =
-      let front : List Line = plainly (entrance frame places f.params) in
+      let prefix : List Line = plainly (prologue frame places f.params) in
       let body : List Line = (select_all frame places plan f.body).lines 0 0 in
-      all_append test (front ++ body) (plainly (closing frame places f.entry))
-      (all_append test front body
-      (plainly_passes test mild frame places (entrance frame places f.params) (entrance_straight frame places f.params))
+      all_append test (prefix ++ body) (plainly (closing frame places f.entry))
+      (all_append test prefix body
+      (plainly_passes test mild frame places (prologue frame places f.params) (entrance_straight frame places f.params))
       (h.passes 0 0))
       (plainly_passes test mild frame places (closing frame places f.entry) (closing_straight frame places f.entry))
 
   function_count : (f : TacFnTree) → count (function_lines frame places plan f) ≤ branches f.body
   function_count f =
-      let entered : List Instr = entrance frame places f.params in
+      let entered : List Instr = prologue frame places f.params in
       let left : List Instr = closing frame places f.entry in
-      let front : List Line = plainly entered in
+      let prefix : List Line = plainly entered in
       let body : List Line = (select_all frame places plan f.body).lines 0 0 in
       let back : List Line = plainly left in
       omega (
         arith,
-        count_append (front ++ body) back,
-        count_append front body,
-        straight_count front (plainly_straight entered (entrance_straight frame places f.params)),
+        count_append (prefix ++ body) back,
+        count_append prefix body,
+        straight_count prefix (plainly_straight entered (entrance_straight frame places f.params)),
         straight_count back (plainly_straight left (closing_straight frame places f.entry)),
         (body_shaped f.body).few 0 0,
       )

@@ -1,7 +1,7 @@
 -- Calls of functions, of the own compartment and of others.
 use Rattle.sc_emit.proofs.Common.{Activation, Addresses, All, ArePassed, Arrives, CallGives, CallStands, CallTarget}
 use Rattle.sc_emit.proofs.Common.{Calls, CallsFollow, CodeAt, Codes, Comes, ComesBack, Computes, Cross, Does, Ends}
-use Rattle.sc_emit.proofs.Common.{Follows, FrameMatches, FrameTree, GivenBack, Goes, HasNoGap, HasNoOtherUse, Instr}
+use Rattle.sc_emit.proofs.Common.{Follows, FrameMatches, FrameTree, ReturnsValue, Goes, HasNoGap, HasNoOtherUse, Instr}
 use Rattle.sc_emit.proofs.Common.{IsActivation, IsBack, IsClear, IsInside, IsSome, IsWellFormed, IsWord, Jal, Jalr}
 use Rattle.sc_emit.proofs.Common.{Joint, Left, Line, List, Lives, Lui, MovesOn, Next, None, Option, Overflows, Own}
 use Rattle.sc_emit.proofs.Common.{Piece, Place, Point, Reached, Ready, Register, Registers, Running, Setting, Slot}
@@ -9,13 +9,13 @@ use Rattle.sc_emit.proofs.Common.{Some, Standpoint, StandsFor, State as Meant, S
 use Rattle.sc_emit.proofs.Common.{Value, [], a0, add_word, all_at, and_from, and_then, ap, append_assoc, arith}
 use Rattle.sc_emit.proofs.Common.{arrives_with, assigned_at, assigns_register, assigns_slot, back_at, call_cross}
 use Rattle.sc_emit.proofs.Common.{call_does, call_from, call_own, code_inside, code_step, comes_after, completed}
-use Rattle.sc_emit.proofs.Common.{completed_length, completed_plainly, false, first_scratch, front_at, in_row, inl, inr}
+use Rattle.sc_emit.proofs.Common.{completed_length, completed_plainly, false, first_scratch, prefix_at, in_row, inl, inr}
 use Rattle.sc_emit.proofs.Common.{is_back, is_one, is_some, jalr_target, leads_none, leave, length, length-append}
 use Rattle.sc_emit.proofs.Common.{list_all, live_across, live_at, live_plain, look_at, low_after, low_append}
 use Rattle.sc_emit.proofs.Common.{low_plainly, lower_part, move, moved, moves, ne_eqb, no_other_use, or_left}
 use Rattle.sc_emit.proofs.Common.{overflows_from, overflows_with, pass, plain_points, plainly, pos, put, put_word, ra}
 use Rattle.sc_emit.proofs.Common.{read_all, receive, received, referring, refl, register_of, register_there, seen_from}
-use Rattle.sc_emit.proofs.Common.{select_step, settled_to, shows_from, shows_less, slice_get, slice_get_within, sp}
+use Rattle.sc_emit.proofs.Common.{select_step, settled_to, emits_from, emits_less, slice_get, slice_get_within, sp}
 use Rattle.sc_emit.proofs.Common.{stays, store_word, stores_word, straight, subst, suc, sym, then_from, then_goes}
 use Rattle.sc_emit.proofs.Common.{trail_step, true, unwrap_or, upper, upper_part, wanted, with_temp, word_at, word_of}
 use Rattle.sc_emit.proofs.Common.{word_of-unsigned_sub, wrapping, ℕ, ⊎_elim, ◌%◌, ◌*◌, ◌++◌, ◌+◌, ◌-ℤ◌, ◌/◌, ◌<◌, ◌^◌}
@@ -33,19 +33,19 @@ use Rattle.sc_emit.proofs.Operands.{IsPlace, ArePlaced, slot_from_sp, world, wal
 
 module _ (addresses : Addresses) where
   -- lines after those that refer to nothing
-  completed_behind : (pc : ℕ) (instrs : List Instr) (lines : List Line) →
+  completed_after : (pc : ℕ) (instrs : List Instr) (lines : List Line) →
       completed addresses pc None (plainly instrs ++ lines) ≡
       instrs ++ completed addresses (pc + 4 * length instrs) None lines
-  completed_behind pc [] lines =
+  completed_after pc [] lines =
       let e : pc ≡ pc + 4 * 0 = omega arith in ap (λ p. completed addresses p None lines) e
-  completed_behind pc (i ∷ is) lines =
+  completed_after pc (i ∷ is) lines =
       let e : pc + 4 + 4 * length is ≡ pc + 4 * suc (length is) = omega arith in
       ap (λ is. i ∷ is)
-      (completed_behind (pc + 4) is lines ∙ ap (λ p. is ++ completed addresses p None lines) e)
+      (completed_after (pc + 4) is lines ∙ ap (λ p. is ++ completed addresses p None lines) e)
 
-  low_behind_plain : (instrs : List Instr) (lines : List Line) → low_after addresses None (plainly instrs ++ lines) ≡
+  low_after_plain : (instrs : List Instr) (lines : List Line) → low_after addresses None (plainly instrs ++ lines) ≡
       low_after addresses None lines
-  low_behind_plain instrs lines =
+  low_after_plain instrs lines =
       low_append addresses None (plainly instrs) lines ∙
       ap (λ low. low_after addresses low lines) (low_plainly addresses instrs)
 
@@ -91,7 +91,7 @@ HasPlace places (Some dest) = (place : Place) × (slice_get places dest ≡ Some
 
 -- the last point of a statement, after what it assigns
 abbrev pub last_point : Option ℕ → Lives → Point
-last_point dest lives = record { assigned = dest; calls = false; live = lives.behind }
+last_point dest lives = record { assigned = dest; calls = false; live = lives.following }
 
 module _ (T : Setting) (R : Running) (formed : IsWellFormed T.image) (inputs : All IsWord T.inputs) (cells : List ℕ)
     (nodes : ℕ) (is : IsActivation T.performs cells R.places nodes R.activation) (placed : ArePlaced R) where
@@ -107,23 +107,23 @@ module _ (T : Setting) (R : Running) (formed : IsWellFormed T.image) (inputs : A
   positive : (q : ℕ) → q ≢ 0 → 0 < q
   positive q h = omega (arith, h)
 
-  across_behind : (reads : List ℕ) (lives : Lives) (dest t : ℕ) → lives.behind t ≡ true → t ≢ dest →
+  across_after : (reads : List ℕ) (lives : Lives) (dest t : ℕ) → lives.following t ≡ true → t ≢ dest →
       live_across reads true (Some dest) lives t ≡ true
-  across_behind reads lives dest t on other =
+  across_after reads lives dest t on other =
       rw (ne_eqb dest t (λ e. other (sym e))) on
 
   module _ (lives : Lives) (temps : Temps) (y : Joint) (left : ℕ) (reads : List ℕ) where
     -- after the code that brings the value to its place
-    abbrev Behind : List Instr → Temps → Type 0
-    Behind code after =
-        Arrives T R lives.behind y (length code + left) left after y.meant (y.pc + 4 * length code)
+    abbrev After : List Instr → Temps → Type 0
+    After code after =
+        Arrives T R lives.following y (length code + left) left after y.meant (y.pc + 4 * length code)
 
     receives_by : (dest : ℕ) (place : Place) (v : Value) →
         Ready T R (live_across reads true (Some dest) lives) temps y →
         IsClear R.places (last_point (Some dest) lives) → StandsFor (y.inj A.here.comp) (y.regs a0) v →
         slice_get R.places dest ≡ Some place → IsPlace A place →
         CodeAt T.image A.here.comp y.pc (put frame a0 (Some place)) →
-        Behind (put frame a0 (Some place)) (with_temp dest v temps)
+        After (put frame a0 (Some place)) (with_temp dest v temps)
     receives_by dest (Register r) v ready clear stands its small code =
         let piece : Computes T.image T.inputs (world T R y) (move (register_of r) a0 ∷ []) [] y.regs y.bytes
         (register_of r) (y.regs a0) =
@@ -132,7 +132,7 @@ module _ (T : Setting) (R : Running) (formed : IsWellFormed T.image) (inputs : A
         (omega arith) (look_at y.regs a0 (omega arith)) stands.word in
         assigned_at T R formed inputs cells nodes is (live_across reads true (Some dest) lives)
         (last_point (Some dest) lives) temps y 1 left dest (y.pc + 4 * 1) (Register r) v piece.after y.bytes ready clear
-        refl its (across_behind reads lives dest)
+        refl its (across_after reads lives dest)
         (assigns_register T R y r v piece.after
         (piece.others sp ((λ e. (no_other_use r).sp (sym e)), tt))
         (subst (λ w. StandsFor (y.inj A.here.comp) w v) (sym piece.result) stands) (λ q h n. piece.others q (n, tt)))
@@ -146,11 +146,11 @@ module _ (T : Setting) (R : Running) (formed : IsWellFormed T.image) (inputs : A
         stores_word T.image T.inputs (world T R y) y.bytes y.regs a0 offset (A.sp + offset) (y.regs a0) (omega arith)
         (λ e. omega (arith, e)) (look_at y.regs a0 (omega arith))
         (slot_from_sp T R y cells nodes is placed ready.frame ready.sp y.regs k offset there.1 refl) in
-        subst (λ code. Behind code (with_temp dest v temps)) (sym same_code)
+        subst (λ code. After code (with_temp dest v temps)) (sym same_code)
         (assigned_at T R formed inputs cells nodes is (live_across reads true (Some dest) lives)
         (last_point (Some dest) lives) temps y (length (store_word a0 offset)) left dest
         (y.pc + 4 * length (store_word a0 offset)) (Slot k) v stores.after
-        (put_word y.bytes (A.sp + offset) (y.regs a0)) ready clear refl its (across_behind reads lives dest)
+        (put_word y.bytes (A.sp + offset) (y.regs a0)) ready clear refl its (across_after reads lives dest)
         (assigns_slot T R formed inputs cells nodes is (live_across reads true (Some dest) lives) temps y k offset
         (y.regs a0) v stores.after ready there.1 (stores.others sp ((λ e. omega (arith, e)), tt)) stands
         (λ q h. stores.others q (h.address, tt)))
@@ -159,9 +159,9 @@ module _ (T : Setting) (R : Running) (formed : IsWellFormed T.image) (inputs : A
 
     -- what a call gave goes to where it is wanted
     receives : (dest : Option ℕ) (v : Option Value) → Ready T R (live_across reads true dest lives) temps y →
-        IsClear R.places (last_point dest lives) → GivenBack T (y.inj A.here.comp) (y.regs a0) v → IsGiven dest v →
+        IsClear R.places (last_point dest lives) → ReturnsValue T (y.inj A.here.comp) (y.regs a0) v → IsGiven dest v →
         HasPlace R.places dest → CodeAt T.image A.here.comp y.pc (receive frame R.places dest) →
-        Behind (receive frame R.places dest) (received dest v temps)
+        After (receive frame R.places dest) (received dest v temps)
     receives None v ready clear back given there code = record {
       y = y;
       meant_is = refl;
@@ -176,7 +176,7 @@ module _ (T : Setting) (R : Running) (formed : IsWellFormed T.image) (inputs : A
     }
     receives (Some dest) None ready clear back given there code = absurd given
     receives (Some dest) (Some v) ready clear back given there code =
-        subst (λ o. Behind (put frame a0 o) (with_temp dest v temps)) (sym there.1)
+        subst (λ o. After (put frame a0 o) (with_temp dest v temps)) (sym there.1)
         (receives_by dest there.0 v ready clear back there.1 (placed dest there.0 there.1)
         (subst (λ o. CodeAt T.image A.here.comp y.pc (put frame a0 o)) there.1 code))
 
@@ -216,7 +216,7 @@ module _ (T : Setting) (R : Running) (formed : IsWellFormed T.image) (inputs : A
       onwards result s = leave Next (received dest result temps) s
 
       module _ (y : Joint) (left : ℕ) (ends : Ends) (left_is : ends.left ≡ left)
-          (behind_is : ends.behind ≡ y.pc + 4 + 4 * length to_place)
+          (after_is : ends.following ≡ y.pc + 4 + 4 * length to_place)
           (code : CodeAt T.image A.here.comp (y.pc + 4) to_place)
           (ready : Ready T R (live_plain args dest lives) temps y) where
         abbrev budget : ℕ
@@ -230,14 +230,14 @@ module _ (T : Setting) (R : Running) (formed : IsWellFormed T.image) (inputs : A
             let at : CodeAt T.image A.here.comp k.y.pc to_place =
             subst (λ pc. CodeAt T.image A.here.comp pc to_place) (sym k.pc) code in
             comes_after T R lives y k.y budget (length to_place + left) ends (onwards v s) ready.settled k.leads
-            (inl (subst (λ s. Arrives T R lives.behind k.y (length to_place + left) ends.left (received dest v temps) s
-            ends.behind) k.meant_is
-            (arrives_with T R lives.behind k.y (length to_place + left) (length to_place + left) left ends.left
-            (received dest v temps) k.y.meant (k.y.pc + 4 * length to_place) ends.behind (omega arith)
-            (omega (arith, left_is)) (omega (arith, k.pc, behind_is))
+            (inl (subst (λ s. Arrives T R lives.following k.y (length to_place + left) ends.left (received dest v temps) s
+            ends.following) k.meant_is
+            (arrives_with T R lives.following k.y (length to_place + left) (length to_place + left) left ends.left
+            (received dest v temps) k.y.meant (k.y.pc + 4 * length to_place) ends.following (omega arith)
+            (omega (arith, left_is)) (omega (arith, k.pc, after_is))
             (receives lives temps k.y left args dest v k.ready clear k.value given there at))))
         came_back (Stopped end s) given g =
-            inl (shows_less T P y 1 budget s (omega arith) (shows_from T R y 1 s g))
+            inl (emits_less T P y 1 budget s (omega arith) (emits_from T R y 1 s g))
 
         overflowed : (piece : Piece (Option Value)) → Overflows T (call_from T R) y 1 piece →
             Overflows T P y budget (and_then piece onwards)
@@ -258,12 +258,12 @@ module _ (T : Setting) (R : Running) (formed : IsWellFormed T.image) (inputs : A
 
       -- the registers are prepared, the call is made, and its value goes to where it is wanted
       pub call_runs : (x : Joint) (before : List Instr) (call : Instr) (left : ℕ) (ends : Ends) → ends.left ≡ left →
-          ends.behind ≡ x.pc + 4 * length (before ++ call ∷ to_place) →
+          ends.following ≡ x.pc + 4 * length (before ++ call ∷ to_place) →
           CodeAt T.image A.here.comp x.pc (before ++ call ∷ to_place) → Ready T R (live_plain args dest lives) temps x →
           ((vs : List Value) → AreRead temps args vs → Prepares target x before vs) →
           Comes T R lives x (length (before ++ call ∷ to_place) + left) ends
           (call_does A.here calls dest target args temps x.meant)
-      call_runs x before call left ends left_is behind_is code ready prepares =
+      call_runs x before call left ends left_is after_is code ready prepares =
           comes_read_all T R lives x (length (before ++ call ∷ to_place) + left) ends A.here args temps
           (λ vs s. and_then (calls A.here.comp target vs s) onwards)
           (λ vs read.
@@ -278,12 +278,12 @@ module _ (T : Setting) (R : Running) (formed : IsWellFormed T.image) (inputs : A
           moves_on T R formed inputs cells nodes is (live_plain args dest lives) temps x n rest (x.pc + 4 * n) p.after
           ready p.same p.others
           (walks_to T R x before p.after x.bytes p.does
-          (front_at T.image A.here.comp x.pc before (call ∷ to_place) code)) in
+          (prefix_at T.image A.here.comp x.pc before (call ∷ to_place) code)) in
           let y : Joint = moved x (x.pc + 4 * n) p.after x.bytes in
           subst (λ b. Comes T R lives x b ends (and_then (calls A.here.comp target vs x.meant) onwards)) whole
           (comes_after T R lives x y (n + rest) rest ends (and_then (calls A.here.comp target vs x.meant) onwards)
           ready.settled m.leads
-          (call_comes y left ends left_is (behind_is ∙ omega (arith, long))
+          (call_comes y left ends left_is (after_is ∙ omega (arith, long))
           (back_at T.image A.here.comp x.pc before (call ∷ to_place) code).1 m.ready vs (read_length temps args vs read)
           p.passed
           (p.stands m.ready.settled.steady.pc)))))
@@ -338,11 +338,11 @@ module _ (T : Setting) (R : Running) (formed : IsWellFormed T.image) (inputs : A
         Jal ra (pos (addresses.function function) -ℤ pos (pc + 4 * length (pass frame R.places a0 args)))
 
     -- after the jump there is code
-    has_behind : (pc : ℕ) (before : List Instr) (instr : Instr) (after : List Instr) → HasNoGap T R →
+    has_after : (pc : ℕ) (before : List Instr) (instr : Instr) (after : List Instr) → HasNoGap T R →
         CodeAt T.image A.here.comp pc (before ++ instr ∷ after) →
         pc + 4 * length (before ++ instr ∷ after) ≤ R.last →
         IsSome (word_at T.image A.here.comp (pc + 4 * length before + 4))
-    has_behind pc before instr after gapless code inside =
+    has_after pc before instr after gapless code inside =
         let at = (back_at T.image A.here.comp pc before (instr ∷ after) code).0 in
         let here : IsInside (pc + 4 * length before) =
         code_inside T.image formed A.here.comp (pc + 4 * length before) at.word at.fetched in
@@ -365,20 +365,20 @@ module _ (T : Setting) (R : Running) (formed : IsWellFormed T.image) (inputs : A
         (call_own frame R.places dest function args)
         (λ pc. before ++ own_call function args pc ∷ receive frame R.places dest)
         (trail_step (tac.CallOwn dest function args))
-        (λ pc. completed_behind addresses pc before
+        (λ pc. completed_after addresses pc before
         (referring (Function function) (Jal ra (pos 0)) ∷ plainly (receive frame R.places dest)) ∙
         ap (λ instrs. before ++ own_call function args pc ∷ instrs)
         (completed_plainly addresses (pc + 4 * length before + 4) (receive frame R.places dest)))
-        (low_behind_plain addresses before
+        (low_after_plain addresses before
         (referring (Function function) (Jal ra (pos 0)) ∷ plainly (receive frame R.places dest)) ∙
         low_plainly addresses (receive frame R.places dest))
         (goes calls follow (Own function) dest args)
-        (λ lives temps x left ready clear code inside ends left_is behind_is.
+        (λ lives temps x left ready clear code inside ends left_is after_is.
         call_runs calls follow (Own function) dest args there made answers lives temps
         (all_at (IsClear R.places) (plain_points args true dest lives) 2 _ clear refl)
         (λ y left v s ready b. is_back T R args dest lives temps y (Own function) left v s is.honest ready clear b) x
         before
-        (own_call function args x.pc) left ends left_is behind_is code ready
+        (own_call function args x.pc) left ends left_is after_is code ready
         (λ vs read.
         (let p : Passes T R cells nodes is placed x ready.frame ready.sp x.regs a0 args vs =
         passes_args args dest lives temps x vs few needs ready read in
@@ -393,7 +393,7 @@ module _ (T : Setting) (R : Running) (formed : IsWellFormed T.image) (inputs : A
             (back_at T.image A.here.comp x.pc before
                 (own_call function args x.pc ∷ receive frame R.places dest) code).0,
             jump_to (x.pc + 4 * length before) (addresses.function function) low below,
-            has_behind x.pc before (own_call function args x.pc) (receive frame R.places dest) gapless code inside,
+            has_after x.pc before (own_call function args x.pc) (receive frame R.places dest) gapless code inside,
           );
         })))
 
@@ -420,18 +420,18 @@ module _ (T : Setting) (R : Running) (formed : IsWellFormed T.image) (inputs : A
         linked_follows T R (code_step wrapping A.here calls (tac.CallCross dest comp index args))
         (call_cross frame R.places dest comp index args) (λ pc. before ++ entry_call address)
         (trail_step (tac.CallCross dest comp index args))
-        (λ pc. completed_behind addresses pc arguments lines ∙
+        (λ pc. completed_after addresses pc arguments lines ∙
         ap (λ instrs. arguments ++ (high ++ Jalr ra first_scratch (lower_part address) ∷ instrs))
         (completed_plainly addresses (pc + 4 * length arguments + 4 + 4) (receive frame R.places dest)) ∙
         sym (append_assoc arguments high (entry_call address)))
-        (low_behind_plain addresses arguments lines ∙ low_plainly addresses (receive frame R.places dest))
+        (low_after_plain addresses arguments lines ∙ low_plainly addresses (receive frame R.places dest))
         (goes calls follow (Cross comp index) dest args)
-        (λ lives temps x left ready clear code inside ends left_is behind_is.
+        (λ lives temps x left ready clear code inside ends left_is after_is.
         call_runs calls follow (Cross comp index) dest args there made answers lives temps
         (all_at (IsClear R.places) (plain_points args true dest lives) 2 _ clear refl)
         (λ y left v s ready b.
         is_back T R args dest lives temps y (Cross comp index) left v s is.honest ready clear b) x
-        before (Jalr ra first_scratch (lower_part address)) left ends left_is behind_is code ready
+        before (Jalr ra first_scratch (lower_part address)) left ends left_is after_is code ready
         (λ vs read.
         (let p : Passes T R cells nodes is placed x ready.frame ready.sp x.regs a0 args vs =
         passes_args args dest lives temps x vs few needs ready read in

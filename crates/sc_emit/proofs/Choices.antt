@@ -5,9 +5,9 @@ use Rattle.sc_emit.proofs.Common.{Instr, IsActivation, IsClear, IsInside, IsWell
 use Rattle.sc_emit.proofs.Common.{List, Lives, MovesOn, Next, None, Null, Option, Piece, Ptr, Reached, Ready, Registers}
 use Rattle.sc_emit.proofs.Common.{Return, Running, Set, Setting, Settled, Some, Standpoint, StandsAt, StandsFor, Starts}
 use Rattle.sc_emit.proofs.Common.{State as Meant, Stopped, Temps, Trail, Value, Walks, Word, [], add_word, all_back}
-use Rattle.sc_emit.proofs.Common.{all_front, and_first, and_from, and_rest, and_then, ap, arith, arrives_with, at}
+use Rattle.sc_emit.proofs.Common.{all_prefix, and_first, and_from, and_rest, and_then, ap, arith, arrives_with, at}
 use Rattle.sc_emit.proofs.Common.{back_at, choice, choose, choosing, code_inside, comes_after, comes_read, completed}
-use Rattle.sc_emit.proofs.Common.{ends_of, eq-eqb, eqb-true, false, first_scratch, fork, front_at, if◌then◌else◌}
+use Rattle.sc_emit.proofs.Common.{ends_of, eq-eqb, eqb-true, false, first_scratch, fork, prefix_at, if◌then◌else◌}
 use Rattle.sc_emit.proofs.Common.{in_order, in_parts, inl, inr, is_empty, is_some, is_true, jump_over, kind_of_fork}
 use Rattle.sc_emit.proofs.Common.{leads_less, leads_none, length, length-append, length-map, live_at, live_before, look}
 use Rattle.sc_emit.proofs.Common.{low_after, low_append, low_plainly, machine, moved, ne_eqb, not, operand, or_left}
@@ -85,7 +85,7 @@ module _ (T : Setting) (R : Running) (formed : IsWellFormed T.image) (inputs : A
 
     pub branches_at : (L : ℕ) → CodeAt T.image comp L (its_take ++ its_branch ∷ []) → Branches L
     branches_at L code = record {
-      takes = front_at T.image comp L its_take (its_branch ∷ []) code;
+      takes = prefix_at T.image comp L its_take (its_branch ∷ []) code;
       branches = (back_at T.image comp L its_take (its_branch ∷ []) code).0;
     }
 
@@ -101,9 +101,9 @@ module _ (T : Setting) (R : Running) (formed : IsWellFormed T.image) (inputs : A
       Branched pc =
           Walks T.image T.inputs (length its_take + 1) (machine P x) (machine P (moved x pc held.after x.bytes))
 
-      behind_take : (pc : ℕ) → Walks T.image T.inputs 1 (at (branch_pc x.pc) held.after x.bytes (world T R x))
+      after_take : (pc : ℕ) → Walks T.image T.inputs 1 (at (branch_pc x.pc) held.after x.bytes (world T R x))
           (at pc held.after x.bytes (world T R x)) → Branched pc
-      behind_take pc walk = then_go T.image T.inputs (held.does.walks x.pc code.takes) walk
+      after_take pc walk = then_go T.image T.inputs (held.does.walks x.pc code.takes) walk
 
       compared : not (look held.after (operand frame R.places first_scratch cond) == look held.after 0) ≡ is_true v
       compared =
@@ -113,7 +113,7 @@ module _ (T : Setting) (R : Running) (formed : IsWellFormed T.image) (inputs : A
       pub branch_goes : (target word : ℕ) → is_true v ≡ true → add_word (branch_pc x.pc) (word_of imm) ≡ target →
           target % 4 ≡ 0 → word_at T.image comp target ≡ Some word → Branched target
       branch_goes target word true_is to aligned there =
-          behind_take target
+          after_take target
           (branch_taken T.image T.inputs (branch_pc x.pc) held.after x.bytes (world T R x) Bne
           (operand frame R.places first_scratch cond) 0 imm target word held.below (omega arith) code.branches
           (compared ∙ true_is) to aligned there)
@@ -121,7 +121,7 @@ module _ (T : Setting) (R : Running) (formed : IsWellFormed T.image) (inputs : A
       -- it is false
       pub branch_passes : is_true v ≡ false → Branched (branch_pc x.pc + 4)
       branch_passes false_is =
-          behind_take (branch_pc x.pc + 4)
+          after_take (branch_pc x.pc + 4)
           (branch_not_taken T.image T.inputs (branch_pc x.pc) held.after x.bytes (world T R x) Bne
           (operand frame R.places first_scratch cond) 0 imm held.below (omega arith) code.branches
           (compared ∙ false_is))
@@ -317,18 +317,18 @@ module _ (T : Setting) (R : Running) (formed : IsWellFormed T.image) (inputs : A
         let one : InParts addresses T.image comp L test (jump ∷ (al ++ sl)) =
         in_parts addresses T.image comp L test (jump ∷ (al ++ sl))
         (low_plainly addresses (choice frame R.places cond)) code in
-        let behind = subst (λ k. CodeAt T.image comp (L + 4 * k) (completed addresses (L + 4 * k) None
+        let following = subst (λ k. CodeAt T.image comp (L + 4 * k) (completed addresses (L + 4 * k) None
         (jump ∷ (al ++ sl)))) test_is one.back in
         let later : InParts addresses T.image comp (taken L) al sl =
-        in_parts addresses T.image comp (taken L) al sl (ahead_closed b c) behind.1 in
+        in_parts addresses T.image comp (taken L) al sl (ahead_closed b c) following.1 in
         let inner : InParts addresses T.image comp (taken L) fl skip =
-        in_parts addresses T.image comp (taken L) fl skip (F.closed (farther b) (farther c)) later.front in
+        in_parts addresses T.image comp (taken L) fl skip (F.closed (farther b) (farther c)) later.prefix in
         let place : taken L + 4 * length al ≡ second_pc L = omega (arith, ahead_sized b c) in
         record {
           chooses = branches_at cond (pos 8) L
-              (plainly_at addresses T.image comp L (choice frame R.places cond) one.front);
-          to_second = behind.0;
-          of_first = inner.front;
+              (plainly_at addresses T.image comp L (choice frame R.places cond) one.prefix);
+          to_second = following.0;
+          of_first = inner.prefix;
           over_second =
               subst (λ k. CodeAt T.image comp (taken L + 4 * k) (completed addresses (taken L + 4 * k) None skip))
               (F.sized (farther b) (farther c)) inner.back;
@@ -356,17 +356,17 @@ module _ (T : Setting) (R : Running) (formed : IsWellFormed T.image) (inputs : A
       abbrev first_left : ℕ
       first_left = 1 + (length skip + (second.size + left))
 
-      behind_first : (y : Joint) → y.pc ≡ taken start → (exit : Exit) (temps' : Temps) (s : Meant) →
+      after_first : (y : Joint) → y.pc ≡ taken start → (exit : Exit) (temps' : Temps) (s : Meant) →
           Settled T P y →
           ExitGives T R lives y (first.size + first_left)
           (ends_of first y.pc first_left (farther to_break) (farther to_continue)) exit temps' s →
           Comes T R lives y (first.size + first_left) ends (Reached (record { exit = exit; carried = temps' }) s)
-      behind_first y place Next temps' s settled g =
+      after_first y place Next temps' s settled g =
           let z : Joint = g.y in
           let at_skip : z.pc ≡ skip_pc start = g.pc_is ∙ omega (arith, place) in
-          let a : Arrives T R lives.behind z (length skip + left) left temps' z.meant
+          let a : Arrives T R lives.following z (length skip + left) left temps' z.meant
           (z.pc + 4 * (length skip + second.size)) =
-          past_arrives lives.behind temps' z second.size left g.ready
+          past_arrives lives.following temps' z second.size left g.ready
           (subst (λ pc. CodeAt T.image comp pc (completed (T.addresses comp) pc None skip)) (sym at_skip)
           code.over_second) (omega (arith, at_skip, starts.breaks, test_is)) in
           subst (λ s. Comes T R lives y (first.size + first_left) ends
@@ -375,25 +375,25 @@ module _ (T : Setting) (R : Running) (formed : IsWellFormed T.image) (inputs : A
           (Reached (record { exit = Next; carried = temps' }) z.meant) settled
           (leads_less T P y z (first.size + first_left) first_left (first.size + first_left) (length skip + left)
           (omega arith) (omega arith) g.leads)
-          (inl (arrives_with T R lives.behind z (length skip + left) (length skip + left) left left temps' z.meant
-          (z.pc + 4 * (length skip + second.size)) ends.behind (omega arith) (omega arith)
+          (inl (arrives_with T R lives.following z (length skip + left) (length skip + left) left left temps' z.meant
+          (z.pc + 4 * (length skip + second.size)) ends.following (omega arith) (omega arith)
           (omega (arith, at_skip, test_is)) a)))
-      behind_first y place Break temps' s settled g =
+      after_first y place Break temps' s settled g =
           inl (arrives_with T R lives.broken y (first.size + first_left) (first.size + first_left) first_left left
           temps' s (y.pc + 4 * (first.size + farther to_break)) ends.broken (omega arith) (omega arith)
           (omega (arith, place, test_is)) g)
-      behind_first y place Continue temps' s settled g =
+      after_first y place Continue temps' s settled g =
           inl (arrives_with T R lives.continued y (first.size + first_left) (first.size + first_left) first_left left
           temps' s (y.pc + 4 * (first.size + farther to_continue)) ends.continued (omega arith) (omega arith)
           (omega (arith, place, test_is)) g)
-      behind_first y place (Return w) temps' s settled g = inl g
+      after_first y place (Return w) temps' s settled g = inl g
 
       in_first : (y : Joint) → y.pc ≡ taken start → Settled T P y → (piece : Piece (Left Temps)) →
           Comes T R lives y (first.size + first_left)
           (ends_of first y.pc first_left (farther to_break) (farther to_continue)) piece →
           Comes T R lives y (first.size + first_left) ends piece
       in_first y place settled (Reached l s) g =
-          ⊎_elim (λ h. behind_first y place l.exit l.carried s settled h) (λ o. inr o) g
+          ⊎_elim (λ h. after_first y place l.exit l.carried s settled h) (λ o. inr o) g
       in_first y place settled (Stopped end s) g = g
 
       from_first : (y : Joint) → y.pc ≡ taken start → y.meant ≡ x.meant → Ready T R (live_before fs lives) temps y →
@@ -402,7 +402,7 @@ module _ (T : Setting) (R : Running) (formed : IsWellFormed T.image) (inputs : A
           let begins : Starts T R first (row fs) lives temps y (farther to_break) (farther to_continue) = record {
             ready = ready;
             clear =
-                all_front (IsClear R.places) (row_points fs lives) (row_points ss lives) (clear_parts lives
+                all_prefix (IsClear R.places) (row_points fs lives) (row_points ss lives) (clear_parts lives
                 starts.clear);
             stands =
                 subst (λ pc. StandsAt T R pc first (farther to_break) (farther to_continue)) (sym place) code.of_first;
@@ -424,7 +424,7 @@ module _ (T : Setting) (R : Running) (formed : IsWellFormed T.image) (inputs : A
           (omega (arith, place, starts.breaks, test_is)) in
           let z : Joint = a.y in
           let there : z.pc ≡ second_pc start = a.pc_is ∙ omega (arith, place) in
-          let e1 : z.pc + 4 * second.size ≡ ends.behind = omega (arith, there, test_is) in
+          let e1 : z.pc + 4 * second.size ≡ ends.following = omega (arith, there, test_is) in
           let e2 : z.pc + 4 * (second.size + to_break) ≡ ends.broken = omega (arith, there, test_is) in
           let e3 : z.pc + 4 * (second.size + to_continue) ≡ ends.continued = omega (arith, there, test_is) in
           let same : ends_of second z.pc left to_break to_continue ≡ ends = rw (e1, e2, e3) refl in
@@ -491,7 +491,7 @@ module _ (T : Setting) (R : Running) (formed : IsWellFormed T.image) (inputs : A
         on_first : (y : Joint) → y.pc ≡ taken x.pc → y.meant ≡ x.meant → Ready T R (live_before fs lives) temps y →
             Comes T R lives y (first.size + left) short_ends (one temps y.meant)
         on_first y place same ready =
-            let e1 : y.pc + 4 * first.size ≡ short_ends.behind = omega (arith, place, test_is, empty, single) in
+            let e1 : y.pc + 4 * first.size ≡ short_ends.following = omega (arith, place, test_is, empty, single) in
             let e2 : y.pc + 4 * (first.size + to_break) ≡ short_ends.broken =
             omega (arith, place, test_is, empty, single) in
             let e3 : y.pc + 4 * (first.size + to_continue) ≡ short_ends.continued =
@@ -500,7 +500,7 @@ module _ (T : Setting) (R : Running) (formed : IsWellFormed T.image) (inputs : A
             let begins : Starts T R first (row fs) lives temps y to_break to_continue = record {
               ready = ready;
               clear =
-                  all_front (IsClear R.places) (row_points fs lives) (row_points ss lives) (clear_parts lives
+                  all_prefix (IsClear R.places) (row_points fs lives) (row_points ss lives) (clear_parts lives
                   starts.clear);
               stands = none_stand y.pc (first.lines to_break to_continue) (F.sized to_break to_continue ∙ empty);
               breaks = omega (arith, place, starts.breaks, test_is, empty, single);
@@ -514,7 +514,7 @@ module _ (T : Setting) (R : Running) (formed : IsWellFormed T.image) (inputs : A
             Comes T R lives y (second.size + left) short_ends (two temps y.meant)
         on_second y place same ready =
             let there : x.pc + 4 * length test ≡ y.pc = omega (arith, place, test_is) in
-            let e1 : y.pc + 4 * second.size ≡ short_ends.behind = omega (arith, place, test_is) in
+            let e1 : y.pc + 4 * second.size ≡ short_ends.following = omega (arith, place, test_is) in
             let e2 : y.pc + 4 * (second.size + to_break) ≡ short_ends.broken = omega (arith, place, test_is) in
             let e3 : y.pc + 4 * (second.size + to_continue) ≡ short_ends.continued = omega (arith, place, test_is) in
             let same : ends_of second y.pc left to_break to_continue ≡ short_ends = rw (e1, e2, e3) refl in
@@ -534,7 +534,7 @@ module _ (T : Setting) (R : Running) (formed : IsWellFormed T.image) (inputs : A
         short_comes =
             does_comes lives temps x (short.size + left) short_ends starts.ready
             (branches_at cond (pos 8) x.pc (plainly_at (T.addresses comp) T.image comp x.pc (choice frame R.places cond)
-            in_two.front))
+            in_two.prefix))
             (omega (arith, starts.breaks, test_is, single)) (first.size + left) (second.size + left)
             (omega (arith, test_is, count_is, empty)) (omega (arith, test_is, count_is)) on_first on_second
 

@@ -16,7 +16,7 @@ use Rattle.sc_pieces.proofs.ShortForms.{gives_short}
 use Rattle.sc_emit.proofs.Operands.{ArePlaced, AtHand, Gives, brings, first_is, keeps, world}
 use Rattle.sc_emit.proofs.Pairs.{again, fewer_clear}
 use Rattle.sc_emit.proofs.Plain.{IsResult, IsWordConstant, constant_stands, result_is}
-use Rattle.sc_emit.proofs.Straight.{comes_behind, read_goes, straight_follows}
+use Rattle.sc_emit.proofs.Straight.{comes_past, read_goes, straight_follows}
 
 module _ (T : Setting) (R : Running) (formed : IsWellFormed T.image) (inputs : All IsWord T.inputs) (cells : List ℕ)
     (nodes : ℕ) (is : IsActivation T.performs cells R.places nodes R.activation) (placed : ArePlaced R) (calls : Calls)
@@ -56,7 +56,7 @@ module _ (T : Setting) (R : Running) (formed : IsWellFormed T.image) (inputs : A
   -- what the operator reads, and what is live after it, but for the temporary, is live before both
   live_before : (lives : Lives) (t : ℕ) → live_plain (left ∷ []) (Some dest) lives t ≡ true →
       live_at both_steps lives t ≡ true
-  live_before lives t h = by (left == t) (is_one t (dest ∷ [])) (lives.behind t) (not_dest t) h
+  live_before lives t h = by (left == t) (is_one t (dest ∷ [])) (lives.following t) (not_dest t) h
     where
       by : (l a b : Bool) → (l ≡ true → a ≡ false) → ((l || false) || (not a && b)) ≡ true →
           (false || (not a && ((l || a) || (not a && b)))) ≡ true
@@ -73,19 +73,19 @@ module _ (T : Setting) (R : Running) (formed : IsWellFormed T.image) (inputs : A
   live_between : (lives : Lives) (t : ℕ) →
       (is_one t (left ∷ []) || live_across (left ∷ []) false (Some dest) lives t) ≡ true →
       (is_one t (left ∷ dest ∷ []) || live_across (left ∷ dest ∷ []) false (Some dest) lives t) ≡ true
-  live_between lives t h = by (left == t) (is_one t (dest ∷ [])) (lives.behind t) h
+  live_between lives t h = by (left == t) (is_one t (dest ∷ [])) (lives.following t) h
     where
       by : (l a b : Bool) → ((l || false) || (not a && b)) ≡ true → ((l || a) || (not a && b)) ≡ true
       by true a b h = refl
       by false true b h = refl
       by false false b h = h
 
-  clear_behind : (lives : Lives) → All (IsClear R.places) (both_steps.points lives) →
+  clear_after : (lives : Lives) → All (IsClear R.places) (both_steps.points lives) →
       All (IsClear R.places) (plain_points (left ∷ []) false (Some dest) lives)
-  clear_behind lives clear =
+  clear_after lives clear =
       let first : Point = point false (λ t. is_one t (left ∷ []) || live_across (left ∷ []) false (Some dest) lives t)
       in
-      let last : Point = record { assigned = Some dest; calls = false; live = lives.behind } in
+      let last : Point = record { assigned = Some dest; calls = false; live = lives.following } in
       All-cons (IsClear R.places) first (last ∷ [])
       (fewer_clear R.places
       (λ t. is_one t (left ∷ dest ∷ []) || live_across (left ∷ dest ∷ []) false (Some dest) lives t)
@@ -197,10 +197,10 @@ module _ (T : Setting) (R : Running) (formed : IsWellFormed T.image) (inputs : A
         gives form form_is for small rd (result_is R placed dest place its) (live_at both_steps lives) temps x v r ready
         (left_live lives) (left_is temps v known)
         (ap (operated wrapping (x.meant.memory comp) o v) (right_is temps w known') ∙ gave) in
-        comes_behind T R lives x whole n (with_temp dest r (set temps)) x.meant
-        (again T R dest start lives.behind x (length whole + n) n temps r x.meant (x.pc + 4 * length whole)
-        (subst (λ code. Arrives T R lives.behind x (length code + n) n (with_temp dest r temps) x.meant
+        comes_past T R lives x whole n (with_temp dest r (set temps)) x.meant
+        (again T R dest start lives.following x (length whole + n) n temps r x.meant (x.pc + 4 * length whole)
+        (subst (λ code. Arrives T R lives.following x (length code + n) n (with_temp dest r temps) x.meant
         (x.pc + 4 * length code)) in_parts
         (keeps T R x cells nodes is placed ready.frame ready.sp formed inputs lives temps (left ∷ []) dest n
-        (fewer_ready lives temps x ready) (clear_behind lives clear) r code place its g
+        (fewer_ready lives temps x ready) (clear_after lives clear) r code place its g
         (subst (CodeAt T.image comp x.pc) (sym in_parts) at)))) ends e f)))))

@@ -1,9 +1,9 @@
 -- The code that is selected keeps what code keeps.
 use Rattle.sc_emit.proofs.Common.{Activation, ArePlaces, AreReached, Bool, CodeAt, CodeTree, Err, Follows, FrameTree}
-use Rattle.sc_emit.proofs.Common.{Front, FunctionFollows, HasRoom, IfOk, Instr, IsAssignment, IsEmitted, IsFrame}
+use Rattle.sc_emit.proofs.Common.{IsPrefix, FunctionFollows, FrameFits, IfOk, Instr, IsAssignment, IsEmitted, IsFrame}
 use Rattle.sc_emit.proofs.Common.{IsFunction, IsPlaced, Line, List, Ok, Place, Register, Result, Running, Setting, Slot}
 use Rattle.sc_emit.proofs.Common.{Some, TacFnTree, [], and_parts, ap, append_assoc, arith, branch_reach, calls_only}
-use Rattle.sc_emit.proofs.Common.{closing, code_does, code_function, code_of, entrance, entry_weight, frame_taken}
+use Rattle.sc_emit.proofs.Common.{closing, code_does, code_function, code_of, prologue, entry_weight, frame_taken}
 use Rattle.sc_emit.proofs.Common.{function_lines, function_points, interval_of, intervals_of, is_near, is_place, length}
 use Rattle.sc_emit.proofs.Common.{length-append, length-map, list_all, ltb-true, map, map-append, max, names_own_temps}
 use Rattle.sc_emit.proofs.Common.{nat_lt, needs_of, plainly, plan_of, range_with_len, refl, register_count, row}
@@ -42,7 +42,7 @@ register_below n (place ∷ places) (suc t) r h e =
     register_below n places t r (and_parts (is_place n place) (list_all (is_place n) places) h).1 e
 
 module _ (f : TacFnTree) (places : List Place) (frame : FrameTree) (rules : IsFunction f) (whole : IsFrame frame)
-    (kept : ArePlaces places) (room : HasRoom f.objects places f.nodes frame) (small : frame.bytes ≤ 32768)
+    (kept : ArePlaces places) (frame_fits : FrameFits f.objects places f.nodes frame) (small : frame.bytes ≤ 32768)
     (assigned : IsAssignment (intervals_of f) places) where
   abbrev code : CodeTree
   code = code_of f places frame
@@ -59,10 +59,10 @@ module _ (f : TacFnTree) (places : List Place) (frame : FrameTree) (rules : IsFu
   body_within : (select_all frame places (plan_of f near) f.body).size ≤ length lines
   body_within = omega (
     arith,
-    length-append (plainly (entrance frame places f.params) ++ (select_all frame places (plan_of f near) f.body).lines
+    length-append (plainly (prologue frame places f.params) ++ (select_all frame places (plan_of f near) f.body).lines
         0 0)
         (plainly (closing frame places f.entry)),
-    length-append (plainly (entrance frame places f.params)) ((select_all frame places (plan_of f near) f.body).lines
+    length-append (plainly (prologue frame places f.params)) ((select_all frame places (plan_of f near) f.body).lines
         0 0),
     (row_is_sized frame places (plan_of f near) f.body).sized 0 0,
   )
@@ -82,7 +82,7 @@ module _ (f : TacFnTree) (places : List Place) (frame : FrameTree) (rules : IsFu
       ArePlaced (record { activation = A; places = places; plan = plan_of f near; last = last })
   all_placed A last same t (Register r) e = register_below (length places) places t r kept.known e
   all_placed A last same t (Slot k) e =
-      let below : k < length frame.slots = omega (arith, slot_below places t k e, room.slots) in
+      let below : k < length frame.slots = omega (arith, slot_below places t k e, frame_fits.slots) in
       (_, ap (λ (frame : FrameTree). slice_get frame.slots k) same ∙ slice_get-get_or frame.slots k 0 below)
 
   module _ (T : Setting) (comp address : ℕ) (is : IsPlaced T comp address f code) where
@@ -125,7 +125,7 @@ module _ (f : TacFnTree) (places : List Place) (frame : FrameTree) (rules : IsFu
 
     follows : FunctionFollows T comp address (length code.instrs) f.params (code_function wrapping f)
     follows =
-        code_follows T f frame places near is.image is.inputs rules whole room small assigned is.words comp address
+        code_follows T f frame places near is.image is.inputs rules whole frame_fits small assigned is.words comp address
         (length code.instrs)
         (subst (CodeAt T.image comp address) (linked_is (T.addresses comp) address lines) is.stands) (omega (
           arith,
@@ -134,7 +134,7 @@ module _ (f : TacFnTree) (places : List Place) (frame : FrameTree) (rules : IsFu
         body (brace_returns T f frame places near is.image is.inputs comp)
 
   -- the prologue comes first
-  enters : Front (frame_taken frame.bytes) code.instrs
+  enters : IsPrefix (frame_taken frame.bytes) code.instrs
   enters =
       let later : List Line = (select_all frame places (plan_of f near) f.body).lines 0 0 ++ plainly (closing frame
       places f.entry) in
@@ -143,10 +143,10 @@ module _ (f : TacFnTree) (places : List Place) (frame : FrameTree) (rules : IsFu
       record {
         more = stores ++ map instr later;
         is =
-            ap (map instr) (append_assoc (plainly (entrance frame places f.params))
+            ap (map instr) (append_assoc (plainly (prologue frame places f.params))
             ((select_all frame places (plan_of f near) f.body).lines 0 0) (plainly (closing frame places f.entry))) ∙
-            map-append instr (plainly (entrance frame places f.params)) later ∙
-            ap (λ is. is ++ map instr later) (plain_instrs (entrance frame places f.params)) ∙
+            map-append instr (plainly (prologue frame places f.params)) later ∙
+            ap (λ is. is ++ map instr later) (plain_instrs (prologue frame places f.params)) ∙
             append_assoc (frame_taken frame.bytes) stores (map instr later);
       }
     where
@@ -170,13 +170,13 @@ module _ (f : TacFnTree) (places : List Place) (frame : FrameTree) (rules : IsFu
 
 -- and so does what comes of selecting it
 pub result_emitted : {F : Type 0} (f : TacFnTree) (places : List Place) (frame : FrameTree) → IsFunction f →
-    IsFrame frame → ArePlaces places → HasRoom f.objects places f.nodes frame → frame.bytes ≤ 32768 →
+    IsFrame frame → ArePlaces places → FrameFits f.objects places f.nodes frame → frame.bytes ≤ 32768 →
     IsAssignment (intervals_of f) places → (result : Result CodeTree F) →
     IfOk result (λ code. code ≡ code_of f places frame) →
     IfOk result (λ code. length code.instrs ≤ entry_weight f.params + weight f.body) →
     IfOk result (IsEmitted f frame)
-result_emitted f places frame rules whole kept room small assigned (Ok found) is light =
+result_emitted f places frame rules whole kept frame_fits small assigned (Ok found) is light =
     subst (IsEmitted f frame) (sym is)
-    (is_emitted f places frame rules whole kept room small assigned
+    (is_emitted f places frame rules whole kept frame_fits small assigned
     (subst (λ (code : CodeTree). length code.instrs ≤ entry_weight f.params + weight f.body) is light))
-result_emitted f places frame rules whole kept room small assigned (Err e) is light = tt
+result_emitted f places frame rules whole kept frame_fits small assigned (Err e) is light = tt

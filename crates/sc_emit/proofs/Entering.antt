@@ -1,12 +1,12 @@
 -- The code of the prologue: the frame is taken and arguments go into their variables, or the machine stands trapped
 -- where the frame goes below the data.
 use Rattle.sc_emit.proofs.Common.{All, Apart, Begins, CodeAt, Computes, Does, Enters, Fetches, FrameOverflows}
-use Rattle.sc_emit.proofs.Common.{FrameTree, Function, Grown, HasRoom, ImageParts, Instr, IsFrame, IsFromSp}
+use Rattle.sc_emit.proofs.Common.{FrameTree, Function, Grown, FrameFits, ImageParts, Instr, IsFrame, IsFromSp}
 use Rattle.sc_emit.proofs.Common.{IsWellFormed, IsWord, Joint, List, Memory as Bytes, Option, Overflows, Piece, Place}
 use Rattle.sc_emit.proofs.Common.{Registers, Setting, Some, Standpoint, Store, Stores, Sw, TakesFrame, Traps, Value}
 use Rattle.sc_emit.proofs.Common.{Walks, World, [], a0, add_word, all_at, ap, are_data, arith, at, back_at, begun}
-use Rattle.sc_emit.proofs.Common.{cases_eq, cases_lt, computes, data_start, entrance, eq-eqb, false, frame_taken}
-use Rattle.sc_emit.proofs.Common.{front_at, globals_of, in_row, inl, inr, is_there, last, le-leb, le-ltb, length}
+use Rattle.sc_emit.proofs.Common.{cases_eq, cases_lt, computes, data_start, prologue, eq-eqb, false, frame_taken}
+use Rattle.sc_emit.proofs.Common.{prefix_at, globals_of, in_row, inl, inr, is_there, last, le-leb, le-ltb, length}
 use Rattle.sc_emit.proofs.Common.{length-append, look_at, moved_by, moves_on, nat_le, nat_lt, object_inside}
 use Rattle.sc_emit.proofs.Common.{object_there, objects_apart, overflows, overflows_entering, own_beside, own_inside}
 use Rattle.sc_emit.proofs.Common.{pos, put_word, ra, refl, refused, same_Some, slice_get, sp, stack_size, stack_top}
@@ -23,7 +23,7 @@ use Rattle.sc_hart.proofs.Words.{word_same, word_apart}
 -- Arguments, each into its variable.
 
 module _ (image : ImageParts) (inputs : List ℕ) (world : World) (cells : List ℕ) (places : List Place) (nodes low : ℕ)
-    (frame : FrameTree) (whole : IsFrame frame) (room : HasRoom cells places nodes frame) (aligned : low % 4 ≡ 0)
+    (frame : FrameTree) (whole : IsFrame frame) (frame_fits : FrameFits cells places nodes frame) (aligned : low % 4 ≡ 0)
     (start : data_start world.active ≤ low) (high : low + frame.bytes ≤ stack_top world.active)
     (known : world.active < 32) where
   -- a word meets none of `count` variables from `from` on
@@ -52,7 +52,7 @@ module _ (image : ImageParts) (inputs : List ℕ) (world : World) (cells : List 
   object_from_sp : (regs : Registers) (o offset n : ℕ) → regs sp ≡ low → slice_get frame.objects o ≡ Some offset →
       slice_get cells o ≡ Some n → 1 ≤ n → IsFromSp image world regs offset (low + offset)
   object_from_sp regs o offset n at_low e f some =
-      let inside : offset + 4 * n ≤ frame.bytes = object_inside cells places nodes frame room o offset n e f in
+      let inside : offset + 4 * n ≤ frame.bytes = object_inside cells places nodes frame frame_fits o offset n e f in
       let four : offset % 4 ≡ 0 = all_at (λ offset. offset % 4 ≡ 0) frame.objects o offset whole.objects e in
       record {
         sum = ap (λ s. s + offset) at_low;
@@ -78,7 +78,7 @@ module _ (image : ImageParts) (inputs : List ℕ) (world : World) (cells : List 
     variable : (o : ℕ) → o < params → IsVariable o
     variable o less =
         let size = is_there cells o (omega (arith, less, there)) in
-        let object = object_there cells places nodes frame room o size.0 size.1 in
+        let object = object_there cells places nodes frame frame_fits o size.0 size.1 in
         record { size = size.0; its = size.1; one = some o size.0 less size.1; offset = object.0; object = object.1 }
 
     -- two meet at no word
@@ -88,7 +88,7 @@ module _ (image : ImageParts) (inputs : List ℕ) (world : World) (cells : List 
         let v : IsVariable o = variable o less in
         let w : IsVariable p = variable p little in
         ⊎_elim (λ h. inl (omega (arith, h, v.one))) (λ h. inr (omega (arith, h, w.one)))
-        (objects_apart cells places nodes frame room o p a b v.size w.size other e v.its f w.its)
+        (objects_apart cells places nodes frame frame_fits o p a b v.size w.size other e v.its f w.its)
 
     store_first : (from : ℕ) (regs : Registers) (bytes : Bytes) → from < params → regs sp ≡ low →
         (v : IsVariable from) →
@@ -116,7 +116,7 @@ module _ (image : ImageParts) (inputs : List ℕ) (world : World) (cells : List 
           rest.others q (λ o offset above below. h o offset (omega (arith, above)) (omega (arith, below))) ∙
           word_apart bytes (low + v.offset) (regs (a0 + from)) q (h from v.offset (omega arith) (omega arith) v.object);
       stored = λ o offset above below e.
-          ⊎_elim (λ same. here o offset same e) (λ other. behind o offset other above below e) (cases_eq o from);
+          ⊎_elim (λ same. here o offset same e) (λ other. following o offset other above below e) (cases_eq o from);
     }
       where
         here : (o offset : ℕ) → o ≡ from → slice_get frame.objects o ≡ Some offset →
@@ -130,9 +130,9 @@ module _ (image : ImageParts) (inputs : List ℕ) (world : World) (cells : List 
             (omega (arith, below, within)) v.object f) ∙
             word_same bytes (low + v.offset) (regs (a0 + from)) small ∙ ap (λ o. regs (a0 + o)) (sym same))
 
-        behind : (o offset : ℕ) → o ≢ from → from ≤ o → o < from + suc count → slice_get frame.objects o ≡ Some offset →
+        following : (o offset : ℕ) → o ≢ from → from ≤ o → o < from + suc count → slice_get frame.objects o ≡ Some offset →
             word rest.later (low + offset) ≡ regs (a0 + o)
-        behind o offset other above below e =
+        following o offset other above below e =
             rest.stored o offset (omega (arith, above, other)) (omega (arith, below)) e ∙
             first.others (a0 + o) ((λ e. omega (arith, e)), tt)
 
@@ -208,9 +208,9 @@ module _ (image : ImageParts) (formed : IsWellFormed image) (inputs : List ℕ) 
         record {
           steps = length down;
           few = omega (arith, all);
-          behind = pc + 4 * length down;
+          following = pc + 4 * length down;
           after = first.after;
-          walks = first.does.walks pc (front_at image world.active pc down (Store Sw sp ra (pos 0) ∷ []) code);
+          walks = first.does.walks pc (prefix_at image world.active pc down (Store Sw sp ra (pos 0) ∷ []) code);
           traps =
               beyond_traps (pc + 4 * length down) first.after memory bottom
               (back_at image world.active pc down (Store Sw sp ra (pos 0) ∷ []) code).0
@@ -229,8 +229,8 @@ module _ (image : ImageParts) (formed : IsWellFormed image) (inputs : List ℕ) 
 module _ (T : Setting) (formed : IsWellFormed T.image) (inputs : All IsWord T.inputs) (P : Standpoint) (f : Function)
     (args : List Value) (address ra_is : ℕ) (x : Joint) (begins : Begins T P f args address ra_is x)
     (frame : FrameTree) (places : List Place) (nodes params : ℕ) (whole : IsFrame frame)
-    (room : HasRoom f.cells places nodes frame) (roomy : frame.bytes ≤ f.room)
-    (code : CodeAt T.image P.comp x.pc (entrance frame places params)) where
+    (frame_fits : FrameFits f.cells places nodes frame) (roomy : frame.bytes ≤ f.frame_size)
+    (code : CodeAt T.image P.comp x.pc (prologue frame places params)) where
   abbrev world : World
   world = record { active = P.comp; saved = x.saved; cross = P.cross; input = x.input; trace = x.meant.trace }
 
@@ -245,29 +245,29 @@ module _ (T : Setting) (formed : IsWellFormed T.image) (inputs : All IsWord T.in
       let o : FrameOverflows T.image T.inputs world frame.bytes x.regs x.bytes x.pc =
       goes_below T.image formed T.inputs world known x.regs x.bytes frame.bytes few whole.bytes
       (omega (arith, begins.sp, begins.base.aligned)) x.pc
-      (front_at T.image P.comp x.pc (frame_taken frame.bytes) (store_arguments frame places params 0) code)
+      (prefix_at T.image P.comp x.pc (frame_taken frame.bytes) (store_arguments frame places params 0) code)
       (omega (arith, begins.sp, low)) in
       overflows_entering T formed inputs P f args address ra_is x begins frame o.steps budget
-      (at o.behind o.after x.bytes world) piece roomy low o.walks o.traps refl refl (omega (arith, o.few, enough)) grown
+      (at o.following o.after x.bytes world) piece roomy low o.walks o.traps refl refl (omega (arith, o.few, enough)) grown
 
   module _ (low : ℕ) (bound_is : P.bound ≡ low + frame.bytes) (start : data_start P.comp ≤ low)
       (long : length args ≡ params) (few : params ≤ 8) (there : params ≤ length f.cells)
       (some : (o n : ℕ) → o < params → slice_get f.cells o ≡ Some n → 1 ≤ n) where
     abbrev pub steps : ℕ
-    steps = length (entrance frame places params)
+    steps = length (prologue frame places params)
 
     -- the prologue has come to its end
     pub record HasEntered : Type 0 where
       pub regs : Registers
       pub bytes : Bytes
-      pub enters : Enters T formed inputs P f args address ra_is x begins frame places nodes low whole room roomy
+      pub enters : Enters T formed inputs P f args address ra_is x begins frame places nodes low whole frame_fits roomy
           bound_is start steps (x.pc + 4 * steps) regs bytes
 
     aligned : low % 4 ≡ 0
     aligned = omega (arith, bound_is, whole.bytes, begins.base.aligned)
 
     four : 0 + 4 ≤ frame.bytes
-    four = own_inside f.cells places nodes frame room 0 0 refl
+    four = own_inside f.cells places nodes frame frame_fits 0 0 refl
 
     takes : TakesFrame T.image T.inputs world frame.bytes x.regs x.bytes low
     takes =
@@ -289,10 +289,10 @@ module _ (T : Setting) (formed : IsWellFormed T.image) (inputs : All IsWord T.in
     abbrev between : Bytes
     between = put_word x.bytes low (x.regs ra)
 
-    stores : StoresArguments T.image T.inputs world f.cells places nodes low frame whole room aligned start
+    stores : StoresArguments T.image T.inputs world f.cells places nodes low frame whole frame_fits aligned start
         (omega (arith, bound_is, begins.base.high)) known params 0 takes.after between
     stores =
-        stores_arguments T.image T.inputs world f.cells places nodes low frame whole room aligned start
+        stores_arguments T.image T.inputs world f.cells places nodes low frame whole frame_fits aligned start
         (omega (arith, bound_is, begins.base.high)) known params few there some params 0 takes.after between (omega
         arith)
         takes.lowered argument_word
@@ -303,21 +303,21 @@ module _ (T : Setting) (formed : IsWellFormed T.image) (inputs : All IsWord T.in
         let n = is_there f.cells o (omega (arith, less, there)) in (n.0, n.1, some o n.0 less n.1)
 
     -- the return address lies beside all variables
-    ra_beside : MeetsNone T.image T.inputs world f.cells places nodes low frame whole room aligned start
+    ra_beside : MeetsNone T.image T.inputs world f.cells places nodes low frame whole frame_fits aligned start
         (omega (arith, bound_is, begins.base.high)) known params 0 low
     ra_beside o offset above below e =
         let n = object_of o offset (omega (arith, below)) e in
         ⊎_elim (λ h. inl (omega (arith, h))) (λ h. inl (omega (arith, h, n.2)))
-        (own_beside f.cells places nodes frame room 0 0 o offset n.0 refl e n.1)
+        (own_beside f.cells places nodes frame frame_fits 0 0 o offset n.0 refl e n.1)
 
     -- and variables lie inside the frame
     outside_beside : (q : ℕ) → (q + 4 ≤ low) ⊎ (low + frame.bytes ≤ q) →
-        MeetsNone T.image T.inputs world f.cells places nodes low frame whole room aligned start
+        MeetsNone T.image T.inputs world f.cells places nodes low frame whole frame_fits aligned start
         (omega (arith, bound_is, begins.base.high)) known params 0 q
     outside_beside q h o offset above below e =
         let n = object_of o offset (omega (arith, below)) e in
         let inside : offset + 4 * n.0 ≤ frame.bytes =
-        object_inside f.cells places nodes frame room o offset n.0 e n.1 in
+        object_inside f.cells places nodes frame frame_fits o offset n.0 e n.1 in
         ⊎_elim (λ k. inl (omega (arith, k))) (λ k. inr (omega (arith, k, inside, n.2))) h
 
     outside_low : (q : ℕ) → (q + 4 ≤ low) ⊎ (low + frame.bytes ≤ q) → Apart q low

@@ -85,10 +85,10 @@ module _ (T : Setting) (R : Running) (formed : IsWellFormed T.image) (inputs : A
         ComesStraight T R lives x (asking number dest args) left (call_does A.here calls dest target args temps x.meant)
     asks target number dest args environment few needs small stands there made answers lives temps x left ready clear
         code
-        ends left_is behind_is =
+        ends left_is after_is =
         call_runs T R formed inputs cells nodes is placed calls follow target dest args there made answers lives temps
         clear (λ y left v s ready b. asked_back args dest lives temps y target left v s environment ready b) x
-        (pass frame R.places a0 args ++ ask number) Ecall left ends left_is behind_is code ready
+        (pass frame R.places a0 args ++ ask number) Ecall left ends left_is after_is code ready
         (asks_prepared target number dest args few needs small stands lives temps x ready code)
 
     pub input_follows : (dest : Option ℕ) → HasPlace R.places dest → T.makes A.here.comp Input 0 ≡ true →

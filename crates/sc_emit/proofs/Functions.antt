@@ -1,26 +1,26 @@
 -- The code of a function follows the function, where the code of its body follows what its statements do.
 use Rattle.sc_emit.proofs.Common.{Activation, All, Arrives, Begins, Bool, Break, Calls, CallsFollow, CodeAt, Comes}
 use Rattle.sc_emit.proofs.Common.{Continue, Ends, Entry, Exit, ExitGives, Export, Follows, FrameTree, Function}
-use Rattle.sc_emit.proofs.Common.{FunctionFollows, FunctionGives, FunctionGoes, Gives, Goes, Grown, HasNoGap, HasRoom}
+use Rattle.sc_emit.proofs.Common.{FunctionFollows, FunctionGives, FunctionGoes, Gives, Goes, Grown, HasNoGap, FrameFits}
 use Rattle.sc_emit.proofs.Common.{Here, InParts, Instr, IsActivation, IsAssignment, IsFrame, IsFunction, IsTrue}
 use Rattle.sc_emit.proofs.Common.{IsWellFormed, IsWord, Joint, Left, Line, List, Main, Next, None, Option, Overflows}
-use Rattle.sc_emit.proofs.Common.{Piece, Place, Reached, Ready, Return, Returns, Running, Setting, Settled, Shows, Some}
+use Rattle.sc_emit.proofs.Common.{Piece, Place, Reached, Ready, Return, Returns, Running, Setting, Settled, Emits, Some}
 use Rattle.sc_emit.proofs.Common.{Standpoint, Starts, State as Meant, Stopped, TacFnTree, Temps, Value, Word, []}
 use Rattle.sc_emit.proofs.Common.{activated, and_parts, and_then, ap, append_assoc, arith, arrives_with, at_brace}
-use Rattle.sc_emit.proofs.Common.{begun, cases_lt, closed, closing, code_does, code_function, code_library, completed}
-use Rattle.sc_emit.proofs.Common.{completed_length, data_start, done, done_goes, ends_of, entered, entrance, eqb-true}
+use Rattle.sc_emit.proofs.Common.{begun, cases_lt, closed, closing, code_does, code_function, code_denotations, completed}
+use Rattle.sc_emit.proofs.Common.{completed_length, data_start, done, done_goes, ends_of, entered, prologue, eqb-true}
 use Rattle.sc_emit.proofs.Common.{false, frame_taken, function_follows, function_lines, in_parts, inl, inr}
 use Rattle.sc_emit.proofs.Common.{intervals_of, is_activation, last as final, leads_then, length, length-append}
 use Rattle.sc_emit.proofs.Common.{length-map, list_all, live_at, low_plainly, map, no_temps, nothing_live}
 use Rattle.sc_emit.proofs.Common.{overflows_then, passes_words, plain, plainly, plainly_at, plan_of, reached}
 use Rattle.sc_emit.proofs.Common.{ready_entered, refl, returns_with, row, runs_with, same, same_Some, same_entry}
-use Rattle.sc_emit.proofs.Common.{seen_from, select_all, shows_after, shows_here, slice_get, stays, store_arguments}
+use Rattle.sc_emit.proofs.Common.{seen_from, select_all, emits_after, emits_here, slice_get, stays, store_arguments}
 use Rattle.sc_emit.proofs.Common.{subst, suc, sym, then_goes, trail, true, word_at, wrapping, zero, ℕ, ⊎_elim, ◌*◌}
 use Rattle.sc_emit.proofs.Common.{◌++◌, ◌+◌, ◌-◌, ◌<◌, ◌==◌, ◌∙◌, ◌∷◌, ◌≡◌, ◌≤◌, ◌⊎◌}
 use Rattle.sc_tac.specs.Prelude.{nothing}
 use Rattle.sc_select.specs.Prelude.{Piece as Code}
 use Rattle.std.proofs.Common.{take}
-use Rattle.sc_laws.proofs.Matching.{library_goes}
+use Rattle.sc_laws.proofs.Matching.{denotations_go}
 use Rattle.sc_tac.specs.declared.program.TacTree.{TacTree}
 use Rattle.sc_tac.proofs.Clear.{places_are_clear}
 use Rattle.sc_tac.proofs.Matching.{code_obeys}
@@ -51,7 +51,7 @@ module _ (T : Setting) (R : Running) (y : Joint) (budget : ℕ) where
   -- its call is left, or the meaning ends
   abbrev Closes : Piece (Option Value) → Type 0
   Closes (Reached v s) = Returns T R y budget v s
-  Closes (Stopped end s) = Shows T P y budget s
+  Closes (Stopped end s) = Emits T P y budget s
 
   without_value : (v : Option Value) (s : Meant) → Returns T R y budget v s → Returns T R y budget None s
   without_value v s r = record {
@@ -66,7 +66,7 @@ module _ (T : Setting) (R : Running) (y : Joint) (budget : ℕ) where
   }
 
   brace_closes : (has_result is_main : Bool) (here : Here) (s : Meant) →
-      Returns T R y budget (given_at_brace is_main) s → Shows T P y budget s →
+      Returns T R y budget (given_at_brace is_main) s → Emits T P y budget s →
       Closes (at_brace has_result is_main 0 here s)
   brace_closes true true here s r g = r
   brace_closes true false here s r g = g
@@ -78,7 +78,7 @@ module _ (T : Setting) (R : Running) (y : Joint) (budget : ℕ) where
     abbrev ends : Ends
     ends = record {
       left = left;
-      behind = y.pc + 4 * size;
+      following = y.pc + 4 * size;
       broken = y.pc + 4 * (size + 0);
       continued = y.pc + 4 * (size + 0);
     }
@@ -102,8 +102,8 @@ module _ (T : Setting) (R : Running) (y : Joint) (budget : ℕ) where
         Closes (at_brace has_result is_main 0 here s)
     brace temps s g =
         brace_closes has_result is_main here s (arrived temps s g)
-        (subst (λ s. Shows T P y budget s) g.meant_is
-        (shows_after T P y g.y budget left g.y.meant g.leads (shows_here T P g.y left)))
+        (subst (λ s. Emits T P y budget s) g.meant_is
+        (emits_after T P y g.y budget left g.y.meant g.leads (emits_here T P g.y left)))
 
     exit_closes : (exit : Exit) (temps : Temps) (s : Meant) → ExitGives T R nothing_live y budget ends exit temps s →
         Closes (closed exit has_result is_main 0 here s)
@@ -141,7 +141,7 @@ function_goes f =
       interfaces = record { comps = []; main = 0 };
       sections = record { structs = []; globals = []; functions = f ∷ [] } ∷ [];
     } in
-    library_goes (code_library wrapping alone) (code_obeys.itself wrapping alone) 0 0 (code_function wrapping f) refl
+    denotations_go (code_denotations wrapping alone) (code_obeys.itself wrapping alone) 0 0 (code_function wrapping f) refl
 
 module _ (T : Setting) (f : TacFnTree) (frame : FrameTree) (places : List Place) (near : Bool) where
   abbrev pub in_call : Activation → (last : ℕ) → Running
@@ -175,7 +175,7 @@ module _ (T : Setting) (f : TacFnTree) (frame : FrameTree) (places : List Place)
   closing_some (Some (Export index)) = omega arith
 
   module _ (formed : IsWellFormed T.image) (inputs : All IsWord T.inputs) (rules : IsFunction f) (whole : IsFrame frame)
-      (room : HasRoom f.objects places f.nodes frame) (fits : frame.bytes ≤ 32768)
+      (frame_fits : FrameFits f.objects places f.nodes frame) (fits : frame.bytes ≤ 32768)
       (assigned : IsAssignment (intervals_of f) places) (words : IsTrue (passes_words f.params f.objects)) where
     abbrev function : Function
     function = code_function wrapping f
@@ -183,29 +183,29 @@ module _ (T : Setting) (f : TacFnTree) (frame : FrameTree) (places : List Place)
     abbrev body : Code
     body = select_all frame places (plan_of f near) f.body
 
-    abbrev way_in : List Instr
-    way_in = entrance frame places f.params
+    abbrev prologue_code : List Instr
+    prologue_code = prologue frame places f.params
 
-    abbrev way_out : List Instr
-    way_out = closing frame places f.entry
+    abbrev epilogue_code : List Instr
+    epilogue_code = closing frame places f.entry
 
     abbrev lines : List Line
     lines = function_lines frame places (plan_of f near) f
 
     abbrev steps : ℕ
-    steps = length way_in
+    steps = length prologue_code
 
-    in_order : lines ≡ plainly way_in ++ (body.lines 0 0 ++ plainly way_out)
-    in_order = append_assoc (plainly way_in) (body.lines 0 0) (plainly way_out)
+    in_order : lines ≡ plainly prologue_code ++ (body.lines 0 0 ++ plainly epilogue_code)
+    in_order = append_assoc (plainly prologue_code) (body.lines 0 0) (plainly epilogue_code)
 
-    all_lines : length lines ≡ steps + (length (body.lines 0 0) + length way_out)
+    all_lines : length lines ≡ steps + (length (body.lines 0 0) + length epilogue_code)
     all_lines = omega (
       arith,
       ap length in_order,
-      length-append (plainly way_in) (body.lines 0 0 ++ plainly way_out),
-      length-append (body.lines 0 0) (plainly way_out),
-      length-map way_in plain,
-      length-map way_out plain,
+      length-append (plainly prologue_code) (body.lines 0 0 ++ plainly epilogue_code),
+      length-append (body.lines 0 0) (plainly epilogue_code),
+      length-map prologue_code plain,
+      length-map epilogue_code plain,
     )
 
     variables_some : (params o n : ℕ) → params ≡ f.params → o < params → slice_get f.objects o ≡ Some n → 1 ≤ n
@@ -225,23 +225,23 @@ module _ (T : Setting) (f : TacFnTree) (frame : FrameTree) (places : List Place)
       abbrev here : Here
       here = record { comp = P.comp; first = first }
 
-      abbrev told : Piece (Option Value)
-      told = runs_with T calls P.comp function args x.meant
+      abbrev timed : Piece (Option Value)
+      timed = runs_with T calls P.comp function args x.meant
 
-      in_front : InParts (T.addresses P.comp) T.image P.comp x.pc (plainly way_in) (body.lines 0 0 ++ plainly way_out)
-      in_front =
-          in_parts (T.addresses P.comp) T.image P.comp x.pc (plainly way_in) (body.lines 0 0 ++ plainly way_out)
-          (low_plainly (T.addresses P.comp) way_in)
+      at_start : InParts (T.addresses P.comp) T.image P.comp x.pc (plainly prologue_code) (body.lines 0 0 ++ plainly epilogue_code)
+      at_start =
+          in_parts (T.addresses P.comp) T.image P.comp x.pc (plainly prologue_code) (body.lines 0 0 ++ plainly epilogue_code)
+          (low_plainly (T.addresses P.comp) prologue_code)
           (subst (λ ls. CodeAt T.image P.comp x.pc (completed (T.addresses P.comp) x.pc None ls)) in_order code)
 
-      entrance_at : CodeAt T.image P.comp x.pc way_in
-      entrance_at = plainly_at (T.addresses P.comp) T.image P.comp x.pc way_in in_front.front
+      entrance_at : CodeAt T.image P.comp x.pc prologue_code
+      entrance_at = plainly_at (T.addresses P.comp) T.image P.comp x.pc prologue_code at_start.prefix
 
-      behind_at : CodeAt T.image P.comp (x.pc + 4 * steps) (completed (T.addresses P.comp) (x.pc + 4 * steps) None
-          (body.lines 0 0 ++ plainly way_out))
-      behind_at =
+      after_at : CodeAt T.image P.comp (x.pc + 4 * steps) (completed (T.addresses P.comp) (x.pc + 4 * steps) None
+          (body.lines 0 0 ++ plainly epilogue_code))
+      after_at =
           subst (λ n. CodeAt T.image P.comp (x.pc + 4 * n) (completed (T.addresses P.comp) (x.pc + 4 * n) None
-          (body.lines 0 0 ++ plainly way_out))) (length-map way_in plain) in_front.back
+          (body.lines 0 0 ++ plainly epilogue_code))) (length-map prologue_code plain) at_start.back
 
       -- the address of the last word
       abbrev end : ℕ
@@ -252,31 +252,31 @@ module _ (T : Setting) (f : TacFnTree) (frame : FrameTree) (places : List Place)
           word_in T.image P.comp (completed (T.addresses P.comp) x.pc None lines) x.pc (length lines - 1)
           (omega (arith, completed_length (T.addresses P.comp) x.pc None lines, all_lines, closing_some f.entry)) code
 
-      told_grown : Grown start_state (final told)
-      told_grown =
+      timed_grown : Grown start_state (final timed)
+      timed_grown =
           (then_goes start_state (function.does calls here start_state)
           (λ v t. Reached v (done P.comp function first t)) (function_goes f calls follow.goes here start_state)
           (λ v t. reached v t (done P.comp function first t) (done_goes P.comp function first t))).grown
 
       abbrev Goal : Type 0
-      Goal = FunctionGives T P x budget ra_is told ⊎ Overflows T P x budget told
+      Goal = FunctionGives T P x budget ra_is timed ⊎ Overflows T P x budget timed
 
       too_low : P.bound < data_start P.comp + frame.bytes → Goal
       too_low low =
           let both = length-append (frame_taken frame.bytes) (store_arguments frame places f.params 0) in
           inr (overflows_below T formed inputs P function args address ra_is x begins frame places f.nodes f.params
-          whole room room.bounded entrance_at budget told (omega (arith, room.bounded, fits)) low
-          (omega (arith, both, all_lines, enough)) told_grown)
+          whole frame_fits frame_fits.bounded entrance_at budget timed (omega (arith, frame_fits.bounded, fits)) low
+          (omega (arith, both, all_lines, enough)) timed_grown)
 
       -- The frame fits.
       module _ (runs : BodyFollows P.comp) (way : BraceReturns P.comp) (low : ℕ)
           (bound_is : P.bound ≡ low + frame.bytes) (start : data_start P.comp ≤ low) where
         entering : HasEntered T formed inputs P function args address ra_is x begins frame places f.nodes f.params whole
-            room room.bounded entrance_at low bound_is start long (omega (arith, rules.few_params)) rules.params_stored
+            frame_fits frame_fits.bounded entrance_at low bound_is start long (omega (arith, rules.few_params)) rules.params_stored
             (λ o n less e. variables_some f.params o n refl less e)
         entering =
             has_entered T formed inputs P function args address ra_is x begins frame places f.nodes f.params whole
-            room room.bounded entrance_at low bound_is start long (omega (arith, rules.few_params)) rules.params_stored
+            frame_fits frame_fits.bounded entrance_at low bound_is start long (omega (arith, rules.few_params)) rules.params_stored
             (λ o n less e. variables_some f.params o n refl less e)
 
         abbrev A : Activation
@@ -293,8 +293,8 @@ module _ (T : Setting) (f : TacFnTree) (frame : FrameTree) (places : List Place)
 
         run : IsRun P.comp A
         run = record {
-          is = is_activation T formed inputs P function args address ra_is x begins frame places f.nodes low whole room
-              room.bounded bound_is start;
+          is = is_activation T formed inputs P function args address ra_is x begins frame places f.nodes low whole frame_fits
+              frame_fits.bounded bound_is start;
           frame_is = refl;
           comp_is = refl;
         }
@@ -302,16 +302,16 @@ module _ (T : Setting) (f : TacFnTree) (frame : FrameTree) (places : List Place)
         F : Follows T R (code_does wrapping here calls f.body) body (row (map trail f.body))
         F = runs calls follow A end run (no_gap T R end_word.0 end_word.1)
 
-        in_back : InParts (T.addresses P.comp) T.image P.comp (x.pc + 4 * steps) (body.lines 0 0) (plainly way_out)
+        in_back : InParts (T.addresses P.comp) T.image P.comp (x.pc + 4 * steps) (body.lines 0 0) (plainly epilogue_code)
         in_back =
-            in_parts (T.addresses P.comp) T.image P.comp (x.pc + 4 * steps) (body.lines 0 0) (plainly way_out)
-            (F.closed 0 0) behind_at
+            in_parts (T.addresses P.comp) T.image P.comp (x.pc + 4 * steps) (body.lines 0 0) (plainly epilogue_code)
+            (F.closed 0 0) after_at
 
-        closing_at : CodeAt T.image P.comp (x.pc + 4 * steps + 4 * body.size) way_out
+        closing_at : CodeAt T.image P.comp (x.pc + 4 * steps + 4 * body.size) epilogue_code
         closing_at =
-            plainly_at (T.addresses P.comp) T.image P.comp (x.pc + 4 * steps + 4 * body.size) way_out
+            plainly_at (T.addresses P.comp) T.image P.comp (x.pc + 4 * steps + 4 * body.size) epilogue_code
             (subst (λ n. CodeAt T.image P.comp (x.pc + 4 * steps + 4 * n) (completed (T.addresses P.comp)
-            (x.pc + 4 * steps + 4 * n) None (plainly way_out))) (F.sized 0 0) in_back.back)
+            (x.pc + 4 * steps + 4 * n) None (plainly epilogue_code))) (F.sized 0 0) in_back.back)
 
         abbrev left : ℕ
         left = budget - (steps + body.size)
@@ -319,11 +319,11 @@ module _ (T : Setting) (f : TacFnTree) (frame : FrameTree) (places : List Place)
         starts : Starts T R body (row (map trail f.body)) nothing_live no_temps y 0 0
         starts = record {
           ready = ready_entered T formed inputs P function args address ra_is x begins frame places f.nodes low whole
-              room room.bounded bound_is start steps (x.pc + 4 * steps) entering.regs entering.bytes entering.enters
+              frame_fits frame_fits.bounded bound_is start steps (x.pc + 4 * steps) entering.regs entering.bytes entering.enters
               (λ o n less e. variables_some (length args) o n long less e) (plan_of f near) end
               (live_at (row (map trail f.body)) nothing_live);
           clear = places_are_clear f places rules assigned;
-          stands = in_back.front;
+          stands = in_back.prefix;
           breaks = omega (arith, all_lines, F.sized 0 0, closing_some f.entry);
           continues = omega (arith, all_lines, F.sized 0 0, closing_some f.entry);
         }
@@ -331,9 +331,9 @@ module _ (T : Setting) (f : TacFnTree) (frame : FrameTree) (places : List Place)
         brace_returns : (z : Joint) (temps : Temps) → z.pc ≡ y.pc + 4 * body.size → Ready T R nothing temps z →
             Returns T R z left (given_at_brace (same_entry Main f.entry)) z.meant
         brace_returns z temps here ready =
-            returns_with T R z (length way_out) left (given_at_brace (same_entry Main f.entry)) z.meant
+            returns_with T R z (length epilogue_code) left (given_at_brace (same_entry Main f.entry)) z.meant
             (omega (arith, all_lines, F.sized 0 0, enough))
-            (way A end run z temps ready (subst (λ pc. CodeAt T.image P.comp pc way_out) (sym here) closing_at))
+            (way A end run z temps ready (subst (λ pc. CodeAt T.image P.comp pc epilogue_code) (sym here) closing_at))
 
         abbrev stated : Piece (Left Temps)
         stated = code_does wrapping here calls f.body no_temps start_state
@@ -356,9 +356,9 @@ module _ (T : Setting) (f : TacFnTree) (frame : FrameTree) (places : List Place)
         high_enough : Goal
         high_enough =
             let all : steps + (body.size + left) ≡ budget = omega (arith, all_lines, F.sized 0 0, enough) in
-            subst (λ n. FunctionGives T P x n ra_is told ⊎ Overflows T P x n told) all
-            (function_follows T formed inputs P function args address ra_is x begins frame places f.nodes low whole room
-            room.bounded bound_is start steps (x.pc + 4 * steps) entering.regs entering.bytes entering.enters
+            subst (λ n. FunctionGives T P x n ra_is timed ⊎ Overflows T P x n timed) all
+            (function_follows T formed inputs P function args address ra_is x begins frame places f.nodes low whole frame_fits
+            frame_fits.bounded bound_is start steps (x.pc + 4 * steps) entering.regs entering.bytes entering.enters
             (λ o n less e. variables_some (length args) o n long less e) end (plan_of f near) (body.size + left) value
             closes)
 

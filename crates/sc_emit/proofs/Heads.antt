@@ -7,7 +7,7 @@ use Rattle.sc_emit.proofs.Common.{Inside, Instr, IsActivation, IsClear, IsInside
 use Rattle.sc_emit.proofs.Common.{Leads, Left, Line, List, Lives, Next, None, Ok, Option, Output, Overflows, Own, Piece}
 use Rattle.sc_emit.proofs.Common.{Place, Plan, Reached, Ready, Registers, Result, Return, Running, Set, Setting, Some}
 use Rattle.sc_emit.proofs.Common.{Standpoint, Starts, State as Meant, Stopped, TacStmt, TacStmt-F, Temps, Trail, Value}
-use Rattle.sc_emit.proofs.Common.{Walks, [], add_word, ahead_at, all_do, all_front, all_plain, and_parts, and_then, ap}
+use Rattle.sc_emit.proofs.Common.{Walks, [], add_word, ahead_at, all_do, all_prefix, all_plain, and_parts, and_then, ap}
 use Rattle.sc_emit.proofs.Common.{append_assoc, ap₂, arith, back_to, branch_back, branch_reach, call_does, choose}
 use Rattle.sc_emit.proofs.Common.{code_inside, code_step, completed, computed, each_plain, effect_still, ends_of}
 use Rattle.sc_emit.proofs.Common.{eq-eqb, false, first_scratch, fold-roll-TacStmt, follow as then_follow, follow_goes}
@@ -17,7 +17,7 @@ use Rattle.sc_emit.proofs.Common.{leads_then_steps, leave, length, length-map, l
 use Rattle.sc_emit.proofs.Common.{low_plainly, lt-ltb, machine, map, map-TacStmt, map-append, moved, neg_ℤ, operand}
 use Rattle.sc_emit.proofs.Common.{operated, or_left, or_right, overflows_with, plain, plain_fork, plainly, plainly_at}
 use Rattle.sc_emit.proofs.Common.{pos, read, read_all, readings, ready_less, received, refl, roll-TacStmt, rounds, row}
-use Rattle.sc_emit.proofs.Common.{row_first, row_points, second, seen_from, select, shows_after, shows_here, stays}
+use Rattle.sc_emit.proofs.Common.{row_first, row_points, second, seen_from, select, emits_after, emits_here, stays}
 use Rattle.sc_emit.proofs.Common.{stmt_does, stmt_induction, store, stored, subst, suc, sym, take, test_stmt, testing}
 use Rattle.sc_emit.proofs.Common.{then_from, trail, trail_step, true, turn, with_memory, with_temp, word_at, word_of}
 use Rattle.sc_emit.proofs.Common.{wrapping, zero, ℕ, ℤ, ⊎_elim, ◌*◌, ◌++◌, ◌+◌, ◌<◌, ◌==◌, ◌∙◌, ◌∷◌, ◌≡◌, ◌≤◌}
@@ -182,14 +182,14 @@ module _ (frame : FrameTree) (places : List Place) (plan : Plan) (here : Here) (
 -- what is live before both
 first_of_both : (one two : List Trail) (t : ℕ) (ahead : Ahead) →
     row_first (readings t (one ++ two)) ahead ≡
-    row_first (readings t one) (record ahead { behind = row_first (readings t two) ahead })
+    row_first (readings t one) (record ahead { following = row_first (readings t two) ahead })
 first_of_both [] two t ahead = refl
 first_of_both (trail ∷ one) two t ahead =
-    ap (λ b. (trail.reading t).first (record ahead { behind = b })) (first_of_both one two t ahead)
+    ap (λ b. (trail.reading t).first (record ahead { following = b })) (first_of_both one two t ahead)
 
 module _ (lives : Lives) (two : List Trail) where
   abbrev before_two : Lives
-  before_two = record lives { behind = live_before two lives }
+  before_two = record lives { following = live_before two lives }
 
   live_of_both : (one : List Trail) → live_before (one ++ two) lives ≡ live_before one before_two
   live_of_both one = fun_ext (λ t. first_of_both one two t (ahead_at lives t))
@@ -198,9 +198,9 @@ module _ (lives : Lives) (two : List Trail) where
       row_points (one ++ two) lives ≡ row_points one before_two ++ row_points two lives
   points_of_both [] = refl
   points_of_both (trail ∷ one) =
-      ap₂ (λ live points. trail.points (record lives { behind = live }) ++ points) (live_of_both one)
+      ap₂ (λ live points. trail.points (record lives { following = live }) ++ points) (live_of_both one)
       (points_of_both one) ∙
-      sym (append_assoc (trail.points (record lives { behind = live_before one before_two })) (row_points one
+      sym (append_assoc (trail.points (record lives { following = live_before one before_two })) (row_points one
       before_two) (row_points two lives))
 
 -- what both do
@@ -309,7 +309,7 @@ module _ (T : Setting) (R : Running) (formed : IsWellFormed T.image) (inputs : A
       abbrev ends : Ends
       ends = record {
         left = left;
-        behind = body_pc;
+        following = body_pc;
         broken = x.pc + 4 * (i.size + test_size);
         continued = body_pc;
       }
@@ -319,16 +319,16 @@ module _ (T : Setting) (R : Running) (formed : IsWellFormed T.image) (inputs : A
       live = live_before (test_trail cond ∷ []) lives
 
       abbrev inner : Lives
-      inner = record lives { behind = live }
+      inner = record lives { following = live }
 
       cond_live : live cond ≡ true
       cond_live = or_left (cond == cond) _ (eq-eqb cond cond refl)
 
-      behind_live : (t : ℕ) → lives.behind t ≡ true → live t ≡ true
-      behind_live t on = or_right (cond == t) _ (or_left (lives.behind t) (lives.broken t) on)
+      after_live : (t : ℕ) → lives.following t ≡ true → live t ≡ true
+      after_live t on = or_right (cond == t) _ (or_left (lives.following t) (lives.broken t) on)
 
       broken_live : (t : ℕ) → lives.broken t ≡ true → live t ≡ true
-      broken_live t on = or_right (cond == t) _ (or_right (lives.behind t) (lives.broken t) on)
+      broken_live t on = or_right (cond == t) _ (or_right (lives.following t) (lives.broken t) on)
 
       -- where the test stands
       abbrev test_pc : ℕ
@@ -353,7 +353,7 @@ module _ (T : Setting) (R : Running) (formed : IsWellFormed T.image) (inputs : A
           in_parts addresses T.image comp test_pc (plainly before) (plain branch ∷ []) (low_plainly addresses before)
           whole in
           record {
-            takes = plainly_at addresses T.image comp test_pc before two.front;
+            takes = plainly_at addresses T.image comp test_pc before two.prefix;
             branches = subst (λ k. Fetches T.image comp (test_pc + 4 * k) branch) (length-map before plain) two.back.0;
           }
 
@@ -362,9 +362,9 @@ module _ (T : Setting) (R : Running) (formed : IsWellFormed T.image) (inputs : A
       starts = record {
         ready = subst (λ live. Ready T R live temps x) (live_of_both lives (test_trail cond ∷ []) trails) ready;
         clear =
-            all_front (IsClear R.places) (row_points trails inner) (row_points (test_trail cond ∷ []) lives)
+            all_prefix (IsClear R.places) (row_points trails inner) (row_points (test_trail cond ∷ []) lives)
             (subst (All (IsClear R.places)) (points_of_both lives (test_trail cond ∷ []) trails) clear);
-        stands = parts.front;
+        stands = parts.prefix;
         breaks = last;
         continues = omega (arith, last);
       }
@@ -430,7 +430,7 @@ module _ (T : Setting) (R : Running) (formed : IsWellFormed T.image) (inputs : A
               }
 
           -- the value is true: back to the body
-          goes_back : is_true v ≡ true → ArrivesLate T R lives.behind x budget left temps' y.meant body_pc
+          goes_back : is_true v ≡ true → ArrivesLate T R lives.following x budget left temps' y.meant body_pc
           goes_back true_is =
               let here : IsInside branch_pc = code_inside T.image formed comp branch_pc code_here.branches.word
               code_here.branches.fetched in
@@ -438,15 +438,15 @@ module _ (T : Setting) (R : Running) (formed : IsWellFormed T.image) (inputs : A
               let target : add_word branch_pc (word_of back) ≡ body_pc =
               back_to branch_pc back_lines (omega (arith, g.pc_is, place)) (omega (arith, here.low)) ∙
               omega (arith, g.pc_is, place) in
-              arrives_late lives.behind body_pc behind_live
+              arrives_late lives.following body_pc after_live
               (branch_goes T R formed inputs cells nodes is placed gapless cond back live temps' y g.ready code_here
               cond_live need v known body_pc w true_is target body.aligned there)
 
           -- it is false: after the loop
           goes_out : is_true v ≡ false → Arrives T R lives.broken x budget left temps' y.meant ends.broken
           goes_out false_is =
-              let behind : branch_pc + 4 ≡ ends.broken = omega (arith, g.pc_is) in
-              subst (Arrives T R lives.broken x budget left temps' y.meant) behind
+              let following : branch_pc + 4 ≡ ends.broken = omega (arith, g.pc_is) in
+              subst (Arrives T R lives.broken x budget left temps' y.meant) following
               (arrives lives.broken (branch_pc + 4) broken_live
               (branch_passes T R formed inputs cells nodes is placed gapless cond back live temps' y g.ready code_here
               cond_live need v known false_is))
@@ -464,7 +464,7 @@ module _ (T : Setting) (R : Running) (formed : IsWellFormed T.image) (inputs : A
             (then_follow one_by_one (and_then (computed R.activation.here 0 (is_known o) y.meant)
             (λ v s. choose v (all_do [] temps' s) (all_do (leave Break ∷ []) temps' s))) (all_do []))
         by_known None e =
-            inl (shows_after T P x y budget (test_size + left) y.meant g.leads (shows_here T P y (test_size + left)))
+            inl (emits_after T P x y budget (test_size + left) y.meant g.leads (emits_here T P y (test_size + left)))
         by_known (Some v) e = by_value v e (is_true v) refl
 
         test_comes : HeadComes T R lives x budget ends (test temps' s)
@@ -480,11 +480,11 @@ module _ (T : Setting) (R : Running) (formed : IsWellFormed T.image) (inputs : A
       onwards Continue temps' s h g = cc h
       onwards (Return v) temps' s h g = inl g
 
-      behind_first : (piece : Piece (Left Temps)) → GoesOn piece →
+      after_first : (piece : Piece (Left Temps)) → GoesOn piece →
           Gives T R inner x budget (ends_of i x.pc (test_size + left) test_size 0) piece →
           HeadComes T R lives x budget ends (then_follow one_by_one piece test)
-      behind_first (Reached l s) h g = onwards l.exit l.carried s h g
-      behind_first (Stopped end s) h g = inl g
+      after_first (Reached l s) h g = onwards l.exit l.carried s h g
+      after_first (Stopped end s) h g = inl g
 
       overflow_first : (piece : Piece (Left Temps)) → Overflows T P x budget piece →
           Overflows T P x budget (then_follow one_by_one piece test)
@@ -500,7 +500,7 @@ module _ (T : Setting) (R : Running) (formed : IsWellFormed T.image) (inputs : A
 
       head_runs : HeadComes T R lives x budget ends (then_test R.activation.here cond first temps x.meant)
       head_runs =
-          ⊎_elim (λ g. behind_first (first temps x.meant) (on temps x.meant) g)
+          ⊎_elim (λ g. after_first (first temps x.meant) (on temps x.meant) g)
           (λ o. inr (overflow_first (first temps x.meant) o))
           (I.runs inner temps x (test_size + left) test_size 0 starts)
 

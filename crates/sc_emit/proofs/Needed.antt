@@ -4,7 +4,7 @@ use Rattle.sc_emit.proofs.Common.{Places, Plan, Role, Sets, Some, TacStmt, TacSt
 use Rattle.sc_emit.proofs.Common.{and_parts, ap, break_stmt, ending_test, eq-eqb, eqb-true, false, fold-roll-TacStmt}
 use Rattle.sc_emit.proofs.Common.{fork_role, if◌then◌else◌, in_order, is_one, is_some, joins, list_all, map}
 use Rattle.sc_emit.proofs.Common.{map-TacStmt, need, need_step, operation_role, or_left, or_right, place_needed, refl}
-use Rattle.sc_emit.proofs.Common.{role_behind, role_of_store, roll-TacStmt, row_needs, select, select_step, short_form}
+use Rattle.sc_emit.proofs.Common.{role_to_next, role_of_store, roll-TacStmt, row_needs, select, select_step, short_form}
 use Rattle.sc_emit.proofs.Common.{stmt_induction, store_role, subst, sym, test_stmt, true, turning_role, ℕ, ⊎_elim}
 use Rattle.sc_emit.proofs.Common.{◌&&◌, ◌++◌, ◌==◌, ◌||◌, ◌∙◌, ◌∷◌, ◌≡◌, ◌⊎◌}
 use Rattle.sc_tac.specs.declared.stmt.TacStmt.TheOpen as tac
@@ -85,26 +85,26 @@ gives_of (Places temp object) = Some temp
 gives_of _ = None
 
 -- what a statement gives to its neighbour doesn't depend on the one before it
-pub gives_behind : (before own : Role) → gives_of (role_behind before own) ≡ gives_of own
-gives_behind (Sets temp word) (Operates other left o) = by (temp == other && is_some (short_form o word))
+pub gives_to_next : (before own : Role) → gives_of (role_to_next before own) ≡ gives_of own
+gives_to_next (Sets temp word) (Operates other left o) = by (temp == other && is_some (short_form o word))
   where
     by : (b : Bool) → gives_of (if b then Applies other left o word else Operates other left o) ≡ None
     by true = refl
     by false = refl
-gives_behind (Sets temp word) (Places other object) = refl
-gives_behind (Sets temp word) (Loads other) = refl
-gives_behind (Sets temp word) (Sets other value) = refl
-gives_behind (Sets temp word) (Stores other value) = refl
-gives_behind (Sets temp word) (Applies other left o value) = refl
-gives_behind (Sets temp word) (Returns other) = refl
-gives_behind (Sets temp word) Other = refl
-gives_behind (Places temp object) own = refl
-gives_behind (Loads temp) own = refl
-gives_behind (Operates temp left o) own = refl
-gives_behind (Stores temp value) own = refl
-gives_behind (Applies temp left o word) own = refl
-gives_behind (Returns temp) own = refl
-gives_behind Other own = refl
+gives_to_next (Sets temp word) (Places other object) = refl
+gives_to_next (Sets temp word) (Loads other) = refl
+gives_to_next (Sets temp word) (Sets other value) = refl
+gives_to_next (Sets temp word) (Stores other value) = refl
+gives_to_next (Sets temp word) (Applies other left o value) = refl
+gives_to_next (Sets temp word) (Returns other) = refl
+gives_to_next (Sets temp word) Other = refl
+gives_to_next (Places temp object) own = refl
+gives_to_next (Loads temp) own = refl
+gives_to_next (Operates temp left o) own = refl
+gives_to_next (Stores temp value) own = refl
+gives_to_next (Applies temp left o word) own = refl
+gives_to_next (Returns temp) own = refl
+gives_to_next Other own = refl
 
 module _ (frame : FrameTree) (places : List Place) (plan : Plan) where
   abbrev role_of : TacStmt → Role
@@ -180,26 +180,26 @@ module _ (frame : FrameTree) (places : List Place) (plan : Plan) where
       layer_stores layer place (sym (ap (λ (n : Need). n.stores) (fold-roll-TacStmt Need need_step layer)) ∙ h))
 
   -- the place of a store that isn't one with the statement before it is read
-  read_behind : (before : Role) (place value : ℕ) → list_all plan.needed
+  read_after : (before : Role) (place value : ℕ) → list_all plan.needed
       (place_needed (gives_of before) (Some place)) ≡ true
       →
       joins before (Stores place value) ≡ false → plan.needed place ≡ true
-  read_behind (Places temp object) place value h apart =
+  read_after (Places temp object) place value h apart =
       let all : list_all plan.needed (place ∷ []) ≡ true =
       sym (ap (λ b. list_all plan.needed (if b then [] else place ∷ [])) apart) ∙ h in and_first
       (plan.needed place) true all
-  read_behind (Loads temp) place value h apart = and_first (plan.needed place) true h
-  read_behind (Sets temp word) place value h apart = and_first (plan.needed place) true h
-  read_behind (Operates temp left o) place value h apart = and_first (plan.needed place) true h
-  read_behind (Stores temp from) place value h apart = and_first (plan.needed place) true h
-  read_behind (Applies temp left o word) place value h apart = and_first (plan.needed place) true h
-  read_behind (Returns temp) place value h apart = and_first (plan.needed place) true h
-  read_behind Other place value h apart = and_first (plan.needed place) true h
+  read_after (Loads temp) place value h apart = and_first (plan.needed place) true h
+  read_after (Sets temp word) place value h apart = and_first (plan.needed place) true h
+  read_after (Operates temp left o) place value h apart = and_first (plan.needed place) true h
+  read_after (Stores temp from) place value h apart = and_first (plan.needed place) true h
+  read_after (Applies temp left o word) place value h apart = and_first (plan.needed place) true h
+  read_after (Returns temp) place value h apart = and_first (plan.needed place) true h
+  read_after Other place value h apart = and_first (plan.needed place) true h
 
-  pub store_alone : (before : Role) (stmt : TacStmt) →
+  pub store_unjoined : (before : Role) (stmt : TacStmt) →
       list_all plan.needed (place_needed (gives_of before) (need stmt).stores) ≡ true →
       joins before (role_of stmt) ≡ false → (place : ℕ) → (need stmt).stores ≡ Some place → plan.needed place ≡ true
-  store_alone before stmt h apart place is = by (plan.needed place) refl
+  store_unjoined before stmt h apart place is = by (plan.needed place) refl
     where
       store : IsStoreAt stmt place
       store = stores_at stmt place is
@@ -210,6 +210,6 @@ module _ (frame : FrameTree) (places : List Place) (plan : Plan) where
           let role : role_of stmt ≡ Stores place store.value =
           store.role_is ∙ ap (λ b. if b then Other else Stores place store.value) e in
           sym e ∙
-          read_behind before place store.value
+          read_after before place store.value
           (subst (λ o. list_all plan.needed (place_needed (gives_of before) o) ≡ true) is h)
           (sym (ap (joins before) role) ∙ apart)

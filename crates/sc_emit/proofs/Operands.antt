@@ -1,6 +1,6 @@
 -- Operands at hand, and results in their places.
 use Rattle.sc_emit.proofs.Common.{Activation, All, Arrives, Besides, CodeAt, Computes, Does, FrameMatches}
-use Rattle.sc_emit.proofs.Common.{HasNoOtherUse, InPlace, Instr, IsActivation, IsClear, IsFromSp, IsHeld, IsWellFormed}
+use Rattle.sc_emit.proofs.Common.{HasNoOtherUse, InPlace, Instr, IsActivation, IsClear, IsFromSp, IsInPlace, IsWellFormed}
 use Rattle.sc_emit.proofs.Common.{IsWord, IsWritable, Joint, List, Lives, Memory as Bytes, Place, Ready, Register}
 use Rattle.sc_emit.proofs.Common.{Registers, Running, Setting, Slot, Some, Standpoint, StandsFor, Stores, Temps, Value}
 use Rattle.sc_emit.proofs.Common.{Walks, World, [], address_scratch, ap, append-nil, arith, assigned, assigns_register}
@@ -89,7 +89,7 @@ module _ (T : Setting) (R : Running) (x : Joint) where
         IsFromSp T.image world regs offset (A.sp + offset)
     slot_from_sp regs k offset e same = record {
       sum = ap (λ s. s + offset) (same ∙ sp_is);
-      below = omega (arith, own_inside cells R.places nodes A.frame is.room (suc k) offset e, is.high, is.known);
+      below = omega (arith, own_inside cells R.places nodes A.frame is.frame_fits (suc k) offset e, is.high, is.known);
       owned = (frame.guard (suc k) offset e).owned;
     }
 
@@ -150,7 +150,7 @@ module _ (T : Setting) (R : Running) (x : Joint) where
 
     -- a temporary that has its value has it at hand, also where scratch registers changed
     pub brings : (regs : Registers) (scratch t : ℕ) (v : Value) → IsScratch scratch →
-        IsHeld A R.places x.inj x.regs x.bytes t v → regs sp ≡ x.regs sp →
+        IsInPlace A R.places x.inj x.regs x.bytes t v → regs sp ≡ x.regs sp →
         ((q : ℕ) → HasNoOtherUse q → regs q ≡ x.regs q) → AtHand regs scratch t v
     brings regs scratch t v s held same others =
         at_hand_by regs scratch t v held.place s held.its (placed t held.place held.its) (value held.place
@@ -166,7 +166,7 @@ module _ (T : Setting) (R : Running) (x : Joint) where
         (clear : All (IsClear R.places) (plain_points reads false (Some dest) lives)) (v : Value) where
       abbrev End : List Instr → Type 0
       End code =
-          Arrives T R lives.behind x (length code + left) left (with_temp dest v temps) x.meant (x.pc + 4 * length code)
+          Arrives T R lives.following x (length code + left) left (with_temp dest v temps) x.meant (x.pc + 4 * length code)
 
       -- into the register of a temporary
       pub keeps_register : (code : List Instr) (r : ℕ) → slice_get R.places dest ≡ Some (Register r) →

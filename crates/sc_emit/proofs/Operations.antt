@@ -6,12 +6,12 @@ use Rattle.sc_emit.proofs.Common.{None, Ok, Option, Other, Place, Reached, Ready
 use Rattle.sc_emit.proofs.Common.{Setting, Settled, Some, StandsFor, State as Meant, Store, Stores, Sw, TacOp, Temps}
 use Rattle.sc_emit.proofs.Common.{Value, [], add_word, and_first, and_from, and_rest, and_then, ap, append-nil}
 use Rattle.sc_emit.proofs.Common.{append_assoc, arith, code_step, comes_computed, comes_read, computed, eq-eqb, false}
-use Rattle.sc_emit.proofs.Common.{first_scratch, front_same, gets, in_row, inl, is_one, is_some, keep, leave, length}
+use Rattle.sc_emit.proofs.Common.{first_scratch, prefix_same, gets, in_row, inl, is_one, is_some, keep, leave, length}
 use Rattle.sc_emit.proofs.Common.{list_all, live_plain, load, load_from, loads, look, looked, may_store, one_or_none}
 use Rattle.sc_emit.proofs.Common.{op_code, op_word, operand, operated, operation, operator_stands, or_left, or_right}
 use Rattle.sc_emit.proofs.Common.{plain_points, pos, read, refl, result_register, role_of_load, role_of_operation}
 use Rattle.sc_emit.proofs.Common.{role_of_store, same, second_operand, second_scratch, seen_from, select_step}
-use Rattle.sc_emit.proofs.Common.{shows_here, slice_get, sp, stays, store, store_to, stored, stores, straightly, subst}
+use Rattle.sc_emit.proofs.Common.{emits_here, slice_get, sp, stays, store, store_to, stored, stores, straightly, subst}
 use Rattle.sc_emit.proofs.Common.{sym, take, takes_two, trail_step, true, with_memory, with_temp, word, word_of}
 use Rattle.sc_emit.proofs.Common.{wrapping, ℕ, ⊎_elim, ◌&&◌, ◌*◌, ◌++◌, ◌+◌, ◌==◌, ◌∙◌, ◌∷◌, ◌≡◌}
 use Rattle.rv_code.specs.declared.instr.LoadOp.TheVariants.{Lw}
@@ -20,7 +20,7 @@ use Rattle.sc_tac.specs.declared.stmt.TacStmt.TheOpen as tac
 use Rattle.sc_pieces.proofs.Operators.{gives_word}
 use Rattle.sc_emit.proofs.Operands.{ArePlaced, AtHand, Gives, first_is, second_is, brings, keeps, world}
 use Rattle.sc_emit.proofs.Plain.{IsResult, result_is}
-use Rattle.sc_emit.proofs.Straight.{comes_behind, read_goes, computed_goes, straight_follows, with_role}
+use Rattle.sc_emit.proofs.Straight.{comes_past, read_goes, computed_goes, straight_follows, with_role}
 
 module _ (T : Setting) (R : Running) (formed : IsWellFormed T.image) (inputs : All IsWord T.inputs) (cells : List ℕ)
     (nodes : ℕ) (is : IsActivation T.performs cells R.places nodes R.activation) (placed : ArePlaced R) (calls : Calls)
@@ -151,8 +151,8 @@ module _ (T : Setting) (R : Running) (formed : IsWellFormed T.image) (inputs : A
               h.others sp ((λ e. omega (arith, e)), ((λ e. omega (arith, e)), tt));
           others = λ q k n. piece.others q (n, tt) ∙ h.others q (k.first, (k.address, tt));
         } in
-        comes_behind T R lives x (load_from frame R.places dest place) left (with_temp dest v temps) x.meant
-        (subst (λ code. Arrives T R lives.behind x (length code + left) left (with_temp dest v temps) x.meant
+        comes_past T R lives x (load_from frame R.places dest place) left (with_temp dest v temps) x.meant
+        (subst (λ code. Arrives T R lives.following x (length code + left) left (with_temp dest v temps) x.meant
         (x.pc + 4 * length code)) whole
         (keeps T R x cells nodes is placed ready.frame ready.sp formed inputs lives temps (place ∷ []) dest left ready
         clear v
@@ -168,8 +168,8 @@ module _ (T : Setting) (R : Running) (formed : IsWellFormed T.image) (inputs : A
             (λ blocks s. leave Next temps (with_memory R.activation.here.comp blocks s)))
         by (Ok blocks) = record {
           grown = record {
-            events = front_same s.trace;
-            frames = front_same s.frames;
+            events = prefix_same s.trace;
+            frames = prefix_same s.frames;
             late = tt;
             turns = omega arith;
           };
@@ -191,7 +191,7 @@ module _ (T : Setting) (R : Running) (formed : IsWellFormed T.image) (inputs : A
             Comes T R lives x budget ends (and_then (computed R.activation.here 0 result x.meant)
             (λ blocks s. leave Next temps (with_memory R.activation.here.comp blocks s)))
         by (Ok after) h = h after refl
-        by (Err cause) h = inl (shows_here T (seen_from R.activation) x budget)
+        by (Err cause) h = inl (emits_here T (seen_from R.activation) x budget)
 
     pub store_follows : (place value : ℕ) → R.plan.needed place ≡ true → R.plan.needed value ≡ true →
         Follows T R (code_step wrapping R.activation.here calls (tac.Store place value))
@@ -234,7 +234,7 @@ module _ (T : Setting) (R : Running) (formed : IsWellFormed T.image) (inputs : A
         (may_store T R formed inputs cells nodes is live temps x h.one q v after ready h.one_stands found) in
         let does = in_row T.image T.inputs (world T R x) h.does piece.does in
         let code : List Instr = store_to frame R.places place value in
-        comes_behind T R lives x code left temps (with_memory comp after x.meant)
+        comes_past T R lives x code left temps (with_memory comp after x.meant)
         (stores T R formed inputs cells nodes is reads lives temps x (length code) left (x.pc + 4 * length code) h.one
         h.two
         q v after piece.after ready h.one_stands found h.two_stands (piece.others sp tt ∙ h.same)
@@ -301,7 +301,7 @@ module _ (T : Setting) (R : Running) (formed : IsWellFormed T.image) (inputs : A
           (ready : Ready T R (live_plain (reads right) (Some dest) lives) temps x)
           (clear : All (IsClear R.places) (plain_points (reads right) false (Some dest) lives))
           (at_pc : CodeAt T.image comp x.pc (Whole right)) (ends : Ends) (e : ends.left ≡ left)
-          (f : ends.behind ≡ x.pc + 4 * length (Whole right)) where
+          (f : ends.following ≡ x.pc + 4 * length (Whole right)) where
         abbrev Result_comes : Value → Value → Type 0
         Result_comes v w =
             Comes T R lives x (length (Whole right) + left) ends
@@ -327,8 +327,8 @@ module _ (T : Setting) (R : Running) (formed : IsWellFormed T.image) (inputs : A
             operated_gives x before after l (second_operand frame R.places
             right) a b v w r ready.settled does operands one
             two for gave same others in
-            comes_behind T R lives x (Whole right) left (with_temp dest r temps) x.meant
-            (subst (λ code. Arrives T R lives.behind x (length code + left) left (with_temp dest r temps) x.meant
+            comes_past T R lives x (Whole right) left (with_temp dest r temps) x.meant
+            (subst (λ code. Arrives T R lives.following x (length code + left) left (with_temp dest r temps) x.meant
             (x.pc + 4 * length code)) (sym whole)
             (keeps T R x cells nodes is placed ready.frame ready.sp formed inputs lives temps (reads right) dest left
             ready

@@ -82,10 +82,10 @@ loop_passes (test ∷ tests) head body next h =
     ((one.0, more.0), (two.0, more.1), (three.0, more.2))
 
 -- those before others pass as all do
-pub front_passes : (tests : List Test) (front rest : List TacStmt) → AllPass tests (front ++ rest) →
-    AllPass tests front
-front_passes [] front rest h = tt
-front_passes (test ∷ tests) front rest h = (by front h.0, front_passes tests front rest h.1)
+pub prefix_passes : (tests : List Test) (prefix rest : List TacStmt) → AllPass tests (prefix ++ rest) →
+    AllPass tests prefix
+prefix_passes [] prefix rest h = tt
+prefix_passes (test ∷ tests) prefix rest h = (by prefix h.0, prefix_passes tests prefix rest h.1)
   where
     by : (xs : List TacStmt) → all_true (map (passes test) (xs ++ rest)) ≡ true →
         all_true (map (passes test) xs) ≡ true

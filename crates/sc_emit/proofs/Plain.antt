@@ -1,6 +1,6 @@
 -- Statements that assign what no store decides: constants, copies, places.
 use Rattle.sc_emit.proofs.Common.{Addi, All, Arrives, Calls, CodeAt, Comes, Computes, Constant, Follows, FrameTree}
-use Rattle.sc_emit.proofs.Common.{InPlace, Instr, IsActivation, IsAddress, IsClear, IsHeld, IsWellFormed, IsWord}
+use Rattle.sc_emit.proofs.Common.{InPlace, Instr, IsActivation, IsAddress, IsClear, IsInPlace, IsWellFormed, IsWord}
 use Rattle.sc_emit.proofs.Common.{IsWritable, Joint, Line, List, Lives, Lui, Next, OpImm, Option, Place, Places, Ready}
 use Rattle.sc_emit.proofs.Common.{Register, Running, Sets, Setting, Slot, Some, StandsFor, Temps, Upper, Value, Walks}
 use Rattle.sc_emit.proofs.Common.{[], add_word, and_from, ap, ap₂, arith, at, at_hand, brought, code_step, comes_read}
@@ -15,7 +15,7 @@ use Rattle.sc_emit.proofs.Common.{word_of_constant, wrapping, ℕ, ◌*◌, ◌+
 use Rattle.sc_tac.specs.declared.stmt.Constant.TheVariants as constant
 use Rattle.sc_tac.specs.declared.stmt.TacStmt.TheOpen as tac
 use Rattle.sc_emit.proofs.Operands.{IsPlace, ArePlaced, Gives, keeps, keeps_register, keeps_slot, slot_from_sp, world}
-use Rattle.sc_emit.proofs.Straight.{comes_behind, read_goes, lines_follow, straight_follows, with_role}
+use Rattle.sc_emit.proofs.Straight.{comes_past, read_goes, lines_follow, straight_follows, with_role}
 
 -- a register that may be written, and isn't sp
 pub record IsResult (q : ℕ) : Type 0 where
@@ -88,7 +88,7 @@ module _ (T : Setting) (R : Running) (formed : IsWellFormed T.image) (inputs : A
         (code ++ keep frame R.places dest) (trail_step (tac.Const dest value))
         (λ temps. stays (record { exit = Next; carried = with_temp dest (constant_value value) temps }))
         (λ lives temps x left ready clear at.
-        comes_behind T R lives x (code ++ keep frame R.places dest) left (with_temp dest (constant_value value)
+        comes_past T R lives x (code ++ keep frame R.places dest) left (with_temp dest (constant_value value)
         temps) x.meant
         (keeps T R x cells nodes is placed ready.frame ready.sp formed inputs lives temps [] dest left ready clear
         (constant_value value) code place its
@@ -127,7 +127,7 @@ module _ (T : Setting) (R : Running) (formed : IsWellFormed T.image) (inputs : A
         (clear : All (IsClear R.places) (plain_points (from ∷ []) false (Some dest) lives)) where
       abbrev End : List Instr → Type 0
       End code =
-          Arrives T R lives.behind x (length code + left) left (with_temp dest v temps) x.meant (x.pc + 4 * length code)
+          Arrives T R lives.following x (length code + left) left (with_temp dest v temps) x.meant (x.pc + 4 * length code)
 
       -- the value at a place, in a register that may be written
       brought_gives : (rd : ℕ) (place : Place) → IsWritable rd → sp ≢ rd → rd ≢ 7 → IsPlace R.activation place →
@@ -210,12 +210,12 @@ module _ (T : Setting) (R : Running) (formed : IsWellFormed T.image) (inputs : A
         left)
         ends R.activation.here from temps (λ v s. leave Next (with_temp dest v temps) s)
         (λ v known.
-        (let held : IsHeld R.activation R.places x.inj x.regs x.bytes from v =
+        (let held : IsInPlace R.activation R.places x.inj x.regs x.bytes from v =
         ready.held from v (and_from (live_plain (from ∷ []) (Some dest) lives from) (R.plan.needed from)
         (live_read (from ∷ []) (Some dest) lives from (only_one from)) need) known in
         let code : copied frame (place_of frame R.places dest) (place_of frame R.places from) ≡
         copied frame (Some to) (Some held.place) = ap₂ (copied frame) its held.its in
-        comes_behind T R lives x (copied frame (place_of frame R.places dest) (place_of frame R.places from)) left
+        comes_past T R lives x (copied frame (place_of frame R.places dest) (place_of frame R.places from)) left
         (with_temp dest v temps) x.meant
         (subst (End lives temps x from dest left v ready clear) (sym code)
         (copied_by lives temps x from dest left v ready clear to held.place its (placed dest to its)
@@ -247,7 +247,7 @@ module _ (T : Setting) (R : Running) (formed : IsWellFormed T.image) (inputs : A
         (code ++ keep frame R.places dest) (trail_step (tac.ObjectPlace dest object))
         (λ temps. stays (record { exit = Next; carried = with_temp dest (start_of block) temps }))
         (λ lives temps x left ready clear at.
-        comes_behind T R lives x (code ++ keep frame R.places dest) left (with_temp dest (start_of block) temps) x.meant
+        comes_past T R lives x (code ++ keep frame R.places dest) left (with_temp dest (start_of block) temps) x.meant
         (keeps T R x cells nodes is placed ready.frame ready.sp formed inputs lives temps [] dest left ready clear
         (start_of block) code place its
         (let sum : add_word R.activation.sp (object_offset frame object) ≡ R.activation.sp + offset =
@@ -297,7 +297,7 @@ module _ (T : Setting) (R : Running) (formed : IsWellFormed T.image) (inputs : A
         (λ q h. (h.0, tt))) in
         subst (λ n. Comes T R lives x (n + left) ends (code_step wrapping R.activation.here calls (tac.GlobalPlace
         dest global) temps x.meant)) long
-        (comes_behind T R lives x (code ++ keep frame R.places dest) left (with_temp dest (start_of global) temps)
+        (comes_past T R lives x (code ++ keep frame R.places dest) left (with_temp dest (start_of global) temps)
         x.meant
         (keeps T R x cells nodes is placed ready.frame ready.sp formed inputs lives temps [] dest left ready clear
         (start_of global) code place its g stands) ends e (f ∙ ap (λ n. x.pc + 4 * n) (sym long)))))

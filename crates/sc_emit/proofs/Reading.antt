@@ -12,7 +12,7 @@ use Rattle.sc_tac.specs.declared.stmt.TacStmt.TheOpen as tac
 use Rattle.sc_emit.proofs.Operands.{ArePlaced, Gives, keeps, world}
 use Rattle.sc_emit.proofs.Pairs.{again, fewer_clear}
 use Rattle.sc_emit.proofs.Plain.{IsResult, gives_by, result_is, start_stands}
-use Rattle.sc_emit.proofs.Straight.{comes_behind, computed_goes, read_goes, straight_follows}
+use Rattle.sc_emit.proofs.Straight.{comes_past, computed_goes, read_goes, straight_follows}
 
 module _ (T : Setting) (R : Running) (formed : IsWellFormed T.image) (inputs : All IsWord T.inputs) (cells : List ℕ)
     (nodes : ℕ) (is : IsActivation T.performs cells R.places nodes R.activation) (placed : ArePlaced R) (calls : Calls)
@@ -33,7 +33,7 @@ module _ (T : Setting) (R : Running) (formed : IsWellFormed T.image) (inputs : A
   -- what is live after both, but for the temporary that they assign, is live before them
   live_before_both : (lives : Lives) (t : ℕ) → live_plain [] (Some dest) lives t ≡ true →
       live_at both_trails lives t ≡ true
-  live_before_both lives t h = by (is_one t (dest ∷ [])) (lives.behind t) h
+  live_before_both lives t h = by (is_one t (dest ∷ [])) (lives.following t) h
     where
       by : (a b : Bool) → (false || (not a && b)) ≡ true → (false || (not a && (a || (not a && b)))) ≡ true
       by true b h = cc h
@@ -41,17 +41,17 @@ module _ (T : Setting) (R : Running) (formed : IsWellFormed T.image) (inputs : A
 
   live_between : (lives : Lives) (t : ℕ) → (false || live_across [] false (Some dest) lives t) ≡ true →
       (is_one t (dest ∷ []) || live_across (dest ∷ []) false (Some dest) lives t) ≡ true
-  live_between lives t h = by (is_one t (dest ∷ [])) (lives.behind t) h
+  live_between lives t h = by (is_one t (dest ∷ [])) (lives.following t) h
     where
       by : (a b : Bool) → (false || (not a && b)) ≡ true → (a || (not a && b)) ≡ true
       by true b h = refl
       by false b h = h
 
-  clear_behind : (lives : Lives) → All (IsClear R.places) (both_trails.points lives) →
+  clear_after : (lives : Lives) → All (IsClear R.places) (both_trails.points lives) →
       All (IsClear R.places) (plain_points [] false (Some dest) lives)
-  clear_behind lives clear =
+  clear_after lives clear =
       let first : Point = point false (λ t. is_one t [] || live_across [] false (Some dest) lives t) in
-      let last : Point = record { assigned = Some dest; calls = false; live = lives.behind } in
+      let last : Point = record { assigned = Some dest; calls = false; live = lives.following } in
       All-cons (IsClear R.places) first (last ∷ [])
       (fewer_clear R.places (λ t. is_one t (dest ∷ []) || live_across (dest ∷ []) false (Some dest) lives t)
       (λ t. is_one t [] || live_across [] false (Some dest) lives t) (live_between lives)
@@ -130,8 +130,8 @@ module _ (T : Setting) (R : Running) (formed : IsWellFormed T.image) (inputs : A
         let g : Gives T R x (load_word rd (object_offset frame object)) rd v =
         gives lives temps x v ready
         (subst (λ q. load (x.meant.memory R.activation.here.comp) pointer q ≡ Ok v) (sym start_is) found) in
-        comes_behind T R lives x code left (with_temp dest v (with_temp dest start temps)) x.meant
-        (again T R dest start lives.behind x (length code + left) left temps v x.meant (x.pc + 4 * length code)
+        comes_past T R lives x code left (with_temp dest v (with_temp dest start temps)) x.meant
+        (again T R dest start lives.following x (length code + left) left temps v x.meant (x.pc + 4 * length code)
         (keeps T R x cells nodes is placed ready.frame ready.sp formed inputs lives temps [] dest left
-        (fewer_ready lives temps x ready) (clear_behind lives clear) v (load_word rd (object_offset frame object)) place
+        (fewer_ready lives temps x ready) (clear_after lives clear) v (load_word rd (object_offset frame object)) place
         its g at)) ends e f))))

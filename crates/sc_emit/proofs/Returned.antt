@@ -129,7 +129,7 @@ module _ (T : Setting) (R : Running) (formed : IsWellFormed T.image) (inputs : A
     puts lives temps x v r ready known gave =
         let on : live_at all_three lives left ≡ true =
         left_live T R formed inputs cells nodes is placed calls dest left value o apart need
-        (record lives { behind = λ t. is_one t (dest ∷ []) }) in
+        (record lives { following = λ t. is_one t (dest ∷ []) }) in
         let g : Gives T R x code a0 r =
         gives T R formed inputs cells nodes is placed calls dest left value o apart need form form_is for small a0 a0_is
         (live_at all_three lives) temps x v r ready on known gave in

@@ -1,10 +1,10 @@
 -- The epilogue of a function: a return, and the closing brace.
 use Rattle.sc_emit.proofs.Common.{Activation, Addi, All, Bool, Calls, CodeAt, Computes, Does, Entry, Export, Follows}
-use Rattle.sc_emit.proofs.Common.{FrameTree, GivenBack, Goes, Instr, IsActivation, IsWellFormed, IsWord, Jalr, Joint}
+use Rattle.sc_emit.proofs.Common.{FrameTree, ReturnsValue, Goes, Instr, IsActivation, IsWellFormed, IsWord, Jalr, Joint}
 use Rattle.sc_emit.proofs.Common.{LeavesFrame, List, Lives, Main, None, OpImm, Option, Owned, Place, Ready, Registers}
 use Rattle.sc_emit.proofs.Common.{Return, Returns, Running, Set, Setting, Some, Standpoint, StandsFor, TacFnTree, Temps}
 use Rattle.sc_emit.proofs.Common.{Value, Walks, Word, [], a0, and_first, and_from, ap, append_assoc, arith, at, back_at}
-use Rattle.sc_emit.proofs.Common.{brought, closing, code_step, comes_read, eq-eqb, frame_left, frame_raised, front_at}
+use Rattle.sc_emit.proofs.Common.{brought, closing, code_step, comes_read, eq-eqb, epilogue, epilogue_to_jump, prefix_at}
 use Rattle.sc_emit.proofs.Common.{in_row, inl, is_one, leads_less, leads_moved, leave, leaves_frame, length}
 use Rattle.sc_emit.proofs.Common.{length-append, list_all, machine, moved, one_or_none, place_of, pos, ra, refl, return}
 use Rattle.sc_emit.proofs.Common.{return_does, role_of_return, same_entry, seen_from, select_step, settled_moved, sp}
@@ -34,7 +34,7 @@ module _ (T : Setting) (R : Running) (formed : IsWellFormed T.image) (inputs : A
       pub after : Registers
       pub does : Does T.image T.inputs (world T R x) code x.regs x.bytes after x.bytes
       pub same : after sp ≡ x.regs sp
-      pub value : GivenBack T (x.inj A.here.comp) (after a0) v
+      pub value : ReturnsValue T (x.inj A.here.comp) (after a0) v
 
     -- the frame is left
     leaves : (after : Registers) → after sp ≡ x.regs sp →
@@ -48,20 +48,20 @@ module _ (T : Setting) (R : Running) (formed : IsWellFormed T.image) (inputs : A
 
     left_by : (code : List Instr) (v : Option Value) (budget : ℕ) (p : Puts code v)
         (l : LeavesFrame T.image T.inputs (world T R x) frame.bytes p.after x.bytes) →
-        length (code ++ frame_left frame.bytes) ≤ budget →
-        CodeAt T.image A.here.comp x.pc (code ++ frame_left frame.bytes) → Returns T R x budget v x.meant
+        length (code ++ epilogue frame.bytes) ≤ budget →
+        CodeAt T.image A.here.comp x.pc (code ++ epilogue frame.bytes) → Returns T R x budget v x.meant
     left_by code v budget p l enough stands =
-        let raised : List Instr = frame_raised frame.bytes in
+        let raised : List Instr = epilogue_to_jump frame.bytes in
         let n : ℕ = length (code ++ raised) in
         let jump : List Instr = Jalr 0 ra (pos 0) ∷ [] in
-        let whole : code ++ frame_left frame.bytes ≡ (code ++ raised) ++ jump = sym (append_assoc code raised jump) in
+        let whole : code ++ epilogue frame.bytes ≡ (code ++ raised) ++ jump = sym (append_assoc code raised jump) in
         let at : CodeAt T.image A.here.comp x.pc ((code ++ raised) ++ jump) =
         subst (CodeAt T.image A.here.comp x.pc) whole stands in
-        let long : length (code ++ frame_left frame.bytes) ≡ n + 1 =
+        let long : length (code ++ epilogue frame.bytes) ≡ n + 1 =
         ap length whole ∙ length-append (code ++ raised) jump in
         let walks : Walks T.image T.inputs n (machine P x) (machine P (moved x (x.pc + 4 * n) l.after x.bytes)) =
         walks_to T R x (code ++ raised) l.after x.bytes (in_row T.image T.inputs (world T R x) p.does l.does)
-        (front_at T.image A.here.comp x.pc (code ++ raised) jump at) in
+        (prefix_at T.image A.here.comp x.pc (code ++ raised) jump at) in
         let ra_is : l.after ra ≡ A.ra =
         l.loaded ∙ ap (word x.bytes) (p.same ∙ ready.sp) ∙ ready.frame.ra in
         let a0_is : l.after a0 ≡ p.after a0 =
@@ -81,15 +81,15 @@ module _ (T : Setting) (R : Running) (formed : IsWellFormed T.image) (inputs : A
               (λ k b a i cells h on e l. refl) walks;
         }
       where
-        given_in : (v : Option Value) (w u : ℕ) → w ≡ u → GivenBack T (x.inj A.here.comp) u v →
-            GivenBack T (x.inj A.here.comp) w v
+        given_in : (v : Option Value) (w u : ℕ) → w ≡ u → ReturnsValue T (x.inj A.here.comp) u v →
+            ReturnsValue T (x.inj A.here.comp) w v
         given_in None w u e h = tt
         given_in (Some v) w u e h = subst (λ w. StandsFor (x.inj A.here.comp) w v) (sym e) h
 
     -- the value is in a0, and the frame is left: the jump back is all that is to be done
     pub leaves_with : (code : List Instr) (v : Option Value) (budget : ℕ) → Puts code v →
-        length (code ++ frame_left frame.bytes) ≤ budget →
-        CodeAt T.image A.here.comp x.pc (code ++ frame_left frame.bytes) → Returns T R x budget v x.meant
+        length (code ++ epilogue frame.bytes) ≤ budget →
+        CodeAt T.image A.here.comp x.pc (code ++ epilogue frame.bytes) → Returns T R x budget v x.meant
     leaves_with code v budget p enough stands =
         left_by code v budget p (leaves p.after p.same) enough stands
 
@@ -109,8 +109,8 @@ module _ (T : Setting) (R : Running) (formed : IsWellFormed T.image) (inputs : A
             (at p x.regs x.bytes (world T R x))) e (record { by = refl })
 
     -- without a value
-    pub leaves_alone : (budget : ℕ) → length (frame_left frame.bytes) ≤ budget →
-        CodeAt T.image A.here.comp x.pc (frame_left frame.bytes) → Returns T R x budget None x.meant
+    pub leaves_alone : (budget : ℕ) → length (epilogue frame.bytes) ≤ budget →
+        CodeAt T.image A.here.comp x.pc (epilogue frame.bytes) → Returns T R x budget None x.meant
     leaves_alone budget enough stands = leaves_with [] None budget no_code enough stands
 
     zero_put : Puts (OpImm Addi a0 0 (pos 0) ∷ []) (Some (Word 0))
@@ -167,12 +167,12 @@ module _ (T : Setting) (R : Running) (formed : IsWellFormed T.image) (inputs : A
         CodeAt T.image A.here.comp x.pc (return frame R.places value) →
         ComesStraight T R lives x (return frame R.places value) left (return_does A.here value temps x.meant)
     returns None needs lives temps x left ready code ends e f =
-        inl (leaves_alone (λ t. is_one t (one_or_none None)) temps x ready (length (frame_left frame.bytes) + left)
+        inl (leaves_alone (λ t. is_one t (one_or_none None)) temps x ready (length (epilogue frame.bytes) + left)
         (omega arith) code)
     returns (Some t) needs lives temps x left ready code ends e f =
         let live : Set = λ u. is_one u (one_or_none (Some t)) in
         let before : List Instr = brought frame a0 (place_of frame R.places t) in
-        let budget : ℕ = length (before ++ frame_left frame.bytes) + left in
+        let budget : ℕ = length (before ++ epilogue frame.bytes) + left in
         comes_read T R lives x budget ends A.here t temps (λ v s. leave (Return (Some v)) temps s)
         (λ v known. inl (leaves_with live temps x ready before (Some v) budget
         (puts t v live temps x ready (rw (eq-eqb t t refl) refl) (and_first (R.plan.needed t) true needs) known) (omega

@@ -4,14 +4,14 @@ use Rattle.sc_emit.proofs.Common.{IsReturned, IsShort, IsStored, IsTested, Jal, 
 use Rattle.sc_emit.proofs.Common.{Place, Places, Plan, Role, Sets, ShortForm, Some, TacFnTree, TacStmt, TacStmt-F, []}
 use Rattle.sc_emit.proofs.Common.{and_first, and_rest, ap, append-nil, append_assoc, arith, as_one, between}
 use Rattle.sc_emit.proofs.Common.{branch_back, branch_reach, call_cross, call_own, choice, choosing, closing}
-use Rattle.sc_emit.proofs.Common.{code_back_edges, code_of, cond, count_by, cycle, each_before, ending_past, entrance}
+use Rattle.sc_emit.proofs.Common.{code_back_edges, code_of, cond, count_by, cycle, each_before, ending_past, prologue}
 use Rattle.sc_emit.proofs.Common.{environment_call, everywhere, false, first_scratch, fold-roll-TacStmt, fork}
 use Rattle.sc_emit.proofs.Common.{fork_role, if◌then◌else◌, in_turn, inl, inr, is_backward, is_empty, is_known_jump}
 use Rattle.sc_emit.proofs.Common.{is_near, joined, joins, jump_back, jump_over, kind_of_fork, leads_back, length}
 use Rattle.sc_emit.proofs.Common.{length-append, length-map, list_all, list_all-map, list_all_along, loads_it}
 use Rattle.sc_emit.proofs.Common.{loop_begins, loop_step, loops, lt-leb, map, map-TacStmt, map-append, nat_lt, neg_ℤ}
 use Rattle.sc_emit.proofs.Common.{not, object_read, object_store, operand, operates_it, past, place_of, place_of_global}
-use Rattle.sc_emit.proofs.Common.{plain, plainly, plan_of, pos, receive, refl, returns_it, role_behind, role_first}
+use Rattle.sc_emit.proofs.Common.{plain, plainly, plan_of, pos, receive, refl, returns_it, role_to_next, role_first}
 use Rattle.sc_emit.proofs.Common.{role_of_load, role_of_operation, role_of_return, role_of_store, rotated, row_is_sized}
 use Rattle.sc_emit.proofs.Common.{select, select_all, select_step, short_form, short_operation, short_return, skipping}
 use Rattle.sc_emit.proofs.Common.{stmt_induction, stmt_loops, stores_it, straight as lines_of, straightly, subst, suc}
@@ -169,44 +169,44 @@ module _ (frame : FrameTree) (places : List Place) (plan : Plan) where
           (short_return_straight frame places pair.left form))))
 
   -- a choice and a loop are nothing to the next statement
-  other_joins : (before own behind : Role) → own ≡ Other → joins (role_behind before own) behind ≡ true → ⊥
-  other_joins before own behind is h = by before (sym (ap (λ r. joins (role_behind before r) behind) is) ∙ h)
+  other_joins : (before own following : Role) → own ≡ Other → joins (role_to_next before own) following ≡ true → ⊥
+  other_joins before own following is h = by before (sym (ap (λ r. joins (role_to_next before r) following) is) ∙ h)
     where
-      by : (before : Role) → joins (role_behind before Other) behind ≡ true → ⊥
+      by : (before : Role) → joins (role_to_next before Other) following ≡ true → ⊥
       by (Sets temp word) h = cc h
       by _ h = cc h
 
-  none_layer : (layer : TacStmt-F TacStmt) (before behind : Role) →
-      joins (role_behind before
-      (select_step frame places plan (map-TacStmt _ _ (select frame places plan) layer)).role) behind ≡ true →
+  none_layer : (layer : TacStmt-F TacStmt) (before following : Role) →
+      joins (role_to_next before
+      (select_step frame places plan (map-TacStmt _ _ (select frame places plan) layer)).role) following ≡ true →
       IsCodeOf (roll-TacStmt layer) (lines_of [])
-  none_layer (tac.If cond first second) before behind h =
-      absurd (other_joins before _ behind (fork_role frame places cond (map (select frame places plan) first)
+  none_layer (tac.If cond first second) before following h =
+      absurd (other_joins before _ following (fork_role frame places cond (map (select frame places plan) first)
       (map (select frame places plan) second)) h)
-  none_layer (tac.Loop head body next) before behind h =
-      absurd (other_joins before _ behind (turning_role frame places _ (map (select frame places plan) head)
+  none_layer (tac.Loop head body next) before following h =
+      absurd (other_joins before _ following (turning_role frame places _ (map (select frame places plan) head)
       (select_all frame places plan body) (select_all frame places plan next)) h)
-  none_layer layer before behind h = by_lines layer [] refl refl
+  none_layer layer before following h = by_lines layer [] refl refl
 
-  none_lie : (stmt : TacStmt) (before behind : Role) →
-      joins (role_behind before (select frame places plan stmt).role) behind ≡ true → IsCodeOf stmt (lines_of [])
-  none_lie = stmt_induction (λ stmt. (before behind : Role) →
-      joins (role_behind before (select frame places plan stmt).role) behind ≡ true → IsCodeOf stmt (lines_of []))
-      (λ layer inside before behind h. none_layer layer before behind
-      (sym (ap (λ p. joins (role_behind before p.role) behind)
+  none_lie : (stmt : TacStmt) (before following : Role) →
+      joins (role_to_next before (select frame places plan stmt).role) following ≡ true → IsCodeOf stmt (lines_of [])
+  none_lie = stmt_induction (λ stmt. (before following : Role) →
+      joins (role_to_next before (select frame places plan stmt).role) following ≡ true → IsCodeOf stmt (lines_of []))
+      (λ layer inside before following h. none_layer layer before following
+      (sym (ap (λ p. joins (role_to_next before p.role) following)
       (fold-roll-TacStmt Piece (select_step frame places plan) layer)) ∙ h))
 
-  between_lies : (before : Role) (stmt : TacStmt) (behind : Role) → Lies stmt →
-      IsCodeOf stmt (between frame places before (select frame places plan stmt) behind)
-  between_lies before stmt behind h =
-      by (joins (role_behind before (select frame places plan stmt).role) behind)
+  between_lies : (before : Role) (stmt : TacStmt) (following : Role) → Lies stmt →
+      IsCodeOf stmt (between frame places before (select frame places plan stmt) following)
+  between_lies before stmt following h =
+      by (joins (role_to_next before (select frame places plan stmt).role) following)
       (joins before (select frame places plan stmt).role) refl refl
     where
-      by : (one two : Bool) → joins (role_behind before (select frame places plan stmt).role) behind ≡ one →
+      by : (one two : Bool) → joins (role_to_next before (select frame places plan stmt).role) following ≡ one →
           joins before (select frame places plan stmt).role ≡ two →
           IsCodeOf stmt (if one then lines_of [] else if two then as_one frame places before (select frame places plan
           stmt).role else select frame places plan stmt)
-      by true two e f = none_lie stmt before behind e
+      by true two e f = none_lie stmt before following e
       by false true e f = both_lie before stmt f
       by false false e f = h
 
@@ -216,16 +216,16 @@ module _ (frame : FrameTree) (places : List Place) (plan : Plan) where
       (instrs_of ((in_turn (joined frame places before (map (select frame places plan) stmts))).lines b c) ++ more)
   turn_lies before [] h b c rest more k = k
   turn_lies before (stmt ∷ stmts) h b c rest more k =
-      let role : Role = role_behind before (select frame places plan stmt).role in
-      let behind : Piece = in_turn (joined frame places role (map (select frame places plan) stmts)) in
+      let role : Role = role_to_next before (select frame places plan stmt).role in
+      let following : Piece = in_turn (joined frame places role (map (select frame places plan) stmts)) in
       let next : Role = role_first (map (select frame places plan) stmts) in
       let own : List Line =
-      (between frame places before (select frame places plan stmt) next).lines (behind.size + b) (behind.size + c) in
+      (between frame places before (select frame places plan stmt) next).lines (following.size + b) (following.size + c) in
       subst (HaveCode (stmt ∷ (stmts ++ rest)))
-      (sym (ap (λ t. t ++ more) (map-append (λ line. line.instr) own (behind.lines b c)) ∙
-      append_assoc (instrs_of own) (instrs_of (behind.lines b c)) more))
-      ((between_lies before stmt next h.0).lies (behind.size + b) (behind.size + c) (stmts ++ rest)
-      (instrs_of (behind.lines b c) ++ more) (turn_lies role stmts h.1 b c rest more k))
+      (sym (ap (λ t. t ++ more) (map-append (λ line. line.instr) own (following.lines b c)) ∙
+      append_assoc (instrs_of own) (instrs_of (following.lines b c)) more))
+      ((between_lies before stmt next h.0).lies (following.size + b) (following.size + c) (stmts ++ rest)
+      (instrs_of (following.lines b c) ++ more) (turn_lies role stmts h.1 b c rest more k))
 
   row_lies : (stmts : List TacStmt) → Each Lies stmts → (b c : ℕ) →
       HaveCode stmts (instrs_of ((select_all frame places plan stmts).lines b c))
@@ -495,21 +495,21 @@ module _ (frame : FrameTree) (places : List Place) (plan : Plan) where
 pub has_rounds : (f : TacFnTree) (places : List Place) (frame : FrameTree) →
     HasRounds f.body (code_of f places frame).instrs
 has_rounds f places frame =
-    let in_lines : List Line = plainly (entrance frame places f.params) in
+    let in_lines : List Line = plainly (prologue frame places f.params) in
     let plan : Plan = plan_of f (is_near f places frame) in
     let body : List Line = (select_all frame places plan f.body).lines 0 0 in
     let out_lines : List Line = plainly (closing frame places f.entry) in
     record {
       before = instrs_of in_lines;
       inside = instrs_of body;
-      behind = instrs_of out_lines;
+      following = instrs_of out_lines;
       parts =
           ap instrs_of (append_assoc in_lines body out_lines) ∙
           map-append (λ line. line.instr) in_lines (body ++ out_lines) ∙
           ap (λ t. instrs_of in_lines ++ t) (map-append (λ line. line.instr) body out_lines);
       in_on =
           lines_on in_lines
-          (plainly_straight (entrance frame places f.params) (entrance_straight frame places f.params));
+          (plainly_straight (prologue frame places f.params) (entrance_straight frame places f.params));
       out_on =
           lines_on out_lines (plainly_straight (closing frame places f.entry) (closing_straight frame places f.entry));
       statements = row_lies frame places plan f.body (everywhere (Lies frame places plan) (stmt_lies frame places
@@ -588,11 +588,11 @@ counted (branching {first = first} {second = second} {rest = rest} {one = one} {
     omega (arith, all, if_loops cond first second)
 counted (repeating {head = head} {body = body} {next = next} {rest = rest} {at_head = at_head} {at_body = at_body}
     {at_next = at_next} {more = more} inside first last goes h b n g) =
-    let behind = counted_append (last ∷ []) more 1 (loops rest) (one_at_most last) (counted g) in
+    let following = counted_append (last ∷ []) more 1 (loops rest) (one_at_most last) (counted g) in
     let inner = around at_head at_body at_next inside first last (loops head) (loops body) (loops next) goes (counted h)
     (counted b) (counted n) in
     let both = counted_append inside (last ∷ more) (loops head + (loops body + loops next)) (1 + loops rest) inner
-    behind in
+    following in
     let all = counted_append (first ∷ []) (inside ++ (last ∷ more)) 0
     (loops head + (loops body + loops next) + (1 + loops rest)) (none_here first goes.on) both in
     omega (arith, all, loop_loops head body next)
@@ -602,10 +602,10 @@ pub few_back : (f : TacFnTree) (places : List Place) (frame : FrameTree) →
     code_back_edges (code_of f places frame) ≤ loops f.body
 few_back f places frame =
     let has : HasRounds f.body (code_of f places frame).instrs = has_rounds f places frame in
-    let all = counted_append has.before (has.inside ++ has.behind) 0 (loops f.body + 0)
+    let all = counted_append has.before (has.inside ++ has.following) 0 (loops f.body + 0)
     (none_counted has.before has.in_on)
-    (counted_append has.inside has.behind (loops f.body) 0 (counted has.statements)
-    (none_counted has.behind has.out_on)) in
+    (counted_append has.inside has.following (loops f.body) 0 (counted has.statements)
+    (none_counted has.following has.out_on)) in
     let one : count (code_of f places frame).instrs ≤ 0 + (loops f.body + 0) =
     subst (λ l. count l ≤ 0 + (loops f.body + 0)) (sym has.parts) all in
     omega (arith, one)

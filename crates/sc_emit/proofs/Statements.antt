@@ -10,10 +10,10 @@ use Rattle.sc_emit.proofs.Common.{counts_elements, each_before, eq-eqb, everywhe
 use Rattle.sc_emit.proofs.Common.{follow as then_follow, followed, gives_place, has_elements, has_operands, has_words}
 use Rattle.sc_emit.proofs.Common.{if◌then◌else◌, in_order, in_turn, is_call, is_some, joined, joins, leb-true, length}
 use Rattle.sc_emit.proofs.Common.{list_all, loads_it, ltb-true, map, map-TacStmt, names_only, names_own_object}
-use Rattle.sc_emit.proofs.Common.{names_own_temps, nat_lt, need, need_step, needs_of, never_applies, none_behind, not}
+use Rattle.sc_emit.proofs.Common.{names_own_temps, nat_lt, need, need_step, needs_of, never_applies, none_after, not}
 use Rattle.sc_emit.proofs.Common.{nothing as no_lines, object_inside, object_read, object_store, object_there}
 use Rattle.sc_emit.proofs.Common.{one_or_none, operates_it, parts_least, passes_few, place_needed, read_is_last, refl}
-use Rattle.sc_emit.proofs.Common.{return_is_last, return_of, returns_it, role_alone, role_behind, role_first}
+use Rattle.sc_emit.proofs.Common.{return_is_last, return_of, returns_it, role_unjoined, role_to_next, role_first}
 use Rattle.sc_emit.proofs.Common.{roll-TacStmt, rotated_follows, row, row_needs, select, select_all, select_step}
 use Rattle.sc_emit.proofs.Common.{sets_it, short_form, short_operation, short_return, slice_get-get_or, stmt_does}
 use Rattle.sc_emit.proofs.Common.{stmt_induction, store_is_last, stores_it, straightly, subst, sym, takes_two}
@@ -22,7 +22,7 @@ use Rattle.sc_emit.proofs.Common.{word_of_constant, wrapping, ℕ, ⊎_elim, ◌
 use Rattle.sc_emit.proofs.Common.{◌∷◌, ◌≡◌, ◌≤◌}
 use Rattle.sc_core.specs.Prelude.{in_order as one_by_one}
 use Rattle.sc_select.specs.Prelude.{Piece as Code}
-use Rattle.sc_emit.proofs.Needed.{all_append, gives_behind, gives_of, head_needs, need_gives, store_alone}
+use Rattle.sc_emit.proofs.Needed.{all_append, gives_to_next, gives_of, head_needs, need_gives, store_unjoined}
 use Rattle.sc_emit.proofs.Stored.{assigns, assigns_follow, both_parts}
 use Rattle.sc_emit.proofs.Constants.{applies, both_steps, short_follows}
 use Rattle.std.specs.Bool.{beq}
@@ -37,14 +37,14 @@ use Rattle.sc_emit.proofs.Choices.{fork_follows}
 use Rattle.sc_emit.proofs.Environment.{input_follows, output_follows}
 use Rattle.sc_emit.proofs.Operands.{ArePlaced}
 use Rattle.sc_emit.proofs.Operations.{op_follows, load_follows, store_follows}
-use Rattle.sc_emit.proofs.Passing.{Test, PassesAll, AllPass, PassesHere, first_passes, front_passes, rest_pass}
+use Rattle.sc_emit.proofs.Passing.{Test, PassesAll, AllPass, PassesHere, first_passes, prefix_passes, rest_pass}
 use Rattle.sc_emit.proofs.Passing.{passes_here, choice_passes, loop_passes}
 use Rattle.sc_emit.proofs.Plain.{const_follows, copy_follows, object_follows, global_follows}
 use Rattle.sc_emit.proofs.Reading.{both_trails, read_follows, reads}
 use Rattle.sc_emit.proofs.Heads.{head_of_stmts}
 use Rattle.sc_emit.proofs.Returned.{all_three, gives_back, gives_back_follows, three_as_one}
 use Rattle.sc_emit.proofs.Returns.{return_follows}
-use Rattle.sc_emit.proofs.Straight.{behind_nothing}
+use Rattle.sc_emit.proofs.Straight.{after_nothing}
 
 beq_same : (a b : Bool) → beq a b ≡ true → a ≡ b
 beq_same true true h = refl
@@ -105,11 +105,11 @@ module _ (T : Setting) (R : Running) (formed : IsWellFormed T.image) (inputs : A
       (coded before stmts).size ≤ limit →
       Follows T R (all_do (map does stmts)) (coded before stmts) (row (map trail stmts))
 
-  piece_by : (before behind : Role) (stmt : TacStmt) (one two : Bool) →
-      joins (role_behind before (code stmt).role) behind ≡ one → joins before (code stmt).role ≡ two →
-      between frame R.places before (code stmt) behind ≡
+  piece_by : (before following : Role) (stmt : TacStmt) (one two : Bool) →
+      joins (role_to_next before (code stmt).role) following ≡ one → joins before (code stmt).role ≡ two →
+      between frame R.places before (code stmt) following ≡
       (if one then no_lines else if two then as_one frame R.places before (code stmt).role else code stmt)
-  piece_by before behind stmt one two h k =
+  piece_by before following stmt one two h k =
       ap₂ (λ a b. if a then no_lines else if b then as_one frame R.places before (code stmt).role else code stmt) h k
 
   -- a statement that has code of its own, before others
@@ -118,17 +118,17 @@ module _ (T : Setting) (R : Running) (formed : IsWellFormed T.image) (inputs : A
       ((code stmt).size ≤ limit → Follows T R (does stmt) (code stmt) (trail stmt)) →
       Row (code stmt).role rest → Row before (stmt ∷ rest)
   by_itself before stmt rest none alone first later few =
-      let own : Role = role_behind before (code stmt).role in
-      let own_is : own ≡ (code stmt).role = role_alone before (code stmt).role none in
-      let behind : Code = coded own rest in
+      let own : Role = role_to_next before (code stmt).role in
+      let own_is : own ≡ (code stmt).role = role_unjoined before (code stmt).role none in
+      let following : Code = coded own rest in
       let same : between frame R.places before (code stmt) (role_first (map code rest)) ≡ code stmt =
       piece_by before (role_first (map code rest)) stmt false false
       (ap (λ r. joins r (role_first (map code rest))) own_is ∙ alone) none in
-      let all : (code stmt).size + behind.size ≤ limit =
-      subst (λ p. p.size + behind.size ≤ limit) same few in
-      subst (λ p. Follows T R (all_do (map does (stmt ∷ rest))) (followed p behind) (row (map trail (stmt ∷ rest))))
+      let all : (code stmt).size + following.size ≤ limit =
+      subst (λ p. p.size + following.size ≤ limit) same few in
+      subst (λ p. Follows T R (all_do (map does (stmt ∷ rest))) (followed p following) (row (map trail (stmt ∷ rest))))
       (sym same)
-      (row_follows T R (does stmt) (all_do (map does rest)) (code stmt) behind (trail stmt) (map trail rest)
+      (row_follows T R (does stmt) (all_do (map does rest)) (code stmt) following (trail stmt) (map trail rest)
       (first (omega (arith, all))) (subst (λ r. Row r rest) (sym own_is) later (omega (arith, all))))
 
   -- the word of a variable, which two statements read
@@ -142,9 +142,9 @@ module _ (T : Setting) (R : Running) (formed : IsWellFormed T.image) (inputs : A
       let place = place_there dest [] h.0 in
       let below : object < length cells = ltb-true object (length cells) h.1.0 in
       let its = slice_get-get_or cells object 0 below in
-      let there = object_there cells R.places nodes frame is.room object _ its in
+      let there = object_there cells R.places nodes frame is.frame_fits object _ its in
       read_follows T R formed inputs cells nodes is placed calls dest object pointer there.0 place.0 place.1 there.1
-      (omega (arith, object_inside cells R.places nodes frame is.room object there.0 _ there.1 its))
+      (omega (arith, object_inside cells R.places nodes frame is.frame_fits object there.0 _ there.1 its))
 
   -- what a statement of a known layer reads
   reads_of : (stmt : TacStmt) (layer : TacStmt-F TacStmt) → stmt ≡ roll-TacStmt layer → AllNeeded (need stmt).reads →
@@ -163,9 +163,9 @@ module _ (T : Setting) (R : Running) (formed : IsWellFormed T.image) (inputs : A
       let h = passes_here tests (tac.ObjectPlace temp object) pass in
       let below : object < length cells = ltb-true object (length cells) h.1.0 in
       let its = slice_get-get_or cells object 0 below in
-      let there = object_there cells R.places nodes frame is.room object _ its in
+      let there = object_there cells R.places nodes frame is.frame_fits object _ its in
       assigns_follow T R formed inputs cells nodes is placed calls temp object value lone wants there.0 there.1
-      (omega (arith, object_inside cells R.places nodes frame is.room object there.0 _ there.1 its))
+      (omega (arith, object_inside cells R.places nodes frame is.frame_fits object there.0 _ there.1 its))
 
   -- a constant is a word
   is_word : (dest : ℕ) (value : Constant) → has_words (tac.Const dest value) ≡ true → word_of_constant value < 2 ^ 32
@@ -257,36 +257,36 @@ module _ (T : Setting) (R : Running) (formed : IsWellFormed T.image) (inputs : A
   two_follow : (before : Role) (stmt next : TacStmt) (rest : List TacStmt) (first second : TacStmt-F TacStmt)
       (one : Code) (both : Codes) (both_trail : Trail) → stmt ≡ roll-TacStmt first → next ≡ roll-TacStmt second →
       between frame R.places before (code stmt) (code next).role ≡ no_lines →
-      between frame R.places (role_behind before (code stmt).role) (code next) (role_first (map code rest)) ≡ one →
+      between frame R.places (role_to_next before (code stmt).role) (code next) (role_first (map code rest)) ≡ one →
       Follows T R both one both_trail →
       ((c : Code) →
       Follows T R (λ temps s. then_follow one_by_one (both temps s) (all_do (map does rest))) c
       (row (both_trail ∷ map trail rest)) →
       Follows T R (all_do (layer_does first ∷ layer_does second ∷ map does rest)) c
       (row (layer_trail first ∷ layer_trail second ∷ map trail rest))) →
-      Row (role_behind (role_behind before (code stmt).role) (code next).role) rest → Row before (stmt ∷ next ∷ rest)
+      Row (role_to_next (role_to_next before (code stmt).role) (code next).role) rest → Row before (stmt ∷ next ∷ rest)
   two_follow before stmt next rest first second one both both_trail first_is second_is c1 c2 F same later few =
-      let own : Role = role_behind before (code stmt).role in
-      let behind : Code = coded (role_behind own (code next).role) rest in
-      let sizes : no_lines.size + (one.size + behind.size) ≤ limit =
-      subst (λ p. p.size + (one.size + behind.size) ≤ limit) c1
-      (subst (λ p. (between frame R.places before (code stmt) (code next).role).size + (p.size + behind.size) ≤ limit)
+      let own : Role = role_to_next before (code stmt).role in
+      let following : Code = coded (role_to_next own (code next).role) rest in
+      let sizes : no_lines.size + (one.size + following.size) ≤ limit =
+      subst (λ p. p.size + (one.size + following.size) ≤ limit) c1
+      (subst (λ p. (between frame R.places before (code stmt) (code next).role).size + (p.size + following.size) ≤ limit)
       c2 few) in
       let done : Follows T R (all_do (layer_does first ∷ layer_does second ∷ map does rest))
-      (followed no_lines (followed one behind)) (row (layer_trail first ∷ layer_trail second ∷ map trail rest)) =
-      behind_nothing T R (all_do (layer_does first ∷ layer_does second ∷ map does rest)) (followed one behind)
+      (followed no_lines (followed one following)) (row (layer_trail first ∷ layer_trail second ∷ map trail rest)) =
+      after_nothing T R (all_do (layer_does first ∷ layer_does second ∷ map does rest)) (followed one following)
       (row (layer_trail first ∷ layer_trail second ∷ map trail rest))
-      (same (followed one behind)
-      (row_follows T R both (all_do (map does rest)) one behind both_trail (map trail rest) F
+      (same (followed one following)
+      (row_follows T R both (all_do (map does rest)) one following both_trail (map trail rest) F
       (later (omega (arith, sizes))))) in
       subst (λ p. Follows T R (all_do (map does (stmt ∷ next ∷ rest))) (followed p (followed
-      (between frame R.places own (code next) (role_first (map code rest))) behind))
+      (between frame R.places own (code next) (role_first (map code rest))) following))
       (row (map trail (stmt ∷ next ∷ rest)))) (sym c1)
-      (subst (λ p. Follows T R (all_do (map does (stmt ∷ next ∷ rest))) (followed no_lines (followed p behind))
+      (subst (λ p. Follows T R (all_do (map does (stmt ∷ next ∷ rest))) (followed no_lines (followed p following))
       (row (map trail (stmt ∷ next ∷ rest)))) (sym c2)
       (as_layers (map does (stmt ∷ next ∷ rest)) (layer_does first ∷ layer_does second ∷ map does rest)
       (map trail (stmt ∷ next ∷ rest)) (layer_trail first ∷ layer_trail second ∷ map trail rest)
-      (followed no_lines (followed one behind))
+      (followed no_lines (followed one following))
       (ap₂ (λ a b. a ∷ b ∷ map does rest) (does_layer stmt first first_is) (does_layer next second second_is))
       (ap₂ (λ a b. a ∷ b ∷ map trail rest) (trail_layer stmt first first_is) (trail_layer next second second_is))
       done))
@@ -296,46 +296,46 @@ module _ (T : Setting) (R : Running) (formed : IsWellFormed T.image) (inputs : A
       (first second third : TacStmt-F TacStmt) (one : Code) (all : Codes) (all_trail : Trail) →
       stmt ≡ roll-TacStmt first → next ≡ roll-TacStmt second → last ≡ roll-TacStmt third →
       between frame R.places before (code stmt) (code next).role ≡ no_lines →
-      between frame R.places (role_behind before (code stmt).role) (code next) (code last).role ≡ no_lines →
-      between frame R.places (role_behind (role_behind before (code stmt).role) (code next).role) (code last)
+      between frame R.places (role_to_next before (code stmt).role) (code next) (code last).role ≡ no_lines →
+      between frame R.places (role_to_next (role_to_next before (code stmt).role) (code next).role) (code last)
       (role_first (map code rest)) ≡ one → Follows T R all one all_trail →
       ((c : Code) →
       Follows T R (λ temps s. then_follow one_by_one (all temps s) (all_do (map does rest))) c
       (row (all_trail ∷ map trail rest)) →
       Follows T R (all_do (layer_does first ∷ layer_does second ∷ layer_does third ∷ map does rest)) c
       (row (layer_trail first ∷ layer_trail second ∷ layer_trail third ∷ map trail rest))) →
-      Row (role_behind (role_behind (role_behind before (code stmt).role) (code next).role) (code last).role) rest →
+      Row (role_to_next (role_to_next (role_to_next before (code stmt).role) (code next).role) (code last).role) rest →
       Row before (stmt ∷ next ∷ last ∷ rest)
   three_follow before stmt next last rest first second third one all all_trail first_is second_is third_is c1 c2 c3 F
       same later few =
-      let own : Role = role_behind before (code stmt).role in
-      let own' : Role = role_behind own (code next).role in
-      let behind : Code = coded (role_behind own' (code last).role) rest in
+      let own : Role = role_to_next before (code stmt).role in
+      let own' : Role = role_to_next own (code next).role in
+      let following : Code = coded (role_to_next own' (code last).role) rest in
       let stmts : List TacStmt = stmt ∷ next ∷ last ∷ rest in
       let p1 : Code = between frame R.places before (code stmt) (code next).role in
       let p2 : Code = between frame R.places own (code next) (code last).role in
       let p3 : Code = between frame R.places own' (code last) (role_first (map code rest)) in
-      let sizes : no_lines.size + (no_lines.size + (one.size + behind.size)) ≤ limit =
-      subst (λ p. p.size + (no_lines.size + (one.size + behind.size)) ≤ limit) c1
-      (subst (λ p. p1.size + (p.size + (one.size + behind.size)) ≤ limit) c2
-      (subst (λ p. p1.size + (p2.size + (p.size + behind.size)) ≤ limit) c3 few)) in
+      let sizes : no_lines.size + (no_lines.size + (one.size + following.size)) ≤ limit =
+      subst (λ p. p.size + (no_lines.size + (one.size + following.size)) ≤ limit) c1
+      (subst (λ p. p1.size + (p.size + (one.size + following.size)) ≤ limit) c2
+      (subst (λ p. p1.size + (p2.size + (p.size + following.size)) ≤ limit) c3 few)) in
       let layers : List Codes = layer_does first ∷ layer_does second ∷ layer_does third ∷ map does rest in
       let trails : List Trail = layer_trail first ∷ layer_trail second ∷ layer_trail third ∷ map trail rest in
-      let done : Follows T R (all_do layers) (followed no_lines (followed no_lines (followed one behind)))
+      let done : Follows T R (all_do layers) (followed no_lines (followed no_lines (followed one following)))
       (row trails) =
-      behind_nothing T R (all_do layers) (followed no_lines (followed one behind)) (row trails)
-      (behind_nothing T R (all_do layers) (followed one behind) (row trails)
-      (same (followed one behind)
-      (row_follows T R all (all_do (map does rest)) one behind all_trail (map trail rest) F
+      after_nothing T R (all_do layers) (followed no_lines (followed one following)) (row trails)
+      (after_nothing T R (all_do layers) (followed one following) (row trails)
+      (same (followed one following)
+      (row_follows T R all (all_do (map does rest)) one following all_trail (map trail rest) F
       (later (omega (arith, sizes)))))) in
-      subst (λ p. Follows T R (all_do (map does stmts)) (followed p (followed p2 (followed p3 behind)))
+      subst (λ p. Follows T R (all_do (map does stmts)) (followed p (followed p2 (followed p3 following)))
       (row (map trail stmts))) (sym c1)
-      (subst (λ p. Follows T R (all_do (map does stmts)) (followed no_lines (followed p (followed p3 behind)))
+      (subst (λ p. Follows T R (all_do (map does stmts)) (followed no_lines (followed p (followed p3 following)))
       (row (map trail stmts))) (sym c2)
-      (subst (λ p. Follows T R (all_do (map does stmts)) (followed no_lines (followed no_lines (followed p behind)))
+      (subst (λ p. Follows T R (all_do (map does stmts)) (followed no_lines (followed no_lines (followed p following)))
       (row (map trail stmts))) (sym c3)
       (as_layers (map does stmts) layers (map trail stmts) trails
-      (followed no_lines (followed no_lines (followed one behind)))
+      (followed no_lines (followed no_lines (followed one following)))
       (ap₂ (λ a b. a ∷ b ∷ does last ∷ map does rest) (does_layer stmt first first_is)
       (does_layer next second second_is) ∙
       ap (λ c. layer_does first ∷ layer_does second ∷ c ∷ map does rest) (does_layer last third third_is))
@@ -347,26 +347,26 @@ module _ (T : Setting) (R : Running) (formed : IsWellFormed T.image) (inputs : A
   -- two statements that are one piece, before others with which they aren't
   pair_follows : (before : Role) (stmt next : TacStmt) (rest : List TacStmt) → joins before (code stmt).role ≡ false →
       joins (code stmt).role (code next).role ≡ true →
-      joins (role_behind (code stmt).role (code next).role) (role_first (map code rest)) ≡ false →
+      joins (role_to_next (code stmt).role (code next).role) (role_first (map code rest)) ≡ false →
       PassesAll tests stmt → PassesAll tests next → AllNeeded (need next).reads →
-      Row (role_behind (code stmt).role (code next).role) rest → Row before (stmt ∷ next ∷ rest)
+      Row (role_to_next (code stmt).role (code next).role) rest → Row before (stmt ∷ next ∷ rest)
   pair_follows before stmt next rest none both alone pass pass' reads_next later =
       ⊎_elim read (⊎_elim store (⊎_elim short back)) (which_pair (code stmt).role (code next).role both)
     where
-      own_is : role_behind before (code stmt).role ≡ (code stmt).role
-      own_is = role_alone before (code stmt).role none
+      own_is : role_to_next before (code stmt).role ≡ (code stmt).role
+      own_is = role_unjoined before (code stmt).role none
 
       c1 : between frame R.places before (code stmt) (code next).role ≡ no_lines
       c1 = piece_by before (code next).role stmt true false (ap (λ r. joins r (code next).role) own_is ∙ both) none
 
-      c2 : between frame R.places (role_behind before (code stmt).role) (code next) (role_first (map code rest)) ≡
+      c2 : between frame R.places (role_to_next before (code stmt).role) (code next) (role_first (map code rest)) ≡
           as_one frame R.places (code stmt).role (code next).role
       c2 =
           ap (λ r. between frame R.places r (code next) (role_first (map code rest))) own_is ∙
           piece_by (code stmt).role (role_first (map code rest)) next false true alone both
 
-      behind : Row (role_behind (role_behind before (code stmt).role) (code next).role) rest
-      behind = subst (λ r. Row (role_behind r (code next).role) rest) (sym own_is) later
+      following : Row (role_to_next (role_to_next before (code stmt).role) (code next).role) rest
+      following = subst (λ r. Row (role_to_next r (code next).role) rest) (sym own_is) later
 
       read : IsRead (code stmt).role (code next).role → Row before (stmt ∷ next ∷ rest)
       read pair =
@@ -380,7 +380,7 @@ module _ (T : Setting) (R : Running) (formed : IsWellFormed T.image) (inputs : A
           (both_trails T R formed inputs cells nodes is placed calls pair.temp pair.object second.pointer) first
           second.is c1 (c2 ∙ ap₂ (as_one frame R.places) pair.gives pair.loads)
           (read_follows_here pair.temp pair.object second.pointer (subst (PassesAll tests) first pass)) (λ c F. F)
-          behind
+          following
 
       store : IsStored (code stmt).role (code next).role → Row before (stmt ∷ next ∷ rest)
       store pair =
@@ -396,7 +396,7 @@ module _ (T : Setting) (R : Running) (formed : IsWellFormed T.image) (inputs : A
           (both_parts T R formed inputs cells nodes is placed calls pair.temp pair.object pair.value second.lone wants)
           first second.is c1 (c2 ∙ ap₂ (as_one frame R.places) pair.gives pair.stores)
           (assigns_follow_here pair.temp pair.object pair.value second.lone wants
-          (subst (PassesAll tests) first pass)) (λ c F. F) behind
+          (subst (PassesAll tests) first pass)) (λ c F. F) following
 
       short : IsShort (code stmt).role (code next).role → Row before (stmt ∷ next ∷ rest)
       short pair =
@@ -419,7 +419,7 @@ module _ (T : Setting) (R : Running) (formed : IsWellFormed T.image) (inputs : A
           word_is)
           (short_follows_here pair.temp pair.left first.value pair.op pair.form second.apart wants
           (ap (short_form pair.op) first.word_is ∙ pair.form_is) (subst (PassesAll tests) first.is pass)
-          (subst (PassesAll tests) second.is pass')) (λ c F. F) behind
+          (subst (PassesAll tests) second.is pass')) (λ c F. F) following
 
       back : IsReturned (code stmt).role (code next).role → Row before (stmt ∷ next ∷ rest)
       back pair = absurd (never_applies frame R.places R.plan stmt pair.temp pair.left pair.op pair.word pair.applies)
@@ -427,16 +427,16 @@ module _ (T : Setting) (R : Running) (formed : IsWellFormed T.image) (inputs : A
   -- three statements that are one piece, before others: the third returns what the two before it compute
   three_are_one : (before : Role) (stmt next last : TacStmt) (rest : List TacStmt) →
       joins before (code stmt).role ≡ false → joins (code stmt).role (code next).role ≡ true →
-      joins (role_behind (code stmt).role (code next).role) (code last).role ≡ true →
+      joins (role_to_next (code stmt).role (code next).role) (code last).role ≡ true →
       PassesAll tests stmt → PassesAll tests next → AllNeeded (need next).reads →
       Row (code last).role rest → Row before (stmt ∷ next ∷ last ∷ rest)
   three_are_one before stmt next last rest none both third pass pass' reads_next later =
       ⊎_elim read (⊎_elim store (⊎_elim short back)) (which_pair (code stmt).role (code next).role both)
     where
-      own_is : role_behind before (code stmt).role ≡ (code stmt).role
-      own_is = role_alone before (code stmt).role none
+      own_is : role_to_next before (code stmt).role ≡ (code stmt).role
+      own_is = role_unjoined before (code stmt).role none
 
-      never : joins (role_behind (code stmt).role (code next).role) (code last).role ≡ false →
+      never : joins (role_to_next (code stmt).role (code next).role) (code last).role ≡ false →
           Row before (stmt ∷ next ∷ last ∷ rest)
       never h = let false_is : true ≡ false = sym third ∙ h in cc false_is
 
@@ -451,7 +451,7 @@ module _ (T : Setting) (R : Running) (formed : IsWellFormed T.image) (inputs : A
 
       short : IsShort (code stmt).role (code next).role → Row before (stmt ∷ next ∷ last ∷ rest)
       short pair = given pair (return_of (code last).role pair.temp pair.left pair.op pair.word
-          (sym (ap (λ r. joins r (code last).role) pair.behind) ∙ third))
+          (sym (ap (λ r. joins r (code last).role) pair.following) ∙ third))
         where
           given : (pair : IsShort (code stmt).role (code next).role) → (code last).role ≡ Returns pair.temp →
               Row before (stmt ∷ next ∷ last ∷ rest)
@@ -462,24 +462,24 @@ module _ (T : Setting) (R : Running) (formed : IsWellFormed T.image) (inputs : A
               returns_it frame R.places R.plan last pair.temp gives in
               let word_is : pair.word ≡ word_of_constant first.value = sym first.word_is in
               let wants = left_wanted next pair.temp pair.left pair.op second.is reads_next in
-              let own' : Role = role_behind (role_behind before (code stmt).role) (code next).role in
+              let own' : Role = role_to_next (role_to_next before (code stmt).role) (code next).role in
               let own'_is : own' ≡ Applies pair.temp pair.left pair.op pair.word =
-              ap (λ r. role_behind r (code next).role) own_is ∙ pair.behind in
-              let behind_last : role_behind own' (code last).role ≡ (code last).role =
-              ap (λ r. role_behind r (code last).role) own'_is in
+              ap (λ r. role_to_next r (code next).role) own_is ∙ pair.following in
+              let after_last : role_to_next own' (code last).role ≡ (code last).role =
+              ap (λ r. role_to_next r (code last).role) own'_is in
               let c1 : between frame R.places before (code stmt) (code next).role ≡ no_lines =
               piece_by before (code next).role stmt true false (ap (λ r. joins r (code next).role) own_is ∙ both)
               none in
-              let c2 : between frame R.places (role_behind before (code stmt).role) (code next) (code last).role ≡
+              let c2 : between frame R.places (role_to_next before (code stmt).role) (code next) (code last).role ≡
               no_lines =
-              piece_by (role_behind before (code stmt).role) (code last).role next true true
-              (ap (λ r. joins (role_behind r (code next).role) (code last).role) own_is ∙ third)
+              piece_by (role_to_next before (code stmt).role) (code last).role next true true
+              (ap (λ r. joins (role_to_next r (code next).role) (code last).role) own_is ∙ third)
               (ap (λ r. joins r (code next).role) own_is ∙ both) in
               let c3 : between frame R.places own' (code last) (role_first (map code rest)) ≡
               straightly frame R.places
               (short_return frame R.places pair.left (short_form pair.op (word_of_constant first.value))) =
               piece_by own' (role_first (map code rest)) last false true
-              (ap₂ (λ r q. joins (role_behind r q) (role_first (map code rest))) own'_is gives)
+              (ap₂ (λ r q. joins (role_to_next r q) (role_first (map code rest))) own'_is gives)
               (ap₂ joins own'_is gives ∙ eq-eqb pair.temp pair.temp refl) ∙
               ap₂ (as_one frame R.places) own'_is gives ∙
               ap (λ w. straightly frame R.places (short_return frame R.places pair.left (short_form pair.op w))) word_is
@@ -498,7 +498,7 @@ module _ (T : Setting) (R : Running) (formed : IsWellFormed T.image) (inputs : A
               (subst (PassesAll tests) second.is pass'))
               (three_as_one T R formed inputs cells nodes is placed calls pair.temp pair.left first.value pair.op
               second.apart wants (all_do (map does rest)) (map trail rest))
-              (subst (λ r. Row r rest) (sym behind_last) later)
+              (subst (λ r. Row r rest) (sym after_last) later)
 
   -- what is read in a row
   abbrev RowNeeds : Role → List TacStmt → Type 0
@@ -507,7 +507,7 @@ module _ (T : Setting) (R : Running) (formed : IsWellFormed T.image) (inputs : A
   record RowParts (before : Role) (stmt : TacStmt) (rest : List TacStmt) : Type 0 where
     place : AllNeeded (place_needed (gives_of before) (need stmt).stores)
     reads : AllNeeded (need stmt).reads
-    behind : RowNeeds (code stmt).role rest
+    following : RowNeeds (code stmt).role rest
 
   row_parts : (before : Role) (stmt : TacStmt) (rest : List TacStmt) → RowNeeds before (stmt ∷ rest) →
       RowParts before stmt rest
@@ -518,54 +518,54 @@ module _ (T : Setting) (R : Running) (formed : IsWellFormed T.image) (inputs : A
       record {
         place = first.0;
         reads = second.0;
-        behind = subst (λ g. AllNeeded (row_needs g (map need rest)))
+        following = subst (λ g. AllNeeded (row_needs g (map need rest)))
             (sym (need_gives frame R.places R.plan stmt)) second.1;
       }
 
   -- what is read after two that are one
-  needs_behind : (before own : Role) (rest : List TacStmt) → RowNeeds own rest →
-      RowNeeds (role_behind before own) rest
-  needs_behind before own rest h =
-      subst (λ g. AllNeeded (row_needs g (map need rest))) (sym (gives_behind before own)) h
+  needs_after : (before own : Role) (rest : List TacStmt) → RowNeeds own rest →
+      RowNeeds (role_to_next before own) rest
+  needs_after before own rest h =
+      subst (λ g. AllNeeded (row_needs g (map need rest))) (sym (gives_to_next before own)) h
 
   row_from : (before : Role) (stmts : List TacStmt) → Each Followed stmts → AllPass tests stmts →
       RowNeeds before stmts → joins before (role_first (map code stmts)) ≡ false → Row before stmts
   row_from before [] each pass needs none = λ few. nothing_follows T R
   row_from before (stmt ∷ []) each pass needs none =
       let parts = row_parts before stmt [] needs in
-      by_itself before stmt [] none (none_behind (code stmt).role)
+      by_itself before stmt [] none (none_after (code stmt).role)
       (each.0 (first_passes tests stmt [] pass) parts.reads
-      (store_alone frame R.places R.plan before stmt parts.place none)) (λ few. nothing_follows T R)
+      (store_unjoined frame R.places R.plan before stmt parts.place none)) (λ few. nothing_follows T R)
   row_from before (stmt ∷ next ∷ []) each pass needs none =
-      let behind = rest_pass tests stmt (next ∷ []) pass in
+      let following = rest_pass tests stmt (next ∷ []) pass in
       let parts = row_parts before stmt (next ∷ []) needs in
-      let later = row_parts (code stmt).role next [] parts.behind in
+      let later = row_parts (code stmt).role next [] parts.following in
       by_test (joins (code stmt).role (code next).role)
       (λ alone. by_itself before stmt (next ∷ []) none alone
       (each.0 (first_passes tests stmt (next ∷ []) pass) parts.reads
-      (store_alone frame R.places R.plan before stmt parts.place none))
-      (row_from (code stmt).role (next ∷ []) each.1 behind parts.behind alone))
+      (store_unjoined frame R.places R.plan before stmt parts.place none))
+      (row_from (code stmt).role (next ∷ []) each.1 following parts.following alone))
       (λ both. pair_follows before stmt next [] none both
-      (none_behind (role_behind (code stmt).role (code next).role)) (first_passes tests stmt (next ∷ []) pass)
-      (first_passes tests next [] behind) later.reads (λ few. nothing_follows T R))
+      (none_after (role_to_next (code stmt).role (code next).role)) (first_passes tests stmt (next ∷ []) pass)
+      (first_passes tests next [] following) later.reads (λ few. nothing_follows T R))
   row_from before (stmt ∷ next ∷ last ∷ rest) each pass needs none =
-      let behind = rest_pass tests stmt (next ∷ last ∷ rest) pass in
-      let further = rest_pass tests next (last ∷ rest) behind in
+      let following = rest_pass tests stmt (next ∷ last ∷ rest) pass in
+      let further = rest_pass tests next (last ∷ rest) following in
       let parts = row_parts before stmt (next ∷ last ∷ rest) needs in
-      let later = row_parts (code stmt).role next (last ∷ rest) parts.behind in
-      let at_last = row_parts (code next).role last rest later.behind in
+      let later = row_parts (code stmt).role next (last ∷ rest) parts.following in
+      let at_last = row_parts (code next).role last rest later.following in
       let both_pass = first_passes tests stmt (next ∷ last ∷ rest) pass in
-      let next_passes = first_passes tests next (last ∷ rest) behind in
+      let next_passes = first_passes tests next (last ∷ rest) following in
       by_test (joins (code stmt).role (code next).role)
       (λ alone. by_itself before stmt (next ∷ last ∷ rest) none alone
-      (each.0 both_pass parts.reads (store_alone frame R.places R.plan before stmt parts.place none))
-      (row_from (code stmt).role (next ∷ last ∷ rest) each.1 behind parts.behind alone))
-      (λ both. by_test (joins (role_behind (code stmt).role (code next).role) (code last).role)
+      (each.0 both_pass parts.reads (store_unjoined frame R.places R.plan before stmt parts.place none))
+      (row_from (code stmt).role (next ∷ last ∷ rest) each.1 following parts.following alone))
+      (λ both. by_test (joins (role_to_next (code stmt).role (code next).role) (code last).role)
       (λ alone. pair_follows before stmt next (last ∷ rest) none both alone both_pass next_passes later.reads
-      (row_from (role_behind (code stmt).role (code next).role) (last ∷ rest) each.1.1 further
-      (needs_behind (code stmt).role (code next).role (last ∷ rest) later.behind) alone))
+      (row_from (role_to_next (code stmt).role (code next).role) (last ∷ rest) each.1.1 further
+      (needs_after (code stmt).role (code next).role (last ∷ rest) later.following) alone))
       (λ third. three_are_one before stmt next last rest none both third both_pass next_passes later.reads
-      (row_from (code last).role rest each.1.1.1 (rest_pass tests last rest further) at_last.behind
+      (row_from (code last).role rest each.1.1.1 (rest_pass tests last rest further) at_last.following
       (third_is_last (code stmt).role (code next).role (code last).role (role_first (map code rest)) both third))))
 
   row_of : (stmts : List TacStmt) → Each Followed stmts → AllPass tests stmts →
@@ -633,9 +633,9 @@ module _ (T : Setting) (R : Running) (formed : IsWellFormed T.image) (inputs : A
       let place = place_there dest [] h.0 in
       let below : object < length cells = ltb-true object (length cells) h.1.0 in
       let its = slice_get-get_or cells object 0 below in
-      let there = object_there cells R.places nodes frame is.room object _ its in
+      let there = object_there cells R.places nodes frame is.frame_fits object _ its in
       object_follows T R formed inputs cells nodes is placed calls dest object there.0 place.0 place.1 there.1
-      (omega (arith, object_inside cells R.places nodes frame is.room object there.0 _ there.1 its))
+      (omega (arith, object_inside cells R.places nodes frame is.frame_fits object there.0 _ there.1 its))
 
   global_level : (dest number : ℕ) → Shape (tac.GlobalPlace dest number)
   global_level dest number h all needs at few =
@@ -703,7 +703,7 @@ module _ (T : Setting) (R : Running) (formed : IsWellFormed T.image) (inputs : A
       (row_of next each'' pass.2 second.1 (omega (arith, few))) gapless (omega (arith, few, pays)))
       (λ cond near t few.
       let i : Code = in_order frame R.places (map code t.init) in
-      let init_passes = front_passes tests t.init (test_stmt cond ∷ []) (subst (AllPass tests) t.is pass.0) in
+      let init_passes = prefix_passes tests t.init (test_stmt cond ∷ []) (subst (AllPass tests) t.is pass.0) in
       let reads = head_needs R.plan.needed cond head t.init t.is first.0 in
       let least : limit < branch_reach = reach near in
       rotated_follows T R formed inputs cond (all_do (map does head)) (all_do (map does body))

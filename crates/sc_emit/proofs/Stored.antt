@@ -13,7 +13,7 @@ use Rattle.sc_tac.specs.declared.stmt.TacStmt.TheOpen as tac
 use Rattle.sc_emit.proofs.Operands.{ArePlaced, AtHand, brings, second_is, world}
 use Rattle.sc_emit.proofs.Operations.{comes_stored, stored_goes}
 use Rattle.sc_emit.proofs.Plain.{start_stands}
-use Rattle.sc_emit.proofs.Straight.{comes_behind, read_goes, straight_follows}
+use Rattle.sc_emit.proofs.Straight.{comes_past, read_goes, straight_follows}
 
 module _ (T : Setting) (R : Running) (formed : IsWellFormed T.image) (inputs : All IsWord T.inputs) (cells : List ℕ)
     (nodes : ℕ) (is : IsActivation T.performs cells R.places nodes R.activation) (placed : ArePlaced R) (calls : Calls)
@@ -51,7 +51,7 @@ module _ (T : Setting) (R : Running) (formed : IsWellFormed T.image) (inputs : A
       let on = and_first (live_plain (value ∷ []) None lives t) (R.plan.needed t) h in
       let wants = and_rest (live_plain (value ∷ []) None lives t) (R.plan.needed t) h in
       and_from (live_at both_parts lives t) (R.plan.needed t)
-      (by (temp == t) (value == t) (lives.behind t) (ne_eqb temp t (λ e. other t wants (sym e))) on) wants
+      (by (temp == t) (value == t) (lives.following t) (ne_eqb temp t (λ e. other t wants (sym e))) on) wants
     where
       by : (a l b : Bool) → a ≡ false → ((l || false) || (true && b)) ≡ true →
           (false || (not (a || false) && ((a || (l || false)) || (true && b)))) ≡ true
@@ -112,7 +112,7 @@ module _ (T : Setting) (R : Running) (formed : IsWellFormed T.image) (inputs : A
     arrives : (lives : Lives) (temps : Temps) (x : Joint) (left : ℕ) (v : Value) (after : Blocks) →
         Ready T R (live_at both_parts lives) temps x → temps value ≡ Some v →
         store (x.meant.memory comp) start v ≡ Ok after → CodeAt T.image comp x.pc code →
-        Arrives T R lives.behind x (length code + left) left (set temps) (with_memory comp after x.meant)
+        Arrives T R lives.following x (length code + left) left (set temps) (with_memory comp after x.meant)
         (x.pc + 4 * length code)
     arrives lives temps x left v after all_ready known found at =
         let ready : Ready T R (live_plain (value ∷ []) None lives) temps x = fewer_ready lives temps x all_ready in
@@ -140,9 +140,9 @@ module _ (T : Setting) (R : Running) (formed : IsWellFormed T.image) (inputs : A
         let its : take frame R.places second_scratch value ++ store_word rs offset ≡ code =
         ap (λ o. take frame R.places second_scratch value ++ store_word rs o) (sym is_offset) in
         let does = in_row T.image T.inputs (world T R x) h.does piece.does in
-        without_place lives.behind x (length code + left) left temps (with_memory comp after x.meant)
+        without_place lives.following x (length code + left) left temps (with_memory comp after x.meant)
         (x.pc + 4 * length code)
-        (subst (λ code. Arrives T R lives.behind x (length code + left) left temps (with_memory comp after x.meant)
+        (subst (λ code. Arrives T R lives.following x (length code + left) left temps (with_memory comp after x.meant)
         (x.pc + 4 * length code)) its
         (stores T R formed inputs cells nodes is (value ∷ []) lives temps x
         (length (take frame R.places second_scratch value ++ store_word rs offset)) left
@@ -165,6 +165,6 @@ module _ (T : Setting) (R : Running) (formed : IsWellFormed T.image) (inputs : A
         (λ v known'.
         comes_stored T R formed inputs cells nodes is placed calls lives x (length code + left) ends q v (set temps)
         (λ after found.
-        comes_behind T R lives x code left (set temps) (with_memory comp after x.meant)
+        comes_past T R lives x code left (set temps) (with_memory comp after x.meant)
         (arrives lives temps x left v after ready (sym (temps_are temps value need) ∙ known')
         (ap (λ q. store (x.meant.memory comp) q v) (place_is temps q known) ∙ found) at) ends e f))))

@@ -21,16 +21,16 @@ module _ (T : Setting) (R : Running) where
   -- what straight code comes to, wherever else its ends lead
   abbrev pub ComesStraight : Lives → Joint → (instrs : List Instr) → (left : ℕ) → Piece (Left Temps) → Type 0
   ComesStraight lives x instrs left piece =
-      (ends : Ends) → ends.left ≡ left → ends.behind ≡ x.pc + 4 * length instrs →
+      (ends : Ends) → ends.left ≡ left → ends.following ≡ x.pc + 4 * length instrs →
       Comes T R lives x (length instrs + left) ends piece
 
   -- it arrives past the end of the code
-  pub comes_behind : (lives : Lives) (x : Joint) (instrs : List Instr) (left : ℕ) (temps : Temps) (s : Meant) →
-      Arrives T R lives.behind x (length instrs + left) left temps s (x.pc + 4 * length instrs) →
+  pub comes_past : (lives : Lives) (x : Joint) (instrs : List Instr) (left : ℕ) (temps : Temps) (s : Meant) →
+      Arrives T R lives.following x (length instrs + left) left temps s (x.pc + 4 * length instrs) →
       ComesStraight lives x instrs left (Reached (record { exit = Next; carried = temps }) s)
-  comes_behind lives x instrs left temps s g ends e f =
-      inl (subst (λ pc. Arrives T R lives.behind x (length instrs + left) ends.left temps s pc) (sym f)
-      (subst (λ n. Arrives T R lives.behind x (length instrs + left) n temps s (x.pc + 4 * length instrs)) (sym e) g))
+  comes_past lives x instrs left temps s g ends e f =
+      inl (subst (λ pc. Arrives T R lives.following x (length instrs + left) ends.left temps s pc) (sym f)
+      (subst (λ n. Arrives T R lives.following x (length instrs + left) n temps s (x.pc + 4 * length instrs)) (sym e) g))
 
   -- lines, some of which the linker completes, follow a statement
   pub lines_follow : (does : Codes) (lines : List Line) (trail : Trail) →
@@ -39,7 +39,7 @@ module _ (T : Setting) (R : Running) where
       All (IsClear R.places) (trail.points lives) →
       CodeAt T.image R.activation.here.comp x.pc
       (completed (T.addresses R.activation.here.comp) x.pc None lines) → x.pc + 4 * length lines ≤ R.last →
-      (ends : Ends) → ends.left ≡ left → ends.behind ≡ x.pc + 4 * length lines →
+      (ends : Ends) → ends.left ≡ left → ends.following ≡ x.pc + 4 * length lines →
       Comes T R lives x (length lines + left) ends (does temps x.meant)) → Follows T R does (straight lines) trail
   lines_follow does lines trail closed goes runs = record {
     sized = λ to_break to_continue. refl;
@@ -105,9 +105,9 @@ module _ (T : Setting) (R : Running) where
   }
 
   -- no lines, and those of a piece
-  pub behind_nothing : (does : Codes) (code : Code) (trail : Trail) → Follows T R does code trail →
+  pub after_nothing : (does : Codes) (code : Code) (trail : Trail) → Follows T R does code trail →
       Follows T R does (followed no_lines code) trail
-  behind_nothing does code trail F =
+  after_nothing does code trail F =
       let same : code.size ≡ 0 + code.size = omega arith in
       subst (λ size. Follows T R does (record { size = size; lines = code.lines; role = Other; kind = Strays }) trail)
       same (with_kind does (record code { role = Other }) Strays trail (with_role does code Other trail F))

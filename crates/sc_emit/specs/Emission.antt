@@ -1,5 +1,5 @@
 -- What the code of a function keeps.
-use Rattle.sc_emit.specs.Common.{CodeTree, Front, FunctionFollows, Setting, branches, code_function, entry_weight}
+use Rattle.sc_emit.specs.Common.{CodeTree, IsPrefix, FunctionFollows, Setting, branches, code_function, entry_weight}
 use Rattle.sc_emit.specs.Common.{everywhere, frame_taken, linked, passes_words, refers_only, weight, wrapping}
 use Rattle.sc_image.specs.Prelude.{IsWellFormed, IsWord}
 use Rattle.sc_hart.specs.Prelude.{CodeAt}
@@ -36,7 +36,7 @@ pub record IsEmitted (f : TacFnTree) (frame : FrameTree) (code : CodeTree) : Typ
   -- least as many as turns, and, turns apart, at most as many as instructions
   pub follows : CodeFollows f code
   -- the frame is taken, and ra stored at its bottom, before anything else
-  pub enters : Front (frame_taken frame.bytes) code.instrs
+  pub enters : IsPrefix (frame_taken frame.bytes) code.instrs
   -- each iteration of a loop executes an instruction of the loop's own before its body: the one that it begins with, or
   -- the one that leads back
   pub rounds : HasRounds f.body code.instrs

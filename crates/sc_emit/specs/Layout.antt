@@ -45,8 +45,8 @@ pub data HaveCode : List TacStmt → List Instr → Type 0 where
 pub record HasRounds (stmts : List TacStmt) (instrs : List Instr) : Type 0 where
   pub before : List Instr
   pub inside : List Instr
-  pub behind : List Instr
-  pub parts : instrs ≡ before ++ (inside ++ behind)
+  pub following : List Instr
+  pub parts : instrs ≡ before ++ (inside ++ following)
   pub in_on : LeadOn before
-  pub out_on : LeadOn behind
+  pub out_on : LeadOn following
   pub statements : HaveCode stmts inside

@@ -2,7 +2,7 @@
 #![tactic(auto)]
 
 ghost use Rattle.sc_emit.specs.Prelude.{IsEmitted};
-ghost use Rattle.sc_tac.specs.Prelude.{HasRoom, IsAssignment, intervals_of};
+ghost use Rattle.sc_tac.specs.Prelude.{FrameFits, IsAssignment, intervals_of};
 ghost use Rattle.sc_select.specs.Prelude.{code_of};
 ghost use Rattle.std.specs.Prelude.{◌≡◌, ◌≤◌, ◌*◌, IfOk};
 
@@ -14,7 +14,7 @@ use std::alloc::Global;
 pub fn emit(alloc: Global, f: &TacFn, places: &Places, frame: &Frame) -> Result<Code, OutOfMemory>
     requires reach { 96 * f.now.nodes ≤ 1048576 }
     requires places { IsAssignment (intervals_of f.now) places.now }
-    requires room { HasRoom f.now.objects places.now f.now.nodes frame.now }
+    requires frame_fits { FrameFits f.now.objects places.now f.now.nodes frame.now }
     requires small { frame.now.bytes ≤ 32768 }
     ensures code { IfOk result (λ code. code ≡ code_of f.now places.now frame.now) }
     ensures emitted { IfOk result (IsEmitted f.now frame.now) }

@@ -12,7 +12,7 @@ pub use Rattle.sc_event.specs.Prelude.{Activation, HasEntered, IsKnown, Standing
 pub use Rattle.sc_event.specs.Prelude.{comp_at, count_of, event_line, export_at, here_or, imports, is_allowed, is_end}
 pub use Rattle.sc_event.specs.Prelude.{is_legal_from, legal, may_perform, may_return, open_after, open_call, part}
 pub use Rattle.sc_event.specs.Prelude.{performer, resumed, returned_before, rows_from, spaced_names, spaced_words}
-pub use Rattle.sc_event.specs.Prelude.{stands_after, stands_behind, takes}
+pub use Rattle.sc_event.specs.Prelude.{stands_after, stands_after_all, takes}
 pub use Rattle.sc_event.specs.declared.event.Event.{Event}
 pub use Rattle.sc_event.specs.declared.event.Event.TheVariants.{Call, End, In, Out, Ret}
 pub use Rattle.sc_event.specs.declared.interface.Interfaces.{Interfaces}

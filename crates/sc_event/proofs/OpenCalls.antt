@@ -3,7 +3,7 @@ use Rattle.sc_event.proofs.Common.{Call, End, Event, HasEntered, IfSome, List, N
 use Rattle.sc_event.proofs.Common.{StandsBy, [], ap, arith, at_start, awaits, get_or, get_or_from_slice_get, here_or}
 use Rattle.sc_event.proofs.Common.{length, none-some, open_after, open_call, option_and_then, option_map_or, refl}
 use Rattle.sc_event.proofs.Common.{resumed, returned_before, same_Some, slice_get, slice_get-get_or, slice_get_within}
-use Rattle.sc_event.proofs.Common.{stands_after, stands_behind, subst, suc, sym, take, take_more, zero, ℕ, ◌++◌, ◌+◌}
+use Rattle.sc_event.proofs.Common.{stands_after, stands_after_all, subst, suc, sym, take, take_more, zero, ℕ, ◌++◌, ◌+◌}
 use Rattle.sc_event.proofs.Common.{◌<◌, ◌==◌, ◌∙◌, ◌∷◌, ◌≡◌, ◌≤◌}
 
 one_more : (trace : List Event) (n : ℕ) (event : Event) → slice_get trace n ≡ Some event →
@@ -13,12 +13,12 @@ one_more trace n event is =
     ap (λ m. take m trace) count ∙ take_more trace n event (slice_get_within trace n event is) ∙
     ap (λ x. take n trace ++ x ∷ []) (get_or_from_slice_get trace n event event is)
 
-behind_last : (from : Option Standing) (earlier : List Event) (event : Event) → stands_behind from
-    (earlier ++ event ∷ []) ≡ option_and_then (λ at. stands_after at event) (stands_behind from earlier)
-behind_last (Some at) (first ∷ earlier) event = behind_last _ earlier event
-behind_last (Some at) [] event = refl
-behind_last None [] event = refl
-behind_last None (first ∷ earlier) event = refl
+after_last : (from : Option Standing) (earlier : List Event) (event : Event) → stands_after_all from
+    (earlier ++ event ∷ []) ≡ option_and_then (λ at. stands_after at event) (stands_after_all from earlier)
+after_last (Some at) (first ∷ earlier) event = after_last _ earlier event
+after_last (Some at) [] event = refl
+after_last None [] event = refl
+after_last None (first ∷ earlier) event = refl
 
 pub event_here : (trace : List Event) (place : ℕ) (event : Event) → place < length trace →
     event ≡ get_or trace place event → slice_get trace place ≡ Some event
@@ -43,12 +43,12 @@ back (suc returned) at = option_and_then (back returned) (resumed at.waiting)
 
 module _ (main : ℕ) (trace : List Event) where
   abbrev pub standing : ℕ → Option Standing
-  standing n = stands_behind (at_start main) (take n trace)
+  standing n = stands_after_all (at_start main) (take n trace)
 
   pub standing_next : (n : ℕ) (event : Event) → slice_get trace n ≡ Some event →
       standing (suc n) ≡ option_and_then (λ at. stands_after at event) (standing n)
   standing_next n event is =
-      ap (stands_behind _) (one_more trace n event is) ∙ behind_last (at_start main) (take n trace) event
+      ap (stands_after_all _) (one_more trace n event is) ∙ after_last (at_start main) (take n trace) event
 
   -- the open call after `count` events is found, also after further returns
   abbrev Finds : ℕ → Type 0

@@ -1,7 +1,7 @@
 -- A compartment's next row is its next event: what the rows are after the events that it has performed.
 use Rattle.sc_event.proofs.Common.{Bool, Event, List, None, Option, Some, Standing, [], action_of, ap, arith, at_start}
 use Rattle.sc_event.proofs.Common.{cond, count_of, drop, false, filter, if◌then◌else◌, length, none-some, option_map_or}
-use Rattle.sc_event.proofs.Common.{part, performer, rows_from, stands_after, stands_behind, subst, suc, true, ℕ, ◌++◌}
+use Rattle.sc_event.proofs.Common.{part, performer, rows_from, stands_after, stands_after_all, subst, suc, true, ℕ, ◌++◌}
 use Rattle.sc_event.proofs.Common.{◌+◌, ◌==◌, ◌∙◌, ◌∷◌, ◌≡◌}
 use Rattle.sc_event.specs.declared.row.Row.{Row}
 
@@ -22,10 +22,10 @@ module _ (comp : ℕ) (event : Event) (later : List Event) (at : Standing) (own 
       let same : suc number + count ≡ number + suc count = omega arith in
       subst (λ n. drop count rows ≡ row_of at n event ∷ rows_from comp (suc n) (stands_after at event) later) same is
 
-  behind : (number : ℕ) (earlier : List Event) (from : Option Standing) → stands_behind from earlier ≡ Some at →
+  following : (number : ℕ) (earlier : List Event) (from : Option Standing) → stands_after_all from earlier ≡ Some at →
       IsNext number (count_of comp earlier) (rows_from comp number from (earlier ++ event ∷ later))
-  behind number [] None e = absurd (none-some at e)
-  behind number [] (Some s) e =
+  following number [] None e = absurd (none-some at e)
+  following number [] (Some s) e =
       let here : s ≡ at = ap (λ o. option_map_or (λ t. t) o s) e in
       let none : number ≡ number + 0 = omega arith in
       ap (λ t. if performer event == comp then row_of t number event ∷
@@ -34,9 +34,9 @@ module _ (comp : ℕ) (event : Event) (later : List Event) (at : Standing) (own 
       ap (λ b. if b then row_of at number event ∷ rows_from comp (suc number) (stands_after at event) later else
       rows_from comp number (stands_after at event) later) own ∙
       ap (λ n. row_of at n event ∷ rows_from comp (suc n) (stands_after at event) later) none
-  behind number (first ∷ earlier) None e = absurd (none-some at e)
-  behind number (first ∷ earlier) (Some s) e =
-      split (performer first == comp) (behind _ earlier (stands_after s first) e) (behind number earlier _ e) where
+  following number (first ∷ earlier) None e = absurd (none-some at e)
+  following number (first ∷ earlier) (Some s) e =
+      split (performer first == comp) (following _ earlier (stands_after s first) e) (following number earlier _ e) where
         split : (mine : Bool) → IsNext (suc number) (count_of comp earlier)
             (rows_from comp (suc number) (stands_after s first) (earlier ++ event ∷ later)) → IsNext number
             (count_of comp earlier) (rows_from comp number (stands_after s first) (earlier ++ event ∷ later)) → IsNext
@@ -50,10 +50,10 @@ module _ (comp : ℕ) (event : Event) (later : List Event) (at : Standing) (own 
 -- after its own events so far, the rows of a compartment begin with its next event, and the function that is active
 -- there
 pub next_row : (main comp : ℕ) (earlier : List Event) (event : Event) (later : List Event) (at : Standing) →
-    (performer event == comp) ≡ true → stands_behind (at_start main) earlier ≡ Some at →
+    (performer event == comp) ≡ true → stands_after_all (at_start main) earlier ≡ Some at →
     drop (count_of comp earlier) (part main comp (earlier ++ event ∷ later)) ≡
     row_of at (count_of comp earlier) event ∷ rows_from comp (suc (count_of comp earlier)) (stands_after at event) later
 next_row main comp earlier event later at own come =
     let none : 0 + count_of comp earlier ≡ count_of comp earlier = omega arith in
-    behind comp event later at own 0 earlier _ come ∙
+    following comp event later at own 0 earlier _ come ∙
     ap (λ n. row_of at n event ∷ rows_from comp (suc n) (stands_after at event) later) none

@@ -4,7 +4,7 @@ use Rattle.std.specs.Option.{option_map_or}
 use Rattle.sc_event.specs.declared.event.Event.{Event}
 use Rattle.sc_event.specs.declared.event.Event.TheVariants.{Call, Ret, Out, In, End}
 use Rattle.sc_event.specs.declared.row.Entry.TheVariants.{Export}
-use Rattle.sc_event.specs.Standing.{Standing, at_start, stands_behind}
+use Rattle.sc_event.specs.Standing.{Standing, at_start, stands_after_all}
 
 -- where `returned` calls have returned after an event: how many have after the one before it, `None` where the event is
 -- a call that hasn't returned itself
@@ -50,5 +50,5 @@ HasEntered _ earlier at = ⊥
 abbrev pub StandsBy : (main : ℕ) → List Event → Option ℕ → Standing → Type 0
 StandsBy main trace None at = Some at ≡ at_start main
 StandsBy main trace (Some call) at =
-    (earlier : Standing) × (stands_behind (at_start main) (take call trace) ≡ Some earlier) ×
+    (earlier : Standing) × (stands_after_all (at_start main) (take call trace) ≡ Some earlier) ×
     HasEntered (slice_get trace call) earlier at

@@ -34,10 +34,10 @@ stands_after at (In comp value) = Some at
 stands_after at (End comp value) = None
 
 -- after events in order
-abbrev pub stands_behind : Option Standing → List Event → Option Standing
-stands_behind at [] = at
-stands_behind None (event ∷ later) = None
-stands_behind (Some at) (event ∷ later) = stands_behind (stands_after at event) later
+abbrev pub stands_after_all : Option Standing → List Event → Option Standing
+stands_after_all at [] = at
+stands_after_all None (event ∷ later) = None
+stands_after_all (Some at) (event ∷ later) = stands_after_all (stands_after at event) later
 
 -- the compartment that performs an event
 abbrev pub performer : Event → ℕ

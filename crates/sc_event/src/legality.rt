@@ -150,8 +150,8 @@ fn open_call(events: &[Event], count: usize) -> Option<usize>
     ensures earlier { IfSome result (λ call. call < count) }
 {
     let mut returned = 0;
-    for behind in 0..count {
-        let place = count - 1 - behind;
+    for following in 0..count {
+        let place = count - 1 - following;
         match returned_before(&events[place], returned) {
             None => return Some(place),
             Some(before) => returned = before,

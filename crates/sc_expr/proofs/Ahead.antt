@@ -1,6 +1,6 @@
 -- What an answer that is there came from, and what the lexemes begin with, where reading says so.
 use Rattle.sc_expr.proofs.Common.{BinaryOp, Bool, Extension, IsIdent, IsMark, Lexeme, List, Mark, None, Option, Prefix}
-use Rattle.sc_expr.proofs.Common.{Some, Symbol, [], ap, append_assoc, arith, behind, binary_of, cases_lt, cond}
+use Rattle.sc_expr.proofs.Common.{Some, Symbol, [], ap, append_assoc, arith, following, binary_of, cases_lt, cond}
 use Rattle.sc_expr.proofs.Common.{cond_some, extension_at, extension_by, extension_level, extension_of}
 use Rattle.sc_expr.proofs.Common.{extension_within, false, is_mark, le-leb, lead_of, leb-true, level_of, name_at}
 use Rattle.sc_expr.proofs.Common.{name_by, none-some, prefix_of, refl, rules, subst, sym, true, within, ℕ, ⊎_elim, ◌++◌}
@@ -119,9 +119,9 @@ marked : (m : Mark) (s : Symbol) → is_mark m s ≡ true → s ≡ symbol.Mark 
 marked m (symbol.Mark other) h = ap (λ x. symbol.Mark x) (same_true the_type (search rules) other m h)
 marked m _ h = absurd cc
 
-pub behind_mark : (m : Mark) (ts us : List Lexeme) → behind m ts ≡ Some us → (t : Lexeme) × (ts ≡ t ∷ us) × IsMark m t
-behind_mark m [] us h = absurd (none-some us h)
-behind_mark m (t ∷ ts) us h =
+pub first_mark : (m : Mark) (ts us : List Lexeme) → following m ts ≡ Some us → (t : Lexeme) × (ts ≡ t ∷ us) × IsMark m t
+first_mark m [] us h = absurd (none-some us h)
+first_mark m (t ∷ ts) us h =
     let c = cond_some _ ts us h in
     (t, ap (λ rest. t ∷ rest) c.1, marked m _ c.0)
 

@@ -58,9 +58,9 @@ most_append n [] us = let low = open_low n us in omega arith
 most_append n (t ∷ ts) us = let rest = most_append (open_after t.symbol n) ts us in omega arith
 
 -- the most along an expression and what follows it is the greater of the two
-pub most_behind : {level : ℕ} {ts : List Lexeme} {e : ExprTree} (n : ℕ) (us : List Lexeme) → Spells level ts e →
+pub most_after : {level : ℕ} {ts : List Lexeme} {e : ExprTree} (n : ℕ) (us : List Lexeme) → Spells level ts e →
     most_open n (ts ++ us) ≡ max (most_open n ts) (most_open n us)
-most_behind {ts = ts} n us d = rw (most_append n ts us, balanced d)
+most_after {ts = ts} n us d = rw (most_append n ts us, balanced d)
 
 -- the most in brackets is that inside them or of what follows
 pub most_bracketed : {level : ℕ} {us : List Lexeme} {e : ExprTree} (n : ℕ) (t u : Lexeme) (rest : List Lexeme) →
@@ -68,7 +68,7 @@ pub most_bracketed : {level : ℕ} {us : List Lexeme} {e : ExprTree} (n : ℕ) (
     max (most_open (n + 1) us) (most_open n rest)
 most_bracketed {us = us} n t u rest opens closes d =
     let one_less : n + 1 - 1 ≡ n = omega arith in
-    rw (opens n, most_behind (n + 1) (u ∷ rest) d, closes (n + 1), one_less) (omega (arith, open_low (n + 1) us))
+    rw (opens n, most_after (n + 1) (u ∷ rest) d, closes (n + 1), one_less) (omega (arith, open_low (n + 1) us))
 
 pub most_plain : (n : ℕ) (t : Lexeme) (rest : List Lexeme) → IsPlain t → most_open n (t ∷ rest) ≡ most_open n rest
 most_plain n t rest plain = rw (plain n) (omega (arith, open_low n rest))

@@ -7,8 +7,8 @@ pub use Rattle.std.proofs.lemmas.Option.{cond_some, none-some}
 pub use Rattle.sc_base.specs.Prelude.{level_of, loosest_level, unary_level}
 pub use Rattle.sc_ast.specs.Prelude.{Number, expr_height}
 pub use Rattle.sc_expr.specs.Common.{BinaryOp, ExprTree}
-pub use Rattle.sc_expr.specs.Prelude.{Agrees, Fails, Found, IsFront, IsIdent, IsMark, OutOfMemory, Reader, Refused}
-pub use Rattle.sc_expr.specs.Prelude.{Spells, arrow, behind, binary_of, extension_at, extension_by, extension_level}
+pub use Rattle.sc_expr.specs.Prelude.{Agrees, Fails, Found, IsParse, IsIdent, IsMark, OutOfMemory, Reader, Refused}
+pub use Rattle.sc_expr.specs.Prelude.{Spells, arrow, following, binary_of, extension_at, extension_by, extension_level}
 pub use Rattle.sc_expr.specs.Prelude.{extension_of, extension_within, found, index, is_mark, joined, joined_with}
 pub use Rattle.sc_expr.specs.Prelude.{lead_by, lead_of, lead_with, leaf_of, level_with, lexeme_of, literal, looser}
 pub use Rattle.sc_expr.specs.Prelude.{member, most_open, name_at, name_by, open_after, parenthesised, prefix_of}

@@ -13,7 +13,7 @@ use Rattle.sc_expr.specs.declared.parser.Lead.TheVariants as lead
 use Rattle.sc_expr.proofs.Ahead.{Onward, same_some, no_unary, mark_operator}
 use Rattle.sc_expr.proofs.Heights.{literal_height, variable_height, prefixed_height, joined_height, index_height}
 use Rattle.sc_expr.proofs.Heights.{member_height, arrow_height, positive}
-use Rattle.sc_expr.proofs.Balance.{Opens, Closes, says, plain_binary, plain_prefix, open_low, most_behind}
+use Rattle.sc_expr.proofs.Balance.{Opens, Closes, says, plain_binary, plain_prefix, open_low, most_after}
 use Rattle.sc_expr.proofs.Balance.{most_bracketed, most_plain}
 use Rattle.sc_expr.proofs.Steps.{read_goes, nested_at, turns_on, turns_end}
 
@@ -78,7 +78,7 @@ module _ {free room level : ℕ} where
       rest
   unfolding extended_with
   from_turn {c = c} {rest = rest} {e = e} {f = f} {ext = ext} n t more is of same d on tight higher low few grows =
-      let most = most_behind n (t ∷ more) d in
+      let most = most_after n (t ∷ more) d in
       let next : extension_by t.symbol ≡ Some ext = ap extension_by is ∙ of in
       let g = on free room level n (t ∷ (more ++ rest)) tight (omega arith) (omega arith)
       (λ other at. subst (λ x. c ≤ extension_level x) (same_some (sym next ∙ at)) (omega arith)) in

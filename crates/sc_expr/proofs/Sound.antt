@@ -1,6 +1,6 @@
 -- What is read is spelled so, and within the limits.
 use Rattle.sc_expr.proofs.Common.{ExprTree, Extension, Found, IsMark, Lexeme, List, Mark, None, Option, Prefix, Reader}
-use Rattle.sc_expr.proofs.Common.{Some, Spells, Symbol, [], ap, arith, arrow, behind, cases_lt, expr_height}
+use Rattle.sc_expr.proofs.Common.{Some, Spells, Symbol, [], ap, arith, arrow, following, cases_lt, expr_height}
 use Rattle.sc_expr.proofs.Common.{extended_with, extension_at, extension_by, extension_level, extension_within, found}
 use Rattle.sc_expr.proofs.Common.{go_on, index, joined, joined_with, lead_of, lead_with, leaf_of, leb, leb-true}
 use Rattle.sc_expr.proofs.Common.{level_of, level_with, literal, looser, member, most_open, name_at, none-some}
@@ -13,10 +13,10 @@ use Rattle.sc_expr.specs.declared.operator.Extension.TheVariants as extension
 use Rattle.sc_expr.specs.declared.lexeme.Symbol.TheVariants as symbol
 use Rattle.sc_expr.specs.declared.parser.Lead.TheVariants as lead
 use Rattle.sc_expr.proofs.Ahead.{same_some, bound, cond_is, glued, operator_low, operator_mark, extension_mark, Ahead}
-use Rattle.sc_expr.proofs.Ahead.{ahead, Onward, nothing_within, behind_mark, name_ahead, paren_lead, prefix_lead}
+use Rattle.sc_expr.proofs.Ahead.{ahead, Onward, nothing_within, first_mark, name_ahead, paren_lead, prefix_lead}
 use Rattle.sc_expr.proofs.Heights.{literal_height, variable_height, prefixed_height, joined_height, index_height}
 use Rattle.sc_expr.proofs.Heights.{member_height, arrow_height}
-use Rattle.sc_expr.proofs.Balance.{IsPlain, says, plain_binary, plain_prefix, most_behind, most_bracketed, most_plain}
+use Rattle.sc_expr.proofs.Balance.{IsPlain, says, plain_binary, plain_prefix, most_after, most_bracketed, most_plain}
 
 -- The lexemes begin with an expression: it is spelled at this level within the limits, and an extension after it is of
 -- level `least` or a looser one.
@@ -86,8 +86,8 @@ module _ (free room : ℕ) (nested : ℕ → ℕ → Reader) (below : ℕ → Re
   lead_sound t ts x (Some lead.Paren) first h =
       let is : IsMark _ t = paren_lead _ first in
       let b = bound _ (nested (room + 1) 11 ts) x h in
-      let c = bound _ (behind mark.CloseParen b.0.rest) x b.2 in
-      let u = behind_mark mark.CloseParen b.0.rest c.0 c.1 in
+      let c = bound _ (following mark.CloseParen b.0.rest) x b.2 in
+      let u = first_mark mark.CloseParen b.0.rest c.0 c.1 in
       let r = in_brackets (room + 1) 11 ts b.0 (omega arith) b.1 in
       let inner = r.1 in (
         0,
@@ -139,7 +139,7 @@ module _ (free room : ℕ) (nested : ℕ → ℕ → Reader) (below : ℕ → Re
     spelled = spelled;
     measured = measured;
     low = low;
-    few = λ n. omega (arith, most_behind n (a.first ∷ more) s.spelled, s.few n, few n);
+    few = λ n. omega (arith, most_after n (a.first ∷ more) s.spelled, s.few n, few n);
     onward = onward;
   }
 
@@ -162,8 +162,8 @@ module _ (free room : ℕ) (nested : ℕ → ℕ → Reader) (below : ℕ → Re
       (λ other next. omega (arith, right.onward other next)))
   joined_sound extension.Index ts us x y s a low h =
       let b = bound _ (nested room 11 us) y h in
-      let c = bound _ (behind mark.CloseSquare b.0.rest) y b.2 in
-      let u = behind_mark mark.CloseSquare b.0.rest c.0 c.1 in
+      let c = bound _ (following mark.CloseSquare b.0.rest) y b.2 in
+      let u = first_mark mark.CloseSquare b.0.rest c.0 c.1 in
       let r = in_brackets room 11 us b.0 (omega arith) b.1 in
       let inner = r.1 in
       let is : IsMark _ a.first = a.is ∙ ap symbol.Mark (extension_mark a.m _ _ a.of refl) in

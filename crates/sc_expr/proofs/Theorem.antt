@@ -1,5 +1,5 @@
 -- Reading gives exactly the prefixes within the limits, and lexemes spell one expression at most.
-use Rattle.sc_expr.proofs.Common.{Agrees, Bor, Err, ExprTree, Found, IfOk, IsErrOf, IsFront, Lexeme, List, Ok, Refused}
+use Rattle.sc_expr.proofs.Common.{Agrees, Bor, Err, ExprTree, Found, IfOk, IsErrOf, IsParse, Lexeme, List, Ok, Refused}
 use Rattle.sc_expr.proofs.Common.{Result, Some, Spells, SyntaxFault, [], ap, arith, expr_height, found, max, most_open}
 use Rattle.sc_expr.proofs.Common.{none-some, read, read_expr, subst, sym, ℕ, ◌-◌, ◌<◌, ◌∙◌, ◌≡◌, ◌≤◌}
 use Rattle.sc_expr.specs.declared.parser.Built.{Built}
@@ -9,19 +9,19 @@ use Rattle.sc_expr.proofs.Sound.{read_sound}
 use Rattle.sc_expr.proofs.Complete.{reads_all}
 
 -- an expression that a prefix spells is read
-pub front_complete : (level count : ℕ) (ts : List Lexeme) (e : ExprTree) (rest : List Lexeme) →
-    IsFront level count ts e rest → read_expr level count ts ≡ Some (found e (expr_height e) rest)
-front_complete level count ts e rest h =
+pub parse_complete : (level count : ℕ) (ts : List Lexeme) (e : ExprTree) (rest : List Lexeme) →
+    IsParse level count ts e rest → read_expr level count ts ≡ Some (found e (expr_height e) rest)
+parse_complete level count ts e rest h =
     let opened = open_low count h.taken in
     let few = h.few in
     ap (λ k. read (1024 - count) 256 level k) h.split ∙
     reads_all h.spelled (1024 - count) 256 level count rest (omega arith) h.low (omega arith)
     (λ ext at. omega (arith, h.ends ext at))
 
-pub fronts_agree : (level count : ℕ) (ts : List Lexeme) (e f : ExprTree) (rest more : List Lexeme) →
-    IsFront level count ts e rest → IsFront level count ts f more → (e ≡ f) × (rest ≡ more)
-fronts_agree level count ts e f rest more h k =
-    let same = same_some (sym (front_complete level count ts e rest h) ∙ front_complete level count ts f more k) in
+pub parses_agree : (level count : ℕ) (ts : List Lexeme) (e f : ExprTree) (rest more : List Lexeme) →
+    IsParse level count ts e rest → IsParse level count ts f more → (e ≡ f) × (rest ≡ more)
+parses_agree level count ts e f rest more h k =
+    let same = same_some (sym (parse_complete level count ts e rest h) ∙ parse_complete level count ts f more k) in
     (ap (λ x. x.tree) same, ap (λ x. x.rest) same)
 
 pub trees_agree : (level : ℕ) (ts : List Lexeme) (e f : ExprTree) → Spells level ts e → Spells level ts f → e ≡ f
@@ -41,9 +41,9 @@ abbrev seen : Built × Bor (List Lexeme) → Found
 seen x = found x.0.tree x.0.height x.1.now
 
 -- what is read is spelled by a prefix, and its height is that of the tree
-pub found_front : (level count : ℕ) (ts : List Lexeme) (answer : Answer) → 0 < level → count ≤ 1024 →
-    Agrees seen answer (read_expr level count ts) → IfOk answer (λ x. IsFront level count ts x.0.tree x.1.now)
-found_front level count ts (Ok x) some opened h =
+pub found_parse : (level count : ℕ) (ts : List Lexeme) (answer : Answer) → 0 < level → count ≤ 1024 →
+    Agrees seen answer (read_expr level count ts) → IfOk answer (λ x. IsParse level count ts x.0.tree x.1.now)
+found_parse level count ts (Ok x) some opened h =
     let r = read_sound _ 256 level ts _ some h in
     record {
       taken = r.taken;
@@ -53,7 +53,7 @@ found_front level count ts (Ok x) some opened h =
       few = omega (arith, r.few count);
       ends = λ ext at. omega (arith, r.onward ext at);
     }
-found_front level count ts (Err fault) some opened h = tt
+found_parse level count ts (Err fault) some opened h = tt
 
 pub found_height : (level count : ℕ) (ts : List Lexeme) (answer : Answer) → 0 < level →
     Agrees seen answer (read_expr level count ts) → IfOk answer (λ x. x.0.height ≡ expr_height x.0.tree)
@@ -61,8 +61,8 @@ found_height level count ts (Ok x) some h = (read_sound _ 256 level ts _ some h)
 found_height level count ts (Err fault) some h = tt
 
 -- no prefix spells an expression where nothing is read
-pub refused_front : (level count : ℕ) (ts : List Lexeme) (answer : Answer) →
+pub refused_parse : (level count : ℕ) (ts : List Lexeme) (answer : Answer) →
     Agrees seen answer (read_expr level count ts) → (left : ℕ) → IsErrOf answer (Refused left) →
-    (e : ExprTree) (rest : List Lexeme) → IsFront level count ts e rest → ⊥
-refused_front level count ts answer h left is e rest front = none-some _
-    (sym (subst (λ k. Agrees seen k (read_expr level count ts)) is h) ∙ front_complete level count ts e rest front)
+    (e : ExprTree) (rest : List Lexeme) → IsParse level count ts e rest → ⊥
+refused_parse level count ts answer h left is e rest parsed = none-some _
+    (sym (subst (λ k. Agrees seen k (read_expr level count ts)) is h) ∙ parse_complete level count ts e rest parsed)

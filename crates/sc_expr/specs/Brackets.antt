@@ -7,17 +7,17 @@ use Rattle.sc_expr.specs.declared.lexeme.Symbol.TheVariants as symbol
 use Rattle.sc_expr.specs.declared.lexeme.Lexeme.{Lexeme}
 
 -- how many brackets of the three kinds are open after a mark, where `count` were before it
-abbrev pub open_behind : Mark → ℕ → ℕ
-open_behind mark.OpenParen count = count + 1
-open_behind mark.OpenSquare count = count + 1
-open_behind mark.OpenCurly count = count + 1
-open_behind mark.CloseParen count = count - 1
-open_behind mark.CloseSquare count = count - 1
-open_behind mark.CloseCurly count = count - 1
-open_behind _ count = count
+abbrev pub open_after_mark : Mark → ℕ → ℕ
+open_after_mark mark.OpenParen count = count + 1
+open_after_mark mark.OpenSquare count = count + 1
+open_after_mark mark.OpenCurly count = count + 1
+open_after_mark mark.CloseParen count = count - 1
+open_after_mark mark.CloseSquare count = count - 1
+open_after_mark mark.CloseCurly count = count - 1
+open_after_mark _ count = count
 
 abbrev pub open_after : Symbol → ℕ → ℕ
-open_after (symbol.Mark m) count = open_behind m count
+open_after (symbol.Mark m) count = open_after_mark m count
 open_after _ count = count
 
 -- the most brackets that are open at a place of the list

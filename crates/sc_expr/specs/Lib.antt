@@ -3,6 +3,6 @@ pub mod Prelude
 pub mod Marks
 pub mod Brackets
 pub mod Grammar
-pub mod Fronts
+pub mod Prefixes
 pub mod Reading
 pub mod Lexemes

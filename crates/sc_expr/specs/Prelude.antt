@@ -2,8 +2,8 @@
 pub use Rattle.sc_base.specs.Prelude.{level_of, loosest_level, name_of, unary_level}
 pub use Rattle.sc_lex.specs.Prelude.{AreSpans, IsSpan}
 unfoldable pub use Rattle.sc_lex.specs.Prelude.{words}
-pub use Rattle.sc_expr.specs.Brackets.{most_open, open_after, open_behind}
-pub use Rattle.sc_expr.specs.Fronts.{Agrees, Fails, IsFront, behind, extension_at, extension_by, is_mark}
+pub use Rattle.sc_expr.specs.Brackets.{most_open, open_after, open_after_mark}
+pub use Rattle.sc_expr.specs.Prefixes.{Agrees, Fails, IsParse, following, extension_at, extension_by, is_mark}
 pub use Rattle.sc_expr.specs.Grammar.{IsIdent, IsMark, Spells, arrow, index, joined, literal, looser, member}
 pub use Rattle.sc_expr.specs.Grammar.{parenthesised, prefix, variable, «prefix»}
 pub use Rattle.sc_expr.specs.Lexemes.{fourth_word, ident_in, import_of, lexeme_of, look_up, mark_texts, number_in}

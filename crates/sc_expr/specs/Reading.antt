@@ -14,7 +14,7 @@ use Rattle.sc_expr.specs.declared.lexeme.Lexeme.{Lexeme}
 use Rattle.sc_expr.specs.declared.parser.Lead.{Lead}
 use Rattle.sc_expr.specs.declared.parser.Lead.TheVariants as lead
 use Rattle.sc_expr.specs.Marks.{prefix_of, prefixed, extension_level}
-use Rattle.sc_expr.specs.Fronts.{behind, extension_at}
+use Rattle.sc_expr.specs.Prefixes.{following, extension_at}
 
 -- A tree that is read, its height, and the lexemes after it.
 pub record Found : Type 0 where
@@ -81,7 +81,7 @@ module _ (nested : ℕ → ℕ → Reader) (below : ℕ → Reader) (room : ℕ)
   -- inside parentheses
   abbrev pub paren_with : Reader
   paren_with ts = nested (room + 1) loosest_level ts >>=
-      (λ x. behind mark.CloseParen x.rest >>= (λ rest. Some (found x.tree x.height rest)))
+      (λ x. following mark.CloseParen x.rest >>= (λ rest. Some (found x.tree x.height rest)))
 
   -- after a unary operator
   abbrev pub prefix_with : Prefix → Reader
@@ -101,7 +101,7 @@ module _ (nested : ℕ → ℕ → Reader) (below : ℕ → Reader) (room : ℕ)
   joined_with e height (extension.Operator op) ts = below (level_of op - 1) ts >>=
       (λ x. Some (found (expr.Binary op e x.tree) (max height x.height + 1) x.rest))
   joined_with e height extension.Index ts = nested room loosest_level ts >>=
-      (λ x. behind mark.CloseSquare x.rest >>= (λ rest.
+      (λ x. following mark.CloseSquare x.rest >>= (λ rest.
       Some (found (expr.Index e x.tree) (max height x.height + 1) rest)))
   joined_with e height extension.Member ts = named_with (λ name. expr.Member e name) height ts
   joined_with e height extension.Arrow ts = named_with (λ name. expr.Arrow e name) height ts

@@ -1,4 +1,4 @@
-ghost use Rattle.sc_expr.specs.Prelude.{Agrees, AreSpans, behind, is_mark, lexeme_of, name_by};
+ghost use Rattle.sc_expr.specs.Prelude.{Agrees, AreSpans, following, is_mark, lexeme_of, name_by};
 ghost use Rattle.std.specs.Prelude.{◌≡◌, ◌+◌, ◌++◌, [], ◌∷◌, length, map, IfOk, OnOk};
 ghost use Rattle.sc_expr.specs.declared.fault.SyntaxFault.TheVariants.{Refused};
 
@@ -80,7 +80,7 @@ pub fn name_by(symbol: &Symbol) -> Option<Ident>
 
 /// What follows this mark. Lexemes that don't begin with it are refused.
 pub fn expect(mark: Mark, lexemes: &[Lexeme]) -> Result<&[Lexeme], SyntaxFault>
-    ensures { Agrees (λ rest. rest.now) result (behind mark lexemes.now) }
+    ensures { Agrees (λ rest. rest.now) result (following mark lexemes.now) }
 {
     let [first, rest @ ..] = lexemes else {
         return Err(refused(lexemes));

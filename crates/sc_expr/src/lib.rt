@@ -17,4 +17,4 @@ pub use lexeme::{
 };
 pub use mark::{Keyword, Mark};
 pub use operator::{Extension, Prefix};
-pub use parser::{Built, one_expr, one_front, parse_expr, parse_level, parse_unary};
+pub use parser::{Built, one_expr, one_parse, parse_expr, parse_level, parse_unary};

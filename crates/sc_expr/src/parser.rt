@@ -1,6 +1,6 @@
 //! Reading an expression: an operand, then in one loop all that extends it.
 
-ghost use Rattle.sc_expr.specs.Prelude.{Agrees, IsFront, Spells, extended_with, extension_by, extension_within, found};
+ghost use Rattle.sc_expr.specs.Prelude.{Agrees, IsParse, Spells, extended_with, extension_by, extension_within, found};
 ghost use Rattle.sc_expr.specs.Prelude.{joined_with, lead_by, lead_of, leaf_at, leaf_of, loosest_level, named_with};
 ghost use Rattle.sc_expr.specs.Prelude.{operand_with, paren_with, prefix_with, read, read_expr, read_nested};
 ghost use Rattle.sc_expr.specs.Prelude.{unary_level};
@@ -38,12 +38,12 @@ type Answer<'a> = Result<(Built, &'a [Lexeme]), SyntaxFault>;
 /// before. A bracket is refused where it is one too many, an operator where what it makes is too high.
 pub fn parse_expr(alloc: Global, opened: u32, lexemes: &[Lexeme]) -> Answer<'_>
     requires { opened ≤ 1024 }
-    ensures found { IfOk result (λ x. IsFront loosest_level opened lexemes.now x.0.tree x.1.now) }
+    ensures found { IfOk result (λ x. IsParse loosest_level opened lexemes.now x.0.tree x.1.now) }
     ensures height { IfOk result (λ x. x.0.height ≡ expr_height x.0.tree) }
 
     // Lexemes are refused where no prefix of them is spelled so.
     ensures refused { (left : ℕ) → IsErrOf result (Refused left) → (e : ExprTree) (rest : List Lexeme) →
-        IsFront loosest_level opened lexemes.now e rest → ⊥ }
+        IsParse loosest_level opened lexemes.now e rest → ⊥ }
 
     // The same as a function of the lexemes.
     ensures reading { Agrees (λ x. found x.0.tree x.0.height x.1.now) result
@@ -55,12 +55,12 @@ pub fn parse_expr(alloc: Global, opened: u32, lexemes: &[Lexeme]) -> Answer<'_>
 /// As `parse_expr`, but for a unary expression (C11 6.5.3), which ends where an operator between operands stands.
 pub fn parse_unary(alloc: Global, opened: u32, lexemes: &[Lexeme]) -> Answer<'_>
     requires { opened ≤ 1024 }
-    ensures found { IfOk result (λ x. IsFront unary_level opened lexemes.now x.0.tree x.1.now) }
+    ensures found { IfOk result (λ x. IsParse unary_level opened lexemes.now x.0.tree x.1.now) }
     ensures height { IfOk result (λ x. x.0.height ≡ expr_height x.0.tree) }
 
     // Lexemes are refused where no prefix of them is spelled so.
     ensures refused { (left : ℕ) → IsErrOf result (Refused left) → (e : ExprTree) (rest : List Lexeme) →
-        IsFront unary_level opened lexemes.now e rest → ⊥ }
+        IsParse unary_level opened lexemes.now e rest → ⊥ }
 
     // The same as a function of the lexemes.
     ensures reading { Agrees (λ x. found x.0.tree x.0.height x.1.now) result
@@ -77,9 +77,9 @@ pub fn one_expr()
 {}
 
 /// Lexemes have one expression of a level at their start at most, as far as it goes.
-pub fn one_front()
+pub fn one_parse()
     ensures { (level count : ℕ) (lexemes : List Lexeme) (e f : ExprTree) (rest more : List Lexeme) →
-        IsFront level count lexemes e rest → IsFront level count lexemes f more → (e ≡ f) × (rest ≡ more) }
+        IsParse level count lexemes e rest → IsParse level count lexemes f more → (e ≡ f) × (rest ≡ more) }
 {}
 
 /// What a mark begins an expression with.
@@ -182,10 +182,10 @@ pub fn parse_level<'a>(
     };
     let (mut left, mut rest) = parse_operand(alloc, free, below, lexemes)?;
     for _ in 0..room {
-        let Some((extension, behind)) = extension_within(level, rest) else {
+        let Some((extension, following)) = extension_within(level, rest) else {
             return Ok((left, rest));
         };
-        (left, rest) = parse_extended(alloc, free, below, extension, left, behind)?;
+        (left, rest) = parse_extended(alloc, free, below, extension, left, following)?;
     }
     Err(refused(rest))
 }

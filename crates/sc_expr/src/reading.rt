@@ -102,7 +102,7 @@ fn keyword_if(ending: &[u8], rest: &[u8], keyword: Keyword) -> Option<Keyword>
 }
 
 #[tactic(auto, unfolding(crate::specs::Lexemes::keyword_of))]
-fn keyword_behind_i(rest: &[u8]) -> Option<Keyword>
+fn keyword_after_i(rest: &[u8]) -> Option<Keyword>
     ensures { result ≡ keyword_of (105 ∷ rest.now) }
 {
     if b"f".as_slice() == rest {
@@ -113,7 +113,7 @@ fn keyword_behind_i(rest: &[u8]) -> Option<Keyword>
 }
 
 #[tactic(auto, unfolding(crate::specs::Lexemes::keyword_of))]
-fn keyword_behind_s(rest: &[u8]) -> Option<Keyword>
+fn keyword_after_s(rest: &[u8]) -> Option<Keyword>
     ensures { result ≡ keyword_of (115 ∷ rest.now) }
 {
     if b"igned".as_slice() == rest {
@@ -135,9 +135,9 @@ fn keyword_of(text: &[u8]) -> Option<Keyword>
         b'c' => keyword_if(b"ontinue", rest, Keyword::Continue),
         b'e' => keyword_if(b"lse", rest, Keyword::Else),
         b'f' => keyword_if(b"or", rest, Keyword::For),
-        b'i' => keyword_behind_i(rest),
+        b'i' => keyword_after_i(rest),
         b'r' => keyword_if(b"eturn", rest, Keyword::Return),
-        b's' => keyword_behind_s(rest),
+        b's' => keyword_after_s(rest),
         b'u' => keyword_if(b"nsigned", rest, Keyword::Unsigned),
         b'v' => keyword_if(b"oid", rest, Keyword::Void),
         b'w' => keyword_if(b"hile", rest, Keyword::While),

@@ -4,5 +4,5 @@ pub use Rattle.std.proofs.Common.{subst, suc, sym, zero, zip, ℕ, ◌%◌, ◌*
 pub use Rattle.std.proofs.lemmas.List.FromFn.{length-map-range_with_len, map-range_with_len_more}
 pub use Rattle.std.specs.List.{list_all, range_with_len}
 pub use Rattle.sc_core.specs.Prelude.{total}
-pub use Rattle.sc_tac.specs.Prelude.{Apart, HasRoom, IsFrame, Range, end_of, frame_of, is_place, object_range}
+pub use Rattle.sc_tac.specs.Prelude.{Apart, FrameFits, IsFrame, Range, end_of, frame_of, is_place, object_range}
 pub use Rattle.sc_tac.specs.Prelude.{offsets_from, ranges_of, slots_of, word_at}

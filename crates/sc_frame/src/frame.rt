@@ -1,5 +1,5 @@
 ghost use Rattle.sc_core.specs.Prelude.{frame_bound, total};
-ghost use Rattle.sc_tac.specs.Prelude.{HasRoom, frame_of, is_place, offsets_from, slots_of, slots_up_to};
+ghost use Rattle.sc_tac.specs.Prelude.{FrameFits, frame_of, is_place, offsets_from, slots_of, slots_up_to};
 ghost use Rattle.std.specs.Prelude.{◌≡◌, ◌≤◌, ◌<◌, ◌+◌, ◌*◌, map, length, IfOk, IsTrue};
 ghost use Rattle.std.specs.List.{list_all, range_with_len};
 
@@ -72,7 +72,7 @@ pub fn lay(alloc: Global, f: &TacFn, places: &Places) -> Result<Frame, OutOfMemo
     requires each { length places.now ≡ f.now.temps }
     requires small { frame_bound f.now.objects f.now.nodes ≤ 32768 }
     ensures frame { IfOk result (λ frame. frame ≡ frame_of f.now.objects places.now) }
-    ensures room { IfOk result (HasRoom f.now.objects places.now f.now.nodes) }
+    ensures frame_fits { IfOk result (FrameFits f.now.objects places.now f.now.nodes) }
 {
     let f = f.tree();
     let count = slots_of(places.as_slice(), f.temps);

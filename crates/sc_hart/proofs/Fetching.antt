@@ -28,10 +28,10 @@ code_is_fetched image c (instr ∷ instrs) before after all h =
     )
 
 -- code in two parts
-pub front_at : (image : ImageParts) (c pc : ℕ) (xs ys : List Instr) → CodeAt image c pc (xs ++ ys) →
+pub prefix_at : (image : ImageParts) (c pc : ℕ) (xs ys : List Instr) → CodeAt image c pc (xs ++ ys) →
     CodeAt image c pc xs
-front_at image c pc [] ys h = tt
-front_at image c pc (x ∷ xs) ys h = (h.0, front_at image c (pc + 4) xs ys h.1)
+prefix_at image c pc [] ys h = tt
+prefix_at image c pc (x ∷ xs) ys h = (h.0, prefix_at image c (pc + 4) xs ys h.1)
 
 pub back_at : (image : ImageParts) (c pc : ℕ) (xs ys : List Instr) → CodeAt image c pc (xs ++ ys) →
     CodeAt image c (pc + 4 * length xs) ys

@@ -51,8 +51,8 @@ pub use Rattle.sc_image.specs.Prelude.{Fails, FitsItsFields, FollowsFromOwn, Goe
 pub use Rattle.sc_image.specs.Prelude.{IsByte, IsCall, IsChain, IsComp, IsDistinct, IsEntry, IsImage, IsImport}
 pub use Rattle.sc_image.specs.Prelude.{IsReached, IsSilent, IsSteady, IsWellFormed, IsWord, KeepsWords, Kept}
 pub use Rattle.sc_image.specs.Prelude.{LeavesOthers, LegalByWords, LooksSame, OpenCall, Outcome, Own, Read, Run}
-pub use Rattle.sc_image.specs.Prelude.{Running, RunsAreSteady, State, StepsByInstruction, StepsTell, StretchesCompose}
-pub use Rattle.sc_image.specs.Prelude.{TellingComposes, Tells, TracesAreLegal, Traps, Waits, Walks, a0, a7, activates}
+pub use Rattle.sc_image.specs.Prelude.{Running, RunsAreSteady, State, StepsByInstruction, StepsEmit, StretchesCompose}
+pub use Rattle.sc_image.specs.Prelude.{EmittingComposes, Emits, TracesAreLegal, Traps, Waits, Walks, a0, a7, activates}
 pub use Rattle.sc_image.specs.Prelude.{after, after_outcome, after_step, after_steps, are_distinct, arguments, bad, bit}
 pub use Rattle.sc_image.specs.Prelude.{by_owner, byte_at, bytes_at, bytes_in_version, call_of, called, calls, cause_of}
 pub use Rattle.sc_image.specs.Prelude.{code_bytes, code_of, code_start, comp_bytes, comp_of_code, comp_of_data}
@@ -67,7 +67,7 @@ pub use Rattle.sc_image.specs.Prelude.{jalr_target, jump, keeps_rules, kept, kep
 pub use Rattle.sc_image.specs.Prelude.{loaded, machine, may_call, may_input, may_output, most_globals, name_bytes, next}
 pub use Rattle.sc_image.specs.Prelude.{number_at, number_that, observation_of, on_registers, open_after, open_calls}
 pub use Rattle.sc_image.specs.Prelude.{output, own, params_of, proto_of, ra, refused, reg, returned, returned_to}
-pub use Rattle.sc_image.specs.Prelude.{saved_sp, shift_on_registers, shows_entry, sp, stack_size, stack_top, stack_tops}
+pub use Rattle.sc_image.specs.Prelude.{saved_sp, shift_on_registers, emits_entry, sp, stack_size, stack_top, stack_tops}
 pub use Rattle.sc_image.specs.Prelude.{start, step, stops_or, store_size, stretch, then_on, unless, unless_stopped}
 pub use Rattle.sc_image.specs.Prelude.{version, walk, with_pc, with_stored, without_latest, word_interface}
 pub use Rattle.sc_image.specs.Prelude.{word_interfaces, word_proto, written, ◌>>=◌}

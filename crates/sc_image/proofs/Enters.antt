@@ -194,48 +194,48 @@ module _ (image : ImageParts) (inputs : List ℕ) (state : State) (d : ℕ) (for
       ((after_outcome state outcome).active ≡ d) × ((after_outcome state outcome).trace ≡ state.trace ++ event ∷ [])
 
   no_event : Adds (drop (length state.trace) state.trace) ≡ Adds (event ∷ []) → ⊥
-  no_event shows =
-      let none = ap Adds (sym (drop-length state.trace)) ∙ shows in cc none
+  no_event emits =
+      let none = ap Adds (sym (drop-length state.trace)) ∙ emits in cc none
 
   that_event : (one : Event) → Adds (drop (length state.trace) (state.trace ++ one ∷ [])) ≡ Adds (event ∷ []) →
       one ≡ event
-  that_event one shows =
-      let same = ap Adds (sym (drop-append_seam state.trace (one ∷ []))) ∙ shows in cc same
+  that_event one emits =
+      let same = ap Adds (sym (drop-append_seam state.trace (one ∷ []))) ∙ emits in cc same
 
   activates_that : (one : Event) → one ≡ event → activates d one ≡ true
   activates_that one same = ap (activates d) same ∙ activating
 
   return_activates : (cross : List Crossing) → Activated (Goes (returned image state cross))
-  return_activates [] shows =
-      let never = activates_that _ (that_event _ shows) in cc never
-  return_activates (x ∷ xs) shows =
+  return_activates [] emits =
+      let never = activates_that _ (that_event _ emits) in cc never
+  return_activates (x ∷ xs) emits =
       let one = Ret _ _ _ in
-      let same = that_event one shows in
+      let same = that_event one emits in
       (eqb-true _ d (activates_that one same), ap (λ e. state.trace ++ e ∷ []) same)
 
   pub step_activates : Activated (step image inputs state)
   step_activates = step_of image inputs formed state Activated (record {
     same = λ a owned. refl;
-    traps = λ reason shows. cc shows;
-    quiet = λ regs pc moves shows. absurd (no_event shows);
-    stores = λ op a word allowed shows. absurd (no_event shows);
-    calls = λ to index target at may shows.
+    traps = λ reason emits. cc emits;
+    quiet = λ regs pc moves emits. absurd (no_event emits);
+    stores = λ op a word allowed emits. absurd (no_event emits);
+    calls = λ to index target at may emits.
         let one : Event = Call state.active to index (arguments (params_of image to index) state.regs) in
-        let same : one ≡ event = that_event one shows in
+        let same : one ≡ event = that_event one emits in
         (eqb-true to d (activates_that one same), ap (λ e. state.trace ++ e ∷ []) same);
     returns = return_activates state.cross;
-    outputs = λ may shows.
+    outputs = λ may emits.
         let one : Event = Out state.active (reg state a0) in
-        let never : false ≡ true = activates_that one (that_event one shows) in cc never;
-    reads = λ may shows.
+        let never : false ≡ true = activates_that one (that_event one emits) in cc never;
+    reads = λ may emits.
         let one : Event = In state.active (input_at inputs state.input) in
-        let never : false ≡ true = activates_that one (that_event one shows) in cc never;
+        let never : false ≡ true = activates_that one (that_event one emits) in cc never;
   })
 
 pub enters_by_event : EntersByEvent
 enters_by_event image d formed = (
   entered image d,
-  λ inputs state event h differ shows activating.
-      let after = step_activates image inputs state d formed event activating shows in
+  λ inputs state event h differ emits activating.
+      let after = step_activates image inputs state d formed event activating emits in
       step_enters image inputs state d formed h (λ e. differ (sym e)) after.0 event after.1,
 )

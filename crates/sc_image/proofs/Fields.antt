@@ -162,10 +162,10 @@ number_field cause size wide = record {
       let long = leb-true _ _ g.0 in
       let len : length (take size bytes) ≡ size = omega (arith, length-take size bytes) in
       let same = little_from-take 0 size size bytes (omega arith) in
-      let front = ap (little_bytes size) (sym same) ∙ wide.back _ len (IsBytes-take size bytes fits) in
+      let prefix = ap (little_bytes size) (sym same) ∙ wide.back _ len (IsBytes-take size bytes fits) in
       let parts : Takes bytes (little_bytes size _) _ =
       record {
-        parts = sym (take-append-drop size bytes) ∙ ap (λ t. t ++ drop size bytes) (sym front);
+        parts = sym (take-append-drop size bytes) ∙ ap (λ t. t ++ drop size bytes) (sym prefix);
         rest_fits = IsBytes-drop size bytes fits;
       } in
       subst (λ p. Takes bytes (little_bytes size p.0) p.1 × (p.0 < 256 ^ size)) g.1

@@ -7,7 +7,7 @@ use Rattle.sc_image.proofs.Common.{are_data, arguments, arith, byte_of, call_of,
 use Rattle.sc_image.proofs.Common.{drop-append_seam, eq-eqb, false, flat_map, get_or, get_or-set_other, get_or-set_same}
 use Rattle.sc_image.proofs.Common.{given_back, has_result, if◌then◌else◌, input, inputs_in, kept_by, length, map}
 use Rattle.sc_image.proofs.Common.{nat_eq, nat_le, nat_lt, ne_eqb, observation_of, output, own, params_of, refl, reg}
-use Rattle.sc_image.proofs.Common.{returned, returned_to, saved_sp, set, shows_entry, sp, step, store_size, stored}
+use Rattle.sc_image.proofs.Common.{returned, returned_to, saved_sp, set, emits_entry, sp, step, store_size, stored}
 use Rattle.sc_image.proofs.Common.{stored-apart, subst, suc, sym, true, with_pc, with_stored, zero, ℕ, ◌&&◌, ◌++◌, ◌+◌}
 use Rattle.sc_image.proofs.Common.{◌-◌, ◌<◌, ◌==◌, ◌||◌, ◌↔◌, ◌∙◌, ◌∷◌, ◌≡◌, ◌≢◌, ◌≤◌}
 use Rattle.sc_image.proofs.Cases.{crossing_to, step_of, other, step_both}
@@ -100,11 +100,11 @@ entry_by to d none same = let yes : (to == d || false) ≡ true = rw (eq-eqb to 
 module _ (image : ImageParts) (inputs : List ℕ) (state : State) (d : ℕ) (formed : IsWellFormed image)
     (differ : state.active ≢ d) where
   abbrev Elsewhere : Outcome → Type 0
-  Elsewhere outcome = shows_entry d (observation_of state outcome) ≡ false → (after_outcome state outcome).active ≢ d
+  Elsewhere outcome = emits_entry d (observation_of state outcome) ≡ false → (after_outcome state outcome).active ≢ d
 
-  one_event : (event : Event) → shows_entry d (Adds (drop (length state.trace) (state.trace ++ event ∷ []))) ≡ false →
+  one_event : (event : Event) → emits_entry d (Adds (drop (length state.trace) (state.trace ++ event ∷ []))) ≡ false →
       (activates d event || false) ≡ false
-  one_event event none = sym (ap (λ events. shows_entry d (Adds events)) (drop-append_seam state.trace _)) ∙ none
+  one_event event none = sym (ap (λ events. emits_entry d (Adds events)) (drop-append_seam state.trace _)) ∙ none
 
   return_elsewhere : (cross : List Crossing) → Elsewhere (Goes (returned image state cross))
   return_elsewhere [] none = differ
@@ -154,7 +154,7 @@ stored_same image c a size word memory memory' same = λ i x. stored_at image c 
 
 -- What comes next in two states that the compartment can't distinguish.
 pub record Follow (image : ImageParts) (c : ℕ) (s t : State) (x x' : Outcome) : Type 0 where
-  pub shows : observation_of s x ≡ observation_of t x'
+  pub emits : observation_of s x ≡ observation_of t x'
   pub parts : own image (after_outcome s x) c ≡ own image (after_outcome t x') c
   pub traces : (after_outcome s x).trace ≡ (after_outcome t x').trace
   pub stays : observation_of s x ≡ Adds [] → ((after_outcome s x).active ≡ c) × ((after_outcome t x').active ≡ c)
@@ -190,7 +190,7 @@ module _ (image : ImageParts) (inputs : List ℕ) (formed : IsWellFormed image) 
         (Goes (record left { regs = regs'; pc = pc'; memory = bytes left.memory; input = place'; trace = more }))
         (Goes (record right { regs = regs'; pc = pc'; memory = bytes memory'; input = place'; trace = more }))
     on regs' pc' place' more bytes same = record {
-      shows = refl;
+      emits = refl;
       parts = λ i. record {
         bytes = same i;
         saved = (h.own_parts i).saved;
@@ -214,7 +214,7 @@ module _ (image : ImageParts) (inputs : List ℕ) (formed : IsWellFormed image) 
         sym (kept_of_caller to (crossing_to right to index) refl to_other)) calls_same in
         let sps = saved_left image left _ h.one_steady ∙ sym (saved_left image right _ h.other_steady) in
         record {
-          shows = refl;
+          emits = refl;
           parts = λ i. record {
             bytes = bytes_same i;
             saved = sps i;
@@ -252,7 +252,7 @@ module _ (image : ImageParts) (inputs : List ℕ) (formed : IsWellFormed image) 
         let after' = returned_to (has_result image x'.callee x'.entry) right x' xs' in
         let sps = saved_left image left _ h.one_steady ∙ kept ∙ sym (saved_left image right _ h.other_steady) in
         record {
-          shows = ap (λ o. Adds (drop (length left.trace) (left.trace ++ event o ∷ []))) first;
+          emits = ap (λ o. Adds (drop (length left.trace) (left.trace ++ event o ∷ []))) first;
           parts = λ i. record {
             bytes = bytes_same i;
             saved = sps i;
@@ -275,7 +275,7 @@ module _ (image : ImageParts) (inputs : List ℕ) (formed : IsWellFormed image) 
     follow : Follow image c left right (step image inputs left) (step image inputs right)
     follow = step_both image inputs formed left saved' memory' cross' (Follow image c left right) (record {
       same = λ a owned. same_at image c a left.memory memory' bytes_same owned;
-      traps = λ reason. record { shows = refl; parts = h.own_parts; traces = refl; stays = λ silent. cc silent };
+      traps = λ reason. record { emits = refl; parts = h.own_parts; traces = refl; stays = λ silent. cc silent };
       quiet = λ regs' pc' same. on regs' pc' left.input left.trace (λ m. m) bytes_same;
       stores = λ op a word allowed. on left.regs (left.pc + 4) left.input left.trace
           (λ m. stored m a (store_size op) word) (stored_same image c a _ word left.memory memory'
@@ -341,11 +341,11 @@ module _ (image : ImageParts) (inputs : List ℕ) (formed : IsWellFormed image) 
       GoesOnSame image inputs c (after_steps image inputs steps s) (after_steps image inputs steps t))
   goes_on c zero s t h =
       let n = next_same c s t h in
-      (((λ p. tt), (λ p. tt)), λ p. record { own_parts = h.own_parts; next = n.shows; later_parts = n.parts })
+      (((λ p. tt), (λ p. tt)), λ p. record { own_parts = h.own_parts; next = n.emits; later_parts = n.parts })
   goes_on c (suc steps) s t h =
       let n = next_same c s t h in
       let later = λ (silent : IsSilent image inputs s). goes_on c steps _ _ (alike_after c s t h silent) in (
-        ((λ p. (sym n.shows ∙ p.0, (later p.0).0.0 p.1)), (λ p. (n.shows ∙ p.0, (later (n.shows ∙ p.0)).0.1 p.1))),
+        ((λ p. (sym n.emits ∙ p.0, (later p.0).0.0 p.1)), (λ p. (n.emits ∙ p.0, (later (n.emits ∙ p.0)).0.1 p.1))),
         λ p. (later p.0).1 p.1,
       )
 

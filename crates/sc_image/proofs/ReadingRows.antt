@@ -18,7 +18,7 @@ abbrev seven : List ℕ
 seven = 0x53 ∷ 0x43 ∷ 0x49 ∷ 0x4d ∷ 1 ∷ 0 ∷ 1 ∷ 0 ∷ 0 ∷ 0 ∷ 0 ∷ 1 ∷ from_start
 
 -- each proper prefix of it, and it with one byte more
-fronts : (map (λ k. bad (take k seven)) (range_with_len 0 47) ≡
+prefixes : (map (λ k. bad (take k seven)) (range_with_len 0 47) ≡
     replicate 4 (Some Mark) ++ (replicate 2 (Some Version) ++
     (replicate 1 (Some Count) ++ (replicate 5 (Some Start) ++ (replicate 3 (Some Compartment) ++
     (replicate 2 (Some Exports) ++ (replicate 2 (Some Imports) ++ replicate 28 (Some Contents)))))))) ×
@@ -26,7 +26,7 @@ fronts : (map (λ k. bad (take k seven)) (range_with_len 0 47) ≡
     (bad (seven ++ 0 ∷ []) ≡ Some Whole)
 unfolding image_in_version parts_in_version comp_at comp_name_at name_at exports_at imports_at code_at globals_at
     fields_at is_name word_at
-fronts = (refl, refl, refl)
+prefixes = (refl, refl, refl)
 
 -- fields that are there and bad
 abbrev starting : (version count main entry : ℕ) → List ℕ

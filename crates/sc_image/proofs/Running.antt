@@ -191,9 +191,9 @@ steps_by_instruction = record {
 
 -- Memory at the start.
 
-behind : (before : List ℕ) (word : ℕ) (after : List ℕ) → slice_get (before ++ word ∷ after) (length before) ≡ Some word
-behind [] word after = refl
-behind (x ∷ before) word after = behind before word after
+past_prefix : (before : List ℕ) (word : ℕ) (after : List ℕ) → slice_get (before ++ word ∷ after) (length before) ≡ Some word
+past_prefix [] word after = refl
+past_prefix (x ∷ before) word after = past_prefix before word after
 
 code_placed : (image : ImageParts) (c word : ℕ) (before after : List ℕ) → code_of image c ≡ before ++ word ∷ after →
     word_at image c (code_start c + 4 * length before) ≡ Some word
@@ -202,7 +202,7 @@ code_placed image c word before after is =
     let aligned : nat_eq ((code_start c + 4 * length before) % 4) 0 ≡ true = eq-eqb _ _ (omega arith) in
     let from : nat_le (code_start c) (code_start c + 4 * length before) ≡ true = le-leb _ _ (omega arith) in
     let place : (code_start c + 4 * length before - code_start c) / 4 ≡ length before = omega arith in
-    rw (aligned, from, place, is) (behind before word after)
+    rw (aligned, from, place, is) (past_prefix before word after)
 
 module _ (image : ImageParts) (c : ℕ) (comp : CompPart) (found : slice_get image.comps c ≡ Some comp) (offset : ℕ)
     (within : offset < stretch) where

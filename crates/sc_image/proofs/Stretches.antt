@@ -1,7 +1,7 @@
 -- Runs along stretches, the states that runs reach, and stretches that emit events.
 use Rattle.sc_image.proofs.Common.{Bool, Crossing, Ended, Event, EventsOut, Goes, ImageParts, IsCall, IsReached}
-use Rattle.sc_image.proofs.Common.{IsWellFormed, List, None, Option, Outcome, Some, State, StepsOut, StepsTell, Stop}
-use Rattle.sc_image.proofs.Common.{StretchesCompose, TellingComposes, Tells, Traps, Walks, [], ap, append-nil}
+use Rattle.sc_image.proofs.Common.{IsWellFormed, List, None, Option, Outcome, Some, State, StepsOut, StepsEmit, Stop}
+use Rattle.sc_image.proofs.Common.{StretchesCompose, EmittingComposes, Emits, Traps, Walks, [], ap, append-nil}
 use Rattle.sc_image.proofs.Common.{append_assoc, arith, called, calls, code_start, comp_of_code, ended, eq-eqb, false}
 use Rattle.sc_image.proofs.Common.{gate, if◌then◌else◌, is_end, is_ended, is_some, jump, leaves, length, length-append}
 use Rattle.sc_image.proofs.Common.{list_any, list_any-append, lt-leb, nat_tests, or_from, or_parts, params_of, ra, refl}
@@ -16,17 +16,17 @@ use Rattle.sc_image.proofs.Reached.{called_other}
 
 -- A step adds events at the end of the trace.
 
-abbrev pub IsFront : List Event → List Event → Type 0
-IsFront xs ys = (rest : List Event) × (xs ++ rest ≡ ys)
+abbrev pub IsPrefixOf : List Event → List Event → Type 0
+IsPrefixOf xs ys = (rest : List Event) × (xs ++ rest ≡ ys)
 
-front_self : (xs : List Event) → IsFront xs xs
-front_self xs = ([], append-nil xs)
+prefix_self : (xs : List Event) → IsPrefixOf xs xs
+prefix_self xs = ([], append-nil xs)
 
-front_on : (xs ys zs : List Event) → IsFront xs ys → IsFront ys zs → IsFront xs zs
-front_on xs ys zs p q = (p.0 ++ q.0, sym (append_assoc xs p.0 q.0) ∙ ap (λ t. t ++ q.0) p.1 ∙ q.1)
+prefix_on : (xs ys zs : List Event) → IsPrefixOf xs ys → IsPrefixOf ys zs → IsPrefixOf xs zs
+prefix_on xs ys zs p q = (p.0 ++ q.0, sym (append_assoc xs p.0 q.0) ∙ ap (λ t. t ++ q.0) p.1 ∙ q.1)
 
-front_short : (xs ys : List Event) → IsFront xs ys → length xs ≤ length ys
-front_short xs ys p = omega (arith, sym (length-append xs p.0) ∙ ap length p.1)
+prefix_short : (xs ys : List Event) → IsPrefixOf xs ys → length xs ≤ length ys
+prefix_short xs ys p = omega (arith, sym (length-append xs p.0) ∙ ap length p.1)
 
 -- one event at most
 abbrev AddsOne : List Event → State → Type 0
@@ -91,18 +91,18 @@ none_in_each : (first second : List Event) → list_any is_end (first ++ second)
 none_in_each first second none = or_parts _ _ (sym (list_any-append is_end first second) ∙ none)
 
 -- so a trace that hadn't ended hasn't with them
-pub still_open : (trace told : List Event) → is_ended trace ≡ false → list_any is_end told ≡ false →
-    is_ended (trace ++ told) ≡ false
+pub still_open : (trace emitted : List Event) → is_ended trace ≡ false → list_any is_end emitted ≡ false →
+    is_ended (trace ++ emitted) ≡ false
 still_open trace [] going none = subst (λ t. is_ended t ≡ false) (sym (append-nil trace)) going
-still_open trace (event ∷ told) going none =
+still_open trace (event ∷ emitted) going none =
     let parts = or_parts (is_end event) _ none in
-    subst (λ t. is_ended t ≡ false) (append_assoc trace (event ∷ []) told)
-    (still_open (trace ++ event ∷ []) told (ended_by trace event ∙ parts.0) parts.1)
+    subst (λ t. is_ended t ≡ false) (append_assoc trace (event ∷ []) emitted)
+    (still_open (trace ++ event ∷ []) emitted (ended_by trace event ∙ parts.0) parts.1)
 
 -- two ends of one list, the first no longer
-behind : (trace first told rest : List Event) → (trace ++ first) ++ rest ≡ trace ++ told → first ++ rest ≡ told
-behind [] first told rest same = same
-behind (event ∷ trace) first told rest same = behind trace first told rest (cc same)
+past_prefix : (trace first emitted rest : List Event) → (trace ++ first) ++ rest ≡ trace ++ emitted → first ++ rest ≡ emitted
+past_prefix [] first emitted rest same = same
+past_prefix (event ∷ trace) first emitted rest same = past_prefix trace first emitted rest (cc same)
 
 -- Along a stretch.
 
@@ -112,32 +112,32 @@ module _ (image : ImageParts) (inputs : List ℕ) (formed : IsWellFormed image) 
   unfolding stopped
   not_stopped events trace going below = rw (going, lt-leb events _ below) refl
 
-  pub goes_adds : (state next : State) → step image inputs state ≡ Goes next → IsFront state.trace next.trace
+  pub goes_adds : (state next : State) → step image inputs state ≡ Goes next → IsPrefixOf state.trace next.trace
   goes_adds state next goes =
       let more = step_to image inputs formed state next goes in (more.0, more.1)
 
-  pub walk_adds : (n : ℕ) (state to : State) → walk image inputs n state ≡ Goes to → IsFront state.trace to.trace
+  pub walk_adds : (n : ℕ) (state to : State) → walk image inputs n state ≡ Goes to → IsPrefixOf state.trace to.trace
   walk_adds zero state to goes = let same : state ≡ to = cc goes in
-      subst (λ t. IsFront state.trace t.trace) same (front_self _)
+      subst (λ t. IsPrefixOf state.trace t.trace) same (prefix_self _)
   walk_adds (suc n) state to goes =
       let first = first_step (walk image inputs n) to _ goes in
-      front_on _ first.0.trace _ (goes_adds state first.0 first.1) (walk_adds n first.0 to first.2)
+      prefix_on _ first.0.trace _ (goes_adds state first.0 first.1) (walk_adds n first.0 to first.2)
 
   module _ (events more : ℕ) where
-    pub run_along : (n : ℕ) (told : List Event) (from to : State) → walk image inputs n from ≡ Goes to →
-        to.trace ≡ from.trace ++ told → list_any is_end told ≡ false → is_ended from.trace ≡ false →
+    pub run_along : (n : ℕ) (emitted : List Event) (from to : State) → walk image inputs n from ≡ Goes to →
+        to.trace ≡ from.trace ++ emitted → list_any is_end emitted ≡ false → is_ended from.trace ≡ false →
         length to.trace < events → run image inputs events (n + more) from ≡ run image inputs events more to
-    run_along zero told from to goes trace none going below =
+    run_along zero emitted from to goes trace none going below =
         let same : from ≡ to = cc goes in
         ap (λ k. run image inputs events k from) (zero-add more) ∙ ap (run image inputs events more) same
-    run_along (suc n) told from to goes trace none going below =
+    run_along (suc n) emitted from to goes trace none going below =
         let one = first_step (walk image inputs n) to _ goes in
-        let first : IsFront from.trace one.0.trace = goes_adds from one.0 one.1 in
+        let first : IsPrefixOf from.trace one.0.trace = goes_adds from one.0 one.1 in
         let last = walk_adds n one.0 to one.2 in
-        let parts : first.0 ++ last.0 ≡ told =
-        behind _ first.0 told last.0 (ap (λ t. t ++ last.0) first.1 ∙ last.1 ∙ trace) in
+        let parts : first.0 ++ last.0 ≡ emitted =
+        past_prefix _ first.0 emitted last.0 (ap (λ t. t ++ last.0) first.1 ∙ last.1 ∙ trace) in
         let each = none_in_each first.0 last.0 (subst (λ t. list_any is_end t ≡ false) (sym parts) none) in
-        let short : length from.trace < events = omega (arith, below, ap length trace, length-append from.trace told) in
+        let short : length from.trace < events = omega (arith, below, ap length trace, length-append from.trace emitted) in
         let still = subst (λ t. is_ended t ≡ false) first.1 (still_open from.trace first.0 going each.0) in
         ap (λ k. run image inputs events k from) (suc-add n more) ∙
         run_goes image inputs events (n + more) from one.0 (not_stopped events _ going short) one.1 ∙
@@ -164,7 +164,7 @@ module _ (image : ImageParts) (inputs : List ℕ) (formed : IsWellFormed image) 
   open_adds : (n : ℕ) (from to : State) → OpenWalk n from to → length from.trace ≤ length to.trace
   open_adds zero from to same = subst (λ t. length from.trace ≤ length t.trace) same (omega arith)
   open_adds (suc n) from to h =
-      let first = front_short _ _ (goes_adds from h.1.0 h.1.1.0) in
+      let first = prefix_short _ _ (goes_adds from h.1.0 h.1.1.0) in
       let later = open_adds n h.1.0 to h.1.1.1 in omega (arith, first, later)
 
   abbrev Comes : State → State → Type 0
@@ -231,48 +231,48 @@ stretches_compose = record {
 -- Stretches.
 
 silent : (image : ImageParts) (inputs : List ℕ) (steps : ℕ) (from to : State) →
-    Walks image inputs steps from to → from.trace ≡ to.trace → Tells image inputs steps [] from to
+    Walks image inputs steps from to → from.trace ≡ to.trace → Emits image inputs steps [] from to
 silent image inputs steps from to walks same =
     record { walks = walks; trace = sym same ∙ sym (append-nil _); no_end = refl }
 
 one_event : (image : ImageParts) (inputs : List ℕ) (event : Event) (from to : State) →
     step image inputs from ≡ Goes to → to.trace ≡ from.trace ++ event ∷ [] → is_end event ≡ false →
-    Tells image inputs 1 (event ∷ []) from to
-one_event image inputs event from to goes told none =
-    record { walks = walk_one image inputs from to goes; trace = told; no_end = rw none refl }
+    Emits image inputs 1 (event ∷ []) from to
+one_event image inputs event from to goes emitted none =
+    record { walks = walk_one image inputs from to goes; trace = emitted; no_end = rw none refl }
 
 together : (image : ImageParts) (inputs : List ℕ) (m n : ℕ) (first second : List Event) (from middle to : State) →
-    Tells image inputs m first from middle → Tells image inputs n second middle to →
-    Tells image inputs (m + n) (first ++ second) from to
+    Emits image inputs m first from middle → Emits image inputs n second middle to →
+    Emits image inputs (m + n) (first ++ second) from to
 together image inputs m n first second from middle to one two = record {
   walks = walk_together image inputs m n from middle to one.walks two.walks;
   trace = two.trace ∙ ap (λ t. t ++ second) one.trace ∙ append_assoc _ first second;
   no_end = none_in_both first second one.no_end two.no_end;
 }
 
-along_told : (image : ImageParts) (inputs : List ℕ) (events steps more : ℕ) (told : List Event) (from to : State) →
-    IsWellFormed image → Tells image inputs steps told from to → stopped events from.trace ≡ None →
+along_emitted : (image : ImageParts) (inputs : List ℕ) (events steps more : ℕ) (emitted : List Event) (from to : State) →
+    IsWellFormed image → Emits image inputs steps emitted from to → stopped events from.trace ≡ None →
     length to.trace < events → run image inputs events (steps + more) from ≡ run image inputs events more to
-along_told image inputs events steps more told from to formed tells early below = run_along image inputs formed events
-    more steps told from to tells.walks.by tells.trace tells.no_end (goes_on events _ early) below
+along_emitted image inputs events steps more emitted from to formed emits_trace early below = run_along image inputs formed events
+    more steps emitted from to emits_trace.walks.by emits_trace.trace emits_trace.no_end (goes_on events _ early) below
 
-to_stop : (image : ImageParts) (inputs : List ℕ) (events steps more : ℕ) (told : List Event) (from last to : State)
-    (stop : Stop) → IsWellFormed image → Tells image inputs steps told from last → stopped events from.trace ≡ None →
+to_stop : (image : ImageParts) (inputs : List ℕ) (events steps more : ℕ) (emitted : List Event) (from last to : State)
+    (stop : Stop) → IsWellFormed image → Emits image inputs steps emitted from last → stopped events from.trace ≡ None →
     length last.trace < events → step image inputs last ≡ Goes to → stopped events to.trace ≡ Some stop →
     run image inputs events (steps + suc more) from ≡ record { state = to; stop = stop }
-to_stop image inputs events steps more told from last to stop formed tells early below goes stops =
-    let going = subst (λ t. is_ended t ≡ false) (sym tells.trace)
-    (still_open from.trace told (goes_on events _ early) tells.no_end) in
-    along_told image inputs events steps _ told from last formed tells early below ∙
+to_stop image inputs events steps more emitted from last to stop formed emits_trace early below goes stops =
+    let going = subst (λ t. is_ended t ≡ false) (sym emits_trace.trace)
+    (still_open from.trace emitted (goes_on events _ early) emits_trace.no_end) in
+    along_emitted image inputs events steps _ emitted from last formed emits_trace early below ∙
     run_goes image inputs events more last to (not_stopped image inputs formed events _ going below) goes ∙
     run_stopped image inputs events more to stop stops
 
-pub telling_composes : TellingComposes
-telling_composes = record {
+pub emitting_composes : EmittingComposes
+emitting_composes = record {
   silent = silent;
   one_event = one_event;
   together = together;
-  run_along = along_told;
+  run_along = along_emitted;
   run_to_stop = to_stop;
 }
 
@@ -327,8 +327,8 @@ ended_stops : (events : ℕ) (state : State) → stopped events (ended state).tr
 unfolding stopped
 ended_stops events state = rw (ended_by _ _) refl
 
-pub steps_tell : StepsTell
-steps_tell = record {
+pub steps_emit : StepsEmit
+steps_emit = record {
   jal_calls = λ image inputs state imm to index target formed at same call. one_event image inputs _ state _
       (steps_by_instruction.jal image inputs state ra imm target at same ∙
       jal_there image state to index target formed call) refl refl;

@@ -12,7 +12,7 @@ use Rattle.sc_image.proofs.Common.{slice_get-map, start, step, stopped, subst, s
 use Rattle.sc_image.proofs.Common.{word_interfaces, word_proto, ℕ, ◌&&◌, ◌++◌, ◌-◌, ◌<◌, ◌==◌, ◌||◌, ◌∙◌, ◌∷◌, ◌≡◌, ◌⊎◌}
 use Rattle.sc_event.specs.Prelude.{Activation, Standing, at_start, awaits, comp_at, export_at, fits_result, imports}
 use Rattle.sc_event.specs.Prelude.{is_allowed, is_function, is_input, is_legal_from, is_output, may_perform, may_return}
-use Rattle.sc_event.specs.Prelude.{performer, resumed, stands_after, stands_behind, takes}
+use Rattle.sc_event.specs.Prelude.{performer, resumed, stands_after, stands_after_all, takes}
 use Rattle.sc_event.specs.declared.interface.Import.{Import}
 use Rattle.sc_event.specs.declared.interface.Interfaces.{Interfaces}
 use Rattle.sc_event.specs.declared.interface.Proto.{Proto}
@@ -30,7 +30,7 @@ use Rattle.sc_event.specs.declared.interface.Scalar.{Scalar}
 -- One more event.
 
 legal_more : (interfaces : Interfaces) (at : Option Standing) (trace : List Event) (event : Event) (now : Standing) →
-    is_legal_from interfaces at trace ≡ true → stands_behind at trace ≡ Some now →
+    is_legal_from interfaces at trace ≡ true → stands_after_all at trace ≡ Some now →
     is_allowed interfaces now event ≡ true → is_legal_from interfaces at (trace ++ event ∷ []) ≡ true
 legal_more interfaces at [] event now legal stands allowed = rw stands (and_from _ true allowed refl)
 legal_more interfaces None (first ∷ later) event now legal stands allowed = let never = legal in cc never
@@ -39,7 +39,7 @@ legal_more interfaces (Some at) (first ∷ later) event now legal stands allowed
     and_from _ _ both.0 (legal_more interfaces _ later event now both.1 stands allowed)
 
 stands_more : (at : Option Standing) (trace : List Event) (event : Event) (now : Standing) →
-    stands_behind at trace ≡ Some now → stands_behind at (trace ++ event ∷ []) ≡ stands_after now event
+    stands_after_all at trace ≡ Some now → stands_after_all at (trace ++ event ∷ []) ≡ stands_after now event
 stands_more at [] event now stands = rw stands refl
 stands_more None (first ∷ later) event now stands = let never = stands in cc never
 stands_more (Some at) (first ∷ later) event now stands = stands_more _ later event now stands
@@ -63,8 +63,8 @@ any_map : {A B : Type 0} (test : B → Bool) (f : A → B) (xs : List A) →
 any_map test f [] = refl
 any_map test f (x ∷ xs) = ap (λ later. test (f x) || later) (any_map test f xs)
 
-any_behind : {A : Type 0} (test : A → Bool) (xs ys : List A) → list_any test ys ≡ true → list_any test (xs ++ ys) ≡ true
-any_behind test xs ys some = list_any-append test xs ys ∙ or_right _ _ some
+any_after : {A : Type 0} (test : A → Bool) (xs ys : List A) → list_any test ys ≡ true → list_any test (xs ++ ys) ≡ true
+any_after test xs ys some = list_any-append test xs ys ∙ or_right _ _ some
 
 module _ (image : ImageParts) where
   abbrev said : Interfaces
@@ -93,7 +93,7 @@ module _ (image : ImageParts) where
   output_said : (c : ℕ) → may_output image c ≡ true → imports said c is_output ≡ true
   output_said c may =
       let found = comp_found (λ comp. comp.output) false (λ output. output ≡ true) (λ never. cc never) _ may in
-      imports_said c found.0 _ found.1 ∙ any_behind is_output (of_input found.0)
+      imports_said c found.0 _ found.1 ∙ any_after is_output (of_input found.0)
       (of_output found.0 ++ map import_of found.0.imports) (rw found.2 refl)
 
   function_said : (c to index : ℕ) → may_call image c to index ≡ true → imports said c (is_function to index) ≡ true
@@ -103,8 +103,8 @@ module _ (image : ImageParts) where
       (λ never. cc never) _ may in
       let is_it = is_function to index in
       let others = map import_of found.0.imports in
-      imports_said c found.0 is_it found.1 ∙ any_behind is_it (of_input found.0) (of_output found.0 ++ others)
-      (any_behind is_it (of_output found.0) others (any_map is_it import_of found.0.imports ∙ found.2))
+      imports_said c found.0 is_it found.1 ∙ any_after is_it (of_input found.0) (of_output found.0 ++ others)
+      (any_after is_it (of_output found.0) others (any_map is_it import_of found.0.imports ∙ found.2))
 
   -- an export of the image, as its interfaces say it
   record IsSaid (c index : ℕ) (export : ExportPart) : Type 0 where
@@ -153,15 +153,15 @@ record IsTraced (image : ImageParts) (state : State) : Type 0 where
   steady : IsSteady image state
   exports : AreOfExports image state.cross
   legal : law.legal (interfaces_of image) state.trace ≡ true
-  stands : stands_behind (at_start image.main) state.trace ≡ Some (standing_of state)
+  stands : stands_after_all (at_start image.main) state.trace ≡ Some (standing_of state)
 
 -- the run has ended
 record IsOver (image : ImageParts) (state : State) : Type 0 where
   legal : law.legal (interfaces_of image) state.trace ≡ true
   over : is_ended state.trace ≡ true
 
-abbrev IsTold : ImageParts → State → Type 0
-IsTold image state = IsTraced image state ⊎ IsOver image state
+abbrev IsEmitted : ImageParts → State → Type 0
+IsEmitted image state = IsTraced image state ⊎ IsOver image state
 
 position_within : (test : ExportPart → Bool) (exports : List ExportPart) (index : ℕ) →
     position test exports ≡ Some index → index < length exports
@@ -172,18 +172,18 @@ module _ (image : ImageParts) (inputs : List ℕ) (formed : IsWellFormed image) 
   -- a state after an event that is allowed, where the run goes on
   goes_on : (event : Event) (next : State) → IsSteady image next → AreOfExports image next.cross →
       next.trace ≡ state.trace ++ event ∷ [] → is_allowed (interfaces_of image) (standing_of state) event ≡ true →
-      stands_after (standing_of state) event ≡ Some (standing_of next) → IsTold image next
+      stands_after (standing_of state) event ≡ Some (standing_of next) → IsEmitted image next
   goes_on event next steady exports trace allowed stands = inl (record {
     steady = steady;
     exports = exports;
     legal = ap (law.legal _) trace ∙ legal_more (interfaces_of image) (at_start _) state.trace event
         (standing_of state) h.legal h.stands allowed;
-    stands = ap (stands_behind _) trace ∙ (stands_more (at_start _) state.trace event _ h.stands ∙ stands);
+    stands = ap (stands_after_all _) trace ∙ (stands_more (at_start _) state.trace event _ h.stands ∙ stands);
   })
 
   silent : (regs : List ℕ) (pc : ℕ) (memory : Memory) →
       IsSteady image (record state { regs = regs; pc = pc; memory = memory }) →
-      IsTold image (record state { regs = regs; pc = pc; memory = memory })
+      IsEmitted image (record state { regs = regs; pc = pc; memory = memory })
   silent regs pc memory steady =
       inl (record { steady = steady; exports = h.exports; legal = h.legal; stands = h.stands })
 
@@ -191,9 +191,9 @@ module _ (image : ImageParts) (inputs : List ℕ) (formed : IsWellFormed image) 
   fits_given true = refl
   fits_given false = refl
 
-  told_return : (cross : List Crossing) → state.cross ≡ cross → IsSteady image (returned image state cross) →
-      IsTold image (returned image state cross)
-  told_return [] is steady =
+  emitted_return : (cross : List Crossing) → state.cross ≡ cross → IsSteady image (returned image state cross) →
+      IsEmitted image (returned image state cross)
+  emitted_return [] is steady =
       let event = End state.active (reg state a0) in
       let outermost = and_from (state.active == state.active) _ (eq-eqb _ _ refl)
       (ap (λ cross. law.is_outermost (waiting_of cross)) is) in
@@ -202,7 +202,7 @@ module _ (image : ImageParts) (inputs : List ℕ) (formed : IsWellFormed image) 
             (standing_of state) h.legal h.stands outermost;
         over = ended_by state.trace event;
       })
-  told_return (x ∷ xs) is steady =
+  emitted_return (x ∷ xs) is steady =
       let chain = subst (IsChain _ _) is h.steady.chain in
       let exports = subst (AreOfExports image) is h.exports in
       let index = exports.0.0 in
@@ -219,9 +219,9 @@ module _ (image : ImageParts) (inputs : List ℕ) (formed : IsWellFormed image) 
       goes_on _ _ steady exports.1 refl (and_from (state.active == state.active) _ (eq-eqb _ _ refl)
       (and_from _ _ awaited here)) (ap (λ cross. resumed (waiting_of cross)) is)
 
-  told_step : AtNext (IsTold image) (step image inputs state)
-  told_step = step_of image inputs formed state
-      (λ outcome. AtNext (IsSteady image) outcome → AtNext (IsTold image) outcome)
+  emitted_step : AtNext (IsEmitted image) (step image inputs state)
+  emitted_step = step_of image inputs formed state
+      (λ outcome. AtNext (IsSteady image) outcome → AtNext (IsEmitted image) outcome)
       (record {
         same = λ a owned. refl;
         traps = λ reason steady. tt;
@@ -243,7 +243,7 @@ module _ (image : ImageParts) (inputs : List ℕ) (formed : IsWellFormed image) 
               h.exports,
             ) refl (and_from (state.active == state.active) _ (eq-eqb _ _ refl) (and_from _ _
             (function_said image _ to index may) taken)) refl;
-        returns = λ steady. told_return state.cross refl steady;
+        returns = λ steady. emitted_return state.cross refl steady;
         outputs = λ may steady. goes_on _ _ steady h.exports refl
             (and_from (state.active == state.active) _ (eq-eqb state.active _ refl) (output_said image _ may)) refl;
         reads = λ may steady. goes_on (In state.active _) _ steady h.exports refl
@@ -259,27 +259,27 @@ module _ (image : ImageParts) (events : ℕ) where
   not_over false full is = refl
   not_over true full is = let never = is in cc never
 
-  goes : (state : State) → IsTold image state → stopped events state.trace ≡ None → IsTraced image state
+  goes : (state : State) → IsEmitted image state → stopped events state.trace ≡ None → IsTraced image state
   unfolding stopped
   goes state (inl traced) is = traced
   goes state (inr over) is = absurd (true≢false (sym over.over ∙ not_over _ _ is))
 
-told_run : (image : ImageParts) (inputs : List ℕ) → IsWellFormed image → All IsWord inputs → (events steps : ℕ)
-    (state : State) → IsTold image state → IsTold image (run image inputs events steps state).state
-told_run image inputs formed all events = run_keeps image inputs events (IsTold image)
-    (λ state h early. told_step image inputs formed all state (goes image events state h early))
+emitted_run : (image : ImageParts) (inputs : List ℕ) → IsWellFormed image → All IsWord inputs → (events steps : ℕ)
+    (state : State) → IsEmitted image state → IsEmitted image (run image inputs events steps state).state
+emitted_run image inputs formed all events = run_keeps image inputs events (IsEmitted image)
+    (λ state h early. emitted_step image inputs formed all state (goes image events state h early))
 
-told_start : (image : ImageParts) → IsWellFormed image → IsTold image (start image)
-told_start image formed = inl (record { steady = steady_start image formed; exports = tt; legal = refl; stands = refl })
+emitted_start : (image : ImageParts) → IsWellFormed image → IsEmitted image (start image)
+emitted_start image formed = inl (record { steady = steady_start image formed; exports = tt; legal = refl; stands = refl })
 
-told_legal : (image : ImageParts) (state : State) → IsTold image state →
+emitted_legal : (image : ImageParts) (state : State) → IsEmitted image state →
     law.legal (interfaces_of image) state.trace ≡ true
-told_legal image state (inl traced) = traced.legal
-told_legal image state (inr over) = over.legal
+emitted_legal image state (inl traced) = traced.legal
+emitted_legal image state (inr over) = over.legal
 
 pub all_traces_legal : TracesAreLegal
-all_traces_legal image inputs steps events formed all = told_legal image (machine image inputs steps events).state
-    (told_run image inputs formed all events steps _ (told_start image formed))
+all_traces_legal image inputs steps events formed all = emitted_legal image (machine image inputs steps events).state
+    (emitted_run image inputs formed all events steps _ (emitted_start image formed))
 
 -- Legal traces don't depend on the types of scalars.
 

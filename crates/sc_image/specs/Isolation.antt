@@ -58,16 +58,16 @@ activates d (In comp value) = false
 activates d (End comp value) = false
 
 -- a step emits an event that makes d active
-abbrev pub shows_entry : ℕ → Observation → Bool
-shows_entry d (Adds events) = list_any (activates d) events
-shows_entry d (Stops reason) = false
+abbrev pub emits_entry : ℕ → Observation → Bool
+emits_entry d (Adds events) = list_any (activates d) events
+emits_entry d (Stops reason) = false
 
 -- A step leaves what belongs to every compartment but the active one as it was, unless its event is a call or a return
 -- that makes that one active.
 abbrev pub LeavesOthers : Type 0
 LeavesOthers =
     (image : ImageParts) (inputs : List ℕ) (state : State) (d : ℕ) → IsWellFormed image → IsSteady image state →
-    d ≢ state.active → shows_entry d (observation image inputs state) ≡ false →
+    d ≢ state.active → emits_entry d (observation image inputs state) ≡ false →
     own image (after_step image inputs state) d ≡ own image state d
 
 -- Two states that a compartment can't distinguish: it is active in both, with the same events before and the same own

@@ -12,7 +12,7 @@ pub mod Own
 pub mod Steady
 pub mod Isolation
 pub mod Walks
-pub mod Telling
+pub mod Emitting
 pub mod Rules
 pub mod Reading
 pub mod RoundTrip

@@ -2,8 +2,8 @@
 //! proofs of callers.
 
 ghost use Rattle.sc_image.specs.Prelude.{BadOrImage, BytesNameOneImage, EntersByEvent, FollowsFromOwn, ImageInMemory};
-ghost use Rattle.sc_image.specs.Prelude.{LeavesOthers, LegalByWords, RunsAreSteady, StepsByInstruction, StepsTell};
-ghost use Rattle.sc_image.specs.Prelude.{StretchesCompose, TellingComposes, TracesAreLegal};
+ghost use Rattle.sc_image.specs.Prelude.{LeavesOthers, LegalByWords, RunsAreSteady, StepsByInstruction, StepsEmit};
+ghost use Rattle.sc_image.specs.Prelude.{StretchesCompose, EmittingComposes, TracesAreLegal};
 
 /// Bytes are those of one image at most.
 #[tactic(auto, using(crate::proofs::Whole::one_image_each))]
@@ -69,15 +69,15 @@ pub fn steps_by_instruction()
 {}
 
 /// Stretches that emit events follow one another, and a run goes along them with the trace that they emit.
-#[tactic(auto, using(crate::proofs::Stretches::telling_composes))]
-pub fn telling_composes()
-    ensures { TellingComposes }
+#[tactic(auto, using(crate::proofs::Stretches::emitting_composes))]
+pub fn emitting_composes()
+    ensures { EmittingComposes }
 {}
 
 /// What a call, a return, an output, an input and the end of a run emit, by the instruction at the pc.
-#[tactic(auto, using(crate::proofs::Stretches::steps_tell))]
-pub fn steps_tell()
-    ensures { StepsTell }
+#[tactic(auto, using(crate::proofs::Stretches::steps_emit))]
+pub fn steps_emit()
+    ensures { StepsEmit }
 {}
 
 /// Where an image's words of code and bytes of data stand at the start.

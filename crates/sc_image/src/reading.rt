@@ -236,9 +236,9 @@ fn globals_at(alloc: Global, bytes: &mut &[u8]) -> Result<Text, ImageFault>
     if size > MOST_GLOBALS {
         return Err(ImageFault::Bad(BadImage::Contents));
     }
-    let front = bytes_at(BadImage::Contents, size as usize, bytes)?;
+    let prefix = bytes_at(BadImage::Contents, size as usize, bytes)?;
     let mut globals = Text::new(alloc);
-    globals.append(front)?;
+    globals.append(prefix)?;
     Ok(globals)
 }
 
@@ -289,22 +289,22 @@ fn u16_up_to(cause: BadImage, most: u16, bytes: &mut &[u8]) -> Result<u16, Image
 fn u8_at(cause: BadImage, bytes: &mut &[u8]) -> Result<u8, ImageFault>
     ensures { Gives (λ x. (x, bytes.new.now)) result (number_at cause 1 bytes.old.now) }
 {
-    let front = bytes_at(cause, 1, bytes)?;
-    Ok(front[0])
+    let prefix = bytes_at(cause, 1, bytes)?;
+    Ok(prefix[0])
 }
 
 fn u16_at(cause: BadImage, bytes: &mut &[u8]) -> Result<u16, ImageFault>
     ensures { Gives (λ x. (x, bytes.new.now)) result (number_at cause 2 bytes.old.now) }
 {
-    let front = bytes_at(cause, 2, bytes)?;
-    Ok(LittleEndian::read_u16(front))
+    let prefix = bytes_at(cause, 2, bytes)?;
+    Ok(LittleEndian::read_u16(prefix))
 }
 
 fn u32_at(cause: BadImage, bytes: &mut &[u8]) -> Result<u32, ImageFault>
     ensures { Gives (λ x. (x, bytes.new.now)) result (number_at cause 4 bytes.old.now) }
 {
-    let front = bytes_at(cause, 4, bytes)?;
-    Ok(LittleEndian::read_u32(front))
+    let prefix = bytes_at(cause, 4, bytes)?;
+    Ok(LittleEndian::read_u32(prefix))
 }
 
 // The first `size` bytes.
@@ -315,7 +315,7 @@ fn bytes_at<'a>(cause: BadImage, size: usize, bytes: &mut &'a [u8]) -> Result<&'
     if all.len() < size {
         return Err(ImageFault::Bad(cause));
     }
-    let (front, rest) = all.split_at(size);
+    let (prefix, rest) = all.split_at(size);
     *bytes = rest;
-    Ok(front)
+    Ok(prefix)
 }

@@ -29,13 +29,13 @@ pub use Rattle.sc_interfaces.specs.Common.{Decl, ExportLine, Function, HeadTree,
 pub use Rattle.sc_interfaces.specs.Common.{SectionTree}
 pub use Rattle.sc_interfaces.specs.Prelude.{HasFewExports, HasFewParams, IsWithinCounts, Placed, added, added_beside}
 pub use Rattle.sc_interfaces.specs.Prelude.{agree, agrees_first, agrees_with, all_added, all_numbered, all_placed}
-pub use Rattle.sc_interfaces.specs.Prelude.{allowed, decl_told, decls_told, environment_added, export_by, export_fits}
-pub use Rattle.sc_interfaces.specs.Prelude.{export_name, export_places, exports_told, first_added, forbidden}
+pub use Rattle.sc_interfaces.specs.Prelude.{allowed, decl_broken, decls_broken, environment_added, export_by, export_fits}
+pub use Rattle.sc_interfaces.specs.Prelude.{export_name, export_places, exports_broken, first_added, forbidden}
 pub use Rattle.sc_interfaces.specs.Prelude.{function_at, function_name, function_places, gives_int, head_added}
 pub use Rattle.sc_interfaces.specs.Prelude.{head_fits_by, import_added, import_by, import_fits, imported_by}
-pub use Rattle.sc_interfaces.specs.Prelude.{imports_added, imports_told, input_head, input_name, int_type, interface_by}
-pub use Rattle.sc_interfaces.specs.Prelude.{interfaces_by, is_input, is_offered_by, is_output, lines_told, main_by}
+pub use Rattle.sc_interfaces.specs.Prelude.{imports_added, imports_broken, input_head, input_name, int_type, interface_by}
+pub use Rattle.sc_interfaces.specs.Prelude.{interfaces_by, is_input, is_offered_by, is_output, lines_broken, main_by}
 pub use Rattle.sc_interfaces.specs.Prelude.{no_heads, offered_by, offering_number, offering_table, others_added}
 pub use Rattle.sc_interfaces.specs.Prelude.{output_head, output_name, promised_by, same_base, same_params, same_result}
-pub use Rattle.sc_interfaces.specs.Prelude.{same_type, section_told, table_of, takes_int, takes_nothing}
+pub use Rattle.sc_interfaces.specs.Prelude.{same_type, section_broken, table_of, takes_int, takes_nothing}
 pub use Rattle.sc_interfaces.specs.declared.agreements.Agreements.{Agreements}

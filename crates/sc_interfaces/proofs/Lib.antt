@@ -4,5 +4,5 @@ pub mod Bare
 pub mod Offered
 pub mod Placing
 pub mod Steps
-pub mod Telling
+pub mod Reporting
 pub mod Texts

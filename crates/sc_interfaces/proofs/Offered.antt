@@ -21,7 +21,7 @@ use Rattle.sc_event.specs.declared.interface.Interfaces.{Interfaces}
 use Rattle.sc_ast.specs.declared.section.FunctionTree.{FunctionTree}
 use Rattle.sc_ast.specs.declared.section.Decl.TheVariants as declared
 use Rattle.sc_interfaces.proofs.Allowing.{all_numbered_same, first_or, first_by_name-last}
-use Rattle.sc_interfaces.proofs.Telling.{Stands, number_in, offering_number_is, offering_stands}
+use Rattle.sc_interfaces.proofs.Reporting.{Stands, number_in, offering_number_is, offering_stands}
 
 -- Places.
 

@@ -1,5 +1,5 @@
 pub mod Common
 pub mod Prelude
-pub mod Faces
+pub mod Rules
 pub mod Offering
 pub mod Tables

@@ -11,7 +11,7 @@ use Rattle.sc_event.specs.declared.interface.Import.TheVariants as import
 use Rattle.sc_event.specs.declared.interface.Interface.{Interface}
 use Rattle.sc_ast.specs.declared.section.FunctionParam.{FunctionParam}
 use Rattle.sc_ast.specs.declared.section.FunctionTree.{FunctionTree}
-use Rattle.sc_interfaces.specs.Faces.{input_name}
+use Rattle.sc_interfaces.specs.Rules.{input_name}
 use Rattle.sc_interfaces.specs.Tables.{offering_number}
 
 -- The counts within which sections have interfaces.

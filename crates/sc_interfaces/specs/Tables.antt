@@ -8,8 +8,8 @@ use Rattle.std.specs.Prelude.{Option, Some, None, is_some, if◌then◌else◌}
 use Rattle.std.specs.Option.{option_and_then}
 use Rattle.sc_interfaces.specs.declared.agreements.Agreements.{Agreements}
 use Rattle.sc_interfaces.specs.declared.imports.Imported.{Imported}
-use Rattle.sc_interfaces.specs.Faces.{agree, head_crosses, int_type, input_name, output_name, main_holds, export_fits}
-use Rattle.sc_interfaces.specs.Faces.{import_fits, environment_offers, name_fits}
+use Rattle.sc_interfaces.specs.Rules.{agree, head_crosses, int_type, input_name, output_name, main_holds, export_fits}
+use Rattle.sc_interfaces.specs.Rules.{import_fits, environment_offers, name_fits}
 
 -- names that are known, after these came too
 abbrev pub all_numbered : List Text → List Text → List Text
@@ -77,10 +77,10 @@ offering_table tables importer line = option_and_then (slice_get tables) (offeri
 
 -- Exports.
 
-abbrev pub exports_told : (functions before : List Text) → List ExportLine → List ℕ
-exports_told functions before [] = []
-exports_told functions before (line ∷ lines) =
-    unless (export_fits functions before line) line.line ++ exports_told functions (numbered before line.name) lines
+abbrev pub exports_broken : (functions before : List Text) → List ExportLine → List ℕ
+exports_broken functions before [] = []
+exports_broken functions before (line ∷ lines) =
+    unless (export_fits functions before line) line.line ++ exports_broken functions (numbered before line.name) lines
 
 -- Imports.
 
@@ -100,12 +100,12 @@ abbrev pub is_offered_by : List SectionTable → (importer : ℕ) → ImportLine
 is_offered_by tables importer line =
     if is_environment line then environment_offers line.name else is_some (offering_number importer line 0 tables)
 
-abbrev pub imports_told : List SectionTable → (importer : ℕ) → (functions protos before : List Text) → List ImportLine →
+abbrev pub imports_broken : List SectionTable → (importer : ℕ) → (functions protos before : List Text) → List ImportLine →
     List ℕ
-imports_told tables importer functions protos before [] = []
-imports_told tables importer functions protos before (line ∷ lines) =
+imports_broken tables importer functions protos before [] = []
+imports_broken tables importer functions protos before (line ∷ lines) =
     unless (import_fits (is_offered_by tables importer line) functions protos before line) line.line ++
-    imports_told tables importer functions protos (numbered before line.name) lines
+    imports_broken tables importer functions protos (numbered before line.name) lines
 
 -- what the environment promises of a name
 abbrev pub environment_added : Agreements → Text → Agreements
@@ -148,36 +148,36 @@ abbrev pub head_fits_by : SectionTable → Imported → Agreements → HeadTree 
 head_fits_by table imported known head =
     allowed known head && (head_crosses head || not (among table.exports head.name || among imported.names head.name))
 
-abbrev pub decl_told : SectionTable → Imported → (mains : Bool) → Agreements → Decl → List ℕ
-decl_told table imported mains known (Proto head) =
+abbrev pub decl_broken : SectionTable → Imported → (mains : Bool) → Agreements → Decl → List ℕ
+decl_broken table imported mains known (Proto head) =
     unless (head_fits_by table imported known head && allowed imported.heads head) head.line
-decl_told table imported mains known (Function tree) =
+decl_broken table imported mains known (Function tree) =
     unless (head_fits_by table imported known (head_of tree.head) &&
     main_holds mains (head_of tree.head)) tree.head.line
-decl_told table imported mains known _ = []
+decl_broken table imported mains known _ = []
 
 abbrev pub head_added : Agreements → Option HeadTree → Agreements
 head_added known None = known
 head_added known (Some head) = added known head.name head
 
-abbrev pub decls_told : SectionTable → Imported → (mains : Bool) → Agreements → List Decl → List ℕ
-decls_told table imported mains known [] = []
-decls_told table imported mains known (decl ∷ decls) =
-    decl_told table imported mains known decl ++ decls_told table imported mains (head_added known (head_in decl)) decls
+abbrev pub decls_broken : SectionTable → Imported → (mains : Bool) → Agreements → List Decl → List ℕ
+decls_broken table imported mains known [] = []
+decls_broken table imported mains known (decl ∷ decls) =
+    decl_broken table imported mains known decl ++ decls_broken table imported mains (head_added known (head_in decl)) decls
 
 -- Sections.
 
-abbrev pub section_told : List SectionTable → (number : ℕ) → SectionTable → (mains : Bool) → (before : List Text) →
+abbrev pub section_broken : List SectionTable → (number : ℕ) → SectionTable → (mains : Bool) → (before : List Text) →
     SectionTree → List ℕ
-section_told tables number table mains before section =
+section_broken tables number table mains before section =
     unless (name_fits before section.name) 1 ++
-    (exports_told table.functions [] section.exports ++
-    (imports_told tables number table.functions table.protos [] section.imports ++
-    decls_told table (imported_by tables number section) mains no_heads section.decls))
+    (exports_broken table.functions [] section.exports ++
+    (imports_broken tables number table.functions table.protos [] section.imports ++
+    decls_broken table (imported_by tables number section) mains no_heads section.decls))
 
-abbrev pub lines_told : List SectionTable → ℕ → (mains : Bool) → (before : List Text) → List SectionTree → List ℕ
-lines_told tables k mains before [] = []
-lines_told tables k mains before (section ∷ rest) =
-    map (line_of_text section.line) (section_told tables k (table_of section) mains before section) ++
-    lines_told tables (suc k) (mains || among (table_of section).functions main_name)
+abbrev pub lines_broken : List SectionTable → ℕ → (mains : Bool) → (before : List Text) → List SectionTree → List ℕ
+lines_broken tables k mains before [] = []
+lines_broken tables k mains before (section ∷ rest) =
+    map (line_of_text section.line) (section_broken tables k (table_of section) mains before section) ++
+    lines_broken tables (suc k) (mains || among (table_of section).functions main_name)
     (numbered before section.name) rest

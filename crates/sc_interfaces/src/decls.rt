@@ -1,4 +1,4 @@
-ghost use Rattle.sc_interfaces.specs.Prelude.{allowed, decl_told, decls_told, head_added, head_fits_by, head_in};
+ghost use Rattle.sc_interfaces.specs.Prelude.{allowed, decl_broken, decls_broken, head_added, head_fits_by, head_in};
 ghost use Rattle.sc_interfaces.specs.Prelude.{no_heads, unless, with_lines};
 ghost use Rattle.std.specs.Prelude.{◌≡◌, ◌&&◌, OnOk};
 ghost use Rattle.sc_ast.specs.declared.section.Decl.TheVariants.{Proto, Function};
@@ -15,7 +15,7 @@ use std::alloc::Global;
 /// Heads agree with those before them and with what they are imported as; those of functions that cross have types that
 /// cross; and `main` is defined once, where `mains` says that a section before defines it.
 #[tactic(auto, using(crate::proofs::Steps::turns))]
-pub(crate) fn decls_told(
+pub(crate) fn decls_broken(
     alloc: Global,
     table: &SectionTable,
     imported: &Imported,
@@ -24,17 +24,17 @@ pub(crate) fn decls_told(
     lines: &mut BrokenLines,
 ) -> Result<(), OutOfMemory>
     ensures { OnOk result (lines.new ≡ with_lines lines.old
-        (decls_told table.now imported.now mains no_heads decls.now)) }
+        (decls_broken table.now imported.now mains no_heads decls.now)) }
 {
     let mut known = Agreements::new(alloc);
     for decl in decls {
-        decl_told(alloc, table, imported, mains, &mut known, decl, lines)?;
+        decl_broken(alloc, table, imported, mains, &mut known, decl, lines)?;
     }
     Ok(())
 }
 
 #[tactic(auto, using(crate::proofs::Steps::turns))]
-fn decl_told(
+fn decl_broken(
     alloc: Global,
     table: &SectionTable,
     imported: &Imported,
@@ -43,18 +43,18 @@ fn decl_told(
     decl: &Decl,
     lines: &mut BrokenLines,
 ) -> Result<(), OutOfMemory>
-    ensures told { OnOk result (lines.new ≡ with_lines lines.old
-        (decl_told table.now imported.now mains known.old decl.now)) }
+    ensures reported { OnOk result (lines.new ≡ with_lines lines.old
+        (decl_broken table.now imported.now mains known.old decl.now)) }
     ensures added { OnOk result (known.new ≡ head_added known.old (head_in decl.now)) }
 {
     match decl {
-        Decl::Proto(head) => proto_told(alloc, table, imported, known, head, lines),
-        Decl::Function(tree) => function_told(alloc, table, imported, mains, known, tree, lines),
+        Decl::Proto(head) => proto_broken(alloc, table, imported, known, head, lines),
+        Decl::Function(tree) => function_broken(alloc, table, imported, mains, known, tree, lines),
         _ => Ok(()),
     }
 }
 
-fn proto_told(
+fn proto_broken(
     alloc: Global,
     table: &SectionTable,
     imported: &Imported,
@@ -62,7 +62,7 @@ fn proto_told(
     head: &HeadTree,
     lines: &mut BrokenLines,
 ) -> Result<(), OutOfMemory>
-    ensures told { OnOk result (lines.new ≡ with_lines lines.old
+    ensures reported { OnOk result (lines.new ≡ with_lines lines.old
         (unless (head_fits_by table.now imported.now known.old head.now &&
         allowed imported.now.heads head.now) head.now.line)) }
     ensures added { OnOk result (known.new ≡ head_added known.old (head_in (Proto head.now))) }
@@ -72,7 +72,7 @@ fn proto_told(
     known.add(alloc, head.name.name(), head)
 }
 
-fn function_told(
+fn function_broken(
     alloc: Global,
     table: &SectionTable,
     imported: &Imported,
@@ -81,8 +81,8 @@ fn function_told(
     tree: &FunctionTree,
     lines: &mut BrokenLines,
 ) -> Result<(), OutOfMemory>
-    ensures told { OnOk result (lines.new ≡ with_lines lines.old
-        (decl_told table.now imported.now mains known.old (Function tree.now))) }
+    ensures reported { OnOk result (lines.new ≡ with_lines lines.old
+        (decl_broken table.now imported.now mains known.old (Function tree.now))) }
     ensures added { OnOk result (known.new ≡ head_added known.old (head_in (Function tree.now))) }
 {
     let head = prototype(alloc, &tree.head)?;

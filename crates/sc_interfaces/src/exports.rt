@@ -1,4 +1,4 @@
-ghost use Rattle.sc_interfaces.specs.Prelude.{export_fits, exports_told, with_lines};
+ghost use Rattle.sc_interfaces.specs.Prelude.{export_fits, exports_broken, with_lines};
 ghost use Rattle.std.specs.Prelude.{◌≡◌, [], OnOk};
 
 use crate::names::{is_main_name, is_plain};
@@ -9,13 +9,13 @@ use std::alloc::Global;
 
 /// An export is a function that the section defines, exported once, and not `main`.
 #[tactic(auto, using(crate::proofs::Steps::turns))]
-pub(crate) fn exports_told(
+pub(crate) fn exports_broken(
     alloc: Global,
     functions: &NameTable,
     exports: &[ExportLine],
     lines: &mut BrokenLines,
 ) -> Result<(), OutOfMemory>
-    ensures { OnOk result (lines.new ≡ with_lines lines.old (exports_told functions.now [] exports.now)) }
+    ensures { OnOk result (lines.new ≡ with_lines lines.old (exports_broken functions.now [] exports.now)) }
 {
     let mut before = NameTable::new(alloc);
     for line in exports {

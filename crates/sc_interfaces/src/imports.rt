@@ -1,5 +1,5 @@
 ghost use Rattle.sc_interfaces.specs.Prelude.{all_numbered, environment_added, first_added, import_added, import_fits};
-ghost use Rattle.sc_interfaces.specs.Prelude.{imported_by, imports_added, imports_told, input_head, input_name};
+ghost use Rattle.sc_interfaces.specs.Prelude.{imported_by, imports_added, imports_broken, input_head, input_name};
 ghost use Rattle.sc_interfaces.specs.Prelude.{int_type, is_offered_by, no_heads, others_added, output_head};
 ghost use Rattle.sc_interfaces.specs.Prelude.{output_name, with_lines};
 ghost use Rattle.std.specs.Prelude.{◌≡◌, [], IfOk, OnOk, map};
@@ -22,7 +22,7 @@ pub(crate) struct Imported {
 
 /// An import is offered, its name is imported once and not defined here, and it has a prototype.
 #[tactic(auto, using(crate::proofs::Steps::turns))]
-pub(crate) fn imports_told(
+pub(crate) fn imports_broken(
     alloc: Global,
     tables: &[SectionTable],
     importer: usize,
@@ -31,7 +31,7 @@ pub(crate) fn imports_told(
     lines: &mut BrokenLines,
 ) -> Result<(), OutOfMemory>
     ensures { OnOk result (lines.new ≡ with_lines lines.old
-        (imports_told tables.now importer table.now.functions table.now.protos [] imports.now)) }
+        (imports_broken tables.now importer table.now.functions table.now.protos [] imports.now)) }
 {
     let mut before = NameTable::new(alloc);
     for line in imports {

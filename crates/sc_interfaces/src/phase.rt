@@ -1,10 +1,10 @@
 ghost use Rattle.sc_interfaces.specs.Prelude.{among, interface_broken, line_of_text, main_name, name_fits, noted_all};
-ghost use Rattle.sc_interfaces.specs.Prelude.{refused_at, section_told, unless, with_lines};
+ghost use Rattle.sc_interfaces.specs.Prelude.{refused_at, section_broken, unless, with_lines};
 ghost use Rattle.std.specs.Prelude.{◌≡◌, ◌||◌, IfOk, OnOk, map};
 
-use crate::decls::decls_told;
-use crate::exports::exports_told;
-use crate::imports::{imports_of, imports_told};
+use crate::decls::decls_broken;
+use crate::exports::exports_broken;
+use crate::imports::{imports_of, imports_broken};
 use crate::names::{is_environment_name, main_name};
 use crate::tables::{SectionTable, section_tables};
 use sc_ast::SectionTree;
@@ -60,20 +60,20 @@ fn next_least(
     least: Option<u32>,
 ) -> Result<Option<u32>, OutOfMemory>
     ensures { IfOk result (λ later. later ≡ noted_all least
-        (map (line_of_text section.now.line) (section_told tables.now number table.now mains before.now section.now))) }
+        (map (line_of_text section.now.line) (section_broken tables.now number table.now mains before.now section.now))) }
 {
     let mut lines = BrokenLines {
         start: section.line,
         least,
     };
-    section_told(
+    section_broken(
         alloc, tables, number, table, mains, before, section, &mut lines,
     )?;
     Ok(lines.least)
 }
 
 #[tactic(auto, using(crate::proofs::Steps::turns))]
-fn section_told(
+fn section_broken(
     alloc: Global,
     tables: &[SectionTable],
     number: usize,
@@ -84,15 +84,15 @@ fn section_told(
     lines: &mut BrokenLines,
 ) -> Result<(), OutOfMemory>
     ensures { OnOk result (lines.new ≡ with_lines lines.old
-        (section_told tables.now number table.now mains before.now section.now)) }
+        (section_broken tables.now number table.now mains before.now section.now)) }
 {
     lines.unless(name_fits(before, &section.name), 1);
-    exports_told(alloc, &table.functions, section.exports.as_slice(), lines)?;
+    exports_broken(alloc, &table.functions, section.exports.as_slice(), lines)?;
     let imports = section.imports.as_slice();
-    imports_told(alloc, tables, number, table, imports, lines)?;
+    imports_broken(alloc, tables, number, table, imports, lines)?;
     let imported = imports_of(alloc, tables, number, section)?;
     let decls = section.decls.as_slice();
-    decls_told(alloc, table, &imported, mains, decls, lines)
+    decls_broken(alloc, table, &imported, mains, decls, lines)
 }
 
 fn name_fits(before: &NameTable, name: &Name) -> bool

@@ -5,7 +5,7 @@ use Rattle.sc_kinds.proofs.Common.{Exit, Here, Inside, Judged, List, Next, None,
 use Rattle.sc_kinds.proofs.Common.{Signature, Some, State, Ty, TypedExpr, TypedFunction, TypedStruct, Value, Ways, Word}
 use Rattle.sc_kinds.proofs.Common.{[], all_do, all_go_into, and_first, and_from, and_rest, and_then, ap, args_fit}
 use Rattle.sc_kinds.proofs.Common.{assign, assign_call, assign_call_fits, at_brace, at_place, bind, block_does}
-use Rattle.sc_kinds.proofs.Common.{body_does, body_fits, call, call_alone, call_fits, choose, closed, computed, decayed}
+use Rattle.sc_kinds.proofs.Common.{body_does, body_fits, call, call_statement, call_fits, choose, closed, computed, decayed}
 use Rattle.sc_kinds.proofs.Common.{evaluated, false, false≢true, goes_into, has_kind, have_kinds, in_order, init_does}
 use Rattle.sc_kinds.proofs.Common.{inits_do, is_integer, is_of, is_pointer, is_scalar, is_some, is_target, judged}
 use Rattle.sc_kinds.proofs.Common.{judged_ty, kind_fits, kind_step, layer_of, leave, list_all, loop, map, not, on_line}
@@ -164,9 +164,9 @@ module _ (arith : Arith) (structs : List TypedStruct) (here : Here) (params : �
         weaken (λ v. returns_kind call.signature.result v ≡ true) Any _ _ (λ v k. tt)
         (call_same c call.signature call.is call.fit line s)
 
-    call_alone_same : (c : TypedCall) → call_fits callable c.target (map (judged scope) c.args) ≡ true → (line : ℕ) →
-        DoesSame (call_alone here C c.target (map way c.args) line) (call_alone here D c.target (map way c.args) line)
-    call_alone_same c h line a s =
+    call_statement_same : (c : TypedCall) → call_fits callable c.target (map (judged scope) c.args) ≡ true → (line : ℕ) →
+        DoesSame (call_statement here C c.target (map way c.args) line) (call_statement here D c.target (map way c.args) line)
+    call_statement_same c h line a s =
         then_same Any (ExitOk result) (call here C c.target (map way c.args) line s)
         (call here D c.target (map way c.args) line s) (λ v s. leave Next a s) (λ v s. leave Next a s)
         (any_call c h line s) (λ v any s. leave_same result Next refl a s)
@@ -187,7 +187,7 @@ module _ (arith : Arith) (structs : List TypedStruct) (here : Here) (params : �
         DoesSame (simple_does arith structs here params C k line) (simple_does arith structs here params D k line)
     simple_same (simple.Assign place e) line h = assign_itself (way place) (way e) line
     simple_same (simple.AssignCall place c) line h = assign_call_same place c h line
-    simple_same (simple.Call c) line h = call_alone_same c h line
+    simple_same (simple.Call c) line h = call_statement_same c h line
 
     part_same : (part : Option TypedSimple) → part_fits scope callable result part ≡ true →
         DoesSame (part_does arith structs here params C part) (part_does arith structs here params D part)
@@ -260,7 +260,7 @@ module _ (arith : Arith) (structs : List TypedStruct) (here : Here) (params : �
     layer_same line layer.Empty h looping fits = leave_same result Next refl
     layer_same line (layer.Assign place e) h looping fits = assign_itself (way place) (way e) line
     layer_same line (layer.AssignCall place c) h looping fits = assign_call_same place c fits line
-    layer_same line (layer.Call c) h looping fits = call_alone_same c fits line
+    layer_same line (layer.Call c) h looping fits = call_statement_same c fits line
     layer_same line (layer.If cond x y) h looping fits = λ a s.
         let inner = and_rest (is_scalar (judged scope cond)) _ fits in
         then_same Any (ExitOk result) (evaluated here want.Value (way cond) line s)
@@ -278,8 +278,8 @@ module _ (arith : Arith) (structs : List TypedStruct) (here : Here) (params : �
         looped_same cond line x (and_rest (is_scalar (judged scope cond)) _ fits) h (leave Next) (leave Next)
         (leave_same result Next refl)
     layer_same line (layer.For first cond next x) h looping fits = λ a s.
-        let behind = and_rest (part_fits scope callable result first) _ fits in
-        let last = and_rest (is_scalar (judged scope cond)) _ behind in
+        let following = and_rest (part_fits scope callable result first) _ fits in
+        let last = and_rest (is_scalar (judged scope cond)) _ following in
         follow_same result in_order (in_order_ok result) (part_does arith structs here params C first a s)
         (part_does arith structs here params D first a s)
         (loop (test here (way cond) line) (block_does arith structs here params C x)

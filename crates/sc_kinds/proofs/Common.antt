@@ -13,12 +13,12 @@ pub use Rattle.sc_core.proofs.Induction.{Each, Inside, Under, expr_induction, st
 pub use Rattle.sc_core.proofs.Judged.{judged_ty}
 pub use Rattle.sc_core.proofs.Layers.{expr_at, layer_of, on_line, stmt_at, term_of, typed}
 pub use Rattle.sc_core.specs.Prelude.{Acts, Arith, Blocks, Body, Break, Callable, Calls, Continue, Exit, Function, Here}
-pub use Rattle.sc_core.specs.Prelude.{Judged, Left, Library, Meant, Next, On, Out, Piece, Reached, Return, Roles, Route}
+pub use Rattle.sc_core.specs.Prelude.{Judged, Left, Denotations, Meant, Next, On, Out, Piece, Reached, Return, Roles, Route}
 pub use Rattle.sc_core.specs.Prelude.{Scope, Signature, State, Stopped, Ways, all_do, all_go_into, allowed, and_then}
 pub use Rattle.sc_core.specs.Prelude.{apart, applied, applied_one, are_distinct, are_equatable, are_ordered, args_fit}
 pub use Rattle.sc_core.specs.Prelude.{as_word, assign, assign_call, assign_call_fits, at_brace, at_place, at_pointer}
 pub use Rattle.sc_core.specs.Prelude.{back_own, begun, between, binary, binary_fits, bind, block_does, body_does}
-pub use Rattle.sc_core.specs.Prelude.{body_fits, both_ints, call, call_alone, call_cross, call_fits, call_own}
+pub use Rattle.sc_core.specs.Prelude.{body_fits, both_ints, call, call_statement, call_cross, call_fits, call_own}
 pub use Rattle.sc_core.specs.Prelude.{callable_in, called, calls, cells_at, choose, closed, common, computed, crossing}
 pub use Rattle.sc_core.specs.Prelude.{decayed, difference_fits, done, entry_in, evaluated, export_fits, follow, found}
 pub use Rattle.sc_core.specs.Prelude.{function, function_fits, function_of, functions_in, global_fits, goes_into}
@@ -26,7 +26,7 @@ pub use Rattle.sc_core.specs.Prelude.{import_name, in_elements, in_loop, in_orde
 pub use Rattle.sc_core.specs.Prelude.{is_address, is_array, is_int, is_integer, is_live, is_plain_name, is_pointer}
 pub use Rattle.sc_core.specs.Prelude.{is_scalar, is_target, is_true, is_type, is_unsigned, is_unsigned_op}
 pub use Rattle.sc_core.specs.Prelude.{is_well_typed, is_word, is_zero, judged, kind_fits, kind_step, leads, leave}
-pub use Rattle.sc_core.specs.Prelude.{library_of, literal, load, loaded, local_fits, loop, main_fits, main_name}
+pub use Rattle.sc_core.specs.Prelude.{denotations_of, literal, load, loaded, local_fits, loop, main_fits, main_name}
 pub use Rattle.sc_core.specs.Prelude.{mains_in, may_call, meant, meant_step, most_compartments, most_params, moved}
 pub use Rattle.sc_core.specs.Prelude.{moved_back, moved_on, of_bool, on_word, on_words, option_goes, option_signature}
 pub use Rattle.sc_core.specs.Prelude.{option_value, ordered, part_does, part_fits, passed_fits, performs, place_at}

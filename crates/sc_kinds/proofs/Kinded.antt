@@ -1,7 +1,7 @@
 -- The laws.
 use Rattle.sc_kinds.proofs.Common.{ResultsHaveKinds, ValuesHaveKinds}
 use Rattle.sc_kinds.proofs.Values.{value_kind, sound}
-use Rattle.sc_kinds.proofs.Results.{returned_good, crosses_itself, asks_alone}
+use Rattle.sc_kinds.proofs.Results.{returned_good, crosses_itself, asks_only_callable}
 
 pub values_have_kinds : ValuesHaveKinds
 values_have_kinds = record {
@@ -17,5 +17,5 @@ results_have_kinds = record {
   crosses = λ arith program typed roles n index number here proto plain h entry s t v is.
       crosses_itself arith program typed roles n index number here proto plain h entry s t v is;
   allowed = λ arith program typed roles n number here f plain h s.
-      asks_alone arith program typed roles n number here f plain h s;
+      asks_only_callable arith program typed roles n number here f plain h s;
 }

@@ -13,7 +13,7 @@ use Rattle.sc_kinds.proofs.Values.{either}
 pub record Placed (interfaces : Interfaces) (interface : Interface) (section : TypedSection) : Type 0 where
   pub number : ℕ
   pub fits : section_fits interfaces number interface section ≡ true
-  pub faces : interface_fits interfaces number interface section ≡ true
+  pub interface_fitting : interface_fits interfaces number interface section ≡ true
 
 pub record ForSection (interfaces : Interfaces) (comps : List Interface) (n : ℕ) (section : TypedSection) : Type 0 where
   pub interface : Interface
@@ -35,7 +35,7 @@ module _ (interfaces : Interfaces) where
   for_section k (x ∷ xs) [] h n section is = absurd (cc)
   for_section k (x ∷ xs) (y ∷ ys) h zero section is =
       let same : y ≡ section = cc in
-      let behind = and_rest (section_fits interfaces k x y) _ h in
+      let following = and_rest (section_fits interfaces k x y) _ h in
       record {
         interface = x;
         is = refl;
@@ -43,7 +43,7 @@ module _ (interfaces : Interfaces) where
             (record {
               number = k;
               fits = and_first (section_fits interfaces k x y) _ h;
-              faces = and_first (interface_fits interfaces k x y) _ behind;
+              interface_fitting = and_first (interface_fits interfaces k x y) _ following;
             });
       }
   for_section k (x ∷ xs) (y ∷ ys) h (suc n) section is =
@@ -59,7 +59,7 @@ module _ (interfaces : Interfaces) where
   for_interface k (x ∷ xs) [] h n interface is = absurd (false≢true h)
   for_interface k (x ∷ xs) (y ∷ ys) h zero interface is =
       let same : x ≡ interface = cc in
-      let behind = and_rest (section_fits interfaces k x y) _ h in
+      let following = and_rest (section_fits interfaces k x y) _ h in
       record {
         section = y;
         is = refl;
@@ -67,7 +67,7 @@ module _ (interfaces : Interfaces) where
             (record {
               number = k;
               fits = and_first (section_fits interfaces k x y) _ h;
-              faces = and_first (interface_fits interfaces k x y) _ behind;
+              interface_fitting = and_first (interface_fits interfaces k x y) _ following;
             });
       }
   for_interface k (x ∷ xs) (y ∷ ys) h (suc n) interface is =
@@ -126,10 +126,10 @@ pub record Passing {A : Type 0} (p : A → Bool) (xs : List A) (n : ℕ) : Type 
 pub found_passes : {A : Type 0} (p : A → Bool) (xs : List A) (n : ℕ) → position p xs ≡ Some n → Passing p xs n
 found_passes p [] n is = absurd (cc)
 found_passes p (x ∷ xs) n is = by (found_passes p xs) (p x) refl (sym (position-cons p x xs) ∙ is) where
-  behind : ((m : ℕ) → position p xs ≡ Some m → Passing p xs m) → (o : Option ℕ) → position p xs ≡ o →
+  following : ((m : ℕ) → position p xs ≡ Some m → Passing p xs m) → (o : Option ℕ) → position p xs ≡ o →
       option_map suc o ≡ Some n → Passing p (x ∷ xs) n
-  behind later None at is = absurd (cc)
-  behind later (Some m) at is =
+  following later None at is = absurd (cc)
+  following later (Some m) at is =
       let same : suc m ≡ n = cc in
       let rest = later m at in
       subst (Passing p (x ∷ xs)) same (record { item = rest.item; is = rest.is; passes = rest.passes })
@@ -141,7 +141,7 @@ found_passes p (x ∷ xs) n is = by (found_passes p xs) (p x) refl (sym (positio
       let same : 0 ≡ n = cc in
       subst (Passing p (x ∷ xs)) same (record { item = x; is = refl; passes = here })
   by later false here is =
-      behind later (position p xs) refl (sym (ap (λ b. cond b (Some 0) (option_map suc (position p xs))) here) ∙ is)
+      following later (position p xs) refl (sym (ap (λ b. cond b (Some 0) (option_map suc (position p xs))) here) ∙ is)
 
 pub any_along : {A : Type 0} (p q : A → Bool) → ((x : A) → p x ≡ true → q x ≡ true) → (xs : List A) →
     list_any p xs ≡ true → list_any q xs ≡ true
@@ -155,9 +155,9 @@ any_along p q on (x ∷ xs) h =
 abbrev pub name_of : TypedFunction → List ℕ
 name_of f = f.name
 
-distinct_behind : (names others : List (List ℕ)) → are_distinct (names ++ others) ≡ true → are_distinct others ≡ true
-distinct_behind [] others h = h
-distinct_behind (name ∷ names) others h = distinct_behind names others
+distinct_after : (names others : List (List ℕ)) → are_distinct (names ++ others) ≡ true → are_distinct others ≡ true
+distinct_after [] others h = h
+distinct_after (name ∷ names) others h = distinct_after names others
     (and_rest (not (list_any (bytes_eq name) (names ++ others))) _ h)
 
 named_in : (name : List ℕ) (fs : List TypedFunction) (n : ℕ) (f : TypedFunction) → slice_get fs n ≡ Some f →
@@ -204,21 +204,21 @@ named_so name p (g ∷ fs) distinct h (suc n) f is called =
 
 pub own_names_differ : (others : List (List ℕ)) (fs : List TypedFunction) →
     are_distinct (others ++ map name_of fs) ≡ true → are_distinct (map name_of fs) ≡ true
-own_names_differ others fs h = distinct_behind others (map name_of fs) h
+own_names_differ others fs h = distinct_after others (map name_of fs) h
 
 -- what a well-typed program keeps: its sections fit their interfaces, and one of them has `main`
 module _ (program : ProgramTree) (typed : is_well_typed program ≡ true) where
-  behind_names : (sections_fit program.interfaces 0 program.interfaces.comps program.sections &&
+  after_names : (sections_fit program.interfaces 0 program.interfaces.comps program.sections &&
       (main_fits (slice_get program.sections program.interfaces.main) && mains_in program.sections == 1)) ≡ true
-  behind_names = and_rest (are_distinct (codes "Env" ∷ map {A = Interface} (λ i. i.name) program.interfaces.comps)) _
+  after_names = and_rest (are_distinct (codes "Env" ∷ map {A = Interface} (λ i. i.name) program.interfaces.comps)) _
       (and_rest (nat_le (length program.sections) most_compartments) _ typed)
 
   pub sections_so : sections_fit program.interfaces 0 program.interfaces.comps program.sections ≡ true
-  sections_so = and_first (sections_fit program.interfaces 0 program.interfaces.comps program.sections) _ behind_names
+  sections_so = and_first (sections_fit program.interfaces 0 program.interfaces.comps program.sections) _ after_names
 
   pub mains_so :
       (main_fits (slice_get program.sections program.interfaces.main) && mains_in program.sections == 1) ≡ true
-  mains_so = and_rest (sections_fit program.interfaces 0 program.interfaces.comps program.sections) _ behind_names
+  mains_so = and_rest (sections_fit program.interfaces 0 program.interfaces.comps program.sections) _ after_names
 
   pub main_so : main_fits (slice_get program.sections program.interfaces.main) ≡ true
   main_so = and_first (main_fits (slice_get program.sections program.interfaces.main)) _ mains_so

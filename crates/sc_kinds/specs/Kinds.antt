@@ -2,7 +2,7 @@
 -- meets an operand that it has no meaning for, and only numbers cross between compartments.
 use Rattle.sc_event.specs.Prelude.{export_at}
 use Rattle.sc_core.specs.Prelude.{Arith, Blocks, Body, Function, Here, IsWellTyped, Reached, Roles, Scope, State}
-use Rattle.sc_core.specs.Prelude.{called, calls, crossing, entry_in, function, is_pointer, judged, library_of}
+use Rattle.sc_core.specs.Prelude.{called, calls, crossing, entry_in, function, is_pointer, judged, denotations_of}
 use Rattle.sc_core.specs.Prelude.{option_value, run_step, scripted_step, ways, within}
 use Rattle.std.specs.Prelude.{◌≡◌, ℕ, Bool, true, false, not, ◌&&◌, List, [], ◌∷◌, Option, None, Some, Ok, slice_get}
 use Rattle.sc_core.specs.declared.ty.Ty.{Ty}
@@ -60,7 +60,7 @@ pub record ValuesHaveKinds : Type 0 where
 -- what functions do where at most `open_calls` calls may be open and some compartments perform
 abbrev pub bodies_of : Arith → ProgramTree → Roles → (open_calls : ℕ) → Body
 bodies_of arith program roles =
-    within (scripted_step (library_of arith program) roles (run_step (library_of arith program)))
+    within (scripted_step (denotations_of arith program) roles (run_step (denotations_of arith program)))
 
 -- what functions of a well-typed program return, and what they ask for, where they don't perform
 pub record ResultsHaveKinds : Type 0 where
@@ -80,7 +80,7 @@ pub record ResultsHaveKinds : Type 0 where
   -- a function makes only calls that may be made: it does the same where nobody asks whether they may
   pub allowed : (arith : Arith) (program : ProgramTree) → IsWellTyped program →
       (roles : Roles) (open_calls number : ℕ) (here : Here) (f : Function) → roles.scripted here.comp ≡ false →
-      function (library_of arith program) here.comp number ≡ Some f →
+      function (denotations_of arith program) here.comp number ≡ Some f →
       (s : State) →
-      f.does (called (library_of arith program) (bodies_of arith program roles open_calls)) here s
-      ≡ f.does (calls (library_of arith program) (bodies_of arith program roles open_calls)) here s
+      f.does (called (denotations_of arith program) (bodies_of arith program roles open_calls)) here s
+      ≡ f.does (calls (denotations_of arith program) (bodies_of arith program roles open_calls)) here s

@@ -1,6 +1,6 @@
 -- Denotations that agree function by function run the same, also where compartments perform scripts.
 use Rattle.sc_laws.proofs.Common.{Action, AgreeingRunAlike, BodiesAgree, Body, Bool, CallTarget, CallsAgree, Cross}
-use Rattle.sc_laws.proofs.Common.{Function, FunctionsAgree, Here, Input, LibrariesAgree, Library, List, Main, Meets}
+use Rattle.sc_laws.proofs.Common.{Function, FunctionsAgree, Here, Input, DenotationsAgree, Denotations, List, Main, Meets}
 use Rattle.sc_laws.proofs.Common.{Memory, None, Option, Output, Piece, PiecesAgree, Roles, Row, RunsAgree, Some, State}
 use Rattle.sc_laws.proofs.Common.{Step, Value, Word, [], acts, and_then, ap, arith, asks, back_own, call_own, calls}
 use Rattle.sc_laws.proofs.Common.{first_state, found, function, if◌then◌else◌, is_number, map, performs}
@@ -24,7 +24,7 @@ if_agree b c o p o' p' is h k = grind (arith, h)
 found_agree : {V : Type 0} (m n : Option V) (s : State) → m ≡ n → PiecesAgree (found m s) (found n s)
 found_agree m n s is = record { same = ap (λ x. piece_without_line (found x s)) is }
 
-module _ (L M : Library) (agree : LibrariesAgree L M) where
+module _ (L M : Denotations) (agree : DenotationsAgree L M) where
   module _ (body other : Body) (bodies : BodiesAgree body other) where
     runs_in : (comp number : ℕ) (args : List Value) (back back' : Option Value → State → Piece (Option Value)) →
         ((v : Option Value) (s : State) → PiecesAgree (back v s) (back' v s)) → (s : State) →
@@ -96,7 +96,7 @@ module _ (L M : Library) (agree : LibrariesAgree L M) where
 pub run_agree : (main : ℕ) (o p : Piece (Option Value)) → PiecesAgree o p → RunsAgree (run_to main o) (run_to main p)
 run_agree main o p h = grind (arith, h)
 
-pub runs_agree : (L M : Library) (agree : LibrariesAgree L M) (step to : Step) → StepsAgree L M agree step to →
+pub runs_agree : (L M : Denotations) (agree : DenotationsAgree L M) (step to : Step) → StepsAgree L M agree step to →
     (globals : Memory) (inputs : List ℕ) (turns : ℕ) →
     RunsAgree (run_by L step globals inputs turns) (run_by M to globals inputs turns)
 runs_agree L M agree step to k globals inputs turns = subst (λ i. RunsAgree (run_by L step globals inputs turns) (run_to

@@ -1,18 +1,18 @@
 -- Two runs that do the same, where the second may have more turns, and may go on where the first has to stop.
 use Rattle.sc_laws.proofs.Common.{Action, AllFrom, BadType, Blamed, Body, Bool, Call, CallTarget, Cause, Cross, Ended}
-use Rattle.sc_laws.proofs.Common.{EventsOut, Export, Front, Function, Goes, Gone, Grown, Here, Input, Interfaces}
-use Rattle.sc_laws.proofs.Common.{Library, List, Meets, None, Ok, Option, Output, Own, Piece, Reached, Result, Roles}
+use Rattle.sc_laws.proofs.Common.{EventsOut, Export, IsPrefix, Function, Goes, Gone, Grown, Here, Input, Interfaces}
+use Rattle.sc_laws.proofs.Common.{Denotations, List, Meets, None, Ok, Option, Output, Own, Piece, Reached, Result, Roles}
 use Rattle.sc_laws.proofs.Common.{Row, RunEnd, Some, State, Step, Stopped, TurnsOut, Value, Word, [], acts, and_then}
 use Rattle.sc_laws.proofs.Common.{ap, ap₂, arith, asks, back_cross, back_own, begun, call_cross, call_own, called}
 use Rattle.sc_laws.proofs.Common.{calls, computed, crossed, done, false, found, function, if◌then◌else◌, inl, inr}
 use Rattle.sc_laws.proofs.Common.{is_number, last, length, map, may_call, option_value, performs, refl, rows_left}
-use Rattle.sc_laws.proofs.Common.{run_in, run_step, scripted_step, subst, suc, sym, tell, true, turn, turn_of}
+use Rattle.sc_laws.proofs.Common.{run_in, run_step, scripted_step, subst, suc, sym, emit_event, true, turn, turn_of}
 use Rattle.sc_laws.proofs.Common.{with_blocks, within, word_in, zero, ℕ, ◌+◌, ◌<◌, ◌∙◌, ◌∷◌, ◌≡◌, ◌≤◌, ◌⊎◌}
-use Rattle.sc_laws.proofs.Growing.{front_same, front_more, then_from, late_more, same, no_turn, stays, earlier}
+use Rattle.sc_laws.proofs.Growing.{prefix_same, prefix_more, then_from, late_more, same, no_turn, stays, earlier}
 use Rattle.sc_laws.proofs.Growing.{back_goes, then_goes, turn_goes, BodyGoes, StepGoes, done_goes, frame_goes}
 use Rattle.sc_laws.proofs.Growing.{cross_goes, called_go, performs_go, within_goes, then_then}
-use Rattle.sc_laws.proofs.Twins.{Twins, Kept, then_twins, if_twins, KeptAt, Anywhere, CallsTwins, FunctionTwins}
-use Rattle.sc_laws.proofs.Twins.{LibraryTwins, may_same}
+use Rattle.sc_laws.proofs.Related.{Related, Kept, then_related, if_related, KeptAt, Anywhere, RelatedCalls, RelatedFunctions}
+use Rattle.sc_laws.proofs.Related.{RelatedDenotations, may_same}
 use Rattle.sc_laws.proofs.Expressions.{Keeps, alike, blamed}
 use Rattle.sc_event.specs.declared.row.Action.TheVariants as act
 
@@ -26,8 +26,8 @@ richer_piece d (Stopped end s) = Stopped end (richer d s)
 
 -- the second state has the events and the changes of frames of the first, and then those that came later
 pub record Later (s t : State) : Type 0 where
-  pub events : Front s.trace t.trace
-  pub frames : Front s.frames t.frames
+  pub events : IsPrefix s.trace t.trace
+  pub frames : IsPrefix s.frames t.frames
   pub late : AllFrom (length s.trace) frames.more
 
 pub later : (s t : State) → Grown s t → Later s t
@@ -36,8 +36,8 @@ later s t g = record { events = g.events; frames = g.frames; late = g.late }
 later_more : (s t u : State) → Later s t → Grown t u → Later s u
 later_more s t u h g =
     record {
-      events = front_more s.trace t.trace u.trace h.events g.events;
-      frames = front_more _ t.frames _ h.frames g.frames;
+      events = prefix_more s.trace t.trace u.trace h.events g.events;
+      frames = prefix_more _ t.frames _ h.frames g.frames;
       late = late_more s t _ _ h.events h.late g.late;
     }
 
@@ -84,8 +84,8 @@ module _ (d : ℕ) (Soft : Cause → Type 0) (Turns : Type 0) where
         Gone s' p → ((v : V) → Goes (k v)) → ((v : V) → Goes (l v)) → Below V o p → After V W s s' k l →
         Below W (and_then o k) (and_then p l)
     after V W s s' o p k l a g g' goes goes' (along is) h = on_along V W s s' o p k l a g g' is h
-    after V W s s' o p k l a g g' goes goes' (passed end t is passes front) h =
-        passed end t (ap (λ x. and_then x k) is) passes (later_more t _ _ front (then_from p l goes'))
+    after V W s s' o p k l a g g' goes goes' (passed end t is passes prefix) h =
+        passed end t (ap (λ x. and_then x k) is) passes (later_more t _ _ prefix (then_from p l goes'))
 
     -- a turn of both, where the first has m turns and the second m'
     turn_at : (W : Type 0) (k l : Unit {0} → State → Piece W) → ((v : Unit {0}) → Goes (l v)) → (s : State) (m m' : ℕ) →
@@ -132,8 +132,8 @@ module _ (d : ℕ) (Soft : Cause → Type 0) (Turns : Type 0) where
     computed_below V here line r r' s (blamed cause soft is) =
         passed (Blamed here.comp cause line) s (ap (λ x. computed here line x s) is) soft (stays r') where
           stays : (r : Result V Cause) → Later s (last (computed here line r (richer d s)))
-          stays (Ok v) = record { events = front_same s.trace; frames = front_same _; late = tt }
-          stays _ = record { events = front_same s.trace; frames = front_same _; late = tt }
+          stays (Ok v) = record { events = prefix_same s.trace; frames = prefix_same _; late = tt }
+          stays _ = record { events = prefix_same s.trace; frames = prefix_same _; late = tt }
 
     pub below_at : (here : Here) → KeptAt (Ahead n n') Below Soft here
     below_at here =
@@ -160,16 +160,16 @@ module _ (d : ℕ) (Soft : Cause → Type 0) (Turns : Type 0) (spent : (d ≡ 0)
 
   -- doings that are related where fewer calls than this are still made
   abbrev pub Under : (n n' : ℕ) → (f g : State → Piece (Option Value)) → Type 0
-  Under n n' = Twins (Ahead d Soft Turns n n') (Below d Soft Turns) (Option Value)
+  Under n n' = Related (Ahead d Soft Turns n n') (Below d Soft Turns) (Option Value)
 
   abbrev pub BodiesBelow : (n n' : ℕ) → Body → Body → Type 0
   BodiesBelow n n' a b = (number : ℕ) (here : Here) → Under n n' (a number here) (b number here)
 
-  abbrev pub LibrariesBelow : (n n' : ℕ) → Library → Library → Type 0
-  LibrariesBelow n n' = LibraryTwins (Ahead d Soft Turns n n') (Below d Soft Turns) Anywhere
+  abbrev pub DenotationsBelow : (n n' : ℕ) → Denotations → Denotations → Type 0
+  DenotationsBelow n n' = RelatedDenotations (Ahead d Soft Turns n n') (Below d Soft Turns) Anywhere
 
   abbrev FunctionsBelow : (n n' : ℕ) → Function → Function → Type 0
-  FunctionsBelow n n' = FunctionTwins (Ahead d Soft Turns n n') (Below d Soft Turns) Anywhere
+  FunctionsBelow n n' = RelatedFunctions (Ahead d Soft Turns n n') (Below d Soft Turns) Anywhere
 
   from_richer : (n n' : ℕ) (f g : State → Piece (Option Value)) → Goes f → Goes g →
       ((s : State) → Ahead d Soft Turns n n' s (richer d s) → Beneath (f s) (g (richer d s))) → Under n n' f g
@@ -205,7 +205,7 @@ module _ (d : ℕ) (Soft : Cause → Type 0) (Turns : Type 0) (spent : (d ≡ 0)
     goes' number here = (bodies number here).second
 
     -- a function that was found in both
-    entered_below : (f g : Function) → g.cells ≡ f.cells → g.room ≡ f.room → (comp number : ℕ) (args : List Value)
+    entered_below : (f g : Function) → g.cells ≡ f.cells → g.frame_size ≡ f.frame_size → (comp number : ℕ) (args : List Value)
         (back : Option Value → State → Piece (Option Value)) → ((v : Option Value) → Goes (back v)) →
         ((v : Option Value) (s : State) → back v (richer d s) ≡ richer_piece d (back v s)) → (s : State) →
         Ahead d Soft Turns n n' s (richer d s) → Beneath
@@ -213,16 +213,16 @@ module _ (d : ℕ) (Soft : Cause → Type 0) (Turns : Type 0) (spent : (d ≡ 0)
         (λ v t. back v (done comp f (length (s.memory comp)) t)))
         (and_then (b number (record { comp = comp; first = length (s.memory comp) }) (begun comp g args (richer d s)))
         (λ v t. back v (done comp g (length (s.memory comp)) t)))
-    entered_below f g cells room comp number args back k k' s ahead =
+    entered_below f g cells frame_size comp number args back k k' s ahead =
         let first : ℕ = length (s.memory comp) in
         let here : Here = record { comp = comp; first = first } in
         let start : State = begun comp f args s in
         let alike_start : begun comp g args (richer d s) ≡ richer d start =
-        ap₂ (λ cells room. begun comp (record g { cells = cells; room = room }) args (richer d s)) cells room in
+        ap₂ (λ cells frame_size. begun comp (record g { cells = cells; frame_size = frame_size }) args (richer d s)) cells frame_size in
         let out : Option Value → State → Piece (Option Value) = λ v t. back v (done comp f first t) in
         let out' : Option Value → State → Piece (Option Value) = λ v t. back v (done comp g first t) in
         let alike_out : (v : Option Value) (t : State) → out' v (richer d t) ≡ richer_piece d (out v t) = λ v t.
-        ap₂ (λ cells room. back v (done comp (record g { cells = cells; room = room }) first (richer d t))) cells room
+        ap₂ (λ cells frame_size. back v (done comp (record g { cells = cells; frame_size = frame_size }) first (richer d t))) cells frame_size
         ∙ k' v (done comp f first t) in
         let leaves : (f : Function) (v : Option Value) → Goes (λ t. back v (done comp f first t)) =
         λ f v t. earlier t (done comp f first t) (back v _) (done_goes comp f first t) (k v (done comp f first t)) in
@@ -234,25 +234,25 @@ module _ (d : ℕ) (Soft : Cause → Type 0) (Turns : Type 0) (spent : (d ≡ 0)
         ((bodies number here).both start (richer d start) inside) (λ v t t' x x' ahead. along (ap (out' v) ahead.state ∙
         alike_out v t)))
 
-    module _ (L M : Library) (twins : LibrariesBelow (suc n) (suc n') L M) where
+    module _ (L M : Denotations) (related : DenotationsBelow (suc n) (suc n') L M) where
       run_below : (comp number : ℕ) (args : List Value) (back : Option Value → State → Piece (Option Value))
           → ((v : Option Value) → Goes (back v)) →
           ((v : Option Value) (s : State) → back v (richer d s) ≡ richer_piece d (back v s)) →
           Under n n' (run_in L a comp number args back) (run_in M b comp number args back)
       run_below comp number args back k k' = found_below _ _ n n' (function L comp number) (function M comp number)
-          (twins.functions comp number) _ _ (λ f g meets. from_richer n n' _ _
+          (related.functions comp number) _ _ (λ f g meets. from_richer n n' _ _
           (frame_goes L a goes comp number f args back k) (frame_goes M b goes' comp number g args back k)
-          (λ s ahead. entered_below f g meets.cells meets.room comp number args back k k' s ahead))
+          (λ s ahead. entered_below f g meets.cells meets.frame_size comp number args back k k' s ahead))
 
       pub own_below : (comp number : ℕ) (args : List Value) →
           Under n n' (call_own L a comp number args) (call_own M b comp number args)
       own_below comp number args = run_below comp number args back_own (λ v. stays v) (λ v s. refl)
 
       -- a call across, once the number of the function is known
-      abbrev crosses : Library → Body → Interfaces → (from to index : ℕ) → List Value → ℕ → State →
+      abbrev crosses : Denotations → Body → Interfaces → (from to index : ℕ) → List Value → ℕ → State →
           Piece (Option Value)
-      crosses library body interfaces from to index args number s = run_in library body to number (crossed args)
-          (back_cross interfaces from to index) (tell (Call from to index (map word_in args)) s)
+      crosses denotations body interfaces from to index args number s = run_in denotations body to number (crossed args)
+          (back_cross interfaces from to index) (emit_event (Call from to index (map word_in args)) s)
 
       cross_to : (from to index : ℕ) (args : List Value) (number : Option ℕ) (s : State) →
           Ahead d Soft Turns n n' s (richer d s) →
@@ -260,16 +260,16 @@ module _ (d : ℕ) (Soft : Cause → Type 0) (Turns : Type 0) (spent : (d ≡ 0)
           (and_then (found number (richer d s)) (crosses M b L.interfaces from to index args))
       cross_to from to index args None s ahead = along refl
       cross_to from to index args (Some number) s ahead = (run_below to number (crossed args)
-          (back_cross L.interfaces from to index) (back_goes L.interfaces from to index) (λ v s. refl)).both (tell _ s)
-          (tell _ (richer d s)) (record { state = refl; few = ahead.few; few' = ahead.few' })
+          (back_cross L.interfaces from to index) (back_goes L.interfaces from to index) (λ v s. refl)).both (emit_event _ s)
+          (emit_event _ (richer d s)) (record { state = refl; few = ahead.few; few' = ahead.few' })
 
       cross_below : (from to index : ℕ) (args : List Value) →
           Under n n' (call_cross L a from to index args) (call_cross M b from to index args)
       cross_below from to index args = from_richer n n' _ _ (cross_goes L a goes from to index args) (cross_goes M b
           goes' from to index args) (λ s ahead. subst (λ x. Beneath (call_cross L a from to index args s) (and_then
-          (found x (richer d s)) (crosses M b M.interfaces from to index args))) (sym (twins.entered to (Export index)))
+          (found x (richer d s)) (crosses M b M.interfaces from to index args))) (sym (related.entered to (Export index)))
           (subst (λ i. Beneath (call_cross L a from to index args s) (and_then (found (L.entered to (Export index))
-          (richer d s)) (crosses M b i from to index args))) (sym twins.interfaces) (cross_to from to index args
+          (richer d s)) (crosses M b i from to index args))) (sym related.interfaces) (cross_to from to index args
           (L.entered to _) s ahead)))
 
       abbrev Within : (f g : State → Piece (Option Value)) → Type 0
@@ -303,24 +303,24 @@ module _ (d : ℕ) (Soft : Cause → Type 0) (Turns : Type 0) (spent : (d ≡ 0)
           (g : Bool → State → Piece (Option Value)) → Within f (g (may_call L from target args)) →
           Within f (g (may_call M from target args))
       tested from target args f g h =
-          subst (λ may. Within f (g may)) (sym (may_same _ _ Anywhere L M twins from target args)) h
+          subst (λ may. Within f (g may)) (sym (may_same _ _ Anywhere L M related from target args)) h
 
-      pub calls_below : (from : ℕ) → CallsTwins (Ahead d Soft Turns (suc n) (suc n')) (Below d Soft Turns) Anywhere from
+      pub calls_below : (from : ℕ) → RelatedCalls (Ahead d Soft Turns (suc n) (suc n')) (Below d Soft Turns) Anywhere from
           (calls L a) (calls M b)
       calls_below from target args = tested from target args _ (λ may s. if may then called M b from target args s else
-          Stopped (Blamed from BadType 0) s) (if_twins _ _ (may_call L from target args) _ _ _ _
+          Stopped (Blamed from BadType 0) s) (if_related _ _ (may_call L from target args) _ _ _ _
           (called_below from target args) (same_below _ _ _ _ (λ s. record { grown = same s; stop = tt })
           (λ s. record { grown = same s; stop = tt }) (λ s. refl)))
 
       asked_below : (from : ℕ) (target : CallTarget) (args : List Value) →
           Within (asks L a from target args) (asks M b from target args)
       asked_below from target args = tested from target args _ (λ may s. if may then calls M b from target args s else
-          Stopped TurnsOut s) (if_twins _ _ (may_call L from target args) _ _ _ _ (calls_below from target args)
+          Stopped TurnsOut s) (if_related _ _ (may_call L from target args) _ _ _ _ (calls_below from target args)
           (stop_below _ _))
 
       pub run_step_below : BodiesBelow (suc n) (suc n') (run_step L a) (run_step M b)
       run_step_below number here = found_below _ _ (suc n) (suc n') (function L _ number) (function M _ number)
-          (twins.functions _ number) _ _ (λ f g meets. meets.does _ _ here tt (calls_below _))
+          (related.functions _ number) _ _ (λ f g meets. meets.does _ _ here tt (calls_below _))
 
       -- a row's call takes its turn first, where it may be made, and then the function performs again
       row_call : (number : ℕ) (here : Here) (to index : ℕ) (args : List Value) →
@@ -340,7 +340,7 @@ module _ (d : ℕ) (Soft : Cause → Type 0) (Turns : Type 0) (spent : (d ≡ 0)
                 (subst (Within (λ s. and_then (turn s) (λ _ s. and_then (call_cross L a here.comp to index args s)
                 (λ v. a number here))))
                 (λ i s. sym (then_then (turn s) (λ _. call_cross M b here.comp to index args) (λ v. b number here)) i)
-                (after_turn _ _ (then_twins _ _ (below_kept d Soft Turns n n' spent)
+                (after_turn _ _ (then_related _ _ (below_kept d Soft Turns n n' spent)
                 (call_cross L a here.comp to index args) (call_cross M b here.comp to index args) (λ v. a number here)
                 (λ v. b number here) (cross_below here.comp to index args) (λ v. bodies number here))))
 
@@ -348,7 +348,7 @@ module _ (d : ℕ) (Soft : Cause → Type 0) (Turns : Type 0) (spent : (d ≡ 0)
       row_then : (from : ℕ) (target : CallTarget) (args : List Value) (next next' : State → Piece (Option Value)) →
           Within next next' → Within (λ s. and_then (asks L a from target args s) (λ v. next))
           (λ s. and_then (asks M b from target args s) (λ v. next'))
-      row_then from target args next next' h = then_twins _ _ (below_kept d Soft Turns (suc n) (suc n') spent)
+      row_then from target args next next' h = then_related _ _ (below_kept d Soft Turns (suc n) (suc n') spent)
           (asks L a from target args) (asks M b from target args) (λ v. next) (λ v. next')
           (asked_below from target args) (λ v. h)
 
@@ -367,12 +367,12 @@ module _ (d : ℕ) (Soft : Cause → Type 0) (Turns : Type 0) (spent : (d ≡ 0)
       performs_below [] number here = stop_below _ _
       performs_below (row ∷ rest) number here = subst (λ x. Within (performs L a (row ∷ rest) number here)
           (λ s. if is_number number x then acts M b row.action (performs M b rest number here) (b number here) here.comp
-          s else Stopped TurnsOut s)) (sym (twins.entered _ _)) (if_twins _ _ (is_number number _) _ _ _ _
+          s else Stopped TurnsOut s)) (sym (related.entered _ _)) (if_related _ _ (is_number number _) _ _ _ _
           (acts_below row.action _ _ (performs_below rest number here) number here) (stop_below _ _))
 
       pub scripted_below : (roles : Roles) (step step' : Step) → BodiesBelow (suc n) (suc n') (step a) (step' b) →
           BodiesBelow (suc n) (suc n') (scripted_step L roles step a) (scripted_step M roles step' b)
-      scripted_below roles step step' h number here = if_twins _ _ (roles.scripted _) _ _ _ _ (from_richer _ _ _ _
+      scripted_below roles step step' h number here = if_related _ _ (roles.scripted _) _ _ _ _ (from_richer _ _ _ _
           (λ s. performs_go L a goes _ number here s) (λ s. performs_go M b goes' _ number here s) (λ s ahead.
           (performs_below (rows_left roles here.comp s.trace) number here).both s (richer d s) ahead)) (h number here)
 

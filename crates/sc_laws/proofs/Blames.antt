@@ -1,6 +1,6 @@
 -- No compartment that performs is blamed, whatever the trace is, and only compartments that there are.
 use Rattle.sc_laws.proofs.Common.{AreFresh, Blamed, Bool, Cause, ChainRises, Ended, Event, EventsOut, Function}
-use Rattle.sc_laws.proofs.Common.{HasChain, IsBlamedOutside, IsChain, IsRising, IsWithin, Kept, Library, Link, List}
+use Rattle.sc_laws.proofs.Common.{HasChain, IsBlamedOutside, IsChain, IsRising, IsWithin, Kept, Denotations, Link, List}
 use Rattle.sc_laws.proofs.Common.{Memory, Obedient, Option, PassesBlame, Piece, Roles, RunEnd, Set, SourceRun, TurnsOut}
 use Rattle.sc_laws.proofs.Common.{Value, [], ap, arith, cases_eq, eq-eqb, false, first_state, function, if◌then◌else◌}
 use Rattle.sc_laws.proofs.Common.{is_some, leb-false, length, length-append, longer, nat_le, ne_eqb, nobody}
@@ -9,7 +9,7 @@ use Rattle.sc_laws.proofs.Common.{slice_get, slice_index_or, stopped_at, subst, 
 use Rattle.sc_laws.proofs.Common.{zero, ℕ, ⊎_elim, ◌++◌, ◌+◌, ◌<◌, ◌||◌, ◌∙◌, ◌∷◌, ◌≡◌, ◌≤◌, ◌⊎◌}
 use Rattle.sc_laws.proofs.Keeping.{Walk, place, main_walks, scripted_walks}
 use Rattle.sc_laws.proofs.FollowingRuns.{passes_blames}
-use Rattle.sc_laws.proofs.Runs.{shown}
+use Rattle.sc_laws.proofs.Runs.{cut_if}
 
 -- that a compartment may be blamed
 module _ (Fair : ℕ → Type 0) where
@@ -20,10 +20,10 @@ module _ (Fair : ℕ → Type 0) where
   Spares TurnsOut = Unit {0}
   Spares EventsOut = Unit {0}
 
-  module _ (library : Library) (obedient : Obedient library) (roles : Roles) (fair : (comp number : ℕ) →
-      roles.scripted comp ≡ false → is_some (function library comp number) ≡ true → Fair comp) where
+  module _ (denotations : Denotations) (obedient : Obedient denotations) (roles : Roles) (fair : (comp number : ℕ) →
+      roles.scripted comp ≡ false → is_some (function denotations comp number) ≡ true → Fair comp) where
     -- nothing is asked of states
-    abbrev walk : Walk library
+    abbrev walk : Walk denotations
     walk = record {
       Place = Unit {0};
       At = λ n i s. Unit {0};
@@ -47,38 +47,38 @@ module _ (Fair : ℕ → Type 0) where
     }
 
     run_to_spares : (n main : ℕ) (piece : Piece (Option Value)) →
-        Kept (place library walk n tt) piece → Spares (run_to main piece).behaviour.end
+        Kept (place denotations walk n tt) piece → Spares (run_to main piece).behaviour.end
     run_to_spares n main piece h = grind (arith, h)
 
     run_by_spares : (globals : Memory) (inputs : List ℕ) (turns : ℕ) →
-        Spares (roles_run library globals inputs turns roles).behaviour.end
-    run_by_spares globals inputs turns = run_to_spares (suc turns) library.interfaces.main _ (main_walks library walk
-        (suc turns) (within (scripted_step library roles (run_step library)) (suc turns)) (scripted_walks library walk
+        Spares (roles_run denotations globals inputs turns roles).behaviour.end
+    run_by_spares globals inputs turns = run_to_spares (suc turns) denotations.interfaces.main _ (main_walks denotations walk
+        (suc turns) (within (scripted_step denotations roles (run_step denotations)) (suc turns)) (scripted_walks denotations walk
         (λ n i s at. tt) (λ i comp number runs. tt) (λ i comp number f here. tt) obedient roles (λ comp number plain is
         n i cause line s at. fair comp number plain is) (suc turns)) tt (first_state globals inputs turns) (λ none. tt)
         (λ number is none. tt) (λ number f is. tt) tt)
 
   stopped_spares : (events : ℕ) (run : SourceRun) → Spares run.end → Spares (stopped_at events run).end
   stopped_spares events run h = by _ where
-    by : (b : Bool) → Spares (shown events b run).end
+    by : (b : Bool) → Spares (cut_if events b run).end
     by b = grind arith
 
-module _ (library : Library) (obedient : Obedient library) (globals : Memory) (inputs : List ℕ) (turns events : ℕ)
+module _ (denotations : Denotations) (obedient : Obedient denotations) (globals : Memory) (inputs : List ℕ) (turns events : ℕ)
     (roles : Roles) (comp : ℕ) (cause : Cause) (line : ℕ)
-    (ends : (stopped_at events (roles_run library globals inputs turns roles).behaviour).end ≡ Blamed comp cause line)
+    (ends : (stopped_at events (roles_run denotations globals inputs turns roles).behaviour).end ≡ Blamed comp cause line)
   where
     fair_blame : (Fair : ℕ → Type 0) → ((comp number : ℕ) → roles.scripted comp ≡ false →
-        is_some (function library comp number) ≡ true → Fair comp) → Fair comp
+        is_some (function denotations comp number) ≡ true → Fair comp) → Fair comp
     fair_blame Fair fair =
-        subst (Spares Fair) ends (stopped_spares Fair events (roles_run library globals inputs turns roles).behaviour
-        (run_by_spares Fair library obedient roles fair globals inputs turns))
+        subst (Spares Fair) ends (stopped_spares Fair events (roles_run denotations globals inputs turns roles).behaviour
+        (run_by_spares Fair denotations obedient roles fair globals inputs turns))
 
     pub nobody_is_blamed : roles.scripted comp ≡ false
     nobody_is_blamed = fair_blame (λ c. roles.scripted c ≡ false) (λ c number plain is. plain)
 
-    pub blamed_is_there : comp < length library.functions
-    blamed_is_there = fair_blame (λ c. c < length library.functions)
-        (λ c number plain is. listed library.functions c number is) where
+    pub blamed_is_there : comp < length denotations.functions
+    blamed_is_there = fair_blame (λ c. c < length denotations.functions)
+        (λ c number plain is. listed denotations.functions c number is) where
           listed : (functions : List (List Function)) (c number : ℕ) →
               is_some (slice_get (slice_index_or functions c []) number) ≡ true → c < length functions
           listed [] c number is = absurd (cc)
@@ -94,23 +94,23 @@ early n x comp cause line ends = by _ refl ends where
   few : (end : RunEnd) → end ≡ Blamed comp cause line → reaches n x end ≡ false → length x.trace < n
   few end is stays = let test : nat_le n _ ≡ false = ap (reaches n x) (sym is) ∙ stays in leb-false n _ test
 
-  by : (b : Bool) → reaches n x x.end ≡ b → (shown n b x).end ≡ Blamed comp cause line → length (shown n b x).trace < n
+  by : (b : Bool) → reaches n x x.end ≡ b → (cut_if n b x).end ≡ Blamed comp cause line → length (cut_if n b x).trace < n
   by b is ends = grind (arith, is, ends)
 
 within_with : (set : Set) (comp : ℕ) → IsWithin set (with comp set)
 within_with set comp c is = grind (arith, is)
 
-module _ (L : Library) (obedient : Obedient L) (globals : Memory) (inputs : List ℕ) (turns : ℕ) (t : List Event) where
+module _ (L : Denotations) (obedient : Obedient L) (globals : Memory) (inputs : List ℕ) (turns : ℕ) (t : List Event) where
   abbrev behaviour : Set → SourceRun
   behaviour set = performed_by L globals inputs turns t set
 
   -- where the next run is blamed it has emitted more
-  told_more : (run other : SourceRun) (comp : ℕ) (cause : Cause) (line : ℕ) → other.end ≡ Blamed comp cause line →
+  emitted_more : (run other : SourceRun) (comp : ℕ) (cause : Cause) (line : ℕ) → other.end ≡ Blamed comp cause line →
       PassesBlame run other → length run.trace < length other.trace
-  told_more run other comp cause line ends (turnless is) = let wants : other.end ≡ TurnsOut = ap (λ r. r.end) is in cc
-  told_more run other comp cause line ends (longer event front) =
-      let long = length-append (run.trace ++ event ∷ []) front.more in
-      omega (arith, ap length front.is, long, length-append run.trace (event ∷ []))
+  emitted_more run other comp cause line ends (turnless is) = let wants : other.end ≡ TurnsOut = ap (λ r. r.end) is in cc
+  emitted_more run other comp cause line ends (longer event prefix) =
+      let long = length-append (run.trace ++ event ∷ []) prefix.more in
+      omega (arith, ap length prefix.is, long, length-append run.trace (event ∷ []))
 
   rises : (set : Set) (least : ℕ) (links : List Link) → ((comp : ℕ) (cause : Cause) (line : ℕ) →
       (behaviour set).end ≡ Blamed comp cause line → least ≤ length (behaviour set).trace) →
@@ -126,9 +126,9 @@ module _ (L : Library) (obedient : Obedient L) (globals : Memory) (inputs : List
         omega (arith, high, same),
         rises (with link.comp set) (suc link.after) links (λ comp cause line ends.
             let more : length (behaviour set).trace < length (behaviour (with _ set)).trace =
-            told_more (behaviour set) (behaviour (with link.comp set)) comp cause line ends
+            emitted_more (behaviour set) (behaviour (with link.comp set)) comp cause line ends
             (passes_blames L obedient globals inputs turns t set (with link.comp set) (within_with set link.comp)
-            link.comp link.cause link.line here.blamed here.front (ap (λ b. b || set link.comp) (eq-eqb link.comp _
+            link.comp link.cause link.line here.blamed here.prefix (ap (λ b. b || set link.comp) (eq-eqb link.comp _
             refl))) in
             omega (arith, more, same)) chain.1,
       )
@@ -180,11 +180,11 @@ module _ (t : List Event) (runs : Set → SourceRun) (count : ℕ)
   Found set most = (links : List Link) × IsChain runs t set links × (length links ≤ most)
 
   found : (most : ℕ) (set : Set) → missing set count ≤ most → Found set most
-  found zero set few = ⊎_elim (λ tells. ([], tells, omega arith)) (λ b.
+  found zero set few = ⊎_elim (λ emits_trace. ([], emits_trace, omega arith)) (λ b.
       let counts = below_counts set b.comp count b.outside b.compartment in absurd (omega (arith, few, counts)))
       (each set)
   found (suc most) set few =
-      ⊎_elim (λ tells. ([], tells, omega arith)) (λ b. goes_on b (found most _ (fewer b))) (each set) where
+      ⊎_elim (λ emits_trace. ([], emits_trace, omega arith)) (λ b. goes_on b (found most _ (fewer b))) (each set) where
         fewer : (b : IsBlamedOutside count set (runs set) t) → missing (with b.comp set) count ≤ most
         fewer b = let counts = below_counts set b.comp count b.outside b.compartment in omega (arith, few, counts)
 
@@ -194,7 +194,7 @@ module _ (t : List Event) (runs : Set → SourceRun) (count : ℕ)
             record { comp = b.comp; after = length (runs set).trace; cause = b.cause; line = b.line } in
             let few_links = rest.2 in (
               link ∷ rest.0,
-              (record { blamed = b.blamed; front = b.front; after = refl }, rest.1),
+              (record { blamed = b.blamed; prefix = b.prefix; after = refl }, rest.1),
               omega (arith, few_links),
             )
 

@@ -1,5 +1,5 @@
 -- Chains of worked programs, computed, and the least sets that they give.
-use Rattle.sc_laws.proofs.Common.{Blamed, Call, End, Ended, Event, Front, Includes, IsChain, Link, List, Out}
+use Rattle.sc_laws.proofs.Common.{Blamed, Call, End, Ended, Event, IsPrefix, Includes, IsChain, Link, List, Out}
 use Rattle.sc_laws.proofs.Common.{OutOfBounds, ProgramTree, Ret, Set, Some, SourceRun, [], ap, c_arith, length, nobody}
 use Rattle.sc_laws.proofs.Common.{performed, sym, true, with, ◌++◌, ◌∷◌, ◌≡◌}
 use Rattle.sc_core.proofs.Plans.{program}
@@ -8,7 +8,7 @@ use Rattle.sc_core.proofs.Rows.{scripted_by_plan, two_stores_trace, reentry_trac
 use Rattle.sc_laws.proofs.ProgramLaws.{chain_is_least}
 
 -- a run that was blamed along a trace, which goes on with these events
-link_of : (run other : SourceRun) (more : List Event) → run ≡ other → Front run.trace (other.trace ++ more)
+link_of : (run other : SourceRun) (more : List Event) → run ≡ other → IsPrefix run.trace (other.trace ++ more)
 link_of run other more is = record { more = more; is = ap (λ r. r.trace ++ more) (sym is) }
 
 -- TWO STORES PAST THE END: the first is blamed, then the second
@@ -43,14 +43,14 @@ pub stores_chain : IsChain (performed c_arith stores [] 5 two_stores_trace) two_
 stores_chain = (
   record {
     blamed = ap (λ run. run.end) nobody_stores;
-    front = link_of _ _ (Ret 1 0 (Some 5) ∷ Out 0 5 ∷ Call 0 2 0 (2 ∷ []) ∷ Ret 2 0 (Some 5) ∷ Out 0 5 ∷ End 0 0 ∷ [])
+    prefix = link_of _ _ (Ret 1 0 (Some 5) ∷ Out 0 5 ∷ Call 0 2 0 (2 ∷ []) ∷ Ret 2 0 (Some 5) ∷ Out 0 5 ∷ End 0 0 ∷ [])
         nobody_stores;
     after = ap (λ run. length run.trace) nobody_stores;
   },
   (
     record {
       blamed = ap (λ run. run.end) first_stores;
-      front = link_of _ _ (Ret 2 0 (Some 5) ∷ Out 0 5 ∷ End 0 0 ∷ []) first_stores;
+      prefix = link_of _ _ (Ret 2 0 (Some 5) ∷ Out 0 5 ∷ End 0 0 ∷ []) first_stores;
       after = ap (λ run. length run.trace) first_stores;
     },
     ap (λ run. run.trace) both_store,
@@ -60,9 +60,9 @@ stores_chain = (
 -- no run emits the trace in which one of the two performs nothing
 pub stores_need_both : (set : Set) → (performed c_arith stores [] 5 two_stores_trace set).trace ≡ two_stores_trace →
     (set 1 ≡ true) × (set 2 ≡ true)
-stores_need_both set tells =
+stores_need_both set emits_trace =
     (let all : Includes set (first_link ∷ second_link ∷ []) = (chain_is_least.programs c_arith stores [] 5
-    two_stores_trace (first_link ∷ second_link ∷ []) set stores_chain).0 tells in (all.0, all.1.0))
+    two_stores_trace (first_link ∷ second_link ∷ []) set stores_chain).0 emits_trace in (all.0, all.1.0))
 
 -- RE-ENTRY: the compartment that is blamed is entered again while it performs
 abbrev entered_again : Link
@@ -81,7 +81,7 @@ pub reentry_chain : IsChain (performed c_arith (program reentry_interfaces reent
 reentry_chain = (
   record {
     blamed = ap (λ run. run.end) nobody_reenters;
-    front = link_of _ _ (Call 1 2 0 (5 ∷ []) ∷ Call 2 1 1 (6 ∷ []) ∷ Ret 1 2 (Some 11) ∷ Ret 2 1 (Some 11) ∷ Ret 1 0
+    prefix = link_of _ _ (Call 1 2 0 (5 ∷ []) ∷ Call 2 1 1 (6 ∷ []) ∷ Ret 1 2 (Some 11) ∷ Ret 2 1 (Some 11) ∷ Ret 1 0
         (Some 22) ∷ Out 0 22 ∷ End 0 0 ∷ []) nobody_reenters;
     after = ap (λ run. length run.trace) nobody_reenters;
   },

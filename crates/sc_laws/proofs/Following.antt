@@ -1,12 +1,12 @@
 -- Two runs along one trace, of which the second has more compartments that perform their parts of it: the relation of
 -- their pieces.
-use Rattle.sc_laws.proofs.Common.{Blamed, Blocks, Bool, Cause, Err, Event, FrameChange, Front, Goes, Gone, Grown, Here}
+use Rattle.sc_laws.proofs.Common.{Blamed, Blocks, Bool, Cause, Err, Event, FrameChange, IsPrefix, Goes, Gone, Grown, Here}
 use Rattle.sc_laws.proofs.Common.{List, Never, Ok, Option, Piece, Reached, Result, RunEnd, Some, Standing, State}
 use Rattle.sc_laws.proofs.Common.{Stopped, TurnsOut, Value, [], and_then, ap, append_assoc, arith, at_start, both_ways}
-use Rattle.sc_laws.proofs.Common.{computed, false, last, refl, stands_after, stands_behind, subst, suc, sym, tell, true}
+use Rattle.sc_laws.proofs.Common.{computed, false, last, refl, stands_after, stands_after_all, subst, suc, sym, emit_event, true}
 use Rattle.sc_laws.proofs.Common.{turn_of, with_blocks, zero, ℕ, ◌++◌, ◌<◌, ◌∙◌, ◌∷◌, ◌≡◌, ◌≤◌}
-use Rattle.sc_laws.proofs.Growing.{front_same, then_front, then_goes, turn_of_goes}
-use Rattle.sc_laws.proofs.Twins.{Kept, KeptAt}
+use Rattle.sc_laws.proofs.Growing.{prefix_same, then_prefix, then_goes, turn_of_goes}
+use Rattle.sc_laws.proofs.Related.{Kept, KeptAt}
 use Rattle.sc_laws.proofs.Expressions.{Keeps, alike, blamed}
 use Rattle.sc_laws.proofs.Rows.{stands_last, InLine, then_along}
 
@@ -23,11 +23,11 @@ module _ (main : ℕ) (t : List Event) (S' : ℕ → Bool) where
   -- two states of the runs at one place of the trace: as many turns or more, and the same blocks where nobody performs
   pub record Abreast (st : Standing) (s s' : State) : Type 0 where
     pub trace : s'.trace ≡ s.trace
-    pub front : Front s.trace t
+    pub prefix : IsPrefix s.trace t
     pub turns : s.turns ≤ s'.turns
     pub inputs : s'.inputs ≡ s.inputs
     pub memory : (c : ℕ) → S' c ≡ false → s'.memory c ≡ s.memory c
-    pub stands : stands_behind (at_start main) s.trace ≡ Some st
+    pub stands : stands_after_all (at_start main) s.trace ≡ Some st
 
   -- a compartment that is blamed is blamed in the second run too, unless it performs there
   abbrev pub Agreed : (V : Type 0) → RunEnd → State → Piece V → Type 0
@@ -36,7 +36,7 @@ module _ (main : ℕ) (t : List Event) (S' : ℕ → Bool) where
   -- the second run emits an event more, or wants a turn or a row for it
   pub data MovesOn (V : Type 0) (u : List Event) (p : Piece V) : Type 0 where
     no_turn : (s' : State) → p ≡ Stopped TurnsOut s' → s'.trace ≡ u → MovesOn V u p
-    longer : (e : Event) → Front (u ++ e ∷ []) (last p).trace → MovesOn V u p
+    longer : (e : Event) → IsPrefix (u ++ e ∷ []) (last p).trace → MovesOn V u p
 
   -- the same, or it returns, and its caller emits the return
   pub data MovesOrReturns (u : List Event) (p : Piece (Option Value)) : Type 0 where
@@ -45,7 +45,7 @@ module _ (main : ℕ) (t : List Event) (S' : ℕ → Bool) where
 
   -- the second run goes on where the first has stopped; if the blamed compartment performs there, this holds
   pub record GoesOn (V Passed : Type 0) (end : RunEnd) (s : State) (p : Piece V) : Type 0 where
-    pub front : Front s.trace (last p).trace
+    pub prefix : IsPrefix s.trace (last p).trace
     pub agreed : Agreed V end s p
     pub passed : IfBlamed S' true end Passed
 
@@ -59,14 +59,14 @@ module _ (main : ℕ) (t : List Event) (S' : ℕ → Bool) where
   pub beyond_in : (end : RunEnd) (s : State) (p : Piece (Option Value)) → Beyond (Option Value) end s p →
       BeyondIn end s p
   beyond_in end s p by = record {
-    front = by.front;
+    prefix = by.prefix;
     agreed = by.agreed;
     passed = λ comp cause line is set. passes (by.passed comp cause line is set);
   }
 
   -- both have emitted the whole trace; or both come to the same at one place of it; or the first has stopped
   pub data KeepsUp (st : Standing) (V : Type 0) (o p : Piece V) : Type 0 where
-    done : Front t (last o).trace → Front t (last p).trace → KeepsUp st V o p
+    done : IsPrefix t (last o).trace → IsPrefix t (last p).trace → KeepsUp st V o p
     both : (v : V) (s s' : State) → o ≡ Reached v s → p ≡ Reached v s' → Abreast st s s' → KeepsUp st V o p
     stop : (end : RunEnd) (s : State) → o ≡ Stopped end s → Beyond V end s p → KeepsUp st V o p
 
@@ -88,12 +88,12 @@ module _ (main : ℕ) (t : List Event) (S' : ℕ → Bool) where
       (record s' { turns = turns'; inputs = inputs' })
   near_with st s s' turns turns' inputs inputs' few is n = grind (arith, is)
 
-  pub near_tell : (st after : Standing) (s s' : State) (e : Event) (more : List Event) →
-      stands_after st e ≡ Some after → t ≡ s.trace ++ e ∷ more → Abreast st s s' → Abreast after (tell e s) (tell e s')
-  near_tell st after s s' e more moves is n =
+  pub near_emit : (st after : Standing) (s s' : State) (e : Event) (more : List Event) →
+      stands_after st e ≡ Some after → t ≡ s.trace ++ e ∷ more → Abreast st s s' → Abreast after (emit_event e s) (emit_event e s')
+  near_emit st after s s' e more moves is n =
       record {
         trace = ap (λ u. u ++ e ∷ []) n.trace;
-        front = record { more = more; is = is ∙ sym (append_assoc s.trace _ more) };
+        prefix = record { more = more; is = is ∙ sym (append_assoc s.trace _ more) };
         turns = n.turns;
         inputs = n.inputs;
         memory = n.memory;
@@ -101,19 +101,19 @@ module _ (main : ℕ) (t : List Event) (S' : ℕ → Bool) where
       }
 
   -- a piece that goes on from the place where the trace ends has emitted all of it
-  pub whole : (u v : List Event) → t ≡ u → Front u v → Front t v
-  whole u v is front = subst (λ x. Front x v) (sym is) front
+  pub whole : (u v : List Event) → t ≡ u → IsPrefix u v → IsPrefix t v
+  whole u v is prefix = subst (λ x. IsPrefix x v) (sym is) prefix
 
   -- THE COMBINATORS IN BOTH RUNS
   passed_then : (V W : Type 0) (u : List Event) (p : Piece V) (l : V → State → Piece W) → ((v : V) → Goes (l v)) →
       MovesOn V u p → MovesOn W u (and_then p l)
   passed_then V W u p l goes (no_turn s' is same) = no_turn s' (ap (λ y. and_then y l) is) same
-  passed_then V W u p l goes (longer e front) = longer e (then_front (u ++ e ∷ []) p l goes front)
+  passed_then V W u p l goes (longer e prefix) = longer e (then_prefix (u ++ e ∷ []) p l goes prefix)
 
   pub past_then : (V W A B : Type 0) (end : RunEnd) (s : State) (p : Piece V) (l : V → State → Piece W) →
       ((v : V) → Goes (l v)) → (A → B) → GoesOn V A end s p → GoesOn W B end s (and_then p l)
   past_then V W A B end s p l goes f by = record {
-    front = then_front s.trace p l goes by.front;
+    prefix = then_prefix s.trace p l goes by.prefix;
     agreed = λ comp cause line is clear.
         (let x = by.agreed comp cause line is clear in (x.0, ap (λ y. and_then y l) x.1, x.2));
     passed = λ comp cause line is set. f (by.passed comp cause line is set);
@@ -126,40 +126,40 @@ module _ (main : ℕ) (t : List Event) (S' : ℕ → Bool) where
   -- what performs returns, and its return is emitted
   passed_back : (W : Type 0) (u : List Event) (p : Piece (Option Value)) (l : Option Value → State → Piece W) →
       ((v : Option Value) → Goes (l v)) →
-      ((v : Option Value) (x : State) → (e : Event) × Front (x.trace ++ e ∷ []) (last (l v x)).trace) →
+      ((v : Option Value) (x : State) → (e : Event) × IsPrefix (x.trace ++ e ∷ []) (last (l v x)).trace) →
       MovesOrReturns u p → MovesOn W u (and_then p l)
-  passed_back W u p l goes tells (passes h) = passed_then _ W u p l goes h
-  passed_back W u p l goes tells (hands_back v s' is same) =
-      (let e : Event = (tells v s').0 in longer e (subst (λ y. Front (u ++ e ∷ []) (last (and_then y l)).trace) (sym is)
-      (subst (λ x. Front (x ++ e ∷ []) (last (l v s')).trace) same (tells v s').1)))
+  passed_back W u p l goes emits_trace (passes h) = passed_then _ W u p l goes h
+  passed_back W u p l goes emits_trace (hands_back v s' is same) =
+      (let e : Event = (emits_trace v s').0 in longer e (subst (λ y. IsPrefix (u ++ e ∷ []) (last (and_then y l)).trace) (sym is)
+      (subst (λ x. IsPrefix (x ++ e ∷ []) (last (l v s')).trace) same (emits_trace v s').1)))
 
   pub beyond_back : (W : Type 0) (end : RunEnd) (s : State) (p : Piece (Option Value)) (l : Option Value → State →
       Piece W) → ((v : Option Value) → Goes (l v)) → ((v : Option Value) (x : State) →
-      (e : Event) × Front (x.trace ++ e ∷ []) (last (l v x)).trace) → BeyondIn end s p → Beyond W end s (and_then p l)
-  beyond_back W end s p l goes tells = past_then _ W _ _ end s p l goes (passed_back W s.trace p l goes tells)
+      (e : Event) × IsPrefix (x.trace ++ e ∷ []) (last (l v x)).trace) → BeyondIn end s p → Beyond W end s (and_then p l)
+  beyond_back W end s p l goes emits_trace = past_then _ W _ _ end s p l goes (passed_back W s.trace p l goes emits_trace)
 
   module _ (st : Standing) where
     -- the first stops without a turn
-    pub stops_short : (V : Type 0) (s : State) (p : Piece V) → Front s.trace (last p).trace →
+    pub stops_short : (V : Type 0) (s : State) (p : Piece V) → IsPrefix s.trace (last p).trace →
         Keeping st V (Stopped TurnsOut s) p
-    stops_short V s p front = record {
+    stops_short V s p prefix = record {
       follows = λ along.
-          stop TurnsOut s refl (record { front = front; agreed = no_blame _ _ _; passed = no_blame _ _ _ });
+          stop TurnsOut s refl (record { prefix = prefix; agreed = no_blame _ _ _; passed = no_blame _ _ _ });
     }
 
     -- both stop
-    same_front : (s s' : State) → s'.trace ≡ s.trace → Front s.trace s'.trace
-    same_front s s' is = subst (Front s.trace) (sym is) (front_same s.trace)
+    same_prefix : (s s' : State) → s'.trace ≡ s.trace → IsPrefix s.trace s'.trace
+    same_prefix s s' is = subst (IsPrefix s.trace) (sym is) (prefix_same s.trace)
 
     pub both_stop : (V : Type 0) (s s' : State) → s'.trace ≡ s.trace →
         Keeping st V (Stopped TurnsOut s) (Stopped TurnsOut s')
-    both_stop V s s' is = stops_short V s (Stopped TurnsOut s') (same_front s s' is)
+    both_stop V s s' is = stops_short V s (Stopped TurnsOut s') (same_prefix s s' is)
 
     pub both_blamed : (V : Type 0) (comp : ℕ) (cause : Cause) (line : ℕ) (s s' : State) → S' comp ≡ false →
         s'.trace ≡ s.trace → Keeping st V (Stopped (Blamed comp cause line) s) (Stopped (Blamed comp cause line) s')
     both_blamed V comp cause line s s' clear is = record {
       follows = λ along. stop _ s refl (record {
-        front = same_front s s' is;
+        prefix = same_prefix s s' is;
         agreed = λ c cause line blame clear. (s', refl, is);
         passed = λ c cause' line' blame set.
             (let same : comp ≡ c = cc in absurd (both_ways (S' comp) clear (ap S' same ∙ set)));
@@ -171,7 +171,7 @@ module _ (main : ℕ) (t : List Event) (S' : ℕ → Bool) where
         ((v : V) (x x' : State) → Grown s x → Grown s' x' → Abreast st x x' → Keeping st W (k v x) (l v x'))
         → InLine t (last (and_then o k)).trace → KeepsUp st V o p → KeepsUp st W (and_then o k) (and_then p l)
     then_follows V W s s' o p k l g g' goes goes' h along (done a b) =
-        done (then_front t o k goes a) (then_front t p l goes' b)
+        done (then_prefix t o k goes a) (then_prefix t p l goes' b)
     then_follows V W s s' o p k l g g' goes goes' h along (both v x x' is is' near) =
         let grown : Grown s x = subst (λ y. Grown s (last y)) is g.grown in
         let grown' : Grown s' x' = subst (λ y. Grown s' (last y)) is' g'.grown in
@@ -187,7 +187,7 @@ module _ (main : ℕ) (t : List Event) (S' : ℕ → Bool) where
         → ((x x' : State) → x.turns < s.turns → x'.turns < s'.turns → Abreast st x x' →
         Keeping st W (k tt x) (l tt x')) → Keeping st W (and_then (turn_of m s) k) (and_then (turn_of m' s') l)
     turn_follows W k l goes s s' n zero m' is is' h =
-        stops_short W s _ (subst (λ u. Front u (last (and_then (turn_of m' s') l)).trace) n.trace
+        stops_short W s _ (subst (λ u. IsPrefix u (last (and_then (turn_of m' s') l)).trace) n.trace
         (then_goes s' (turn_of m' s') l (turn_of_goes m' s' is') goes).grown.events)
     turn_follows W k l goes s s' n (suc m) zero is is' h = (let le = n.turns in absurd (omega (arith, le, is, is')))
     turn_follows W k l goes s s' n (suc m) (suc m') is is' h = (let le = n.turns in h _ _ (omega (arith, is))
@@ -242,7 +242,7 @@ module _ (main : ℕ) (t : List Event) (S' : ℕ → Bool) where
         pub stands : Stands s
 
       pub data Performs (V : Type 0) (o : Piece V) : Type 0 where
-        done : Front t (last o).trace → Front t (last left).trace → Performs V o
+        done : IsPrefix t (last o).trace → IsPrefix t (last left).trace → Performs V o
         here : (v : V) (s : State) → o ≡ Reached v s → Stands s → Performs V o
         stop : (end : RunEnd) (s : State) → o ≡ Stopped end s → BeyondIn end s left → Performs V o
 
@@ -250,14 +250,14 @@ module _ (main : ℕ) (t : List Event) (S' : ℕ → Bool) where
         pub performs : InLine t (last o).trace → Performs V o
 
       -- what is left goes on from where the first run stands
-      pub left_goes : (s : State) → Stands s → Front s.trace (last left).trace
+      pub left_goes : (s : State) → Stands s → IsPrefix s.trace (last left).trace
       left_goes s x = grind arith
 
       then_performs : (V W : Type 0) (s : State) (o : Piece V) (k : V → State → Piece W) → Gone s o →
           ((v : V) → Goes (k v)) →
           ((v : V) (x : State) → Grown s x → Stands x → InLine t (last (k v x)).trace → Performs W (k v x)) →
           InLine t (last (and_then o k)).trace → Performs V o → Performs W (and_then o k)
-      then_performs V W s o k g goes h along (done a b) = done (then_front t o k goes a) b
+      then_performs V W s o k g goes h along (done a b) = done (then_prefix t o k goes a) b
       then_performs V W s o k g goes h along (here v x is stands) = subst (λ y. Performs W (and_then y k)) (sym is)
           (h v x (subst (λ y. Grown s (last y)) is g.grown) stands
           (subst (λ y. InLine t (last (and_then y k)).trace) is along))
@@ -266,7 +266,7 @@ module _ (main : ℕ) (t : List Event) (S' : ℕ → Bool) where
       -- the first stops without a turn
       pub stops_here : (V : Type 0) (s y : State) → y.trace ≡ s.trace → Stands s → Performs V (Stopped TurnsOut y)
       stops_here V s y is x = stop TurnsOut y refl (record {
-        front = subst (λ u. Front u (last left).trace) (sym is) (left_goes s x);
+        prefix = subst (λ u. IsPrefix u (last left).trace) (sym is) (left_goes s x);
         agreed = no_blame _ _ _;
         passed = no_blame _ _ _;
       })
@@ -275,7 +275,7 @@ module _ (main : ℕ) (t : List Event) (S' : ℕ → Bool) where
       pub blamed_here : (V : Type 0) (comp : ℕ) (cause : Cause) (line : ℕ) (s : State) → S' comp ≡ true → Stands s →
           MovesOrReturns s.trace left → Performs V (Stopped (Blamed comp cause line) s)
       blamed_here V comp cause line s set x by = stop _ s refl (record {
-        front = left_goes s x;
+        prefix = left_goes s x;
         agreed = λ c cause' line' blame clear.
             (let same : comp ≡ c = cc in absurd (both_ways (S' c) clear (ap S' (sym same) ∙ set)));
         passed = λ c cause line blame set. by;

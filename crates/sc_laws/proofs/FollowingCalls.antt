@@ -1,6 +1,6 @@
 -- Calls in two runs along one trace, of which the second has more compartments that perform their parts of it.
-use Rattle.sc_laws.proofs.Common.{Action, BadType, Body, Bool, Call, CallTarget, Cross, Event, Export, Front, Function}
-use Rattle.sc_laws.proofs.Common.{Goes, Gone, Here, In, Input, IsFixed, Library, List, Meets, None, Option, Out, Output}
+use Rattle.sc_laws.proofs.Common.{Action, BadType, Body, Bool, Call, CallTarget, Cross, Event, Export, IsPrefix, Function}
+use Rattle.sc_laws.proofs.Common.{Goes, Gone, Here, In, Input, IsFixed, Denotations, List, Meets, None, Option, Out, Output}
 use Rattle.sc_laws.proofs.Common.{Own, Piece, Proto, Reached, Ret, Row, Some, Standing, State, Step, Stopped, TurnsOut}
 use Rattle.sc_laws.proofs.Common.{Value, Word, [], action_of, acts, and_from, and_parts, and_then, ap, ap₂, arith, asks}
 use Rattle.sc_laws.proofs.Common.{at_start, back_cross, begun, blocks_for, both_ways, call_cross, call_own, called}
@@ -8,16 +8,16 @@ use Rattle.sc_laws.proofs.Common.{calls, crossed, crossing, done, drop, ended, e
 use Rattle.sc_laws.proofs.Common.{found, function, if◌then◌else◌, imports, is_number, is_output, is_word, last, length}
 use Rattle.sc_laws.proofs.Common.{list_all, map, may_call, next_input, now, option_value, performer, performs}
 use Rattle.sc_laws.proofs.Common.{read_input, refl, roles_in, rows_left, run_in, run_step, scripted_step, stands_after}
-use Rattle.sc_laws.proofs.Common.{stands_behind, subst, suc, sym, takes, tell, true, turn, turn_of, within, word_in}
+use Rattle.sc_laws.proofs.Common.{stands_after_all, subst, suc, sym, takes, emit_event, true, turn, turn_of, within, word_in}
 use Rattle.sc_laws.proofs.Common.{zero, ℕ, ◌++◌, ◌∙◌, ◌∷◌, ◌≡◌}
 use Rattle.sc_event.specs.declared.row.Action.TheVariants as act
-use Rattle.sc_laws.proofs.Growing.{front_same, front_more, more, reached, stays, no_turn, earlier, then_goes, BodyGoes}
-use Rattle.sc_laws.proofs.Growing.{done_goes, own_goes, cross_goes, back_goes, calls_go, performs_go, LibraryGoes}
-use Rattle.sc_laws.proofs.Growing.{run_step_goes, scripted_goes, asks_is, asks_go, run_goes, then_front}
-use Rattle.sc_laws.proofs.Twins.{CallsTwins, FunctionTwins, LibraryTwins}
-use Rattle.sc_laws.proofs.Rows.{InLine, in_line_before, NextIs, over, next_told_is, Next, row_of_next, rows_behind}
-use Rattle.sc_laws.proofs.Rows.{told as next_told, then_along}
-use Rattle.sc_laws.proofs.Following.{Abreast, Beyond, KeepsUp, Keeping, near_blocks, near_tell, whole, beyond_then}
+use Rattle.sc_laws.proofs.Growing.{prefix_same, prefix_more, more, reached, stays, no_turn, earlier, then_goes, BodyGoes}
+use Rattle.sc_laws.proofs.Growing.{done_goes, own_goes, cross_goes, back_goes, calls_go, performs_go, DenotationsGo}
+use Rattle.sc_laws.proofs.Growing.{run_step_goes, scripted_goes, asks_is, asks_go, run_goes, then_prefix}
+use Rattle.sc_laws.proofs.Related.{RelatedCalls, RelatedFunctions, RelatedDenotations}
+use Rattle.sc_laws.proofs.Rows.{InLine, in_line_before, NextIs, over, next_emitted_is, Next, row_of_next, rows_after}
+use Rattle.sc_laws.proofs.Rows.{emitted as next_emitted, then_along}
+use Rattle.sc_laws.proofs.Following.{Abreast, Beyond, KeepsUp, Keeping, near_blocks, near_emit, whole, beyond_then}
 use Rattle.sc_laws.proofs.Following.{follow_kept, Stands, OneSided, Performs, Perform, left_goes, perform_kept}
 use Rattle.sc_laws.proofs.Following.{stands_stored, MovesOrReturns, beyond_back, beyond_in, KeepsUp as follows}
 use Rattle.sc_laws.proofs.Following.{Performs as performing, MovesOn as passed, MovesOrReturns as passing, near_with}
@@ -46,7 +46,7 @@ as_many [] = refl
 as_many (v ∷ args) = ap suc (as_many args)
 
 -- a compartment that performs in the first run does in the second
-module _ (L : Library) (main : ℕ) (t : List Event) (S S' : ℕ → Bool) (larger : (c : ℕ) → S c ≡ true → S' c ≡ true) where
+module _ (L : Denotations) (main : ℕ) (t : List Event) (S S' : ℕ → Bool) (larger : (c : ℕ) → S c ≡ true → S' c ≡ true) where
   abbrev pub first_step : Step
   first_step = scripted_step L (roles_in main S t) (run_step L)
 
@@ -67,13 +67,13 @@ module _ (L : Library) (main : ℕ) (t : List Event) (S S' : ℕ → Bool) (larg
   Up st o p = KeepsUp main t S' st (Option Value) o p
 
   -- what the denoted functions keep
-  abbrev TwinsFollow : Type 0
-  TwinsFollow = (st : Standing) → LibraryTwins (N st) (Keeping main t S' st) (λ h. S' h.comp ≡ false) L L
+  abbrev RelatedRunsFollow : Type 0
+  RelatedRunsFollow = (st : Standing) → RelatedDenotations (N st) (Keeping main t S' st) (λ h. S' h.comp ≡ false) L L
 
-  abbrev TwinsPerform : Type 0
-  TwinsPerform = (st : Standing) (left : Piece (Option Value)) (rest : State → Piece (Option Value))
+  abbrev RelatedRunsPerform : Type 0
+  RelatedRunsPerform = (st : Standing) (left : Piece (Option Value)) (rest : State → Piece (Option Value))
       (goes : Goes rest) → ((s : State) → Stands main t S' st left rest goes s →
-      MovesOrReturns main t S' s.trace left) → LibraryTwins
+      MovesOrReturns main t S' s.trace left) → RelatedDenotations
       (OneSided main t S' st left rest goes) (Perform main t S' st left rest goes) (λ h. S' h.comp ≡ true) L L
 
   -- a step, by whether the compartment performs
@@ -109,40 +109,40 @@ module _ (L : Library) (main : ℕ) (t : List Event) (S S' : ℕ → Bool) (larg
     performs_now k comp first s set = fixed k _ s ∙ role_is second S' k (at comp first) s true set
 
     -- THE NEXT ROW
-    pub record Telling (k comp first : ℕ) (e : Event) (s : State) : Type 0 where
+    pub record Emitting (k comp first : ℕ) (e : Event) (s : State) : Type 0 where
       pub rest : List Row
       pub left : rows_left (roles_in main S' t) comp (s.trace ++ e ∷ []) ≡ rest
       pub is : second k (at comp first) s ≡ acts L second (action_of e) (performs L second rest k (at comp first))
           (second k (at comp first)) comp s
 
     -- an event of a compartment that performs: the trace ends, or the second run emits it too
-    pub data Tells (k comp first : ℕ) (s s' : State) (e : Event) : Type 0 where
-      all_told : t ≡ s.trace → Tells k comp first s s' e
-      tells_it : (more : List Event) → t ≡ s.trace ++ e ∷ more → Telling k comp first e s' → Tells k comp first s s' e
+    pub data Emits (k comp first : ℕ) (s s' : State) (e : Event) : Type 0 where
+      all_emitted : t ≡ s.trace → Emits k comp first s s' e
+      emits_it : (more : List Event) → t ≡ s.trace ++ e ∷ more → Emitting k comp first e s' → Emits k comp first s s' e
 
-    pub tells_next : (k comp first : ℕ) (st : Standing) (s s' : State) (e : Event) → S' comp ≡ true →
+    pub emits_next : (k comp first : ℕ) (st : Standing) (s s' : State) (e : Event) → S' comp ≡ true →
         L.entered comp st.active.entry ≡ Some k → performer e ≡ comp → N st s s' → InLine t (s.trace ++ e ∷ []) →
-        Tells k comp first s s' e
-    tells_next k comp first st s s' e set is_k own n along = by_next (next_told_is t s.trace e n.front along) where
-      performs_next : (more : List Event) → t ≡ s'.trace ++ e ∷ more → Telling k comp first e s'
+        Emits k comp first s s' e
+    emits_next k comp first st s s' e set is_k own n along = by_next (next_emitted_is t s.trace e n.prefix along) where
+      performs_next : (more : List Event) → t ≡ s'.trace ++ e ∷ more → Emitting k comp first e s'
       performs_next more is =
-          let stands = ap (stands_behind (at_start main)) n.trace ∙ n.stands in
+          let stands = ap (stands_after_all (at_start main)) n.trace ∙ n.stands in
           let next : Next _ st e = row_of_next main comp t s'.trace e more st is stands own in
           let row : Row = record { entry = st.active.entry; number = next.number; action = action_of e } in
           let doing =
           acts L second (action_of e) (performs L second next.rest k _) (second k (at comp first)) comp s' in
           record {
             rest = next.rest;
-            left = rows_behind main comp t s'.trace e st own next;
+            left = rows_after main comp t s'.trace e st own next;
             is = performs_now k comp first s' set ∙ ap (λ rows. performs L second rows k (at comp first) s') next.is
                 ∙ ap (λ n. if is_number k n then doing else Stopped TurnsOut s') is_k
                 ∙ ap (λ b. if b then doing else Stopped TurnsOut s') (eq-eqb k k refl);
           }
 
-      by_next : NextIs t s.trace e → Tells k comp first s s' e
-      by_next (over all) = all_told all
-      by_next (next_told more all) =
-          tells_it more all (performs_next more (all ∙ ap (λ u. u ++ e ∷ more) (sym n.trace)))
+      by_next : NextIs t s.trace e → Emits k comp first s s' e
+      by_next (over all) = all_emitted all
+      by_next (next_emitted more all) =
+          emits_it more all (performs_next more (all ∙ ap (λ u. u ++ e ∷ more) (sym n.trace)))
 
     -- a function that performs emits an event more, wants a turn or a row for it, or returns
     abbrev Passes : State → Piece (Option Value) → Type 0
@@ -154,7 +154,7 @@ module _ (L : Library) (main : ℕ) (t : List Event) (S S' : ℕ → Bool) (larg
     -- a call emits its event, or there is no turn or no function for it
     data Asked (e : Event) (u : List Event) (o : Piece (Option Value)) : Type 0 where
       silent : (y : State) → o ≡ Stopped TurnsOut y → y.trace ≡ u → Asked e u o
-      loud : Front (u ++ e ∷ []) (last o).trace → Asked e u o
+      loud : IsPrefix (u ++ e ∷ []) (last o).trace → Asked e u o
 
     cross_asked : (body : Body) → BodyGoes body → (comp to index : ℕ) (args : List Value) (s : State) (m : ℕ) →
         Asked (Call comp to index (map word_in args)) s.trace
@@ -163,7 +163,7 @@ module _ (L : Library) (main : ℕ) (t : List Event) (S S' : ℕ → Bool) (larg
     cross_asked body goes comp to index args s (suc m) = by_number (L.entered to (Export index)) where
       by_number : (number : Option ℕ) → Asked (Call comp to index (map word_in args)) s.trace
           (and_then (found number (record s { turns = m })) (λ number s. run_in L body to number (crossed args)
-          (back_cross L.interfaces comp to index) (tell (Call comp to index (map word_in args)) s)))
+          (back_cross L.interfaces comp to index) (emit_event (Call comp to index (map word_in args)) s)))
       by_number None = silent (record s { turns = m }) refl refl
       by_number (Some number) = loud (run_goes L body goes to number _
           (back_cross L.interfaces comp to index) (back_goes L.interfaces comp to index) _).grown.events
@@ -177,8 +177,8 @@ module _ (L : Library) (main : ℕ) (t : List Event) (S S' : ℕ → Bool) (larg
           by_test : (b : Bool) → Asked e s.trace (called L second comp target args s) →
               Passes s (and_then (if b then called L second comp target args s else Stopped TurnsOut s) k)
           by_test true (silent y stops trace) = passing.passes (passed.no_turn y (ap (λ o. and_then o k) stops) trace)
-          by_test true (loud front) = passing.passes (passed.longer e (then_front (s.trace ++ e ∷ [])
-              (called L second comp target args s) k goes front))
+          by_test true (loud prefix) = passing.passes (passed.longer e (then_prefix (s.trace ++ e ∷ [])
+              (called L second comp target args s) k goes prefix))
           by_test false h = halts s
 
     action_passes : (action : Action) (k comp first : ℕ) (next : State → Piece (Option Value)) → Goes next →
@@ -189,9 +189,9 @@ module _ (L : Library) (main : ℕ) (t : List Event) (S S' : ℕ → Bool) (larg
         (λ v. second_goes k (at comp first)) (cross_asked second second_goes comp to index args s s.turns)
     action_passes (act.Ret v) k comp first next goes s = passing.hands_back _ s refl refl
     action_passes (act.Out w) k comp first next goes s =
-        asks_pass comp Output (Word w ∷ []) (Out comp w) s (λ v. next) (λ v. goes) (loud (front_same _))
+        asks_pass comp Output (Word w ∷ []) (Out comp w) s (λ v. next) (λ v. goes) (loud (prefix_same _))
     action_passes (act.In w) k comp first next goes s =
-        asks_pass comp Input [] (In comp _) s (λ v. next) (λ v. goes) (loud (front_same _))
+        asks_pass comp Input [] (In comp _) s (λ v. next) (λ v. goes) (loud (prefix_same _))
     action_passes (act.End w) k comp first next goes s = passing.hands_back _ s refl refl
 
     rows_pass : (rows : List Row) (k comp first : ℕ) (s : State) → Passes s (performs L second rows k (at comp first) s)
@@ -231,51 +231,51 @@ module _ (L : Library) (main : ℕ) (t : List Event) (S S' : ℕ → Bool) (larg
         record { active = record { comp = to; entry = Export index }; waiting = st.active ∷ st.waiting }
 
     -- the whole trace is emitted before this event
-    abbrev past : (u : List Event) (e : Event) → t ≡ u → Front t (u ++ e ∷ [])
+    abbrev past : (u : List Event) (e : Event) → t ≡ u → IsPrefix t (u ++ e ∷ [])
     past u e is = whole main t S' u (u ++ e ∷ []) is (record { more = e ∷ []; is = refl })
 
     -- an event in both, and what follows it
-    tells : (V : Type 0) (st after : Standing) (y y' : State) (e : Event) (o p : Piece V) →
-        stands_after st e ≡ Some after → N st y y' → Front (y.trace ++ e ∷ []) (last o).trace →
-        Front (y'.trace ++ e ∷ []) (last p).trace →
-        (N after (tell e y) (tell e y') → Keeping main t S' st V o p) → Keeping main t S' st V o p
-    tells V st after y y' e o p moves n front front' go = record {
+    emits_trace : (V : Type 0) (st after : Standing) (y y' : State) (e : Event) (o p : Piece V) →
+        stands_after st e ≡ Some after → N st y y' → IsPrefix (y.trace ++ e ∷ []) (last o).trace →
+        IsPrefix (y'.trace ++ e ∷ []) (last p).trace →
+        (N after (emit_event e y) (emit_event e y') → Keeping main t S' st V o p) → Keeping main t S' st V o p
+    emits_trace V st after y y' e o p moves n prefix prefix' go = record {
       follows = λ along.
-          by_next (next_told_is t y.trace e n.front (in_line_before t _ (last o).trace front along)) along;
+          by_next (next_emitted_is t y.trace e n.prefix (in_line_before t _ (last o).trace prefix along)) along;
     } where
       by_next : NextIs t y.trace e → InLine t (last o).trace → KeepsUp main t S' st V o p
       by_next (over all) along = follows.done
-          (front_more t (y.trace ++ e ∷ []) (last o).trace (past y.trace e all) front)
-          (front_more t (y'.trace ++ e ∷ []) (last p).trace (past y'.trace e (all ∙ sym n.trace)) front')
-      by_next (next_told more all) along = (go (near_tell main t S' st after y y' e more moves all n)).follows along
+          (prefix_more t (y.trace ++ e ∷ []) (last o).trace (past y.trace e all) prefix)
+          (prefix_more t (y'.trace ++ e ∷ []) (last p).trace (past y'.trace e (all ∙ sym n.trace)) prefix')
+      by_next (next_emitted more all) along = (go (near_emit main t S' st after y y' e more moves all n)).follows along
 
     module _ (st : Standing) (from to index : ℕ) (f : Function) (first : ℕ) where
       -- what the call does at its end, and what it emits then
       abbrev ends : Option Value → State → Piece (Option Value)
       ends = returns to from index f first
 
-      abbrev told : Option Value → Event
-      told v = Ret to from (back to index v)
+      abbrev emitted : Option Value → Event
+      emitted v = Ret to from (back to index v)
 
-      ended_near : (first' : ℕ) (u u' : State) (v : Option Value) (more : List Event) → t ≡ u.trace ++ told v ∷ more →
+      ended_near : (first' : ℕ) (u u' : State) (v : Option Value) (more : List Event) → t ≡ u.trace ++ emitted v ∷ more →
           (S' to ≡ false → ended first' (length f.cells) (u'.memory to) ≡ ended first (length f.cells) (u.memory to)) →
-          N (inside st to index) u u' → N st (tell (told v) (done to f first u)) (tell (told v) (done to f first' u'))
-      ended_near first' u u' v more all same near = near_tell main t S' (inside st to index) st (done to f first u)
-          (done to f first' u') (told v) more refl all (near_blocks main t S' _ u u' to _ _ _ _ same near)
+          N (inside st to index) u u' → N st (emit_event (emitted v) (done to f first u)) (emit_event (emitted v) (done to f first' u'))
+      ended_near first' u u' v more all same near = near_emit main t S' (inside st to index) st (done to f first u)
+          (done to f first' u') (emitted v) more refl all (near_blocks main t S' _ u u' to _ _ _ _ same near)
 
       both_return : (o p : Piece (Option Value)) → InLine t (last (and_then o ends)).trace →
           Up (inside st to index) o p → Up st (and_then o ends) (and_then p ends)
       both_return o p along (follows.done a b) = follows.done
-          (then_front t o ends (returns_goes to from index f first) a)
-          (then_front t p ends (returns_goes to from index f first) b)
+          (then_prefix t o ends (returns_goes to from index f first) a)
+          (then_prefix t p ends (returns_goes to from index f first) b)
       both_return o p along (follows.both v u u' is is' near) =
           subst (λ y. Up st (and_then y ends) (and_then p ends)) (sym is)
-          (subst (λ y. Up st (ends v u) (and_then y ends)) (sym is') (told_both (next_told_is t u.trace (told v)
-          near.front (subst (λ y. InLine t (last (and_then y ends)).trace) is along)))) where
-            told_both : NextIs t u.trace (told v) → Up st (ends v u) (ends v u')
-            told_both (over all) =
-                follows.done (past u.trace (told v) all) (past u'.trace (told v) (all ∙ sym near.trace))
-            told_both (next_told more all) = follows.both (option_value (back to index v)) _ _ refl refl (ended_near
+          (subst (λ y. Up st (ends v u) (and_then y ends)) (sym is') (emitted_both (next_emitted_is t u.trace (emitted v)
+          near.prefix (subst (λ y. InLine t (last (and_then y ends)).trace) is along)))) where
+            emitted_both : NextIs t u.trace (emitted v) → Up st (ends v u) (ends v u')
+            emitted_both (over all) =
+                follows.done (past u.trace (emitted v) all) (past u'.trace (emitted v) (all ∙ sym near.trace))
+            emitted_both (next_emitted more all) = follows.both (option_value (back to index v)) _ _ refl refl (ended_near
                 first u u' v more all (λ clear. ap (ended first (length f.cells)) (near.memory to clear)) near)
       both_return o p along (follows.stop end x is by) = follows.stop end x (ap (λ y. and_then y ends) is)
           (beyond_then main t S' (Option Value) (Option Value) end x p ends (returns_goes to from index f first) by)
@@ -289,29 +289,29 @@ module _ (L : Library) (main : ℕ) (t : List Event) (S S' : ℕ → Bool) (larg
             InLine t (last (and_then o ends)).trace → Performs main t S' (inside st to index) left (Onward k to first')
             (second_goes k (at to first')) (Option Value) o → Up st (and_then o ends) (and_then left ends')
         held_return k o left set is_k along (performing.done a b) = follows.done
-            (then_front t o ends (returns_goes to from index f first) a)
-            (then_front t left ends' (returns_goes to from index f first') b)
+            (then_prefix t o ends (returns_goes to from index f first) a)
+            (then_prefix t left ends' (returns_goes to from index f first') b)
         held_return k o left set is_k along (performing.here v u is stands) =
-            subst (λ y. Up st (and_then y ends) (and_then left ends')) (sym is) (told_held (tells_next k to first'
-            (inside st to index) u stands.other (told v) set is_k refl stands.near
+            subst (λ y. Up st (and_then y ends) (and_then left ends')) (sym is) (emitted_held (emits_next k to first'
+            (inside st to index) u stands.other (emitted v) set is_k refl stands.near
             (subst (λ y. InLine t (last (and_then y ends)).trace) is along))) where
-              told_held : Tells k to first' u stands.other (told v) → Up st (ends v u) (and_then left ends')
-              told_held (all_told all) =
-                  follows.done (past u.trace (told v) all) (whole main t S' u.trace _ all (then_front u.trace left ends'
+              emitted_held : Emits k to first' u stands.other (emitted v) → Up st (ends v u) (and_then left ends')
+              emitted_held (all_emitted all) =
+                  follows.done (past u.trace (emitted v) all) (whole main t S' u.trace _ all (then_prefix u.trace left ends'
                   (returns_goes to from index f first') (left_goes main t S' (inside st to index) left
                   (Onward k to first') (second_goes k (at to first')) u stands)))
-              told_held (tells_it more all now) = follows.both (option_value (back to index v)) _ _ refl
-                  (ap (λ y. and_then y ends') (stands.is ∙ now.is) ∙ ap (λ w. Reached (option_value w) (tell (Ret to
+              emitted_held (emits_it more all now) = follows.both (option_value (back to index v)) _ _ refl
+                  (ap (λ y. and_then y ends') (stands.is ∙ now.is) ∙ ap (λ w. Reached (option_value w) (emit_event (Ret to
                   from w) (done to f first' stands.other))) (crossing_stays (export_at L.interfaces to index) v))
                   (ended_near first' u stands.other v more all (λ clear. absurd (both_ways _ clear set)) stands.near)
         held_return k o left set is_k along (performing.stop end x is by) =
             follows.stop end x (ap (λ y. and_then y ends) is) (beyond_back main t S' (Option Value) end x left ends'
-            (returns_goes to from index f first') (λ v u. (told v, front_same (u.trace ++ told v ∷ []))) by)
+            (returns_goes to from index f first') (λ v u. (emitted v, prefix_same (u.trace ++ emitted v ∷ []))) by)
 
     module _ (a : Body) (bodies : Bodies a) where
       -- the call once the function is found: its variables and its frame are there, and the call is emitted
       abbrev starts : (from to index : ℕ) → List Value → Function → State → State
-      starts from to index args f s = begun to f (crossed args) (tell (Call from to index (map word_in args)) s)
+      starts from to index args f s = begun to f (crossed args) (emit_event (Call from to index (map word_in args)) s)
 
       abbrev enters : Body → (from to index number : ℕ) → List Value → Function → State → Piece (Option Value)
       enters body from to index number args f s =
@@ -365,7 +365,7 @@ module _ (L : Library) (main : ℕ) (t : List Event) (S S' : ℕ → Bool) (larg
             ((bodies.plain number (at to first) (inside st to index) x x' clear near).follows (along_inside along)))
 
         enters_follow : F st run run'
-        enters_follow = tells (Option Value) st (inside st to index) s s' event run run' refl n
+        enters_follow = emits_trace (Option Value) st (inside st to index) s s' event run run' refl n
             (enters_goes a bodies.goes from to index number args f s).grown.events
             (enters_goes second second_goes from to index number args f s').grown.events
             (λ near. record {
@@ -384,7 +384,7 @@ module _ (L : Library) (main : ℕ) (t : List Event) (S S' : ℕ → Bool) (larg
           F st (call_cross L a from to index args s) (call_cross L second from to index args s')
       cross_follows from to index args st s s' n = found_follow (L.entered to _) _ _ st s s' n.trace (λ number is.
           let event : Event = Call from to index (map word_in args) in
-          found_follow (function L to number) _ _ st (tell event s) (tell event s')
+          found_follow (function L to number) _ _ st (emit_event event s) (emit_event event s')
           (ap (λ u. u ++ event ∷ []) n.trace) (λ f there. enters_follow from to index number args f is st s s' n))
 
       if_follows : (b : Bool) (st : Standing) (o o' p p' : Piece (Option Value)) → F st o o' → F st p p' →
@@ -432,11 +432,11 @@ module _ (L : Library) (main : ℕ) (t : List Event) (S S' : ℕ → Bool) (larg
           (λ y y' less less' near. own_follows here.comp number args clear st y y' near)
       both_called here clear st (Cross to index) args s s' n = turned_follows _ to index args st s s' n
       both_called here clear st Input args s s' n = subst (λ i. F st (called L a here.comp Input args s)
-          (Reached (Some (Word (next_input i))) (tell (In here.comp (next_input i)) (taken s')))) (sym n.inputs)
-          (tells _ st st (taken s) (taken s') (In _ (next_input s.inputs)) _ _ refl (taken_near st s s' n)
-          (front_same _) (front_same _) (λ near. (follow_kept main t S' st).reached (Option Value) _ _ _ near))
-      both_called here clear st Output args s s' n = tells _ st st s s' (Out here.comp _) _ _ refl n (front_same _)
-          (front_same _) (λ near. (follow_kept main t S' st).reached (Option Value) None _ _ near)
+          (Reached (Some (Word (next_input i))) (emit_event (In here.comp (next_input i)) (taken s')))) (sym n.inputs)
+          (emits_trace _ st st (taken s) (taken s') (In _ (next_input s.inputs)) _ _ refl (taken_near st s s' n)
+          (prefix_same _) (prefix_same _) (λ near. (follow_kept main t S' st).reached (Option Value) _ _ _ near))
+      both_called here clear st Output args s s' n = emits_trace _ st st s s' (Out here.comp _) _ _ refl n (prefix_same _)
+          (prefix_same _) (λ near. (follow_kept main t S' st).reached (Option Value) None _ _ near)
 
       both_calls : (here : Here) → S' here.comp ≡ false →
           (st : Standing) (target : CallTarget) (args : List Value) (s s' : State) → N st s s' →
@@ -446,7 +446,7 @@ module _ (L : Library) (main : ℕ) (t : List Event) (S S' : ℕ → Bool) (larg
           (both_blamed main t S' st (Option Value) here.comp BadType 0 s s' clear n.trace)
 
       -- calls of a compartment that performs in neither run
-      pub calls_follow : (here : Here) → S' here.comp ≡ false → (st : Standing) → CallsTwins (Abreast main t S' st)
+      pub calls_follow : (here : Here) → S' here.comp ≡ false → (st : Standing) → RelatedCalls (Abreast main t S' st)
           (Keeping main t S' st) (λ h. S' h.comp ≡ false) here.comp (calls L a) (calls L second)
       calls_follow here clear st target args =
           record {
@@ -485,8 +485,8 @@ module _ (L : Library) (main : ℕ) (t : List Event) (S S' : ℕ → Bool) (larg
         rows_now u rows is =
             sym (performs_now k comp theirs u set ∙ ap (λ rows. performs L second rows k (at comp theirs) u) is)
 
-        behind : (s : State) → H s → Front s.trace (last left).trace
-        behind s h = left_goes main t S' st left rest _ s h
+        following : (s : State) → H s → IsPrefix s.trace (last left).trace
+        following s h = left_goes main t S' st left rest _ s h
 
         stopped : (s : State) → H s → Done (Stopped TurnsOut s)
         stopped s h = stops_here main t S' st left rest rest_goes (Option Value) s s refl h
@@ -503,23 +503,23 @@ module _ (L : Library) (main : ℕ) (t : List Event) (S S' : ℕ → Bool) (larg
         event_performs : (e : Event) (v : Option Value) (inputs inputs' : List ℕ) (s : State) (h : H s) →
             performer e ≡ comp → stands_after st e ≡ Some st → N st (record s { inputs = inputs })
             (record h.other { inputs = inputs' }) → ((next : State → Piece (Option Value)) →
-            acts L second (action_of e) next rest comp h.other ≡ next (tell e (record h.other { inputs = inputs' }))) →
-            InLine t (s.trace ++ e ∷ []) → Done (Reached v (tell e (record s { inputs = inputs })))
+            acts L second (action_of e) next rest comp h.other ≡ next (emit_event e (record h.other { inputs = inputs' }))) →
+            InLine t (s.trace ++ e ∷ []) → Done (Reached v (emit_event e (record s { inputs = inputs })))
         event_performs e v inputs inputs' s h own stays near acted along =
-            by_tells (tells_next k comp theirs st s h.other e set is_k own h.near along) where
-              by_tells : Tells k comp theirs s h.other e → Done (Reached v (tell e (record s { inputs = inputs })))
-              by_tells (all_told all) =
-                  performing.done (past s.trace e all) (whole main t S' s.trace (last left).trace all (behind s h))
-              by_tells (tells_it more all act) = performing.here v _ refl (record {
-                other = tell e (record h.other { inputs = inputs' });
-                near = near_tell main t S' st st (record s { inputs = inputs }) _ e more stays all near;
+            by_emits (emits_next k comp theirs st s h.other e set is_k own h.near along) where
+              by_emits : Emits k comp theirs s h.other e → Done (Reached v (emit_event e (record s { inputs = inputs })))
+              by_emits (all_emitted all) =
+                  performing.done (past s.trace e all) (whole main t S' s.trace (last left).trace all (following s h))
+              by_emits (emits_it more all act) = performing.here v _ refl (record {
+                other = emit_event e (record h.other { inputs = inputs' });
+                near = near_emit main t S' st st (record s { inputs = inputs }) _ e more stays all near;
                 is = h.is ∙ act.is ∙ acted (performs L second act.rest k (at comp theirs))
-                    ∙ rows_now (tell e (record h.other { inputs = inputs' })) act.rest act.left;
+                    ∙ rows_now (emit_event e (record h.other { inputs = inputs' })) act.rest act.left;
               })
 
         output_performs : (args : List Value) (s : State) → H s → may Output args ≡ true →
             InLine t (s.trace ++ Out comp (first_word args) ∷ []) →
-            Done (Reached None (tell (Out comp (first_word args)) s))
+            Done (Reached None (emit_event (Out comp (first_word args)) s))
         output_performs args s h allowed = event_performs (Out comp (first_word args)) None s.inputs h.other.inputs s h
             refl refl h.near (λ next. ap (λ o. and_then o (λ v. next)) (asks_allowed Output
             (Word (first_word args) ∷ []) h.other (and_from (imports L.interfaces comp is_output) true
@@ -531,7 +531,7 @@ module _ (L : Library) (main : ℕ) (t : List Event) (S S' : ℕ → Bool) (larg
         input_performs args s h allowed = event_performs (In comp (next_input s.inputs)) _ (drop 1 s.inputs)
             (drop 1 h.other.inputs) s h refl refl (taken_near st s h.other h.near)
             (λ next. ap (λ o. and_then o (λ v. next)) (asks_allowed Input [] h.other allowed)
-            ∙ ap (λ i. next (tell (In comp (next_input i)) (taken h.other))) h.near.inputs)
+            ∙ ap (λ i. next (emit_event (In comp (next_input i)) (taken h.other))) h.near.inputs)
 
         -- a call with the words of a row is the call with the values that they come of
         words_may : (to index : ℕ) (args : List Value) → may (Cross to index) args ≡ true →
@@ -550,7 +550,7 @@ module _ (L : Library) (main : ℕ) (t : List Event) (S S' : ℕ → Bool) (larg
         recalled to index args u allowed = asks_allowed (Cross to index) (map _ _) u (words_may to index args allowed) ∙
             ap₂ (λ values words. and_then (turn u) (λ _ s. and_then (found (L.entered to (Export index)) s) (λ number s.
             run_in L second to number values (back_cross L.interfaces comp to index)
-            (tell (Call comp to index words) s)))) (crossed_again args) (words_again _)
+            (emit_event (Call comp to index words) s)))) (crossed_again args) (words_again _)
 
         module _ (to index : ℕ) (args : List Value) (s : State) (h : H s) where
           abbrev calling : Event
@@ -564,7 +564,7 @@ module _ (L : Library) (main : ℕ) (t : List Event) (S S' : ℕ → Bool) (larg
 
           by_follows : left ≡ and_then p (λ v. rest) → Up st o p → Done o
           by_follows is (follows.done x y) = performing.done x
-              (subst (λ z. Front t (last z).trace) (sym is) (then_front t p (λ v. rest) (λ v. rest_goes) y))
+              (subst (λ z. IsPrefix t (last z).trace) (sym is) (then_prefix t p (λ v. rest) (λ v. rest_goes) y))
           by_follows is (follows.both v y y' at_y at_y' near) = performing.here v y at_y
               (record { other = y'; near = near; is = is ∙ ap (λ z. and_then z (λ v. rest)) at_y' })
           by_follows is (follows.stop end y at_y by) = performing.stop end y at_y (beyond_in main t S' end y left
@@ -572,17 +572,17 @@ module _ (L : Library) (main : ℕ) (t : List Event) (S S' : ℕ → Bool) (larg
               (beyond_then main t S' (Option Value) (Option Value) end y p (λ v. rest) (λ v. rest_goes) by)))
 
           cross_performs : may (Cross to index) args ≡ true → InLine t (last o).trace → Done o
-          cross_performs allowed along = by_told (cross_asked a bodies.goes comp to index args s s.turns) where
-            by_told : Asked calling s.trace o → Done o
-            by_told (silent y stops trace) = subst Done (sym stops)
+          cross_performs allowed along = by_emitted (cross_asked a bodies.goes comp to index args s s.turns) where
+            by_emitted : Asked calling s.trace o → Done o
+            by_emitted (silent y stops trace) = subst Done (sym stops)
                 (stops_here main t S' st left rest rest_goes (Option Value) s y trace h)
-            by_told (loud front) = by_tells (tells_next k comp theirs st s h.other calling set is_k refl h.near
-                (in_line_before t (s.trace ++ calling ∷ []) (last o).trace front along)) where
-                  by_tells : Tells k comp theirs s h.other calling → Done o
-                  by_tells (all_told all) = performing.done
-                      (front_more t (s.trace ++ calling ∷ []) (last o).trace (past s.trace calling all) front)
-                      (whole main t S' s.trace (last left).trace all (behind s h))
-                  by_tells (tells_it more all act) = by_follows
+            by_emitted (loud prefix) = by_emits (emits_next k comp theirs st s h.other calling set is_k refl h.near
+                (in_line_before t (s.trace ++ calling ∷ []) (last o).trace prefix along)) where
+                  by_emits : Emits k comp theirs s h.other calling → Done o
+                  by_emits (all_emitted all) = performing.done
+                      (prefix_more t (s.trace ++ calling ∷ []) (last o).trace (past s.trace calling all) prefix)
+                      (whole main t S' s.trace (last left).trace all (following s h))
+                  by_emits (emits_it more all act) = by_follows
                       (h.is ∙ act.is ∙ ap (λ o. and_then o (λ v. rest)) (recalled to index args h.other allowed))
                       ((turned_follows comp to index args st s h.other h.near).follows along)
 
@@ -637,7 +637,7 @@ module _ (L : Library) (main : ℕ) (t : List Event) (S S' : ℕ → Bool) (larg
             (allowed_performs target args s s' one) (blamed_here main t S' st left rest rest_goes (Option Value) comp
             BadType 0 s set one.stands (held_passes st k comp theirs left set s one.stands))
 
-        pub calls_perform : CallsTwins One Pieces (λ h. S' h.comp ≡ true) comp (calls L a) (calls L a)
+        pub calls_perform : RelatedCalls One Pieces (λ h. S' h.comp ≡ true) comp (calls L a) (calls L a)
         calls_perform target args = record {
           first = calls_go L a bodies.goes comp target args;
           second = calls_go L a bodies.goes comp target args;
@@ -681,7 +681,7 @@ module _ (L : Library) (main : ℕ) (t : List Event) (S S' : ℕ → Bool) (larg
         }
 
         -- the function that it runs in the first
-        function_performs : (f g : Option Function) → Meets (FunctionTwins One Pieces (λ h. S' h.comp ≡ true)) f g →
+        function_performs : (f g : Option Function) → Meets (RelatedFunctions One Pieces (λ h. S' h.comp ≡ true)) f g →
             (mine : ℕ) (s : State) → H s →
             Keeps (and_then (found f s) (λ f s. f.does (calls L a) (at comp mine) s))
         function_performs None g meets mine s held = record { performs = λ along. stopped s held }
@@ -692,9 +692,9 @@ module _ (L : Library) (main : ℕ) (t : List Event) (S S' : ℕ → Bool) (larg
         function_performs _ None meets mine s held = absurd meets
 
       -- ONE STEP
-      module _ (library_goes : LibraryGoes L) (follow_twins : TwinsFollow) (perform_twins : TwinsPerform) where
+      module _ (denotations_go : DenotationsGo L) (follow_related : RelatedRunsFollow) (perform_related : RelatedRunsPerform) where
         runs_follow : (f g : Option Function) (st : Standing) →
-            Meets (FunctionTwins (Abreast main t S' st) (Keeping main t S' st) (λ h. S' h.comp ≡ false)) f g →
+            Meets (RelatedFunctions (Abreast main t S' st) (Keeping main t S' st) (λ h. S' h.comp ≡ false)) f g →
             (here : Here) → S' here.comp ≡ false → (s s' : State) → N st s s' →
             F st (and_then (found f s) (λ f s. f.does (calls L a) here s))
             (and_then (found g s') (λ f s. f.does (calls L second) here s))
@@ -711,7 +711,7 @@ module _ (L : Library) (main : ℕ) (t : List Event) (S S' : ℕ → Bool) (larg
         step_plain number here st s s' clear n =
             subst (λ x. F st x (second number here s')) (sym (role_is a S number here s false (smaller _ clear))) (subst
             (F st _) (sym (fixed number here s' ∙ role_is second S' number here s' false clear)) (runs_follow
-            (function L _ number) (function L _ number) st ((follow_twins st).functions _ number) here clear s s' n))
+            (function L _ number) (function L _ number) st ((follow_related st).functions _ number) here clear s s' n))
 
         step_resumes : (number comp mine k theirs : ℕ) (st : Standing) (left : Piece (Option Value)) (s : State) →
             S' comp ≡ true → L.entered comp st.active.entry ≡ Some k → Held st k comp theirs left s →
@@ -721,14 +721,14 @@ module _ (L : Library) (main : ℕ) (t : List Event) (S S' : ℕ → Bool) (larg
           performs_perform st k comp theirs
               left set is_k (rows_left (roles_in main S t) comp s.trace) number mine s h,
           function_performs st k comp
-              theirs left set is_k (function L comp number) (function L comp number) ((perform_twins st left _ _
+              theirs left set is_k (function L comp number) (function L comp number) ((perform_related st left _ _
               (held_passes st k comp theirs left set)).functions comp number) mine s h,
         )
 
         pub step_bodies : Bodies (first_step a)
         step_bodies = record {
           goes = scripted_goes L (roles_in main S t) (run_step L)
-              (λ body goes. run_step_goes L body goes library_goes) a bodies.goes;
+              (λ body goes. run_step_goes L body goes denotations_go) a bodies.goes;
           plain = step_plain;
           resumes = step_resumes;
         }
@@ -747,9 +747,9 @@ module _ (L : Library) (main : ℕ) (t : List Event) (S S' : ℕ → Bool) (larg
           stops_now : (number : ℕ) (here : Here) (st : Standing) (s s' : State) → N st s s' →
               F st (Stopped TurnsOut s) (second number here s')
           stops_now number here st s s' n = stops_short main t S' st (Option Value) s (second number here s') (subst
-              (λ u. Front u (last (second number here s')).trace) n.trace (second_goes number here s').grown.events)
+              (λ u. IsPrefix u (last (second number here s')).trace) n.trace (second_goes number here s').grown.events)
 
-    module _ (library_goes : LibraryGoes L) (follow_twins : TwinsFollow) (perform_twins : TwinsPerform) where
+    module _ (denotations_go : DenotationsGo L) (follow_related : RelatedRunsFollow) (perform_related : RelatedRunsPerform) where
       pub all_bodies : (n : ℕ) → Bodies (within first_step n)
       all_bodies zero = no_bodies
-      all_bodies (suc n) = step_bodies (within first_step n) (all_bodies n) library_goes follow_twins perform_twins
+      all_bodies (suc n) = step_bodies (within first_step n) (all_bodies n) denotations_go follow_related perform_related

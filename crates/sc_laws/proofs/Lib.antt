@@ -8,7 +8,7 @@ pub mod Following
 pub mod FollowingCalls
 pub mod FollowingRuns
 pub mod Growing
-pub mod Interactions
+pub mod InteractionTrees
 pub mod Keeping
 pub mod Legality
 pub mod Lines
@@ -16,11 +16,11 @@ pub mod Matching
 pub mod More
 pub mod Order
 pub mod ProgramLaws
-pub mod Rooms
+pub mod Depths
 pub mod Rows
 pub mod Runs
 pub mod Scripts
 pub mod Statements
 pub mod Turns
-pub mod Twins
+pub mod Related
 pub mod Wrapping

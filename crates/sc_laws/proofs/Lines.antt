@@ -1,6 +1,6 @@
 -- A program whose trees stand on other lines does the same up to the lines of blames.
 use Rattle.sc_laws.proofs.Common.{Acts, Arith, Bool, CallTarget, Calls, CallsAgree, Cause, Does, Each, Entry, Exit}
-use Rattle.sc_laws.proofs.Common.{Export, FunctionsAgree, Here, Inside, Left, LibrariesAgree, List, Local, Main, Next}
+use Rattle.sc_laws.proofs.Common.{Export, FunctionsAgree, Here, Inside, Left, DenotationsAgree, List, Local, Main, Next}
 use Rattle.sc_laws.proofs.Common.{None, Ok, Option, OtherLinesAgree, Piece, PiecesAgree, ProgramTree, Proto, Result}
 use Rattle.sc_laws.proofs.Common.{Route, RunsAgree, Some, State, TypedExpr, TypedFunction, TypedLocal, TypedSection}
 use Rattle.sc_laws.proofs.Common.{TypedSimple, TypedSimpleKind, TypedStmt, TypedStmt-F, TypedStmtKind, TypedStmtKind-F}
@@ -9,7 +9,7 @@ use Rattle.sc_laws.proofs.Common.{block_does, body_does, bytes_eq, call, cells_o
 use Rattle.sc_laws.proofs.Common.{entry_in, evaluated, everywhere, export_at, expr_nodes, first_blocks, fold-TypedStmt}
 use Rattle.sc_laws.proofs.Common.{fold-TypedStmtKind, follow, frame_bound, function_of, functions_in, globals_of}
 use Rattle.sc_laws.proofs.Common.{if◌then◌else◌, in_order, init_does, inits_do, kind_nodes, kind_step, layer_of, leave}
-use Rattle.sc_laws.proofs.Common.{length, length-map, library_of, local_nodes, loop, main_name, map, map-TypedStmtKind}
+use Rattle.sc_laws.proofs.Common.{length, length-map, denotations_of, local_nodes, loop, main_name, map, map-TypedStmtKind}
 use Rattle.sc_laws.proofs.Common.{nat_lt, nodes, not, on_line, part_does, part_nodes, place_named, place_of_export}
 use Rattle.sc_laws.proofs.Common.{position_or_len, refl, roll-TypedStmtKind, rounds, run_by, run_of, run_step}
 use Rattle.sc_laws.proofs.Common.{simple_does, slice_get, stmt_at, stmt_does, stmt_induction, stmt_nodes, stmt_step}
@@ -241,7 +241,7 @@ module _ (arith : Arith) (line_of : ℕ → ℕ) where
       FunctionsAgree (function_of arith main structs f) (function_of arith main structs (function_lined line_of f))
   function_agrees main structs f = record {
     cells = sym (function_cells line_of structs f);
-    room = ap₂ frame_bound (sym (function_cells line_of structs f)) (sym (function_nodes line_of f));
+    frame_size = ap₂ frame_bound (sym (function_cells line_of structs f)) (sym (function_nodes line_of f));
     does = λ C D calls here s. then_agree _ _ _ _ (body_agree here C D calls arith structs _ line_of f tt s) (λ left s.
         closed_agree here _ _ _ _ _ s);
   }
@@ -276,13 +276,13 @@ module _ (arith : Arith) (line_of : ℕ → ℕ) where
   same_entry program comp (Export index) = sym (ap (place_of_export _) (slice_get-map _ _ comp)
       ∙ same_export (export_at program.interfaces comp index) (slice_get _ comp))
 
-libraries_agree : (arith : Arith) (line_of : ℕ → ℕ) (program : ProgramTree) →
-    LibrariesAgree (library_of arith program) (library_of arith (program_lined line_of program))
-libraries_agree arith line_of program = record {
+denotations_agree : (arith : Arith) (line_of : ℕ → ℕ) (program : ProgramTree) →
+    DenotationsAgree (denotations_of arith program) (denotations_of arith (program_lined line_of program))
+denotations_agree arith line_of program = record {
   interfaces = refl;
   functions = λ comp number. meets_at FunctionsAgree _ _ number
-      (lists_at FunctionsAgree (library_of arith program).functions
-      (library_of arith (program_lined line_of program)).functions comp (sections_agree arith line_of _ _));
+      (lists_at FunctionsAgree (denotations_of arith program).functions
+      (denotations_of arith (program_lined line_of program)).functions comp (sections_agree arith line_of _ _));
   entered = same_entry arith line_of program;
 }
 
@@ -297,10 +297,10 @@ same_globals line_of sections comp = same_blocks line_of _ ∙ sym (ap first_blo
 
 pub other_lines_agree : OtherLinesAgree
 other_lines_agree = record {
-  libraries = libraries_agree;
+  any_denotations = denotations_agree;
   runs = λ arith line_of program inputs turns. subst (λ globals. RunsAgree (run_of arith program inputs turns) (run_by
-      (library_of arith (program_lined line_of program)) (run_step (library_of arith (program_lined line_of program)))
+      (denotations_of arith (program_lined line_of program)) (run_step (denotations_of arith (program_lined line_of program)))
       globals inputs turns)) (λ i comp. same_globals line_of program.sections comp i) (agreeing_run_alike.meaning
-      (library_of arith program) (library_of arith _) (libraries_agree arith line_of program) (globals_of _) inputs
+      (denotations_of arith program) (denotations_of arith _) (denotations_agree arith line_of program) (globals_of _) inputs
       turns);
 }

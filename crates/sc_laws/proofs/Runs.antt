@@ -1,6 +1,6 @@
 -- Whole runs: steps of the denotations of two programs, and what they come to when stopped at a number of events.
-use Rattle.sc_laws.proofs.Common.{AllFrom, Blamed, Bool, Cause, End, Ended, Event, EventsOut, FrameChange, Front}
-use Rattle.sc_laws.proofs.Common.{HasFixedPoint, Here, IsFixed, IsSteady, IsStop, LibrariesMatch, Library, List, Main}
+use Rattle.sc_laws.proofs.Common.{AllFrom, Blamed, Bool, Cause, End, Ended, Event, EventsOut, FrameChange, IsPrefix}
+use Rattle.sc_laws.proofs.Common.{HasFixedPoint, Here, IsFixed, IsSteady, IsStop, DenotationsMatch, Denotations, List, Main}
 use Rattle.sc_laws.proofs.Common.{Memory, Never, None, Obedient, Option, Piece, Reached, Roles, Run, RunEnd, Some}
 use Rattle.sc_laws.proofs.Common.{SourceRun, State, Step, Stopped, StopsSo, TurnsOut, Value, [], and_then, ap, arith}
 use Rattle.sc_laws.proofs.Common.{call_own, exit_word, false, first_state, found, if◌then◌else◌, inl, last, length}
@@ -8,27 +8,27 @@ use Rattle.sc_laws.proofs.Common.{length-append, now, reaches, refl, roles_run, 
 use Rattle.sc_laws.proofs.Common.{stopped_at, subst, suc, sym, take_all, true, within, zero, ℕ, ◌++◌, ◌+◌, ◌<◌, ◌∙◌}
 use Rattle.sc_laws.proofs.Common.{◌∷◌, ◌≡◌, ◌≤◌, ◌⊎◌}
 use Rattle.std.proofs.Common.{take}
-use Rattle.sc_laws.proofs.Growing.{front_more, front_no_longer, StepGoes, within_goes, run_step_goes, scripted_goes}
+use Rattle.sc_laws.proofs.Growing.{prefix_more, prefix_no_longer, StepGoes, within_goes, run_step_goes, scripted_goes}
 use Rattle.sc_laws.proofs.Growing.{BodyGoes}
-pub use Rattle.sc_laws.proofs.Growing.{front_no_longer as front_long}
-use Rattle.sc_laws.proofs.Twins.{Anywhere}
-use Rattle.sc_laws.proofs.Matching.{library_twins, first_goes, second_goes, idle, scripted_goes_on}
+pub use Rattle.sc_laws.proofs.Growing.{prefix_no_longer as prefix_long}
+use Rattle.sc_laws.proofs.Related.{Anywhere}
+use Rattle.sc_laws.proofs.Matching.{related_denotations, first_goes, second_goes, idle, scripted_goes_on}
 use Rattle.sc_laws.proofs.Below.{Under, stop_below, richer, richer_piece, Passes, Below, along, passed, below_kept}
-use Rattle.sc_laws.proofs.Below.{below_at, StepsBelow, LibrariesBelow, run_step_below, scripted_below, own_below}
+use Rattle.sc_laws.proofs.Below.{below_at, StepsBelow, DenotationsBelow, run_step_below, scripted_below, own_below}
 use Rattle.sc_laws.proofs.Below.{within_below, BodiesBelow}
 
 -- LISTS
-take_front : {A : Type 0} (n m : ℕ) (xs more : List A) → n ≤ m → Front (take n xs) (take m (xs ++ more))
-take_front zero m xs more le = record { more = take m _; is = refl }
-take_front (suc n) zero xs more le = absurd (omega (arith, le))
-take_front (suc n) (suc m) [] more le = record { more = take (suc m) more; is = refl }
-take_front (suc n) (suc m) (x ∷ xs) more le =
-    let rest = take_front n m xs more (omega (arith, le)) in
+take_prefix : {A : Type 0} (n m : ℕ) (xs more : List A) → n ≤ m → IsPrefix (take n xs) (take m (xs ++ more))
+take_prefix zero m xs more le = record { more = take m _; is = refl }
+take_prefix (suc n) zero xs more le = absurd (omega (arith, le))
+take_prefix (suc n) (suc m) [] more le = record { more = take (suc m) more; is = refl }
+take_prefix (suc n) (suc m) (x ∷ xs) more le =
+    let rest = take_prefix n m xs more (omega (arith, le)) in
     record { more = rest.more; is = ap (λ ys. x ∷ ys) rest.is }
 
-pub take_fronts : {A : Type 0} (n m : ℕ) (xs ys : List A) → n ≤ m → Front xs ys → Front (take n xs) (take m ys)
-take_fronts n m xs ys le front =
-    subst (λ z. Front (take n xs) (take m z)) (sym front.is) (take_front n m xs front.more le)
+pub take_prefixes : {A : Type 0} (n m : ℕ) (xs ys : List A) → n ≤ m → IsPrefix xs ys → IsPrefix (take n xs) (take m ys)
+take_prefixes n m xs ys le prefix =
+    subst (λ z. IsPrefix (take n xs) (take m z)) (sym prefix.is) (take_prefix n m xs prefix.more le)
 
 -- RUNS THAT ARE STOPPED
 at_most : {n m : ℕ} → n < m → n ≤ m
@@ -39,12 +39,12 @@ pub unreached : (events : ℕ) (run : SourceRun) (end : RunEnd) → reaches even
 unreached events run end below = grind arith
 
 -- a run that is cut at `events` events, or not
-abbrev pub shown : ℕ → Bool → SourceRun → SourceRun
-shown events b run = if b then record { trace = take events run.trace; end = EventsOut } else run
+abbrev pub cut_if : ℕ → Bool → SourceRun → SourceRun
+cut_if events b run = if b then record { trace = take events run.trace; end = EventsOut } else run
 
 pub trace_is : (events : ℕ) (run : SourceRun) → (stopped_at events run).trace ≡ take events run.trace
 trace_is events run = by_test _ refl where
-  by_test : (b : Bool) → reaches events run run.end ≡ b → (shown events b run).trace ≡ take events run.trace
+  by_test : (b : Bool) → reaches events run run.end ≡ b → (cut_if events b run).trace ≡ take events run.trace
   by_test true is = refl
   by_test false is = sym (take_all events _ (unreached events run run.end is))
 
@@ -64,32 +64,32 @@ module _ (d : ℕ) (Soft : Cause → Type 0) (Turns : Type 0) where
   pub data RunsBelow (x y : Run) : Type 0 where
     same_run : y ≡ x → RunsBelow x y
     goes_past : (end : RunEnd) → x.behaviour.end ≡ end → IsStop end → Passes d Soft Turns end →
-        Front x.behaviour.trace y.behaviour.trace → (y.behaviour.end ≡ Ended →
+        IsPrefix x.behaviour.trace y.behaviour.trace → (y.behaviour.end ≡ Ended →
         length x.behaviour.trace < length y.behaviour.trace) →
-        (frames : Front x.frames y.frames) → AllFrom (length x.behaviour.trace) frames.more → RunsBelow x y
+        (frames : IsPrefix x.frames y.frames) → AllFrom (length x.behaviour.trace) frames.more → RunsBelow x y
 
   run_to_same : (main : ℕ) (o : Piece (Option Value)) → run_to main (richer_piece d o) ≡ run_to main o
   run_to_same main o = grind arith
 
-  past : (main : ℕ) (trace : List Event) (p : Piece (Option Value)) → StopsSo p → Front trace (last p).trace →
-      Front trace (run_to main p).behaviour.trace × ((run_to main p).behaviour.end ≡ Ended →
+  past : (main : ℕ) (trace : List Event) (p : Piece (Option Value)) → StopsSo p → IsPrefix trace (last p).trace →
+      IsPrefix trace (run_to main p).behaviour.trace × ((run_to main p).behaviour.end ≡ Ended →
       length trace < length (run_to main p).behaviour.trace)
-  past main trace (Reached v s) stop front =
-      let long : length trace ≤ length s.trace = front_no_longer trace s.trace front in
+  past main trace (Reached v s) stop prefix =
+      let long : length trace ≤ length s.trace = prefix_no_longer trace s.trace prefix in
       let one : length (s.trace ++ End main (exit_word v) ∷ []) ≡ length s.trace + 1 =
       length-append s.trace (End main (exit_word v) ∷ []) in (
-        front_more trace s.trace (s.trace ++ End main (exit_word v) ∷ []) front
+        prefix_more trace s.trace (s.trace ++ End main (exit_word v) ∷ []) prefix
             (record { more = End main (exit_word v) ∷ []; is = refl }),
         λ is. omega (arith, long, one),
       )
-  past main trace (Stopped Ended s) stop front = absurd stop
-  past main trace (Stopped (Blamed comp cause line) s) stop front = (front, λ is. absurd (cc))
-  past main trace (Stopped TurnsOut s) stop front = (front, λ is. absurd (cc))
-  past main trace (Stopped EventsOut s) stop front = absurd stop
+  past main trace (Stopped Ended s) stop prefix = absurd stop
+  past main trace (Stopped (Blamed comp cause line) s) stop prefix = (prefix, λ is. absurd (cc))
+  past main trace (Stopped TurnsOut s) stop prefix = (prefix, λ is. absurd (cc))
+  past main trace (Stopped EventsOut s) stop prefix = absurd stop
 
   -- frames that go on, with changes only at `events` events and later
   abbrev FramesOn : ℕ → List FrameChange → List FrameChange → Type 0
-  FramesOn events before after = (front : Front before after) × AllFrom events front.more
+  FramesOn events before after = (prefix : IsPrefix before after) × AllFrom events prefix.more
 
   pub run_to_below : (main : ℕ) (o p : Piece (Option Value)) → StopsSo o → StopsSo p →
       Below d Soft Turns (Option Value) o p → RunsBelow (run_to main o) (run_to main p)
@@ -97,7 +97,7 @@ module _ (d : ℕ) (Soft : Cause → Type 0) (Turns : Type 0) where
   run_to_below main o p stop stop' (passed end s is passes on) =
       let ends : (run_to main o).behaviour.trace ≡ s.trace = ap (λ x. (run_to main x).behaviour.trace) is in
       let more =
-      past main (run_to main o).behaviour.trace p stop' (subst (λ x. Front x (last p).trace) (sym ends) on.events) in
+      past main (run_to main o).behaviour.trace p stop' (subst (λ x. IsPrefix x (last p).trace) (sym ends) on.events) in
       let frames : (run_to main o).frames ≡ s.frames = ap (λ x. (run_to main x).frames) is in
       let late : FramesOn (length (run_to main o).behaviour.trace) (run_to main o).frames (run_to main p).frames =
       subst (λ n. FramesOn n (run_to main o).frames (run_to main p).frames) (sym (ap length ends))
@@ -106,15 +106,15 @@ module _ (d : ℕ) (Soft : Cause → Type 0) (Turns : Type 0) where
       goes_past end (ap (λ x. (run_to main x).behaviour.end) is) (subst StopsSo is stop) passes more.0 more.1 late.0
       late.1
 
-  module _ (spent : (d ≡ 0) ⊎ Turns) (L M : Library) (match : LibrariesMatch Soft L M) where
-    pub libraries : (n n' : ℕ) → LibrariesBelow d Soft Turns spent n n' L M
-    libraries n n' = library_twins Soft _ _ Anywhere (below_kept d Soft Turns n n' spent)
+  module _ (spent : (d ≡ 0) ⊎ Turns) (L M : Denotations) (match : DenotationsMatch Soft L M) where
+    pub any_denotations : (n n' : ℕ) → DenotationsBelow d Soft Turns spent n n' L M
+    any_denotations n n' = related_denotations Soft _ _ Anywhere (below_kept d Soft Turns n n' spent)
         (λ here good. below_at d Soft Turns n n' spent here) L M match
 
     pub scripted_steps : (roles : Roles) → StepsBelow d Soft Turns spent (scripted_step L roles (run_step L))
         (scripted_step M roles (run_step M))
     scripted_steps roles n n' a b h =
-        let below = libraries (suc n) (suc n') in
+        let below = any_denotations (suc n) (suc n') in
         scripted_below d Soft Turns spent n n' a b h L M below roles (run_step L) (run_step M)
         (run_step_below d Soft Turns spent n n' a b h L M below)
 
@@ -138,16 +138,16 @@ module _ (d : ℕ) (Soft : Cause → Type 0) (Turns : Type 0) where
       start = first_state globals inputs turns
 
       -- what comes of the first call of `main`, where it is of this compartment
-      abbrev first_call : Library → Step → (turns main : ℕ) → Option ℕ → State → Piece (Option Value)
-      first_call library step turns main number s = and_then (found number s)
-          (λ number s. call_own library (within step (suc turns)) main number [] s)
+      abbrev first_call : Denotations → Step → (turns main : ℕ) → Option ℕ → State → Piece (Option Value)
+      first_call denotations step turns main number s = and_then (found number s)
+          (λ number s. call_own denotations (within step (suc turns)) main number [] s)
 
       begin_below : (number : Option ℕ) → Under d Soft Turns spent (suc turns) (suc (turns + d))
           (first_call L step turns main number) (first_call M step' (turns + d) main number)
       begin_below None = stop_below d Soft Turns spent _ _
       begin_below (Some number) = own_below d Soft Turns spent (suc turns) (suc (turns + d)) (within step (suc turns))
           (within step' (suc _)) (within_below d Soft Turns spent step step' goes goes' (scripted_steps roles)
-          (suc turns) (suc _)) L M (libraries _ _) main number []
+          (suc turns) (suc _)) L M (any_denotations _ _) main number []
 
       pub runs_below : RunsBelow (roles_run L globals inputs turns roles) (roles_run M globals inputs (turns + d) roles)
       runs_below =
@@ -198,20 +198,20 @@ module _ (step : Step) (goes : StepGoes step) (steps : StepsBelow 0 Never ⊥ (i
       (richer 0 s) (record { state = refl; few = omega arith; few' = omega arith })))
       ∙ ap (step _ number here) (no_richer s)
 
-module _ (library : Library) (obedient : Obedient library) where
-  steady_steps : (roles : Roles) → StepsBelow 0 Never ⊥ (inl refl) (scripted_step library roles (run_step library))
-      (scripted_step library roles (run_step library))
-  steady_steps = scripted_steps 0 Never ⊥ (inl refl) library library obedient
+module _ (denotations : Denotations) (obedient : Obedient denotations) where
+  steady_steps : (roles : Roles) → StepsBelow 0 Never ⊥ (inl refl) (scripted_step denotations roles (run_step denotations))
+      (scripted_step denotations roles (run_step denotations))
+  steady_steps = scripted_steps 0 Never ⊥ (inl refl) denotations denotations obedient
 
-  pub scripted_fixed : (roles : Roles) → IsFixed (scripted_step library roles (run_step library))
+  pub scripted_fixed : (roles : Roles) → IsFixed (scripted_step denotations roles (run_step denotations))
   scripted_fixed roles =
-      fixed (scripted_step library roles _) (scripted_goes_on library obedient roles) (steady_steps roles)
+      fixed (scripted_step denotations roles _) (scripted_goes_on denotations obedient roles) (steady_steps roles)
 
-  scripted_steady : (roles : Roles) → IsSteady (scripted_step library roles (run_step library))
+  scripted_steady : (roles : Roles) → IsSteady (scripted_step denotations roles (run_step denotations))
   scripted_steady roles =
-      any_depth (scripted_step library roles _) (scripted_goes_on library obedient roles) (steady_steps roles)
+      any_depth (scripted_step denotations roles _) (scripted_goes_on denotations obedient roles) (steady_steps roles)
 
-  pub has_fixed_point : HasFixedPoint library
+  pub has_fixed_point : HasFixedPoint denotations
   has_fixed_point = record {
     run = scripted_fixed idle;
     scripted = scripted_fixed;

@@ -1,12 +1,12 @@
 -- What statements do is a tree, and under two arithmetics the trees are alike.
 use Rattle.sc_laws.proofs.Common.{Acts, Arith, Blocks, Bool, Break, Calls, Cause, Continue, Doing, Each, Err, Exit}
-use Rattle.sc_laws.proofs.Common.{FunctionsMatch, Here, Inside, LibrariesMatch, List, Local, Match, Meets, Never, Next}
+use Rattle.sc_laws.proofs.Common.{FunctionsMatch, Here, Inside, DenotationsMatch, List, Local, Match, Meets, Never, Next}
 use Rattle.sc_laws.proofs.Common.{NoReturn, None, Obedient, Ok, Option, ProgramTree, Return, Some, TypedExpr}
 use Rattle.sc_laws.proofs.Common.{TypedFunction, TypedLocal, TypedSection, TypedSimple, TypedSimpleKind, TypedStmt}
 use Rattle.sc_laws.proofs.Common.{TypedStmtKind, TypedStmtKind-F, TypedStruct, Value, Want, Ways, [], all_do, assign}
 use Rattle.sc_laws.proofs.Common.{at_brace, at_place, block_does, body_does, call, choose, closed, evaluated}
 use Rattle.sc_laws.proofs.Common.{everywhere, false, function_of, functions_in, in_order, init_does, inits_do}
-use Rattle.sc_laws.proofs.Common.{kind_step, layer_of, leave, library_of, loop, map, on_line, part_does, refl}
+use Rattle.sc_laws.proofs.Common.{kind_step, layer_of, leave, denotations_of, loop, map, on_line, part_does, refl}
 use Rattle.sc_laws.proofs.Common.{simple_does, slice_get, slice_index_or, stmt_at, stmt_does, stmt_induction, stmt_step}
 use Rattle.sc_laws.proofs.Common.{store_at, store_result, stored, subst, suc, sym, test, true, variable_at, ways, zero}
 use Rattle.sc_laws.proofs.Common.{ℕ, ◌∷◌, ◌≡◌}
@@ -14,8 +14,8 @@ use Rattle.sc_core.specs.declared.expr.TypedCall.{TypedCall}
 use Rattle.sc_core.specs.declared.stmt.TypedStmtKind.TheOpen as layer
 use Rattle.sc_core.specs.declared.stmt.TypedSimpleKind.TheVariants as simple
 use Rattle.sc_core.specs.declared.value.Want.TheVariants as want
-use Rattle.sc_laws.proofs.Interactions.{MatchWith, match_reached, match_then, match_computed, match_store, match_call}
-use Rattle.sc_laws.proofs.Interactions.{match_if, match_leave, match_follow, match_all, match_loop}
+use Rattle.sc_laws.proofs.InteractionTrees.{MatchWith, match_reached, match_then, match_computed, match_store, match_call}
+use Rattle.sc_laws.proofs.InteractionTrees.{match_if, match_leave, match_follow, match_all, match_loop}
 use Rattle.sc_laws.proofs.Expressions.{Keeps, alike, ArithKeeps, ways_keep, values_keep}
 
 module _ (Soft : Cause → Type 0) (here : Here) where
@@ -211,7 +211,7 @@ module _ (Soft : Cause → Type 0) (ar br : Arith) (arith : ArithKeeps Soft ar b
       FunctionsMatch Soft (function_of ar main structs f) (function_of br main structs f)
   of_function main structs f = record {
     cells = refl;
-    room = refl;
+    frame_size = refl;
     does = λ here. match_then Soft here _ _ (λ left by s. closed _ _ _ _ here s) (λ left by s. closed _ _ _ _ here s)
         (body_matches Soft here ar br arith structs _ f tt) (λ left. closed_matches Soft here _ _ _ _);
   }
@@ -226,11 +226,11 @@ module _ (Soft : Cause → Type 0) (ar br : Arith) (arith : ArithKeeps Soft ar b
   of_sections main [] = tt
   of_sections main (section ∷ sections) = (of_functions main _ section.functions, of_sections main sections)
 
-  pub program_matches : (program : ProgramTree) → LibrariesMatch Soft (library_of ar program) (library_of br program)
+  pub program_matches : (program : ProgramTree) → DenotationsMatch Soft (denotations_of ar program) (denotations_of br program)
   program_matches program = record {
     interfaces = refl;
     functions = λ comp number. meets_at _ _ _ number
-        (lists_at _ (library_of ar program).functions (library_of br program).functions comp (of_sections _ _));
+        (lists_at _ (denotations_of ar program).functions (denotations_of br program).functions comp (of_sections _ _));
     entered = λ comp entry. refl;
   }
 
@@ -238,5 +238,5 @@ module _ (Soft : Cause → Type 0) (ar br : Arith) (arith : ArithKeeps Soft ar b
 pub itself_keeps : (Soft : Cause → Type 0) (arith : Arith) → ArithKeeps Soft arith arith
 itself_keeps Soft arith = record { binary = λ unsigned o a b. alike refl; negated = λ unsigned a. alike refl }
 
-pub program_obeys : (arith : Arith) (program : ProgramTree) → Obedient (library_of arith program)
+pub program_obeys : (arith : Arith) (program : ProgramTree) → Obedient (denotations_of arith program)
 program_obeys arith program = program_matches Never arith arith (itself_keeps Never arith) program

@@ -1,5 +1,5 @@
 -- A run that is out of turns has none left, where all functions that are called are there.
-use Rattle.sc_laws.proofs.Common.{Blamed, Ended, EventsOut, Kept, Library, List, Main, Memory, Obedient, Option, Piece}
+use Rattle.sc_laws.proofs.Common.{Blamed, Ended, EventsOut, Kept, Denotations, List, Main, Memory, Obedient, Option, Piece}
 use Rattle.sc_laws.proofs.Common.{Property, RunEnd, SpendsTurns, State, StopsSpent, TurnsOut, Value, arith, first_state}
 use Rattle.sc_laws.proofs.Common.{leads, main_call, refl, run_step, run_to, subst, suc, true, within, zero, ℕ, ◌<◌, ◌≡◌}
 use Rattle.sc_laws.proofs.Growing.{within_goes}
@@ -13,9 +13,9 @@ Spent (Blamed comp cause line) s = Unit {0}
 Spent TurnsOut s = s.turns ≡ 0
 Spent EventsOut s = Unit {0}
 
-module _ (library : Library) where
+module _ (denotations : Denotations) where
   -- fewer turns than a number
-  abbrev walk : Walk library
+  abbrev walk : Walk denotations
   walk = record {
     Place = Unit {0};
     At = λ n i s. s.turns < n;
@@ -39,32 +39,32 @@ module _ (library : Library) where
   }
 
   abbrev spending : ℕ → Property
-  spending n = place library walk n tt
+  spending n = place denotations walk n tt
 
-  module _ (obedient : Obedient library) where
-    within_spends : (n : ℕ) → BodyWalks library walk n (within (run_step library) n)
+  module _ (obedient : Obedient denotations) where
+    within_spends : (n : ℕ) → BodyWalks denotations walk n (within (run_step denotations) n)
     within_spends zero number here s i is runs few = absurd (omega (arith, few))
-    within_spends (suc n) number here s i is runs few = run_step_walks library walk n (within (run_step library) n)
-        (within_spends n) obedient (within_goes (run_step library) (run_goes_on library obedient) n) number here s i is
+    within_spends (suc n) number here s i is runs few = run_step_walks denotations walk n (within (run_step denotations) n)
+        (within_spends n) obedient (within_goes (run_step denotations) (run_goes_on denotations obedient) n) number here s i is
         tt (λ k f. tt) (λ cause line s few. tt) few
 
     abbrev main : ℕ
-    main = library.interfaces.main
+    main = denotations.interfaces.main
 
-    main_spends : (globals : Memory) (inputs : List ℕ) (turns : ℕ) → leads library main (library.entered main Main)
-        ≡ true → Kept (spending (suc turns)) (main_call library globals inputs turns)
-    main_spends globals inputs turns is = main_walks library walk (suc turns)
-        (within (run_step library) (suc turns)) (within_spends (suc turns)) tt (first_state globals inputs turns)
-        (λ none. absurd (cc (led_somewhere library main _ is, none)))
-        (λ number same none. absurd (cc (led_there library main number _ is same, none))) (λ number f same. tt)
+    main_spends : (globals : Memory) (inputs : List ℕ) (turns : ℕ) → leads denotations main (denotations.entered main Main)
+        ≡ true → Kept (spending (suc turns)) (main_call denotations globals inputs turns)
+    main_spends globals inputs turns is = main_walks denotations walk (suc turns)
+        (within (run_step denotations) (suc turns)) (within_spends (suc turns)) tt (first_state globals inputs turns)
+        (λ none. absurd (cc (led_somewhere denotations main _ is, none)))
+        (λ number same none. absurd (cc (led_there denotations main number _ is same, none))) (λ number f same. tt)
         (omega arith)
 
     stops : (globals : Memory) (inputs : List ℕ) (turns : ℕ) (o : Piece (Option Value)) →
-        main_call library globals inputs turns ≡ o → Kept (spending (suc turns)) o →
-        (run_to main o).behaviour.end ≡ TurnsOut → StopsSpent library globals inputs turns
+        main_call denotations globals inputs turns ≡ o → Kept (spending (suc turns)) o →
+        (run_to main o).behaviour.end ≡ TurnsOut → StopsSpent denotations globals inputs turns
     stops globals inputs turns end is h ends = grind (arith, is, h)
 
-    pub spends_turns : SpendsTurns library
+    pub spends_turns : SpendsTurns denotations
     spends_turns = record {
       functions = λ number here s is t stopped. (subst (λ x. Kept (spending (suc s.turns)) x) stopped
           (within_spends _ number here s tt is tt (omega arith))).after;

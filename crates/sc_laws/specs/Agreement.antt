@@ -1,7 +1,7 @@
 -- Denotations of two programs that do the same, whatever their functions carry, up to the lines of blames.
 use Rattle.sc_laws.specs.Common.{Arith, Blamed, Body, CallTarget, Calls, Ended, Entry, EventsOut, Function, Here}
-use Rattle.sc_laws.specs.Common.{Library, Memory, Piece, ProgramTree, Reached, Roles, Run, RunEnd, SourceRun, State}
-use Rattle.sc_laws.specs.Common.{Stopped, TurnsOut, Value, function, library_of, run_by, run_of, run_step}
+use Rattle.sc_laws.specs.Common.{Denotations, Memory, Piece, ProgramTree, Reached, Roles, Run, RunEnd, SourceRun, State}
+use Rattle.sc_laws.specs.Common.{Stopped, TurnsOut, Value, function, denotations_of, run_by, run_of, run_step}
 use Rattle.sc_laws.specs.Common.{scripted_step, stopped_at}
 use Rattle.std.specs.Prelude.{◌≡◌, ℕ, List, Option, None, Some}
 use Rattle.sc_laws.specs.Lines.{program_lined}
@@ -39,11 +39,11 @@ BodiesAgree body other = (number : ℕ) (here : Here) (s : State) →
 -- functions that callers can't distinguish, and that do the same where their calls do
 pub record FunctionsAgree (f g : Function) : Type 0 where
   pub cells : f.cells ≡ g.cells
-  pub room : f.room ≡ g.room
+  pub frame_size : f.frame_size ≡ g.frame_size
   pub does : (C D : Calls) → CallsAgree C D → (here : Here) (s : State) →
       PiecesAgree (f.does C here s) (g.does D here s)
 
-pub record LibrariesAgree (L M : Library) : Type 0 where
+pub record DenotationsAgree (L M : Denotations) : Type 0 where
   pub interfaces : L.interfaces ≡ M.interfaces
   pub functions : (comp number : ℕ) → Meets FunctionsAgree (function L comp number) (function M comp number)
   pub entered : (comp : ℕ) (entry : Entry) → L.entered comp entry ≡ M.entered comp entry
@@ -62,9 +62,9 @@ pub record RunsAgree (run other : Run) : Type 0 where
 -- denotations that agree function by function have runs of the same trace and the same stack depths: in their meaning,
 -- and whoever performs whatever script
 pub record AgreeingRunAlike : Type 0 where
-  pub meaning : (L M : Library) → LibrariesAgree L M → (globals : Memory) (inputs : List ℕ) (turns : ℕ) →
+  pub meaning : (L M : Denotations) → DenotationsAgree L M → (globals : Memory) (inputs : List ℕ) (turns : ℕ) →
       RunsAgree (run_by L (run_step L) globals inputs turns) (run_by M (run_step M) globals inputs turns)
-  pub scripted : (L M : Library) → LibrariesAgree L M →
+  pub scripted : (L M : Denotations) → DenotationsAgree L M →
       (roles : Roles) (globals : Memory) (inputs : List ℕ) (turns : ℕ) →
       RunsAgree (run_by L (scripted_step L roles (run_step L)) globals inputs turns)
       (run_by M (scripted_step M roles (run_step M)) globals inputs turns)
@@ -72,7 +72,7 @@ pub record AgreeingRunAlike : Type 0 where
 -- a program whose trees stand on other lines has denotations that agree, and so its runs are the same but for the lines
 -- of blames
 pub record OtherLinesAgree : Type 0 where
-  pub libraries : (arith : Arith) (line_of : ℕ → ℕ) (program : ProgramTree) →
-      LibrariesAgree (library_of arith program) (library_of arith (program_lined line_of program))
+  pub any_denotations : (arith : Arith) (line_of : ℕ → ℕ) (program : ProgramTree) →
+      DenotationsAgree (denotations_of arith program) (denotations_of arith (program_lined line_of program))
   pub runs : (arith : Arith) (line_of : ℕ → ℕ) (program : ProgramTree) (inputs : List ℕ) (turns : ℕ) →
       RunsAgree (run_of arith program inputs turns) (run_of arith (program_lined line_of program) inputs turns)

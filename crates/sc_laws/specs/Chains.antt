@@ -1,11 +1,11 @@
 -- Runs in which the compartments of a set perform their parts of a trace, and the chain of sets that leads to it.
-use Rattle.sc_laws.specs.Common.{Arith, Blamed, Cause, Event, Front, ProgramTree, SourceRun, TurnsOut, scripted_by}
+use Rattle.sc_laws.specs.Common.{Arith, Blamed, Cause, Event, IsPrefix, ProgramTree, SourceRun, TurnsOut, scripted_by}
 use Rattle.std.specs.Prelude.{◌≡◌, ℕ, suc, ◌<◌, ◌≤◌, Bool, true, false, ◌||◌, ◌==◌, List, [], ◌∷◌, ◌++◌, length}
 
 -- the second run emits an event more than the first, or ends right there for want of a turn or of a row
 pub data PassesBlame (run other : SourceRun) : Type 0 where
   turnless : other ≡ record { trace = run.trace; end = TurnsOut } → PassesBlame run other
-  longer : (event : Event) → Front (run.trace ++ event ∷ []) other.trace → PassesBlame run other
+  longer : (event : Event) → IsPrefix (run.trace ++ event ∷ []) other.trace → PassesBlame run other
 
 -- sets of compartments
 abbrev pub Set : Type 0
@@ -30,7 +30,7 @@ pub record Link : Type 0 where
 -- the run is blamed so, while it keeps to the trace
 pub record IsLink (run : SourceRun) (trace : List Event) (link : Link) : Type 0 where
   pub blamed : run.end ≡ Blamed link.comp link.cause link.line
-  pub front : Front run.trace trace
+  pub prefix : IsPrefix run.trace trace
   pub after : length run.trace ≡ link.after
 
 -- the run is blamed on a compartment below this number that isn't of the set, while it keeps to the trace
@@ -41,7 +41,7 @@ pub record IsBlamedOutside (count : ℕ) (set : Set) (run : SourceRun) (trace : 
   pub compartment : comp < count
   pub outside : set comp ≡ false
   pub blamed : run.end ≡ Blamed comp cause line
-  pub front : Front run.trace trace
+  pub prefix : IsPrefix run.trace trace
 
 -- the run in which a set performs its part of a trace, stopped where it has as many events as the trace
 abbrev pub performed : Arith → ProgramTree → List ℕ → ℕ → List Event → Set → SourceRun

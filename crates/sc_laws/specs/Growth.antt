@@ -1,13 +1,13 @@
 -- How a run goes on: events are appended, turns are spent, and it stops only for a blame or for want of turns.
-use Rattle.sc_laws.specs.Common.{Front, IsStop, Piece, Reached, State, Stopped}
+use Rattle.sc_laws.specs.Common.{IsPrefix, IsStop, Piece, Reached, State, Stopped}
 use Rattle.std.specs.Prelude.{◌≤◌, length}
-use Rattle.sc_laws.specs.Rooms.{AllFrom}
+use Rattle.sc_laws.specs.Depths.{AllFrom}
 
 -- a state that comes after another: its events and its frames go on from the other's, where each change of frames is of
 -- the moment at which it was made, and it has no more turns
 pub record Grown (s t : State) : Type 0 where
-  pub events : Front s.trace t.trace
-  pub frames : Front s.frames t.frames
+  pub events : IsPrefix s.trace t.trace
+  pub frames : IsPrefix s.frames t.frames
   pub late : AllFrom (length s.trace) frames.more
   pub turns : t.turns ≤ s.turns
 

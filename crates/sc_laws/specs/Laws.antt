@@ -1,7 +1,7 @@
 -- Laws of the meaning: of all denotations whose functions are interaction trees, and so of every program.
-use Rattle.sc_laws.specs.Common.{Arith, Blamed, Cause, Event, FrameChange, Front, Here, Library, Memory, ProgramTree}
+use Rattle.sc_laws.specs.Common.{Arith, Blamed, Cause, Event, FrameChange, IsPrefix, Here, Denotations, Memory, ProgramTree}
 use Rattle.sc_laws.specs.Common.{Reached, Roles, Run, SourceRun, State, Step, Value, c_arith, call_own, deepest, legal}
-use Rattle.sc_laws.specs.Common.{library_of, meaning, meaning_by, roles_in, run_of, run_step, scripted_by}
+use Rattle.sc_laws.specs.Common.{denotations_of, meaning, meaning_by, roles_in, run_of, run_step, scripted_by}
 use Rattle.sc_laws.specs.Common.{scripted_meaning, scripted_run_of, scripted_step, scripted_wrapped, stopped_at, within}
 use Rattle.sc_laws.specs.Common.{wrapped, wrapping}
 use Rattle.std.specs.Prelude.{◌≡◌, ◌⊎◌, ℕ, suc, ◌<◌, ◌≤◌, ◌++◌, true, false, List, length, Option}
@@ -9,27 +9,27 @@ use Rattle.sc_laws.specs.Chains.{Set, IsWithin, nobody, Link, IsBlamedOutside, p
 use Rattle.sc_laws.specs.Chains.{Includes, PassesBlame}
 use Rattle.sc_laws.specs.Ends.{IsArithmetic}
 use Rattle.sc_laws.specs.Growth.{Gone, last}
-use Rattle.sc_laws.specs.Interactions.{LibrariesMatch, Obedient}
-use Rattle.sc_laws.specs.Rooms.{room_after, open_room, AllBefore, has_no_end}
-use Rattle.sc_laws.specs.Runs.{library_run, roles_run, performed_by}
-use Rattle.sc_laws.specs.Steady.{now, ExtendedByMore, AgreesInRoom}
+use Rattle.sc_laws.specs.InteractionTrees.{DenotationsMatch, Obedient}
+use Rattle.sc_laws.specs.Depths.{depth_after, stack_depth, AllBefore, has_no_end}
+use Rattle.sc_laws.specs.Runs.{denotations_run, roles_run, performed_by}
+use Rattle.sc_laws.specs.Steady.{now, ExtendedByMore, AgreesInDepth}
 
 -- THE FUNCTIONS OF PROGRAMS
 -- what they do is such trees, and in the arithmetic that wraps the same but for blames for arithmetic
 pub record ProgramsObey : Type 0 where
-  pub itself : (arith : Arith) (program : ProgramTree) → Obedient (library_of arith program)
+  pub itself : (arith : Arith) (program : ProgramTree) → Obedient (denotations_of arith program)
   pub wraps : (program : ProgramTree) →
-      LibrariesMatch IsArithmetic (library_of c_arith program) (library_of wrapping program)
+      DenotationsMatch IsArithmetic (denotations_of c_arith program) (denotations_of wrapping program)
 
 -- whatever a function does, however many calls may be open in it, it goes on from the state in which it begins
 abbrev pub GoesOn : Step → Type 0
 GoesOn step = (open_calls number : ℕ) (here : Here) (s : State) → Gone s (within step open_calls number here s)
 
 pub record OnlyGoesOn : Type 0 where
-  pub libraries : (library : Library) → Obedient library → GoesOn (run_step library)
-  pub scripts : (library : Library) → Obedient library → (roles : Roles) →
-      GoesOn (scripted_step library roles (run_step library))
-  pub programs : (arith : Arith) (program : ProgramTree) → GoesOn (run_step (library_of arith program))
+  pub any_denotations : (denotations : Denotations) → Obedient denotations → GoesOn (run_step denotations)
+  pub scripts : (denotations : Denotations) → Obedient denotations → (roles : Roles) →
+      GoesOn (scripted_step denotations roles (run_step denotations))
+  pub programs : (arith : Arith) (program : ProgramTree) → GoesOn (run_step (denotations_of arith program))
 
 -- what functions do is what they do by what functions do
 abbrev pub IsFixed : Step → Type 0
@@ -41,22 +41,22 @@ IsSteady step = (open_calls more_calls number : ℕ) (here : Here) (s : State) �
     s.turns < more_calls → within step more_calls number here s ≡ within step open_calls number here s
 
 -- so it is of these denotations, and where some compartments perform scripts
-pub record HasFixedPoint (library : Library) : Type 0 where
-  pub run : IsFixed (run_step library)
-  pub scripted : (roles : Roles) → IsFixed (scripted_step library roles (run_step library))
-  pub run_steady : IsSteady (run_step library)
-  pub scripted_steady : (roles : Roles) → IsSteady (scripted_step library roles (run_step library))
+pub record HasFixedPoint (denotations : Denotations) : Type 0 where
+  pub run : IsFixed (run_step denotations)
+  pub scripted : (roles : Roles) → IsFixed (scripted_step denotations roles (run_step denotations))
+  pub run_steady : IsSteady (run_step denotations)
+  pub scripted_steady : (roles : Roles) → IsSteady (scripted_step denotations roles (run_step denotations))
 
 pub record FixedPoint : Type 0 where
-  pub libraries : (library : Library) → Obedient library → HasFixedPoint library
-  pub programs : (arith : Arith) (program : ProgramTree) → HasFixedPoint (library_of arith program)
+  pub any_denotations : (denotations : Denotations) → Obedient denotations → HasFixedPoint denotations
+  pub programs : (arith : Arith) (program : ProgramTree) → HasFixedPoint (denotations_of arith program)
 
 -- WHOLE RUNS
 -- where no compartment performs, the scripted meaning is the meaning
 pub record EmptySetIsMeaning : Type 0 where
-  pub libraries : (library : Library) (globals : Memory) (trace : List Event) (inputs : List ℕ) (turns : ℕ) →
-      roles_run library globals inputs turns (roles_in library.interfaces.main nobody trace)
-      ≡ library_run library globals inputs turns
+  pub any_denotations : (denotations : Denotations) (globals : Memory) (trace : List Event) (inputs : List ℕ) (turns : ℕ) →
+      roles_run denotations globals inputs turns (roles_in denotations.interfaces.main nobody trace)
+      ≡ denotations_run denotations globals inputs turns
   pub meaning : (program : ProgramTree) (trace : List Event) (inputs : List ℕ) (turns events : ℕ) →
       scripted_meaning program nobody trace inputs turns events ≡ meaning program inputs turns events
   pub wrapped : (program : ProgramTree) (trace : List Event) (inputs : List ℕ) (turns events : ℕ) →
@@ -64,43 +64,43 @@ pub record EmptySetIsMeaning : Type 0 where
 
 -- more turns and more events extend a run in which some compartments perform a script
 pub record MoreGoesOn : Type 0 where
-  pub libraries : (library : Library) → Obedient library → (globals : Memory) (inputs : List ℕ) (roles : Roles) →
-      ExtendedByMore (λ turns events. stopped_at events (roles_run library globals inputs turns roles).behaviour)
+  pub any_denotations : (denotations : Denotations) → Obedient denotations → (globals : Memory) (inputs : List ℕ) (roles : Roles) →
+      ExtendedByMore (λ turns events. stopped_at events (roles_run denotations globals inputs turns roles).behaviour)
   pub programs : (arith : Arith) (program : ProgramTree) (set : Set) (trace : List Event) (inputs : List ℕ) →
       ExtendedByMore (scripted_by arith program set trace inputs)
 
 -- and so the meaning goes on
 pub record MeaningGoesOn : Type 0 where
-  pub libraries : (library : Library) → Obedient library → (globals : Memory) (inputs : List ℕ) →
-      ExtendedByMore (λ turns events. stopped_at events (library_run library globals inputs turns).behaviour)
+  pub any_denotations : (denotations : Denotations) → Obedient denotations → (globals : Memory) (inputs : List ℕ) →
+      ExtendedByMore (λ turns events. stopped_at events (denotations_run denotations globals inputs turns).behaviour)
   pub programs : (arith : Arith) (program : ProgramTree) (inputs : List ℕ) →
       ExtendedByMore (meaning_by arith program inputs)
 
 -- the arithmetic that wraps gives the same run up to the first blame for arithmetic, where some compartments perform a
 -- script, and no compartment gets less deep
 pub record WrappingAgrees : Type 0 where
-  pub libraries : (library other : Library) → LibrariesMatch IsArithmetic library other →
+  pub any_denotations : (denotations other : Denotations) → DenotationsMatch IsArithmetic denotations other →
       (globals : Memory) (inputs : List ℕ) (turns : ℕ) (roles : Roles) →
-      AgreesInRoom (roles_run library globals inputs turns roles) (roles_run other globals inputs turns roles)
+      AgreesInDepth (roles_run denotations globals inputs turns roles) (roles_run other globals inputs turns roles)
   pub programs : (program : ProgramTree) (set : Set) (trace : List Event) (inputs : List ℕ) (turns : ℕ) →
-      AgreesInRoom (scripted_run_of c_arith program inputs turns set trace)
+      AgreesInDepth (scripted_run_of c_arith program inputs turns set trace)
       (scripted_run_of wrapping program inputs turns set trace)
 
 -- and so the wrapping meaning agrees with the meaning
 pub record WrappedAgrees : Type 0 where
-  pub libraries : (library other : Library) → LibrariesMatch IsArithmetic library other →
+  pub any_denotations : (denotations other : Denotations) → DenotationsMatch IsArithmetic denotations other →
       (globals : Memory) (inputs : List ℕ) (turns : ℕ) →
-      AgreesInRoom (library_run library globals inputs turns) (library_run other globals inputs turns)
+      AgreesInDepth (denotations_run denotations globals inputs turns) (denotations_run other globals inputs turns)
   pub programs : (program : ProgramTree) (inputs : List ℕ) (turns : ℕ) →
-      AgreesInRoom (run_of c_arith program inputs turns) (run_of wrapping program inputs turns)
+      AgreesInDepth (run_of c_arith program inputs turns) (run_of wrapping program inputs turns)
 
 -- what a run emits is allowed by the interfaces, also where compartments perform, whatever their scripts are
 pub record TracesAreLegal : Type 0 where
-  pub libraries : (library : Library) → Obedient library → (globals : Memory) (inputs : List ℕ) (turns events : ℕ) →
-      legal library.interfaces (stopped_at events (library_run library globals inputs turns).behaviour).trace ≡ true
-  pub scripts : (library : Library) → Obedient library →
+  pub any_denotations : (denotations : Denotations) → Obedient denotations → (globals : Memory) (inputs : List ℕ) (turns events : ℕ) →
+      legal denotations.interfaces (stopped_at events (denotations_run denotations globals inputs turns).behaviour).trace ≡ true
+  pub scripts : (denotations : Denotations) → Obedient denotations →
       (globals : Memory) (inputs : List ℕ) (turns events : ℕ) (roles : Roles) →
-      legal library.interfaces (stopped_at events (roles_run library globals inputs turns roles).behaviour).trace ≡ true
+      legal denotations.interfaces (stopped_at events (roles_run denotations globals inputs turns roles).behaviour).trace ≡ true
   pub meaning : (arith : Arith) (program : ProgramTree) (inputs : List ℕ) (turns events : ℕ) →
       legal program.interfaces (meaning_by arith program inputs turns events).trace ≡ true
   pub scripted : (arith : Arith) (program : ProgramTree) (set : Set) (trace : List Event) (inputs : List ℕ)
@@ -109,10 +109,10 @@ pub record TracesAreLegal : Type 0 where
 
 -- no compartment that performs is blamed, whatever rows it performs
 pub record NobodyWhoPerformsIsBlamed : Type 0 where
-  pub libraries : (library : Library) → Obedient library →
+  pub any_denotations : (denotations : Denotations) → Obedient denotations →
       (globals : Memory) (inputs : List ℕ) (turns events : ℕ) (roles : Roles) →
       (comp : ℕ) (cause : Cause) (line : ℕ) →
-      (stopped_at events (roles_run library globals inputs turns roles).behaviour).end ≡ Blamed comp cause line →
+      (stopped_at events (roles_run denotations globals inputs turns roles).behaviour).end ≡ Blamed comp cause line →
       roles.scripted comp ≡ false
   pub programs : (arith : Arith) (program : ProgramTree) (set : Set) (trace : List Event) (inputs : List ℕ)
       (turns events : ℕ) →
@@ -121,11 +121,11 @@ pub record NobodyWhoPerformsIsBlamed : Type 0 where
 
 -- only compartments that there are are blamed
 pub record BlamedAreThere : Type 0 where
-  pub libraries : (library : Library) → Obedient library →
+  pub any_denotations : (denotations : Denotations) → Obedient denotations →
       (globals : Memory) (inputs : List ℕ) (turns events : ℕ) (roles : Roles) →
       (comp : ℕ) (cause : Cause) (line : ℕ) →
-      (stopped_at events (roles_run library globals inputs turns roles).behaviour).end ≡ Blamed comp cause line →
-      comp < length library.functions
+      (stopped_at events (roles_run denotations globals inputs turns roles).behaviour).end ≡ Blamed comp cause line →
+      comp < length denotations.functions
   pub programs : (arith : Arith) (program : ProgramTree) (set : Set) (trace : List Event) (inputs : List ℕ)
       (turns events : ℕ) →
       (comp : ℕ) (cause : Cause) (line : ℕ) →
@@ -135,28 +135,28 @@ pub record BlamedAreThere : Type 0 where
 -- SETS THAT PERFORM THEIR PARTS OF A TRACE
 -- what holds of the runs in which sets perform: of all denotations that obey, and so of every program
 pub record HoldsOfSets (law : List Event → (Set → SourceRun) → Type 0) : Type 0 where
-  pub libraries : (library : Library) → Obedient library →
+  pub any_denotations : (denotations : Denotations) → Obedient denotations →
       (globals : Memory) (inputs : List ℕ) (turns : ℕ) (trace : List Event) →
-      law trace (performed_by library globals inputs turns trace)
+      law trace (performed_by denotations globals inputs turns trace)
   pub programs : (arith : Arith) (program : ProgramTree) (inputs : List ℕ) (turns : ℕ) (trace : List Event) →
       law trace (performed arith program inputs turns trace)
 
 module _ (trace : List Event) (runs : Set → SourceRun) where
   -- where more compartments perform their parts of a trace that the run emits, it emits the trace too
-  abbrev pub TellsWithMore : Type 0
-  TellsWithMore = (small large : Set) → IsWithin small large → (runs small).trace ≡ trace → (runs large).trace ≡ trace
+  abbrev pub EmitsWithMore : Type 0
+  EmitsWithMore = (small large : Set) → IsWithin small large → (runs small).trace ≡ trace → (runs large).trace ≡ trace
 
   -- a blame that comes while the run keeps to the trace comes in the same run where more compartments perform, unless
   -- the blamed one does
   abbrev pub KeepsBlames : Type 0
   KeepsBlames = (small large : Set) → IsWithin small large → (comp : ℕ) (cause : Cause) (line : ℕ) →
-      (runs small).end ≡ Blamed comp cause line → Front (runs small).trace trace → large comp ≡ false →
+      (runs small).end ≡ Blamed comp cause line → IsPrefix (runs small).trace trace → large comp ≡ false →
       runs large ≡ runs small
 
   -- where the blamed compartment performs too, the run passes that point, unless it wants a turn or a row right there
   abbrev pub PassesBlames : Type 0
   PassesBlames = (small large : Set) → IsWithin small large → (comp : ℕ) (cause : Cause) (line : ℕ) →
-      (runs small).end ≡ Blamed comp cause line → Front (runs small).trace trace → large comp ≡ true →
+      (runs small).end ≡ Blamed comp cause line → IsPrefix (runs small).trace trace → large comp ≡ true →
       PassesBlame (runs small) (runs large)
 
   -- of all sets those give the trace that have every compartment of the chain: the compartments of the chain are the
@@ -177,7 +177,7 @@ module _ (trace : List Event) (runs : Set → SourceRun) where
       (links : List Link) × IsChain runs trace nobody links × (length links ≤ count)
 
 abbrev pub MoreMayPerform : Type 0
-MoreMayPerform = HoldsOfSets TellsWithMore
+MoreMayPerform = HoldsOfSets EmitsWithMore
 
 abbrev pub BlameRemains : Type 0
 BlameRemains = HoldsOfSets KeepsBlames
@@ -198,34 +198,34 @@ ChainExists = HoldsOfSets HasChain
 -- the greatest stack depth is at least the stack depth at any moment before the cut
 abbrev pub DeepestIsReached : Type 0
 DeepestIsReached = (events comp : ℕ) (before after : List FrameChange) → AllBefore events before →
-    room_after comp 0 before ≤ deepest events comp 0 (before ++ after)
+    depth_after comp 0 before ≤ deepest events comp 0 (before ++ after)
 
 -- each change of frames is of a moment within the trace
-abbrev pub AreTold : Run → Type 0
-AreTold run = AllBefore (suc (length run.behaviour.trace)) run.frames
+abbrev pub ChangesAreWithin : Run → Type 0
+ChangesAreWithin run = AllBefore (suc (length run.behaviour.trace)) run.frames
 
 -- a call that returns leaves the stack depth of every compartment as it was
-abbrev pub LeavesRooms : Library → Step → Type 0
-LeavesRooms library step = (open_calls comp number : ℕ) (args : List Value) (v : Option Value) (s t : State) →
+abbrev pub LeavesDepths : Denotations → Step → Type 0
+LeavesDepths denotations step = (open_calls comp number : ℕ) (args : List Value) (v : Option Value) (s t : State) →
     AllBefore (suc (length s.trace)) s.frames →
-    call_own library (within step open_calls) comp number args s ≡ Reached v t →
-    (c : ℕ) → open_room c t ≡ open_room c s
+    call_own denotations (within step open_calls) comp number args s ≡ Reached v t →
+    (c : ℕ) → stack_depth c t ≡ stack_depth c s
 
 -- and it emits no end: only a whole run does
-abbrev pub TellsNoEnd : Library → Step → Type 0
-TellsNoEnd library step = (open_calls comp number : ℕ) (args : List Value) (s : State) → has_no_end s.trace ≡ true →
-    has_no_end (last (call_own library (within step open_calls) comp number args s)).trace ≡ true
+abbrev pub EmitsNoEnd : Denotations → Step → Type 0
+EmitsNoEnd denotations step = (open_calls comp number : ℕ) (args : List Value) (s : State) → has_no_end s.trace ≡ true →
+    has_no_end (last (call_own denotations (within step open_calls) comp number args s)).trace ≡ true
 
 -- so it is of these denotations, and where some compartments perform
-pub record KeepsRooms (library : Library) : Type 0 where
-  pub told : (globals : Memory) (inputs : List ℕ) (turns : ℕ) → AreTold (library_run library globals inputs turns)
-  pub scripted_told : (globals : Memory) (inputs : List ℕ) (turns : ℕ) (roles : Roles) →
-      AreTold (roles_run library globals inputs turns roles)
-  pub returns : LeavesRooms library (run_step library)
-  pub scripted_returns : (roles : Roles) → LeavesRooms library (scripted_step library roles (run_step library))
-  pub no_end : TellsNoEnd library (run_step library)
-  pub scripted_no_end : (roles : Roles) → TellsNoEnd library (scripted_step library roles (run_step library))
+pub record KeepsDepths (denotations : Denotations) : Type 0 where
+  pub emitted : (globals : Memory) (inputs : List ℕ) (turns : ℕ) → ChangesAreWithin (denotations_run denotations globals inputs turns)
+  pub scripted_emitted : (globals : Memory) (inputs : List ℕ) (turns : ℕ) (roles : Roles) →
+      ChangesAreWithin (roles_run denotations globals inputs turns roles)
+  pub returns : LeavesDepths denotations (run_step denotations)
+  pub scripted_returns : (roles : Roles) → LeavesDepths denotations (scripted_step denotations roles (run_step denotations))
+  pub no_end : EmitsNoEnd denotations (run_step denotations)
+  pub scripted_no_end : (roles : Roles) → EmitsNoEnd denotations (scripted_step denotations roles (run_step denotations))
 
-pub record RoomsAreKept : Type 0 where
-  pub libraries : (library : Library) → Obedient library → KeepsRooms library
-  pub programs : (arith : Arith) (program : ProgramTree) → KeepsRooms (library_of arith program)
+pub record DepthsAreKept : Type 0 where
+  pub any_denotations : (denotations : Denotations) → Obedient denotations → KeepsDepths denotations
+  pub programs : (arith : Arith) (program : ProgramTree) → KeepsDepths (denotations_of arith program)

@@ -4,10 +4,10 @@ pub mod Agreement
 pub mod Chains
 pub mod Ends
 pub mod Growth
-pub mod Interactions
+pub mod InteractionTrees
 pub mod Laws
 pub mod Lines
-pub mod Rooms
+pub mod Depths
 pub mod Runs
 pub mod Steady
 pub mod Turns

@@ -3,7 +3,7 @@
 ghost use Rattle.sc_laws.specs.Prelude.{AgreeingRunAlike, BlameIsPassed, BlameRemains, BlamedAreThere, ChainExists};
 ghost use Rattle.sc_laws.specs.Prelude.{ChainIsLeast, ChainsRise, DeepestIsReached, EmptySetIsMeaning, FixedPoint};
 ghost use Rattle.sc_laws.specs.Prelude.{MeaningGoesOn, MoreGoesOn, MoreMayPerform, NobodyWhoPerformsIsBlamed};
-ghost use Rattle.sc_laws.specs.Prelude.{OnlyGoesOn, OtherLinesAgree, ProgramsObey, RoomsAreKept, TracesAreLegal};
+ghost use Rattle.sc_laws.specs.Prelude.{OnlyGoesOn, OtherLinesAgree, ProgramsObey, DepthsAreKept, TracesAreLegal};
 ghost use Rattle.sc_laws.specs.Prelude.{TurnsOutMeansTurns, WrappedAgrees, WrappingAgrees};
 
 /// The functions of a program denote interaction trees: what is given or blamed, what the blocks of the compartment
@@ -104,8 +104,8 @@ pub fn deepest_is_reached()
 
 /// Each change of frames is of a moment within the trace, a call that returns leaves the stack depths as they were, and
 /// no call emits the end of the run.
-pub fn rooms_are_kept()
-    ensures { RoomsAreKept }
+pub fn depths_are_kept()
+    ensures { DepthsAreKept }
 {}
 
 /// A run that ends for want of turns has none left, where `main` is there.

@@ -7,7 +7,7 @@ use Rattle.sc_lex.proofs.Common.{token_at, white_space, ℕ, ⊎_elim, ◌++◌,
 use Rattle.sc_lex.specs.declared.cut.Piece.{Piece}
 use Rattle.sc_lex.specs.declared.cut.Piece.TheVariants as pieces
 use Rattle.sc_lex.proofs.Gaps.{one_gap, gap_fits, token_positive}
-use Rattle.sc_lex.proofs.Fronts.{white_none}
+use Rattle.sc_lex.proofs.Prefixes.{white_none}
 use Rattle.sc_lex.proofs.Splits.{line_at_end}
 
 -- a gap begins no token
@@ -116,7 +116,7 @@ module _ (bytes : List ℕ) where
   pub one_refusal : (line : ℕ) (refusal other : Refusal) → RefusesBytes bytes line refusal →
       RefusesBytes bytes line other → refusal ≡ other
   one_refusal line refusal other r q =
-      let same = (one_way r.front (stuck_stops r.at r.stuck) q.front (stuck_stops q.at q.stuck)).0 in
+      let same = (one_way r.prefix (stuck_stops r.at r.stuck) q.prefix (stuck_stops q.at q.stuck)).0 in
       let phases = r.phase ∙ sym q.phase in
       let lines = r.line ∙ ap (λ at. line_after line (newlines (take at bytes))) same ∙ sym q.line in
       ap₂ (λ p l. record { phase = p; line = l }) phases lines
@@ -125,10 +125,10 @@ module _ (bytes : List ℕ) where
   pub record Progress (at line : ℕ) (found : List Token) : Type 0 where
     pub within : at ≤ length bytes
     pub in_line : line ≡ line_at bytes at
-    pub front : Cuts bytes 0 at found
+    pub prefix : Cuts bytes 0 at found
 
   pub progress_start : Progress 0 1 []
-  progress_start = record { within = omega arith; in_line = refl; front = nothing }
+  progress_start = record { within = omega arith; in_line = refl; prefix = nothing }
 
   pub progress_on : (at line n : ℕ) (found : List Token) (p : Piece) → Progress at line found → PieceAt at p n →
       Progress (at + n) (line_after line (newlines (take n (drop at bytes)))) (found ++ placed p at n line)
@@ -140,7 +140,7 @@ module _ (bytes : List ℕ) where
         within = omega (arith, fits, h.within, length-drop at bytes);
         in_line = ap (λ l. line_after l (newlines (take n (drop at bytes)))) h.in_line ∙
             (rw len at (line_at_end bytes at (at + n) (omega arith)));
-        front = rw h.in_line (cuts_then h.front one);
+        prefix = rw h.in_line (cuts_then h.prefix one);
       }
 
   pub progress_refused : (at line first_line : ℕ) (found : List Token) (refusal : Refusal) → Progress at line found →
@@ -151,7 +151,7 @@ module _ (bytes : List ℕ) where
   progress_refused at line first_line found refusal h more stop is = record {
     at = at;
     tokens = found;
-    front = h.front;
+    prefix = h.prefix;
     stuck = record { more = more; no_gap = λ n g. stop pieces.Gap n g; no_token = λ k n t. stop (pieces.Token k) n t };
     phase = ap (λ r. r.phase) is;
     line = ap (λ r. r.line) is;
@@ -160,4 +160,4 @@ module _ (bytes : List ℕ) where
   pub progress_uncut : (at line : ℕ) (found : List Token) → Progress at line found → at < length bytes → Stops at →
       (tokens : List Token) → IsCut bytes tokens → ⊥
   progress_uncut at line found h more stop tokens c =
-      let same = (one_way h.front stop c end_stops).0 in absurd (omega arith)
+      let same = (one_way h.prefix stop c end_stops).0 in absurd (omega arith)

@@ -7,7 +7,7 @@ use Rattle.sc_lex.proofs.Common.{line_comment, line_len, list_all, list_all_at, 
 use Rattle.sc_lex.proofs.Common.{not_from_true, one-add, prefix_len, prefix_len-le-length, prefix_len_passes}
 use Rattle.sc_lex.proofs.Common.{prefix_len_stops, refl, slice_index, suc, sym, take, true, white_space, zero, ℕ}
 use Rattle.sc_lex.proofs.Common.{⊎_elim, ◌+◌, ◌<◌, ◌∙◌, ◌∷◌, ◌≡◌, ◌≤◌}
-use Rattle.sc_lex.proofs.Wording.{begins_with, front_byte}
+use Rattle.sc_lex.proofs.Wording.{begins_with, prefix_byte}
 use Rattle.sc_lex.proofs.Texts.{IsRun, kind_of-nil, none_from}
 
 -- numbers of which none is below the other are one
@@ -73,16 +73,16 @@ pub ends_within : (text : List ℕ) (at : ℕ) → IsTrue (ends_comment text at)
 ends_within text at h = omega (arith, (begins_with (drop at text) (codes "*/") h).fits, length-drop at text)
 
 pub slash_first : (text : List ℕ) → IsTrue (begins_line_comment text) → slice_index text 0 ≡ 47
-slash_first text h = front_byte text (codes "//") 0 h (omega arith)
+slash_first text h = prefix_byte text (codes "//") 0 h (omega arith)
 
 slash_second : (text : List ℕ) → IsTrue (begins_line_comment text) → slice_index text 1 ≡ 47
-slash_second text h = front_byte text (codes "//") 1 h (omega arith)
+slash_second text h = prefix_byte text (codes "//") 1 h (omega arith)
 
 pub star_first : (text : List ℕ) → IsTrue (begins_block_comment text) → slice_index text 0 ≡ 47
-star_first text h = front_byte text (codes "/*") 0 h (omega arith)
+star_first text h = prefix_byte text (codes "/*") 0 h (omega arith)
 
 star_second : (text : List ℕ) → IsTrue (begins_block_comment text) → slice_index text 1 ≡ 42
-star_second text h = front_byte text (codes "/*") 1 h (omega arith)
+star_second text h = prefix_byte text (codes "/*") 1 h (omega arith)
 
 pub white_no_slash : (text : List ℕ) → is_white_space (slice_index text 0) ≡ true → slice_index text 0 ≡ 47 → ⊥
 white_no_slash text h e = false≢true (rw e at h)

@@ -1,7 +1,7 @@
 pub mod Common
 pub mod Cuts
 pub mod Directives
-pub mod Fronts
+pub mod Prefixes
 pub mod Gaps
 pub mod Numbers
 pub mod Spans

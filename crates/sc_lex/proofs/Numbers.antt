@@ -36,7 +36,7 @@ module _ (base : ℕ) where
   unfolding is_number
   too_great digits i value greatest d some h less is high =
       let step = fold_more (λ value digit. value * base + digit_value digit) 0 digits i 0 less in
-      let front : number base (take (i + 1) digits) ≡ value * base + d = step ∙ rw (is, h.value_is) in
+      let prefix : number base (take (i + 1) digits) ≡ value * base + d = step ∙ rw (is, h.value_is) in
       let whole : number base digits ≡ fold (λ value digit. value * base + digit_value digit)
       (number base (take _ digits)) (drop (i + 1) digits) =
       ap (number base) (sym (take-append-drop (i + 1) digits)) ∙

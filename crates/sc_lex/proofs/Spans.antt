@@ -18,12 +18,12 @@ module _ (bytes : List ℕ) where
         line = refl;
       }
 
-  begin_behind : {at to : ℕ} {tokens : List Token} → Cuts bytes at to tokens → (before : ℕ) → before ≤ at →
+  begin_after : {at to : ℕ} {tokens : List Token} → Cuts bytes at to tokens → (before : ℕ) → before ≤ at →
       All (λ t. before ≤ t.start) tokens
-  begin_behind nothing before low = λ k d h. absurd (omega arith)
-  begin_behind (gap n h c) before low = begin_behind c before (omega arith)
-  begin_behind {at} (token {tokens = ts} kind n h c) before low =
-      All-cons (λ t. before ≤ t.start) (token_at bytes at kind n) ts low (begin_behind c before (omega arith))
+  begin_after nothing before low = λ k d h. absurd (omega arith)
+  begin_after (gap n h c) before low = begin_after c before (omega arith)
+  begin_after {at} (token {tokens = ts} kind n h c) before low =
+      All-cons (λ t. before ≤ t.start) (token_at bytes at kind n) ts low (begin_after c before (omega arith))
 
   cut_spans : {at to : ℕ} {tokens : List Token} → Cuts bytes at to tokens → AreSpans bytes tokens
   cut_spans nothing = record { each = λ k d h. absurd (omega arith); apart = λ i j d h k. absurd (omega arith) }
@@ -33,7 +33,7 @@ module _ (bytes : List ℕ) where
       record {
         each = All-cons (IsSpan bytes) (token_at bytes at kind n) ts (span_of at kind n h) rest.each;
         apart = AllPairs-cons (λ t later. t.end ≤ later.start) (token_at bytes at kind n) ts
-            (begin_behind c _ (omega arith)) rest.apart;
+            (begin_after c _ (omega arith)) rest.apart;
       }
 
   -- what a function over tokens needs of them

@@ -21,8 +21,8 @@ range-append : (text : List ℕ) (a b c : ℕ) → a ≤ b → b ≤ c →
 range-append text a b c h k =
     let there : a + (b - a) ≡ b = omega arith in
     let far : c - a ≡ (b - a) + (c - b) = omega arith in
-    let behind : drop b text ≡ drop (b - a) (drop a text) = rw (drop-drop, there) refl in
-    rw (behind, far) (take-add _ _ _)
+    let following : drop b text ≡ drop (b - a) (drop a text) = rw (drop-drop, there) refl in
+    rw (following, far) (take-add _ _ _)
 
 pub line_at_end : (text : List ℕ) (at end : ℕ) → at ≤ end →
     line_after (line_at text at) (newlines (slice_range text at end)) ≡ line_at text end

@@ -109,8 +109,8 @@ unfolding is_name
 name_bytes [] h = refl
 name_bytes (first ∷ rest) h =
     let parts = and_parts (is_nondigit first) _ h in
-    let behind = (and_parts (list_all _ rest) (nat_lt _ 63) parts.1).0 in
-    and_from (is_name_byte first) _ (or_left _ _ parts.0) behind
+    let following = (and_parts (list_all _ rest) (nat_lt _ 63) parts.1).0 in
+    and_from (is_name_byte first) _ (or_left _ _ parts.0) following
 
 -- all bytes of a text pass, and a token of this kind may be followed by those that don't
 pub record IsRun (p : ℕ → Bool) (text : List ℕ) (kind : TokenKind) : Type 0 where

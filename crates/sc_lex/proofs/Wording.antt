@@ -28,18 +28,18 @@ words-skip (b ∷ line) = cond_both (is_blank b) _ _ (λ n. words (drop n (b ∷
     (λ h. rw one-add (words-skip line ∙ sym (words-blank b line h))) (λ h. refl)
 
 -- a first word, and what follows it
-words-front : (line : List ℕ) (len : ℕ) → len ≡ position_or_len is_blank line → 0 < len →
+words-prefix : (line : List ℕ) (len : ℕ) → len ≡ position_or_len is_blank line → 0 < len →
     words line ≡ take len line ∷ words (drop len line)
 unfolding words
-words-front line len is some = ⊎_elim (λ less.
+words-prefix line len is some = ⊎_elim (λ less.
     let blank : is_blank (get_or line len 0) ≡ true =
     not-false _ (rw is (prefix_len_stops (λ byte. not (is_blank byte)) line 0 (rw is at less))) in
     let split : slice_split is_blank line ≡ take len line ∷ slice_split is_blank (drop (len + 1) line) =
     rw is (slice_split_first is_blank line 0 (rw is at less)) in
-    let behind : words (drop len line) ≡ words (drop (len + 1) line) =
+    let following : words (drop len line) ≡ words (drop (len + 1) line) =
     ap words (drop_more line len 0 less) ∙ words-blank (get_or line len 0) (drop (len + 1) line) blank in
     ap kept split ∙ kept-full (take len line) (slice_split is_blank (drop (len + 1) line)) full ∙
-    ap (λ ws. take len line ∷ ws) (sym behind)) (λ past.
+    ap (λ ws. take len line ∷ ws) (sym following)) (λ past.
     let none = slice_split_none is_blank line (λ k d h.
     not-true _ (prefix_len_passes (λ byte. not (is_blank byte)) line k d (omega arith))) in
     let all : take len line ≡ line = take_all len line past in
@@ -53,35 +53,35 @@ words-front line len is some = ⊎_elim (λ less.
     full = omega (arith, length-take-le len line fits)
 
 -- the first word is this long, and the others follow it
-record Front (line : List ℕ) (len : ℕ) : Type 0 where
+record FirstWord (line : List ℕ) (len : ℕ) : Type 0 where
   word : take len line ≡ get_or (words line) 0 []
-  behind : words (drop len line) ≡ drop 1 (words line)
+  following : words (drop len line) ≡ drop 1 (words line)
 
-front_some : (line : List ℕ) (len : ℕ) → words line ≡ take len line ∷ words (drop len line) → Front line len
-front_some line len h = record { word = sym (ap (λ ws. get_or ws 0 []) h); behind = sym (ap (λ ws. drop 1 ws) h) }
+first_word_some : (line : List ℕ) (len : ℕ) → words line ≡ take len line ∷ words (drop len line) → FirstWord line len
+first_word_some line len h = record { word = sym (ap (λ ws. get_or ws 0 []) h); following = sym (ap (λ ws. drop 1 ws) h) }
 
-front_nil : (line : List ℕ) (len : ℕ) → line ≡ [] → Front line len
+first_word_nil : (line : List ℕ) (len : ℕ) → line ≡ [] → FirstWord line len
 unfolding words
-front_nil line zero h = rw h (record { word = refl; behind = refl })
-front_nil line (suc n) h = rw h (record { word = refl; behind = refl })
+first_word_nil line zero h = rw h (record { word = refl; following = refl })
+first_word_nil line (suc n) h = rw h (record { word = refl; following = refl })
 
-front : (line : List ℕ) (b l : ℕ) → b ≡ prefix_len is_blank line → l ≡ position_or_len is_blank (drop b line) →
-    Front (drop b line) l
-front line b l p q = ⊎_elim (λ less.
+prefix : (line : List ℕ) (b l : ℕ) → b ≡ prefix_len is_blank line → l ≡ position_or_len is_blank (drop b line) →
+    FirstWord (drop b line) l
+prefix line b l p q = ⊎_elim (λ less.
     let solid : is_blank (get_or line b 0) ≡ false = rw p (prefix_len_stops is_blank line 0 (rw p at less)) in
     let starts : position_or_len is_blank (drop b line) ≡ 1 + position_or_len is_blank (drop (b + 1) line) =
     ap (position_or_len _) (drop_more line b 0 less) ∙ rw solid in
-    front_some (drop b line) l (words-front (drop b line) l q (omega arith)))
-    (λ past. front_nil (drop b line) l (drop_all b line past)) (cases_lt b _)
+    first_word_some (drop b line) l (words-prefix (drop b line) l q (omega arith)))
+    (λ past. first_word_nil (drop b line) l (drop_all b line past)) (cases_lt b _)
 
 pub first_word : (line : List ℕ) (b l : ℕ) → b ≡ prefix_len is_blank line → l ≡ position_or_len is_blank (drop b line) →
     take l (drop b line) ≡ get_or (words line) 0 []
-first_word line b l p q = (front line b l p q).word ∙
+first_word line b l p q = (prefix line b l p q).word ∙
     ap (λ ws. get_or ws 0 []) (ap (λ n. words (drop n line)) p ∙ words-skip line)
 
 pub rest_words : (line : List ℕ) (b l : ℕ) → b ≡ prefix_len is_blank line → l ≡ position_or_len is_blank (drop b line) →
     words (drop l (drop b line)) ≡ drop 1 (words line)
-rest_words line b l p q = (front line b l p q).behind ∙
+rest_words line b l p q = (prefix line b l p q).following ∙
     ap (λ ws. drop 1 ws) (ap (λ n. words (drop n line)) p ∙ words-skip line)
 
 pub ruleset wording = (first_word, rest_words, take_rest)
@@ -119,18 +119,18 @@ only_word line word other p q =
 pub ruleset only_words = (only_word)
 
 -- what a text begins with, and that it is long enough
-pub record Begins (text front : List ℕ) : Type 0 where
-  pub is : take (length front) text ≡ front
-  pub fits : length front ≤ length text
+pub record Begins (text prefix : List ℕ) : Type 0 where
+  pub is : take (length prefix) text ≡ prefix
+  pub fits : length prefix ≤ length text
 
-pub begins_with : (text front : List ℕ) → starts_with nat_eq text front ≡ true → Begins text front
-begins_with text front h =
-    let same : front ≡ take _ text = (slice_eq-Decides Decides-eqb front _ _ refl).0 h in
-    record { is = sym same; fits = omega (arith, length-take (length front) text, ap length same) }
+pub begins_with : (text prefix : List ℕ) → starts_with nat_eq text prefix ≡ true → Begins text prefix
+begins_with text prefix h =
+    let same : prefix ≡ take _ text = (slice_eq-Decides Decides-eqb prefix _ _ refl).0 h in
+    record { is = sym same; fits = omega (arith, length-take (length prefix) text, ap length same) }
 
-pub front_byte : (text front : List ℕ) (i : ℕ) → starts_with nat_eq text front ≡ true → i < length front →
-    get_or text i 0 ≡ get_or front i 0
-front_byte text front i h k = sym (get_or-take _ text i 0 k) ∙ ap (λ t. get_or t i 0) (begins_with text front h).is
+pub prefix_byte : (text prefix : List ℕ) (i : ℕ) → starts_with nat_eq text prefix ≡ true → i < length prefix →
+    get_or text i 0 ≡ get_or prefix i 0
+prefix_byte text prefix i h k = sym (get_or-take _ text i 0 k) ∙ ap (λ t. get_or t i 0) (begins_with text prefix h).is
 
 pub heading_fits : (text : List ℕ) → begins_heading text ≡ true → 20 ≤ length text
 heading_fits text h = (begins_with text (codes "#pragma compartment ") h).fits

@@ -70,7 +70,7 @@ pub record IsStuck (bytes : List ℕ) (at : ℕ) : Type 0 where
 pub record RefusesBytes (bytes : List ℕ) (first_line : ℕ) (refusal : Refusal) : Type 0 where
   pub at : ℕ
   pub tokens : List Token
-  pub front : Cuts bytes 0 at tokens
+  pub prefix : Cuts bytes 0 at tokens
   pub stuck : IsStuck bytes at
   pub phase : refusal.phase ≡ Lex
   pub line : refusal.line ≡ line_after first_line (newlines (take at bytes))

@@ -28,9 +28,9 @@ pub data AreSections (text : List ℕ) : ℕ → ℕ → List Section → Type 0
 
 -- the preamble ends where the first compartment line stands, and the sections go on to the end of the text
 pub record IsSplit (text preamble : List ℕ) (sections : List Section) : Type 0 where
-  pub front : preamble ≡ take (length preamble) text
+  pub prefix : preamble ≡ take (length preamble) text
   pub before : NoHeading text 0 (length preamble)
-  pub behind : AreSections text (length preamble) (length text) sections
+  pub following : AreSections text (length preamble) (length text) sections
 
 -- a bad compartment line stands at this place
 pub record IsBadHeading (text : List ℕ) (at : ℕ) : Type 0 where

@@ -4,14 +4,14 @@ use Rattle.sc_linker.proofs.Common.{Function, Global, IfSome, Instr, IsKnown, Ja
 use Rattle.sc_linker.proofs.Common.{Relocation, SectionLayout, Some, Target, TypedFunction, TypedGlobal, TypedSection}
 use Rattle.sc_linker.proofs.Common.{Upper, [], addresses_of, ap, ap₂, arith, bytes_eq, cells_of, code_sizes}
 use Rattle.sc_linker.proofs.Common.{entry_address, entry_jumps, function_address, global_sizes, length, length-map}
-use Rattle.sc_linker.proofs.Common.{linked, linked_codes, linked_from, low_behind, ltb-true, map, map-append}
-use Rattle.sc_linker.proofs.Common.{place_named, pos, position, refl, relocations_behind, section_addresses}
+use Rattle.sc_linker.proofs.Common.{linked, linked_codes, linked_from, low_of_target, ltb-true, map, map-append}
+use Rattle.sc_linker.proofs.Common.{place_named, pos, position, refl, relocations_after, section_addresses}
 use Rattle.sc_linker.proofs.Common.{section_code, section_layout, slice_index, stack_top, starts, subst, suc, sym, take}
 use Rattle.sc_linker.proofs.Common.{take-map, target_at, total, upper_part, with_low, with_target, word_of, ℕ, ◌*◌}
 use Rattle.sc_linker.proofs.Common.{◌++◌, ◌+◌, ◌-ℤ◌, ◌<◌, ◌∙◌, ◌∷◌, ◌≡◌}
 use Rattle.std.proofs.lemmas.List.Quantifiers.{position-Some}
 use Rattle.rv_code.specs.declared.instr.Instr.TheVariants as instr
-use Rattle.sc_linker.proofs.Relocating.{known_at, known_behind}
+use Rattle.sc_linker.proofs.Relocating.{known_at, known_after}
 use Rattle.sc_linker.proofs.Beginnings.{starts_at, starts_length}
 
 -- the same addresses, as far as there are functions and globals
@@ -37,7 +37,7 @@ module _ (A B : Addresses) (functions globals : ℕ) (agree : Agree A B function
   same_target pc (Some target) i known = refl
 
   same_low : (target : Option Target) → IfSome target (IsKnown functions globals) →
-      low_behind A target ≡ low_behind B target
+      low_of_target A target ≡ low_of_target B target
   same_low None known = refl
   same_low (Some (Function number)) known = refl
   same_low (Some (Entry comp index)) known = ap Some (agree.entry comp index)
@@ -48,10 +48,10 @@ module _ (A B : Addresses) (functions globals : ℕ) (agree : Agree A B function
   same_next at [] = refl
   same_next at (relocation ∷ relocations) = refl
 
-  same_behind : (at : ℕ) (relocations : List Relocation) →
-      relocations_behind A at relocations ≡ relocations_behind B at relocations
-  same_behind at [] = refl
-  same_behind at (relocation ∷ relocations) = refl
+  same_after : (at : ℕ) (relocations : List Relocation) →
+      relocations_after A at relocations ≡ relocations_after B at relocations
+  same_after at [] = refl
+  same_after at (relocation ∷ relocations) = refl
 
   same_from : (pc at : ℕ) (low : Option ℕ) (instrs : List Instr) (relocations : List Relocation) →
       AreKnown functions globals relocations →
@@ -63,10 +63,10 @@ module _ (A B : Addresses) (functions globals : ℕ) (agree : Agree A B function
       known_at A functions globals at relocations target refl known in
       ap₂ (λ x rest. with_low low x ∷ rest)
       (same_target pc target i here ∙ ap (λ t. with_target B pc t i) (same_next at relocations))
-      (same_from (pc + 4) (suc at) (low_behind A target) instrs (relocations_behind A at relocations)
-      (known_behind A functions globals at relocations (relocations_behind A at relocations) refl known) ∙
+      (same_from (pc + 4) (suc at) (low_of_target A target) instrs (relocations_after A at relocations)
+      (known_after A functions globals at relocations (relocations_after A at relocations) refl known) ∙
       ap₂ (λ l rs. linked_from B (pc + 4) (suc at) l instrs rs)
-      (same_low target here ∙ ap (low_behind B) (same_next at relocations)) (same_behind at relocations))
+      (same_low target here ∙ ap (low_of_target B) (same_next at relocations)) (same_after at relocations))
 
   same_codes : (address : ℕ) (codes : List CodeTree) →
       All {X = CodeTree} (λ code. AreKnown functions globals code.relocations) codes →
@@ -184,7 +184,7 @@ module _ (comp : ℕ) (exports : List Proto) (section : TypedSection) (codes : L
       all ≡ map word_of (section_code comp exports section codes)
   code_by_layout words entries all used address is there none jumps linked =
       linked ∙
-      ap₂ (λ front later. front ++ map word_of later)
+      ap₂ (λ prefix later. prefix ++ map word_of later)
       (jumps ∙ ap₂ (λ before (l : SectionLayout).
       before ++ map word_of (entry_jumps (addresses_of l) l.comp 0 section exports)) none is)
       (ap₂ (λ (l : SectionLayout) a. linked_codes (addresses_of l) a codes) is there) ∙

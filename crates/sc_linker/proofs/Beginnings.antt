@@ -1,5 +1,5 @@
 -- Where functions and globals begin.
-use Rattle.sc_linker.proofs.Common.{All, All-append, All-cons, All-head, All-nil, All-tail, CodeTree, HasRoom}
+use Rattle.sc_linker.proofs.Common.{All, All-append, All-cons, All-head, All-nil, All-tail, CodeTree, Fits}
 use Rattle.sc_linker.proofs.Common.{IsCodeAddress, List, [], ap, arith, code_sizes, get_or, instructions, length, refl}
 use Rattle.sc_linker.proofs.Common.{slice_index, starts, subst, suc, sym, take, take-step, take_all, total, zero, ℕ}
 use Rattle.sc_linker.proofs.Common.{◌*◌, ◌+◌, ◌<◌, ◌∷◌, ◌≡◌, ◌≤◌}
@@ -33,7 +33,7 @@ abbrev IsSome : CodeTree → Type 0
 IsSome code = 0 < length code.instrs
 
 -- where codes begin there is an instruction
-pub starts_in_code : (comp address : ℕ) (codes : List CodeTree) → HasRoom comp address (instructions codes) →
+pub starts_in_code : (comp address : ℕ) (codes : List CodeTree) → Fits comp address (instructions codes) →
     All {X = CodeTree} (λ code. 0 < length code.instrs) codes →
     All (IsCodeAddress comp) (starts address (code_sizes codes))
 starts_in_code comp address [] room some = All-nil (IsCodeAddress comp)

@@ -99,10 +99,10 @@ variable_many structs t fit h =
     (λ i. let e : 0 + i ≡ i = omega arith in ap (slice_get structs) e) fit n (omega (arith, within)))
     (length structs) t (and_first (type_within (length structs) (length structs) t) _ h)
 
-pub words_many : (words : List ℕ) (cells : List Cell) → length (with_words words cells) ≡ length cells
-words_many [] cells = refl
-words_many (w ∷ ws) [] = refl
-words_many (w ∷ ws) (cell.Undef ∷ cells) = ap suc (words_many ws cells)
-words_many (w ∷ ws) (cell.Word v ∷ cells) = ap suc (words_many ws cells)
-words_many (w ∷ ws) (cell.Null ∷ cells) = ap suc (words_many ws cells)
-words_many (w ∷ ws) (cell.Ptr p ∷ cells) = ap suc (words_many ws cells)
+pub words_length : (words : List ℕ) (cells : List Cell) → length (with_words words cells) ≡ length cells
+words_length [] cells = refl
+words_length (w ∷ ws) [] = refl
+words_length (w ∷ ws) (cell.Undef ∷ cells) = ap suc (words_length ws cells)
+words_length (w ∷ ws) (cell.Word v ∷ cells) = ap suc (words_length ws cells)
+words_length (w ∷ ws) (cell.Null ∷ cells) = ap suc (words_length ws cells)
+words_length (w ∷ ws) (cell.Ptr p ∷ cells) = ap suc (words_length ws cells)

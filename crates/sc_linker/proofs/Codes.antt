@@ -2,7 +2,7 @@
 use Rattle.sc_linker.proofs.Common.{Addresses, All, All-drop, All-nil, All-take, CodeTree, Instr, List, None, Option}
 use Rattle.sc_linker.proofs.Common.{Proto, Relocation, Some, TypedSection, [], ap, arith, codes_in, drop, entry_jump}
 use Rattle.sc_linker.proofs.Common.{entry_jumps, instructions, length, length-append, length-drop, length-take, linked}
-use Rattle.sc_linker.proofs.Common.{linked_codes, linked_from, low_behind, map, refl, relocations_behind, slice_get}
+use Rattle.sc_linker.proofs.Common.{linked_codes, linked_from, low_of_target, map, refl, relocations_after, slice_get}
 use Rattle.sc_linker.proofs.Common.{suc, sym, take, target_at, total, zero, ℕ, ◌*◌, ◌+◌, ◌∙◌, ◌∷◌, ◌≡◌, ◌≤◌}
 use Rattle.sc_linker.proofs.Places.{get_after, get_before}
 
@@ -48,8 +48,8 @@ module _ (A : Addresses) where
       length (linked_from A pc at low instrs relocations) ≡ length instrs
   from_length pc at low [] relocations = refl
   from_length pc at low (instr ∷ instrs) relocations =
-      ap suc (from_length (pc + 4) (suc at) (low_behind A (target_at A at relocations)) instrs
-      (relocations_behind A at relocations))
+      ap suc (from_length (pc + 4) (suc at) (low_of_target A (target_at A at relocations)) instrs
+      (relocations_after A at relocations))
 
   pub linked_length : (address : ℕ) (code : CodeTree) → length (linked A address code) ≡ length code.instrs
   linked_length address code = from_length address 0 None code.instrs code.relocations

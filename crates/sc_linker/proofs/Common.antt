@@ -20,7 +20,7 @@ pub use Rattle.std.proofs.lemmas.Option.{slice_get_within}
 pub use Rattle.std.specs.List.{list_all, list_any}
 pub use Rattle.std.specs.Option.{option_map_or}
 pub use Rattle.sc_base.proofs.Bools.{and_first, and_rest}
-pub use Rattle.sc_base.proofs.Lists.{drop-step, get_behind, list_all_along, position-cons, take-step}
+pub use Rattle.sc_base.proofs.Lists.{drop-step, get_after, list_all_along, position-cons, take-step}
 pub use Rattle.sc_base.proofs.Texts.{bytes_eq_self, same_either_way}
 pub use Rattle.sc_base.specs.Prelude.{is_name, number_of}
 pub use Rattle.sc_event.specs.Prelude.{comp_at, export_at, imports, is_function, is_input, is_output}
@@ -55,12 +55,12 @@ pub use Rattle.sc_image.specs.declared.parts.ImportPart.{ImportPart}
 pub use Rattle.sc_tac.specs.declared.machine_code.Relocation.{Relocation}
 pub use Rattle.sc_tac.specs.declared.machine_code.Target.{Target}
 pub use Rattle.sc_tac.specs.declared.machine_code.Target.TheVariants.{Entry, Function, Global}
-pub use Rattle.sc_select.specs.Prelude.{Addresses, is_named, linked, linked_from, low_behind, lower_part}
-pub use Rattle.sc_select.specs.Prelude.{relocations_behind, target_at, upper_part, with_low, with_target}
+pub use Rattle.sc_select.specs.Prelude.{Addresses, is_named, linked, linked_from, low_of_target, lower_part}
+pub use Rattle.sc_select.specs.Prelude.{relocations_after, target_at, upper_part, with_low, with_target}
 pub use Rattle.sc_linker.specs.Common.{Cell, Export, ImageParts, Instr, Interface, Jal, Main, ProgramTree, TypedGlobal}
 pub use Rattle.sc_linker.specs.Common.{TypedSection, TypedStruct, Upper}
-pub use Rattle.sc_linker.specs.Prelude.{AreGivenWords, AreKnown, AreNamed, CanBeLinked, CodeTree, EntriesStand}
-pub use Rattle.sc_linker.specs.Prelude.{FunctionsStand, GlobalsStand, HasRoom, ImportsStand, IsCodeAddress, IsKnown}
+pub use Rattle.sc_linker.specs.Prelude.{GlobalsAreWords, AreKnown, AreNamed, CanBeLinked, CodeTree, EntriesStand}
+pub use Rattle.sc_linker.specs.Prelude.{FunctionsStand, GlobalsStand, Fits, ImportsStand, IsCodeAddress, IsKnown}
 pub use Rattle.sc_linker.specs.Prelude.{IsLinkable, IsNamed, IsStart, IsWhole, LinkedImagesHold, Proto, RefersInside}
 pub use Rattle.sc_linker.specs.Prelude.{StandFrom, StandsAt, TypedFunction, addresses_at, addresses_of, cell_word}
 pub use Rattle.sc_linker.specs.Prelude.{cells, code_sizes, codes_at, codes_in, comp_code, comp_part, comp_parts}

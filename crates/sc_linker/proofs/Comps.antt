@@ -37,10 +37,10 @@ record Pair (interfaces : Interfaces) (number : ℕ) (comps : List Interface) (s
     (n : ℕ) : Type 0 where
   pub interface : Interface
   pub section : TypedSection
-  pub face : slice_get comps n ≡ Some interface
+  pub interface_is : slice_get comps n ≡ Some interface
   pub is : slice_get sections n ≡ Some section
   pub fits : section_fits interfaces number interface section ≡ true
-  pub faces : interface_fits interfaces number interface section ≡ true
+  pub interface_fitting : interface_fits interfaces number interface section ≡ true
 
 paired : (interfaces : Interfaces) (k number : ℕ) (comps : List Interface) (sections : List TypedSection) →
     sections_fit interfaces k comps sections ≡ true → (n : ℕ) → number ≡ k + n →
@@ -50,15 +50,15 @@ paired interfaces k number [] (y ∷ ys) h n e = absurd (false≢true h)
 paired interfaces k number (x ∷ xs) [] h n e = absurd (false≢true h)
 paired interfaces k number (x ∷ xs) (y ∷ ys) h zero e =
     let same : k ≡ number = omega (arith, e) in
-    let behind = and_rest (section_fits interfaces k x y) _ h in
+    let following = and_rest (section_fits interfaces k x y) _ h in
     inl (record {
       interface = x;
       section = y;
-      face = refl;
+      interface_is = refl;
       is = refl;
       fits = subst (λ n. section_fits interfaces n x y ≡ true) same (and_first (section_fits interfaces k x y) _ h);
-      faces = subst (λ n. interface_fits interfaces n x y ≡ true) same
-          (and_first (interface_fits interfaces k x y) _ behind);
+      interface_fitting = subst (λ n. interface_fits interfaces n x y ≡ true) same
+          (and_first (interface_fits interfaces k x y) _ following);
     })
 paired interfaces k number (x ∷ xs) (y ∷ ys) h (suc n) e =
     by (paired interfaces (suc k) number xs ys
@@ -70,10 +70,10 @@ paired interfaces k number (x ∷ xs) (y ∷ ys) h (suc n) e =
       by (inl p) = inl (record {
         interface = p.interface;
         section = p.section;
-        face = p.face;
+        interface_is = p.interface_is;
         is = p.is;
         fits = p.fits;
-        faces = p.faces;
+        interface_fitting = p.interface_fitting;
       })
       by (inr none) = inr none
 
@@ -90,10 +90,10 @@ lengths_fit interfaces k (x ∷ xs) (y ∷ ys) h =
 pub record Fits (program : ProgramTree) (c : ℕ) : Type 0 where
   pub interface : Interface
   pub section : TypedSection
-  pub face : comp_at program.interfaces c ≡ Some interface
+  pub interface_is : comp_at program.interfaces c ≡ Some interface
   pub is : slice_get program.sections c ≡ Some section
   pub fits : section_fits program.interfaces c interface section ≡ true
-  pub faces : interface_fits program.interfaces c interface section ≡ true
+  pub interface_fitting : interface_fits program.interfaces c interface section ≡ true
 
 module _ (program : ProgramTree) (typed : IsWellTyped program) where
   pub names_so : are_distinct (text "Env" ∷ map {A = Interface} (λ i. i.name) program.interfaces.comps) ≡ true
@@ -118,10 +118,10 @@ module _ (program : ProgramTree) (typed : IsWellTyped program) where
         by (inl p) = inl (record {
           interface = p.interface;
           section = p.section;
-          face = p.face;
+          interface_is = p.interface_is;
           is = p.is;
           fits = p.fits;
-          faces = p.faces;
+          interface_fitting = p.interface_fitting;
         })
         by (inr none) = inr none
 
@@ -137,7 +137,7 @@ section_is program c fits = ap section_or_none fits.is
 
 pub exports_are : (program : ProgramTree) (c : ℕ) (fits : Fits program c) →
     exports_at program c ≡ fits.interface.exports
-exports_are program c fits = ap exports_in fits.face
+exports_are program c fits = ap exports_in fits.interface_is
 
 -- what an image has of a compartment
 module _ (program : ProgramTree) (codes : List CodeTree) (c : ℕ) (fits : Fits program c) where
@@ -145,7 +145,7 @@ module _ (program : ProgramTree) (codes : List CodeTree) (c : ℕ) (fits : Fits 
   part = comp_part program codes c fits.interface
 
   pub part_is : slice_get (linked_image program codes).comps c ≡ Some part
-  part_is = part_there program codes c fits.interface fits.face
+  part_is = part_there program codes c fits.interface fits.interface_is
 
 -- a number of a compartment is small
 pub number_below : (program : ProgramTree) → IsWellTyped program → (c : ℕ) → Fits program c → c < 32
@@ -173,4 +173,4 @@ module _ (program : ProgramTree) (typed : IsWellTyped program) (c index : ℕ) (
     pub export_there : Fits program c → slice_get (exports_at program c) index ≡ Some proto
     export_there fits =
         ap (λ ps. slice_get ps index) (exports_are program c fits)
-        ∙ sym (ap (λ o. option_and_then (λ (found : Interface). slice_get found.exports index) o) fits.face) ∙ is
+        ∙ sym (ap (λ o. option_and_then (λ (found : Interface). slice_get found.exports index) o) fits.interface_is) ∙ is

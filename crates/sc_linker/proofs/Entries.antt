@@ -77,7 +77,7 @@ module _ (program : ProgramTree) (codes : List CodeTree) (typed : IsWellTyped pr
           arith,
           number_below program typed c fits,
           slice_get_within fits.interface.exports index proto own,
-          few_exports program.interfaces c fits.interface fits.section fits.faces,
+          few_exports program.interfaces c fits.interface fits.section fits.interface_fitting,
         )
 
   module _ (whole : All IsWhole codes) (linkable : IsLinkable program codes) where

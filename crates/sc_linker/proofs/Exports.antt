@@ -38,33 +38,33 @@ module _ (interfaces : Interfaces) (c : ℕ) (interface : Interface) (section : 
         (and_rest (structs_fit section.structs 0 section.structs) _ fits))
 
   -- what its interface keeps
-  module _ (faces : interface_fits interfaces c interface section ≡ true) where
+  module _ (interface_fitting : interface_fits interfaces c interface section ≡ true) where
     abbrev own_names : List (List ℕ)
     own_names = map {A = TypedFunction} (λ f. f.name) section.functions
 
     pub callable_apart : are_distinct (map (import_name interfaces) interface.imports ++ own_names) ≡ true
-    callable_apart = and_first (are_distinct (map (import_name interfaces) interface.imports ++ own_names)) _ faces
+    callable_apart = and_first (are_distinct (map (import_name interfaces) interface.imports ++ own_names)) _ interface_fitting
 
     pub names_apart : are_distinct (map name_of interface.exports) ≡ true
     names_apart = and_first (are_distinct (map name_of interface.exports)) _
-        (and_rest (are_distinct (map (import_name interfaces) interface.imports ++ own_names)) _ faces)
+        (and_rest (are_distinct (map (import_name interfaces) interface.imports ++ own_names)) _ interface_fitting)
 
     pub exports_so : list_all (export_fits section.functions) interface.exports ≡ true
     exports_so = and_first (list_all (export_fits section.functions) interface.exports) _
         (and_rest (are_distinct (map name_of interface.exports)) _
-        (and_rest (are_distinct (map (import_name interfaces) interface.imports ++ own_names)) _ faces))
+        (and_rest (are_distinct (map (import_name interfaces) interface.imports ++ own_names)) _ interface_fitting))
 
     pub imports_so : list_all (import_fits interfaces c) interface.imports ≡ true
     imports_so = and_first (list_all (import_fits interfaces c) interface.imports) _
         (and_rest (list_all (export_fits section.functions) interface.exports) _
         (and_rest (are_distinct (map name_of interface.exports)) _
-        (and_rest (are_distinct (map (import_name interfaces) interface.imports ++ own_names)) _ faces)))
+        (and_rest (are_distinct (map (import_name interfaces) interface.imports ++ own_names)) _ interface_fitting)))
 
     few_so : (nat_le (length interface.exports) most_exports && nat_le (length interface.imports) most_exports) ≡ true
     few_so = and_rest (list_all (import_fits interfaces c) interface.imports) _
         (and_rest (list_all (export_fits section.functions) interface.exports) _
         (and_rest (are_distinct (map name_of interface.exports)) _
-        (and_rest (are_distinct (map (import_name interfaces) interface.imports ++ own_names)) _ faces)))
+        (and_rest (are_distinct (map (import_name interfaces) interface.imports ++ own_names)) _ interface_fitting)))
 
     pub few_exports : length interface.exports ≤ 4096
     few_exports = leb-true (length interface.exports) most_exports

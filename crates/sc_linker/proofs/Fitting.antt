@@ -29,15 +29,15 @@ module _ (interfaces : Interfaces) where
   first_section : (comp : ℕ) (interface : Interface) (section : TypedSection) (sections : List TypedSection) →
       section_fits interfaces comp interface section ≡ true → interface_fits interfaces comp interface section ≡ true →
       HasSection (section ∷ sections) 0 interface
-  first_section comp interface section sections fits faces =
-      let behind = and_rest (structs_fit section.structs 0 section.structs) _ fits in
+  first_section comp interface section sections fits interface_fitting =
+      let following = and_rest (structs_fit section.structs 0 section.structs) _ fits in
       let distinct = and_rest (are_distinct (export_names interface)) _
-      (and_rest (are_distinct (callable_names interfaces interface section)) _ faces) in
+      (and_rest (are_distinct (callable_names interfaces interface section)) _ interface_fitting) in
       record {
         section = section;
         there = refl;
         structs = and_first (structs_fit section.structs 0 section.structs) _ fits;
-        globals = and_first (list_all (global_fits section.structs) section.globals) _ behind;
+        globals = and_first (list_all (global_fits section.structs) section.globals) _ following;
         exports = and_first (list_all (export_fits section.functions) interface.exports) _ distinct;
         few = leb-true (length interface.exports) most_exports
             (and_first (nat_le (length interface.exports) most_exports) _
@@ -79,16 +79,16 @@ some_place : {X : Type 0} (p q : X → Bool) → ((x : X) → p x ≡ true → q
 some_place p q on [] some = absurd (false≢true some)
 some_place {X} p q on (x ∷ xs) some =
     ap is_some (position-cons q x xs) ∙ by (p x) refl (q x) refl (some_place p q on xs) where
-      behind : (o : Option ℕ) → is_some o ≡ true → is_some (option_map suc o) ≡ true
-      behind None h = absurd (false≢true h)
-      behind (Some n) h = refl
+      following : (o : Option ℕ) → is_some o ≡ true → is_some (option_map suc o) ≡ true
+      following None h = absurd (false≢true h)
+      following (Some n) h = refl
 
       by : (a : Bool) → p x ≡ a → (b : Bool) → q x ≡ b → (list_any p xs ≡ true → is_some (position q xs) ≡ true) →
           is_some (cond b (Some 0) (option_map suc (position q xs))) ≡ true
       by a first true second later = refl
       by true first false second later = absurd (false≢true (sym second ∙ on x first))
       by false first false second later =
-          behind (position q xs) (later (subst (λ c. (c || list_any p xs) ≡ true) first some))
+          following (position q xs) (later (subst (λ c. (c || list_any p xs) ≡ true) first some))
 
 -- an export has a function
 exports_named : (section : TypedSection) (exports : List Proto) →

@@ -91,8 +91,8 @@ module _ (program : ProgramTree) (codes : List CodeTree) (typed : IsWellTyped pr
             name =
                 all_here (λ (proto : Proto). IsTrue (is_name proto.name)) interface.exports
                 (all_here (λ (x : Interface). All {X = Proto} (λ proto. IsTrue (is_name proto.name)) x.exports)
-                program.interfaces.comps are_named.exports c interface fits.face) i of.proto of.is;
-            params = few_params program.interfaces c interface fits.section fits.faces fits.fits i of.proto of.is;
+                program.interfaces.comps are_named.exports c interface fits.interface_is) i of.proto of.is;
+            params = few_params program.interfaces c interface fits.section fits.interface_fitting fits.fits i of.proto of.is;
             entry = entry_starts i of.proto of.is;
           })
 
@@ -118,33 +118,33 @@ module _ (program : ProgramTree) (codes : List CodeTree) (typed : IsWellTyped pr
           distinct_at (text "Env" ∷ map {A = Interface} (λ i. i.name) program.interfaces.comps)
           (names_so program typed) 0 (suc c) (text "Env") interface.name (omega arith) refl
           (slice_get-map (λ (i : Interface). i.name) program.interfaces.comps c
-          ∙ ap (option_map (λ (i : Interface). i.name)) fits.face) (sym same)
+          ∙ ap (option_map (λ (i : Interface). i.name)) fits.interface_is) (sym same)
 
       pub comp_formed : IsComp image c (comp_part program codes c interface)
       comp_formed = record {
         name = all_here (λ (x : Interface). IsTrue (is_name x.name)) program.interfaces.comps are_named.comps c
-            interface fits.face;
+            interface fits.interface_is;
         no_environment = not_environment;
         few_exports = omega (
           arith,
           parts_length c 0 interface.exports,
-          few_exports program.interfaces c interface fits.section fits.faces,
+          few_exports program.interfaces c interface fits.section fits.interface_fitting,
         );
         exports = all_from (IsExport image c) (export_parts c 0 interface.exports) export_formed;
         export_names = subst IsDistinct (sym (export_names_are c 0 interface.exports))
             (text_distinct (map name_of interface.exports)
-            (names_apart program.interfaces c interface fits.section fits.faces));
+            (names_apart program.interfaces c interface fits.section fits.interface_fitting));
         export_entries = entries_differ c interface.exports;
         few_imports = omega (
           arith,
           few_parts interface.imports,
-          few_imports program.interfaces c interface fits.section fits.faces,
+          few_imports program.interfaces c interface fits.section fits.interface_fitting,
         );
         imports = of_others program codes c interface.imports
-            (imports_so program.interfaces c interface fits.section fits.faces);
+            (imports_so program.interfaces c interface fits.section fits.interface_fitting);
         distinct_imports = each_once program.interfaces interface.imports
             (map {A = TypedFunction} (λ f. f.name) fits.section.functions)
-            (callable_apart program.interfaces c interface fits.section fits.faces);
+            (callable_apart program.interfaces c interface fits.section fits.interface_fitting);
         short_code = omega (arith, code_count, linkable.code c);
         words = code_words (comp_code program codes c)
             (code_instrs c (exports_at program c) (section_at program c) (codes_at program codes c) can);

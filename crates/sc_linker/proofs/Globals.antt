@@ -1,5 +1,5 @@
 -- In a linked image each global lies at its place in its compartment's data, and holds its words at the start.
-use Rattle.sc_linker.proofs.Common.{All, AreGivenWords, Block, Cell, CodeTree, CompPart, GlobalsStand, IsLinkable}
+use Rattle.sc_linker.proofs.Common.{All, GlobalsAreWords, Block, Cell, CodeTree, CompPart, GlobalsStand, IsLinkable}
 use Rattle.sc_linker.proofs.Common.{IsStart, IsWellTyped, List, None, Option, ProgramTree, Some, TypedGlobal}
 use Rattle.sc_linker.proofs.Common.{TypedSection, [], addresses_at, ap, arith, cases_lt, cell_word, cells, cells_of}
 use Rattle.sc_linker.proofs.Common.{comp_at, first_blocks, flat_map, global_block, global_fits, global_words}
@@ -204,7 +204,7 @@ module _ (program : ProgramTree) (codes : List CodeTree) (typed : IsWellTyped pr
           let never : None ≡ Some g = sym (ap (λ o. slice_get (section_or_none o).globals number) none.1) ∙ is in
           absurd (cc)
 
-    module _ (given : AreGivenWords program.sections) where
+    module _ (given : GlobalsAreWords program.sections) where
       known_by : (comp number i : ℕ) (cs : List Cell) (one : Cell) → Begins comp number cs →
           slice_get cs i ≡ Some one → IsStart one
       known_by comp number i cs one is at =

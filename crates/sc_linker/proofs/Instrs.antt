@@ -2,8 +2,8 @@
 use Rattle.sc_linker.proofs.Common.{Addresses, All, All-cons, All-head, All-nil, All-tail, Bool, Entry, Function}
 use Rattle.sc_linker.proofs.Common.{Global, Instr, IsImmediate, IsInstr, IsJumpOffset, IsUpper, Jal, List, None, Option}
 use Rattle.sc_linker.proofs.Common.{Relocation, Some, Target, Upper, [], arith, cases_lt, false, if◌then◌else◌, length}
-use Rattle.sc_linker.proofs.Common.{linked_from, low_behind, lower_part, ltb-false, ltb-true, nat_lt, negsuc, pos, refl}
-use Rattle.sc_linker.proofs.Common.{relocations_behind, rules, subst, suc, target_at, true, upper_part, with_low}
+use Rattle.sc_linker.proofs.Common.{linked_from, low_of_target, lower_part, ltb-false, ltb-true, nat_lt, negsuc, pos, refl}
+use Rattle.sc_linker.proofs.Common.{relocations_after, rules, subst, suc, target_at, true, upper_part, with_low}
 use Rattle.sc_linker.proofs.Common.{with_target, ℕ, ⊎_elim, ◌%◌, ◌*◌, ◌+◌, ◌-ℤ◌, ◌-◌, ◌<◌, ◌==◌, ◌^◌, ◌∷◌, ◌≡◌, ◌≤◌}
 use Rattle.std.proofs.lemmas.Int.{ints}
 use Rattle.rv_code.specs.declared.instr.Instr.TheVariants.{Jalr, Branch, Load, Store, OpImm, Shift, Op, Fence, Ecall}
@@ -31,24 +31,24 @@ pub record IsWithin (start address : ℕ) : Type 0 where
 
 forward : (target pc : ℕ) → target < pc + 2 ^ 20 → pc ≤ target → target % 4 ≡ 0 → pc % 4 ≡ 0 →
     IsJumpOffset (pos target -ℤ pos pc)
-forward target pc near behind even own =
-    let whole : pos (target - pc) ≡ pos target -ℤ pos pc = omega (arith, ints, behind) in
+forward target pc near following even own =
+    let whole : pos (target - pc) ≡ pos target -ℤ pos pc = omega (arith, ints, following) in
     subst IsJumpOffset whole
     (record {
       least = search rules;
-      greatest = omega (arith, ints, near, behind, even, own);
-      even = omega (arith, near, behind, even, own);
+      greatest = omega (arith, ints, near, following, even, own);
+      even = omega (arith, near, following, even, own);
     })
 
 backward : (target pc : ℕ) → pc < target + 2 ^ 20 → target < pc → target % 4 ≡ 0 → pc % 4 ≡ 0 →
     IsJumpOffset (pos target -ℤ pos pc)
-backward target pc near behind even own =
-    let whole : negsuc (pc - suc target) ≡ pos target -ℤ pos pc = omega (arith, ints, behind) in
+backward target pc near following even own =
+    let whole : negsuc (pc - suc target) ≡ pos target -ℤ pos pc = omega (arith, ints, following) in
     subst IsJumpOffset whole
     (record {
-      least = omega (arith, ints, near, behind, even, own);
+      least = omega (arith, ints, near, following, even, own);
       greatest = search rules;
-      even = omega (arith, near, behind, even, own);
+      even = omega (arith, near, following, even, own);
     })
 
 -- a jump reaches each word of the stretch that it stands in
@@ -57,7 +57,7 @@ pub jump_reaches : (start target pc : ℕ) → IsWithin start target → IsWithi
 jump_reaches start target pc to at =
     ⊎_elim
     (λ before. backward target pc (omega (arith, to.from, at.inside)) before to.aligned at.aligned)
-    (λ behind. forward target pc (omega (arith, to.inside, at.from)) behind to.aligned at.aligned)
+    (λ following. forward target pc (omega (arith, to.inside, at.from)) following to.aligned at.aligned)
     (cases_lt target pc)
 
 low_instr : (low : Option ℕ) (instr : Instr) → IsInstr instr → IsInstr (with_low low instr)
@@ -135,10 +135,10 @@ module _ (A : Addresses) (start : ℕ) where
         by true h e = h n e
         by false h e = absurd (cc)
 
-  behind_reach : (at : ℕ) (relocations : List Relocation) → AllReach relocations →
-      AllReach (relocations_behind A at relocations)
-  behind_reach at [] all = all
-  behind_reach at (r ∷ rs) all = by (r.at == at) where
+  after_reach : (at : ℕ) (relocations : List Relocation) → AllReach relocations →
+      AllReach (relocations_after A at relocations)
+  after_reach at [] all = all
+  after_reach at (r ∷ rs) all = by (r.at == at) where
     by : (b : Bool) → AllReach (if b then rs else r ∷ rs)
     by true = All-tail (λ (r : Relocation). Reaches (Some r.target)) r rs all
     by false = all
@@ -149,12 +149,12 @@ module _ (A : Addresses) (start : ℕ) where
   from_instrs pc at low [] relocations from fits aligned reach all = All-nil IsInstr
   from_instrs pc at low (instr ∷ instrs) relocations from fits aligned reach all =
       All-cons IsInstr (with_low low (with_target A pc (target_at A at relocations) instr))
-      (linked_from A (pc + 4) (suc at) (low_behind A (target_at A at relocations)) instrs
-      (relocations_behind A at relocations))
+      (linked_from A (pc + 4) (suc at) (low_of_target A (target_at A at relocations)) instrs
+      (relocations_after A at relocations))
       (low_instr low (with_target A pc (target_at A at relocations) instr)
       (target_instr pc (target_at A at relocations) instr
       (record { from = from; inside = omega (arith, fits); aligned = aligned })
       (target_reaches at relocations reach) (All-head IsInstr instr instrs all)))
-      (from_instrs (pc + 4) (suc at) (low_behind A (target_at A at relocations)) instrs
-      (relocations_behind A at relocations) (omega (arith, from)) (omega (arith, fits)) (omega (arith, aligned))
-      (behind_reach at relocations reach) (All-tail IsInstr instr instrs all))
+      (from_instrs (pc + 4) (suc at) (low_of_target A (target_at A at relocations)) instrs
+      (relocations_after A at relocations) (omega (arith, from)) (omega (arith, fits)) (omega (arith, aligned))
+      (after_reach at relocations reach) (All-tail IsInstr instr instrs all))

@@ -37,11 +37,11 @@ module _ (program : ProgramTree) (codes : List CodeTree) (typed : IsWellTyped pr
 
   main_interface : (i : Interface) × (comp_at program.interfaces main ≡ Some i)
   main_interface =
-      let behind = and_rest (has_distinct_names program) _ (and_rest (has_few_compartments program) _ typed) in
+      let following = and_rest (has_distinct_names program) _ (and_rest (has_few_compartments program) _ typed) in
       let found = main_section (slice_get program.sections main)
-      (and_first (has_main program) _ (and_rest (has_fitting_sections program) _ behind)) in
+      (and_first (has_main program) _ (and_rest (has_fitting_sections program) _ following)) in
       has_interface program.interfaces 0 main program.interfaces.comps program.sections found.0
-      (and_first (has_fitting_sections program) _ behind) found.1
+      (and_first (has_fitting_sections program) _ following) found.1
 
   can : CanBeLinked main main_interface.0.exports (section_at program main) (codes_at program codes main)
   can = can_link program codes main main_interface.0 typed linkable main_interface.1

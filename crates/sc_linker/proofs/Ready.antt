@@ -32,7 +32,7 @@ module _ (program : ProgramTree) (codes : List CodeTree) (whole : All IsWhole co
         Named (section_at program c) proto.name
     named i proto is =
         subst (λ s. Named s proto.name) (sym (section_is program c fits))
-        (export_named program.interfaces c fits.interface fits.section fits.faces i proto
+        (export_named program.interfaces c fits.interface fits.section fits.interface_fitting i proto
         (ap (λ ps. slice_get ps i) (sym (exports_are program c fits)) ∙ is))
 
     pub can_link : CanLink c (exports_at program c) (section_at program c) (codes_at program codes c)

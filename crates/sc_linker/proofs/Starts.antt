@@ -11,7 +11,7 @@ use Rattle.std.specs.Int.{byte_at, bytes_low_first}
 use Rattle.sc_core.specs.declared.ty.BaseTy.TheVariants as base
 use Rattle.sc_core.specs.declared.ty.Ty.TheVariants as ty
 use Rattle.sc_core.specs.declared.value.Cell.TheVariants as cell
-use Rattle.sc_linker.proofs.Cells.{variable_many, words_many}
+use Rattle.sc_linker.proofs.Cells.{variable_many, words_length}
 use Rattle.sc_linker.proofs.Places.{all_from, get_after, get_before}
 
 -- PLACES
@@ -68,7 +68,7 @@ pub sized : (structs : List TypedStruct) (globals : List TypedGlobal) → struct
     list_all (global_fits structs) globals ≡ true → AreSized (struct_zeros [] structs) structs globals
 sized structs globals fit fits =
     all_from _ globals (λ i g is.
-    words_many g.init (zeros_of (struct_zeros [] structs) g.ty)
+    words_length g.init (zeros_of (struct_zeros [] structs) g.ty)
     ∙ variable_many structs g.ty fit
     (and_first (variable_fits structs g.ty) _ (all_at (global_fits structs) globals fits i g is)))
 

@@ -2,7 +2,7 @@
 use Rattle.sc_linker.proofs.Common.{BaseTy, Cell, List, Some, Ty, TypedGlobal, TypedMember, TypedSection, TypedStruct}
 use Rattle.sc_linker.proofs.Common.{[], add-one, and_first, and_rest, ap, append-nil, append_assoc, ap₂, arith}
 use Rattle.sc_linker.proofs.Common.{base_cells, base_within, base_zeros, cases_lt, cell_word, cells_of, eqb-true}
-use Rattle.sc_linker.proofs.Common.{flat_map, get_behind, get_or_append_left, global_block, global_fits, global_words}
+use Rattle.sc_linker.proofs.Common.{flat_map, get_after, get_or_append_left, global_block, global_fits, global_words}
 use Rattle.sc_linker.proofs.Common.{initial_words, inl, inr, leb-true, length, length_push, list_all, ltb-true, map}
 use Rattle.sc_linker.proofs.Common.{map-append, member_zeros, members_fit, nat_le, refl, repeated, replicate}
 use Rattle.sc_linker.proofs.Common.{replicate-append-replicate, slice_get, slice_index_or, starred_cells}
@@ -69,16 +69,16 @@ module _ (structs : List TypedStruct) where
   members_blank zeros count offset end [] known fit =
       append-nil (replicate offset 0) ∙ ap (λ n. replicate n 0) (eqb-true offset end fit)
   members_blank zeros count offset end (m ∷ members) known fit =
-      let behind = and_rest (m.offset == offset) _ fit in
+      let following = and_rest (m.offset == offset) _ fit in
       let size = cells_of structs m.ty in
-      let here = blank zeros count (suc count) known m.ty (and_first (type_within count (suc count) m.ty) _ behind) in
+      let here = blank zeros count (suc count) known m.ty (and_first (type_within count (suc count) m.ty) _ following) in
       let later = member_zeros zeros members in
       ap (λ ws. replicate offset 0 ++ ws)
       (map-append cell_word (zeros_of zeros m.ty) later ∙ ap (λ ws. ws ++ map cell_word later) here.words) ∙
       sym (append_assoc (replicate offset 0) (replicate size 0) (map cell_word later)) ∙
       ap (λ ws. ws ++ map cell_word later) (replicate-append-replicate offset size 0) ∙
       members_blank zeros count (offset + size) end members known
-      (and_rest (type_within count (suc count) m.ty) _ behind)
+      (and_rest (type_within count (suc count) m.ty) _ following)
 
   -- one struct more
   module _ (zeros : List (List Cell)) (count : ℕ) (s : TypedStruct) (cells : List Cell) (known : AreKnown zeros count)
@@ -92,8 +92,8 @@ module _ (structs : List TypedStruct) where
         subst (λ cs. AreZeros cs (struct_cells (slice_get structs n)))
         (sym (get_or_append_left zeros (cells ∷ []) [] n (subst (λ k. n < k) (sym known.all) before)))
         (known.each n before)
-    each_known n (inr behind) within =
-        let last : count ≡ n = omega (arith, behind, within) in
+    each_known n (inr following) within =
+        let last : count ≡ n = omega (arith, following, within) in
         subst (λ k. AreZeros (slice_index_or more k []) (struct_cells (slice_get structs k))) last
         (subst (λ o. AreZeros (slice_index_or more count []) (struct_cells o)) (sym there)
         (subst (λ cs. AreZeros cs s.cells) (sym (ap (λ k. slice_index_or more k []) (sym known.all) ∙
@@ -105,19 +105,19 @@ module _ (structs : List TypedStruct) where
       each = λ n within. each_known n (cases_lt n count) within;
     }
 
-  all_known : (zeros : List (List Cell)) (count : ℕ) (front rest : List TypedStruct) → front ++ rest ≡ structs →
-      length front ≡ count → AreKnown zeros count → structs_fit structs count rest ≡ true →
+  all_known : (zeros : List (List Cell)) (count : ℕ) (prefix rest : List TypedStruct) → prefix ++ rest ≡ structs →
+      length prefix ≡ count → AreKnown zeros count → structs_fit structs count rest ≡ true →
       AreKnown (struct_zeros zeros rest) (length structs)
-  all_known zeros count front [] are len known fit =
-      subst (AreKnown zeros) (sym len ∙ ap length (sym (append-nil front) ∙ are)) known
-  all_known zeros count front (s ∷ rest) are len known fit =
+  all_known zeros count prefix [] are len known fit =
+      subst (AreKnown zeros) (sym len ∙ ap length (sym (append-nil prefix) ∙ are)) known
+  all_known zeros count prefix (s ∷ rest) are len known fit =
       let there : slice_get structs count ≡ Some s =
-      ap₂ (λ xs n. slice_get xs n) (sym are) (sym len) ∙ get_behind front s rest in
+      ap₂ (λ xs n. slice_get xs n) (sym are) (sym len) ∙ get_after prefix s rest in
       let fits = and_first (struct_fits structs count s) _ fit in
       let members = and_first (members_fit structs count 0 s.members s.cells) _
       (and_rest (nat_le 1 (length s.members)) _ fits) in
-      all_known (zeros ++ member_zeros zeros s.members ∷ []) (suc count) (front ++ s ∷ []) rest
-      (append_assoc front (s ∷ []) rest ∙ are) (length_push front s ∙ add-one (length front) ∙ ap suc len)
+      all_known (zeros ++ member_zeros zeros s.members ∷ []) (suc count) (prefix ++ s ∷ []) rest
+      (append_assoc prefix (s ∷ []) rest ∙ are) (length_push prefix s ∙ add-one (length prefix) ∙ ap suc len)
       (one_known zeros count s (member_zeros zeros s.members) known there
       (record { words = members_blank zeros count 0 s.cells s.members known members }))
       (and_rest (struct_fits structs count s) _ fit)

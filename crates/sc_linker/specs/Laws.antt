@@ -31,8 +31,8 @@ pub record AreNamed (interfaces : Interfaces) : Type 0 where
       (λ interface. All {X = Proto} (λ proto. IsTrue (is_name proto.name)) interface.exports) interfaces.comps
 
 -- the values that globals are declared with are words
-abbrev pub AreGivenWords : List TypedSection → Type 0
-AreGivenWords sections =
+abbrev pub GlobalsAreWords : List TypedSection → Type 0
+GlobalsAreWords sections =
     All {X = TypedSection}
     (λ section. All {X = TypedGlobal} (λ g. All (λ word. word < 2 ^ 32) g.init) section.globals) sections
 
@@ -129,4 +129,4 @@ pub record LinkedImagesHold : Type 0 where
       IsLinkable program codes → EntriesStand program codes
   pub imports : (program : ProgramTree) (codes : List CodeTree) → IsWellTyped program → ImportsStand program codes
   pub globals : (program : ProgramTree) (codes : List CodeTree) → IsWellTyped program →
-      AreGivenWords program.sections → IsLinkable program codes → GlobalsStand program codes
+      GlobalsAreWords program.sections → IsLinkable program codes → GlobalsStand program codes

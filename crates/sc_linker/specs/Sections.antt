@@ -48,7 +48,7 @@ pub record IsCodeAddress (comp address : ℕ) : Type 0 where
   pub whole : address % 4 ≡ 0
 
 -- `count` words fit from this address on
-pub record HasRoom (comp address count : ℕ) : Type 0 where
+pub record Fits (comp address count : ℕ) : Type 0 where
   pub least : code_start comp ≤ address
   pub greatest : address + 4 * count ≤ code_start comp + stretch
   pub word : address + 4 * count < 2 ^ 32

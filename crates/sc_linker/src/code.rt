@@ -1,6 +1,6 @@
 //! The code of a compartment: its entries, and then its functions.
 
-ghost use Rattle.sc_linker.specs.Prelude.{AreKnown, CanBeLinked, CodeTree, HasRoom, IsCodeAddress, IsWhole};
+ghost use Rattle.sc_linker.specs.Prelude.{AreKnown, CanBeLinked, CodeTree, Fits, IsCodeAddress, IsWhole};
 ghost use Rattle.sc_linker.specs.Prelude.{addresses_of, instructions, linked_codes, section_code, word_of};
 ghost use Rattle.std.specs.Prelude.{◌≡◌, ◌++◌, All, IfOk, OnOk, length, map};
 
@@ -21,7 +21,7 @@ fn push_codes(
     codes: &[Code],
 ) -> Result<(), OutOfMemory>
     requires functions { All (IsCodeAddress layout.now.comp) layout.now.functions }
-    requires room { HasRoom layout.now.comp address (instructions codes.now) }
+    requires room { Fits layout.now.comp address (instructions codes.now) }
     requires known { All {X = CodeTree} (λ code.
         AreKnown (length layout.now.functions) (length layout.now.globals) code.relocations) codes.now }
     ensures words { OnOk result (words.new ≡ words.old ++

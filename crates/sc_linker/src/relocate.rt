@@ -1,8 +1,8 @@
 //! Code with the addresses of what it refers to.
 
-ghost use Rattle.sc_linker.specs.Prelude.{AreKnown, HasRoom, IsCodeAddress, IsInstr, IsJumpOffset, IsKnown};
+ghost use Rattle.sc_linker.specs.Prelude.{AreKnown, Fits, IsCodeAddress, IsInstr, IsJumpOffset, IsKnown};
 ghost use Rattle.sc_linker.specs.Prelude.{addresses_of, with_jump, with_upper, word_of};
-ghost use Rattle.sc_select.specs.Prelude.{Addresses, linked, low_behind, relocations_behind, target_at, upper_part};
+ghost use Rattle.sc_select.specs.Prelude.{Addresses, linked, low_of_target, relocations_after, target_at, upper_part};
 ghost use Rattle.sc_select.specs.Prelude.{with_low, with_target};
 ghost use Rattle.std.specs.Prelude.{◌≡◌, ◌≤◌, ◌++◌, drop, pos, ◌-ℤ◌, All, IfSome, Some, OnOk, length, map};
 
@@ -24,8 +24,8 @@ pub fn jump_offset(from: u32, to: u32) -> JumpOffset
 fn take_target(at: u32, relocations: &[Relocation], next: &mut usize) -> Option<Target>
     requires { next.old ≤ length relocations.now }
     ensures target { (addresses : Addresses) → result ≡ target_at addresses at (drop next.old relocations.now) }
-    ensures behind { (addresses : Addresses) →
-        relocations_behind addresses at (drop next.old relocations.now) ≡ drop next.new relocations.now }
+    ensures following { (addresses : Addresses) →
+        relocations_after addresses at (drop next.old relocations.now) ≡ drop next.new relocations.now }
     ensures within { next.new ≤ length relocations.now }
 {
     match relocations.get(*next) {
@@ -69,7 +69,7 @@ fn referring(layout: &SectionLayout, pc: u32, target: Target, instr: Instr) -> (
     requires here { IsCodeAddress layout.now.comp pc }
     requires known { IsKnown (length layout.now.functions) (length layout.now.globals) target }
     ensures instr { result.0 ≡ with_target (addresses_of layout.now) pc (Some target) instr }
-    ensures low { result.1 ≡ low_behind (addresses_of layout.now) (Some target) }
+    ensures low { result.1 ≡ low_of_target (addresses_of layout.now) (Some target) }
 {
     match target {
         Target::Function(number) => (with_jump(pc, layout.function(number as usize), instr), None),
@@ -95,7 +95,7 @@ fn completed(
     requires here { IsCodeAddress layout.now.comp pc }
     requires known { IfSome target (IsKnown (length layout.now.functions) (length layout.now.globals)) }
     ensures instr { result.0 ≡ with_target (addresses_of layout.now) pc target instr }
-    ensures low { result.1 ≡ low_behind (addresses_of layout.now) target }
+    ensures low { result.1 ≡ low_of_target (addresses_of layout.now) target }
     // It is made of registers and immediates.
     ensures known { IsInstr instr }
 {
@@ -135,7 +135,7 @@ pub fn link_code(
     code: &CodeTree,
 ) -> Result<(), OutOfMemory>
     requires functions { All (IsCodeAddress layout.now.comp) layout.now.functions }
-    requires room { HasRoom layout.now.comp address (length code.now.instrs) }
+    requires room { Fits layout.now.comp address (length code.now.instrs) }
     requires known { AreKnown (length layout.now.functions) (length layout.now.globals) code.now.relocations }
     ensures words { OnOk result (words.new ≡ words.old ++
         map word_of (linked (addresses_of layout.now) address code.now)) }

@@ -35,11 +35,11 @@ pub fn codes_in<'a>(comp: CompId, sections: &[TypedSection], codes: &'a [Code]) 
     let mut rest = codes;
     let mut before = comp.number();
     for section in sections {
-        let (own, behind) = rest.split_at(section.functions.len());
+        let (own, following) = rest.split_at(section.functions.len());
         if before == 0 {
             return own;
         }
-        rest = behind;
+        rest = following;
         before -= 1;
     }
     rest

@@ -37,8 +37,8 @@ module _ (Here : ℕ → Type 0) where
   same_point : (calls : Bool) (s s' : Set) → SameSet s s' → SamePoint (point calls s) (point calls s')
   same_point calls s s' h = record { assigned = refl; calls = refl; live = h }
 
-  pub alone : (s s' : Set) → SameSet s s' → SamePoints (point false s ∷ []) (point false s' ∷ [])
-  alone s s' h = (same_point false s s' h, tt)
+  pub one_point : (s s' : Set) → SameSet s s' → SamePoints (point false s ∷ []) (point false s' ∷ [])
+  one_point s s' h = (same_point false s s' h, tt)
 
   abbrev pub Local : TacStmt → Type 0
   Local stmt = (lives lives' : Lives) → SameLives lives lives' →
@@ -52,29 +52,29 @@ module _ (Here : ℕ → Type 0) where
       SamePoints (row_points (map trail stmts) lives) (row_points (map trail stmts) lives')
   row_same [] h lives lives' g = tt
   row_same (stmt ∷ stmts) h lives lives' g =
-      same_append ((trail stmt).points (record lives { behind = live_before (map trail stmts) lives }))
-      ((trail stmt).points (record lives' { behind = live_before (map trail stmts) lives' }))
+      same_append ((trail stmt).points (record lives { following = live_before (map trail stmts) lives }))
+      ((trail stmt).points (record lives' { following = live_before (map trail stmts) lives' }))
       (row_points (map trail stmts) lives) (row_points (map trail stmts) lives')
       (h.0 _ _ (λ t here i. record {
-        behind = before_same stmts lives lives' g t here i;
+        following = before_same stmts lives lives' g t here i;
         broken = (g t here i).broken;
         continued = (g t here i).continued;
       })) (row_same stmts h.1 lives lives' g)
 
-  pub part_same : (lives lives' : Lives) (end end' : Set) → SameSet lives.behind lives'.behind → SameSet end end' →
+  pub part_same : (lives lives' : Lives) (end end' : Set) → SameSet lives.following lives'.following → SameSet end end' →
       SameLives (part_lives lives end) (part_lives lives' end')
   part_same lives lives' end end' g h t here i =
-      record { behind = h t here i; broken = g t here i; continued = h t here i }
+      record { following = h t here i; broken = g t here i; continued = h t here i }
 
   plain_same : (reads : List ℕ) (calls : Bool) (assigned : Option ℕ) (lives lives' : Lives) →
       SameLives lives lives' → SamePoints (plain_points reads calls assigned lives)
       (plain_points reads calls assigned lives')
   plain_same reads calls assigned lives lives' h =
       let across : SameSet (live_across reads calls assigned lives) (live_across reads calls assigned lives') =
-      λ t here i. not (is_one t (one_or_none assigned)) && (h t here i).behind in
-      let last : SamePoint (record { assigned = assigned; calls = false; live = lives.behind })
-      (record { assigned = assigned; calls = false; live = lives'.behind }) =
-      record { assigned = refl; calls = refl; live = λ t here i. (h t here i).behind } in (
+      λ t here i. not (is_one t (one_or_none assigned)) && (h t here i).following in
+      let last : SamePoint (record { assigned = assigned; calls = false; live = lives.following })
+      (record { assigned = assigned; calls = false; live = lives'.following }) =
+      record { assigned = refl; calls = refl; live = λ t here i. (h t here i).following } in (
         same_point false _ _ (λ t here i. is_one t reads || across t here i),
         same_append (if_calls calls (point true (live_across reads calls assigned lives)))
             (if_calls calls (point true (live_across reads calls assigned lives'))) _ _ (call_same calls _ _ across)
@@ -93,19 +93,19 @@ module _ (Here : ℕ → Type 0) where
     loop_same lives lives' h =
         let H : List Trail = map trail head in let B : List Trail = map trail body in
         let N : List Trail = map trail next in
-        let behind : SameSet lives.behind lives'.behind = λ t here i. (h t here i).behind in
+        let following : SameSet lives.following lives'.following = λ t here i. (h t here i).following in
         let none : SameSet (λ t. false) (λ t. false) = λ t here. refl in
         let start : SameSet (live_at_start H B N lives) (live_at_start H B N lives') =
-        before_same head _ _ (part_same lives lives' _ _ behind (before_same body _ _
-        (part_same lives lives' _ _ behind (before_same next _ _ (part_same lives lives' _ _ behind none))))) in
-        let gn : SameLives (in_next H B N lives) (in_next H B N lives') = part_same lives lives' _ _ behind start in
+        before_same head _ _ (part_same lives lives' _ _ following (before_same body _ _
+        (part_same lives lives' _ _ following (before_same next _ _ (part_same lives lives' _ _ following none))))) in
+        let gn : SameLives (in_next H B N lives) (in_next H B N lives') = part_same lives lives' _ _ following start in
         let gb : SameLives (in_body H B N lives) (in_body H B N lives') =
-        part_same lives lives' _ _ behind (before_same next _ _ gn) in
+        part_same lives lives' _ _ following (before_same next _ _ gn) in
         let gh : SameLives (in_head H B N lives) (in_head H B N lives') =
-        part_same lives lives' _ _ behind (before_same body _ _ gb) in (
+        part_same lives lives' _ _ following (before_same body _ _ gb) in (
           same_point false _ _ start,
           same_append _ _ _ _ (row_same head hh _ _ gh) (same_append _ _ _ _
-              (row_same body hb _ _ gb) (same_append _ _ _ _ (row_same next hn _ _ gn) (alone _ _ start))),
+              (row_same body hb _ _ gb) (same_append _ _ _ _ (row_same next hn _ _ gn) (one_point _ _ start))),
         )
 
   LayerSame : TacStmt-F TacStmt → Type 0
@@ -127,13 +127,13 @@ module _ (Here : ℕ → Type 0) where
     same_append _ _ _ _ (row_same first h.0 lives lives' g) (row_same second h.1 lives lives' g),
   )
   layer_same (tac.Loop head body next) h = loop_same head body next h.0 h.1 h.2
-  layer_same tac.Break h = λ lives lives' g. alone _ _ (λ t here i. (g t here i).broken)
-  layer_same tac.Continue h = λ lives lives' g. alone _ _ (λ t here i. (g t here i).continued)
+  layer_same tac.Break h = λ lives lives' g. one_point _ _ (λ t here i. (g t here i).broken)
+  layer_same tac.Continue h = λ lives lives' g. one_point _ _ (λ t here i. (g t here i).continued)
   layer_same (tac.CallOwn dest function args) h = plain_same args true dest
   layer_same (tac.CallCross dest comp index args) h = plain_same args true dest
   layer_same (tac.Input dest) h = plain_same [] false dest
   layer_same (tac.Output value) h = plain_same (value ∷ []) false None
-  layer_same (tac.Return value) h = λ lives lives' g. alone _ _ (λ t here. refl)
+  layer_same (tac.Return value) h = λ lives lives' g. one_point _ _ (λ t here. refl)
 
   pub local : (stmt : TacStmt) → Local stmt
   unfolding LayerSame

@@ -8,7 +8,7 @@ use Rattle.sc_live.proofs.Common.{nearest_call, nothing, one_or_none, part_lives
 use Rattle.sc_live.proofs.Common.{slice_get, subst, suc, sym, trail, true, ℕ, ◌++◌, ◌<◌, ◌||◌, ◌∙◌, ◌∷◌, ◌≡◌, ◌≤◌}
 use Rattle.sc_tac.specs.declared.stmt.TacStmt.TheOpen as tac
 use Rattle.sc_tac.specs.declared.stmt.TacStmt.TheVariants as emit
-use Rattle.sc_live.proofs.Locality.{SamePoints, SameLives, SameSet, all_local, alone, before_same, part_same}
+use Rattle.sc_live.proofs.Locality.{SamePoints, SameLives, SameSet, all_local, one_point, before_same, part_same}
 use Rattle.sc_live.proofs.Locality.{same_append}
 use Rattle.sc_live.proofs.Marking.{ends_within, here_last, last_or, to_last}
 use Rattle.sc_live.proofs.Walking.{over_layer, relived_before, walked_on}
@@ -48,16 +48,16 @@ capped at end None h k = omega (arith, h)
 capped at end (Some mark) h k = omega (arith, k)
 
 -- capped at the end of a piece of code, a mark ends where it would end after the piece
-capped_behind : (t at : ℕ) (xs ys : List Point) → length ys ≤ at →
+capped_after : (t at : ℕ) (xs ys : List Point) → length ys ≤ at →
     min (last_or at (mark_of t (xs ++ ys))) (length ys) ≡ last_or (length ys) (mark_of t ys)
-capped_behind t at [] ys h = capped at (length ys) (mark_of t ys) h (ends_within t (length ys) ys (omega arith))
-capped_behind t at (x ∷ xs) ys h =
+capped_after t at [] ys h = capped at (length ys) (mark_of t ys) h (ends_within t (length ys) ys (omega arith))
+capped_after t at (x ∷ xs) ys h =
     let on : List Point = xs ++ ys in
     elim (is_used t x) as (λ used. min (last_or at (if used then Some (mark_here (length on) (nearest_call (x ∷ on))
     (mark_of t on)) else mark_of t on)) (length ys) ≡ last_or (length ys) (mark_of t ys)) [
       | true ↦ rw (here_last (length on) (nearest_call (x ∷ on)) (mark_of t on))
-          (capped_behind t (length on) xs ys (longer xs ys))
-      | false ↦ capped_behind t at xs ys h
+          (capped_after t (length on) xs ys (longer xs ys))
+      | false ↦ capped_after t at xs ys h
     ]
   where
     longer : (xs ys : List Point) → length ys ≤ length (xs ++ ys)
@@ -65,16 +65,16 @@ capped_behind t at (x ∷ xs) ys h =
     longer (x ∷ xs) ys = omega (arith, longer xs ys)
 
 -- points before those of a mark don't change where it ends
-ends_behind : (t at : ℕ) (mark : Mark) (xs ys : List Point) → mark_of t ys ≡ Some mark →
+ends_after : (t at : ℕ) (mark : Mark) (xs ys : List Point) → mark_of t ys ≡ Some mark →
     last_or at (mark_of t (xs ++ ys)) ≡ mark.last
-ends_behind t at mark [] ys is = ap (last_or at) is
-ends_behind t at mark (x ∷ xs) ys is =
+ends_after t at mark [] ys is = ap (last_or at) is
+ends_after t at mark (x ∷ xs) ys is =
     let on : List Point = xs ++ ys in
     elim (is_used t x) as (λ used. last_or at (if used then Some (mark_here (length on) (nearest_call (x ∷ on))
     (mark_of t on)) else mark_of t on) ≡ mark.last) [
       | true ↦ rw (here_last (length on) (nearest_call (x ∷ on)) (mark_of t on))
-          (ends_behind t (length on) mark xs ys is)
-      | false ↦ ends_behind t at mark xs ys is
+          (ends_after t (length on) mark xs ys is)
+      | false ↦ ends_after t at mark xs ys is
     ]
 
 -- ROUNDS
@@ -115,29 +115,29 @@ module _ (head body next : List TacStmt) (lives : Lives) where
       row_points H (in_head H B N lives) ++ (row_points B (in_body H B N lives)
       ++ (row_points N (in_next H B N lives) ++ point false start ∷ []))
 
-  abbrev front : List Point
-  front =
+  abbrev prefix : List Point
+  prefix =
       row_points H (in_head H B N lives)
       ++ (row_points B (in_body H B N lives) ++ row_points N (in_next H B N lives))
 
   alike : (Here : ℕ → Type 0) → ((t : ℕ) → Here t → start t ≡ false) → SamePoints Here round whole
   alike Here none =
-      let behind : SameSet Here lives.behind lives.behind = λ t here. refl in
+      let following : SameSet Here lives.following lives.following = λ t here. refl in
       let end : SameSet Here nothing start = λ t here. sym (none t here) in
-      let gn : SameLives Here round_next (in_next H B N lives) = part_same Here lives lives _ _ behind end in
+      let gn : SameLives Here round_next (in_next H B N lives) = part_same Here lives lives _ _ following end in
       let gb : SameLives Here round_body (in_body H B N lives) =
-      part_same Here lives lives _ _ behind (before_same Here next _ _ gn) in
+      part_same Here lives lives _ _ following (before_same Here next _ _ gn) in
       let gh : SameLives Here round_head (in_head H B N lives) =
-      part_same Here lives lives _ _ behind (before_same Here body _ _ gb) in
+      part_same Here lives lives _ _ following (before_same Here body _ _ gb) in
       same_append Here _ _ _ _ (all_local Here head _ _ gh) (same_append Here _ _ _ _ (all_local Here body _ _ gb)
-      (same_append Here _ _ _ _ (all_local Here next _ _ gn) (alone Here _ _ end)))
+      (same_append Here _ _ _ _ (all_local Here next _ _ gn) (one_point Here _ _ end)))
 
   module _ (before between after : Walk) (h : Walked round start before between)
       (p : Passed (record { assigned = None; calls = false; live = set_of between.live }) before.points between
       after) where
-    module _ (temps : ℕ) (behind : List Point) (g : Holds temps before behind) where
-      k : Holds temps between (round ++ behind)
-      k = h.holds temps behind g
+    module _ (temps : ℕ) (following : List Point) (g : Holds temps before following) where
+      k : Holds temps between (round ++ following)
+      k = h.holds temps following g
 
       abbrev Nowhere : ℕ → Type 0
       Nowhere t = ⊥
@@ -145,52 +145,52 @@ module _ (head body next : List TacStmt) (lives : Lives) where
       abbrev Dead : ℕ → Type 0
       Dead t = start t ≡ false
 
-      behind_alike : (Here : ℕ → Type 0) → ((t : ℕ) → Here t → start t ≡ false) →
-          SamePoints Here (round ++ behind) (whole ++ behind)
-      behind_alike Here none = same_append Here round whole behind behind (alike Here none) (itself Here behind)
+      after_alike : (Here : ℕ → Type 0) → ((t : ℕ) → Here t → start t ≡ false) →
+          SamePoints Here (round ++ following) (whole ++ following)
+      after_alike Here none = same_append Here round whole following following (alike Here none) (itself Here following)
 
-      count_is : between.points ≡ length (whole ++ behind)
-      count_is = k.counted ∙ length_same Nowhere _ _ (behind_alike Nowhere (λ t here. absurd here))
+      count_is : between.points ≡ length (whole ++ following)
+      count_is = k.counted ∙ length_same Nowhere _ _ (after_alike Nowhere (λ t here. absurd here))
 
-      call_is : after.call ≡ nearest_call (whole ++ behind)
-      call_is = p.call ∙ k.call ∙ call_same Nowhere _ _ (behind_alike Nowhere (λ t here. absurd here))
+      call_is : after.call ≡ nearest_call (whole ++ following)
+      call_is = p.call ∙ k.call ∙ call_same Nowhere _ _ (after_alike Nowhere (λ t here. absurd here))
 
       abbrev at : ℕ
-      at = length (whole ++ behind)
+      at = length (whole ++ following)
 
       abbrev call : Option ℕ
-      call = nearest_call (whole ++ behind)
+      call = nearest_call (whole ++ following)
 
       abbrev end : ℕ
-      end = length behind
+      end = length following
 
       -- where it is live at the start, its mark ends after the loop or at its end
       end_is : (t : ℕ) → start t ≡ true →
-          last_or at (mark_of t (whole ++ behind)) ≡ last_or end (mark_of t behind)
+          last_or at (mark_of t (whole ++ following)) ≡ last_or end (mark_of t following)
       end_is t live =
-          let last : Mark = mark_here end (nearest_call behind) (mark_of t behind) in
+          let last : Mark = mark_here end (nearest_call following) (mark_of t following) in
           ap (λ x. last_or at (mark_of t x)) (regrouped (row_points H (in_head H B N lives))
-          (row_points B (in_body H B N lives)) (row_points N (in_next H B N lives)) (point false start ∷ []) behind)
-          ∙ ends_behind t at last front (point false start ∷ behind)
-          (ap (λ u. if u then Some last else mark_of t behind) live)
-          ∙ ap (λ mark. mark.last) (here_last end (nearest_call behind) (mark_of t behind))
+          (row_points B (in_body H B N lives)) (row_points N (in_next H B N lives)) (point false start ∷ []) following)
+          ∙ ends_after t at last prefix (point false start ∷ following)
+          (ap (λ u. if u then Some last else mark_of t following) live)
+          ∙ ap (λ mark. mark.last) (here_last end (nearest_call following) (mark_of t following))
 
       settled : (t : ℕ) (used : Bool) → start t ≡ used →
-          marked at call end used (Some (mark_of t (round ++ behind)))
-          ≡ Some (if used then Some (mark_here at call (mark_of t (whole ++ behind))) else mark_of t (whole ++ behind))
+          marked at call end used (Some (mark_of t (round ++ following)))
+          ≡ Some (if used then Some (mark_here at call (mark_of t (whole ++ following))) else mark_of t (whole ++ following))
       settled t true live = ap (λ mark. Some (Some mark))
-          (to_last at call end (mark_of t (round ++ behind))
-          ∙ ap (mark_from at call) (capped_behind t end round behind (omega arith) ∙ sym (end_is t live))
-          ∙ sym (here_last at call (mark_of t (whole ++ behind))))
-      settled t false dead = ap Some (mark_same Dead t dead _ _ (behind_alike Dead (λ t here. here)))
+          (to_last at call end (mark_of t (round ++ following))
+          ∙ ap (mark_from at call) (capped_after t end round following (omega arith) ∙ sym (end_is t live))
+          ∙ sym (here_last at call (mark_of t (whole ++ following))))
+      settled t false dead = ap Some (mark_same Dead t dead _ _ (after_alike Dead (λ t here. here)))
 
-      mark_is : (t : ℕ) → t < temps → slice_get after.marks t ≡ Some (mark_of t (point false start ∷ (whole ++ behind)))
+      mark_is : (t : ℕ) → t < temps → slice_get after.marks t ≡ Some (mark_of t (point false start ∷ (whole ++ following)))
       mark_is t within =
           p.marks t
           ∙ (λ i. marked (count_is i) (call_is i) (g.counted i) (h.live i t) (k.marks t within i))
           ∙ settled t (start t) refl
 
-      held : Holds temps after (point false start ∷ (whole ++ behind))
+      held : Holds temps after (point false start ∷ (whole ++ following))
       held = record { counted = p.counted ∙ ap suc count_is; call = call_is; marks = mark_is }
 
     pub looped : Walked (loop_points H B N lives) start before after

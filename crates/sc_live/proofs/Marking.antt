@@ -43,23 +43,23 @@ to_here t call points =
     ∙ sym (here_last at call (mark_of t points))
 
 module _ (x : Point) (before after : Walk) (h : Passed x before.points before after) where
-  module _ (temps : ℕ) (behind : List Point) (g : Holds temps before behind) where
-    call_is : after.call ≡ nearest_call (x ∷ behind)
+  module _ (temps : ℕ) (following : List Point) (g : Holds temps before following) where
+    call_is : after.call ≡ nearest_call (x ∷ following)
     call_is = h.call ∙ (λ i. if x.calls then Some (g.counted i) else g.call i)
 
     used_or_not : (t : ℕ) (used : Bool) (call : Option ℕ) →
-        marked (length behind) call (length behind) used (Some (mark_of t behind))
-        ≡ Some (if used then Some (mark_here (length behind) call (mark_of t behind)) else mark_of t behind)
-    used_or_not t true call = ap (λ m. Some (Some m)) (to_here t call behind)
+        marked (length following) call (length following) used (Some (mark_of t following))
+        ≡ Some (if used then Some (mark_here (length following) call (mark_of t following)) else mark_of t following)
+    used_or_not t true call = ap (λ m. Some (Some m)) (to_here t call following)
     used_or_not t false call = refl
 
-    mark_is : (t : ℕ) → t < temps → slice_get after.marks t ≡ Some (mark_of t (x ∷ behind))
+    mark_is : (t : ℕ) → t < temps → slice_get after.marks t ≡ Some (mark_of t (x ∷ following))
     mark_is t within =
         h.marks t
         ∙ (λ i. marked (g.counted i) (call_is i) (g.counted i) (is_used t x) (g.marks t within i))
-        ∙ used_or_not t (is_used t x) (nearest_call (x ∷ behind))
+        ∙ used_or_not t (is_used t x) (nearest_call (x ∷ following))
 
-    held : Holds temps after (x ∷ behind)
+    held : Holds temps after (x ∷ following)
     held = record { counted = h.counted ∙ ap suc g.counted; call = call_is; marks = mark_is }
 
   pub passed : Walked (x ∷ []) (set_of before.live) before after

@@ -16,12 +16,12 @@ abbrev flip : ℕ → Mark → Span
 flip n mark = record { first = n - 1 - mark.first; last = n - 1 - mark.last }
 
 -- SPANS
-here_flips : (n at behind : ℕ) (call : Option ℕ) (known : Option Mark) → n ≡ suc at + behind →
-    from_here at (option_map (flip n) known) ≡ flip n (mark_here behind call known)
-here_flips n at behind call None is =
-    let here : at ≡ n - 1 - behind = omega (arith, is) in λ i. record { first = here i; last = here i }
-here_flips n at behind call (Some later) is =
-    let here : at ≡ n - 1 - behind = omega (arith, is) in λ i. record { first = here i; last = n - 1 - later.last }
+here_flips : (n at following : ℕ) (call : Option ℕ) (known : Option Mark) → n ≡ suc at + following →
+    from_here at (option_map (flip n) known) ≡ flip n (mark_here following call known)
+here_flips n at following call None is =
+    let here : at ≡ n - 1 - following = omega (arith, is) in λ i. record { first = here i; last = here i }
+here_flips n at following call (Some later) is =
+    let here : at ≡ n - 1 - following = omega (arith, is) in λ i. record { first = here i; last = n - 1 - later.last }
 
 spans : (t n at : ℕ) (points : List Point) → n ≡ at + length points →
     span_from t at points ≡ option_map (flip n) (mark_of t points)

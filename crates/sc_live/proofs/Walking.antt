@@ -14,8 +14,8 @@ pub relived : (points : List Point) (set set' : Set) (before after : Walk) (live
     Walked points set before after → set_of live ≡ set' → Walked points set' before (record after { live = live })
 relived points set set' before after live h is = record {
   live = is;
-  holds = λ temps behind g.
-      let k : Holds temps after (points ++ behind) = h.holds temps behind g in
+  holds = λ temps following g.
+      let k : Holds temps after (points ++ following) = h.holds temps following g in
       record { counted = k.counted; call = k.call; marks = k.marks };
 }
 
@@ -23,8 +23,8 @@ pub relived_before : (points : List Point) (set : Set) (before after : Walk) (li
     Walked points set (record before { live = live }) after → Walked points set before after
 relived_before points set before after live h = record {
   live = h.live;
-  holds = λ temps behind k.
-      h.holds temps behind (record { counted = k.counted; call = k.call; marks = k.marks });
+  holds = λ temps following k.
+      h.holds temps following (record { counted = k.counted; call = k.call; marks = k.marks });
 }
 
 -- one piece before another
@@ -32,9 +32,9 @@ pub walked_on : (xs ys : List Point) (set set' : Set) (before between after : Wa
     Walked ys set before between → Walked xs set' between after → Walked (xs ++ ys) set' before after
 walked_on xs ys set set' before between after h k = record {
   live = k.live;
-  holds = λ temps behind g.
-      subst (Holds temps after) (sym (append_assoc xs ys behind))
-      (k.holds temps (ys ++ behind) (h.holds temps behind g));
+  holds = λ temps following g.
+      subst (Holds temps after) (sym (append_assoc xs ys following))
+      (k.holds temps (ys ++ following) (h.holds temps following g));
 }
 
 pub walked_as : (points points' : List Point) (set set' : Set) (before after : Walk) → points ≡ points' → set ≡ set' →
@@ -64,9 +64,9 @@ plain_walked reads calls assigned a b c d first second third =
 
 -- a statement before others
 pub row_walked : (stmt : TacStmt) (rest : List TacStmt) (lives : Lives) (a b c : Walk) → WalkedAll rest lives a b →
-    WalkedOver stmt (record lives { behind = set_of b.live }) b c → WalkedAll (stmt ∷ rest) lives a c
+    WalkedOver stmt (record lives { following = set_of b.live }) b c → WalkedAll (stmt ∷ rest) lives a c
 row_walked stmt rest lives a b c h k =
-    let inner : Set → Lives = λ set. record lives { behind = set } in
+    let inner : Set → Lives = λ set. record lives { following = set } in
     let set : Set = live_before (map trail rest) lives in
     walked_on ((trail stmt).points (inner set)) (row_points (map trail rest) lives) set
     (live_first (trail stmt) (inner set)) a b c h
@@ -83,34 +83,34 @@ over_layer stmt layer lives a b is h =
 
 -- two ways to go on, the second first
 pub forked : (stmt : TacStmt) (cond : ℕ) (first second : List TacStmt) (broken continued : List ℕ)
-    (a b : Walk) (behind other : List ℕ) (c d : Walk) → stmt ≡ emit.If cond first second → behind ≡ a.live →
+    (a b : Walk) (following other : List ℕ) (c d : Walk) → stmt ≡ emit.If cond first second → following ≡ a.live →
     other ≡ b.live →
     WalkedAll second (lives_at a.live broken continued) a b →
-    WalkedAll first (lives_at behind broken continued) (record b { live = behind }) c →
+    WalkedAll first (lives_at following broken continued) (record b { live = following }) c →
     Walked (point false (λ t. cond == t || (is_one t other || is_one t c.live)) ∷ [])
     (λ t. cond == t || (is_one t other || is_one t c.live)) c d →
     WalkedOver stmt (lives_at a.live broken continued) a d
-forked stmt cond first second broken continued a b behind other c d is same kept h k last =
+forked stmt cond first second broken continued a b following other c d is same kept h k last =
     let lives : Lives = lives_at a.live broken continued in
     let first_live : Set = live_before (map trail first) lives in
     let second_live : Set = live_before (map trail second) lives in
     let set : Set = λ t. cond == t || (first_live t || second_live t) in
-    let front : Walked (row_points (map trail first) lives) first_live b c =
+    let prefix : Walked (row_points (map trail first) lives) first_live b c =
     relived_before _ _ _ _ _ (subst (λ l. WalkedAll first (lives_at l broken continued) (record b { live = l }) c)
     same k) in
     let joined : (λ t. cond == t || (is_one t other || is_one t c.live)) ≡ set =
     λ i t. (ap (λ x. cond == t || x) (or_comm (is_one t other) (is_one t c.live)
-    ∙ (λ j. front.live j t || is_one t (kept j)) ∙ (λ j. first_live t || h.live j t))) i in
+    ∙ (λ j. prefix.live j t || is_one t (kept j)) ∙ (λ j. first_live t || h.live j t))) i in
     over_layer stmt (tac.If cond first second) lives a d (emit.rolls-If cond first second ∙ sym is)
     (walked_on (point false set ∷ []) (row_points (map trail first) lives ++ row_points (map trail second) lives)
     first_live set a c d
     (walked_on (row_points (map trail first) lives) (row_points (map trail second) lives) second_live first_live a b c
-    h front)
+    h prefix)
     (subst (λ s. Walked (point false s ∷ []) s c d) joined last))
 
 pub stepped : (list : List TacStmt) (at : ℕ) (stmt : TacStmt) (lives : Lives) (a b c : Walk) → 0 < at →
     at ≤ length list → stmt ≡ get_or list (at - 1) stmt → WalkedAll (drop at list) lives a b →
-    WalkedOver stmt (record lives { behind = set_of b.live }) b c →
+    WalkedOver stmt (record lives { following = set_of b.live }) b c →
     (at - 1 ≤ length list) × WalkedAll (drop (at - 1) list) lives a c
 stepped list at stmt lives a b c some within is h k =
     let next : suc (at - 1) ≡ at = omega (arith, some) in

@@ -16,7 +16,7 @@ pub record Holds (temps : ℕ) (walk : Walk) (points : List Point) : Type 0 wher
 -- it goes on over these points, which stand before those that it has passed; this is live at their start
 pub record Walked (points : List Point) (set : Set) (before after : Walk) : Type 0 where
   pub live : set_of after.live ≡ set
-  pub holds : (temps : ℕ) (behind : List Point) → Holds temps before behind → Holds temps after (points ++ behind)
+  pub holds : (temps : ℕ) (following : List Point) → Holds temps before following → Holds temps after (points ++ following)
 
 -- it goes on over one point, and what is used at it is taken to be used as far as an end, at least
 pub record Passed (x : Point) (end : ℕ) (before after : Walk) : Type 0 where
@@ -27,8 +27,8 @@ pub record Passed (x : Point) (end : ℕ) (before after : Walk) : Type 0 where
       marked before.points after.call end (is_used t x) (slice_get before.marks t)
 
 abbrev pub lives_at : List ℕ → List ℕ → List ℕ → Lives
-lives_at behind broken continued =
-    record { behind = set_of behind; broken = set_of broken; continued = set_of continued }
+lives_at following broken continued =
+    record { following = set_of following; broken = set_of broken; continued = set_of continued }
 
 -- what is live before a statement
 abbrev pub live_first : Trail → Lives → Set

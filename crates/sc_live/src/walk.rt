@@ -225,9 +225,9 @@ impl Walk {
                 then_part,
                 else_part,
             } => {
-                let behind = self.live.copy(alloc)?;
+                let following = self.live.copy(alloc)?;
                 self.row(alloc, exits, else_part)?;
-                let live = replace(&mut self.live, behind);
+                let live = replace(&mut self.live, following);
                 self.row(alloc, exits, then_part)?;
                 self.join(&live, *cond)?;
                 Ok(())

@@ -1,7 +1,7 @@
 -- Lowered code assigns each temporary before it reads it.
 use Rattle.sc_lower.proofs.Common.{Ahead, BinaryOp, Bool, Constant, Each, Global, Int, List, Local, Low, Lowered, Lows}
 use Rattle.sc_lower.proofs.Common.{None, Param, Reading, Some, TacOp, TacStmt, TacStmt-F, Ty, TypedExpr, TypedKind}
-use Rattle.sc_lower.proofs.Common.{TypedKind-F, TypedStruct, Under, VarRef, Want, [], alone, and_code, and_first}
+use Rattle.sc_lower.proofs.Common.{TypedKind-F, TypedStruct, Under, VarRef, Want, [], lone, and_code, and_first}
 use Rattle.sc_lower.proofs.Common.{and_from, and_rest, ap, at_place, between_op, binary, binary_code, constant_of}
 use Rattle.sc_lower.proofs.Common.{either, eq-eqb, eqb-true, everywhere, expr_at, expr_induction, false, false≢true}
 use Rattle.sc_lower.proofs.Common.{fold-TacStmt, fold-roll-TacStmt, from_first, from_one, from_two, if◌then◌else◌, inl}
@@ -28,20 +28,20 @@ abbrev pub fresh : ℕ → List TacStmt → Ahead → Bool
 fresh t xs ahead = row_fresh (map (reading t) xs) ahead
 
 pub first_append : (t : ℕ) (xs ys : List TacStmt) (ahead : Ahead) →
-    first t (xs ++ ys) ahead ≡ first t xs (record ahead { behind = first t ys ahead })
+    first t (xs ++ ys) ahead ≡ first t xs (record ahead { following = first t ys ahead })
 first_append t [] ys ahead = refl
 first_append t (x ∷ xs) ys ahead =
-    ap (λ b. (reading t x).first (record ahead { behind = b })) (first_append t xs ys ahead)
+    ap (λ b. (reading t x).first (record ahead { following = b })) (first_append t xs ys ahead)
 
 pub fresh_append : (t : ℕ) (xs ys : List TacStmt) (ahead : Ahead) →
-    fresh t xs (record ahead { behind = first t ys ahead }) ≡ true → fresh t ys ahead ≡ true →
+    fresh t xs (record ahead { following = first t ys ahead }) ≡ true → fresh t ys ahead ≡ true →
     fresh t (xs ++ ys) ahead ≡ true
 fresh_append t [] ys ahead h k = k
 fresh_append t (x ∷ xs) ys ahead h k =
     let here =
-    (reading t x).fresh (record ahead { behind = first t xs (record ahead { behind = first t ys ahead }) }) in
+    (reading t x).fresh (record ahead { following = first t xs (record ahead { following = first t ys ahead }) }) in
     and_from _ _
-    (ap (λ b. (reading t x).fresh (record ahead { behind = b })) (first_append t xs ys ahead) ∙ and_first here _ h)
+    (ap (λ b. (reading t x).fresh (record ahead { following = b })) (first_append t xs ys ahead) ∙ and_first here _ h)
     (fresh_append t xs ys ahead (and_rest here _ h) k)
 
 -- one statement
@@ -104,21 +104,21 @@ pub is_it : (x t : ℕ) → (x == t) ≡ true → t ≡ x
 is_it x t h = sym (eqb-true x t h)
 
 -- a statement that reads, then assigns: what is read first is read by it, or isn't what it assigns and is read after it
-pub plain_reads : {B : Type 0} (t d : ℕ) (reads behind : Bool) → (reads || (not (d == t || false) && behind)) ≡ true →
-    (reads ≡ true → B) → (behind ≡ true → (t ≡ d) ⊎ B) → B
-plain_reads {B} t d reads behind h read later =
-    either reads (not (d == t || false) && behind) h read
-    (λ k. other (d == t) refl (and_first (not (d == t || false)) behind k)
-    (later (and_rest (not (d == t || false)) behind k))) where
+pub plain_reads : {B : Type 0} (t d : ℕ) (reads following : Bool) → (reads || (not (d == t || false) && following)) ≡ true →
+    (reads ≡ true → B) → (following ≡ true → (t ≡ d) ⊎ B) → B
+plain_reads {B} t d reads following h read later =
+    either reads (not (d == t || false) && following) h read
+    (λ k. other (d == t) refl (and_first (not (d == t || false)) following k)
+    (later (and_rest (not (d == t || false)) following k))) where
       other : (b : Bool) → (d == t) ≡ b → not (d == t || false) ≡ true → (t ≡ d) ⊎ B → B
       other true is n either_way = absurd (false≢true (sym (ap (λ b. not (b || false)) is) ∙ n))
       other false is n (inl same) = absurd (false≢true (sym is ∙ eq-eqb d t (sym same)))
       other false is n (inr b) = b
 
 -- a statement that reads and assigns nothing
-pub only_reads : {B : Type 0} (reads behind : Bool) → (reads || (true && behind)) ≡ true → (reads ≡ true → B) →
-    (behind ≡ true → B) → B
-only_reads reads behind h read later = either reads behind h read later
+pub only_reads : {B : Type 0} (reads following : Bool) → (reads || (true && following)) ≡ true → (reads ≡ true → B) →
+    (following ≡ true → B) → B
+only_reads reads following h read later = either reads following h read later
 
 pub no_reads : {B : Type 0} → false ≡ true → B
 no_reads h = absurd (false≢true h)
@@ -132,36 +132,36 @@ two_read x y t h left right = either (x == t) (y == t || false) h (λ k. left (i
 -- SHAPES
 -- where what follows reads `t` first only if `t` is `at` or `b` holds, the code reads `t` first only if `b` holds
 abbrev pub Settles : ℕ → List TacStmt → Type 0
-Settles at xs = (b : Bool) (t : ℕ) (ahead : Ahead) → (ahead.behind ≡ true → (t ≡ at) ⊎ (b ≡ true)) →
+Settles at xs = (b : Bool) (t : ℕ) (ahead : Ahead) → (ahead.following ≡ true → (t ≡ at) ⊎ (b ≡ true)) →
     first t xs ahead ≡ true → b ≡ true
 
 pub record Settled (l : Lows) : Type 0 where
   pub settles : (n : ℕ) → Settles (l n).at (l n).code
 
 pub const_settles : (d : ℕ) (c : Constant) → Settles d (emit.Const d c ∷ [])
-const_settles d c b t ahead behind h =
-    plain_reads t d false ahead.behind (sym (first_one t (tac.Const d c) (emit.Const d c) ahead (emit.rolls-Const d c))
-    ∙ h) no_reads behind
+const_settles d c b t ahead following h =
+    plain_reads t d false ahead.following (sym (first_one t (tac.Const d c) (emit.Const d c) ahead (emit.rolls-Const d c))
+    ∙ h) no_reads following
 
 place_settles : (params : ℕ) (v : VarRef) (d : ℕ) → Settles d (place_code params v d ∷ [])
-place_settles params (Global g) d b t ahead behind h =
-    plain_reads t d false ahead.behind (sym (first_one t (tac.GlobalPlace d g) (emit.GlobalPlace d g) ahead
-    (emit.rolls-GlobalPlace d g)) ∙ h) no_reads behind
-place_settles params (Param p) d b t ahead behind h =
-    plain_reads t d false ahead.behind (sym (first_one t (tac.ObjectPlace d p) (emit.ObjectPlace d p) ahead
-    (emit.rolls-ObjectPlace d p)) ∙ h) no_reads behind
-place_settles params (Local l) d b t ahead behind h =
-    plain_reads t d false ahead.behind
+place_settles params (Global g) d b t ahead following h =
+    plain_reads t d false ahead.following (sym (first_one t (tac.GlobalPlace d g) (emit.GlobalPlace d g) ahead
+    (emit.rolls-GlobalPlace d g)) ∙ h) no_reads following
+place_settles params (Param p) d b t ahead following h =
+    plain_reads t d false ahead.following (sym (first_one t (tac.ObjectPlace d p) (emit.ObjectPlace d p) ahead
+    (emit.rolls-ObjectPlace d p)) ∙ h) no_reads following
+place_settles params (Local l) d b t ahead following h =
+    plain_reads t d false ahead.following
     (sym (first_one t (tac.ObjectPlace d (params + l)) (emit.ObjectPlace d (params + l)) ahead
-    (emit.rolls-ObjectPlace d (params + l))) ∙ h) no_reads behind
+    (emit.rolls-ObjectPlace d (params + l))) ∙ h) no_reads following
 
 -- what a statement reads that assigns d: one temporary, or two
 abbrev ReadsOne : ℕ → ℕ → List TacStmt → Type 0
-ReadsOne d x xs = (b : Bool) (t : ℕ) (ahead : Ahead) → (ahead.behind ≡ true → (t ≡ d) ⊎ (b ≡ true)) →
+ReadsOne d x xs = (b : Bool) (t : ℕ) (ahead : Ahead) → (ahead.following ≡ true → (t ≡ d) ⊎ (b ≡ true)) →
     first t xs ahead ≡ true → (t ≡ x) ⊎ (b ≡ true)
 
 abbrev ReadsTwo : ℕ → ℕ → ℕ → List TacStmt → Type 0
-ReadsTwo d x y xs = (b : Bool) (t : ℕ) (ahead : Ahead) → (ahead.behind ≡ true → (t ≡ d) ⊎ (b ≡ true)) →
+ReadsTwo d x y xs = (b : Bool) (t : ℕ) (ahead : Ahead) → (ahead.following ≡ true → (t ≡ d) ⊎ (b ≡ true)) →
     first t xs ahead ≡ true → (t ≡ y) ⊎ ((t ≡ x) ⊎ (b ≡ true))
 
 further : {A B C : Type 0} → A ⊎ B → (B → C) → A ⊎ C
@@ -176,76 +176,76 @@ pub out_of : (x t : ℕ) (b : Bool) → (x == t || b) ≡ true → (t ≡ x) ⊎
 out_of x t b h = either (x == t) b h (λ k. inl (is_it x t k)) (λ k. inr k)
 
 one_op : (d : ℕ) (o : TacOp) (x : ℕ) → ReadsOne d x (emit.Op d o x None ∷ [])
-one_op d o x b t ahead behind h =
-    plain_reads t d (x == t || false) ahead.behind (sym (first_one t (tac.Op d o x None) (emit.Op d o x None) ahead
-    (emit.rolls-Op d o x None)) ∙ h) (λ k. one_read x t k (λ e. inl e)) (λ g. further (behind g) (λ a. inr a))
+one_op d o x b t ahead following h =
+    plain_reads t d (x == t || false) ahead.following (sym (first_one t (tac.Op d o x None) (emit.Op d o x None) ahead
+    (emit.rolls-Op d o x None)) ∙ h) (λ k. one_read x t k (λ e. inl e)) (λ g. further (following g) (λ a. inr a))
 
 two_op : (d : ℕ) (o : TacOp) (x y : ℕ) → ReadsTwo d x y (emit.Op d o x (Some y) ∷ [])
-two_op d o x y b t ahead behind h =
-    plain_reads t d (x == t || (y == t || false)) ahead.behind
+two_op d o x y b t ahead following h =
+    plain_reads t d (x == t || (y == t || false)) ahead.following
     (sym (first_one t (tac.Op d o x (Some y)) (emit.Op d o x (Some y)) ahead (emit.rolls-Op d o x (Some y))) ∙ h)
-    (λ k. two_read x y t k (λ e. inr (inl e)) (λ e. inl e)) (λ g. further (behind g) (λ a. inr (inr a)))
+    (λ k. two_read x y t k (λ e. inr (inl e)) (λ e. inl e)) (λ g. further (following g) (λ a. inr (inr a)))
 
 swapped_op : (d : ℕ) (o : TacOp) (x y : ℕ) → ReadsTwo d x y (emit.Op d o y (Some x) ∷ [])
-swapped_op d o x y b t ahead behind h =
-    plain_reads t d (y == t || (x == t || false)) ahead.behind
+swapped_op d o x y b t ahead following h =
+    plain_reads t d (y == t || (x == t || false)) ahead.following
     (sym (first_one t (tac.Op d o y (Some x)) (emit.Op d o y (Some x)) ahead (emit.rolls-Op d o y (Some x))) ∙ h)
-    (λ k. two_read y x t k (λ e. inl e) (λ e. inr (inl e))) (λ g. further (behind g) (λ a. inr (inr a)))
+    (λ k. two_read y x t k (λ e. inl e) (λ e. inr (inl e))) (λ g. further (following g) (λ a. inr (inr a)))
 
-alone_settled : (make : ℕ → TacStmt) → ((d : ℕ) → Settles d (make d ∷ [])) → Settled (alone make)
-alone_settled make h = record { settles = λ n. h n }
+lone_settled : (make : ℕ → TacStmt) → ((d : ℕ) → Settles d (make d ∷ [])) → Settled (lone make)
+lone_settled make h = record { settles = λ n. h n }
 
 load_reads : (at : ℕ) (pointer : Bool) (b : Bool) (t : ℕ) (ahead : Ahead) →
-    (ahead.behind ≡ true → (t ≡ at) ⊎ (b ≡ true)) → first t (emit.Load at at pointer ∷ []) ahead ≡ true →
+    (ahead.following ≡ true → (t ≡ at) ⊎ (b ≡ true)) → first t (emit.Load at at pointer ∷ []) ahead ≡ true →
     (t ≡ at) ⊎ (b ≡ true)
-load_reads at pointer b t ahead behind h =
-    either (at == t || false) (not (at == t || false) && ahead.behind)
+load_reads at pointer b t ahead following h =
+    either (at == t || false) (not (at == t || false) && ahead.following)
     (sym (first_one t (tac.Load at at pointer) (emit.Load at at pointer) ahead (emit.rolls-Load at at pointer)) ∙ h)
-    (λ k. one_read at t k (λ e. inl e)) (λ k. behind (and_rest (not (at == t || false)) ahead.behind k))
+    (λ k. one_read at t k (λ e. inl e)) (λ k. following (and_rest (not (at == t || false)) ahead.following k))
 
 loaded_reads : (ty : Ty) (w : Want) (at : ℕ) (b : Bool) (t : ℕ) (ahead : Ahead) →
-    (ahead.behind ≡ true → (t ≡ at) ⊎ (b ≡ true)) → first t (loaded ty w at) ahead ≡ true → (t ≡ at) ⊎ (b ≡ true)
-loaded_reads ty want.Place at b t ahead behind h = behind h
-loaded_reads ty want.Value at b t ahead behind h = by (is_array ty) h where
+    (ahead.following ≡ true → (t ≡ at) ⊎ (b ≡ true)) → first t (loaded ty w at) ahead ≡ true → (t ≡ at) ⊎ (b ≡ true)
+loaded_reads ty want.Place at b t ahead following h = following h
+loaded_reads ty want.Value at b t ahead following h = by (is_array ty) h where
   by : (c : Bool) → first t (if c then [] else emit.Load at at (is_pointer ty) ∷ []) ahead ≡ true →
       (t ≡ at) ⊎ (b ≡ true)
-  by true h = behind h
-  by false h = load_reads at (is_pointer ty) b t ahead behind h
+  by true h = following h
+  by false h = load_reads at (is_pointer ty) b t ahead following h
 
 pub place_settled : (ty : Ty) (w : Want) (l : Lows) → Settled l → Settled (at_place ty l w)
 place_settled ty w l hl = record {
-  settles = λ n b t ahead behind h.
-      hl.settles n b t (record ahead { behind = first t (loaded ty w (l n).at) ahead })
-      (loaded_reads ty w (l n).at b t ahead behind) (sym (first_append t (l n).code (loaded ty w (l n).at) ahead) ∙ h);
+  settles = λ n b t ahead following h.
+      hl.settles n b t (record ahead { following = first t (loaded ty w (l n).at) ahead })
+      (loaded_reads ty w (l n).at b t ahead following) (sym (first_append t (l n).code (loaded ty w (l n).at) ahead) ∙ h);
 }
 
 one_settled : (a : Lows) (make : ℕ → ℕ → TacStmt) → ((d x : ℕ) → ReadsOne d x (make d x ∷ [])) → Settled a →
     Settled (from_one a make)
 one_settled a make k ha = record {
-  settles = λ n b t ahead behind h.
+  settles = λ n b t ahead following h.
       let last : List TacStmt = make (a n).at (a n).at ∷ [] in
-      ha.settles n b t (record ahead { behind = first t last ahead }) (k (a n).at (a n).at b t ahead behind)
+      ha.settles n b t (record ahead { following = first t last ahead }) (k (a n).at (a n).at b t ahead following)
       (sym (first_append t (a n).code last ahead) ∙ h);
 }
 
 two_settled : (a b : Lows) (make : ℕ → ℕ → ℕ → TacStmt) → ((d x y : ℕ) → ReadsTwo d x y (make d x y ∷ [])) → Settled a →
     Settled b → Settled (from_two a b make)
 two_settled a c make k ha hb = record {
-  settles = λ n b t ahead behind h.
+  settles = λ n b t ahead following h.
       let x : Low = a n in let y : Low = c x.next in
       let last : List TacStmt = make y.at x.at y.at ∷ [] in
-      ha.settles n b t (record ahead { behind = first t (y.code ++ last) ahead })
-      (λ g. out_of (x.at) t b (hb.settles x.next (x.at == t || b) t (record ahead { behind = first t last ahead })
-      (λ f. further (k y.at x.at y.at b t ahead behind f) (into x.at t b)) (sym (first_append t y.code last ahead)
+      ha.settles n b t (record ahead { following = first t (y.code ++ last) ahead })
+      (λ g. out_of (x.at) t b (hb.settles x.next (x.at == t || b) t (record ahead { following = first t last ahead })
+      (λ f. further (k y.at x.at y.at b t ahead following f) (into x.at t b)) (sym (first_append t y.code last ahead)
       ∙ g)))
       (sym (first_append t x.code (y.code ++ last) ahead) ∙ h);
 }
 
 truth_reads : (ty : Ty) (d x : ℕ) → ReadsOne d x (truth_code ty d x)
-truth_reads ty d x b t ahead behind h =
+truth_reads ty d x b t ahead following h =
     let last : List TacStmt = emit.Op d (tacop.Unary unary.Not Int) d None ∷ [] in
-    one_op d (not_op ty) x b t (record ahead { behind = first t last ahead }) (λ g. one_op d (tacop.Unary unary.Not Int)
-    d b t ahead behind g) (sym (first_append t (emit.Op d (not_op ty) x None ∷ []) last ahead) ∙ h)
+    one_op d (not_op ty) x b t (record ahead { following = first t last ahead }) (λ g. one_op d (tacop.Unary unary.Not Int)
+    d b t ahead following g) (sym (first_append t (emit.Op d (not_op ty) x None ∷ []) last ahead) ∙ h)
 
 -- `If`: what it reads first is its condition, or read first in one of its parts
 pub if_reads : {B : Type 0} (t c : ℕ) (xs ys : List TacStmt) (ahead : Ahead) →
@@ -259,28 +259,28 @@ if_reads t c xs ys ahead h cond left right =
 -- what runs the code of a second value
 abbrev Chooses : (ℕ → ℕ → List TacStmt → TacStmt) → Type 0
 Chooses make = (d x : ℕ) (code : List TacStmt) (b : Bool) (t : ℕ) (ahead : Ahead) →
-    (ahead.behind ≡ true → (t ≡ d) ⊎ (b ≡ true)) → (first t code ahead ≡ true → b ≡ true) →
+    (ahead.following ≡ true → (t ≡ d) ⊎ (b ≡ true)) → (first t code ahead ≡ true → b ≡ true) →
     first t (make d x code ∷ []) ahead ≡ true → (t ≡ x) ⊎ (b ≡ true)
 
 and_chooses : Chooses and_code
-and_chooses d x code b t ahead behind inner h =
-    if_reads t x code _ ahead h (λ e. inl e) (λ k. inr (inner k)) (λ k. inr (const_settles d _ b t ahead behind k))
+and_chooses d x code b t ahead following inner h =
+    if_reads t x code _ ahead h (λ e. inl e) (λ k. inr (inner k)) (λ k. inr (const_settles d _ b t ahead following k))
 
 or_chooses : Chooses or_code
-or_chooses d x code b t ahead behind inner h =
-    if_reads t x _ code ahead h (λ e. inl e) (λ k. inr (const_settles d _ b t ahead behind k)) (λ k. inr (inner k))
+or_chooses d x code b t ahead following inner h =
+    if_reads t x _ code ahead h (λ e. inl e) (λ k. inr (const_settles d _ b t ahead following k)) (λ k. inr (inner k))
 
 first_settled : (a b : Lows) (last : ℕ → ℕ → List TacStmt) (make : ℕ → ℕ → List TacStmt → TacStmt) →
     ((d x : ℕ) → ReadsOne d x (last d x)) → Chooses make → Settled a → Settled b → Settled (from_first a b last make)
 first_settled a c last make end k ha hb = record {
-  settles = λ n b t ahead behind h.
+  settles = λ n b t ahead following h.
       let x : Low = a n in let y : Low = c x.next in
       let inner : List TacStmt = y.code ++ last y.next y.at in
       let whole : List TacStmt = make y.next x.at inner ∷ [] in
-      ha.settles n b t (record ahead { behind = first t whole ahead })
-      (k y.next x.at inner b t ahead behind
-      (λ g. hb.settles x.next b t (record ahead { behind = first t (last y.next y.at) ahead })
-      (end y.next y.at b t ahead behind) (sym (first_append t y.code (last y.next y.at) ahead) ∙ g)))
+      ha.settles n b t (record ahead { following = first t whole ahead })
+      (k y.next x.at inner b t ahead following
+      (λ g. hb.settles x.next b t (record ahead { following = first t (last y.next y.at) ahead })
+      (end y.next y.at b t ahead following) (sym (first_append t y.code (last y.next y.at) ahead) ∙ g)))
       (sym (first_append t x.code whole ahead) ∙ h);
 }
 
@@ -336,8 +336,8 @@ module _ (structs : List TypedStruct) where
 
     level : (ty : Ty) (k : TypedKind-F TypedKind TypedExpr) → Under P k → (w : Want) →
         Settled (term_of _ _ (term_step structs params) lowered_step k ty w)
-    level ty (term.Literal word) h w = alone_settled _ (λ d. const_settles d (constant_of ty word))
-    level ty (term.Variable v) h w = place_settled ty w _ (alone_settled (place_code params v) (place_settles params v))
+    level ty (term.Literal word) h w = lone_settled _ (λ d. const_settles d (constant_of ty word))
+    level ty (term.Variable v) h w = place_settled ty w _ (lone_settled (place_code params v) (place_settles params v))
     level ty (term.Unary o a) h w = one_settled _ _ (λ d x. one_op d (unary_op o (lowered structs params a).ty) x)
         (h want.Value)
     level ty (term.Binary o a b) h w = binary_settled o _ _ (h.0 want.Value) (h.1 want.Value)
@@ -354,7 +354,7 @@ module _ (structs : List TypedStruct) where
         subst (λ l. Settled (l.form w)) (sym (expr_at _ _ (term_step structs params) lowered_step ty k))
         (level ty k h w))
 
-pub local_settled : (params k : ℕ) (ty : Ty) → Settled (at_place ty (alone (place_code params (Local k))) want.Place)
+pub local_settled : (params k : ℕ) (ty : Ty) → Settled (at_place ty (lone (place_code params (Local k))) want.Place)
 local_settled params k ty =
-    place_settled ty want.Place (alone (place_code params (Local k))) (alone_settled (place_code params (Local k))
+    place_settled ty want.Place (lone (place_code params (Local k))) (lone_settled (place_code params (Local k))
     (place_settles params (Local k)))

@@ -149,10 +149,10 @@ module _ (scope : Scope) (few : length scope.locals ≤ most_nodes) where
         (cond_near cond (and_first (is_scalar (judged scope cond)) _ fits))
         (block_near x true (and_rest (is_scalar (judged scope cond)) _ fits) h)
     level_near line (layer.For first cond next x) h looping fits =
-        let behind = and_rest (part_fits scope callable result first) _ fits in
-        let last = and_rest (is_scalar (judged scope cond)) _ behind in
+        let following = and_rest (part_fits scope callable result first) _ fits in
+        let last = and_rest (is_scalar (judged scope cond)) _ following in
         by _ _ _ _ (part_near first (and_first (part_fits scope callable result first) _ fits))
-        (cond_near cond (and_first (is_scalar (judged scope cond)) _ behind))
+        (cond_near cond (and_first (is_scalar (judged scope cond)) _ following))
         (part_near next (and_first (part_fits scope callable result next) _ last))
         (block_near x true (and_rest (part_fits scope callable result next) _ last) h) where
           by : (a b c d : ℕ) → a ≡ 0 → b ≡ 0 → c ≡ 0 → d ≡ 0 → a + b + c + d ≡ 0

@@ -1,7 +1,7 @@
 -- Code takes at most a temporary for each node, and weighs at most 24 for each.
 use Rattle.sc_lower.proofs.Common.{BinaryOp, Bool, Constant, Global, Int, List, Local, Low, Lowered, Lows, None, Option}
 use Rattle.sc_lower.proofs.Common.{Param, Some, TacOp, TacStmt, TacStmt-F, Ty, TypedExpr, TypedKind, TypedKind-F}
-use Rattle.sc_lower.proofs.Common.{TypedStruct, Under, VarRef, Want, [], alone, and_code, ap, arith as numbers}
+use Rattle.sc_lower.proofs.Common.{TypedStruct, Under, VarRef, Want, [], lone, and_code, ap, arith as numbers}
 use Rattle.sc_lower.proofs.Common.{at_place, between_op, binary, binary_code, constant_of, expr_at, expr_induction}
 use Rattle.sc_lower.proofs.Common.{expr_nodes, false, fold-roll-TacStmt, from_first, from_one, from_two, if◌then◌else◌}
 use Rattle.sc_lower.proofs.Common.{is_array, is_pointer, is_unsigned_op, loaded, lowered, lowered_step, map-TacStmt}
@@ -31,9 +31,9 @@ pub weight_one : (k : TacStmt-F TacStmt) (c : TacStmt) → roll-TacStmt k ≡ c 
     weight (c ∷ []) ≡ weight_step (map-TacStmt _ _ stmt_weight k)
 weight_one k c is =
     ap (λ x. stmt_weight x + 0) (sym is) ∙ ap (λ n. n + 0) (fold-roll-TacStmt ℕ weight_step k)
-    ∙ zero_behind (weight_step (map-TacStmt _ _ stmt_weight k)) where
-      zero_behind : (n : ℕ) → n + 0 ≡ n
-      zero_behind n = omega numbers
+    ∙ zero_after (weight_step (map-TacStmt _ _ stmt_weight k)) where
+      zero_after : (n : ℕ) → n + 0 ≡ n
+      zero_after n = omega numbers
 
 abbrev pub AtMost : TacStmt → ℕ → Type 0
 AtMost c n = weight (c ∷ []) ≤ n
@@ -205,8 +205,8 @@ or_weight d x code =
       by : (u v : ℕ) → v ≤ 5 → 6 + v + u ≤ 11 + u
       by u v h = omega (numbers, h)
 
-pub alone_rises : (make : ℕ → TacStmt) → ((d : ℕ) → AtMost (make d) 6) → RisesPlace (alone make) 1
-alone_rises make most = record {
+pub lone_rises : (make : ℕ → TacStmt) → ((d : ℕ) → AtMost (make d) 6) → RisesPlace (lone make) 1
+lone_rises make most = record {
   above = λ n. omega numbers;
   below = λ n. omega numbers;
   few = λ n. omega numbers;
@@ -277,10 +277,10 @@ module _ (structs : List TypedStruct) where
     level : (ty : Ty) (k : TypedKind-F TypedKind TypedExpr) → Under P k → (w : Want) →
         Rises (term_of _ _ (term_step structs params) lowered_step k ty w) (term_of _ _ term_nodes (λ e. e.kind) k)
     level ty (term.Literal word) h w =
-        from_place _ _ (alone_rises (λ d. emit.Const d (constant_of ty word)) (λ d. by d)) where
+        from_place _ _ (lone_rises (λ d. emit.Const d (constant_of ty word)) (λ d. by d)) where
           by : (d : ℕ) → AtMost (emit.Const d (constant_of ty word)) 6
           by d = omega (numbers, const_weight d (constant_of ty word))
-    level ty (term.Variable v) h w = place_rises ty w _ _ (alone_rises (place_code params v) (place_weight params v))
+    level ty (term.Variable v) h w = place_rises ty w _ _ (lone_rises (place_code params v) (place_weight params v))
     level ty (term.Unary o a) h w =
         from_place _ _ (one_rises _ (λ d x. emit.Op d (unary_op o (lowered structs params a).ty) x None)
         _ (λ d x. op_at_most d (unary_op o (lowered structs params a).ty) x None) (h want.Value))

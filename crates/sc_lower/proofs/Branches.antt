@@ -3,9 +3,9 @@ use Rattle.sc_lower.proofs.Common.{BinaryOp, Bool, CallTarget, Constant, Each, F
 use Rattle.sc_lower.proofs.Common.{KeepsBranches, List, Local, Low, Lowered, Lows, Many, None, Option, Param, Part}
 use Rattle.sc_lower.proofs.Common.{Parts, Some, TacOp, TacStmt, TacStmt-F, Ty, TypedCall, TypedExpr, TypedKind}
 use Rattle.sc_lower.proofs.Common.{TypedKind-F, TypedLocal, TypedSimple, TypedSimpleKind, TypedStmt, TypedStmtKind}
-use Rattle.sc_lower.proofs.Common.{TypedStmtKind-F, TypedStruct, Under, VarRef, Want, [], after, alone, and_code, ap}
+use Rattle.sc_lower.proofs.Common.{TypedStmtKind-F, TypedStruct, Under, VarRef, Want, [], after, lone, and_code, ap}
 use Rattle.sc_lower.proofs.Common.{arith as numbers, assign, at_place, between_op, binary, binary_code, block_code}
-use Rattle.sc_lower.proofs.Common.{both, call_alone, call_branches, call_code, call_for, constant_of, cycle, expr_at}
+use Rattle.sc_lower.proofs.Common.{both, call_statement, call_branches, call_code, call_for, constant_of, cycle, expr_at}
 use Rattle.sc_lower.proofs.Common.{expr_branches, expr_induction, false, first_of, fold-roll-TacStmt, forms, from_first}
 use Rattle.sc_lower.proofs.Common.{from_one, from_two, ifs, ifs_step, if◌then◌else◌, in_turn, init_branches, init_code}
 use Rattle.sc_lower.proofs.Common.{inits_code, is_array, is_pointer, is_unsigned_op, just, kind_branches, kind_step}
@@ -37,9 +37,9 @@ ifs_one : (k : TacStmt-F TacStmt) (c : TacStmt) → roll-TacStmt k ≡ c →
     ifs (c ∷ []) ≡ ifs_step (map-TacStmt _ _ stmt_ifs k)
 ifs_one k c is =
     ap (λ x. stmt_ifs x + 0) (sym is) ∙ ap (λ n. n + 0) (fold-roll-TacStmt ℕ ifs_step k)
-    ∙ zero_behind (ifs_step (map-TacStmt _ _ stmt_ifs k)) where
-      zero_behind : (n : ℕ) → n + 0 ≡ n
-      zero_behind n = omega numbers
+    ∙ zero_after (ifs_step (map-TacStmt _ _ stmt_ifs k)) where
+      zero_after : (n : ℕ) → n + 0 ≡ n
+      zero_after n = omega numbers
 
 -- SHAPES
 abbrev Has : Lows → ℕ → Type 0
@@ -179,7 +179,7 @@ module _ (structs : List TypedStruct) where
     level : (ty : Ty) (k : TypedKind-F TypedKind TypedExpr) → Under P k → (w : Want) →
         Has (term_of _ _ (term_step structs params) lowered_step k ty w) (term_of _ _ term_branches (λ e. e.kind) k)
     level ty (term.Literal word) h w n = const_without n (constant_of ty word)
-    level ty (term.Variable v) h w n = place_has ty w (alone (place_code params v)) 0 (λ n. place_without params v n) n
+    level ty (term.Variable v) h w n = place_has ty w (lone (place_code params v)) 0 (λ n. place_without params v n) n
     level ty (term.Unary o a) h w n =
         one_has ((lowered structs params a).form want.Value)
         (λ d x. emit.Op d (unary_op o (lowered structs params a).ty) x None) (expr_branches a)
@@ -266,8 +266,8 @@ module _ (structs : List TypedStruct) (params : ℕ) where
       then_ifs (form e want.Value n).code (many (map form es) (form e want.Value n).next).code (expr_branches e)
       (total (map expr_branches es)) (value_has e n) (many_has es (form e want.Value n).next)
 
-  call_alone_has : (c : TypedCall) → PartHas (call_alone c.target (map form c.args)) (call_branches c)
-  call_alone_has c n =
+  call_statement_has : (c : TypedCall) → PartHas (call_statement c.target (map form c.args)) (call_branches c)
+  call_statement_has c n =
       let x : Many = many (map form c.args) n in
       then_none x.code (call_code c.target None x.at ∷ []) (call_branches c) (many_has c.args n)
       (call_without c.target None x.at)
@@ -306,7 +306,7 @@ module _ (structs : List TypedStruct) (params : ℕ) where
   simple_has (simple.AssignCall place c) n =
       call_for_has c (store_at (form place)) (expr_branches place) (λ d. store_has (form place) (expr_branches place) d
       (target_has place)) n
-  simple_has (simple.Call c) n = call_alone_has c n
+  simple_has (simple.Call c) n = call_statement_has c n
 
   part_has : (part : Option TypedSimple) → PartHas (part_code structs params part) (part_branches part)
   part_has None n = refl
@@ -330,7 +330,7 @@ module _ (structs : List TypedStruct) (params : ℕ) where
   level_has line (layer.AssignCall place c) h n =
       call_for_has c (store_at (form place)) (expr_branches place) (λ d. store_has (form place) (expr_branches place) d
       (target_has place)) n
-  level_has line (layer.Call c) h n = call_alone_has c n
+  level_has line (layer.Call c) h n = call_statement_has c n
   level_has line (layer.If cond x y) h n =
       let a : Low = form cond want.Value n in
       let p : Part = block_code structs params x a.next in
@@ -375,8 +375,8 @@ module _ (structs : List TypedStruct) (params : ℕ) where
       PartHas (init_code structs params k local init) (init_branches init)
   init_has k local None n = refl
   init_has k local (Some e) n =
-      by _ (expr_branches e) (assign_has (at_place local.ty (alone (place_code params (Local k)))) (form e) 0
-      (expr_branches e) (place_has local.ty want.Place (alone (place_code params (Local k))) 0
+      by _ (expr_branches e) (assign_has (at_place local.ty (lone (place_code params (Local k)))) (form e) 0
+      (expr_branches e) (place_has local.ty want.Place (lone (place_code params (Local k))) 0
       (λ n. place_without params (Local k) n)) (value_has e) n) where
         by : (m j : ℕ) → m ≡ 0 + j → m ≡ j
         by m j e = omega (numbers, e)

@@ -254,9 +254,9 @@ module _ (count : ℕ) where
     level t (term.Address a) h =
         let j = judged scope a in
         value_known t _ (λ fit.
-        let behind = and_rest j.fits _ fit in
-        pointer_known j.ty t (h.typed (and_first j.fits _ fit) (h.no_null (and_first j.place _ behind)))
-        (and_rest j.place _ behind))
+        let following = and_rest j.fits _ fit in
+        pointer_known j.ty t (h.typed (and_first j.fits _ fit) (h.no_null (and_first j.place _ following)))
+        (and_rest j.place _ following))
 
     expr_known : (e : TypedExpr) → P e
     expr_known = expr_induction P (λ t k h. subst Known (sym (expr_at _ _ (term_judged scope) (λ e. e.kind e.ty) t k))
@@ -324,10 +324,10 @@ module _ (structs : List TypedStruct) where
         members_fit structs k 0 members end ≡ true → 1 ≤ end
     members_filled [] end some h = absurd (false≢true some)
     members_filled (m ∷ members) end some h =
-        let behind = and_rest (m.offset == 0) _ h in
-        let first : 1 ≤ cells_of structs m.ty = type_filled m.ty (and_first (type_within k (suc k) m.ty) _ behind) in
+        let following = and_rest (m.offset == 0) _ h in
+        let first : 1 ≤ cells_of structs m.ty = type_filled m.ty (and_first (type_within k (suc k) m.ty) _ following) in
         let rest : 0 + cells_of structs m.ty ≤ end =
-        members_end (0 + cells_of structs m.ty) members end (and_rest (type_within k (suc k) m.ty) _ behind) in
+        members_end (0 + cells_of structs m.ty) members end (and_rest (type_within k (suc k) m.ty) _ following) in
         omega (numbers, first, rest)
 
     struct_filled : (s : TypedStruct) → struct_fits structs k s ≡ true → 1 ≤ s.cells
@@ -410,13 +410,13 @@ module _ (structs : List TypedStruct) where
         list_any {X = TypedMember} (λ m. m.offset == at && same_ty m.ty t) members ≡ true → known count t ≡ true
     named_known k offset [] end at t lt h any = absurd (false≢true any)
     named_known k offset (m ∷ members) end at t lt h any =
-        let behind = and_rest (m.offset == offset) _ h in
+        let following = and_rest (m.offset == offset) _ h in
         either (m.offset == at && same_ty m.ty t) _ any
         (λ is. sym (same_known count m.ty t (and_rest (m.offset == at) _ is))
         ∙ within_known count k (suc k) m.ty (omega (numbers, lt)) (omega (numbers, lt))
-        (and_first (type_within k (suc k) m.ty) _ behind))
+        (and_first (type_within k (suc k) m.ty) _ following))
         (named_known k (offset + cells_of structs m.ty) members end at t lt (and_rest (type_within k (suc k) m.ty)
-        _ behind))
+        _ following))
 
     member_known : (n : ℕ) (o : Option TypedStruct) (offset : ℕ) (t : Ty) → slice_get structs n ≡ o →
         has_member o offset t ≡ true → known count t ≡ true

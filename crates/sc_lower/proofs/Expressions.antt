@@ -3,7 +3,7 @@ use Rattle.sc_lower.proofs.Common.{Arith, BinaryOp, Blocks, Bool, Calls, Cause, 
 use Rattle.sc_lower.proofs.Common.{Here, If, Int, List, Load, Local, Low, Lowered, Lows, Meant, None, Null, ObjectPlace}
 use Rattle.sc_lower.proofs.Common.{Ok, Op, Param, Result, Scope, Some, State, TacOp, TacStmt, Temps, Ty, TypedExpr}
 use Rattle.sc_lower.proofs.Common.{TypedKind, TypedKind-F, TypedStruct, UnaryOp, Under, Value, VarRef, Want, Word, []}
-use Rattle.sc_lower.proofs.Common.{address_fits, alone, and_code, and_first, and_rest, ap, applied, applied_one}
+use Rattle.sc_lower.proofs.Common.{address_fits, lone, and_code, and_first, and_rest, ap, applied, applied_one}
 use Rattle.sc_lower.proofs.Common.{arith as numbers, at_place, at_pointer, between, between_op, binary, binary_code}
 use Rattle.sc_lower.proofs.Common.{bind, choose, constant_of, constant_value, expr_at, expr_induction, false}
 use Rattle.sc_lower.proofs.Common.{from_first, from_one, from_two, gets, if◌then◌else◌, int_fits, is_address, is_array}
@@ -67,9 +67,9 @@ module _ (arith : Arith) (here : Here) (calls : Calls) where
   Kinded pointer r = (blocks : Blocks) (v : Value) → r blocks ≡ Ok v → is_of pointer v ≡ true
 
   -- SHAPES
-  pub alone_computes : (make : ℕ → TacStmt) (r : Blocks → Result Value Cause) → FromNone make r →
-      Computes (alone make) r
-  alone_computes make r h = record { above = λ n. omega numbers; below = λ n. omega numbers; gives = h }
+  pub lone_computes : (make : ℕ → TacStmt) (r : Blocks → Result Value Cause) → FromNone make r →
+      Computes (lone make) r
+  lone_computes make r h = record { above = λ n. omega numbers; below = λ n. omega numbers; gives = h }
 
   loaded_gives : (ty : Ty) (w : Want) (n at : ℕ) (v : Value) (t : Temps) (s : State) → n ≤ at → t at ≡ Some v →
       Gives arith here calls n at t s (wanted ty v w (s.memory here.comp)) (run arith here calls (loaded ty w at) t s)
@@ -183,9 +183,9 @@ module _ (arith : Arith) (here : Here) (calls : Calls) where
   op_swapped left right o g is n d x y v w t s le kv kw e f =
       op_gives right left o g (λ blocks v w _ _. is blocks v w) n d y x w v t s le kw kv f e
 
-  op_alone : (o : TacOp) (g : Blocks → Value → Result Value Cause) →
+  unary_op_computes : (o : TacOp) (g : Blocks → Value → Result Value Cause) →
       ((blocks : Blocks) (v : Value) → operated arith blocks o v v ≡ g blocks v) → FromOne (λ d x. Op d o x None ∷ []) g
-  op_alone o g is n d x v t s le e =
+  unary_op_computes o g is n d x v t s le e =
       let m = s.memory here.comp in
       gives_along arith here calls n d t s (g m v) (gets here d (g m v) t s) _
       (run_one arith here calls (tac.Op d o x None) (Op d o x None) t s (rolls-Op d o x None)
@@ -201,9 +201,9 @@ module _ (arith : Arith) (here : Here) (calls : Calls) where
       (not_twice (is_true v))
       (seq arith here calls n d d t s (negation v) negation (Op d (not_op ty) x None ∷ [])
       (Op d (tacop.Unary unary.Not Int) d None ∷ [])
-      (op_alone (not_op ty) (λ blocks. negation) (λ blocks v. not_is arith ty blocks v v) n d x v t s le e)
+      (unary_op_computes (not_op ty) (λ blocks. negation) (λ blocks v. not_is arith ty blocks v v) n d x v t s le e)
       (λ w u is f k. weaken arith here calls n n d t u s (negation w) _ (omega numbers) k
-      (op_alone (tacop.Unary unary.Not Int) (λ blocks. negation) (λ blocks v. refl) n d d w u s le f)))
+      (unary_op_computes (tacop.Unary unary.Not Int) (λ blocks. negation) (λ blocks v. refl) n d d w u s le f)))
 
   and_gives : FromFirst and_code (λ v r. choose v r (Ok (Word 0)))
   and_gives n d x v r code t s le e g =
@@ -339,7 +339,7 @@ module _ (arith : Arith) (here : Here) (calls : Calls) where
         one_computes (l.form want.Value) (λ d x. Op d (unary_op o l.ty) x None) (m.way want.Value)
         (λ blocks. applied_one arith (is_unsigned m.ty) o)
         (subst (λ ty. FromOne (λ d x. Op d (unary_op o l.ty) x None ∷ []) (λ blocks. applied_one arith (is_unsigned ty)
-        o)) h.ty (op_alone (unary_op o l.ty) (λ blocks. applied_one arith (is_unsigned l.ty) o)
+        o)) h.ty (unary_op_computes (unary_op o l.ty) (λ blocks. applied_one arith (is_unsigned l.ty) o)
         (λ blocks v. unary_is arith o l.ty blocks v v)))
         (h.form want.Value)
 
@@ -367,7 +367,7 @@ module _ (arith : Arith) (here : Here) (calls : Calls) where
         Computes (member structs offset l) (λ blocks. bind (r blocks) (moved blocks (pos offset)))
     member_computes offset l r h =
         one_computes l (λ d x. Op d (tacop.PointerMember offset) x None) r (λ blocks. moved blocks (pos offset))
-        (op_alone (tacop.PointerMember offset) (λ blocks. moved blocks (pos offset)) (λ blocks v. refl)) h
+        (unary_op_computes (tacop.PointerMember offset) (λ blocks. moved blocks (pos offset)) (λ blocks v. refl)) h
 
     module _ (params : ℕ) (scope : Scope) where
       abbrev P : TypedExpr → Type 0
@@ -388,9 +388,9 @@ module _ (arith : Arith) (here : Here) (calls : Calls) where
           (term_of _ _ (term_judged scope) (λ e. e.kind e.ty) k ty).fits ≡ true → (w : Want) →
           Computes (term_of _ _ (term_step structs params) lowered_step k ty w)
           (term_of _ _ (term_way arith structs here params) meant_step k ty w)
-      level ty (term.Literal word) h fits w = alone_computes _ _ (literal_gives ty word)
+      level ty (term.Literal word) h fits w = lone_computes _ _ (literal_gives ty word)
       level ty (term.Variable v) h fits w =
-          place_computes ty w _ _ (alone_computes (place_code params v) (λ blocks. Ok (variable_at here params v))
+          place_computes ty w _ _ (lone_computes (place_code params v) (λ blocks. Ok (variable_at here params v))
           (place_gives params v))
       level ty (term.Unary o a) h fits w = unary_computes o _ _ (h (unary_fit o (judged scope a) ty fits))
       level ty (term.Binary o a b) h fits w =

@@ -2,9 +2,9 @@
 use Rattle.sc_lower.proofs.Common.{Ahead, Bool, CallTarget, Callable, Each, Forms, Inside, List, Local, Low, Lows, Many}
 use Rattle.sc_lower.proofs.Common.{None, Option, Part, Parts, Scope, Some, TacStmt, Ty, TypedCall, TypedExpr}
 use Rattle.sc_lower.proofs.Common.{TypedLocal, TypedSimple, TypedSimpleKind, TypedStmt, TypedStmtKind, TypedStmtKind-F}
-use Rattle.sc_lower.proofs.Common.{TypedStruct, [], after, all_assigned_first, all_go_into, alone, and_first, and_from}
+use Rattle.sc_lower.proofs.Common.{TypedStruct, [], after, all_assigned_first, all_go_into, lone, and_first, and_from}
 use Rattle.sc_lower.proofs.Common.{and_rest, ap, assign, assign_call_fits, assign_fits, at_place, block_code, body_fits}
-use Rattle.sc_lower.proofs.Common.{both, call_alone, call_code, call_fits, call_for, cycle, false, false≢true, first_of}
+use Rattle.sc_lower.proofs.Common.{both, call_statement, call_code, call_fits, call_for, cycle, false, false≢true, first_of}
 use Rattle.sc_lower.proofs.Common.{fork, forms, goes_into, in_turn, init_code, init_fits, inits_code, inl, inr}
 use Rattle.sc_lower.proofs.Common.{is_assigned_first, is_one, is_scalar, is_target, is_type, judged, just, kind_fits}
 use Rattle.sc_lower.proofs.Common.{kind_step, layer_of, length, list_all, many, map, not, nothing_ahead, or_left}
@@ -36,19 +36,19 @@ or_turn false q r h = h
 
 -- what follows reads first nothing but what b allows, by every way out
 record Allows (b : Bool) (ahead : Ahead) : Type 0 where
-  pub behind : ahead.behind ≡ true → b ≡ true
+  pub following : ahead.following ≡ true → b ≡ true
   pub broken : ahead.broken ≡ true → b ≡ true
   pub continued : ahead.continued ≡ true → b ≡ true
 
 -- nothing is read first there
 record Nothing (ahead : Ahead) : Type 0 where
-  pub behind : ahead.behind ≡ false
+  pub following : ahead.following ≡ false
   pub broken : ahead.broken ≡ false
   pub continued : ahead.continued ≡ false
 
 none_allowed : (ahead : Ahead) → Nothing ahead → Allows false ahead
 none_allowed ahead h =
-    record { behind = λ k. sym h.behind ∙ k; broken = λ k. sym h.broken ∙ k; continued = λ k. sym h.continued ∙ k }
+    record { following = λ k. sym h.following ∙ k; broken = λ k. sym h.broken ∙ k; continued = λ k. sym h.continued ∙ k }
 
 -- code that reads nothing first by itself
 record Steady (p : Parts) : Type 0 where
@@ -66,7 +66,7 @@ after_steady : (a : Lows) (make : ℕ → Parts) → Settled a → ((n : ℕ) �
 after_steady a make ha straight h = record {
   keeps = λ n t b ahead allows g.
       let y : List TacStmt = (make (a n).at (a n).next).code in
-      ha.settles n b t (record ahead { behind = first t y ahead }) (λ f. h.keeps (a n).at (a n).next t b ahead allows f)
+      ha.settles n b t (record ahead { following = first t y ahead }) (λ f. h.keeps (a n).at (a n).next t b ahead allows f)
       (sym (first_append t (a n).code y ahead) ∙ g);
   fresh = λ n t ahead none.
       fresh_append t (a n).code (make (a n).at (a n).next).code ahead (straight_fresh (a n).code (straight n) t _)
@@ -77,18 +77,18 @@ both_steady : (p q : Parts) → Steady p → Steady q → Steady (both p q)
 both_steady p q hp hq = record {
   keeps = λ n t b ahead allows g.
       let y : List TacStmt = (q (p n).next).code in
-      hp.keeps n t b (record ahead { behind = first t y ahead })
+      hp.keeps n t b (record ahead { following = first t y ahead })
       (record {
-        behind = λ f. hq.keeps (p n).next t b ahead allows f;
+        following = λ f. hq.keeps (p n).next t b ahead allows f;
         broken = allows.broken;
         continued = allows.continued;
       }) (sym (first_append t (p n).code y ahead) ∙ g);
   fresh = λ n t ahead none.
       let y : List TacStmt = (q (p n).next).code in
       fresh_append t (p n).code y ahead
-      (hp.fresh n t (record ahead { behind = first t y ahead })
+      (hp.fresh n t (record ahead { following = first t y ahead })
       (record {
-        behind = never (first t y ahead) (λ f. hq.keeps (p n).next t false ahead (none_allowed ahead none) f);
+        following = never (first t y ahead) (λ f. hq.keeps (p n).next t false ahead (none_allowed ahead none) f);
         broken = none.broken;
         continued = none.continued;
       }))
@@ -96,22 +96,22 @@ both_steady p q hp hq = record {
 }
 
 empty_steady : Steady (just [])
-empty_steady = record { keeps = λ n t b ahead allows g. allows.behind g; fresh = λ n t ahead none. refl }
+empty_steady = record { keeps = λ n t b ahead allows g. allows.following g; fresh = λ n t ahead none. refl }
 
 store_reads : (t q v : ℕ) (b : Bool) (ahead : Ahead) → Allows b ahead → first t (emit.Store q v ∷ []) ahead ≡ true →
     (t ≡ q) ⊎ ((v == t || b) ≡ true)
 store_reads t q v b ahead allows g =
-    only_reads (q == t || (v == t || false)) ahead.behind
+    only_reads (q == t || (v == t || false)) ahead.following
     (sym (first_one t (tac.Store q v) (emit.Store q v) ahead (emit.rolls-Store q v)) ∙ g)
     (λ k. two_read q v t k (λ e. inl e) (λ e. inr (into v t b (inl e))))
-    (λ k. inr (or_right (v == t) b (allows.behind k)))
+    (λ k. inr (or_right (v == t) b (allows.following k)))
 
 store_steady : (f : Forms) → Settled (f want.Place) → ((n : ℕ) → Straight (f want.Place n).code) →
     SteadyWith (store_at f)
 store_steady f hf straight = record {
   keeps = λ at n t b ahead allows g.
       let q : ℕ = (f want.Place n).at in
-      out_of at t b (hf.settles n (at == t || b) t (record ahead { behind = first t (emit.Store q at ∷ []) ahead })
+      out_of at t b (hf.settles n (at == t || b) t (record ahead { following = first t (emit.Store q at ∷ []) ahead })
       (store_reads t q at b ahead allows) (sym (first_append t (f want.Place n).code (emit.Store q at ∷ []) ahead)
       ∙ g));
   fresh = λ at n t ahead none.
@@ -135,31 +135,31 @@ later_alone t (Some d) is h = absurd (cc)
 
 call_reads : {B : Type 0} (t : ℕ) (to : CallTarget) (dest : Option ℕ) (at : List ℕ) (ahead : Ahead) →
     Shaped to dest at → first t (call_code to dest at ∷ []) ahead ≡ true →
-    (is_one t at ≡ true → B) → (ahead.behind ≡ true → Later t dest B) → B
+    (is_one t at ≡ true → B) → (ahead.following ≡ true → Later t dest B) → B
 call_reads t (target.Own function) None at ahead shape g read later =
-    only_reads (is_one t at) ahead.behind
+    only_reads (is_one t at) ahead.following
     (sym (first_one t (tac.CallOwn None function at) (emit.CallOwn None function at) ahead
     (emit.rolls-CallOwn None function at)) ∙ g) read later
 call_reads t (target.Own function) (Some d) at ahead shape g read later =
-    plain_reads t d (is_one t at) ahead.behind
+    plain_reads t d (is_one t at) ahead.following
     (sym (first_one t (tac.CallOwn (Some d) function at) (emit.CallOwn (Some d) function at) ahead
     (emit.rolls-CallOwn (Some d) function at)) ∙ g) read later
 call_reads t (target.Cross comp index) None at ahead shape g read later =
-    only_reads (is_one t at) ahead.behind
+    only_reads (is_one t at) ahead.following
     (sym (first_one t (tac.CallCross None comp index at) (emit.CallCross None comp index at) ahead
     (emit.rolls-CallCross None comp index at)) ∙ g) read later
 call_reads t (target.Cross comp index) (Some d) at ahead shape g read later =
-    plain_reads t d (is_one t at) ahead.behind
+    plain_reads t d (is_one t at) ahead.following
     (sym (first_one t (tac.CallCross (Some d) comp index at) (emit.CallCross (Some d) comp index at) ahead
     (emit.rolls-CallCross (Some d) comp index at)) ∙ g) read later
 call_reads t target.Input None at ahead shape g read later =
-    only_reads false ahead.behind (sym (first_one t (tac.Input None) (emit.Input None) ahead (emit.rolls-Input None))
+    only_reads false ahead.following (sym (first_one t (tac.Input None) (emit.Input None) ahead (emit.rolls-Input None))
     ∙ g) no_reads later
 call_reads t target.Input (Some d) at ahead shape g read later =
-    plain_reads t d false ahead.behind (sym (first_one t (tac.Input (Some d)) (emit.Input (Some d)) ahead
+    plain_reads t d false ahead.following (sym (first_one t (tac.Input (Some d)) (emit.Input (Some d)) ahead
     (emit.rolls-Input (Some d))) ∙ g) no_reads later
 call_reads t target.Output dest at ahead shape g read later =
-    only_reads (is_one t (first_of at ∷ [])) ahead.behind
+    only_reads (is_one t (first_of at ∷ [])) ahead.following
     (sym (first_one t (tac.Output (first_of at)) (emit.Output (first_of at)) ahead (emit.rolls-Output (first_of at)))
     ∙ g)
     (λ k. read (ap (is_one t) shape.0 ∙ k)) (λ k. later_alone t dest shape.1 (later k))
@@ -223,7 +223,7 @@ fork_steady p q hp hq = record {
 test_with : SteadyWith (λ at. just (emit.If at [] (emit.Break ∷ []) ∷ []))
 test_with = record {
   keeps = λ at n t b ahead allows g.
-      if_reads t at [] (emit.Break ∷ []) ahead g (λ e. inl e) (λ k. inr (allows.behind k))
+      if_reads t at [] (emit.Break ∷ []) ahead g (λ e. inl e) (λ k. inr (allows.following k))
       (λ k. inr (break_steady.keeps n t b ahead allows k));
   fresh = λ at n t ahead none.
       fresh_one t (tac.If at [] (emit.Break ∷ [])) (emit.If at [] (emit.Break ∷ [])) ahead
@@ -231,10 +231,10 @@ test_with = record {
 }
 
 -- a part of a loop begins with no read, where nothing is read first after the loop
-part_begins : (p : Parts) → Steady p → (n t : ℕ) (ahead : Ahead) → ahead.behind ≡ false →
+part_begins : (p : Parts) → Steady p → (n t : ℕ) (ahead : Ahead) → ahead.following ≡ false →
     (not (first t (p n).code (part_ahead ahead false)) && fresh t (p n).code (part_ahead ahead false)) ≡ true
 part_begins p hp n t ahead none =
-    let nothing : Nothing (part_ahead ahead false) = record { behind = refl; broken = none; continued = refl } in
+    let nothing : Nothing (part_ahead ahead false) = record { following = refl; broken = none; continued = refl } in
     and_from _ _ (ap not (never (first t (p n).code (part_ahead ahead false))
     (λ g. hp.keeps n t false (part_ahead ahead false) (none_allowed (part_ahead ahead false) nothing) g)))
     (hp.fresh n t (part_ahead ahead false) nothing)
@@ -247,19 +247,19 @@ cycle_steady p q r hp hq hr = record {
       let middle : Bool = first t y.code (part_ahead ahead end) in
       let ends : end ≡ true → b ≡ true =
       λ k. hr.keeps y.next t b (part_ahead ahead false) (record {
-        behind = λ f. absurd (false≢true f);
-        broken = allows.behind;
+        following = λ f. absurd (false≢true f);
+        broken = allows.following;
         continued = λ f. absurd (false≢true f);
       }) k in
       let middles : middle ≡ true → b ≡ true =
       λ k. hq.keeps x.next t b (part_ahead ahead end) (record {
-        behind = ends;
-        broken = allows.behind;
+        following = ends;
+        broken = allows.following;
         continued = ends;
       }) k in
       hp.keeps n t b (part_ahead ahead middle) (record {
-        behind = middles;
-        broken = allows.behind;
+        following = middles;
+        broken = allows.following;
         continued = middles;
       }) (sym (first_one t (tac.Loop x.code y.code z.code) (emit.Loop x.code y.code z.code) ahead
       (emit.rolls-Loop x.code y.code z.code)) ∙ g);
@@ -267,8 +267,8 @@ cycle_steady p q r hp hq hr = record {
       let x : Part = p n in let y : Part = q x.next in let z : Part = r y.next in
       fresh_one t (tac.Loop x.code y.code z.code) (emit.Loop x.code y.code z.code) ahead
       (emit.rolls-Loop x.code y.code z.code)
-      (and_from _ _ (part_begins p hp n t ahead none.behind) (and_from _ _ (part_begins q hq x.next t ahead none.behind)
-      (part_begins r hr y.next t ahead none.behind)));
+      (and_from _ _ (part_begins p hp n t ahead none.following) (and_from _ _ (part_begins q hq x.next t ahead none.following)
+      (part_begins r hr y.next t ahead none.following)));
 }
 
 module _ (scope : Scope) (callable : Callable) (result : Option Ty) (structs : List TypedStruct)
@@ -282,23 +282,23 @@ module _ (scope : Scope) (callable : Callable) (result : Option Ty) (structs : L
   -- arguments
   record ManySteady (es : List TypedExpr) (n : ℕ) : Type 0 where
     pub keeps : (t : ℕ) (b : Bool) (ahead : Ahead) →
-        (ahead.behind ≡ true → (is_one t (many (map form es) n).at || b) ≡ true) →
+        (ahead.following ≡ true → (is_one t (many (map form es) n).at || b) ≡ true) →
         first t (many (map form es) n).code ahead ≡ true → b ≡ true
     pub straight : Straight (many (map form es) n).code
 
   many_steady : (types : List Ty) (es : List TypedExpr) (n : ℕ) → all_go_into types (map (judged scope) es) ≡ true →
       ManySteady es n
-  many_steady types [] n h = record { keeps = λ t b ahead behind g. behind g; straight = refl }
+  many_steady types [] n h = record { keeps = λ t b ahead following g. following g; straight = refl }
   many_steady [] (e ∷ es) n h = absurd (false≢true h)
   many_steady (ty ∷ types) (e ∷ es) n h =
       let x : Low = form e want.Value n in
       let rest : Many = many (map form es) x.next in
       let hr = many_steady types es x.next (and_rest (goes_into ty (judged scope e)) _ h) in
       record {
-        keeps = λ t b ahead behind g.
-            (expr_settled structs params e want.Value).settles n b t (record ahead { behind = first t rest.code ahead })
+        keeps = λ t b ahead following g.
+            (expr_settled structs params e want.Value).settles n b t (record ahead { following = first t rest.code ahead })
             (λ f. out_of x.at t b (hr.keeps t (x.at == t || b) ahead (λ k. or_turn (x.at == t) (is_one t rest.at) b
-            (behind k)) f)) (sym (first_append t x.code rest.code ahead) ∙ g);
+            (following k)) f)) (sym (first_append t x.code rest.code ahead) ∙ g);
         straight =
             all_append is_straight x.code rest.code
             (value_straight scope structs elements e
@@ -311,15 +311,15 @@ module _ (scope : Scope) (callable : Callable) (result : Option Ty) (structs : L
   args_steady c n h = let s = signed (target_signature callable c.target) (map (judged scope) c.args) h in
       many_steady s.signature.params c.args n s.fit
 
-  call_alone_steady : (c : TypedCall) → call_fits callable c.target (map (judged scope) c.args) ≡ true →
-      Steady (call_alone c.target (map form c.args))
-  call_alone_steady c h = record {
+  call_statement_steady : (c : TypedCall) → call_fits callable c.target (map (judged scope) c.args) ≡ true →
+      Steady (call_statement c.target (map form c.args))
+  call_statement_steady c h = record {
     keeps = λ n t b ahead allows g.
         let x : Many = many (map form c.args) n in
         let last : List TacStmt = call_code c.target None x.at ∷ [] in
-        (args_steady c n h).keeps t b (record ahead { behind = first t last ahead })
+        (args_steady c n h).keeps t b (record ahead { following = first t last ahead })
         (λ f. call_reads t c.target None x.at ahead (shaped scope callable form c.target c.args n None h (λ o. refl)) f
-        (λ k. or_left (is_one t x.at) b k) (λ k. or_right (is_one t x.at) b (allows.behind k)))
+        (λ k. or_left (is_one t x.at) b k) (λ k. or_right (is_one t x.at) b (allows.following k)))
         (sym (first_append t x.code last ahead) ∙ g);
     fresh = λ n t ahead none.
         let x : Many = many (map form c.args) n in
@@ -336,8 +336,8 @@ module _ (scope : Scope) (callable : Callable) (result : Option Ty) (structs : L
         let x : Many = many (map form c.args) n in
         let y : List TacStmt = (make x.next (suc x.next)).code in
         let call : TacStmt = call_code c.target (Some x.next) x.at in
-        (args_steady c n h).keeps t b (record ahead { behind = first t (call ∷ y) ahead }) (λ f.
-        call_reads t c.target (Some x.next) x.at (record ahead { behind = first t y ahead })
+        (args_steady c n h).keeps t b (record ahead { following = first t (call ∷ y) ahead }) (λ f.
+        call_reads t c.target (Some x.next) x.at (record ahead { following = first t y ahead })
         (shaped scope callable form c.target c.args n (Some x.next) h (not_output scope callable form c.target
         (goes_promised (target_signature callable c.target) place goes) (Some x.next)))
         (sym (first_append t (call ∷ []) y ahead) ∙ f)
@@ -349,7 +349,7 @@ module _ (scope : Scope) (callable : Callable) (result : Option Ty) (structs : L
         let call : TacStmt = call_code c.target (Some x.next) x.at in
         fresh_append t x.code (call ∷ y) ahead (straight_fresh x.code (args_steady c n h).straight t _)
         (fresh_append t (call ∷ []) y ahead (call_fresh t c.target (Some x.next) x.at
-        (record ahead { behind = first t y ahead })) (hm.fresh x.next (suc x.next) t ahead none));
+        (record ahead { following = first t y ahead })) (hm.fresh x.next (suc x.next) t ahead none));
   } where
     made : (t : ℕ) (b : Bool) (d : ℕ) (at : List ℕ) → (t ≡ d) ⊎ (b ≡ true) → (t ≡ d) ⊎ ((is_one t at || b) ≡ true)
     made t b d at (inl e) = inl e
@@ -380,7 +380,7 @@ module _ (scope : Scope) (callable : Callable) (result : Option Ty) (structs : L
       Steady (simple_code structs params k)
   simple_steady (simple.Assign place e) h = assigned_steady place e h
   simple_steady (simple.AssignCall place c) h = assign_call_steady place c h
-  simple_steady (simple.Call c) h = call_alone_steady c h
+  simple_steady (simple.Call c) h = call_statement_steady c h
 
   part_steady : (part : Option TypedSimple) → part_fits scope callable result part ≡ true →
       Steady (part_code structs params part)
@@ -418,7 +418,7 @@ module _ (scope : Scope) (callable : Callable) (result : Option Ty) (structs : L
   level line layer.Empty h looping fits = empty_steady
   level line (layer.Assign place e) h looping fits = assigned_steady place e fits
   level line (layer.AssignCall place c) h looping fits = assign_call_steady place c fits
-  level line (layer.Call c) h looping fits = call_alone_steady c fits
+  level line (layer.Call c) h looping fits = call_statement_steady c fits
   level line (layer.If cond x y) h looping fits =
       let inner = and_rest (is_scalar (judged scope cond)) _ fits in
       after_steady (form cond want.Value) (fork (block_code structs params x) (block_code structs params y))
@@ -436,12 +436,12 @@ module _ (scope : Scope) (callable : Callable) (result : Option Ty) (structs : L
       (test_steady cond (scalar_fits (judged scope cond) (and_first (is_scalar (judged scope cond)) _ fits)))
       (block_steady x true (and_rest (is_scalar (judged scope cond)) _ fits) h) empty_steady
   level line (layer.For first cond next x) h looping fits =
-      let behind = and_rest (part_fits scope callable result first) _ fits in
-      let last = and_rest (is_scalar (judged scope cond)) _ behind in
+      let following = and_rest (part_fits scope callable result first) _ fits in
+      let last = and_rest (is_scalar (judged scope cond)) _ following in
       both_steady (part_code structs params first) (cycle (tests (form cond)) (block_code structs params x)
       (part_code structs params next)) (part_steady first (and_first (part_fits scope callable result first) _ fits))
       (cycle_steady (tests (form cond)) (block_code structs params x) (part_code structs params next)
-      (test_steady cond (scalar_fits (judged scope cond) (and_first (is_scalar (judged scope cond)) _ behind)))
+      (test_steady cond (scalar_fits (judged scope cond) (and_first (is_scalar (judged scope cond)) _ following)))
       (block_steady x true (and_rest (part_fits scope callable result next) _ last) h)
       (part_steady next (and_first (part_fits scope callable result next) _ last)))
   level line layer.Break h looping fits = break_steady
@@ -470,7 +470,7 @@ module _ (scope : Scope) (callable : Callable) (result : Option Ty) (structs : L
       ≡ true → init_fits scope local.ty init ≡ true → Steady (init_code structs params k local init)
   init_steady k local None own h = empty_steady
   init_steady k local (Some e) own h =
-      assign_steady (at_place local.ty (alone (place_code params (Local k)))) (form e) (local_settled params k local.ty)
+      assign_steady (at_place local.ty (lone (place_code params (Local k)))) (form e) (local_settled params k local.ty)
       (local_straight scope structs elements k local.ty own want.Place) (expr_settled structs params e want.Value)
       (value_straight scope structs elements e (and_first (judged scope e).fits _ h))
 
@@ -491,7 +491,7 @@ module _ (scope : Scope) (callable : Callable) (result : Option Ty) (structs : L
         (inits_steady 0 locals inits) (body_block body fits)
 
     nothing : Nothing nothing_ahead
-    nothing = record { behind = refl; broken = refl; continued = refl }
+    nothing = record { following = refl; broken = refl; continued = refl }
 
     assigned_first_so : (t : ℕ) → is_assigned_first t code ≡ true
     assigned_first_so t =

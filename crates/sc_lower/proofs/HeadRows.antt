@@ -1,11 +1,11 @@
 -- Worked programs: a `for` whose head lacks its first part, its last, or each part.
 use Rattle.sc_lower.proofs.Common.{Acts, Arith, AssignLine, BreakLine, Calls, Codes, Cycle, Done, End, Ended, Fork}
-use Rattle.sc_lower.proofs.Common.{Function, Here, IfLine, Library, Line, Lines, List, Main, Next, NoLine, None, Option}
+use Rattle.sc_lower.proofs.Common.{Function, Here, IfLine, Denotations, Line, Lines, List, Main, Next, NoLine, None, Option}
 use Rattle.sc_lower.proofs.Common.{Out, Parts, ProgramTree, ReturnValueLine, Shape, Some, SourceRun, Two, TypedFunction}
 use Rattle.sc_lower.proofs.Common.{TypedSimple, TypedStmt, [], all_do, and_then, ap, assign, both, bytes_eq, c_arith}
-use Rattle.sc_lower.proofs.Common.{closed, code_function, code_globals, code_library, code_meaning, code_step, codes}
+use Rattle.sc_lower.proofs.Common.{closed, code_function, code_globals, code_denotations, code_meaning, code_step, codes}
 use Rattle.sc_lower.proofs.Common.{cycle, entry_of, expr, false, follow, frame_bound, function_of, give, global}
-use Rattle.sc_lower.proofs.Common.{global_of, globals_of, in_order, in_turn, int_op, just, kind_step, leave, library_of}
+use Rattle.sc_lower.proofs.Common.{global_of, globals_of, in_order, in_turn, int_op, just, kind_step, leave, denotations_of}
 use Rattle.sc_lower.proofs.Common.{lines_are as lines_act, lines_do, lit, loop, lowered_function, lowered_program}
 use Rattle.sc_lower.proofs.Common.{main_name, map, meaning, no_temps, nodes, on_line, output, part, part_code}
 use Rattle.sc_lower.proofs.Common.{part_does, plus, refl, roll-TacStmt, rows, rows_are, run_by, run_step, same_entry}
@@ -16,7 +16,7 @@ use Rattle.sc_base.specs.declared.op.BinaryOp.TheVariants as op
 use Rattle.sc_core.specs.declared.stmt.TypedStmtKind.TheOpen as layer
 use Rattle.sc_core.specs.declared.ty.Ty.TheVariants as ty
 use Rattle.sc_tac.specs.declared.stmt.TacStmt.TheOpen as tac
-use Rattle.sc_tac.proofs.Runs.{alone}
+use Rattle.sc_tac.proofs.Runs.{lone}
 use Rattle.sc_tac.proofs.Shapes.{stmts as tac_stmts, Shape as TacShape}
 use Rattle.sc_lower.proofs.Shapes.{form, form_is, lines_code, lines_are}
 use Rattle.sc_lower.proofs.Rows.{out, store}
@@ -35,11 +35,11 @@ pub record Looped : Type 0 where
   pub cond : Shape
   pub next : HeadPart
   pub body : Lines
-  pub behind : Lines
+  pub following : Lines
 
 abbrev pub looped : Looped → List TypedStmt
 looped l =
-    on_line 1 (layer.For (part_in l.first) (expr l.cond) (part_in l.next) (stmts l.body)) ∷ stmts l.behind
+    on_line 1 (layer.For (part_in l.first) (expr l.cond) (part_in l.next) (stmts l.body)) ∷ stmts l.following
 
 -- `int g;`, and `int main(void)` with these statements
 abbrev pub main_of : Looped → TypedFunction
@@ -55,7 +55,7 @@ main_of l =
 
 abbrev pub program_of : Looped → ProgramTree
 program_of l = record {
-  interfaces = alone;
+  interfaces = lone;
   sections = record { structs = []; globals = global_of ty.Int ∷ []; functions = main_of l ∷ [] } ∷ [];
 }
 
@@ -73,7 +73,7 @@ module _ (arith : Arith) (here : Here) (calls : Calls) where
   looped_do l =
       (λ a s. follow in_order (part_acts l.first a s)
       (loop (tests here (way arith [] here 0 l.cond) 1) (all_do (lines_do arith [] here 0 calls l.body))
-      (part_acts l.next))) ∷ lines_do arith [] here 0 calls l.behind
+      (part_acts l.next))) ∷ lines_do arith [] here 0 calls l.following
 
   looped_act : (l : Looped) → map (stmt_acts arith [] here 0 calls) (looped l) ≡ looped_do l
   looped_act l = λ i.
@@ -81,13 +81,13 @@ module _ (arith : Arith) (here : Here) (calls : Calls) where
       (layer.For (part_in l.first) (expr l.cond) (part_in l.next) (stmts l.body))
       ∙ (λ j a s. follow in_order (part_act l.first j a s)
       (loop (tests here (way_is arith [] here 0 l.cond j) 1) (all_do (lines_act arith [] here 0 calls l.body j))
-      (part_act l.next j)))) i ∷ lines_act arith [] here 0 calls l.behind i
+      (part_act l.next j)))) i ∷ lines_act arith [] here 0 calls l.following i
 
 module _ (l : Looped) where
   abbrev pub quick : Function
   quick = record {
     cells = [];
-    room = frame_bound [] (nodes (main_of l));
+    frame_size = frame_bound [] (nodes (main_of l));
     does = λ by here s. and_then (all_do (looped_do c_arith here by l) tt s)
         (λ left s. closed left.exit true (here.comp == 0 && bytes_eq (codes "main") main_name) 1 here s);
   }
@@ -95,21 +95,21 @@ module _ (l : Looped) where
   quick_is : function_of c_arith 0 [] (main_of l) ≡ quick
   quick_is = λ i. record {
     cells = [];
-    room = frame_bound [] (nodes (main_of l));
+    frame_size = frame_bound [] (nodes (main_of l));
     does = λ by here s. and_then (all_do (looped_act c_arith here by l i) tt s)
         (λ left s. closed left.exit true (here.comp == 0 && bytes_eq (codes "main") main_name) 1 here s);
   }
 
-  abbrev pub library : Function → Library
-  library f = record {
-    interfaces = alone;
+  abbrev pub denotations : Function → Denotations
+  denotations f = record {
+    interfaces = lone;
     functions = (f ∷ []) ∷ [];
-    entered = (library_of c_arith (program_of l)).entered;
+    entered = (denotations_of c_arith (program_of l)).entered;
   }
 
   abbrev pub means : Function → ℕ → SourceRun
   means f turns =
-      stopped_at 10 (run_by (library f) (run_step (library f)) (globals_of (program_of l).sections) [] turns).behaviour
+      stopped_at 10 (run_by (denotations f) (run_step (denotations f)) (globals_of (program_of l).sections) [] turns).behaviour
 
   pub meaning_is : (turns : ℕ) → meaning (program_of l) [] turns 10 ≡ means quick turns
   meaning_is turns = ap (λ f. means f turns) quick_is
@@ -126,14 +126,14 @@ part_form_is (Some x) = λ i. assign (form_is [] 0 x.0 i) (form_is [] 0 x.1 i)
 abbrev pub looped_code : Looped → List Parts
 looped_code l =
     both (part_form l.first) (cycle (test (form [] 0 l.cond)) (in_turn (lines_code [] 0 l.body)) (part_form l.next)) ∷
-    lines_code [] 0 l.behind
+    lines_code [] 0 l.following
 
 looped_code_is : (l : Looped) → map (stmt_code [] 0) (looped l) ≡ looped_code l
 looped_code_is l = λ i.
     (stmt_at _ _ (kind_step [] 0) (λ s. s.kind) 1
     (layer.For (part_in l.first) (expr l.cond) (part_in l.next) (stmts l.body))
     ∙ (λ j. both (part_form_is l.first j) (cycle (test (form_is [] 0 l.cond j)) (in_turn (lines_are [] 0 l.body j))
-    (part_form_is l.next j)))) i ∷ lines_are [] 0 l.behind i
+    (part_form_is l.next j)))) i ∷ lines_are [] 0 l.following i
 
 module _ (l : Looped) (x : TacShape) where
   -- these are the statements of its code
@@ -143,26 +143,26 @@ module _ (l : Looped) (x : TacShape) where
   abbrev pub quick_code : Function
   quick_code = record {
     cells = [];
-    room = frame_bound [] (nodes (main_of l));
+    frame_size = frame_bound [] (nodes (main_of l));
     does = λ by here s. and_then (all_do (rows Codes (code_step c_arith here by) x) no_temps s)
-        (λ left s. closed left.exit true (same_entry Main (entry_of alone 0 (codes "main"))) 0 here s);
+        (λ left s. closed left.exit true (same_entry Main (entry_of lone 0 (codes "main"))) 0 here s);
   }
 
-  quick_code_is : Emits → code_function c_arith (lowered_function alone 0 [] (main_of l)) ≡ quick_code
+  quick_code_is : Emits → code_function c_arith (lowered_function lone 0 [] (main_of l)) ≡ quick_code
   quick_code_is h = λ i. record {
     cells = [];
-    room = frame_bound [] (nodes (main_of l));
+    frame_size = frame_bound [] (nodes (main_of l));
     does = λ by here s. and_then (all_do ((ap (λ parts. map (stmt_does c_arith here by)
         (both (just []) (in_turn parts) 0).code) (looped_code_is l)
         ∙ ap (map (stmt_does c_arith here by)) h ∙ rows_are Codes (code_step c_arith here by) x) i) no_temps s)
-        (λ left s. closed left.exit true (same_entry Main (entry_of alone 0 (codes "main"))) 0 here s);
+        (λ left s. closed left.exit true (same_entry Main (entry_of lone 0 (codes "main"))) 0 here s);
   }
 
-  abbrev pub code_in : Function → Library
+  abbrev pub code_in : Function → Denotations
   code_in f = record {
-    interfaces = alone;
+    interfaces = lone;
     functions = (f ∷ []) ∷ [];
-    entered = (code_library c_arith (lowered_program (program_of l))).entered;
+    entered = (code_denotations c_arith (lowered_program (program_of l))).entered;
   }
 
   abbrev pub code_means : Function → ℕ → SourceRun
@@ -207,7 +207,7 @@ without_first = record {
   cond = Two ty.Int op.Less (global 0) (lit 2);
   next = Some (global 0, one_more);
   body = out (global 0) NoLine;
-  behind = given_back;
+  following = given_back;
 }
 
 abbrev pub without_first_code : TacShape
@@ -232,7 +232,7 @@ without_next = record {
   cond = Two ty.Int op.Less (global 0) (lit 3);
   next = None;
   body = out (global 0) (AssignLine 1 (global 0) one_more NoLine);
-  behind = given_back;
+  following = given_back;
 }
 
 abbrev pub without_next_code : TacShape
@@ -258,7 +258,7 @@ without_parts = record {
   next = None;
   body = IfLine 1 (Two ty.Int op.Equal (global 0) (lit 2)) (BreakLine 1 NoLine) NoLine
       (out (global 0) (AssignLine 1 (global 0) one_more NoLine));
-  behind = given_back;
+  following = given_back;
 }
 
 abbrev pub without_parts_code : TacShape

@@ -1,22 +1,22 @@
 -- A hollow copy of denotations, whose functions have their variables and frames but do nothing: callers can't
 -- distinguish the two.
 use Rattle.sc_lower.proofs.Common.{BadType, Blamed, BodiesAgree, Body, Call, CallTarget, CallsAgree, Cross, Export}
-use Rattle.sc_lower.proofs.Common.{Function, FunctionsAgree, Here, Input, LibrariesAgree, Library, List, Meets, None}
+use Rattle.sc_lower.proofs.Common.{Function, FunctionsAgree, Here, Input, DenotationsAgree, Denotations, List, Meets, None}
 use Rattle.sc_lower.proofs.Common.{Option, Output, Own, Piece, PiecesAgree, Some, State, Stopped, TurnsOut, Value, Word}
 use Rattle.sc_lower.proofs.Common.{[], acts, and_then, ap, asks, back_cross, back_own, begun, call_cross, call_own}
 use Rattle.sc_lower.proofs.Common.{called, calls, calls_agree, crossed, done, found, function, if◌then◌else◌, imports}
 use Rattle.sc_lower.proofs.Common.{is_function, is_number, is_some, is_word, itself, leads, length, list_all, map}
 use Rattle.sc_lower.proofs.Common.{may_call, option_map, own_agree, performs, performs_agree, refl, run_in, slice_get}
-use Rattle.sc_lower.proofs.Common.{slice_get-map, slice_index_or, subst, suc, sym, takes, tell, turn, word_in, zero, ℕ}
+use Rattle.sc_lower.proofs.Common.{slice_get-map, slice_index_or, subst, suc, sym, takes, emit_event, turn, word_in, zero, ℕ}
 use Rattle.sc_lower.proofs.Common.{◌&&◌, ◌∙◌, ◌∷◌, ◌≡◌}
 use Rattle.sc_event.specs.declared.row.Row.{Row}
 use Rattle.sc_event.specs.declared.row.Action.{Action}
 use Rattle.sc_event.specs.declared.row.Action.TheVariants as act
 
 abbrev pub shell : Function → Function
-shell f = record { cells = f.cells; room = f.room; does = λ by here s. Stopped TurnsOut s }
+shell f = record { cells = f.cells; frame_size = f.frame_size; does = λ by here s. Stopped TurnsOut s }
 
-abbrev pub hollow : Library → Library
+abbrev pub hollow : Denotations → Denotations
 hollow L = record { interfaces = L.interfaces; functions = map (map shell) L.functions; entered = L.entered }
 
 shells_at : (sections : List (List Function)) (comp : ℕ) → slice_index_or (map (map shell) sections) comp []
@@ -25,7 +25,7 @@ shells_at [] comp = refl
 shells_at (x ∷ xs) zero = refl
 shells_at (x ∷ xs) (suc comp) = shells_at xs comp
 
-module _ (L : Library) where
+module _ (L : Denotations) where
   shell_at : (comp number : ℕ) → function (hollow L) comp number ≡ option_map shell (function L comp number)
   shell_at comp number =
       ap (λ fs. slice_get fs number) (shells_at L.functions comp)
@@ -70,7 +70,7 @@ module _ (L : Library) where
         ≡ call_cross L body from to index args s
     cross_same from to index args s =
         ap (and_then (found (L.entered to (Export index)) s)) (λ i number s. run_in_same to number (crossed args)
-        (back_cross L.interfaces from to index) (tell (Call from to index (map word_in args)) s) i)
+        (back_cross L.interfaces from to index) (emit_event (Call from to index (map word_in args)) s) i)
 
     called_same : (from : ℕ) (target : CallTarget) (args : List Value) (s : State) →
         called (hollow L) body from target args s ≡ called L body from target args s
@@ -109,9 +109,9 @@ module _ (L : Library) where
 -- functions that do nothing agree with themselves
 shells_meet : (o : Option Function) → Meets FunctionsAgree (option_map shell o) (option_map shell o)
 shells_meet None = tt
-shells_meet (Some f) = record { cells = refl; room = refl; does = λ C D agree here s. itself (Stopped TurnsOut s) }
+shells_meet (Some f) = record { cells = refl; frame_size = refl; does = λ C D agree here s. itself (Stopped TurnsOut s) }
 
-hollow_agrees : (L : Library) → LibrariesAgree (hollow L) (hollow L)
+hollow_agrees : (L : Denotations) → DenotationsAgree (hollow L) (hollow L)
 hollow_agrees L = record {
   interfaces = refl;
   functions = λ comp number. subst (λ o. Meets FunctionsAgree o o) (sym (shell_at L comp number))
@@ -120,7 +120,7 @@ hollow_agrees L = record {
 }
 
 -- the denotations of two programs, which callers can't distinguish
-module _ (L M : Library) (alike : hollow L ≡ hollow M) (body other : Body) (bodies : BodiesAgree body other) where
+module _ (L M : Denotations) (alike : hollow L ≡ hollow M) (body other : Body) (bodies : BodiesAgree body other) where
   pub calls_alike : CallsAgree (calls L body) (calls M other)
   calls_alike =
       subst (λ C. CallsAgree C (calls M other)) (calls_same L body)

@@ -11,12 +11,12 @@ use Rattle.sc_lower.specs.declared.code.Code.{Code}
 use Rattle.sc_lower.specs.declared.code.Fragment.{Fragment}
 
 -- code that is there already, and the code of values after it
-abbrev pub values_behind : List TacStmt → List ℕ → Many → Values
-values_behind stmts at rest = record { stmts = stmts ++ rest.code; at = at ++ rest.at; next = rest.next }
+abbrev pub values_after : List TacStmt → List ℕ → Many → Values
+values_after stmts at rest = record { stmts = stmts ++ rest.code; at = at ++ rest.at; next = rest.next }
 
 -- code that is there already, and more after it
-abbrev pub fragment_behind : List TacStmt → Part → Fragment
-fragment_behind stmts rest = record { stmts = stmts ++ rest.code; next = rest.next }
+abbrev pub fragment_after : List TacStmt → Part → Fragment
+fragment_after stmts rest = record { stmts = stmts ++ rest.code; next = rest.next }
 
 module _ (structs : List TypedStruct) (params : ℕ) where
   pub lowered_ty : (e : TypedExpr) → (lowered structs params e).ty ≡ e.ty
@@ -38,11 +38,11 @@ module _ (structs : List TypedStruct) (params : ℕ) where
       ((a b : Lowered) (free : ℕ) → IsOperands (l'.ty, r'.ty) a b x y free →
       IfOk result (λ code. code ≡ code_of (binary structs o a b free))) →
       IfOk result (λ code. code ≡ code_of (forms structs params e w n))
-  binary_lowered e l r l' r' o w n x y result h left right before behind f =
+  binary_lowered e l r l' r' o w n x y result h left right before following f =
       subst (λ low. IfOk result (λ code. code ≡ code_of low)) (sym (binary_at e l r o w n h))
       (f (lowered structs params l) (lowered structs params r) n (record {
         first = ap (λ z. z.ty) left ∙ sym (lowered_ty l);
         second = ap (λ z. z.ty) right ∙ sym (lowered_ty r);
         before = before ∙ ap (λ z. code_of (forms structs params z want.Value n)) left;
-        behind = behind ∙ ap (λ z. code_of (forms structs params z want.Value x.next)) right;
+        following = following ∙ ap (λ z. code_of (forms structs params z want.Value x.next)) right;
       }))

@@ -2,9 +2,9 @@
 use Rattle.sc_lower.proofs.Common.{Bool, CallTarget, Callable, Each, Forms, Inside, Judged, List, Local, Low, Lows}
 use Rattle.sc_lower.proofs.Common.{Many, None, Option, Part, Parts, Scope, Signature, Signed, Some, TacStmt, TacStmt-F}
 use Rattle.sc_lower.proofs.Common.{Ty, TypedCall, TypedExpr, TypedLocal, TypedSimple, TypedSimpleKind, TypedStmt}
-use Rattle.sc_lower.proofs.Common.{TypedStmtKind, TypedStmtKind-F, TypedStruct, [], after, all_go_into, alone}
+use Rattle.sc_lower.proofs.Common.{TypedStmtKind, TypedStmtKind-F, TypedStruct, [], after, all_go_into, lone}
 use Rattle.sc_lower.proofs.Common.{and_first, and_from, and_rest, ap, args_fit, arith as numbers, assign}
-use Rattle.sc_lower.proofs.Common.{assign_call_fits, assign_fits, at_place, block_code, body_fits, both, call_alone}
+use Rattle.sc_lower.proofs.Common.{assign_call_fits, assign_fits, at_place, block_code, body_fits, both, call_statement}
 use Rattle.sc_lower.proofs.Common.{call_code, call_fits, call_for, cycle, everywhere, false, false≢true, first_of, fork}
 use Rattle.sc_lower.proofs.Common.{forms, goes_into, in_turn, init_code, init_fits, inits_code, is_scalar, is_some}
 use Rattle.sc_lower.proofs.Common.{is_target, is_type, judged, just, kind_fits, kind_step, layer_of, length, list_all}
@@ -18,8 +18,8 @@ use Rattle.sc_core.specs.declared.stmt.TypedSimpleKind.TheVariants as simple
 use Rattle.sc_core.specs.declared.value.Want.TheVariants as want
 use Rattle.sc_tac.specs.declared.stmt.TacStmt.TheOpen as tac
 use Rattle.sc_tac.specs.declared.stmt.TacStmt.TheVariants as emit
-use Rattle.sc_lower.proofs.Tests.{call_layer, scalar_fits, all_append, all_one, all_behind, Below, AllBelow, PassedBy}
-use Rattle.sc_lower.proofs.Tests.{PointsToElements, Clean, alone_clean, place_clean, place_passes, fork_passes}
+use Rattle.sc_lower.proofs.Tests.{call_layer, scalar_fits, all_append, all_one, all_after, Below, AllBelow, PassedBy}
+use Rattle.sc_lower.proofs.Tests.{PointsToElements, Clean, lone_clean, place_clean, place_passes, fork_passes}
 use Rattle.sc_lower.proofs.Tests.{expr_clean}
 
 -- a value that is returned fits
@@ -181,9 +181,9 @@ module _ (temps : ℕ) (scope : Scope) (callable : Callable) (result : Option Ty
       ∙ goes_length s.signature.params c.args s.fit) results lt ((many_clean s.signature.params c.args n s.fit).below
       le))
 
-  call_alone_clean : (c : TypedCall) → call_fits callable c.target (map (judged scope) c.args) ≡ true →
-      CleanPart (call_alone c.target (map form c.args))
-  call_alone_clean c h =
+  call_statement_clean : (c : TypedCall) → call_fits callable c.target (map (judged scope) c.args) ≡ true →
+      CleanPart (call_statement c.target (map form c.args))
+  call_statement_clean c h =
       let s = signed (target_signature callable c.target) (map (judged scope) c.args) h in
       record {
         up = λ n. (many_clean s.signature.params c.args n s.fit).up;
@@ -214,7 +214,7 @@ module _ (temps : ℕ) (scope : Scope) (callable : Callable) (result : Option Ty
             let far = hm.up x.next (suc x.next) in
             all_append test x.code (call_code c.target (Some x.next) x.at ∷ (make x.next (suc x.next)).code)
             ((many_clean s.signature.params c.args n s.fit).passes (omega (numbers, le, far)))
-            (all_behind test (call_code c.target (Some x.next) x.at) (make x.next (suc x.next)).code
+            (all_after test (call_code c.target (Some x.next) x.at) (make x.next (suc x.next)).code
             (call_passes c s (Some x.next) n (λ some. there) (omega (numbers, le, far)) (omega (numbers, le, far)))
             (hm.passes x.next (suc x.next) (omega (numbers, le, far)) le));
       }
@@ -275,7 +275,7 @@ module _ (temps : ℕ) (scope : Scope) (callable : Callable) (result : Option Ty
       CleanPart (simple_code structs params k)
   simple_clean (simple.Assign place e) h = assign_fits_clean place e h
   simple_clean (simple.AssignCall place c) h = assign_call_clean place c h
-  simple_clean (simple.Call c) h = call_alone_clean c h
+  simple_clean (simple.Call c) h = call_statement_clean c h
 
   part_clean : (part : Option TypedSimple) → part_fits scope callable result part ≡ true →
       CleanPart (part_code structs params part)
@@ -319,7 +319,7 @@ module _ (temps : ℕ) (scope : Scope) (callable : Callable) (result : Option Ty
   level line layer.Empty h looping fits = just_clean [] refl
   level line (layer.Assign place e) h looping fits = assign_fits_clean place e fits
   level line (layer.AssignCall place c) h looping fits = assign_call_clean place c fits
-  level line (layer.Call c) h looping fits = call_alone_clean c fits
+  level line (layer.Call c) h looping fits = call_statement_clean c fits
   level line (layer.If cond x y) h looping fits =
       let inner = and_rest (is_scalar (judged scope cond)) _ fits in
       after_clean (form cond want.Value)
@@ -333,11 +333,11 @@ module _ (temps : ℕ) (scope : Scope) (callable : Callable) (result : Option Ty
       cycle_clean _ _ _ (test_clean cond (scalar_fits (judged scope cond) (and_first (is_scalar (judged scope cond))
       _ fits))) (block_clean x true (and_rest (is_scalar (judged scope cond)) _ fits) h) (just_clean [] refl)
   level line (layer.For first cond next x) h looping fits =
-      let behind = and_rest (part_fits scope callable result first) _ fits in
-      let last = and_rest (is_scalar (judged scope cond)) _ behind in
+      let following = and_rest (part_fits scope callable result first) _ fits in
+      let last = and_rest (is_scalar (judged scope cond)) _ following in
       both_clean _ _ (part_clean first (and_first (part_fits scope callable result first) _ fits))
       (cycle_clean _ _ _ (test_clean cond (scalar_fits (judged scope cond) (and_first (is_scalar (judged scope cond))
-      _ behind))) (block_clean x true (and_rest (part_fits scope callable result next) _ last) h)
+      _ following))) (block_clean x true (and_rest (part_fits scope callable result next) _ last) h)
       (part_clean next (and_first (part_fits scope callable result next) _ last)))
   level line layer.Break h looping fits = just_clean (emit.Break ∷ []) break_passes
   level line layer.Continue h looping fits =
@@ -369,9 +369,9 @@ module _ (temps : ℕ) (scope : Scope) (callable : Callable) (result : Option Ty
       ≡ true → init_fits scope local.ty init ≡ true → CleanPart (init_code structs params k local init)
   init_clean k local None own h = just_clean [] refl
   init_clean k local (Some e) own h =
-      assign_clean (at_place local.ty (alone (place_code params (Local k)))) (form e)
-      (place_clean temps scope test passed.exprs local.ty want.Place (alone (place_code params (Local k)))
-      (alone_clean temps scope test passed.exprs (place_code params (Local k))
+      assign_clean (at_place local.ty (lone (place_code params (Local k)))) (form e)
+      (place_clean temps scope test passed.exprs local.ty want.Place (lone (place_code params (Local k)))
+      (lone_clean temps scope test passed.exprs (place_code params (Local k))
       (place_passes temps scope test passed.exprs (Local k) local.ty own)))
       (clean e (and_first (judged scope e).fits _ h))
 

@@ -12,7 +12,7 @@ use Rattle.sc_core.specs.declared.ty.BaseTy.TheVariants as base
 use Rattle.sc_core.specs.declared.ty.Ty.TheVariants as ty
 use Rattle.sc_tac.specs.declared.stmt.TacOp.TheVariants as tacop
 use Rattle.sc_tac.specs.declared.stmt.TacStmt.TheOpen as tac
-use Rattle.sc_tac.proofs.Runs.{alone}
+use Rattle.sc_tac.proofs.Runs.{lone}
 use Rattle.sc_tac.proofs.Shapes.{Shape as TacShape}
 use Rattle.sc_lower.proofs.Plans.{AllEmit, lowered_is}
 use Rattle.sc_lower.proofs.Rows.{BothMean, a, move, one_op, out, pair, place, pointer_fetched, sheet, store, two_op}
@@ -111,12 +111,12 @@ pub places_emit : AllEmit places ((places_code ∷ []) ∷ [])
 unfolding roll-TacStmt denote.Hole.Carrier.roll
 places_emit = ((refl, tt), tt)
 
-pub places_mean : BothMean alone places [] 0 10 (record {
+pub places_mean : BothMean lone places [] 0 10 (record {
   trace = Out 0 7 ∷ Out 0 5 ∷ Out 0 6 ∷ Out 0 7 ∷ Out 0 4 ∷ Out 0 7 ∷ End 0 6 ∷ [];
   end = Ended;
 })
 places_mean =
-    (lowered_is c_arith alone places ((places_code ∷ []) ∷ []) places_emit [] 0 10, by_plan alone places [] 0 10)
+    (lowered_is c_arith lone places ((places_code ∷ []) ∷ []) places_emit [] 0 10, by_plan lone places [] 0 10)
 
 abbrev pub x : Shape
 x = Var int_pointer (Param 1)
@@ -153,10 +153,10 @@ pub parameters_emit : AllEmit parameters (parameters_code ∷ [])
 unfolding roll-TacStmt denote.Hole.Carrier.roll
 parameters_emit = ((refl, (refl, tt)), tt)
 
-pub parameters_mean : BothMean alone parameters [] 1 10 (record { trace = Out 0 7 ∷ End 0 8 ∷ []; end = Ended })
+pub parameters_mean : BothMean lone parameters [] 1 10 (record { trace = Out 0 7 ∷ End 0 8 ∷ []; end = Ended })
 parameters_mean = (
-  lowered_is c_arith alone parameters (parameters_code ∷ []) parameters_emit [] 1 10,
-  by_plan alone parameters [] 1 10,
+  lowered_is c_arith lone parameters (parameters_code ∷ []) parameters_emit [] 1 10,
+  by_plan lone parameters [] 1 10,
 )
 
 -- CALLS
@@ -188,7 +188,7 @@ v = Var (ty.Struct 0) (Local 2)
 -- `int a[2]; int *y; struct s v;
 -- y = a; g = input(); a[1] = less(g, 3); *y = less(a[1], g); tell(*y); less(1, 2); input(); output(a[0]); v.n = ask();
 -- return less(a[0], v.n);`
--- In another compartment `int less(int a, int b) { return a - b; }` and `void tell(int a) { return; }`
+-- In another compartment `int less(int a, int b) { return a - b; }` and `void emit_event(int a) { return; }`
 abbrev pub asked : List Sheet
 asked =
     sheet (pair ∷ []) (global_of ty.Int ∷ []) (

@@ -1,8 +1,8 @@
 -- The code of programs by plans: its meaning is the run of denotations that compute, where its code is known.
-use Rattle.sc_lower.proofs.Common.{Arith, Codes, Function, Interfaces, Library, List, Local, Main, None, Option, Parts}
-use Rattle.sc_lower.proofs.Common.{Plan, Shape, Sheet, Slot, Some, SourceRun, TacStmt, TypedStruct, [], all_do, alone}
+use Rattle.sc_lower.proofs.Common.{Arith, Codes, Function, Interfaces, Denotations, List, Local, Main, None, Option, Parts}
+use Rattle.sc_lower.proofs.Common.{Plan, Shape, Sheet, Slot, Some, SourceRun, TacStmt, TypedStruct, [], all_do, lone}
 use Rattle.sc_lower.proofs.Common.{and_then, ap, assign, at_place, body_code, both, closed, code_function}
-use Rattle.sc_lower.proofs.Common.{code_functions, code_globals, code_library, code_meaning_by, code_step, entry_of}
+use Rattle.sc_lower.proofs.Common.{code_functions, code_globals, code_denotations, code_meaning_by, code_step, entry_of}
 use Rattle.sc_lower.proofs.Common.{frame_bound, in_turn, init_code, init_of, inits_code, is_some, just, length}
 use Rattle.sc_lower.proofs.Common.{lowered_function, lowered_program, lowered_sections, map, no_temps, place_code}
 use Rattle.sc_lower.proofs.Common.{plan_nodes, plan_nodes_is, program, refl, rows, rows_are, run_by, run_step}
@@ -14,7 +14,7 @@ use Rattle.sc_lower.proofs.Shapes.{form, form_is, lines_code, lines_are}
 module _ (structs : List TypedStruct) (params : ℕ) where
   abbrev pub slot_code : ℕ → Slot → Option Shape → Parts
   slot_code k slot None = just []
-  slot_code k slot (Some a) = assign (at_place slot.ty (alone (place_code params (Local k)))) (form structs params a)
+  slot_code k slot (Some a) = assign (at_place slot.ty (lone (place_code params (Local k)))) (form structs params a)
 
   abbrev pub slots_code : ℕ → List Slot → List Parts
   slots_code k [] = []
@@ -24,7 +24,7 @@ module _ (structs : List TypedStruct) (params : ℕ) where
       ≡ slot_code k slot init
   slot_is k slot None = refl
   slot_is k slot (Some a) =
-      ap (assign (at_place slot.ty (alone (place_code params (Local k))))) (form_is structs params a)
+      ap (assign (at_place slot.ty (lone (place_code params (Local k))))) (form_is structs params a)
 
   slots_are : (k : ℕ) (slots : List Slot) → inits_code structs params k (map local slots) ≡ slots_code k slots
   slots_are k [] = refl
@@ -58,7 +58,7 @@ module _ (arith : Arith) (interfaces : Interfaces) where
   abbrev pub quick : ℕ → List TypedStruct → Plan → TacShape → Function
   quick comp structs plan x = record {
     cells = variables structs (function plan);
-    room = frame_bound (variables structs (function plan)) (plan_nodes plan);
+    frame_size = frame_bound (variables structs (function plan)) (plan_nodes plan);
     does = λ by here s.
         and_then (all_do (rows Codes (code_step arith here by) x) no_temps s) (λ left s.
         closed left.exit (is_some plan.result) (same_entry Main (entry_of interfaces comp plan.name)) 0 here s);
@@ -69,7 +69,7 @@ module _ (arith : Arith) (interfaces : Interfaces) where
       code_function arith (lowered_function interfaces comp structs (function plan)) ≡ quick comp structs plan x
   quick_is comp structs plan x is = λ i. record {
     cells = variables structs (function plan);
-    room = frame_bound (variables structs (function plan)) (plan_nodes_is plan i);
+    frame_size = frame_bound (variables structs (function plan)) (plan_nodes_is plan i);
     does = λ by here s.
         and_then (all_do ((ap (map (stmt_does arith here by)) (code_is structs plan ∙ is)
         ∙ rows_are Codes (code_step arith here by) x) i) no_temps s) (λ left s.
@@ -106,16 +106,16 @@ module _ (arith : Arith) (interfaces : Interfaces) where
       quicks_are comp sheet.structs sheet.plans x h.0 i ∷ quick_sections_are (suc comp) sheets xs h.1 i
 
   module _ (sheets : List Sheet) (xs : List (List TacShape)) where
-    abbrev pub quick_library : Library
-    quick_library = record {
+    abbrev pub quick_denotations : Denotations
+    quick_denotations = record {
       interfaces = interfaces;
       functions = quick_sections 0 sheets xs;
-      entered = (code_library arith (lowered_program (program interfaces sheets))).entered;
+      entered = (code_denotations arith (lowered_program (program interfaces sheets))).entered;
     }
 
     abbrev pub quick_meaning : (inputs : List ℕ) (turns events : ℕ) → SourceRun
     quick_meaning inputs turns events =
-        stopped_at events (run_by quick_library (run_step quick_library)
+        stopped_at events (run_by quick_denotations (run_step quick_denotations)
         (code_globals (lowered_sections interfaces 0 (map section sheets))) inputs turns).behaviour
 
     -- what lowered code means, where it is this
@@ -123,13 +123,13 @@ module _ (arith : Arith) (interfaces : Interfaces) where
         code_meaning_by arith (lowered_program (program interfaces sheets)) inputs turns events
         ≡ quick_meaning inputs turns events
     lowered_is h inputs turns events =
-        ap (λ functions. stopped_at events (run_by (library functions) (run_step (library functions))
+        ap (λ functions. stopped_at events (run_by (denotations functions) (run_step (denotations functions))
         (code_globals (lowered_sections interfaces 0 (map section sheets))) inputs turns).behaviour)
         (quick_sections_are 0 sheets xs h) where
-          library : List (List Function) → Library
-          library functions =
+          denotations : List (List Function) → Denotations
+          denotations functions =
               record {
                 interfaces = interfaces;
                 functions = functions;
-                entered = (code_library arith (lowered_program (program interfaces sheets))).entered;
+                entered = (code_denotations arith (lowered_program (program interfaces sheets))).entered;
               }

@@ -1,10 +1,10 @@
 -- The code of a function of a well-typed program keeps the rules of functions.
-use Rattle.sc_lower.proofs.Common.{All, BaseTy, Behind, Bool, CallTarget, Callable, Export, ForSection, Interface}
+use Rattle.sc_lower.proofs.Common.{All, BaseTy, After, Bool, CallTarget, Callable, Export, ForSection, Interface}
 use Rattle.sc_lower.proofs.Common.{Interfaces, IsFunction, IsLowerable, List, Main, None, Option, Part, Placed}
 use Rattle.sc_lower.proofs.Common.{ProgramTree, Proto, Scalar, Scope, Signature, Some, TacOp, TacStmt-F, Ty}
 use Rattle.sc_lower.proofs.Common.{TypedFunction, TypedLocal, TypedParam, TypedSection, TypedStruct, []}
 use Rattle.sc_lower.proofs.Common.{all_assigned_first, all_at, allowed, and_first, and_from, and_rest, ap, are_distinct}
-use Rattle.sc_lower.proofs.Common.{arith as numbers, behind, beq, block_code, body_code, body_fits, both, bytes_eq}
+use Rattle.sc_lower.proofs.Common.{arith as numbers, following, beq, block_code, body_code, body_fits, both, bytes_eq}
 use Rattle.sc_lower.proofs.Common.{callable_in, cells_of, comp_at, counts_elements, enters_by_words, entry_of, eq-eqb}
 use Rattle.sc_lower.proofs.Common.{eqb-true, everywhere, export_at, export_called, export_fits, exports_of, false}
 use Rattle.sc_lower.proofs.Common.{false≢true, first_of as first_temp, for_interface, for_section, found_passes}
@@ -136,10 +136,10 @@ module _ (temps : ℕ) where
   own_all [] h = refl
   own_all (t ∷ ts) h = and_from (own t) _ (lt-ltb t temps h.0) (own_all ts h.1)
 
-  own_behind : (dest : Option ℕ) (ts : List ℕ) → Below temps dest → AllBelow temps ts →
+  own_after : (dest : Option ℕ) (ts : List ℕ) → Below temps dest → AllBelow temps ts →
       list_all own (one_or_none dest ++ ts) ≡ true
-  own_behind None ts h k = own_all ts k
-  own_behind (Some d) ts h k = and_from (own d) _ (lt-ltb d temps h) (own_all ts k)
+  own_after None ts h k = own_all ts k
+  own_after (Some d) ts h k = and_from (own d) _ (lt-ltb d temps h) (own_all ts k)
 
   own_option : (v : Option ℕ) → Below temps v → list_all own (one_or_none v) ≡ true
   own_option None h = refl
@@ -254,8 +254,8 @@ small_locals scope locals h k d within =
     (AllPass-from_list_all (local_fits scope) locals h k d within))
 
 module _ (program : ProgramTree) (typed : is_well_typed program ≡ true) where
-  abbrev faces : Interfaces
-  faces = program.interfaces
+  abbrev interface_fitting : Interfaces
+  interface_fitting = program.interfaces
 
   -- what a function of a section fits
   pub record Fitting (callable : Callable) (section : TypedSection) (f : TypedFunction) : Type 0 where
@@ -267,54 +267,54 @@ module _ (program : ProgramTree) (typed : is_well_typed program ≡ true) where
   fitting : (callable : Callable) (section : TypedSection) (f : TypedFunction) →
       function_fits callable section f ≡ true → Fitting callable section f
   fitting callable section f h =
-      let behind = and_rest (nat_le (length f.params) most_params) _ h in
+      let following = and_rest (nat_le (length f.params) most_params) _ h in
       let later =
       and_rest (result_fits section.structs f.result)
-      _ (and_rest (list_all {X = TypedParam} (λ p. passed_fits section.structs p.ty) f.params) _ behind) in
+      _ (and_rest (list_all {X = TypedParam} (λ p. passed_fits section.structs p.ty) f.params) _ following) in
       record {
         few = leb-true (length f.params) most_params (and_first (nat_le (length f.params) most_params) _ h);
-        passed = and_first (list_all {X = TypedParam} (λ p. passed_fits section.structs p.ty) f.params) _ behind;
+        passed = and_first (list_all {X = TypedParam} (λ p. passed_fits section.structs p.ty) f.params) _ following;
         locals = and_first (list_all (local_fits (scope_of section f)) f.locals) _ later;
         body =
             and_first (body_fits (scope_of section f) callable f.result f.body)
             _ (and_rest (list_all (local_fits (scope_of section f)) f.locals) _ later);
       }
 
-  functions_fit : (interface : Interface) (section : TypedSection) → Placed faces interface section →
-      list_all (function_fits (callable_in faces interface section) section) section.functions ≡ true
+  functions_fit : (interface : Interface) (section : TypedSection) → Placed interface_fitting interface section →
+      list_all (function_fits (callable_in interface_fitting interface section) section) section.functions ≡ true
   functions_fit interface section placed =
-      and_first (list_all (function_fits (callable_in faces interface section) section) section.functions)
+      and_first (list_all (function_fits (callable_in interface_fitting interface section) section) section.functions)
       _ (and_rest (list_all (global_fits section.structs) section.globals)
       _ (and_rest (structs_fit section.structs 0 section.structs) _ placed.fits))
 
-  pub function_at : (interface : Interface) (section : TypedSection) → Placed faces interface section →
+  pub function_at : (interface : Interface) (section : TypedSection) → Placed interface_fitting interface section →
       (n : ℕ) (f : TypedFunction) → slice_get section.functions n ≡ Some f →
-      Fitting (callable_in faces interface section) section f
+      Fitting (callable_in interface_fitting interface section) section f
   function_at interface section placed n f item =
-      fitting (callable_in faces interface section) section f
-      (all_at (function_fits (callable_in faces interface section) section) section.functions
+      fitting (callable_in interface_fitting interface section) section f
+      (all_at (function_fits (callable_in interface_fitting interface section) section) section.functions
       (functions_fit interface section placed) n f item)
 
   abbrev pub names : Interface → TypedSection → Bool
   names interface section =
-      are_distinct (map (import_name faces) interface.imports ++ map {A = TypedFunction} (λ f. f.name)
+      are_distinct (map (import_name interface_fitting) interface.imports ++ map {A = TypedFunction} (λ f. f.name)
       section.functions)
 
-  pub exports_fit : (interface : Interface) (section : TypedSection) → Placed faces interface section →
+  pub exports_fit : (interface : Interface) (section : TypedSection) → Placed interface_fitting interface section →
       list_all (export_fits section.functions) interface.exports ≡ true
   exports_fit interface section placed =
       and_first (list_all (export_fits section.functions) interface.exports)
       _ (and_rest (are_distinct (map {A = Proto} (λ p. p.name) interface.exports)) _ (and_rest (names interface section)
-      _ placed.faces))
+      _ placed.interface_fitting))
 
-  few_exported : (interface : Interface) (section : TypedSection) → Placed faces interface section →
+  few_exported : (interface : Interface) (section : TypedSection) → Placed interface_fitting interface section →
       length interface.exports ≤ most_exports
   few_exported interface section placed =
       leb-true (length interface.exports) most_exports (and_first (nat_le (length interface.exports) most_exports)
-      _ (and_rest (list_all (import_fits faces placed.number) interface.imports)
+      _ (and_rest (list_all (import_fits interface_fitting placed.number) interface.imports)
       _ (and_rest (list_all (export_fits section.functions) interface.exports)
       _ (and_rest (are_distinct (map {A = Proto} (λ p. p.name) interface.exports)) _ (and_rest (names interface section)
-      _ placed.faces)))))
+      _ placed.interface_fitting)))))
 
   -- an export has a function with its head
   pub any_headed : (functions : List TypedFunction) (proto : Proto) → export_fits functions proto ≡ true →
@@ -323,7 +323,7 @@ module _ (program : ProgramTree) (typed : is_well_typed program ≡ true) where
   any_headed functions proto h =
       and_rest (not (bytes_eq proto.name main_name)) _ (and_rest (is_plain_name proto.name) _ h)
 
-  proto_few : (interface : Interface) (section : TypedSection) → Placed faces interface section → (proto : Proto) →
+  proto_few : (interface : Interface) (section : TypedSection) → Placed interface_fitting interface section → (proto : Proto) →
       export_fits section.functions proto ≡ true → length proto.params ≤ most_params
   proto_few interface section placed proto h =
       let test : TypedFunction → Bool =
@@ -339,28 +339,28 @@ module _ (program : ProgramTree) (typed : is_well_typed program ≡ true) where
       subst (λ m. m ≤ most_params) (sym count) (function_at interface section placed one.number passing.item
       passing.is).few
 
-  export_few : (to index : ℕ) (proto : Proto) → export_at faces to index ≡ Some proto →
+  export_few : (to index : ℕ) (proto : Proto) → export_at interface_fitting to index ≡ Some proto →
       length proto.params ≤ most_params
   export_few to index proto h =
-      let found : Behind {A = Interface} (λ i. slice_get i.exports index) (comp_at faces to) proto =
-      behind (λ i. slice_get i.exports index) (comp_at faces to) proto h in
-      let place = for_interface faces 0 faces.comps program.sections (sections_so program typed) to found.item
+      let found : After {A = Interface} (λ i. slice_get i.exports index) (comp_at interface_fitting to) proto =
+      following (λ i. slice_get i.exports index) (comp_at interface_fitting to) proto h in
+      let place = for_interface interface_fitting 0 interface_fitting.comps program.sections (sections_so program typed) to found.item
       found.is in
       proto_few found.item place.section place.placed proto (all_at (export_fits place.section.functions)
       found.item.exports (exports_fit found.item place.section place.placed) index proto found.gives)
 
   module _ (comp : ℕ) (section : TypedSection) (is : slice_get program.sections comp ≡ Some section) where
-    pub place : ForSection faces faces.comps comp section
-    place = for_section faces 0 faces.comps program.sections (sections_so program typed) comp section is
+    pub place : ForSection interface_fitting interface_fitting.comps comp section
+    place = for_section interface_fitting 0 interface_fitting.comps program.sections (sections_so program typed) comp section is
 
     abbrev pub callable : Callable
-    callable = callable_in faces place.interface section
+    callable = callable_in interface_fitting place.interface section
 
     -- the names of its functions differ
     pub distinct_names : are_distinct (map {A = TypedFunction} (λ f. f.name) section.functions) ≡ true
     distinct_names =
-        own_names_differ (map (import_name faces) place.interface.imports) section.functions
-        (and_first (names place.interface section) _ place.placed.faces)
+        own_names_differ (map (import_name interface_fitting) place.interface.imports) section.functions
+        (and_first (names place.interface section) _ place.placed.interface_fitting)
 
     -- calls take at most 8 arguments
     own_few : (o : Option TypedFunction) (n : ℕ) (signature : Signature) → slice_get section.functions n ≡ o →
@@ -371,7 +371,7 @@ module _ (program : ProgramTree) (typed : is_well_typed program ≡ true) where
         subst (λ m. m ≤ most_params) (sym (length-map f.params (λ p. p.ty)) ∙ ap (λ (s : Signature). length s.params)
         same) (function_at place.interface section place.placed n f at).few
 
-    cross_few : (o : Option Proto) (to index : ℕ) (signature : Signature) → export_at faces to index ≡ o →
+    cross_few : (o : Option Proto) (to index : ℕ) (signature : Signature) → export_at interface_fitting to index ≡ o →
         option_signature proto_signature o ≡ Some signature → length signature.params ≤ most_params
     cross_few None to index signature at h = absurd (cc)
     cross_few (Some proto) to index signature at h =
@@ -388,9 +388,9 @@ module _ (program : ProgramTree) (typed : is_well_typed program ≡ true) where
         ∙ h)))
     call_few (target.Cross to index) signature dest at h count =
         le-leb (length at) most_params (subst (λ m. m ≤ most_params) (sym count)
-        (cross_few (export_at faces to index) to index signature refl
+        (cross_few (export_at interface_fitting to index) to index signature refl
         (found_allowed (list_any (same_import (import.Function to index)) place.interface.imports)
-        (option_signature proto_signature (export_at faces to index)) signature h)))
+        (option_signature proto_signature (export_at interface_fitting to index)) signature h)))
     call_few target.Input signature dest at h count = refl
     call_few target.Output signature dest at h count = refl
 
@@ -398,10 +398,10 @@ module _ (program : ProgramTree) (typed : is_well_typed program ≡ true) where
         target_signature callable to ≡ Some signature → length at ≡ length signature.params → Below temps dest →
         AllBelow temps at →
         names_own_temps temps (call_layer to dest at) ≡ true
-    call_own_temps temps (target.Own n) signature dest at h count below all = own_behind temps dest at below all
+    call_own_temps temps (target.Own n) signature dest at h count below all = own_after temps dest at below all
     call_own_temps temps (target.Cross to index) signature dest at h count below all =
-        own_behind temps dest at below all
-    call_own_temps temps target.Input signature dest at h count below all = own_behind temps dest [] below tt
+        own_after temps dest at below all
+    call_own_temps temps target.Input signature dest at h count below all = own_after temps dest [] below tt
     call_own_temps temps target.Output signature dest at h count below all =
         own_first temps at (count ∙ output_takes_one (list_any (same_import import.Output) place.interface.imports)
         signature h) all
@@ -457,9 +457,9 @@ module _ (program : ProgramTree) (typed : is_well_typed program ≡ true) where
       -- addresses point to elements
       elements : PointsToElements scope section.structs
       elements =
-          let behind = and_rest (structs_fit section.structs 0 section.structs) _ place.placed.fits in
+          let following = and_rest (structs_fit section.structs 0 section.structs) _ place.placed.fits in
           points_to_elements section f (and_first (structs_fit section.structs 0 section.structs) _ place.placed.fits)
-          (and_first (list_all (global_fits section.structs) section.globals) _ behind) fits.passed fits.locals
+          (and_first (list_all (global_fits section.structs) section.globals) _ following) fits.passed fits.locals
 
       params_same : length scope.params ≡ length f.params
       params_same = length-map f.params (λ p. p.ty)
@@ -582,11 +582,11 @@ module _ (program : ProgramTree) (typed : is_well_typed program ≡ true) where
       abbrev others : List ℕ
       others = map {A = TypedLocal} (λ l. cells_of section.structs l.ty) f.locals
 
-      main_enters : (comp == faces.main) ≡ true → bytes_eq f.name main_name ≡ true →
+      main_enters : (comp == interface_fitting.main) ≡ true → bytes_eq f.name main_name ≡ true →
           passes_words (length f.params) (parameters ++ others) ≡ true
       main_enters here called =
-          let own : comp ≡ faces.main = eqb-true comp faces.main here in
-          let there : slice_get program.sections faces.main ≡ Some section =
+          let own : comp ≡ interface_fitting.main = eqb-true comp interface_fitting.main here in
+          let there : slice_get program.sections interface_fitting.main ≡ Some section =
           subst (λ c. slice_get program.sections c ≡ Some section) own is in
           let any : main_fits (Some section) ≡ true =
           subst (λ o. main_fits o ≡ true) there (main_so program typed) in
@@ -609,12 +609,12 @@ module _ (program : ProgramTree) (typed : is_well_typed program ≡ true) where
           words_pass section.structs f.params found.item.params others
           (and_first (same_types (signature_of f).params (proto_signature found.item).params) _ same)
 
-      words_enter : enters_by_words (entry_of faces comp f.name) (length f.params) (variables section.structs f) ≡ true
-      words_enter = by (comp == faces.main && bytes_eq f.name main_name) refl where
-        by : (b : Bool) → (comp == faces.main && bytes_eq f.name main_name) ≡ b →
-            enters_by_words (if b then Some Main else export_called faces comp f.name) (length f.params)
+      words_enter : enters_by_words (entry_of interface_fitting comp f.name) (length f.params) (variables section.structs f) ≡ true
+      words_enter = by (comp == interface_fitting.main && bytes_eq f.name main_name) refl where
+        by : (b : Bool) → (comp == interface_fitting.main && bytes_eq f.name main_name) ≡ b →
+            enters_by_words (if b then Some Main else export_called interface_fitting comp f.name) (length f.params)
             (parameters ++ others) ≡ true
-        by true own = main_enters (and_first (comp == faces.main) _ own) (and_rest (comp == faces.main) _ own)
+        by true own = main_enters (and_first (comp == interface_fitting.main) _ own) (and_rest (comp == interface_fitting.main) _ own)
         by false own =
             ap (λ (o : Option Interface). enters_by_words
             (option_map Export (position {X = Proto} (λ proto. bytes_eq f.name proto.name) (exports_of o)))
@@ -645,12 +645,12 @@ module _ (program : ProgramTree) (typed : is_well_typed program ≡ true) where
             by : (a b c : ℕ) → b ≡ a → a ≤ b + c
             by a b c h = omega (numbers, h)
 
-      few_exports : length (exports_of (comp_at faces comp)) ≤ most_exports
+      few_exports : length (exports_of (comp_at interface_fitting comp)) ≤ most_exports
       few_exports =
           subst (λ (o : Option Interface). length (exports_of o) ≤ most_exports) (sym place.is)
           (few_exported place.interface section place.placed)
 
-      pub function_kept : IsFunction (lowered_function faces comp section.structs f)
+      pub function_kept : IsFunction (lowered_function interface_fitting comp section.structs f)
       function_kept = record {
         few_params = fits.few;
         few_nodes = few_nodes;
@@ -674,7 +674,7 @@ module _ (program : ProgramTree) (typed : is_well_typed program ≡ true) where
             (all_assigned scope callable f.result section.structs elements f.locals f.body inits fits.body temps);
       }
 
-      pub lowerable : IsLowerable faces comp section.structs f
+      pub lowerable : IsLowerable interface_fitting comp section.structs f
       lowerable = record {
         kept = function_kept;
         few_params = fits.few;

@@ -2,7 +2,7 @@
 use Rattle.sc_lower.proofs.Common.{Amp, Arrow, AssignCallLine, AssignLine, At, BreakLine, CallLine, ContinueLine, Dot}
 use Rattle.sc_lower.proofs.Common.{EmptyLine, ForLine, Forms, IfLine, Lines, List, Lit, Lowered, NoLine, None, One}
 use Rattle.sc_lower.proofs.Common.{Parts, ReturnCallLine, ReturnLine, ReturnValueLine, Shape, Star, Two, TypedStruct}
-use Rattle.sc_lower.proofs.Common.{Var, WhileLine, [], after, ap, assign, both, call_alone, call_for, call_of, cycle}
+use Rattle.sc_lower.proofs.Common.{Var, WhileLine, [], after, ap, assign, both, call_statement, call_for, call_of, cycle}
 use Rattle.sc_lower.proofs.Common.{expr, expr_at, fork, forms, in_turn, just, kind_step, lowered, lowered_step, map}
 use Rattle.sc_lower.proofs.Common.{part, refl, return_value, stmt_at, stmt_code, stmts, store_at, term_step, test, ℕ}
 use Rattle.sc_lower.proofs.Common.{◌∙◌, ◌∷◌, ◌≡◌}
@@ -64,7 +64,7 @@ module _ (structs : List TypedStruct) (params : ℕ) where
   lines_code (AssignLine line place e rest) = assign (form place) (form e) ∷ lines_code rest
   lines_code (AssignCallLine line place target args rest) =
       call_for target (map form args) (store_at (form place)) ∷ lines_code rest
-  lines_code (CallLine line target args rest) = call_alone target (map form args) ∷ lines_code rest
+  lines_code (CallLine line target args rest) = call_statement target (map form args) ∷ lines_code rest
   lines_code (IfLine line cond x y rest) =
       after (form cond want.Value) (fork (in_turn (lines_code x)) (in_turn (lines_code y))) ∷ lines_code rest
   lines_code (WhileLine line cond x rest) =
@@ -92,7 +92,7 @@ module _ (structs : List TypedStruct) (params : ℕ) where
       lines_are rest i
   lines_are (CallLine line target args rest) = λ i.
       (stmt_at _ _ (kind_step structs params) (λ s. s.kind) line (layer.Call (call_of target args))
-      ∙ (λ j. call_alone target (forms_are args j))) i ∷ lines_are rest i
+      ∙ (λ j. call_statement target (forms_are args j))) i ∷ lines_are rest i
   lines_are (IfLine line cond x y rest) = λ i.
       (stmt_at _ _ (kind_step structs params) (λ s. s.kind) line (layer.If (expr cond) (stmts x) (stmts y))
       ∙ (λ j. after (form_is cond j want.Value) (fork (in_turn (lines_are x j)) (in_turn (lines_are y j))))) i ∷

@@ -2,8 +2,8 @@
 use Rattle.sc_lower.proofs.Common.{CallTarget, Each, Forms, Inside, List, Local, Low, Lows, Many, None, Option, Part}
 use Rattle.sc_lower.proofs.Common.{Parts, Some, TacStmt, TypedCall, TypedExpr, TypedFunction, TypedLocal, TypedSimple}
 use Rattle.sc_lower.proofs.Common.{TypedSimpleKind, TypedStmt, TypedStmtKind, TypedStmtKind-F, TypedStruct, [], after}
-use Rattle.sc_lower.proofs.Common.{alone, ap, arith as numbers, assign, at_place, block_code, body_code, both}
-use Rattle.sc_lower.proofs.Common.{call_alone, call_code, call_for, call_nodes, cycle, entry_weight, expr_nodes}
+use Rattle.sc_lower.proofs.Common.{lone, ap, arith as numbers, assign, at_place, block_code, body_code, both}
+use Rattle.sc_lower.proofs.Common.{call_statement, call_code, call_for, call_nodes, cycle, entry_weight, expr_nodes}
 use Rattle.sc_lower.proofs.Common.{first_of, fork, forms, in_turn, init_code, init_nodes, inits_code, just, kind_nodes}
 use Rattle.sc_lower.proofs.Common.{kind_step, layer_of, length, local_nodes, many, map, nodes, on_line, part_code}
 use Rattle.sc_lower.proofs.Common.{part_nodes, place_code, return_value, simple_code, simple_nodes, stmt_at, stmt_code}
@@ -17,7 +17,7 @@ use Rattle.sc_core.proofs.Induction.{everywhere}
 use Rattle.sc_tac.specs.declared.stmt.TacStmt.TheOpen as tac
 use Rattle.sc_tac.specs.declared.stmt.TacStmt.TheVariants as emit
 use Rattle.sc_lower.proofs.Bounds.{weight_append, weight_one, at_most, place_weight, if_weight, Rises, place_rises}
-use Rattle.sc_lower.proofs.Bounds.{alone_rises, expr_rises}
+use Rattle.sc_lower.proofs.Bounds.{lone_rises, expr_rises}
 
 -- code that takes at most `k` temporaries from the free ones on, and weighs at most 24 for each, and `more` besides
 pub record Grows (p : Parts) (k more : ℕ) : Type 0 where
@@ -121,8 +121,8 @@ module _ (structs : List TypedStruct) (params : ℕ) where
         by : (u v l j k : ℕ) → u + 11 ≤ 24 * j → v + 3 * l ≤ 24 * k → u + v + 3 * suc l ≤ 24 * (j + k)
         by u v l j k h g = omega (numbers, h, g)
 
-  call_alone_grows : (c : TypedCall) → Grows (call_alone c.target (map form c.args)) (call_nodes c) 8
-  call_alone_grows c = record {
+  call_statement_grows : (c : TypedCall) → Grows (call_statement c.target (map form c.args)) (call_nodes c) 8
+  call_statement_grows c = record {
     up = λ n. (many_grow c.args n).up;
     few = λ n. (many_grow c.args n).few;
     light = λ n.
@@ -215,7 +215,7 @@ module _ (structs : List TypedStruct) (params : ℕ) where
       loosen _ (suc (call_nodes c + expr_nodes place)) 0 _ 0 (omega numbers) (omega numbers)
       (call_for_grows c (store_at (form place)) (expr_nodes place) 0 (omega numbers) (λ d. store_at_grows (form place)
       (expr_nodes place) d (target_rises place)))
-  simple_grows (simple.Call c) = loosen _ (call_nodes c) 8 _ 0 (omega numbers) (omega numbers) (call_alone_grows c)
+  simple_grows (simple.Call c) = loosen _ (call_nodes c) 8 _ 0 (omega numbers) (omega numbers) (call_statement_grows c)
 
   part_grows : (part : Option TypedSimple) → Grows (part_code structs params part) (part_nodes part) 0
   part_grows None = just_grows [] 0 (omega numbers)
@@ -240,7 +240,7 @@ module _ (structs : List TypedStruct) (params : ℕ) where
       loosen _ (suc (call_nodes c + expr_nodes place)) 0 _ 0 (omega numbers) (omega numbers)
       (call_for_grows c (store_at (form place)) (expr_nodes place) 0 (omega numbers) (λ d. store_at_grows (form place)
       (expr_nodes place) d (target_rises place)))
-  level line (layer.Call c) h = loosen _ (call_nodes c) 8 _ 0 (omega numbers) (omega numbers) (call_alone_grows c)
+  level line (layer.Call c) h = loosen _ (call_nodes c) 8 _ 0 (omega numbers) (omega numbers) (call_statement_grows c)
   level line (layer.If cond x y) h =
       let kx : ℕ = total (map stmt_nodes x) in let ky : ℕ = total (map stmt_nodes y) in
       loosen _ (expr_nodes cond + (kx + ky)) 0 _ 0 (omega numbers) (omega numbers)
@@ -283,9 +283,9 @@ module _ (structs : List TypedStruct) (params : ℕ) where
   init_grows k local None = loosen _ 0 0 1 0 (omega numbers) (omega numbers) (just_grows [] 0 (omega numbers))
   init_grows k local (Some e) =
       loosen _ (expr_nodes e + 1) 0 _ 0 (omega numbers) (omega numbers)
-      (assign_grows (at_place local.ty (alone (place_code params (Local k)))) (form e) 1 (expr_nodes e)
-      (place_rises local.ty want.Place (alone (place_code params (Local k))) 1
-      (alone_rises (place_code params (Local k)) (place_weight params (Local k)))) (value_rises e))
+      (assign_grows (at_place local.ty (lone (place_code params (Local k)))) (form e) 1 (expr_nodes e)
+      (place_rises local.ty want.Place (lone (place_code params (Local k))) 1
+      (lone_rises (place_code params (Local k)) (place_weight params (Local k)))) (value_rises e))
 
   inits_grow : (k : ℕ) (locals : List TypedLocal) →
       Grows (in_turn (inits_code structs params k locals)) (total (map local_nodes locals)) 0

@@ -4,10 +4,10 @@ use Rattle.sc_lower.proofs.Common.{Err, Forms, Here, Inside, Judged, Left, List,
 use Rattle.sc_lower.proofs.Common.{Part, Parts, Piece, Reached, Result, Return, Scope, Signature, Some, State, Stopped}
 use Rattle.sc_lower.proofs.Common.{TacStmt, Temps, Ty, TypedCall, TypedExpr, TypedFunction, TypedLocal, TypedSimple}
 use Rattle.sc_lower.proofs.Common.{TypedSimpleKind, TypedStmt, TypedStmtKind, TypedStmtKind-F, TypedStruct, Value, Ways}
-use Rattle.sc_lower.proofs.Common.{[], all_do, all_go_into, allowed, alone, and_first, and_rest, and_then, ap, args_fit}
+use Rattle.sc_lower.proofs.Common.{[], all_do, all_go_into, allowed, lone, and_first, and_rest, and_then, ap, args_fit}
 use Rattle.sc_lower.proofs.Common.{arith as numbers, assign, assign_call, assign_call_fits, assign_fits, at_place}
 use Rattle.sc_lower.proofs.Common.{block_code, block_does, body_code, body_does, body_fits, call as calls_of}
-use Rattle.sc_lower.proofs.Common.{call_alone, call_code, call_does, call_fits, call_for, choose, computed, cycle}
+use Rattle.sc_lower.proofs.Common.{call_statement, call_code, call_does, call_fits, call_for, choose, computed, cycle}
 use Rattle.sc_lower.proofs.Common.{false, false≢true, first_of, follow, forms, goes_into, in_order, in_turn, init_code}
 use Rattle.sc_lower.proofs.Common.{init_does, init_fits, inits_code, inits_do, is_scalar, is_some, is_target, is_true}
 use Rattle.sc_lower.proofs.Common.{judged, just, kind_fits, kind_step, layer_of, leave, length, list_all, list_any}
@@ -17,7 +17,7 @@ use Rattle.sc_lower.proofs.Common.{same_import, signed, simple_code, simple_does
 use Rattle.sc_lower.proofs.Common.{stmt_does, stmt_fits, stmt_induction, stmt_step, store, store_at, store_result}
 use Rattle.sc_lower.proofs.Common.{stored, subst, suc, sym, target_signature, test, true, values, variable_at}
 use Rattle.sc_lower.proofs.Common.{variable_fits, ways, with_memory, with_temp, ℕ, ◌++◌, ◌<◌, ◌∙◌, ◌∷◌, ◌≡◌, ◌≤◌}
-use Rattle.sc_core.specs.Prelude.{assign as assigns, at_place as place_way, call_alone as calls_alone}
+use Rattle.sc_core.specs.Prelude.{assign as assigns, at_place as place_way, call_statement as calls_alone}
 use Rattle.sc_core.specs.Prelude.{kind_step as kind_acts, stmt_does as stmt_acts, store_at as stores_at, test as tests}
 use Rattle.sc_lower.proofs.Passing.{returned_value}
 use Rattle.sc_lower.proofs.Tests.{scalar_fits}
@@ -30,7 +30,7 @@ use Rattle.sc_core.specs.declared.value.Want.TheVariants as want
 use Rattle.sc_tac.specs.declared.stmt.TacStmt.TheOpen as tac
 use Rattle.sc_tac.specs.declared.stmt.TacStmt.TheVariants as emit
 use Rattle.sc_lower.proofs.Gives.{Keeps, run, with_temp_same, run_append, first_is}
-use Rattle.sc_lower.proofs.Expressions.{Computes, alone_computes, place_computes, place_gives, expr_fits}
+use Rattle.sc_lower.proofs.Expressions.{Computes, lone_computes, place_computes, place_gives, expr_fits}
 use Rattle.sc_lower.proofs.Matching.{answers, value_answers, none_answers, blamed, BackMatches, ends_then, Matches}
 use Rattle.sc_lower.proofs.Matching.{ActsMatch, matches_along, leave_matches, follow_matches, if_matches, rounds_match}
 use Rattle.sc_lower.proofs.Matching.{code_then, read_matches, computed_matches, one_matches, GivesAll, codes_then}
@@ -255,10 +255,10 @@ module _ (arith : Arith) (structs : List TypedStruct) (here : Here) (params : �
         store_at_matches f w h (form e want.Value n).next line (form e want.Value n).at a u s v
         ((fits_value e fit).below n) is)
 
-    call_alone_matches : (c : TypedCall) (n line : ℕ) → call_fits callable c.target (map (judged scope) c.args) ≡ true →
+    call_statement_matches : (c : TypedCall) (n line : ℕ) → call_fits callable c.target (map (judged scope) c.args) ≡ true →
         Does (calls_alone here C c.target (map way c.args) line)
-        (run arith here D (call_alone c.target (map form c.args) n).code)
-    call_alone_matches c n line fits a t s =
+        (run arith here D (call_statement c.target (map form c.args) n).code)
+    call_statement_matches c n line fits a t s =
         call_first c None n line t s [] (λ v s. leave Next a s) fits (λ o. refl)
         (λ v s u good. leave_matches has Next refl a u s)
 
@@ -295,7 +295,7 @@ module _ (arith : Arith) (structs : List TypedStruct) (here : Here) (params : �
         Does (simple_does arith structs here params C k line) (run arith here D (simple_code structs params k n).code)
     simple_matches (simple.Assign place e) n line h = assigned_matches place e n line h
     simple_matches (simple.AssignCall place c) n line h = assign_call_matches place c n line h
-    simple_matches (simple.Call c) n line h = call_alone_matches c n line h
+    simple_matches (simple.Call c) n line h = call_statement_matches c n line h
 
     part_matches : (part : Option TypedSimple) (n : ℕ) → part_fits scope callable result part ≡ true →
         Does (part_does arith structs here params C part) (run arith here D (part_code structs params part n).code)
@@ -338,7 +338,7 @@ module _ (arith : Arith) (structs : List TypedStruct) (here : Here) (params : �
         ((n : ℕ) → Does next (run arith here D (last n).code)) →
         Does (loop (tests here (way cond) line) (block_does arith structs here params C block) next)
         (run arith here D (cycle (test (form cond)) (block_code structs params block) last n).code)
-    cycle_matches cond fit n line block last next h every behind a t s =
+    cycle_matches cond fit n line block last next h every following a t s =
         let x : Part = test (form cond) n in
         let y : Part = block_code structs params block x.next in
         let z : Part = last y.next in
@@ -346,7 +346,7 @@ module _ (arith : Arith) (structs : List TypedStruct) (here : Here) (params : �
         (emit.rolls-Loop x.code y.code z.code)
         (rounds_match has (tests here (way cond) line) (block_does arith structs here params C block) next
         (run arith here D x.code) (run arith here D y.code) (run arith here D z.code)
-        (test_matches cond fit n line) (block_matches block true h every x.next) (behind y.next) (suc s.turns) a t s)
+        (test_matches cond fit n line) (block_matches block true h every x.next) (following y.next) (suc s.turns) a t s)
 
     return_matches : (e : TypedExpr) → Fit e → (n line : ℕ) →
         Does (λ a s. and_then (computed here line (way e want.Value (s.memory here.comp)) s)
@@ -400,7 +400,7 @@ module _ (arith : Arith) (structs : List TypedStruct) (here : Here) (params : �
     level line layer.Empty h looping fits n = leave_matches has Next refl
     level line (layer.Assign place e) h looping fits n = assigned_matches place e n line fits
     level line (layer.AssignCall place c) h looping fits n = assign_call_matches place c n line fits
-    level line (layer.Call c) h looping fits n = call_alone_matches c n line fits
+    level line (layer.Call c) h looping fits n = call_statement_matches c n line fits
     level line (layer.If cond x y) h looping fits n = λ a t s.
         let inner = and_rest (is_scalar (judged scope cond)) _ fits in
         let c : Low = form cond want.Value n in
@@ -426,8 +426,8 @@ module _ (arith : Arith) (structs : List TypedStruct) (here : Here) (params : �
         (leave Next) (and_rest (is_scalar (judged scope cond)) _ fits) h
         (λ n. leave_matches has Next refl)
     level line (layer.For first cond next x) h looping fits n = λ a t s.
-        let behind = and_rest (part_fits scope callable result first) _ fits in
-        let last = and_rest (is_scalar (judged scope cond)) _ behind in
+        let following = and_rest (part_fits scope callable result first) _ fits in
+        let last = and_rest (is_scalar (judged scope cond)) _ following in
         let p : Part = part_code structs params first n in
         let q : Part = cycle (test (form cond)) (block_code structs params x) (part_code structs params next) p.next in
         matches_along has _ _ _ (run_append arith here D p.code q.code t s)
@@ -435,7 +435,7 @@ module _ (arith : Arith) (structs : List TypedStruct) (here : Here) (params : �
         (loop (tests here (way cond) line) (block_does arith structs here params C x)
         (part_does arith structs here params C next)) (run arith here D q.code)
         (part_matches first n (and_first (part_fits scope callable result first) _ fits) a t s)
-        (cycle_matches cond (cond_fit cond (and_first (is_scalar (judged scope cond)) _ behind)) p.next line x
+        (cycle_matches cond (cond_fit cond (and_first (is_scalar (judged scope cond)) _ following)) p.next line x
         (part_code structs params next) (part_does arith structs here params C next)
         (and_rest (part_fits scope callable result next) _ last) h
         (λ n. part_matches next n (and_first (part_fits scope callable result next) _ last))))
@@ -479,10 +479,10 @@ module _ (arith : Arith) (structs : List TypedStruct) (here : Here) (params : �
         (run arith here D (init_code structs params k local init n).code)
     init_matches k local None h n = leave_matches has Next refl
     init_matches k local (Some e) h n =
-        assign_matches (at_place local.ty (alone (place_code params (Local k))))
+        assign_matches (at_place local.ty (lone (place_code params (Local k))))
         (place_way local.ty (λ blocks. Ok (variable_at here params (Local k))))
-        (place_computes arith here D local.ty want.Place (alone (place_code params (Local k)))
-        (λ blocks. Ok (variable_at here params (Local k))) (alone_computes arith here D (place_code params (Local k))
+        (place_computes arith here D local.ty want.Place (lone (place_code params (Local k)))
+        (λ blocks. Ok (variable_at here params (Local k))) (lone_computes arith here D (place_code params (Local k))
         (λ blocks. Ok (variable_at here params (Local k))) (place_gives arith here D params (Local k))))
         e (and_first (judged scope e).fits _ h) n local.line
 

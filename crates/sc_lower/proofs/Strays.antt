@@ -2,9 +2,9 @@
 use Rattle.sc_lower.proofs.Common.{Bool, CallTarget, Callable, Each, Forms, Inside, Judged, List, Local, Lows, Many}
 use Rattle.sc_lower.proofs.Common.{None, Option, Part, Parts, Scope, Some, TacStmt, TacStmt-F, Ty, TypedCall, TypedExpr}
 use Rattle.sc_lower.proofs.Common.{TypedLocal, TypedSimple, TypedSimpleKind, TypedStmt, TypedStmtKind, TypedStmtKind-F}
-use Rattle.sc_lower.proofs.Common.{TypedStruct, Want, [], after, all_go_into, alone, and_first, and_rest, ap}
+use Rattle.sc_lower.proofs.Common.{TypedStruct, Want, [], after, all_go_into, lone, and_first, and_rest, ap}
 use Rattle.sc_lower.proofs.Common.{arith as numbers, assign, assign_call_fits, assign_fits, at_place, block_code}
-use Rattle.sc_lower.proofs.Common.{body_fits, both, call_alone, call_code, call_fits, call_for, cycle, everywhere}
+use Rattle.sc_lower.proofs.Common.{body_fits, both, call_statement, call_code, call_fits, call_for, cycle, everywhere}
 use Rattle.sc_lower.proofs.Common.{false, false≢true, first_of, fold-TacStmt, fold-roll-TacStmt, fork, forms, goes_into}
 use Rattle.sc_lower.proofs.Common.{has_none, in_turn, init_code, init_fits, inits_code, is_scalar, is_target, is_type}
 use Rattle.sc_lower.proofs.Common.{judged, just, kind_fits, kind_step, layer_of, length, list_all, many, map}
@@ -20,7 +20,7 @@ use Rattle.sc_core.specs.declared.value.Want.TheVariants as want
 use Rattle.sc_tac.specs.declared.stmt.TacStmt.TheOpen as tac
 use Rattle.sc_tac.specs.declared.stmt.TacStmt.TheVariants as emit
 use Rattle.sc_tac.proofs.Induction.{Inside as CodeInside, stmt_induction as code_induction}
-use Rattle.sc_lower.proofs.Tests.{scalar_fits, PassedBy, PointsToElements, alone_clean, place_clean, place_passes}
+use Rattle.sc_lower.proofs.Tests.{scalar_fits, PassedBy, PointsToElements, lone_clean, place_clean, place_passes}
 use Rattle.sc_lower.proofs.Tests.{expr_clean}
 use Rattle.sc_lower.proofs.Passing.{returned_value, InitsFit}
 
@@ -62,11 +62,11 @@ module _ (scope : Scope) (structs : List TypedStruct) (elements : PointsToElemen
   target_straight place h n = expr_straight place (and_first (judged scope place).fits _ h) want.Place n
 
   pub local_straight : (k : ℕ) (t : Ty) → is_type (variable_ty scope (Local k)) t ≡ true → (w : Want) (n : ℕ) →
-      Straight (at_place t (alone (place_code (length scope.params) (Local k))) w n).code
+      Straight (at_place t (lone (place_code (length scope.params) (Local k))) w n).code
   local_straight k t h w n =
-      let m : ℕ = (at_place t (alone (place_code (length scope.params) (Local k))) w n).next in
+      let m : ℕ = (at_place t (lone (place_code (length scope.params) (Local k))) w n).next in
       (place_clean m scope is_straight (straight_passed m scope) t w
-      (alone (place_code (length scope.params) (Local k))) (alone_clean m scope is_straight (straight_passed m scope)
+      (lone (place_code (length scope.params) (Local k))) (lone_clean m scope is_straight (straight_passed m scope)
       (place_code (length scope.params) (Local k)) (place_passes m scope is_straight (straight_passed m scope) (Local k)
       t h))).passes n (omega numbers)
 
@@ -153,8 +153,8 @@ module _ (stray : TacStmt-F Bool → Bool) (strays : Strays stray) where
       stray (map-TacStmt _ _ (fold-TacStmt Bool stray) k) ≡ false → Free (c ∷ [])
   none_one k c is h = or_from _ false (ap (fold-TacStmt Bool stray) (sym is) ∙ fold-roll-TacStmt Bool stray k ∙ h) refl
 
-  none_behind : (c : TacStmt) (ys : List TacStmt) → Free (c ∷ []) → Free ys → Free (c ∷ ys)
-  none_behind c ys h k = none_append (c ∷ []) ys h k
+  none_after : (c : TacStmt) (ys : List TacStmt) → Free (c ∷ []) → Free ys → Free (c ∷ ys)
+  none_after c ys h k = none_append (c ∷ []) ys h k
 
   -- straight code has none
   abbrev S : TacStmt → Type 0
@@ -259,9 +259,9 @@ module _ (stray : TacStmt-F Bool → Bool) (strays : Strays stray) where
         let s = signed (target_signature callable c.target) (map (judged scope) c.args) h in
         many_none s.signature.params c.args n s.fit
 
-    call_alone_none : (c : TypedCall) → call_fits callable c.target (map (judged scope) c.args) ≡ true →
-        NonePart (call_alone c.target (map form c.args))
-    call_alone_none c h n =
+    call_statement_none : (c : TypedCall) → call_fits callable c.target (map (judged scope) c.args) ≡ true →
+        NonePart (call_statement c.target (map form c.args))
+    call_statement_none c h n =
         none_append (many (map form c.args) n).code (call_code c.target None (many (map form c.args) n).at ∷ [])
         (args_none c n h) (call_none c.target None (many (map form c.args) n).at)
 
@@ -270,7 +270,7 @@ module _ (stray : TacStmt-F Bool → Bool) (strays : Strays stray) where
     call_for_none c make h k n =
         let x : Many = many (map form c.args) n in
         none_append x.code (call_code c.target (Some x.next) x.at ∷ (make x.next (suc x.next)).code) (args_none c n h)
-        (none_behind (call_code c.target (Some x.next) x.at) (make x.next (suc x.next)).code
+        (none_after (call_code c.target (Some x.next) x.at) (make x.next (suc x.next)).code
         (call_none c.target (Some x.next) x.at) (k x.next (suc x.next)))
 
     assigned_none : (place e : TypedExpr) → assign_fits (judged scope place) (judged scope e) ≡ true →
@@ -295,7 +295,7 @@ module _ (stray : TacStmt-F Bool → Bool) (strays : Strays stray) where
         NonePart (simple_code structs params k)
     simple_none (simple.Assign place e) h = assigned_none place e h
     simple_none (simple.AssignCall place c) h = assign_call_none place c h
-    simple_none (simple.Call c) h = call_alone_none c h
+    simple_none (simple.Call c) h = call_statement_none c h
 
     part_none : (part : Option TypedSimple) → part_fits scope callable result part ≡ true →
         NonePart (part_code structs params part)
@@ -344,7 +344,7 @@ module _ (stray : TacStmt-F Bool → Bool) (strays : Strays stray) where
     level line layer.Empty h fits n = refl
     level line (layer.Assign place e) h fits n = assigned_none place e fits n
     level line (layer.AssignCall place c) h fits n = assign_call_none place c fits n
-    level line (layer.Call c) h fits n = call_alone_none c fits n
+    level line (layer.Call c) h fits n = call_statement_none c fits n
     level line (layer.If cond x y) h fits m =
         let inner = and_rest (is_scalar (judged scope cond)) _ fits in
         after_none (form cond want.Value) (fork (block_code structs params x) (block_code structs params y))
@@ -364,13 +364,13 @@ module _ (stray : TacStmt-F Bool → Bool) (strays : Strays stray) where
         cycle_none cond (block_code structs params x) (just []) (scalar_fits (judged scope cond)
         (and_first (is_scalar (judged scope cond)) _ fits)) (λ n. refl) n
     level line (layer.For first cond next x) h fits n =
-        let behind = and_rest (part_fits scope callable result first) _ fits in
-        let last = and_rest (is_scalar (judged scope cond)) _ behind in
+        let following = and_rest (part_fits scope callable result first) _ fits in
+        let last = and_rest (is_scalar (judged scope cond)) _ following in
         let p : Part = part_code structs params first n in
         none_append p.code (cycle (tests (form cond)) (block_code structs params x) (part_code structs params next)
         p.next).code (part_none first (and_first (part_fits scope callable result first) _ fits) n)
         (cycle_none cond (block_code structs params x) (part_code structs params next) (scalar_fits (judged scope cond)
-        (and_first (is_scalar (judged scope cond)) _ behind))
+        (and_first (is_scalar (judged scope cond)) _ following))
         (part_none next (and_first (part_fits scope callable result next) _ last)) p.next)
     level line layer.Break h fits n = absurd (false≢true fits)
     level line layer.Continue h fits n = absurd (false≢true fits)
@@ -402,7 +402,7 @@ module _ (stray : TacStmt-F Bool → Bool) (strays : Strays stray) where
         ≡ true → init_fits scope local.ty init ≡ true → NonePart (init_code structs params k local init)
     init_none k local None own h n = refl
     init_none k local (Some e) own h n =
-        assign_none (at_place local.ty (alone (place_code params (Local k)))) (form e)
+        assign_none (at_place local.ty (lone (place_code params (Local k)))) (form e)
         (local_straight scope structs elements k local.ty own want.Place)
         (value_straight scope structs elements e (and_first (judged scope e).fits _ h)) n
 

@@ -2,7 +2,7 @@
 use Rattle.sc_lower.proofs.Common.{BinaryOp, Bool, CallTarget, Constant, Global, Int, Judged, List, Local, Low, Lowered}
 use Rattle.sc_lower.proofs.Common.{Lows, None, Option, Param, Scope, Some, TacOp, TacStmt, TacStmt-F, Ty, TypedExpr}
 use Rattle.sc_lower.proofs.Common.{TypedKind, TypedKind-F, TypedStruct, UnaryOp, Under, VarRef, Want, [], address_fits}
-use Rattle.sc_lower.proofs.Common.{alone, and_code, and_first, and_from, and_rest, ap, are_equatable, are_ordered}
+use Rattle.sc_lower.proofs.Common.{lone, and_code, and_first, and_from, and_rest, ap, are_equatable, are_ordered}
 use Rattle.sc_lower.proofs.Common.{arith as numbers, at_place, between_op, binary, binary_code, binary_fits, both_ints}
 use Rattle.sc_lower.proofs.Common.{common, constant_of, counts_elements, decayed, difference_fits, either, everywhere}
 use Rattle.sc_lower.proofs.Common.{expr_at, expr_induction, false, false≢true, first_of, fold-TacStmt}
@@ -194,9 +194,9 @@ module _ (test : TacStmt-F Bool → Bool) where
       and_from _ true (ap (fold-TacStmt Bool (with_parts test)) (sym is) ∙ fold-roll-TacStmt Bool (with_parts test) k
       ∙ h) refl
 
-  pub all_behind : (c : TacStmt) (ys : List TacStmt) → everywhere test (c ∷ []) ≡ true → everywhere test ys ≡ true →
+  pub all_after : (c : TacStmt) (ys : List TacStmt) → everywhere test (c ∷ []) ≡ true → everywhere test ys ≡ true →
       everywhere test (c ∷ ys) ≡ true
-  all_behind c ys h k = all_append (c ∷ []) ys h k
+  all_after c ys h k = all_append (c ∷ []) ys h k
 
 -- a number, if there is one, and numbers below another
 abbrev pub Below : ℕ → Option ℕ → Type 0
@@ -247,9 +247,9 @@ module _ (temps : ℕ) (scope : Scope) (test : TacStmt-F Bool → Bool) (passed 
       all_one test (tac.If c x y) (emit.If c x y) (emit.rolls-If c x y) (and_from _ _ (passed.fork c _ _ lt)
       (and_from _ _ hx (and_from _ true hy refl)))
 
-  pub alone_clean : (make : ℕ → TacStmt) → ((d : ℕ) → d < temps → everywhere test (make d ∷ []) ≡ true) →
-      Clean (alone make)
-  alone_clean make h =
+  pub lone_clean : (make : ℕ → TacStmt) → ((d : ℕ) → d < temps → everywhere test (make d ∷ []) ≡ true) →
+      Clean (lone make)
+  lone_clean make h =
       record { above = λ n. omega numbers; below = λ n. omega numbers; passes = λ n le. h n (omega (numbers, le)) }
 
   loaded_passes : (t : Ty) (w : Want) (at : ℕ) → at < temps → everywhere test (loaded t w at) ≡ true
@@ -346,7 +346,7 @@ module _ (temps : ℕ) (scope : Scope) (test : TacStmt-F Bool → Bool) (passed 
 
   truth_passes : (t : Ty) (d x : ℕ) → d < temps → x < temps → everywhere test (truth_code t d x) ≡ true
   truth_passes t d x ld lx =
-      all_behind test (emit.Op d (not_op t) x None) (emit.Op d (tacop.Unary unary.Not Int) d None ∷ [])
+      all_after test (emit.Op d (not_op t) x None) (emit.Op d (tacop.Unary unary.Not Int) d None ∷ [])
       (one_passes d (not_op t) x (not_takes_one t) ld lx) (one_passes d (tacop.Unary unary.Not Int) d refl ld ld)
 
   and_passes : (d x : ℕ) (code : List TacStmt) → d < temps → x < temps → everywhere test code ≡ true →
@@ -433,9 +433,9 @@ module _ (temps : ℕ) (scope : Scope) (test : TacStmt-F Bool → Bool) (passed 
         (term_of _ _ (term_judged scope) (λ e. e.kind e.ty) k t).fits ≡ true → (w : Want) →
         Clean (term_of _ _ (term_step structs (length scope.params)) lowered_step k t w)
     level t (term.Literal word) h fits w =
-        alone_clean _ (λ d lt. const_passes d (constant_of t word) (literal_word t word fits) lt)
+        lone_clean _ (λ d lt. const_passes d (constant_of t word) (literal_word t word fits) lt)
     level t (term.Variable v) h fits w =
-        place_clean t w _ (alone_clean (place_code (length scope.params) v) (place_passes v t fits))
+        place_clean t w _ (lone_clean (place_code (length scope.params) v) (place_passes v t fits))
     level t (term.Unary o a) h fits w =
         from_one_clean _ _ (λ d x ld lx. one_passes d (unary_op o (lowered structs (length scope.params) a).ty) x
         (unary_takes_one o (lowered structs (length scope.params) a).ty) ld lx) (h (unary_fit o (judged scope a) t fits)

@@ -1,15 +1,15 @@
 -- The code of a well-typed program runs as the program does.
 use Rattle.sc_lower.proofs.Common.{Arith, BadType, Blamed, BodiesAgree, Body, Bool, CallTarget, Callable, Cross, Export}
-use Rattle.sc_lower.proofs.Common.{ForSection, Function, Here, Input, Interfaces, KeepsMeaning, Left, Library, List}
+use Rattle.sc_lower.proofs.Common.{ForSection, Function, Here, Input, Interfaces, KeepsMeaning, Left, Denotations, List}
 use Rattle.sc_lower.proofs.Common.{Main, None, Option, Output, Own, Piece, PiecesAgree, ProgramTree, Proto, Reached}
 use Rattle.sc_lower.proofs.Common.{Roles, RunsAgree, Scalar, Some, State, Step, Stopped, TacSection, Temps, TurnsOut}
 use Rattle.sc_lower.proofs.Common.{TypedFunction, TypedParam, TypedSection, TypedStruct, Value, [], all_at, allowed}
 use Rattle.sc_lower.proofs.Common.{and_first, and_rest, and_then, ap, back_own, begun, body_code, body_does, body_fits}
 use Rattle.sc_lower.proofs.Common.{bytes_eq, call_cross, call_own, callable_in, called, calls, closed, code_does}
-use Rattle.sc_lower.proofs.Common.{code_function, code_functions, code_globals, code_library, code_run, crossing}
+use Rattle.sc_lower.proofs.Common.{code_function, code_functions, code_globals, code_denotations, code_run, crossing}
 use Rattle.sc_lower.proofs.Common.{deepest, done, export_at, false, first_blocks, first_state, for_section, found}
 use Rattle.sc_lower.proofs.Common.{function, function_fits, function_of, functions_in, global_fits, globals_of}
-use Rattle.sc_lower.proofs.Common.{if◌then◌else◌, index_map, is_some, is_well_typed, itself, length, library_of}
+use Rattle.sc_lower.proofs.Common.{if◌then◌else◌, index_map, is_some, is_well_typed, itself, length, denotations_of}
 use Rattle.sc_lower.proofs.Common.{list_all, list_any, local_fits, lowered_function, lowered_program, lowered_section}
 use Rattle.sc_lower.proofs.Common.{lowered_sections, main_name, map, may_call, most_params, nat_le, no_temps}
 use Rattle.sc_lower.proofs.Common.{option_map, option_signature, option_value, passed_fits, performs, proto_signature}
@@ -73,40 +73,40 @@ no_functions f (x ∷ xs) zero h = absurd (cc)
 no_functions f (x ∷ xs) (suc i) h = no_functions f xs i h
 
 module _ (arith : Arith) (program : ProgramTree) (typed : is_well_typed program ≡ true) where
-  abbrev faces : Interfaces
-  faces = program.interfaces
+  abbrev interface_fitting : Interfaces
+  interface_fitting = program.interfaces
 
-  abbrev L : Library
-  L = library_of arith program
+  abbrev L : Denotations
+  L = denotations_of arith program
 
-  abbrev M : Library
-  M = code_library arith (lowered_program program)
+  abbrev M : Denotations
+  M = code_denotations arith (lowered_program program)
 
   abbrev lowered : List TacSection
-  lowered = lowered_sections faces 0 program.sections
+  lowered = lowered_sections interface_fitting 0 program.sections
 
   abbrev tree_function : List TypedStruct → TypedFunction → Function
-  tree_function = function_of arith faces.main
+  tree_function = function_of arith interface_fitting.main
 
   abbrev tac_function : ℕ → List TypedStruct → TypedFunction → Function
-  tac_function comp structs f = code_function arith (lowered_function faces comp structs f)
+  tac_function comp structs f = code_function arith (lowered_function interface_fitting comp structs f)
 
   -- CALLERS
   functions_alike : (comp : ℕ) (structs : List TypedStruct) (fs : List TypedFunction) →
       map shell (map (tree_function structs) fs)
-      ≡ map shell (map (code_function arith) (map (lowered_function faces comp structs) fs))
+      ≡ map shell (map (code_function arith) (map (lowered_function interface_fitting comp structs) fs))
   functions_alike comp structs [] = refl
   functions_alike comp structs (f ∷ fs) = λ i. shell (tree_function structs f) ∷ functions_alike comp structs fs i
 
   sections_alike : (k : ℕ) (sections : List TypedSection) →
-      map (map shell) (map (functions_in arith faces.main) sections)
-      ≡ map (map shell) (map (code_functions arith) (lowered_sections faces k sections))
+      map (map shell) (map (functions_in arith interface_fitting.main) sections)
+      ≡ map (map shell) (map (code_functions arith) (lowered_sections interface_fitting k sections))
   sections_alike k [] = refl
   sections_alike k (x ∷ xs) = λ i. functions_alike k x.structs x.functions i ∷ sections_alike (suc k) xs i
 
   alike : hollow L ≡ hollow M
   alike = λ i. record {
-    interfaces = faces;
+    interfaces = interface_fitting;
     functions = sections_alike 0 program.sections i;
     entered = λ comp entry. entered_same program typed comp entry i;
   }
@@ -128,17 +128,17 @@ module _ (arith : Arith) (program : ProgramTree) (typed : is_well_typed program 
   module _ (comp : ℕ) (section : TypedSection) (is : slice_get program.sections comp ≡ Some section) where
     tree_at : (n : ℕ) → function L comp n ≡ option_map (tree_function section.structs) (slice_get section.functions n)
     tree_at n =
-        ap (λ fs. slice_get fs n) (index_map (functions_in arith faces.main) program.sections comp section is)
+        ap (λ fs. slice_get fs n) (index_map (functions_in arith interface_fitting.main) program.sections comp section is)
         ∙ slice_get-map (tree_function section.structs) section.functions n
 
     code_at : (n : ℕ) →
-        function M comp n ≡ option_map (code_function arith) (option_map (lowered_function faces comp section.structs)
+        function M comp n ≡ option_map (code_function arith) (option_map (lowered_function interface_fitting comp section.structs)
         (slice_get section.functions n))
     code_at n =
-        ap (λ fs. slice_get fs n) (index_map (code_functions arith) lowered comp (lowered_section faces comp section)
-        (first_at faces program.sections comp ∙ ap (option_map (lowered_section faces comp)) is))
-        ∙ slice_get-map (code_function arith) (map (lowered_function faces comp section.structs) section.functions) n
-        ∙ ap (option_map (code_function arith)) (slice_get-map (lowered_function faces comp section.structs)
+        ap (λ fs. slice_get fs n) (index_map (code_functions arith) lowered comp (lowered_section interface_fitting comp section)
+        (first_at interface_fitting program.sections comp ∙ ap (option_map (lowered_section interface_fitting comp)) is))
+        ∙ slice_get-map (code_function arith) (map (lowered_function interface_fitting comp section.structs) section.functions) n
+        ∙ ap (option_map (code_function arith)) (slice_get-map (lowered_function interface_fitting comp section.structs)
         section.functions n)
 
     section_both : (n : ℕ) → Both comp n
@@ -147,7 +147,7 @@ module _ (arith : Arith) (program : ProgramTree) (typed : is_well_typed program 
       by None item =
           Nowhere (tree_at n ∙ ap (option_map (tree_function section.structs)) item)
           (code_at n ∙ ap (λ o. option_map (code_function arith)
-          (option_map (lowered_function faces comp section.structs) o)) item)
+          (option_map (lowered_function interface_fitting comp section.structs) o)) item)
       by (Some f) item = Somewhere (record {
         section = section;
         is = is;
@@ -156,16 +156,16 @@ module _ (arith : Arith) (program : ProgramTree) (typed : is_well_typed program 
         tree = tree_at n ∙ ap (option_map (tree_function section.structs)) item;
         code =
             code_at n ∙ ap (λ o. option_map (code_function arith)
-            (option_map (lowered_function faces comp section.structs) o)) item;
+            (option_map (lowered_function interface_fitting comp section.structs) o)) item;
       })
 
   both_at : (comp n : ℕ) → Both comp n
   both_at comp n = by (slice_get program.sections comp) refl where
     by : (o : Option TypedSection) → slice_get program.sections comp ≡ o → Both comp n
     by None is =
-        Nowhere (ap (λ fs. slice_get fs n) (no_functions (functions_in arith faces.main) program.sections comp is))
+        Nowhere (ap (λ fs. slice_get fs n) (no_functions (functions_in arith interface_fitting.main) program.sections comp is))
         (ap (λ fs. slice_get fs n) (no_functions (code_functions arith) lowered comp
-        (first_at faces program.sections comp ∙ ap (option_map (lowered_section faces comp)) is)))
+        (first_at interface_fitting program.sections comp ∙ ap (option_map (lowered_section interface_fitting comp)) is)))
     by (Some section) is = section_both comp section is n
 
   -- BODIES
@@ -181,11 +181,11 @@ module _ (arith : Arith) (program : ProgramTree) (typed : is_well_typed program 
     module _ (body other : Body) (bodies : BodiesAgree body other) (gives : Gives body) (comp : ℕ)
         (section : TypedSection) (is : slice_get program.sections comp ≡ Some section) (plain : scripted comp
         ≡ false) where
-      place : ForSection faces faces.comps comp section
-      place = for_section faces 0 faces.comps program.sections (sections_so program typed) comp section is
+      place : ForSection interface_fitting interface_fitting.comps comp section
+      place = for_section interface_fitting 0 interface_fitting.comps program.sections (sections_so program typed) comp section is
 
       abbrev callable : Callable
-      callable = callable_in faces place.interface section
+      callable = callable_in interface_fitting place.interface section
 
       own_answers : (n : ℕ) (args : List Value) (s : State) →
           Lasting (λ v. answers (promises (target_signature callable (Own n))) v ≡ true)
@@ -203,14 +203,14 @@ module _ (arith : Arith) (program : ProgramTree) (typed : is_well_typed program 
                 lasting_then (λ v. answers (is_some f.result) v ≡ true) (found (function L comp n) s)
                 (λ g s. and_then (body n (record { comp = comp; first = length (s.memory comp) }) (begun comp g args s))
                 (λ v t. back_own v (done comp g (length (s.memory comp)) t))) (λ g s.
-                behind (λ v. answers (is_some f.result) v ≡ true)
+                following (λ v. answers (is_some f.result) v ≡ true)
                 (body n (record { comp = comp; first = length (s.memory comp) }) (begun comp g args s))
                 (λ v t. done comp g (length (s.memory comp)) t) (gives comp n section f is item plain
                 (length (s.memory comp)) (begun comp g args s)))) where
-                  behind : (G : Option Value → Type 0) (o : Piece (Option Value)) (k : Option Value → State → State) →
+                  following : (G : Option Value → Type 0) (o : Piece (Option Value)) (k : Option Value → State → State) →
                       Lasting G o → Lasting G (and_then o (λ v t. Reached v (k v t)))
-                  behind G (Reached v s) k h = h
-                  behind G (Stopped end s) k h = tt
+                  following G (Reached v s) k h = h
+                  following G (Stopped end s) k h = tt
 
       called_answers : (to : CallTarget) (args : List Value) (s : State) →
           Lasting (λ v. answers (promises (target_signature callable to)) v ≡ true) (called L body comp to args s)
@@ -218,11 +218,11 @@ module _ (arith : Arith) (program : ProgramTree) (typed : is_well_typed program 
       called_answers (Cross to index) args s =
           let b = list_any (same_import (import.Function to index)) place.interface.imports in
           let G : Option Value → Type 0 =
-          λ v. answers (promises (allowed b (option_signature proto_signature (export_at faces to index)))) v ≡ true in
+          λ v. answers (promises (allowed b (option_signature proto_signature (export_at interface_fitting to index)))) v ≡ true in
           lasting_then G (turn s) (λ _ s. call_cross L body comp to index args s) (λ _ s.
           lasting_then G (found (L.entered to (Export index)) s) _ (λ n s.
           lasting_then G (found (function L to n) _) _ (λ g s.
-          lasting_then G (body n _ _) _ (λ v t. crossing_answers b (export_at faces to index) v))))
+          lasting_then G (body n _ _) _ (λ v t. crossing_answers b (export_at interface_fitting to index) v))))
       called_answers Input args s = some_answers (promises (target_signature callable Input)) _ refl
       called_answers Output args s = output_answers (list_any (same_import import.Output) place.interface.imports)
 
@@ -273,8 +273,8 @@ module _ (arith : Arith) (program : ProgramTree) (typed : is_well_typed program 
           let code : Piece (Left Temps) =
           code_does arith here (calls M other) (body_code section.structs f 0).code no_temps s in
           subst (λ m. BackMatches (is_some f.result) ((tree_function section.structs f).does (calls L body) here s)
-          (and_then code (λ left s. closed left.exit (is_some f.result) m 0 here s))) (sym (main_is faces comp f.name))
-          (close_matches (is_some f.result) (comp == faces.main && bytes_eq f.name main_name) f.close_line here
+          (and_then code (λ left s. closed left.exit (is_some f.result) m 0 here s))) (sym (main_is interface_fitting comp f.name))
+          (close_matches (is_some f.result) (comp == interface_fitting.main && bytes_eq f.name main_name) f.close_line here
           (body_does arith section.structs here (length f.params) (calls L body) f tt s) code
           (body_matches arith section.structs here (scope_of section f) callable (calls L body) (calls M other) f
           (calls_match first section.structs f) (function_locals f (function_so n f item))
@@ -342,22 +342,22 @@ module _ (arith : Arith) (program : ProgramTree) (typed : is_well_typed program 
     globals_same : globals_of program.sections ≡ code_globals lowered
     globals_same =
         λ i comp. (by comp (slice_get program.sections comp)
-        ∙ sym (ap code_blocks (first_at faces program.sections comp))) i where
+        ∙ sym (ap code_blocks (first_at interface_fitting program.sections comp))) i where
           by : (comp : ℕ) (o : Option TypedSection) →
-              first_blocks o ≡ code_blocks (option_map (lowered_section faces comp) o)
+              first_blocks o ≡ code_blocks (option_map (lowered_section interface_fitting comp) o)
           by comp None = refl
           by comp (Some section) = refl
 
     start_found : (o p : Option ℕ) (turns : ℕ) (s : State) → o ≡ p →
-        PiecesAgree (and_then (found o s) (λ number s. call_own L (within tree_step (suc turns)) faces.main number []
+        PiecesAgree (and_then (found o s) (λ number s. call_own L (within tree_step (suc turns)) interface_fitting.main number []
         s))
-        (and_then (found p s) (λ number s. call_own M (within code_step (suc turns)) faces.main number [] s))
+        (and_then (found p s) (λ number s. call_own M (within code_step (suc turns)) interface_fitting.main number [] s))
     start_found o p turns s is =
-        subst (λ p. PiecesAgree (and_then (found o s) (λ number s. call_own L (within tree_step (suc turns)) faces.main
-        number [] s)) (and_then (found p s) (λ number s. call_own M (within code_step (suc turns)) faces.main number []
+        subst (λ p. PiecesAgree (and_then (found o s) (λ number s. call_own L (within tree_step (suc turns)) interface_fitting.main
+        number [] s)) (and_then (found p s) (λ number s. call_own M (within code_step (suc turns)) interface_fitting.main number []
         s))) is
         (then_agree _ _ _ _ (itself (found o s)) (λ number s. own_alike L M alike (within tree_step (suc turns))
-        (within code_step (suc turns)) (within_both (suc turns)).agree faces.main number [] s))
+        (within code_step (suc turns)) (within_both (suc turns)).agree interface_fitting.main number [] s))
 
     runs_alike : (inputs : List ℕ) (turns : ℕ) →
         RunsAgree (run_by L tree_step (globals_of program.sections) inputs turns)
@@ -365,8 +365,8 @@ module _ (arith : Arith) (program : ProgramTree) (typed : is_well_typed program 
     runs_alike inputs turns =
         subst (λ globals. RunsAgree (run_by L tree_step (globals_of program.sections) inputs turns)
         (run_by M code_step globals inputs turns)) globals_same
-        (run_agree faces.main _ _ (start_found (L.entered faces.main Main) (M.entered faces.main Main) turns
-        (first_state (globals_of program.sections) inputs turns) (entered_same program typed faces.main Main)))
+        (run_agree interface_fitting.main _ _ (start_found (L.entered interface_fitting.main Main) (M.entered interface_fitting.main Main) turns
+        (first_state (globals_of program.sections) inputs turns) (entered_same program typed interface_fitting.main Main)))
 
   abbrev nobody : Roles
   nobody = record { scripted = λ comp. false; rows = λ comp. [] }
@@ -378,7 +378,7 @@ module _ (arith : Arith) (program : ProgramTree) (typed : is_well_typed program 
   scripted_kept : (inputs : List ℕ) (turns : ℕ) (set : ℕ → Bool) (trace : List Event) →
       RunsAgree (scripted_run_of arith program inputs turns set trace)
       (scripted_code_run arith (lowered_program program) inputs turns set trace)
-  scripted_kept inputs turns set trace = runs_alike (roles_in faces.main set trace) inputs turns
+  scripted_kept inputs turns set trace = runs_alike (roles_in interface_fitting.main set trace) inputs turns
 
 pub keeps_meaning : KeepsMeaning
 keeps_meaning = record {

@@ -41,8 +41,8 @@ lowered_step e = record { ty = e.ty; form = e.kind e.ty }
 
 -- SHAPES
 -- a statement that assigns a temporary and reads none
-abbrev pub alone : (ℕ → TacStmt) → Lows
-alone make n = record { code = make n ∷ []; at = n; next = suc n }
+abbrev pub lone : (ℕ → TacStmt) → Lows
+lone make n = record { code = make n ∷ []; at = n; next = suc n }
 
 -- a value, and then a statement that computes from it; its temporary takes the result
 abbrev pub from_one : Lows → (ℕ → ℕ → TacStmt) → Lows
@@ -158,8 +158,8 @@ module _ (structs : List TypedStruct) where
   module _ (params : ℕ) where
     -- the code of an expression of this type, from that of its parts
     abbrev pub term_step : TypedKind-F (Ty → Forms) Lowered → Ty → Forms
-    term_step (term.Literal word) ty = no_place (alone (λ dest. Const dest (constant_of ty word)))
-    term_step (term.Variable v) ty = at_place ty (alone (place_code params v))
+    term_step (term.Literal word) ty = no_place (lone (λ dest. Const dest (constant_of ty word)))
+    term_step (term.Variable v) ty = at_place ty (lone (place_code params v))
     term_step (term.Unary o a) ty =
         no_place (from_one (a.form want.Value) (λ dest x. Op dest (unary_op o a.ty) x None))
     term_step (term.Binary o a b) ty = no_place (binary o a b)

@@ -1,6 +1,6 @@
 -- What lowering keeps.
 use Rattle.sc_lower.specs.Common.{Arith, Entry, IsFunction, IsProgram, IsWellTyped, ProgramTree, Roles, TypedFunction}
-use Rattle.sc_lower.specs.Common.{TypedSection, code_depth_by, code_library, code_run, depth_by, library_of, run_of}
+use Rattle.sc_lower.specs.Common.{TypedSection, code_depth_by, code_denotations, code_run, depth_by, denotations_of, run_of}
 use Rattle.sc_lower.specs.Common.{run_step, scripted_code_depth_by, scripted_code_run, scripted_depth_by}
 use Rattle.sc_lower.specs.Common.{scripted_run_of, scripted_step, within}
 use Rattle.sc_laws.specs.Prelude.{BodiesAgree, RunsAgree}
@@ -29,10 +29,10 @@ pub record KeepsMeaning : Type 0 where
       ≡ scripted_code_depth_by arith (lowered_program program) set trace inputs turns events comp
   -- entries lead to the same functions, and these do the same, whoever performs and however many calls may be open
   pub entered : (arith : Arith) (program : ProgramTree) → IsWellTyped program → (comp : ℕ) (entry : Entry) →
-      (library_of arith program).entered comp entry ≡ (code_library arith (lowered_program program)).entered comp entry
+      (denotations_of arith program).entered comp entry ≡ (code_denotations arith (lowered_program program)).entered comp entry
   pub bodies : (arith : Arith) (program : ProgramTree) → IsWellTyped program → (roles : Roles) (open_calls : ℕ) →
-      let tree = library_of arith program in
-      let code = code_library arith (lowered_program program) in
+      let tree = denotations_of arith program in
+      let code = code_denotations arith (lowered_program program) in
       BodiesAgree (within (scripted_step tree roles (run_step tree)) open_calls)
       (within (scripted_step code roles (run_step code)) open_calls)
 

@@ -11,14 +11,14 @@ use Rattle.sc_event.specs.declared.row.Entry.TheVariants.{Main, Export}
 use Rattle.sc_tac.specs.declared.function.TacFnTree.{TacFnTree}
 use Rattle.sc_tac.specs.declared.program.TacSection.{TacSection}
 use Rattle.sc_tac.specs.declared.program.TacTree.{TacTree}
-use Rattle.sc_lower.specs.Expressions.{alone, at_place, place_code, forms}
+use Rattle.sc_lower.specs.Expressions.{lone, at_place, place_code, forms}
 use Rattle.sc_lower.specs.Statements.{Parts, just, both, in_turn, assign, block_code}
 
 module _ (structs : List TypedStruct) (params : ℕ) where
   -- a local's initialiser is an assignment (C11 6.7.9p11)
   abbrev pub init_code : ℕ → TypedLocal → Option TypedExpr → Parts
   init_code k local None = just []
-  init_code k local (Some e) = assign (at_place local.ty (alone (place_code params (Local k)))) (forms structs params e)
+  init_code k local (Some e) = assign (at_place local.ty (lone (place_code params (Local k)))) (forms structs params e)
 
   abbrev pub inits_code : ℕ → List TypedLocal → List Parts
   inits_code k [] = []

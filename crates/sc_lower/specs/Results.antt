@@ -21,7 +21,7 @@ pub record IsOperands (types : Ty × Ty) (a b : Lowered) (left right : Code) (fr
   pub first : types.0 ≡ a.ty
   pub second : types.1 ≡ b.ty
   pub before : left ≡ code_of (a.form want.Value free)
-  pub behind : right ≡ code_of (b.form want.Value left.next)
+  pub following : right ≡ code_of (b.form want.Value left.next)
 
 abbrev pub fragment_of : Part → Fragment
 fragment_of part = record { stmts = part.code; next = part.next }

@@ -65,8 +65,8 @@ call_code target.Input dest args = Input dest
 call_code target.Output dest args = Output (first_of args)
 
 -- the arguments, and then a call whose result is dropped
-abbrev pub call_alone : CallTarget → List Forms → Parts
-call_alone to args n = let x = many args n in
+abbrev pub call_statement : CallTarget → List Forms → Parts
+call_statement to args n = let x = many args n in
     record { code = x.code ++ call_code to None x.at ∷ []; next = x.next }
 
 -- the arguments, then a call, then what is made of its result
@@ -97,7 +97,7 @@ module _ (structs : List TypedStruct) (params : ℕ) where
   abbrev pub simple_code : TypedSimpleKind → Parts
   simple_code (simple.Assign place value) = assign (forms structs params place) (forms structs params value)
   simple_code (simple.AssignCall place c) = call_for c.target (args c) (store_at (forms structs params place))
-  simple_code (simple.Call c) = call_alone c.target (args c)
+  simple_code (simple.Call c) = call_statement c.target (args c)
 
   -- a part in the head of a `for`, if it is there
   abbrev pub part_code : Option TypedSimple → Parts
@@ -109,7 +109,7 @@ module _ (structs : List TypedStruct) (params : ℕ) where
   kind_step layer.Empty = just []
   kind_step (layer.Assign place value) = assign (forms structs params place) (forms structs params value)
   kind_step (layer.AssignCall place c) = call_for c.target (args c) (store_at (forms structs params place))
-  kind_step (layer.Call c) = call_alone c.target (args c)
+  kind_step (layer.Call c) = call_statement c.target (args c)
   kind_step (layer.If cond first second) =
       after (forms structs params cond want.Value) (fork (in_turn first) (in_turn second))
   kind_step (layer.While cond body) = cycle (test (forms structs params cond)) (in_turn body) (just [])

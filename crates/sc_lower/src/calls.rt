@@ -1,6 +1,6 @@
 //! Calls (C11 6.5.2.2): arguments from left to right, then the call.
 
-ghost use Rattle.sc_lower.specs.Prelude.{args, call_alone, call_beyond, call_code, call_for, call_nodes, expr_beyond};
+ghost use Rattle.sc_lower.specs.Prelude.{args, call_statement, call_beyond, call_code, call_for, call_nodes, expr_beyond};
 ghost use Rattle.sc_lower.specs.Prelude.{expr_nodes, first_of, forms, fragment_of, many, most_nodes, return_value};
 ghost use Rattle.sc_lower.specs.Prelude.{store_at, total, values_of};
 ghost use Rattle.std.specs.Prelude.{◌≡◌, ◌≤◌, ◌+◌, ◌++◌, ◌∷◌, [], suc, map, None, Some, IfOk};
@@ -102,7 +102,7 @@ pub fn lower_call(
     requires fits { free + call_nodes call.now ≤ most_nodes }
     requires near { call_beyond call.now ≡ 0 }
     ensures made { IfOk result (λ fragment. fragment ≡
-        fragment_of (call_alone call.now.target (args scope.now.structs.now scope.now.params call.now) free)) }
+        fragment_of (call_statement call.now.target (args scope.now.structs.now scope.now.params call.now) free)) }
     ensures few { IfOk result (λ fragment. fragment.next ≤ free + call_nodes call.now) }
 {
     let values = lower_args(alloc, scope, call.args.as_slice(), free)?;

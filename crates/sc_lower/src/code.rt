@@ -32,7 +32,7 @@ pub struct Fragment {
 }
 
 /// A statement that assigns the temporary `free`.
-pub fn alone(alloc: Global, stmt: TacStmt, free: u32) -> Result<Code, OutOfMemory>
+pub fn lone(alloc: Global, stmt: TacStmt, free: u32) -> Result<Code, OutOfMemory>
     requires { free < most_nodes }
     ensures { IfOk result (λ code. code ≡ record { stmts = stmt ∷ []; at = free; next = suc free }) }
 {
@@ -63,7 +63,7 @@ pub fn with_last(code: Code, last: TacStmt) -> Result<Code, OutOfMemory>
 }
 
 /// The code after other statements.
-pub fn behind(first: TacStmts, code: Code) -> Result<Code, OutOfMemory>
+pub fn following(first: TacStmts, code: Code) -> Result<Code, OutOfMemory>
     ensures { IfOk result (λ longer. longer ≡ record { stmts = first ++ code.stmts; at = code.at; next = code.next }) }
 {
     let mut stmts = first;

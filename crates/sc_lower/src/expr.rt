@@ -7,7 +7,7 @@ ghost use Rattle.std.specs.Prelude.{◌≡◌, ◌≤◌, ◌<◌, ◌+◌, ℕ,
 ghost use Rattle.sc_base.specs.declared.op.BinaryOp.TheVariants as op;
 ghost use Rattle.sc_tac.specs.declared.stmt.TacStmt;
 
-use crate::code::{Code, Fragment, Scope, alone, behind, ended, loaded, with_last};
+use crate::code::{Code, Fragment, Scope, lone, following, ended, loaded, with_last};
 use crate::selection::{binary_code, constant_of, move_op, place_code, unary_op, with_truth};
 use sc_base::{BinaryOp, OutOfMemory};
 use sc_core::{Ty, TypedExpr, TypedKind, VarRef, Want};
@@ -27,7 +27,7 @@ fn literal(alloc: Global, ty: Ty, word: u32, free: u32) -> Result<Code, OutOfMem
         dest: free,
         value: constant_of(ty, word),
     };
-    alone(alloc, stmt, free)
+    lone(alloc, stmt, free)
 }
 
 // An operator that takes one value. The value's temporary takes the result.
@@ -63,7 +63,7 @@ fn element(scope: &Scope, types: (Ty, Ty), base: Code, index: Code) -> Result<Co
         right: Some(index.at),
     };
     let code = with_last(index, last)?;
-    behind(base.stmts, code)
+    following(base.stmts, code)
 }
 
 // The second value counts where the first is true, else the result is 0.
@@ -141,7 +141,7 @@ fn plain(
 {
     let last = binary_code(scope.structs, op, types, right.at, left.at, right.at);
     let code = with_last(right, last)?;
-    behind(left.stmts, code)
+    following(left.stmts, code)
 }
 
 // An operator between operands of these types.
@@ -182,7 +182,7 @@ pub fn lower_expr(
     match &expr.kind {
         TypedKind::Literal { value } => literal(alloc, expr.ty, *value, free),
         TypedKind::Variable(variable) => {
-            let place = alone(alloc, place_code(scope.params, *variable, free), free)?;
+            let place = lone(alloc, place_code(scope.params, *variable, free), free)?;
             loaded(place, expr.ty, want)
         }
         TypedKind::Unary { op, of } => {

@@ -11,7 +11,7 @@ ghost use Rattle.std.specs.Option.{option_copied};
 ghost use Rattle.sc_event.specs.declared.interface.Proto.{Proto};
 ghost use Rattle.sc_core.specs.declared.section.TypedParam.{TypedParam};
 
-use crate::code::{Fragment, Scope, after, alone, ended, nothing};
+use crate::code::{Fragment, Scope, after, lone, ended, nothing};
 use crate::expr::lower_expr;
 use crate::nodes::function_nodes;
 use crate::selection::place_code;
@@ -42,7 +42,7 @@ fn lower_init(
         Some(value) => {
             let code = lower_expr(alloc, scope, Want::Value, value, free)?;
             let variable = place_code(scope.params, VarRef::Local(number), code.next);
-            let place = alone(alloc, variable, code.next)?;
+            let place = lone(alloc, variable, code.next)?;
             let last = TacStmt::Store {
                 place: place.at,
                 value: code.at,

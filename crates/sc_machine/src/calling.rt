@@ -127,7 +127,7 @@ fn call(here: &Here<'_>, hart: &mut Hart, callee: &Callee)
     let sp = hart.core.registers[SP];
     let saved = hart.saved[callee.comp.number() as usize];
     let args = arguments(*hart.trace.allocator(), &hart.core, callee.params);
-    hart.show(Event::Call {
+    hart.emit(Event::Call {
         from: caller,
         to: callee.comp,
         index: callee.index,

@@ -45,7 +45,7 @@ fn output(here: &Here<'_>, hart: &mut Hart)
     ensures state { (memory : Memory) → Goes (state_in memory hart.new) ≡ next (output (state_in memory hart.old)) }
     ensures stays { StaysSound here.now.image hart.old hart.new }
 {
-    hart.show(Event::Out {
+    hart.emit(Event::Out {
         comp: here.comp(),
         value: hart.core.registers[A0],
     });
@@ -73,7 +73,7 @@ fn input(here: &Here<'_>, inputs: &[i32], hart: &mut Hart)
     let word = input_at(inputs, hart.input);
     hart.core.registers[A0] = word;
     hart.input += 1;
-    hart.show(Event::In {
+    hart.emit(Event::In {
         comp: here.comp(),
         value: word,
     });

@@ -95,7 +95,7 @@ pub(crate) struct Hart {
 
 impl Hart {
     /// Adds an event, for which there is room.
-    pub fn show(&mut self, event: Event)
+    pub fn emit(&mut self, event: Event)
         requires { length self.old.trace.items < vec_capacity self.old.trace }
         ensures trace { self.new.trace.items ≡ self.old.trace.items ++ event ∷ [] }
         ensures room { vec_capacity self.old.trace ≤ vec_capacity self.new.trace }

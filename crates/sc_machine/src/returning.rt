@@ -20,7 +20,7 @@ pub(crate) fn leave(here: &Here<'_>, hart: &mut Hart)
 {
     let leaving = here.comp();
     let Some(call) = hart.cross.ret() else {
-        hart.show(Event::End {
+        hart.emit(Event::End {
             comp: leaving,
             value: hart.core.registers[A0],
         });
@@ -28,7 +28,7 @@ pub(crate) fn leave(here: &Here<'_>, hart: &mut Hart)
     };
     let has_result = has_result(here.image(), call.callee, call.entry);
     let value = given_back(&hart.core, has_result);
-    hart.show(Event::Ret {
+    hart.emit(Event::Ret {
         from: leaving,
         to: call.caller,
         value,

@@ -6,7 +6,7 @@ use Rattle.sc_made.proofs.Shapes.{AreMade}
 use Rattle.sc_made.proofs.Small.{are_small}
 use Rattle.sc_made.proofs.Types.{types_hold}
 use Rattle.sc_made.proofs.Undone.{undone}
-use Rattle.sc_made.proofs.WorkerFaces.{interfaces_hold}
+use Rattle.sc_made.proofs.WorkerRules.{interfaces_hold}
 
 pub made_trees_are_typed : MadeTreesAreTyped
 made_trees_are_typed size seed asked sections same =

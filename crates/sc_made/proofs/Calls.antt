@@ -134,8 +134,8 @@ end_line = subst (IsLine (stmt_at 0 (return_kind (literal 0)))) zero_text (retur
     (even_literal (literal_number 0) refl))
 
 -- a text of four parts, and what follows it
-pub two_behind : (a m b r more : List ℕ) → (a ++ (m ++ (b ++ r))) ++ more ≡ a ++ (m ++ (b ++ (r ++ more)))
-two_behind a m b r more = append_assoc a (m ++ (b ++ r)) more ∙ ap (λ t. a ++ t)
+pub four_parts : (a m b r more : List ℕ) → (a ++ (m ++ (b ++ r))) ++ more ≡ a ++ (m ++ (b ++ (r ++ more)))
+four_parts a m b r more = append_assoc a (m ++ (b ++ r)) more ∙ ap (λ t. a ++ t)
     (append_assoc m (b ++ r) more ∙ ap (λ t. m ++ t) (append_assoc b r more))
 
 -- the statements of `main` from these functions on
@@ -149,9 +149,9 @@ calls_are seed (j ∷ js) low =
     let d : List ℕ = decimal (argument seed j) in
     let text : codes "  r = f" ++ ((decimal j ++ (codes "(" ++ (d ++ codes ");\n"))) ++
     (codes "  output(r);\n" ++ rest)) ≡ (call_text seed j ++ texts) ++ codes "  return 0;\n" =
-    ap (λ t. codes "  r = f" ++ t) (two_behind (decimal j) (codes "(") d (codes ");\n")
+    ap (λ t. codes "  r = f" ++ t) (four_parts (decimal j) (codes "(") d (codes ");\n")
     (codes "  output(r);\n" ++ rest) ∙
-    sym (two_behind (decimal j) (codes "(") d (codes ");\n  output(r);\n") rest)) ∙
+    sym (four_parts (decimal j) (codes "(") d (codes ");\n  output(r);\n") rest)) ∙
     sym (append_assoc (call_text seed j) texts (codes "  return 0;\n")) in
     subst (AreLines (flat_map (calls_tree seed) (j ∷ js) ++ stmt_at 0 (return_kind (literal 0)) ∷ [])) text
     (more_lines (call_line seed j low.0) (more_lines output_line (calls_are seed js low.1)))

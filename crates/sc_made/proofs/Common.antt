@@ -67,7 +67,7 @@ pub use Rattle.sc_elab.specs.Prelude.{type_of, typed_function, typed_global, typ
 pub use Rattle.sc_types.proofs.TypedNodes.{function-nodes, section-nodes}
 pub use Rattle.sc_types.specs.Prelude.{counts_broken, function_nodes, global_lines, head_lines, section_nodes}
 pub use Rattle.sc_types.specs.Prelude.{stmt_nodes, structs_from}
-pub use Rattle.sc_reread.proofs.Headless.{Closed, Closing, Headless, behind_closing, closed_append, export_headless}
+pub use Rattle.sc_reread.proofs.Headless.{Closed, Closing, Headless, after_closing, closed_append, export_headless}
 pub use Rattle.sc_reread.proofs.Headless.{headed, headed_text, import_headless, name_plain, plain, plain_append}
 pub use Rattle.sc_reread.proofs.Headless.{plain_headless, plain_then, tidy_plain}
 pub use Rattle.sc_reread.proofs.Nesting.{Even, Nested, even_binary, even_equal, even_ident, even_keyword, even_literal}
@@ -77,7 +77,7 @@ pub use Rattle.sc_reread.proofs.Nesting.{nested_parens, nested_square}
 pub use Rattle.sc_reread.proofs.Performing.{even_export, even_heading, even_import}
 pub use Rattle.sc_reread.proofs.Splitting.{IsText, Joined, bytes_of}
 pub use Rattle.sc_performers.proofs.CountsKept.{all_none, none_beyond}
-pub use Rattle.sc_performers.proofs.Distinct.{among_back, among_front, is_false, not_both, not_from}
+pub use Rattle.sc_performers.proofs.Distinct.{among_back, among_prefix, is_false, not_both, not_from}
 pub use Rattle.sc_performers.proofs.Uses.{IsAmong, first, is_first_or_later, later, none_among}
 pub use Rattle.sc_made.specs.Laws.{AreSame, AreSmall, IsAsked, IsReadAs, IsSmall, MadeTextsAreAccepted}
 pub use Rattle.sc_made.specs.Laws.{MadeTextsAreRead, MadeTreesAreTyped}

@@ -38,25 +38,25 @@ protos_heads [] = refl
 protos_heads (h ∷ heads) = ap (λ x. h ∷ x) (protos_heads heads)
 
 module _ (more : List Decl) where
-  pub behind_structs : (heads : List HeadTree) → structs_in (map decl.Proto heads ++ more) ≡ structs_in more
-  behind_structs [] = refl
-  behind_structs (h ∷ heads) = behind_structs heads
+  pub after_structs : (heads : List HeadTree) → structs_in (map decl.Proto heads ++ more) ≡ structs_in more
+  after_structs [] = refl
+  after_structs (h ∷ heads) = after_structs heads
 
-  pub behind_globals : (heads : List HeadTree) → globals_in (map decl.Proto heads ++ more) ≡ globals_in more
-  behind_globals [] = refl
-  behind_globals (h ∷ heads) = behind_globals heads
+  pub after_globals : (heads : List HeadTree) → globals_in (map decl.Proto heads ++ more) ≡ globals_in more
+  after_globals [] = refl
+  after_globals (h ∷ heads) = after_globals heads
 
-  pub behind_functions : (heads : List HeadTree) → functions_in (map decl.Proto heads ++ more) ≡ functions_in more
-  behind_functions [] = refl
-  behind_functions (h ∷ heads) = behind_functions heads
+  pub after_functions : (heads : List HeadTree) → functions_in (map decl.Proto heads ++ more) ≡ functions_in more
+  after_functions [] = refl
+  after_functions (h ∷ heads) = after_functions heads
 
-  pub behind_protos : (heads : List HeadTree) → protos_in (map decl.Proto heads ++ more) ≡ heads ++ protos_in more
-  behind_protos [] = refl
-  behind_protos (h ∷ heads) = ap (λ x. h ∷ x) (behind_protos heads)
+  pub after_protos : (heads : List HeadTree) → protos_in (map decl.Proto heads ++ more) ≡ heads ++ protos_in more
+  after_protos [] = refl
+  after_protos (h ∷ heads) = ap (λ x. h ∷ x) (after_protos heads)
 
-  pub behind_heads : (heads : List HeadTree) → heads_in (map decl.Proto heads ++ more) ≡ heads ++ heads_in more
-  behind_heads [] = refl
-  behind_heads (h ∷ heads) = ap (λ x. h ∷ x) (behind_heads heads)
+  pub after_heads : (heads : List HeadTree) → heads_in (map decl.Proto heads ++ more) ≡ heads ++ heads_in more
+  after_heads [] = refl
+  after_heads (h ∷ heads) = ap (λ x. h ∷ x) (after_heads heads)
 
 -- Only functions.
 

@@ -87,9 +87,9 @@ pub more_decls : {d : Decl} {decls : List Decl} {text more : List ℕ} → IsDec
 more_decls {d} {decls} {text} {more} one others = record {
   pieces = one.pieces ++ others.pieces;
   read = reads (part one.pieces ∷ part others.pieces ∷ []) (λ ts. AllAlike SpellsDecl lineless_decl ts (d ∷ decls))
-      (λ front said back behind.
-      let first = one.read front said in
-      let rest = others.read back behind in
+      (λ prefix said back following.
+      let first = one.read prefix said in
+      let rest = others.read back following in
       record {
         others = first.other ∷ rest.others;
         spelled = lists.next first.spelled rest.spelled;

@@ -15,7 +15,7 @@ pub record AreDirectives (all_kept : Bool) (pieces : List Piece) (text : List �
   pub kept : all_kept ≡ true
   pub spelled : text_of pieces ≡ text
   pub nested : Nested 0 pieces
-  pub headless : (behind : List ℕ) → Headless behind → Headless (text ++ behind)
+  pub headless : (following : List ℕ) → Headless following → Headless (text ++ following)
 
 abbrev pub ExportsWritten : List ExportLine → List ℕ → Type 0
 ExportsWritten lines text = AreDirectives (list_all kept_export lines) (flat_map export_words lines) text
@@ -27,7 +27,7 @@ abbrev pub AreLow : List ℕ → Type 0
 AreLow js = AllByRecursion (λ j. j < 1000) js
 
 pub no_directives : AreDirectives true [] []
-no_directives = record { kept = refl; spelled = refl; nested = nested_none; headless = λ behind h. h }
+no_directives = record { kept = refl; spelled = refl; nested = nested_none; headless = λ following h. h }
 
 pub exports_are : (js : List ℕ) → AreLow js → ExportsWritten (map (λ j. export_at j 0) js) (flat_map export_text js)
 unfolding export_words
@@ -43,9 +43,9 @@ exports_are (j ∷ js) low =
       spelled = ap (λ t. codes "#pragma export " ++ (name ++ 10 ∷ t)) rest.spelled ∙
           ap (λ t. codes "#pragma export " ++ t) (sym (append_assoc name (codes "\n") texts));
       nested = nested_even (even_export name named) (nested_line rest.nested);
-      headless = λ behind h. subst Headless (sym (append_assoc (export_text j) texts behind))
-          (export_headless (line ++ (texts ++ behind)) (plain_then line (texts ++ behind)
-          (plain_append name (codes "\n") (name_plain name named) refl) (rest.headless behind h)));
+      headless = λ following h. subst Headless (sym (append_assoc (export_text j) texts following))
+          (export_headless (line ++ (texts ++ following)) (plain_then line (texts ++ following)
+          (plain_append name (codes "\n") (name_plain name named) refl) (rest.headless following h)));
     }
 
 -- an import line before others
@@ -53,10 +53,10 @@ module _ (comp name : List ℕ) (owner : is_name comp ≡ true) (named : is_name
   abbrev first : ImportLine
   first = record { comp = comp; name = name; line = 0 }
 
-  abbrev behind_mark : List ℕ
-  behind_mark = comp ++ (codes " " ++ (name ++ codes "\n"))
+  abbrev after_mark : List ℕ
+  after_mark = comp ++ (codes " " ++ (name ++ codes "\n"))
 
-  first_spelled : text_of (import_words first) ≡ codes "#pragma import " ++ behind_mark
+  first_spelled : text_of (import_words first) ≡ codes "#pragma import " ++ after_mark
   unfolding import_words
   first_spelled = ap (λ t. codes "#pragma import " ++ t)
       (append_assoc (comp ++ codes " ") name (codes "\n") ∙ append_assoc comp (codes " ") (name ++ codes "\n"))
@@ -66,18 +66,18 @@ module _ (comp name : List ℕ) (owner : is_name comp ≡ true) (named : is_name
   first_nested = nested_even (even_import comp name owner named) (nested_line nested_none)
 
   more_imports : (lines : List ImportLine) (text : List ℕ) → ImportsWritten lines text →
-      ImportsWritten (first ∷ lines) ((codes "#pragma import " ++ behind_mark) ++ text)
+      ImportsWritten (first ∷ lines) ((codes "#pragma import " ++ after_mark) ++ text)
   more_imports lines text rest = record {
     kept = and_from (kept_import first) (list_all kept_import lines)
         (and_from (is_name comp) (is_name name) owner named) rest.kept;
     spelled = flat_map-append piece_text (import_words first) (flat_map import_words lines) ∙
         ap₂ (λ a b. a ++ b) first_spelled rest.spelled;
     nested = nested_append first_nested rest.nested;
-    headless = λ behind h. subst Headless
-        (sym (append_assoc (codes "#pragma import " ++ behind_mark) text behind))
-        (import_headless (behind_mark ++ (text ++ behind)) (plain_then behind_mark (text ++ behind)
+    headless = λ following h. subst Headless
+        (sym (append_assoc (codes "#pragma import " ++ after_mark) text following))
+        (import_headless (after_mark ++ (text ++ following)) (plain_then after_mark (text ++ following)
         (plain_append comp (codes " " ++ (name ++ codes "\n")) (name_plain comp owner)
-        (plain_append name (codes "\n") (name_plain name named) refl)) (rest.headless behind h)));
+        (plain_append name (codes "\n") (name_plain name named) refl)) (rest.headless following h)));
   }
 
 env_named : is_name (codes "Env") ≡ true

@@ -179,31 +179,31 @@ locals_kept = and_from (kept_local (local_at (codes "i") 0)) (list_all kept_loca
     (local_kept (codes "i") i_ident)
     (and_from (kept_local (local_at (codes "s") 0)) true (local_kept (codes "s") s_ident) refl)
 
-abbrev behind_set : List ℕ
-behind_set = codes
+abbrev after_set : List ℕ
+after_set = codes
     "  for (i = 0; i < 64; i++) {\n    t[i & 15] = x + i;\n    s = s + t[i & 15];\n  }\n  return s;\n"
 
 lines_are : (seed j : ℕ) → AreLines (function_at seed j no_lines).body
-    ((codes "  s = " ++ (decimal (addend seed j) ++ codes ";\n")) ++ behind_set)
+    ((codes "  s = " ++ (decimal (addend seed j) ++ codes ";\n")) ++ after_set)
 lines_are seed j = more_lines (set_line seed j) (more_lines loop_line (more_lines sum_line lines.no_lines))
 
 text_is : (seed j : ℕ) → (codes "int " ++ (function_name j ++ codes "(int x)")) ++ (codes " {\n" ++
-    (codes "  int i;\n  int s;\n" ++ (((codes "  s = " ++ (decimal (addend seed j) ++ codes ";\n")) ++ behind_set) ++
+    (codes "  int i;\n  int s;\n" ++ (((codes "  s = " ++ (decimal (addend seed j) ++ codes ";\n")) ++ after_set) ++
     codes "}\n"))) ≡ function_text seed j
 text_is seed j =
     let d : List ℕ = decimal (addend seed j) in
-    let front : List ℕ = codes " {\n  int i;\n  int s;\n  s = " in
+    let prefix : List ℕ = codes " {\n  int i;\n  int s;\n  s = " in
     ap (λ t. codes "int f" ++ t) (append_assoc (decimal j) (codes "(int x)")
-    (front ++ (((d ++ codes ";\n") ++ behind_set) ++ codes "}\n")) ∙
-    ap (λ t. decimal j ++ (codes "(int x)" ++ (front ++ t)))
-    (ap (λ t. t ++ codes "}\n") (append_assoc d (codes ";\n") behind_set) ∙
-    append_assoc d (codes ";\n" ++ behind_set) (codes "}\n")))
+    (prefix ++ (((d ++ codes ";\n") ++ after_set) ++ codes "}\n")) ∙
+    ap (λ t. decimal j ++ (codes "(int x)" ++ (prefix ++ t)))
+    (ap (λ t. t ++ codes "}\n") (append_assoc d (codes ";\n") after_set) ∙
+    append_assoc d (codes ";\n" ++ after_set) (codes "}\n")))
 
 function_is : (seed j : ℕ) → j < 1000 → IsDecl (decl.Function (function_at seed j no_lines)) (function_text seed j)
 function_is seed j low =
     subst (IsDecl (decl.Function (function_at seed j no_lines))) (text_is seed j)
     (function_decl (function_at seed j no_lines) (codes "int " ++ (function_name j ++ codes "(int x)"))
-    (codes "  int i;\n  int s;\n") ((codes "  s = " ++ (decimal (addend seed j) ++ codes ";\n")) ++ behind_set)
+    (codes "  int i;\n  int s;\n") ((codes "  s = " ++ (decimal (addend seed j) ++ codes ";\n")) ++ after_set)
     (head_kept j low) locals_kept (omega arith) refl (nested_more (omega arith) (head_nested j low)) refl
     (nested_more (omega arith) (local_nested (codes "i") i_ident (local_nested (codes "s") s_ident nested_none)))
     (lines_are seed j))

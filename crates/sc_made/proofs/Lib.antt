@@ -27,6 +27,6 @@ pub mod WorkerCounts
 pub mod Counts
 pub mod Small
 pub mod Offered
-pub mod Faces
-pub mod WorkerFaces
+pub mod MainRules
+pub mod WorkerRules
 pub mod Accepted

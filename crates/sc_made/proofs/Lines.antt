@@ -30,8 +30,8 @@ pub printed_line : (s : StmtTree) (text : List ℕ) → is_kept_stmt s ≡ true 
 printed_line s text kept low spelled nested = record {
   pieces = line_of 1 ((stmt_layout s).words 1);
   read = λ ts said.
-      let told = printed.stmt_holds s kept 1 ts (said ∙ line_symbols 1 ((stmt_layout s).words 1)) in
-      record { kind = told.kind; spelled = told.spelled; same = told.same };
+      let emitted = printed.stmt_holds s kept 1 ts (said ∙ line_symbols 1 ((stmt_layout s).words 1)) in
+      record { kind = emitted.kind; spelled = emitted.spelled; same = emitted.same };
   low = low;
   tidy = λ rest. at_level 1 (tidy_append ((stmt_layout s).words 1) (newline ∷ []) rest (stmt_holds s kept 1 _)
       (line_end none));
@@ -62,13 +62,13 @@ pub more_lines : {s : StmtTree} {stmts : List StmtTree} {text more : List ℕ} �
     AreLines (s ∷ stmts) (text ++ more)
 more_lines {s} {stmts} {text} {more} line lines = record {
   pieces = line.pieces ++ lines.pieces;
-  read = reads (part line.pieces ∷ part lines.pieces ∷ []) (λ ts. Lines ts (s ∷ stmts)) (λ front said back behind.
-      let first = line.read front said in
-      let rest = lines.read back behind in
+  read = reads (part line.pieces ∷ part lines.pieces ∷ []) (λ ts. Lines ts (s ∷ stmts)) (λ prefix said back following.
+      let first = line.read prefix said in
+      let rest = lines.read back following in
       record {
-        others = record { line = first_line front; kind = first.kind } ∷ rest.others;
+        others = record { line = first_line prefix; kind = first.kind } ∷ rest.others;
         spelled = spell.next first.spelled rest.spelled;
-        same = ap₂ (λ x xs. x ∷ xs) (same_line (first_line front) first.kind s first.same) rest.same;
+        same = ap₂ (λ x xs. x ∷ xs) (same_line (first_line prefix) first.kind s first.same) rest.same;
       });
   low = let low = line.low in let others = lines.low in omega arith;
   tidy = λ rest. tidy_append line.pieces lines.pieces rest (line.tidy _) (lines.tidy rest);

@@ -122,7 +122,7 @@ turn_reads = reads (fixed blank ∷ part (place_words i_tree) ∷ written (codes
     record {
       other = Some (next_at (first_line (ts ++ t ∷ [])));
       spelled = spell.a_part (
-        spell.step_behind t mark.PlusPlus binary.Add (is ∙ tables.lone_says tables.plus_plus) refl
+        spell.step_after t mark.PlusPlus binary.Add (is ∙ tables.lone_says tables.plus_plus) refl
             (spelled_at i_tree (i_kept i_ident) [] 1 ts said, i_place),
         refl,
       );
@@ -154,9 +154,9 @@ loop_is = rw (start_words, below_words, i_words, store_laid, add_laid)
 
 loop_reads : Reading loop_words (λ ts. Spelled ts loop)
 loop_reads ts said =
-    let told = for_with (Some (start_at 0)) below (Some (next_at 0)) body turn (start_kept i_ident) (below_kept i_ident)
+    let emitted = for_with (Some (start_at 0)) below (Some (next_at 0)) body turn (start_kept i_ident) (below_kept i_ident)
     turn_reads (everywhere body) (all_at body body_kept) 1 ts said in
-    record { kind = told.kind; spelled = told.spelled; same = told.same }
+    record { kind = emitted.kind; spelled = emitted.spelled; same = emitted.same }
 
 loop_low : stmt_height loop ≤ 8
 loop_low = search (arith, rules, exprs.the_lemmas, kinds.the_lemmas, stmts.the_lemmas)
@@ -172,13 +172,13 @@ turn_tidy rest = gap (tidy_append (place_words i_tree) (word (codes "++") ∷ []
 
 loop_tidy : Free loop_words
 loop_tidy rest =
-    let behind : List Piece = word (codes ")") ∷ blank ∷ block_words 1 (layouts body) in
-    let test : List Piece = word (codes ";") ∷ (turn ++ behind) in
+    let following : List Piece = word (codes ")") ∷ blank ∷ block_words 1 (layouts body) in
+    let test : List Piece = word (codes ";") ∷ (turn ++ following) in
     next (apart.keyword_word keyword.For _ refl) (gap (lone tables.open_paren
     (tidy_append (first_words (Some (start_at 0))) (word (codes ";") ∷ blank ∷ (expr_words below ++ test)) rest
     (simple_tidy (start_at 0).kind (start_kept i_ident) _ refl) (lone tables.semicolon (gap
     (tidy_append (expr_words below) test rest (expr_tidy below (below_kept i_ident) _ refl)
-    (lone tables.semicolon (tidy_append turn behind rest (turn_tidy _) (lone tables.close_paren
+    (lone tables.semicolon (tidy_append turn following rest (turn_tidy _) (lone tables.close_paren
     (gap (block_tidy rest)))))))))))
 
 element_nested : {more : List Piece} → Nested 1 more → Nested 1 (element_pieces more)

@@ -1,7 +1,7 @@
 -- The sections of a made text break no rule of names.
 use Rattle.sc_made.proofs.Common.{CallTree, Decl, ExprTree, FunctionLines, FunctionTree, GlobalTree, HeadTree}
 use Rattle.sc_made.proofs.Common.{ImportLine, IsAmong, IsAsked, Known, List, SectionTree, Some, StmtTree, StructTree}
-use Rattle.sc_made.proofs.Common.{Text, Variable, [], add_kind, all_functions, all_hold, among, among_back, among_front}
+use Rattle.sc_made.proofs.Common.{Text, Variable, [], add_kind, all_functions, all_hold, among, among_back, among_prefix}
 use Rattle.sc_made.proofs.Common.{and_from, ap, append-nil, append_assoc, ap₂, below, body_lines, call_kind, call_known}
 use Rattle.sc_made.proofs.Common.{call_of, codes, concat, declared, element, expr_known, false, first, function_at}
 use Rattle.sc_made.proofs.Common.{function_name, functions_in, functions_of, is_callable, is_new, later, line_of_text}
@@ -17,7 +17,7 @@ use Rattle.sc_ast.specs.declared.stmt.StmtTree as stmts
 use Rattle.sc_scope.proofs.Statements.{for-at}
 use Rattle.sc_scope.specs.declared.section_names.SectionNames.{SectionNames}
 use Rattle.sc_performers.proofs.Declared.{protos_functions, protos_globals, protos_protos, protos_structs}
-use Rattle.sc_made.proofs.Declared.{behind_functions, functions_functions, functions_globals, functions_protos}
+use Rattle.sc_made.proofs.Declared.{after_functions, functions_functions, functions_globals, functions_protos}
 use Rattle.sc_made.proofs.Declared.{functions_structs, imports_named}
 use Rattle.sc_made.proofs.Naming.{Below, below_more, below_next, function_among, function_names, function_new}
 use Rattle.sc_made.proofs.Numbers.{Rise, functions_rise}
@@ -115,7 +115,7 @@ module _ (size seed : ℕ) (section : SectionTree) (m : IsMain size seed section
       imports_named size m.output_line every m.imports m.imports_are
 
   functions_are : functions_in section.decls ≡ main_function ∷ []
-  functions_are = ap functions_in decls_are ∙ behind_functions last_decls m.protos
+  functions_are = ap functions_in decls_are ∙ after_functions last_decls m.protos
 
   before : (heads : List HeadTree) → declared section (map decl.Proto heads) ≡ names (head_names heads)
   before heads = λ i. record {
@@ -127,21 +127,21 @@ module _ (size seed : ℕ) (section : SectionTree) (m : IsMain size seed section
     callables = map {A = FunctionTree} (λ tree. tree.head.name) (functions_are i) ++ imports_are i;
   }
 
-  protos_lines : (front : List HeadTree) (ks : List ℕ) (heads : List HeadTree) → AreProtos ks heads →
-      (more : List Decl) → lines_from section (map decl.Proto front) (map decl.Proto heads ++ more) ≡
-      lines_from section (map decl.Proto (front ++ heads)) more
-  protos_lines front _ _ no_protos more =
-      ap (λ x. lines_from section (map decl.Proto x) more) (sym (append-nil front))
-  protos_lines front _ _ (and_proto j line ks heads h) more =
+  protos_lines : (prefix : List HeadTree) (ks : List ℕ) (heads : List HeadTree) → AreProtos ks heads →
+      (more : List Decl) → lines_from section (map decl.Proto prefix) (map decl.Proto heads ++ more) ≡
+      lines_from section (map decl.Proto (prefix ++ heads)) more
+  protos_lines prefix _ _ no_protos more =
+      ap (λ x. lines_from section (map decl.Proto x) more) (sym (append-nil prefix))
+  protos_lines prefix _ _ (and_proto j line ks heads h) more =
       let head : HeadTree = proto_at j line in
       ap₂ (λ x y. x ++ lines_from section y (map decl.Proto heads ++ more))
-      (ap (λ n. decl_lines n (decl.Proto head)) (before front)) (sym (map-append decl.Proto front (head ∷ []))) ∙
-      protos_lines (front ++ head ∷ []) ks heads h more ∙
-      ap (λ x. lines_from section (map decl.Proto x) more) (append_assoc front (head ∷ []) heads)
+      (ap (λ n. decl_lines n (decl.Proto head)) (before prefix)) (sym (map-append decl.Proto prefix (head ∷ []))) ∙
+      protos_lines (prefix ++ head ∷ []) ks heads h more ∙
+      ap (λ x. lines_from section (map decl.Proto x) more) (append_assoc prefix (head ∷ []) heads)
 
   called : (j : ℕ) → IsAmong j every → among (codes "main" ∷ imported) (function_name j) ≡ true
   called j there =
-      among_front (function_names every) (codes "output" ∷ []) (function_name j) (function_among j every there)
+      among_prefix (function_names every) (codes "output" ∷ []) (function_name j) (function_among j every there)
 
   output_is_called : among (codes "main" ∷ imported) (codes "output") ≡ true
   output_is_called = among_back (function_names every) (codes "output" ∷ []) (codes "output") refl
@@ -256,24 +256,24 @@ module _ (size seed worker : ℕ) (section : SectionTree) (w : IsWorker size see
       (and_from (is_new functions (function_name j)) true new refl)
       (function_known worker_callables seed j lines)
 
-  functions_lines : (low : ℕ) (front : List FunctionTree) (done js : List ℕ) (trees : List FunctionTree) →
-      AreFunctions seed js trees → defined front ≡ function_names done → Below low 1000 done → Rise low 1000 js →
-      lines_from section (decl.Global table ∷ map decl.Function front) (map decl.Function trees) ≡ []
-  functions_lines low front done _ _ no_functions named less rise = refl
-  functions_lines low front done _ _ (and_function j lines js trees h) named less rise =
+  functions_lines : (low : ℕ) (prefix : List FunctionTree) (done js : List ℕ) (trees : List FunctionTree) →
+      AreFunctions seed js trees → defined prefix ≡ function_names done → Below low 1000 done → Rise low 1000 js →
+      lines_from section (decl.Global table ∷ map decl.Function prefix) (map decl.Function trees) ≡ []
+  functions_lines low prefix done _ _ no_functions named less rise = refl
+  functions_lines low prefix done _ _ (and_function j lines js trees h) named less rise =
       let tree : FunctionTree = function_at seed j lines in
       let lower : Below j 1000 done = below_more low j 1000 done rise.0 less in
-      let new : is_new (defined front) (function_name j) ≡ true =
+      let new : is_new (defined prefix) (function_name j) ≡ true =
       ap (λ names. is_new names (function_name j)) named ∙ function_new j rise.1 done lower in
-      let next : (decl.Global table ∷ map decl.Function front) ++ decl.Function tree ∷ [] ≡
-      decl.Global table ∷ map decl.Function (front ++ tree ∷ []) =
-      ap (λ x. decl.Global table ∷ x) (sym (map-append decl.Function front (tree ∷ []))) in
-      let still : defined (front ++ tree ∷ []) ≡ function_names (done ++ j ∷ []) =
-      map-append {A = FunctionTree} (λ t. t.head.name) front (tree ∷ []) ∙
+      let next : (decl.Global table ∷ map decl.Function prefix) ++ decl.Function tree ∷ [] ≡
+      decl.Global table ∷ map decl.Function (prefix ++ tree ∷ []) =
+      ap (λ x. decl.Global table ∷ x) (sym (map-append decl.Function prefix (tree ∷ []))) in
+      let still : defined (prefix ++ tree ∷ []) ≡ function_names (done ++ j ∷ []) =
+      map-append {A = FunctionTree} (λ t. t.head.name) prefix (tree ∷ []) ∙
       ap (λ x. x ++ function_name j ∷ []) named ∙ sym (map-append function_name done (j ∷ [])) in
       ap₂ (λ x y. x ++ lines_from section y (map decl.Function trees))
-      (ap (λ n. function_lines n tree) (before_function front) ∙ function_none (defined front) j lines new) next ∙
-      functions_lines (suc j) (front ++ tree ∷ []) (done ++ j ∷ []) js trees h still
+      (ap (λ n. function_lines n tree) (before_function prefix) ∙ function_none (defined prefix) j lines new) next ∙
+      functions_lines (suc j) (prefix ++ tree ∷ []) (done ++ j ∷ []) js trees h still
       (below_next j 1000 done rise.1 lower) rise.2
 
   pub worker_names_hold : size ≤ 1000 → section_lines section ≡ []

@@ -64,9 +64,9 @@ texts_are_read texts trees h =
           found = found.found;
           cuts = cuts.0;
           split = record {
-            front = refl;
+            prefix = refl;
             before = λ at low high is. omega (arith, high);
-            behind = found.sections;
+            following = found.sections;
           };
           parts = refl;
           cut = nothing;

@@ -1,6 +1,6 @@
 -- The sections of a made text: words that spell them, and no compartment line but the first.
 use Rattle.sc_made.proofs.Common.{Closed, Closing, IsText, List, Piece, SectionTree, [], addend, all_functions, ap}
-use Rattle.sc_made.proofs.Common.{append-nil, append_assoc, ap₂, arith, behind_closing, call_text, closed_append, codes}
+use Rattle.sc_made.proofs.Common.{append-nil, append_assoc, ap₂, arith, after_closing, call_text, closed_append, codes}
 use Rattle.sc_made.proofs.Common.{decimal, even_heading, export_text, exports_lined, flat_map, flat_map-append}
 use Rattle.sc_made.proofs.Common.{function_name, function_text, functions_of, headed, headed_text, heading_words}
 use Rattle.sc_made.proofs.Common.{import_text, imports_lined, main_body, main_text, main_tree, nested_append}
@@ -31,10 +31,10 @@ pub record IsSectionText (text : List ℕ) (tree : SectionTree) : Type 0 where
 module _ (tree : SectionTree) (exports imports decls : List ℕ) (named : is_name tree.name ≡ true)
     (es : ExportsWritten tree.exports exports) (is : ImportsWritten tree.imports imports)
     (ds : AreDecls tree.decls decls) where
-  abbrev behind : List ℕ
-  behind = exports ++ (imports ++ decls)
+  abbrev following : List ℕ
+  following = exports ++ (imports ++ decls)
 
-  written : IsWritten tree (headed tree.name behind)
+  written : IsWritten tree (headed tree.name following)
   written =
       let e : List Piece = flat_map export_words tree.exports in
       let i : List Piece = flat_map import_words tree.imports in
@@ -56,11 +56,11 @@ module _ (tree : SectionTree) (exports imports decls : List ℕ) (named : is_nam
   decls_plain : plain decls ≡ true
   decls_plain = ap plain (sym ds.spelled) ∙ tidy_plain (ds.tidy [])
 
-  section_text : last 10 (headed tree.name behind) ≡ 10 → IsSectionText (headed tree.name behind) tree
+  section_text : last 10 (headed tree.name following) ≡ 10 → IsSectionText (headed tree.name following) tree
   section_text ends = record {
-    is = headed_text tree.name behind named
+    is = headed_text tree.name following named
         (es.headless (imports ++ decls) (is.headless decls (plain_headless decls decls_plain)));
-    read = read_as tree (headed tree.name behind) written (heading_begins (tree.name ++ (codes "\n" ++ behind)));
+    read = read_as tree (headed tree.name following) written (heading_begins (tree.name ++ (codes "\n" ++ following)));
     ends = ends;
   }
 
@@ -74,19 +74,19 @@ main_closing size seed =
     let decls : List ℕ = flat_map proto_text js ++ functions in
     let output : List ℕ = codes "#pragma import Env output\n" ++ decls in
     let directives : List ℕ = flat_map (import_text size) js ++ output in
-    behind_closing (codes "#pragma compartment Main\n") directives
-    (behind_closing (flat_map (import_text size) js) output (behind_closing (codes "#pragma import Env output\n") decls
-    (behind_closing (flat_map proto_text js) functions
-    (behind_closing (codes "void output(int v);\nint main(void) {\n  int r;\n") calls
-    (behind_closing (flat_map (call_text seed) js) (codes "  return 0;\n}\n") (λ d. refl))))))
+    after_closing (codes "#pragma compartment Main\n") directives
+    (after_closing (flat_map (import_text size) js) output (after_closing (codes "#pragma import Env output\n") decls
+    (after_closing (flat_map proto_text js) functions
+    (after_closing (codes "void output(int v);\nint main(void) {\n  int r;\n") calls
+    (after_closing (flat_map (call_text seed) js) (codes "  return 0;\n}\n") (λ d. refl))))))
 
 pub main_is_text : (size seed : ℕ) → size ≤ 1000 → IsSectionText (main_text size seed) (main_tree size seed)
 main_is_text size seed few =
     let js : List ℕ = all_functions size in
     let low = all_below 0 1000 js (all_rise size few) in
     let calls : List ℕ = flat_map (call_text seed) js in
-    let front : List ℕ = codes "int main(void) {\n  int r;\n" in
-    let function : List ℕ = front ++ ((calls ++ codes "  return 0;\n") ++ codes "}\n") in
+    let prefix : List ℕ = codes "int main(void) {\n  int r;\n" in
+    let function : List ℕ = prefix ++ ((calls ++ codes "  return 0;\n") ++ codes "}\n") in
     let main = main_is (main_body size seed) (calls ++ codes "  return 0;\n") (calls_are seed js low) in
     let decls = protos_are js low _ _ (more_decls output_is (more_decls main no_decls)) in
     let imports : List ℕ = flat_map (import_text size) js in
@@ -96,7 +96,7 @@ main_is_text size seed few =
     let text : headed (codes "Main") ([] ++ ((imports ++ output) ++ heads)) ≡ main_text size seed =
     ap (λ t. codes "#pragma compartment Main\n" ++ t) (append_assoc imports output heads ∙
     ap (λ t. imports ++ (output ++ (protos ++ (codes "void output(int v);\n" ++ t)))) (append-nil function ∙
-    ap (λ t. front ++ t) (append_assoc calls (codes "  return 0;\n") (codes "}\n")))) in
+    ap (λ t. prefix ++ t) (append_assoc calls (codes "  return 0;\n") (codes "}\n")))) in
     subst (λ t. IsSectionText t (main_tree size seed)) text
     (section_text (main_tree size seed) [] (imports ++ output) heads main_named no_directives (imports_are size js low)
     decls (ap (λ t. last 10 t) text ∙ main_closing size seed 10))
@@ -109,9 +109,9 @@ function_closing seed j =
     ";\n  for (i = 0; i < 64; i++) {\n    t[i & 15] = x + i;\n    s = s + t[i & 15];\n  }\n  return s;\n}\n" in
     let set : List ℕ = decimal (addend seed j) ++ end in
     let rest : List ℕ = codes "(int x) {\n  int i;\n  int s;\n  s = " ++ set in
-    behind_closing (codes "int ") (function_name j ++ rest) (behind_closing (function_name j) rest
-    (behind_closing (codes "(int x) {\n  int i;\n  int s;\n  s = ") set
-    (behind_closing (decimal (addend seed j)) end (λ d. refl))))
+    after_closing (codes "int ") (function_name j ++ rest) (after_closing (function_name j) rest
+    (after_closing (codes "(int x) {\n  int i;\n  int s;\n  s = ") set
+    (after_closing (decimal (addend seed j)) end (λ d. refl))))
 
 functions_closed : (seed : ℕ) (js : List ℕ) → Closed (flat_map (function_text seed) js)
 functions_closed seed [] = λ d e. e
@@ -124,9 +124,9 @@ worker_closing size seed i =
     let functions : List ℕ = flat_map (function_text seed) js in
     let decls : List ℕ = codes "int t[16];\n" ++ functions in
     let exports : List ℕ = flat_map export_text js ++ decls in
-    behind_closing mark (worker_name i ++ (codes "\n" ++ exports))
-    (behind_closing (worker_name i) (codes "\n" ++ exports) (behind_closing (codes "\n") exports
-    (behind_closing (flat_map export_text js) decls (λ d. functions_closed seed js 10 refl))))
+    after_closing mark (worker_name i ++ (codes "\n" ++ exports))
+    (after_closing (worker_name i) (codes "\n" ++ exports) (after_closing (codes "\n") exports
+    (after_closing (flat_map export_text js) decls (λ d. functions_closed seed js 10 refl))))
 
 pub worker_is_text : (size seed i : ℕ) → size ≤ 1000 → i < 1000 →
     IsSectionText (worker_text size seed i) (worker_tree size seed i)

@@ -8,7 +8,7 @@ use Rattle.sc_made.proofs.Common.{structs_in, true, ℕ, ◌++◌, ◌∙◌, �
 use Rattle.std.specs.Option.{option_map}
 use Rattle.sc_ast.specs.declared.section.Decl.TheVariants as decl
 use Rattle.sc_core.specs.declared.ty.Ty.TheVariants as ty
-use Rattle.sc_made.proofs.Declared.{behind_functions, behind_globals, behind_heads, behind_structs}
+use Rattle.sc_made.proofs.Declared.{after_functions, after_globals, after_heads, after_structs}
 use Rattle.sc_made.proofs.Shapes.{AreProtos, IsMain, and_proto, no_protos}
 
 -- what holds of each holds of each in another way
@@ -100,19 +100,19 @@ module _ (size seed : ℕ) (section : SectionTree) (main : IsMain size seed sect
   last_heads = heads_in last_decls
 
   pub functions_are : functions_in section.decls ≡ tree_of ∷ []
-  functions_are = ap (λ s. functions_in s.decls) main.is ∙ behind_functions last_decls main.protos
+  functions_are = ap (λ s. functions_in s.decls) main.is ∙ after_functions last_decls main.protos
 
   pub no_structs : structs_in section.decls ≡ []
-  no_structs = ap (λ s. structs_in s.decls) main.is ∙ behind_structs last_decls main.protos
+  no_structs = ap (λ s. structs_in s.decls) main.is ∙ after_structs last_decls main.protos
 
   pub no_tags : struct_names section.decls ≡ []
   no_tags = ap (map {A = StructTree} (λ tree. tree.name)) no_structs
 
   pub no_globals : globals_in section.decls ≡ []
-  no_globals = ap (λ s. globals_in s.decls) main.is ∙ behind_globals last_decls main.protos
+  no_globals = ap (λ s. globals_in s.decls) main.is ∙ after_globals last_decls main.protos
 
   pub heads_are : heads_in section.decls ≡ main.protos ++ last_heads
-  heads_are = ap (λ s. heads_in s.decls) main.is ∙ behind_heads last_decls main.protos
+  heads_are = ap (λ s. heads_in s.decls) main.is ∙ after_heads last_decls main.protos
 
   module _ (sections : List SectionTree) (number : ℕ) where
     signature_is : (name : List ℕ) (head : HeadTree) → bytes_eq (codes "main") name ≡ false →

@@ -38,13 +38,13 @@ decimal_digits = decimal_by_steps (λ n ds. Digits ds)
     some_more (x ∷ a) b some = omega arith
 
 -- what follows the first byte of a name
-record Behind (ds : List ℕ) : Type 0 where
+record After (ds : List ℕ) : Type 0 where
   digits : Digits ds
   bytes : list_all is_name_byte ds ≡ true
   short : nat_lt (length ds) 63 ≡ true
 
-behind : (n : ℕ) → n < 1000 → Behind (decimal n)
-behind n low =
+following : (n : ℕ) → n < 1000 → After (decimal n)
+following n low =
     let is = decimal_digits n (omega (arith, low)) in
     let long = length-decimal-le 3 n (omega arith) (omega (arith, low)) (omega (arith, low)) in
     record {
@@ -56,14 +56,14 @@ behind n low =
 pub worker_named : (i : ℕ) → i < 1000 → is_name (worker_name i) ≡ true
 unfolding is_name
 worker_named i low =
-    let b = behind i low in
+    let b = following i low in
     and_from (is_nondigit 87) (list_all is_name_byte (decimal i) && nat_lt (length (decimal i)) 63) refl
     (and_from (list_all is_name_byte (decimal i)) (nat_lt (length (decimal i)) 63) b.bytes b.short)
 
 pub function_named : (j : ℕ) → j < 1000 → is_name (function_name j) ≡ true
 unfolding is_name
 function_named j low =
-    let b = behind j low in
+    let b = following j low in
     and_from (is_nondigit 102) (list_all is_name_byte (decimal j) && nat_lt (length (decimal j)) 63) refl
     (and_from (list_all is_name_byte (decimal j)) (nat_lt (length (decimal j)) 63) b.bytes b.short)
 
@@ -79,7 +79,7 @@ digits_there (x ∷ ds) d =
 
 free : (j : ℕ) → j < 1000 → is_reserved (function_name j) ≡ false
 unfolding is_reserved
-free j low = no_table no_digit reserved_words (function_name j) refl (digits_there (decimal j) (behind j low).digits)
+free j low = no_table no_digit reserved_words (function_name j) refl (digits_there (decimal j) (following j low).digits)
 
 pub function_ident : (j : ℕ) → j < 1000 → is_ident (function_name j) ≡ true
 function_ident j low = and_from (is_name (function_name j)) (not (is_reserved (function_name j)))

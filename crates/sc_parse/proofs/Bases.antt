@@ -2,7 +2,7 @@
 use Rattle.sc_parse.proofs.Common.{BaseTree, Declarator, IsIdent, IsInteger, IsKeyword, IsMark, Keyword, Lexeme, List}
 use Rattle.sc_parse.proofs.Common.{Mark, None, Number, Option, Some, SpellsBase, SpellsDeclarator, SpellsStars}
 use Rattle.sc_parse.proofs.Common.{SpellsTypeName, Symbol, [], ap, append_assoc, arith, array, array_length, base_at}
-use Rattle.sc_parse.proofs.Common.{base_by, begins_with, behind, behind_mark, bound, cond_both, declarator}
+use Rattle.sc_parse.proofs.Common.{base_by, begins_with, following, first_mark, bound, cond_both, declarator}
 use Rattle.sc_parse.proofs.Common.{declarator_at, drop, elements_at, false, false_from_ne_true, false≢true, first_line}
 use Rattle.sc_parse.proofs.Common.{glued, int, integer_by, is_base, is_int, is_mark, is_void, keyword_at, length}
 use Rattle.sc_parse.proofs.Common.{length_at, line_at, name_ahead, name_at, no_base, none-some, one-add, past_int}
@@ -29,14 +29,14 @@ sign_taken : (ts rest : List Lexeme) (sign : Keyword) (value x : BaseTree) → k
     ((t u : Lexeme) → IsKeyword sign t → IsKeyword word.Int u → SpellsBase (t ∷ u ∷ []) value) →
     ◌≡◌ {A = Option (BaseTree × List Lexeme)} (Some (value, past_int (drop 1 ts))) (Some (x, rest)) →
     Taken SpellsBase ts x rest
-sign_taken ts rest sign value x q alone both h =
+sign_taken ts rest sign value x q lone_if both h =
     let first = word_ahead ts sign q in
     cond_both (is_int (keyword_at (drop 1 ts))) _ _
     (λ l. ◌≡◌ {A = Option (BaseTree × List Lexeme)} (Some (value, l)) (Some (x, rest)) → Taken SpellsBase ts x rest)
     (λ e k. let second = word_ahead (drop 1 ts) word.Int (is_int_word _ e) in
     took (first.first ∷ second.first ∷ []) k (first.is ∙ ap (λ l. first.first ∷ l) second.is)
     (both first.first second.first first.keyword second.keyword))
-    (λ e k. took (first.first ∷ []) k first.is (alone first.first first.keyword)) h
+    (λ e k. took (first.first ∷ []) k first.is (lone_if first.first first.keyword)) h
 
 base_sound : Sound SpellsBase base_at
 unfolding base_at
@@ -69,7 +69,7 @@ pub base_exact : Exact Any SpellsBase NoInt base_at
 base_exact = record { sound = base_sound; complete = base_complete }
 
 -- what a base begins with
-pub record BaseFront (ts : List Lexeme) : Type 0 where
+pub record BaseStart (ts : List Lexeme) : Type 0 where
   pub some : 0 < length ts
   pub no_end : (rest : List Lexeme) → begins_with mark.CloseCurly (ts ++ rest) ≡ false
   pub no_void : (rest : List Lexeme) → is_void (keyword_at (ts ++ rest)) ≡ false
@@ -78,7 +78,7 @@ pub record BaseFront (ts : List Lexeme) : Type 0 where
   pub line : (rest : List Lexeme) → first_line (ts ++ rest) ≡ first_line ts
 
 base_word : (t : Lexeme) (ts : List Lexeme) (w : Keyword) → IsKeyword w t → is_void (Some w) ≡ false →
-    is_base (Some w) ≡ true → BaseFront (t ∷ ts)
+    is_base (Some w) ≡ true → BaseStart (t ∷ ts)
 base_word t ts w p q r = record {
   some = omega arith;
   no_end = λ rest. rw p;
@@ -88,20 +88,20 @@ base_word t ts w p q r = record {
   line = λ rest. refl;
 }
 
-pub base_front : {ts : List Lexeme} {base : BaseTree} → SpellsBase ts base → BaseFront ts
-base_front (int t p) = base_word t [] _ p refl refl
-base_front (signed t p) = base_word t [] _ p refl refl
-base_front (signed_int t u p q) = base_word t _ _ p refl refl
-base_front (unsigned t p) = base_word t [] _ p refl refl
-base_front (unsigned_int t u p q) = base_word t _ _ p refl refl
-base_front (struct t u tag p q) = base_word t _ _ p refl refl
+pub base_start : {ts : List Lexeme} {base : BaseTree} → SpellsBase ts base → BaseStart ts
+base_start (int t p) = base_word t [] _ p refl refl
+base_start (signed t p) = base_word t [] _ p refl refl
+base_start (signed_int t u p q) = base_word t _ _ p refl refl
+base_start (unsigned t p) = base_word t [] _ p refl refl
+base_start (unsigned_int t u p q) = base_word t _ _ p refl refl
+base_start (struct t u tag p q) = base_word t _ _ p refl refl
 
 abbrev pub NoStar : List Lexeme → Type 0
 NoStar rest = begins_with mark.Star rest ≡ false
 
 pub mark_is : (m : Mark) (t : Lexeme) → is_mark m t.symbol ≡ true → IsMark m t
 mark_is m t h =
-    let b = behind_mark m (t ∷ []) [] (rw h) in
+    let b = first_mark m (t ∷ []) [] (rw h) in
     let e = b.1 in
     let same : t ≡ b.0 = cc in
     subst (IsMark m) (sym same) b.2
@@ -192,16 +192,16 @@ pub data IsLength : List Lexeme → Option ℕ → Type 0 where
       IsMark mark.CloseSquare w → array_length number.value ≡ Some elements → IsLength (u ∷ v ∷ w ∷ []) (Some elements)
 
 abbrev pub NoBracket : List Lexeme → Type 0
-NoBracket rest = behind mark.OpenSquare rest ≡ None
+NoBracket rest = following mark.OpenSquare rest ≡ None
 
 length_sound : Sound IsLength length_at
 unfolding length_at
 length_sound ts rest x h = given _ _ _ h (λ q e. took [] e refl no_length) (λ us q e.
-    let u = behind_mark mark.OpenSquare ts us q in
+    let u = first_mark mark.OpenSquare ts us q in
     let b = bound _ (elements_at us) (x, rest) e in
-    let c = bound _ (behind mark.CloseSquare b.0.1) (x, rest) b.2 in
+    let c = bound _ (following mark.CloseSquare b.0.1) (x, rest) b.2 in
     let v = elements_ahead us b.0.1 b.0.0 b.1 in
-    let w = behind_mark mark.CloseSquare b.0.1 c.0 c.1 in
+    let w = first_mark mark.CloseSquare b.0.1 c.0 c.1 in
     took (u.0 ∷ v.first ∷ w.0 ∷ []) c.2 (u.1 ∙ ap (λ l. u.0 ∷ l) (v.is ∙ ap (λ l. v.first ∷ l) w.1))
     (in_brackets u.0 v.first w.0 v.number b.0.0 u.2 v.integer w.2 v.fits))
 

@@ -4,15 +4,15 @@ use Rattle.sc_parse.proofs.Common.{IsGlobal, IsMark, Keyword, Lexeme, List, None
 use Rattle.sc_parse.proofs.Common.{SpellsBase, SpellsDecl, SpellsDeclarator, SpellsHead, SpellsInit, SpellsResult}
 use Rattle.sc_parse.proofs.Common.{SpellsStars, SpellsStruct, StructTree, TypeName, TypeTree, [], a_function, a_result}
 use Rattle.sc_parse.proofs.Common.{a_struct, absent, adds, ap, append_assoc, arith, array, begins_call, begins_head}
-use Rattle.sc_parse.proofs.Common.{begins_struct, begins_with, behind, behind_head, behind_mark, bound, cond, decl_at}
-use Rattle.sc_parse.proofs.Common.{declares, decls_height, drop, false, false≢true, function, function_behind, global}
+use Rattle.sc_parse.proofs.Common.{begins_struct, begins_with, following, past_head, first_mark, bound, cond, decl_at}
+use Rattle.sc_parse.proofs.Common.{declares, decls_height, drop, false, false≢true, function, function_at, global}
 use Rattle.sc_parse.proofs.Common.{globals, grouped, head, head_of, headed_at, int, is_empty, is_struct_word}
 use Rattle.sc_parse.proofs.Common.{keyword_at, length, length-append, line_at, many, many_comma, map, more}
 use Rattle.sc_parse.proofs.Common.{names_struct, no_result, past_base, past_stars, plain, prototype, refl, signed}
 use Rattle.sc_parse.proofs.Common.{signed_int, star, struct, struct_decl_at, subst, sym, true, type_name, unsigned}
 use Rattle.sc_parse.proofs.Common.{unsigned_int, ℕ, ◌++◌, ◌+◌, ◌<◌, ◌∙◌, ◌∷◌, ◌≡◌}
 use Rattle.sc_ast.specs.declared.section.GlobalTree.{GlobalTree}
-use Rattle.sc_parse.proofs.Bases.{base_front, NoInt, stars_no_int, stars_count}
+use Rattle.sc_parse.proofs.Bases.{base_start, NoInt, stars_no_int, stars_count}
 use Rattle.sc_expr.specs.declared.mark.Mark.TheVariants as mark
 use Rattle.sc_parse.specs.Lists as lists
 use Rattle.sc_parse.specs.Types as types
@@ -80,25 +80,25 @@ init_no_paren (many t u v p q r d) rest h = rw p
 init_no_paren (many_comma t u v w p q r k d) rest h = rw p
 
 -- what follows the base of globals
-record Front (ts : List Lexeme) : Type 0 where
+record GlobalStart (ts : List Lexeme) : Type 0 where
   no_int : NoInt ts
   no_curly : NoCurly ts
   no_call : NoCall ts
 
-global_front : {base : BaseTree} {line : ℕ} {ts : List Lexeme} {x : GlobalTree} (d : IsGlobal base line ts x)
-    (rest : List Lexeme) → NoParen rest → Front (ts ++ rest)
-global_front (global {ts = ts} {us = us} d i) rest h =
-    subst Front (sym (append_assoc ts us rest)) (record {
+global_prefix : {base : BaseTree} {line : ℕ} {ts : List Lexeme} {x : GlobalTree} (d : IsGlobal base line ts x)
+    (rest : List Lexeme) → NoParen rest → GlobalStart (ts ++ rest)
+global_prefix (global {ts = ts} {us = us} d i) rest h =
+    subst GlobalStart (sym (append_assoc ts us rest)) (record {
       no_int = declarator_no_int d (us ++ rest);
       no_curly = declarator_no_curly d _;
       no_call = declarator_no_call d _ (init_no_paren i rest h);
     })
 
-globals_front : {base : BaseTree} {line : ℕ} {ts : List Lexeme} {xs : List GlobalTree}
-    (d : Separated (IsGlobal base line) ts xs) (rest : List Lexeme) → NoParen rest → Front (ts ++ rest)
-globals_front (lists.one d) rest h = global_front d rest h
-globals_front (more {ts = ts} {us = us} t p d g) rest h =
-    subst Front (sym (append_assoc ts _ rest)) (global_front d (t ∷ us ++ rest) (rw p))
+globals_prefix : {base : BaseTree} {line : ℕ} {ts : List Lexeme} {xs : List GlobalTree}
+    (d : Separated (IsGlobal base line) ts xs) (rest : List Lexeme) → NoParen rest → GlobalStart (ts ++ rest)
+globals_prefix (lists.one d) rest h = global_prefix d rest h
+globals_prefix (more {ts = ts} {us = us} t p d g) rest h =
+    subst GlobalStart (sym (append_assoc ts _ rest)) (global_prefix d (t ∷ us ++ rest) (rw p))
 
 -- no struct is declared where no `{` follows the base
 base_no_struct : {ts : List Lexeme} {base : BaseTree} (d : SpellsBase ts base) (rest : List Lexeme) → NoCurly rest →
@@ -122,7 +122,7 @@ base_past (types.struct t u tag p q) rest h = rw p
 base_head : {ts : List Lexeme} {base : BaseTree} (d : SpellsBase ts base) (rest : List Lexeme) → NoInt rest →
     begins_head (ts ++ rest) ≡ begins_call (past_stars rest)
 unfolding begins_head
-base_head d rest h = rw ((base_front d).no_void rest, base_past d rest h)
+base_head d rest h = rw ((base_start d).no_void rest, base_past d rest h)
 
 -- what a declaration begins with that is read as one of globals
 pub record BeginsGlobals (ts : List Lexeme) : Type 0 where
@@ -134,11 +134,11 @@ pub globals_begin : {ts : List Lexeme} {trees : List GlobalTree} (d : Declares I
     BeginsGlobals (ts ++ rest)
 globals_begin (declares {ts = ts} {us = us} t p d g) rest =
     let all = append_assoc ts (us ++ t ∷ []) rest ∙ ap (λ l. ts ++ l) (append_assoc us _ rest) in
-    let front = globals_front g (t ∷ rest) (rw p) in
+    let lookahead = globals_prefix g (t ∷ rest) (rw p) in
     subst BeginsGlobals (sym all) (record {
-      no_struct = base_no_struct d _ front.no_curly;
-      no_head = base_head d _ front.no_int ∙ front.no_call;
-      no_line = (base_front d).no_line _;
+      no_struct = base_no_struct d _ lookahead.no_curly;
+      no_head = base_head d _ lookahead.no_int ∙ lookahead.no_call;
+      no_line = (base_start d).no_line _;
     })
 
 -- what a declaration begins with that is read as one with a head
@@ -155,7 +155,7 @@ result_begins (a_result (type_name {ts = ts} {us = us} d g)) rest a b c k =
     subst BeginsHead (sym (append_assoc ts us rest)) (record {
       no_struct = base_no_struct d (us ++ rest) (stars_no_curly g rest b);
       is_head = base_head d _ (stars_no_int g rest a) ∙ ap begins_call (past_all g rest c) ∙ k;
-      no_line = (base_front d).no_line _;
+      no_line = (base_start d).no_line _;
     })
 
 pub head_begins : {ts : List Lexeme} {x : HeadTree} (d : SpellsHead ts x) (rest : List Lexeme) → BeginsHead (ts ++ rest)
@@ -209,32 +209,32 @@ data IsHeaded (limit : ℕ) (head : HeadTree) : List Lexeme → Decl → Type 0 
   goes_on : {ts : List Lexeme} {named : FunctionHead} {x : FunctionTree} → head_of named ≡ head →
       IsBody limit named ts x → IsHeaded limit head ts (decl.Function x)
 
-behind_sound : (free limit : ℕ) (head : HeadTree) → Sound (IsHeaded limit head) (behind_head free limit head)
-unfolding function_behind
-behind_sound free limit tree ts rest x h = given (λ rest. Some _) _ _ h (λ q e.
+after_sound : (free limit : ℕ) (head : HeadTree) → Sound (IsHeaded limit head) (past_head free limit head)
+unfolding function_at
+after_sound free limit tree ts rest x h = given (λ rest. Some _) _ _ h (λ q e.
     let n = bound _ _ _ e in
     let c = bound _ _ _ n.2 in
     let d = body_sound free limit n.0 ts c.0.1 c.0.0 c.1 in
     took d.taken c.2 d.split (goes_on (named_sound tree n.0 n.1) d.spelled)) (λ vs q e.
-    let t = behind_mark mark.Semicolon ts vs q in
+    let t = first_mark mark.Semicolon ts vs q in
     took (t.0 ∷ []) e t.1 (ends t.0 t.2))
 
 -- a `{` and no `;` follows the head of a function
 body_opens : {limit : ℕ} {named : FunctionHead} {x : FunctionTree} {ts : List Lexeme} (d : IsBody limit named ts x)
-    (rest : List Lexeme) → behind mark.Semicolon (ts ++ rest) ≡ None
+    (rest : List Lexeme) → following mark.Semicolon (ts ++ rest) ≡ None
 body_opens (a_body t u p q g s) rest = rw p
 
-behind_complete : (free limit : ℕ) (head : HeadTree) →
-    Complete (Few free) (IsHeaded limit head) Any (behind_head free limit head)
-unfolding function_behind
-behind_complete free limit tree _ _ (ends t p) rest fits h = rw p
-behind_complete free limit tree _ _ (goes_on {ts = ts} {named = named} same b) rest fits h =
+after_complete : (free limit : ℕ) (head : HeadTree) →
+    Complete (Few free) (IsHeaded limit head) Any (past_head free limit head)
+unfolding function_at
+after_complete free limit tree _ _ (ends t p) rest fits h = rw p
+after_complete free limit tree _ _ (goes_on {ts = ts} {named = named} same b) rest fits h =
     rw (body_opens b rest, head_named named tree same, body_complete free limit named ts _ b rest fits tt)
 
 headed_exact : (free limit : ℕ) → Exact (Few free) (Then SpellsHead (IsHeaded limit)) Any (headed_at free limit)
 unfolding headed_at
 headed_exact free limit = then_exact (few free) (fitting (few free) head_exact)
-    (λ tree. record { sound = behind_sound free limit tree; complete = behind_complete free limit tree })
+    (λ tree. record { sound = after_sound free limit tree; complete = after_complete free limit tree })
     (λ x us y d rest h. tt)
 
 headed_one : {limit : ℕ} → Turns (Then SpellsHead (IsHeaded limit)) (IsOne limit)

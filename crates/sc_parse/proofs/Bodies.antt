@@ -1,15 +1,15 @@
 -- Locals and functions are read exactly as they are spelled.
 use Rattle.sc_parse.proofs.Common.{BaseTree, Declares, ExprTree, FunctionHead, FunctionParam, FunctionTree, Grouped}
 use Rattle.sc_parse.proofs.Common.{HeadTree, IsLocal, IsMark, Lexeme, List, LocalTree, None, Option, ParamTree, Some}
-use Rattle.sc_parse.proofs.Common.{SpellsStmts, SpellsValue, StmtTree, [], a_value, ap, append_assoc, arith, behind}
-use Rattle.sc_parse.proofs.Common.{behind_mark, body_behind, bound, declaration_at, declares, false, first_line}
+use Rattle.sc_parse.proofs.Common.{SpellsStmts, SpellsValue, StmtTree, [], a_value, ap, append_assoc, arith, following}
+use Rattle.sc_parse.proofs.Common.{first_mark, body_at, bound, declaration_at, declares, false, first_line}
 use Rattle.sc_parse.proofs.Common.{function_head, function_param, function_tree, glued, head_of, init_height, is_base}
-use Rattle.sc_parse.proofs.Common.{local, local_at, local_height, locals_at, locals_behind, locals_height, map}
+use Rattle.sc_parse.proofs.Common.{local, local_at, local_height, locals_at, add_local, locals_height, map}
 use Rattle.sc_parse.proofs.Common.{named_head, named_params, no_base, no_value, param_of, refl, same_some, subst, sym}
 use Rattle.sc_parse.proofs.Common.{true, value_at, ℕ, ◌++◌, ◌>>=◌, ◌∙◌, ◌∷◌, ◌≡◌}
-use Rattle.sc_parse.proofs.Bases.{NoBracket, base_front}
+use Rattle.sc_parse.proofs.Bases.{NoBracket, base_start}
 use Rattle.sc_parse.proofs.Exact.{Any, Complete, Exact, ExactAdder, Form, Low, Made, Property, Sound, Turns}
-use Rattle.sc_parse.proofs.Exact.{fits_behind, formed_exact, from_none, front_taken, given, grouped_exact, groups_apart}
+use Rattle.sc_parse.proofs.Exact.{fits_after, formed_exact, from_none, first_taken, given, grouped_exact, groups_apart}
 use Rattle.sc_parse.proofs.Exact.{groups_joined, groups_turned, items_apart, items_joined, items_turned, made}
 use Rattle.sc_parse.proofs.Exact.{made_exact, took}
 use Rattle.sc_parse.proofs.Parts.{kind_starts}
@@ -24,15 +24,15 @@ abbrev IsValue : ℕ → Form (Option ExprTree)
 IsValue limit = Low SpellsValue init_height limit
 
 abbrev EndsValue : Property
-EndsValue rest = (behind mark.Equal rest ≡ None) × NoExtension rest
+EndsValue rest = (following mark.Equal rest ≡ None) × NoExtension rest
 
 value_exact : (free limit : ℕ) → Exact (Few free) (IsValue limit) EndsValue (value_at free limit)
 unfolding value_at
 value_exact free limit = record {
   sound = λ ts rest x h. given _ _ _ h (λ q e. took [] e refl (no_value, omega arith)) (λ us q e.
-      let t = behind_mark mark.Equal ts us q in
+      let t = first_mark mark.Equal ts us q in
       let d = (made_exact (λ e. Some e) (expr_exact free limit)).sound us rest x e in
-      front_taken t.0 t.1 d (λ vs d. a_local t.0 t.2 d));
+      first_taken t.0 t.1 d (λ vs d. a_local t.0 t.2 d));
   complete = complete;
 }
   where
@@ -43,7 +43,7 @@ value_exact free limit = record {
     complete : Complete (Few free) (IsValue limit) EndsValue (value_at free limit)
     complete _ _ (no_value, low) rest fits ends = rw ends.0
     complete _ _ (a_value {ts = ts} t p d, low) rest fits ends =
-        rw (p, (expr_exact free limit).complete _ _ (d, low) rest (fits_behind (few free) t ts fits) ends.1)
+        rw (p, (expr_exact free limit).complete _ _ (d, low) rest (fits_after (few free) t ts fits) ends.1)
 
 value_no_bracket : {limit : ℕ} (ts : List Lexeme) (x : Option ExprTree) → IsValue limit ts x → (rest : List Lexeme) →
     NoBracket rest → NoBracket (ts ++ rest)
@@ -61,14 +61,14 @@ unfolding local_at
 local_exact free limit base line = valued_exact (few free) _ (value_exact free limit) value_no_bracket base
 
 local_line_exact : (free limit : ℕ) → ExactAdder (Few free) (Declares (IsLow limit)) Any
-    (declaration_at (locals_behind free limit))
+    (declaration_at (add_local free limit))
 local_line_exact free limit = declaration_exact (few free) (local_exact free limit) (λ t rest p. (rw p, (rw p, rw p)))
     (λ t rest p. (rw p, (rw p, rw p))) (λ base line ts rest x d. valued_no_int d rest)
 
 declares_begins : {A : Type 0} {Item : BaseTree → ℕ → List Lexeme → A → Type 0} {ts : List Lexeme} {xs : List A}
     (d : Declares Item ts xs) (rest : List Lexeme) → no_base (ts ++ rest) ≡ false
 declares_begins (declares {ts = ts} {us = us} t p d g) rest =
-    ap no_base (append_assoc ts _ rest) ∙ (base_front d).is_base ((us ++ t ∷ []) ++ rest)
+    ap no_base (append_assoc ts _ rest) ∙ (base_start d).is_base ((us ++ t ∷ []) ++ rest)
 
 local_is : {limit : ℕ} {base : BaseTree} {line : ℕ} → Turns (IsLow limit base line)
     (Low (IsLocal base line) local_height limit)
@@ -121,17 +121,17 @@ pub data IsBody (limit : ℕ) (head : FunctionHead) : List Lexeme → FunctionTr
       Low (Grouped (Declares IsLocal)) locals_height limit us locals → IsStmts limit vs body →
       IsBody limit head (t ∷ (us ++ (vs ++ u ∷ []))) (function_tree head locals body u.line)
 
-pub body_sound : (free limit : ℕ) (head : FunctionHead) → Sound (IsBody limit head) (body_behind free limit head)
-unfolding body_behind
+pub body_sound : (free limit : ℕ) (head : FunctionHead) → Sound (IsBody limit head) (body_at free limit head)
+unfolding body_at
 body_sound free limit head ts rest x h =
     let o = bound _ _ _ h in
     let l = bound _ _ _ o.2 in
     let s = bound _ _ _ l.2 in
     let c = bound _ _ _ s.2 in
-    let t = behind_mark _ ts o.0 o.1 in
+    let t = first_mark _ ts o.0 o.1 in
     let locals = (lows_exact free limit).sound o.0 l.0.1 l.0.0 l.1 in
     let stmts = (stmts_exact free limit).sound l.0.1 s.0.1 s.0.0 s.1 in
-    let u = behind_mark _ s.0.1 c.0 c.1 in
+    let u = first_mark _ s.0.1 c.0 c.1 in
     took (t.0 ∷ (locals.taken ++ (stmts.taken ++ u.0 ∷ []))) c.2
     (t.1 ∙ ap (λ k. t.0 ∷ k) (glued c.0 locals.taken (stmts.taken ++ u.0 ∷ []) locals.split
     (glued c.0 stmts.taken (u.0 ∷ []) stmts.split u.1)))
@@ -146,13 +146,13 @@ stmts_no_base (statements.next {ts = ts} {us = us} d g) u rest p =
     ap no_base (append_assoc ts us _) ∙ (kind_starts d).no_base (us ++ u ∷ rest)
 
 pub body_complete : (free limit : ℕ) (head : FunctionHead) →
-    Complete (Few free) (IsBody limit head) Any (body_behind free limit head)
-unfolding body_behind
+    Complete (Few free) (IsBody limit head) Any (body_at free limit head)
+unfolding body_at
 body_complete free limit head _ _ (a_body {us = us} {vs = vs} t u p q d g) rest fits ends =
-    let inside = fits_behind (few free) t (us ++ (vs ++ u ∷ [])) fits in
+    let inside = fits_after (few free) t (us ++ (vs ++ u ∷ [])) fits in
     let first = (lows_exact free limit).complete us _ d (vs ++ u ∷ rest) ((few free).left us (vs ++ u ∷ []) inside)
     (stmts_no_base g.0 u rest q) in
     let second = (stmts_exact free limit).complete vs _ g (u ∷ rest)
     ((few free).left vs (u ∷ []) ((few free).right us (vs ++ u ∷ []) inside)) (rw q) in
     let all : (us ++ (vs ++ u ∷ [])) ++ rest ≡ us ++ (vs ++ u ∷ rest) = simp append_assoc in
-    ap (λ l. body_behind free limit head (t ∷ l)) all ∙ rw (p, first, second, q)
+    ap (λ l. body_at free limit head (t ∷ l)) all ∙ rw (p, first, second, q)

@@ -3,19 +3,19 @@ use Rattle.sc_parse.proofs.Common.{BaseTree, Bool, ConstTree, Decl, Declarator, 
 use Rattle.sc_parse.proofs.Common.{IsMark, IsMember, Lexeme, List, MemberTree, None, Number, Reader, Separated, Some}
 use Rattle.sc_parse.proofs.Common.{SpellsBase, SpellsConst, SpellsDeclarator, SpellsInit, SpellsStruct, StructTree}
 use Rattle.sc_parse.proofs.Common.{TypeTree, [], absent, adds, all_separated, ap, append_assoc, arith, array, base_at}
-use Rattle.sc_parse.proofs.Common.{before_mark, begins_with, behind, behind_inner_comma, behind_mark, bound, cond_both}
+use Rattle.sc_parse.proofs.Common.{before_mark, begins_with, following, after_inner_comma, first_mark, bound, cond_both}
 use Rattle.sc_parse.proofs.Common.{const_at, const_tree, consts_at, declaration_at, declarator, declarator_at, declares}
-use Rattle.sc_parse.proofs.Common.{drop, ended_by, false, first_line, global_at, globals_behind, glued, grouped}
-use Rattle.sc_parse.proofs.Common.{init_at, init_behind, keyword_at, length, length-append, literal_at, many}
-use Rattle.sc_parse.proofs.Common.{many_comma, member_at, members_at, members_behind, members_in_braces, more, name_at}
+use Rattle.sc_parse.proofs.Common.{drop, ended_by, false, first_line, global_at, add_global, glued, grouped}
+use Rattle.sc_parse.proofs.Common.{init_at, initialiser_at, keyword_at, length, length-append, literal_at, many}
+use Rattle.sc_parse.proofs.Common.{many_comma, member_at, members_at, add_member, members_in_braces, more, name_at}
 use Rattle.sc_parse.proofs.Common.{negated, next, non_empty, none, none-some, one, past_comma, plain, refl, same_some}
 use Rattle.sc_parse.proofs.Common.{separated, struct, struct_at, struct_tree, subst, subst₂, sym, true, type_of, ℕ}
 use Rattle.sc_parse.proofs.Common.{◌++◌, ◌+◌, ◌<◌, ◌>>=◌, ◌∙◌, ◌∷◌, ◌≡◌}
-use Rattle.sc_parse.proofs.Bases.{base_front, NoInt, NoBracket, base_exact, no_length, in_brackets, declarator_sound}
+use Rattle.sc_parse.proofs.Bases.{base_start, NoInt, NoBracket, base_exact, no_length, in_brackets, declarator_sound}
 use Rattle.sc_parse.proofs.Bases.{declarator_reads, stars_no_int, integer_is}
 use Rattle.sc_parse.proofs.Exact.{Adds, Any, Before, Complete, Exact, ExactAdder, Form, Hereditary, Property, Then}
 use Rattle.sc_parse.proofs.Exact.{adding, any, before, before_exact, both, commas_exact, fitting, then_exact, took}
-use Rattle.sc_parse.proofs.Exact.{Behind, Between, IsName, Sound, Taken, a_name, after, behind_word, between_exact}
+use Rattle.sc_parse.proofs.Exact.{AfterWord, Between, IsName, Sound, Taken, a_name, after_mark, after_word, between_exact}
 use Rattle.sc_parse.proofs.Exact.{chosen, from_none, given, grouped_exact, name_exact, same_pair, separated_exact}
 use Rattle.sc_parse.proofs.Exact.{word_taken}
 use Rattle.sc_expr.specs.declared.mark.Mark.TheVariants as mark
@@ -58,12 +58,12 @@ declarator_no_int (plain {ts = ts} t name p d) rest =
 declarator_no_int (array {ts = ts} t u v w name number elements p q r s k d) rest =
     subst NoInt (sym (append_assoc ts _ rest)) (stars_no_int d (t ∷ u ∷ v ∷ w ∷ rest) (rw p))
 
-pub separated_front : {A : Type 0} {Item : List Lexeme → A → Type 0} (P : List Lexeme → Type 0)
-    (front : (ts rest : List Lexeme) (x : A) → Item ts x → P (ts ++ rest)) {ts : List Lexeme} {xs : List A}
+pub separated_prefix : {A : Type 0} {Item : List Lexeme → A → Type 0} (P : List Lexeme → Type 0)
+    (lookahead : (ts rest : List Lexeme) (x : A) → Item ts x → P (ts ++ rest)) {ts : List Lexeme} {xs : List A}
     (d : Separated Item ts xs) (rest : List Lexeme) → P (ts ++ rest)
-separated_front P front (one {ts = ts} {x = x} d) rest = front ts rest x d
-separated_front P front (more {ts = ts} {us = us} {x = x} t p d g) rest =
-    subst P (sym (append_assoc ts _ rest)) (front ts (t ∷ us ++ rest) x d)
+separated_prefix P lookahead (one {ts = ts} {x = x} d) rest = lookahead ts rest x d
+separated_prefix P lookahead (more {ts = ts} {us = us} {x = x} t p d g) rest =
+    subst P (sym (append_assoc ts _ rest)) (lookahead ts (t ∷ us ++ rest) x d)
 
 module _ {A : Type 0} {Fits : Property} (parts : Hereditary Fits) {Item : BaseTree → ℕ → Form A} {Ends : Property}
     {item : BaseTree → ℕ → Reader A}
@@ -79,7 +79,7 @@ module _ {A : Type 0} {Fits : Property} (parts : Hereditary Fits) {Item : BaseTr
   items_no_int : (line : ℕ) (xs : List A) (base : BaseTree) (us : List Lexeme) (ys : List A) →
       ItemsOf line xs base us ys → (rest : List Lexeme) → Any rest → NoInt (us ++ rest)
   items_no_int line xs base _ _ (before {ts = ts} t p (adding g)) rest h =
-      subst NoInt (sym (append_assoc ts (t ∷ []) rest)) (separated_front NoInt (no_int base line) g (t ∷ rest))
+      subst NoInt (sym (append_assoc ts (t ∷ []) rest)) (separated_prefix NoInt (no_int base line) g (t ∷ rest))
 
   lined_exact : (line : ℕ) (xs : List A) → Exact Fits (Then SpellsBase (ItemsOf line xs)) Any (λ ts.
       base_at ts >>= (λ x. before_mark mark.Semicolon (all_separated (adds (item x.0 line)) xs) x.1))
@@ -91,7 +91,7 @@ module _ {A : Type 0} {Fits : Property} (parts : Hereditary Fits) {Item : BaseTr
       Then SpellsBase (ItemsOf line xs) ts ys → Adds (Declares Item) xs ts ys
   lined_is rest e (both {ts = ts} {us = us} {x = base} b (before {ts = vs} t p (adding {zs = zs} g))) =
       adding (declares t p b (subst (λ n. Separated (Item base n) vs zs)
-      (e ∙ ap first_line (append_assoc ts us rest) ∙ (base_front b).line (us ++ rest)) g))
+      (e ∙ ap first_line (append_assoc ts us rest) ∙ (base_start b).line (us ++ rest)) g))
 
   pub declaration_exact : ExactAdder Fits (Declares Item) Any (declaration_at (λ base line. adds (item base line)))
   unfolding declaration_at
@@ -104,7 +104,7 @@ module _ {A : Type 0} {Fits : Property} (parts : Hereditary Fits) {Item : BaseTr
     where
       complete : Complete Fits (Adds (Declares Item) xs) Any (declaration_at (λ base line. adds (item base line)) xs)
       complete _ _ (adding (declares {ts = ts} {us = us} {base = base} {xs = zs} t p b g)) rest fits ends =
-          let line = ap first_line (append_assoc ts (us ++ t ∷ []) rest) ∙ (base_front b).line _ in
+          let line = ap first_line (append_assoc ts (us ++ t ∷ []) rest) ∙ (base_start b).line _ in
           let items = adding (subst (λ n. Separated (Item base n) us zs) (sym line) g) in
           (lined_exact _ xs).complete _ _ (both b (before t p items)) rest fits tt
 
@@ -159,7 +159,7 @@ member_exact base line = record {
 }
 
 -- a declaration of members
-pub member_line_exact : ExactAdder Any (Declares IsMember) Any (declaration_at members_behind)
+pub member_line_exact : ExactAdder Any (Declares IsMember) Any (declaration_at add_member)
 member_line_exact = declaration_exact any member_exact (λ t rest p. rw p) (λ t rest p. rw p)
     (λ base line ts rest x d. declarator_no_int d rest)
 
@@ -172,17 +172,17 @@ module _ {A : Type 0} (Item : BaseTree → ℕ → Form A) where
   pub declares_starts : {ts : List Lexeme} {xs : List A} (d : Declares Item ts xs) (rest : List Lexeme) →
       begins_with mark.CloseCurly (ts ++ rest) ≡ false
   declares_starts (declares {ts = ts} {us = us} t p d g) rest =
-      ap (begins_with mark.CloseCurly) (append_assoc ts _ rest) ∙ (base_front d).no_end ((us ++ t ∷ []) ++ rest)
+      ap (begins_with mark.CloseCurly) (append_assoc ts _ rest) ∙ (base_start d).no_end ((us ++ t ∷ []) ++ rest)
 
   pub declares_some : {ts : List Lexeme} {xs : List A} (d : Declares Item ts xs) → 0 < length ts
   declares_some (declares {ts = ts} {us = us} t p d g) = omega
-      (arith, (base_front d).some, length-append ts (us ++ t ∷ []))
+      (arith, (base_start d).some, length-append ts (us ++ t ∷ []))
 
   pub declares_many : {ts : List Lexeme} {xs : List A} (d : Declares Item ts xs) → 0 < length xs
   declares_many (declares t p d g) = separated_some g
 
 lines_exact : ExactAdder Any (Grouped (Declares IsMember)) (λ rest. begins_with mark.CloseCurly rest ≡ true)
-    (λ xs ts. grouped (begins_with mark.CloseCurly) (declaration_at members_behind) (length ts + 1) xs ts)
+    (λ xs ts. grouped (begins_with mark.CloseCurly) (declaration_at add_member) (length ts + 1) xs ts)
 lines_exact = grouped_exact any _ member_line_exact (λ us rest zs d. declares_starts IsMember d rest)
     (λ us zs d. declares_some IsMember d) (λ rest h. tt) (λ us rest zs d. tt)
 
@@ -222,12 +222,12 @@ tail_exact line = then_exact any name_exact (λ tag. before_exact any mark.Semic
     (λ x us y d rest h. tt)
 
 struct_is : {line : ℕ} {ts : List Lexeme} {x : StructTree} (rest : List Lexeme) → line ≡ first_line (ts ++ rest) →
-    Behind word.Struct (Tail line) ts x → SpellsStruct ts x
-struct_is rest e (behind_word t k (both (a_name u tag q)
-    (before y l (after v r (before w s (next {ts = ts} {us = us} {xs = xs} {ys = ys} d g, some)))))) =
+    AfterWord word.Struct (Tail line) ts x → SpellsStruct ts x
+struct_is rest e (after_word t k (both (a_name u tag q)
+    (before y l (after_mark v r (before w s (next {ts = ts} {us = us} {xs = xs} {ys = ys} d g, some)))))) =
     subst₂ (λ n z. SpellsStruct (t ∷ u ∷ v ∷ z) (struct_tree tag (xs ++ ys) n)) (sym e)
     (sym (append_assoc (ts ++ us) _ _ ∙ append_assoc ts us _)) (struct t u v w y tag k q r s l d g)
-struct_is rest e (behind_word t k (both (a_name u tag q) (before y l (after v r (before w s (none, some)))))) =
+struct_is rest e (after_word t k (both (a_name u tag q) (before y l (after_mark v r (before w s (none, some)))))) =
     absurd (omega arith)
 
 pub struct_sound : (ts rest : List Lexeme) (x : StructTree) → keyword_at ts ≡ Some word.Struct →
@@ -244,7 +244,7 @@ struct_complete (struct {ts = ts} {us = us} {members = members} {others = others
     let some : 0 < length (members ++ others) =
     omega (arith, declares_many IsMember d, length-append members others) in
     ap (λ z. struct_at (t ∷ u ∷ v ∷ (z ++ rest))) (sym (append_assoc (ts ++ us) _ _ ∙ append_assoc ts us _)) ∙
-    (tail_exact t.line).complete _ _ (both (a_name u tag q) (before y l (after v r (before w k (next d g, some))))) rest
+    (tail_exact t.line).complete _ _ (both (a_name u tag q) (before y l (after_mark v r (before w k (next d g, some))))) rest
     tt tt
 
 -- an integer, with or without a sign
@@ -265,7 +265,7 @@ const_sound ts rest x h = given _ _ _ h (λ q e.
       split = l.2;
       spelled = subst (SpellsConst (l.0 ∷ [])) (sym l.4) (plain l.0 l.1 l.3);
     }) (λ us q e.
-    let t = behind_mark mark.Minus ts us q in
+    let t = first_mark mark.Minus ts us q in
     let l = literal_sound true us rest x e in
     record {
       taken = t.0 ∷ l.0 ∷ [];
@@ -286,10 +286,10 @@ const_starts : {ts : List Lexeme} {x : ConstTree} (d : SpellsConst ts x) (rest :
 const_starts (plain t number p) rest = rw p
 const_starts (negated t u number p q) rest = rw p
 
-inner_ahead : (us vs : List Lexeme) → behind_inner_comma us ≡ Some vs →
+inner_ahead : (us vs : List Lexeme) → after_inner_comma us ≡ Some vs →
     (t : Lexeme) × (us ≡ t ∷ vs) × IsMark mark.Comma t
 inner_ahead [] vs h = absurd (none-some vs h)
-inner_ahead (t ∷ ts) vs h = chosen _ _ _ h (λ q e. absurd (none-some vs e)) (λ q e. behind_mark _ _ vs e)
+inner_ahead (t ∷ ts) vs h = chosen _ _ _ h (λ q e. absurd (none-some vs e)) (λ q e. first_mark _ _ vs e)
 
 consts_starts : {ts : List Lexeme} {xs : List ConstTree} (d : Separated SpellsConst ts xs) (rest : List Lexeme) →
     begins_with mark.CloseCurly (ts ++ rest) ≡ false
@@ -297,8 +297,8 @@ consts_starts (lists.one d) rest = const_starts d rest
 consts_starts (more {ts = ts} {us = us} t p d g) rest =
     ap (begins_with mark.CloseCurly) (append_assoc ts _ rest) ∙ const_starts d (t ∷ us ++ rest)
 
-pub all_consts_exact : ExactAdder Any (Separated SpellsConst) (λ rest. Any rest × (behind_inner_comma rest ≡ None))
-    (λ xs ts. separated behind_inner_comma (adds const_at) (length ts + 1) xs ts)
+pub all_consts_exact : ExactAdder Any (Separated SpellsConst) (λ rest. Any rest × (after_inner_comma rest ≡ None))
+    (λ xs ts. separated after_inner_comma (adds const_at) (length ts + 1) xs ts)
 all_consts_exact = separated_exact any _ inner_ahead const_exact (λ t rest p. tt)
     (λ t us rest zs p d. rw (consts_starts d rest, p))
 
@@ -308,9 +308,9 @@ data IsComma : List Lexeme → Type 0 where
   a_comma : (t : Lexeme) → IsMark mark.Comma t → IsComma (t ∷ [])
 
 comma_taken : (us : List Lexeme) → Taken (λ taken x. IsComma taken) us (tt {0}) (past_comma us)
-comma_taken us = given (λ rest. rest) (behind mark.Comma us) us refl
+comma_taken us = given (λ rest. rest) (following mark.Comma us) us refl
     (λ q e. record { taken = []; split = e; spelled = no_comma }) (λ vs q e.
-    let t = behind_mark mark.Comma us vs q in
+    let t = first_mark mark.Comma us vs q in
     record { taken = t.0 ∷ []; split = t.1 ∙ ap (λ l. t.0 ∷ l) e; spelled = a_comma t.0 t.2 })
 
 -- Constants after `{`, up to the `}`.
@@ -333,7 +333,7 @@ consts_sound ts rest x h =
     let n = bound _ _ _ c.2 in
     let l = (from_none all_consts_exact).sound ts b.0.1 b.0.0 b.1 in
     let k = comma_taken b.0.1 in
-    let v = behind_mark mark.CloseCurly (past_comma b.0.1) c.0 c.1 in
+    let v = first_mark mark.CloseCurly (past_comma b.0.1) c.0 c.1 in
     took (l.taken ++ (k.taken ++ v.0 ∷ [])) n.2
     (glued c.0 l.taken (k.taken ++ v.0 ∷ []) l.split (glued c.0 k.taken (v.0 ∷ []) k.split v.1))
     (listed (subst (Separated SpellsConst l.taken) (non_empty_some b.0.0 n.0 n.1).0 l.spelled) k.spelled v.0 v.2)
@@ -341,7 +341,7 @@ consts_sound ts rest x h =
 consts_complete : Complete Any IsListed Any consts_at
 unfolding consts_at
 consts_complete _ _ (bare {ts = ts} {values = values} v p d) rest fits h =
-    let closed : behind_inner_comma (v ∷ rest) ≡ None =
+    let closed : after_inner_comma (v ∷ rest) ≡ None =
     cond_both (begins_with mark.CloseCurly rest) _ _ (λ o. o ≡ None) (λ q. refl) (λ q. rw p) in
     let all = (from_none all_consts_exact).complete ts values d (v ∷ rest) tt (tt, closed) in
     ap consts_at (append_assoc ts (v ∷ []) rest) ∙ rw (all, p, non_empty_is values (separated_some d))
@@ -355,14 +355,14 @@ in_braces t u p q (bare v r d) = many t u v p q r d
 in_braces t u p q (with_comma w v k r d) = many_comma t u w v p q k r d
 
 init_sound : Sound SpellsInit init_at
-unfolding init_at init_behind
+unfolding init_at initialiser_at
 init_sound ts rest x h = given _ _ _ h (λ q e. took [] e refl absent) (λ us q e.
-    let t = behind_mark mark.Equal ts us q in
+    let t = first_mark mark.Equal ts us q in
     given _ _ _ e (λ q e.
     let b = bound (λ x. Some (init.One x.0, x.1)) (const_at us) (x, rest) e in
     let c = const_exact.sound us b.0.1 b.0.0 b.1 in
     took (t.0 ∷ c.taken) b.2 (t.1 ∙ ap (λ l. t.0 ∷ l) c.split) (one t.0 t.2 c.spelled)) (λ vs q e.
-    let u = behind_mark mark.OpenCurly us vs q in
+    let u = first_mark mark.OpenCurly us vs q in
     let c = consts_sound vs rest x e in
     record {
       taken = t.0 ∷ u.0 ∷ c.taken;
@@ -371,15 +371,15 @@ init_sound ts rest x h = given _ _ _ h (λ q e. took [] e refl absent) (λ us q 
     }))
 
 abbrev NoEqual : Property
-NoEqual rest = behind mark.Equal rest ≡ None
+NoEqual rest = following mark.Equal rest ≡ None
 
 const_no_brace : {ts : List Lexeme} {x : ConstTree} (d : SpellsConst ts x) (rest : List Lexeme) →
-    behind mark.OpenCurly (ts ++ rest) ≡ None
+    following mark.OpenCurly (ts ++ rest) ≡ None
 const_no_brace (plain t number p) rest = rw p
 const_no_brace (negated t u number p q) rest = rw p
 
 init_complete : Complete Any SpellsInit NoEqual init_at
-unfolding init_at init_behind
+unfolding init_at initialiser_at
 init_complete _ _ absent rest fits h = rw h
 init_complete _ _ (one t p d) rest fits h = rw (p, const_no_brace d rest, const_exact.complete _ _ d rest tt tt)
 init_complete _ _ (many t u v p q r d) rest fits h = rw (p, q, consts_complete _ _ (bare v r d) rest tt tt)
@@ -405,6 +405,6 @@ global_exact base line =
     valued_exact any _ (record { sound = init_sound; complete = init_complete }) init_no_bracket base
 
 -- a declaration of globals
-pub globals_exact : ExactAdder Any (Declares IsGlobalDecl) Any (declaration_at globals_behind)
+pub globals_exact : ExactAdder Any (Declares IsGlobalDecl) Any (declaration_at add_global)
 globals_exact = declaration_exact any global_exact (λ t rest p. (rw p, rw p)) (λ t rest p. (rw p, rw p))
     (λ base line ts rest x d. valued_no_int d rest)

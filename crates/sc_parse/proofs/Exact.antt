@@ -1,7 +1,7 @@
 -- Readers that read exactly what is spelled, of single items and of lists.
 use Rattle.sc_parse.proofs.Common.{Adder, Bool, Grouped, IsIdent, IsKeyword, IsMark, Keyword, Lexeme, List, Mark, None}
 use Rattle.sc_parse.proofs.Common.{Option, Reader, Separated, Some, Symbol, [], adds, all_separated, ap, append-nil}
-use Rattle.sc_parse.proofs.Common.{append_assoc, arith, before_mark, behind, behind_mark, bound, cond, drop, ended_by}
+use Rattle.sc_parse.proofs.Common.{append_assoc, arith, before_mark, following, first_mark, bound, cond, drop, ended_by}
 use Rattle.sc_parse.proofs.Common.{false, glued, grouped, highest, is_mark, keyword_at, keyword_by, length}
 use Rattle.sc_parse.proofs.Common.{length-append, map, max, more, name_ahead, name_at, next, none, none-some, one}
 use Rattle.sc_parse.proofs.Common.{option_map_or, refl, same_some, separated, subst, suc, sym, true, zero, ℕ, ◌++◌, ◌+◌}
@@ -88,8 +88,8 @@ pub data Made {A B : Type 0} (f : A → B) (Item : Form A) : List Lexeme → B �
   made : {ts : List Lexeme} {x : A} → Item ts x → Made f Item ts (f x)
 
 -- What follows a mark, with the mark.
-pub data After {A : Type 0} (m : Mark) (Item : Form A) : List Lexeme → A → Type 0 where
-  after : {ts : List Lexeme} {x : A} (t : Lexeme) → IsMark m t → Item ts x → After m Item (t ∷ ts) x
+pub data AfterMark {A : Type 0} (m : Mark) (Item : Form A) : List Lexeme → A → Type 0 where
+  after_mark : {ts : List Lexeme} {x : A} (t : Lexeme) → IsMark m t → Item ts x → AfterMark m Item (t ∷ ts) x
 
 -- What stands before a mark, with the mark, made into something else.
 pub data Before {A B : Type 0} (m : Mark) (f : A → B) (Item : Form A) : List Lexeme → B → Type 0 where
@@ -97,11 +97,11 @@ pub data Before {A B : Type 0} (m : Mark) (f : A → B) (Item : Form A) : List L
 
 -- What stands between two marks, with the marks.
 abbrev pub Between : {A : Type 0} → Mark → Mark → Form A → Form A
-Between opens closes Item = After opens (Before closes (λ x. x) Item)
+Between opens closes Item = AfterMark opens (Before closes (λ x. x) Item)
 
 -- What follows a word, with the word.
-pub data Behind {A : Type 0} (word : Keyword) (Item : Form A) : List Lexeme → A → Type 0 where
-  behind_word : {ts : List Lexeme} {x : A} (t : Lexeme) → IsKeyword word t → Item ts x → Behind word Item (t ∷ ts) x
+pub data AfterWord {A : Type 0} (word : Keyword) (Item : Form A) : List Lexeme → A → Type 0 where
+  after_word : {ts : List Lexeme} {x : A} (t : Lexeme) → IsKeyword word t → Item ts x → AfterWord word Item (t ∷ ts) x
 
 -- One form, then another, which the value of the first chooses.
 pub data Then {A B : Type 0} (Item : Form A) (Next : A → Form B) : List Lexeme → B → Type 0 where
@@ -149,9 +149,9 @@ pub made_of : {A B : Type 0} {f : A → B} {Item : Form A} (Other : Form B) →
 made_of Other make _ _ (made d) = make _ _ d
 
 -- what was read after a lexeme, with it
-pub front_taken : {A : Type 0} {Item Other : Form A} {ts us rest : List Lexeme} {x : A} (t : Lexeme) → ts ≡ t ∷ us →
+pub first_taken : {A : Type 0} {Item Other : Form A} {ts us rest : List Lexeme} {x : A} (t : Lexeme) → ts ≡ t ∷ us →
     Taken Item us x rest → ((vs : List Lexeme) → Item vs x → Other (t ∷ vs) x) → Taken Other ts x rest
-front_taken t is d make =
+first_taken t is d make =
     record { taken = t ∷ d.taken; split = is ∙ ap (λ l. t ∷ l) d.split; spelled = make d.taken d.spelled }
 
 keyword_is : (s : Symbol) (word : Keyword) → keyword_by s ≡ Some word → s ≡ symbol.Keyword word
@@ -169,16 +169,16 @@ word_ahead [] word h = absurd (none-some word h)
 word_ahead (t ∷ ts) word h = record { first = t; is = refl; keyword = keyword_is _ word h }
 
 pub word_taken : {A : Type 0} {Item : Form A} (ts : List Lexeme) {rest : List Lexeme} {x : A} {word : Keyword} →
-    keyword_at ts ≡ Some word → Taken Item (drop 1 ts) x rest → Taken (Behind word Item) ts x rest
+    keyword_at ts ≡ Some word → Taken Item (drop 1 ts) x rest → Taken (AfterWord word Item) ts x rest
 word_taken ts {word = word} h d = let t = word_ahead ts word h in
-    front_taken t.first t.is d (λ vs d. behind_word t.first t.keyword d)
+    first_taken t.first t.is d (λ vs d. after_word t.first t.keyword d)
 
 mark_same : (m : Mark) → is_mark m (symbol.Mark m) ≡ true
 mark_same m = true_same the_type m m refl
 
 module _ {Fits : Property} (parts : Hereditary Fits) where
-  pub fits_behind : (t : Lexeme) (ts : List Lexeme) → Fits (t ∷ ts) → Fits ts
-  fits_behind t ts h = parts.right (t ∷ []) ts h
+  pub fits_after : (t : Lexeme) (ts : List Lexeme) → Fits (t ∷ ts) → Fits ts
+  fits_after t ts h = parts.right (t ∷ []) ts h
 
   pub then_exact : {A B : Type 0} {Item : Form A} {Next : A → Form B} {Ends Last : Property} {reader : Reader A}
       {next : A → Reader B} → Exact Fits Item Ends reader → ((x : A) → Exact Fits (Next x) Last (next x)) →
@@ -204,18 +204,18 @@ module _ {Fits : Property} (parts : Hereditary Fits) where
           ((second x).complete _ _ e rest (parts.right ts us fits) ends)
 
   pub after_exact : {A : Type 0} {Item : Form A} {Ends : Property} {reader : Reader A} (m : Mark) →
-      Exact Fits Item Ends reader → Exact Fits (After m Item) Ends (λ ts. behind m ts >>= reader)
+      Exact Fits Item Ends reader → Exact Fits (AfterMark m Item) Ends (λ ts. following m ts >>= reader)
   after_exact {A} {Item} {Ends} {reader} m exact = record {
     sound = λ ts rest x h.
         let b = bound _ _ _ h in
-        let t = behind_mark m ts b.0 b.1 in
-        front_taken t.0 t.1 (exact.sound b.0 rest x b.2) (λ vs d. after t.0 t.2 d);
+        let t = first_mark m ts b.0 b.1 in
+        first_taken t.0 t.1 (exact.sound b.0 rest x b.2) (λ vs d. after_mark t.0 t.2 d);
     complete = complete;
   }
     where
-      complete : Complete Fits (After m Item) Ends (λ ts. behind m ts >>= reader)
-      complete _ _ (after {ts = ts} t p d) rest fits ends =
-          rw (p, mark_same m) (exact.complete ts _ d rest (fits_behind t ts fits) ends)
+      complete : Complete Fits (AfterMark m Item) Ends (λ ts. following m ts >>= reader)
+      complete _ _ (after_mark {ts = ts} t p d) rest fits ends =
+          rw (p, mark_same m) (exact.complete ts _ d rest (fits_after t ts fits) ends)
 
   pub before_exact : {A B : Type 0} {Item : Form A} {Ends : Property} {reader : Reader A} (m : Mark) (f : A → B) →
       Exact Fits Item Ends reader → ((t : Lexeme) (rest : List Lexeme) → IsMark m t → Ends (t ∷ rest)) →
@@ -225,7 +225,7 @@ module _ {Fits : Property} (parts : Hereditary Fits) where
         let b = bound _ _ _ h in
         let c = bound _ _ _ b.2 in
         let d = exact.sound ts b.0.1 b.0.0 b.1 in
-        let t = behind_mark m b.0.1 c.0 c.1 in
+        let t = first_mark m b.0.1 c.0 c.1 in
         took (d.taken ++ t.0 ∷ []) c.2 (glued c.0 d.taken (t.0 ∷ []) d.split t.1) (before t.0 t.2 d.spelled);
     complete = complete;
   }
@@ -237,7 +237,7 @@ module _ {Fits : Property} (parts : Hereditary Fits) where
 
   pub between_exact : {A : Type 0} {Item : Form A} {Ends : Property} {reader : Reader A} (opens closes : Mark) →
       Exact Fits Item Ends reader → ((t : Lexeme) (rest : List Lexeme) → IsMark closes t → Ends (t ∷ rest)) →
-      Exact Fits (Between opens closes Item) Any (λ ts. behind opens ts >>= before_mark closes reader)
+      Exact Fits (Between opens closes Item) Any (λ ts. following opens ts >>= before_mark closes reader)
   between_exact opens closes exact meets = after_exact opens (before_exact closes (λ x. x) exact meets)
 
   -- what all lexemes fit, these fit
@@ -326,7 +326,7 @@ module _ {A : Type 0} {Fits : Property} (parts : Hereditary Fits) where
           let first = (adds_exact exact xs).complete ts _ (adding (single d)) (t ∷ (us ++ rest)) (parts.left ts _ fits)
           (before_comma t (us ++ rest) p) in
           let others = separated_reads g turns (xs ++ x ∷ []) rest (omega arith)
-          (fits_behind parts t us (parts.right ts _ fits)) ends stop in
+          (fits_after parts t us (parts.right ts _ fits)) ends stop in
           ap (λ l. separated comma (adds reader) (suc turns) xs l) (append_assoc ts _ rest)
           ∙ rw (first, goes_on t us rest zs p g) (others ∙ ap (λ l. Some (l, rest)) (append_assoc xs _ zs))
 
@@ -346,9 +346,9 @@ module _ {A : Type 0} {Fits : Property} (parts : Hereditary Fits) where
   -- only commas stand between the items
   pub commas_exact : {Item : Form A} {Ends : Property} {reader : Reader A} → Exact Fits Item Ends reader →
       ((t : Lexeme) (rest : List Lexeme) → IsMark mark.Comma t → Ends (t ∷ rest)) →
-      ExactAdder Fits (Separated Item) (λ rest. Ends rest × (behind mark.Comma rest ≡ None))
+      ExactAdder Fits (Separated Item) (λ rest. Ends rest × (following mark.Comma rest ≡ None))
       (all_separated (adds reader))
-  commas_exact exact before_comma = separated_exact (behind mark.Comma) (λ us vs h. behind_mark _ us vs h) exact
+  commas_exact exact before_comma = separated_exact (following mark.Comma) (λ us vs h. first_mark _ us vs h) exact
       before_comma (λ t us rest zs p d. rw p)
 
   module _ (ends : List Lexeme → Bool) {Group : Form (List A)} {Ends : Property} {group : Adder A}

@@ -1,15 +1,15 @@
 -- Expressions in statements, and calls, are read exactly as they are spelled.
 use Rattle.sc_parse.proofs.Common.{Bool, CallTree, ExprTree, Lexeme, List, Mark, None, Prefix, Separated, Some, Spells}
 use Rattle.sc_parse.proofs.Common.{SpellsArgs, SpellsCall, Symbol, [], all_separated, ap, append_assoc, args_at}
-use Rattle.sc_parse.proofs.Common.{args_behind, arith, arrow, begins_call, begins_with, behind, binary_of, bound, call}
+use Rattle.sc_parse.proofs.Common.{add_arg, arith, arrow, begins_call, begins_with, following, binary_of, bound, call}
 use Rattle.sc_parse.proofs.Common.{call_at, call_height, call_tree, expr_at, expr_height, exprs_height, extension_at}
 use Rattle.sc_parse.proofs.Common.{false, false_from_ne_true, false≢true, found, index, is_some, joined, lead_by}
 use Rattle.sc_parse.proofs.Common.{literal, looser, loosest_level, member, more, most_open, no_args, none-some, one}
-use Rattle.sc_parse.proofs.Common.{open_after, open_behind, open_low, parenthesised, prefix, prefix_of, read}
+use Rattle.sc_parse.proofs.Common.{open_after, open_after_mark, open_low, parenthesised, prefix, prefix_of, read}
 use Rattle.sc_parse.proofs.Common.{read_sound, refl, some_args, sym, true, variable, ℕ, ◌++◌, ◌∙◌, ◌∷◌, ◌≡◌, ◌≤◌}
 use Rattle.sc_parse.proofs.Bases.{other_mark, mark_is}
 use Rattle.sc_parse.proofs.Exact.{Any, Between, Complete, Exact, Form, Hereditary, IsName, Low, Made, Property, Then}
-use Rattle.sc_parse.proofs.Exact.{Turns, a_name, after, as_form, before, between_exact, both, chosen, commas_exact}
+use Rattle.sc_parse.proofs.Exact.{Turns, a_name, after_mark, as_form, before, between_exact, both, chosen, commas_exact}
 use Rattle.sc_parse.proofs.Exact.{formed_exact, from_none, items_apart, items_joined, made, made_exact, name_exact}
 use Rattle.sc_parse.proofs.Exact.{then_exact, took}
 use Rattle.sc_expr.specs.declared.mark.Mark.TheVariants as mark
@@ -24,17 +24,17 @@ most_left : (n : ℕ) (ts us : List Lexeme) → most_open n ts ≤ most_open n (
 most_left n [] us = open_low n us
 most_left n (t ∷ ts) us = omega (arith, most_left (open_after t.symbol n) ts us)
 
-behind_more : (m : Mark) (n k : ℕ) → n ≤ k → open_behind m n ≤ open_behind m k
-behind_more mark.OpenParen n k h = omega arith
-behind_more mark.OpenSquare n k h = omega arith
-behind_more mark.OpenCurly n k h = omega arith
-behind_more mark.CloseParen n k h = omega arith
-behind_more mark.CloseSquare n k h = omega arith
-behind_more mark.CloseCurly n k h = omega arith
-behind_more _ n k h = h
+after_mark_more : (m : Mark) (n k : ℕ) → n ≤ k → open_after_mark m n ≤ open_after_mark m k
+after_mark_more mark.OpenParen n k h = omega arith
+after_mark_more mark.OpenSquare n k h = omega arith
+after_mark_more mark.OpenCurly n k h = omega arith
+after_mark_more mark.CloseParen n k h = omega arith
+after_mark_more mark.CloseSquare n k h = omega arith
+after_mark_more mark.CloseCurly n k h = omega arith
+after_mark_more _ n k h = h
 
 after_more : (s : Symbol) (n k : ℕ) → n ≤ k → open_after s n ≤ open_after s k
-after_more (symbol.Mark m) n k h = behind_more m n k h
+after_more (symbol.Mark m) n k h = after_mark_more m n k h
 after_more _ n k h = h
 
 most_more : (n k : ℕ) (ts : List Lexeme) → n ≤ k → most_open n ts ≤ most_open k ts
@@ -135,7 +135,7 @@ args_start (more {ts = ts} {us = us} t p d g) rest = ap begins_expr (append_asso
 
 -- `)` follows arguments
 abbrev EndsArgs : Property
-EndsArgs rest = (NoExtension rest × (behind mark.Comma rest ≡ None)) × (begins_with mark.CloseParen rest ≡ true)
+EndsArgs rest = (NoExtension rest × (following mark.Comma rest ≡ None)) × (begins_with mark.CloseParen rest ≡ true)
 
 args_exact : (free room : ℕ) → Exact (Few free) (Low SpellsArgs exprs_height room) EndsArgs (args_at free room)
 unfolding args_at
@@ -146,8 +146,8 @@ args_exact free room = record {
   complete = complete;
 }
   where
-    listed : Exact (Few free) (Separated (IsExpr room)) (λ rest. NoExtension rest × (behind mark.Comma rest ≡ None))
-        (all_separated (args_behind free room) [])
+    listed : Exact (Few free) (Separated (IsExpr room)) (λ rest. NoExtension rest × (following mark.Comma rest ≡ None))
+        (all_separated (add_arg free room) [])
     listed = from_none (commas_exact (few free) (expr_exact free room) (λ t rest p. rw p))
 
     complete : Complete (Few free) (Low SpellsArgs exprs_height room) EndsArgs (args_at free room)
@@ -172,10 +172,10 @@ call_exact free room = formed_exact (then_exact (few free) name_exact (λ name. 
     (λ t rest p. ((rw p, rw p), rw p)))) (λ x us y d rest h. tt)) joined_call call_apart (λ rest h. h)
   where
     joined_call : Turns (CallParts room) (IsCall room)
-    joined_call _ _ (both (a_name t name p) (made (after u q (before v r d)))) = (call t u v name p q r d.0, d.1)
+    joined_call _ _ (both (a_name t name p) (made (after_mark u q (before v r d)))) = (call t u v name p q r d.0, d.1)
 
     call_apart : Turns (IsCall room) (CallParts room)
-    call_apart _ _ (call t u v name p q r d, low) = both (a_name t name p) (made (after u q (before v r (d, low))))
+    call_apart _ _ (call t u v name p q r d, low) = both (a_name t name p) (made (after_mark u q (before v r (d, low))))
 
 -- an identifier and `(` begin a call
 pub call_begins : {ts : List Lexeme} {x : CallTree} (d : SpellsCall ts x) (rest : List Lexeme) →

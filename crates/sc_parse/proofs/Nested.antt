@@ -1,14 +1,14 @@
 -- Blocks and the statements that hold them are read exactly as they are spelled.
 use Rattle.sc_parse.proofs.Common.{ExprTree, Grouped, IsKeyword, IsMark, Keyword, Lexeme, List, None, Option, Reader}
-use Rattle.sc_parse.proofs.Common.{SimpleKind, Some, SpellsBlock, SpellsIf, SpellsStmts, StmtKind, StmtTree, [], alone}
+use Rattle.sc_parse.proofs.Common.{SimpleKind, Some, SpellsBlock, SpellsIf, SpellsStmts, StmtKind, StmtTree, [], lone_if}
 use Rattle.sc_parse.proofs.Common.{ap, append-nil, append_assoc, arith, begins_with, block, block_at, bound, choice}
-use Rattle.sc_parse.proofs.Common.{cond, drop, else_at, else_behind, empty, ended_at, false, false≢true, first_line}
-use Rattle.sc_parse.proofs.Common.{first_part, for_behind, for_head, for_height, for_loop, for_parts, if_behind}
+use Rattle.sc_parse.proofs.Common.{cond, drop, else_at, after_else, empty, ended_at, false, false≢true, first_line}
+use Rattle.sc_parse.proofs.Common.{first_part, after_for, for_head, for_height, for_loop, for_parts, after_if}
 use Rattle.sc_parse.proofs.Common.{if_height, is_else, is_if, keyword_at, kind_by, kind_height, kind_of, last_part}
 use Rattle.sc_parse.proofs.Common.{loop_of, middle_part, none-some, otherwise, otherwise_if, plain_at, plain_height}
 use Rattle.sc_parse.proofs.Common.{refl, return_call, return_call_height, return_nothing, return_value, returned}
 use Rattle.sc_parse.proofs.Common.{simple_at, stmt_at, stmt_tree, stmt_within, stmts_at, stmts_height, subst, suc, sym}
-use Rattle.sc_parse.proofs.Common.{tree_height, true, value_height, while_behind, while_height, while_loop, zero, ℕ}
+use Rattle.sc_parse.proofs.Common.{tree_height, true, value_height, after_while, while_height, while_loop, zero, ℕ}
 use Rattle.sc_parse.proofs.Common.{◌++◌, ◌<◌, ◌∙◌, ◌∷◌, ◌≡◌, ◌≤◌}
 use Rattle.sc_parse.specs.Statements.{plain}
 use Rattle.sc_ast.specs.declared.stmt.StmtKind.TheVariants as stmt
@@ -17,9 +17,9 @@ use Rattle.sc_expr.specs.declared.mark.Mark.TheVariants as mark
 use Rattle.sc_parse.specs.Lists as lists
 use Rattle.sc_parse.specs.Statements as statements
 use Rattle.sc_parse.specs.declared.stmts.ForHead.{ForHead}
-use Rattle.sc_parse.proofs.Exact.{Any, Before, Behind, Between, Complete, Exact, Form, Low, Made, One, Property, Sound}
-use Rattle.sc_parse.proofs.Exact.{Taken, Then, Turns, adds_exact, after, as_form, before, before_exact, behind_word}
-use Rattle.sc_parse.proofs.Exact.{between_exact, both, chosen, fits_behind, formed_exact, from_none, front_taken}
+use Rattle.sc_parse.proofs.Exact.{Any, Before, AfterWord, Between, Complete, Exact, Form, Low, Made, One, Property, Sound}
+use Rattle.sc_parse.proofs.Exact.{Taken, Then, Turns, adds_exact, after_mark, as_form, before, before_exact, after_word}
+use Rattle.sc_parse.proofs.Exact.{between_exact, both, chosen, fits_after, formed_exact, from_none, first_taken}
 use Rattle.sc_parse.proofs.Exact.{grouped_exact, made, made_exact, single, then_exact, took, word_ahead, word_taken}
 use Rattle.sc_parse.proofs.Bases.{mark_is}
 use Rattle.sc_parse.proofs.Expressions.{Few, call_begins, call_exact, call_starts, expr_exact, expr_starts, few}
@@ -74,7 +74,7 @@ one_starts (single {x = x} d) = (x.kind, stmt_starts d)
 
 if_begins : {ts : List Lexeme} {k : StmtKind} (d : SpellsIf ts k) (rest : List Lexeme) →
     is_if (keyword_at (ts ++ rest)) ≡ true
-if_begins (alone t p c b) rest = rw p
+if_begins (lone_if t p c b) rest = rw p
 if_begins (otherwise t u p q c b e) rest = rw p
 if_begins (otherwise_if t u p q c b e) rest = rw p
 
@@ -109,38 +109,38 @@ if_made : {room : ℕ} {ts us vs : List Lexeme} {c : ExprTree} {th : List StmtTr
 if_made {room} {ts} {us} {c = c} {th = th} t p k b (made nothing) =
     let height = if_height c th [] in
     subst (λ l. IsKind room (t ∷ (ts ++ l)) (stmt.If c th [])) (sym (append-nil us))
-    (choice (alone t p k.0 b.0), omega (arith, k.1, b.1))
+    (choice (lone_if t p k.0 b.0), omega (arith, k.1, b.1))
 if_made {c = c} {th = th} t p k b (made {x = e} (a_block u q d low)) =
     (choice (otherwise t u p q k.0 b.0 d), omega (arith, k.1, b.1, low, if_height c th e))
 if_made {c = c} {th = th} t p k b (made {x = e} (an_if {ts = ts} {k = kind} u q d low)) =
     let heights = if_height c th e in
     (choice (otherwise_if t u p q k.0 b.0 d), omega (arith, k.1, b.1, low, tree_height (first_line ts) kind))
 
-if_is : {room : ℕ} → Turns (Behind word.If (IfParts room)) (IsKind room)
-if_is _ _ (behind_word t p (both k (both b e))) = if_made t p k b e
+if_is : {room : ℕ} → Turns (AfterWord word.If (IfParts room)) (IsKind room)
+if_is _ _ (after_word t p (both k (both b e))) = if_made t p k b e
 
 if_apart : {room : ℕ} {ts : List Lexeme} {x : StmtKind} → SpellsIf ts x → kind_height x ≤ room →
-    Behind word.If (IfParts room) ts x
-if_apart {room} (alone {ts = ts} {us = us} {cond = c} {then_part = th} t p k b) low = let height = if_height c th [] in
-    subst (λ l. Behind word.If (IfParts room) (t ∷ (ts ++ l)) (stmt.If c th [])) (append-nil us)
-    (behind_word t p (both (k, omega arith) (both (b, omega arith) (made nothing))))
+    AfterWord word.If (IfParts room) ts x
+if_apart {room} (lone_if {ts = ts} {us = us} {cond = c} {then_part = th} t p k b) low = let height = if_height c th [] in
+    subst (λ l. AfterWord word.If (IfParts room) (t ∷ (ts ++ l)) (stmt.If c th [])) (append-nil us)
+    (after_word t p (both (k, omega arith) (both (b, omega arith) (made nothing))))
 if_apart (otherwise {cond = c} {then_part = th} {else_part = e} t u p q k b d) low = let height = if_height c th e in
-    behind_word t p (both (k, omega arith) (both (b, omega arith) (made (a_block u q d (omega arith)))))
+    after_word t p (both (k, omega arith) (both (b, omega arith) (made (a_block u q d (omega arith)))))
 if_apart (otherwise_if {vs = vs} {cond = c} {then_part = th} {kind = kind} t u p q k b d) low =
     let height = if_height c th (stmt_tree (first_line vs) kind ∷ []) in
     let one = tree_height (first_line vs) kind in
-    behind_word t p (both (k, omega arith) (both (b, omega arith) (made (an_if u q d (omega arith)))))
+    after_word t p (both (k, omega arith) (both (b, omega arith) (made (an_if u q d (omega arith)))))
 
-while_is : {room : ℕ} → Turns (Behind word.While (WhileParts room)) (IsKind room)
-while_is _ _ (behind_word t p (both {x = c} k (made {x = body} b))) =
+while_is : {room : ℕ} → Turns (AfterWord word.While (WhileParts room)) (IsKind room)
+while_is _ _ (after_word t p (both {x = c} k (made {x = body} b))) =
     (while_loop t p k.0 b.0, omega (arith, k.1, b.1, while_height c body))
 
 for_lexemes : (u v w x : Lexeme) (ts us vs ws : List Lexeme) →
     ((u ∷ (ts ++ v ∷ [])) ++ ((us ++ w ∷ []) ++ (vs ++ x ∷ []))) ++ ws ≡ u ∷ (ts ++ v ∷ (us ++ w ∷ (vs ++ x ∷ ws)))
 for_lexemes u v w x ts us vs ws = simp append_assoc
 
-for_is : {room : ℕ} → Turns (Behind word.For (ForParts room)) (IsKind room)
-for_is {room} _ _ (behind_word t p (both (both (after u q (before {ts = ts} {x = first} v r f))
+for_is : {room : ℕ} → Turns (AfterWord word.For (ForParts room)) (IsKind room)
+for_is {room} _ _ (after_word t p (both (both (after_mark u q (before {ts = ts} {x = first} v r f))
     (both (before {ts = us} {x = c} w s k) (made (before {ts = vs} {x = next} x l n))))
     (made {ts = ws} {x = body} b))) =
     subst (λ l. IsKind room (t ∷ l) (stmt.For first c next body)) (sym (for_lexemes u v w x ts us vs ws))
@@ -158,17 +158,17 @@ module _ (free : ℕ) (room : ℕ) (inner : Reader StmtTree) (exact : Exact (Few
       joined_block block_apart (λ rest h. h)
     where
       joined_block : Turns (Between mark.OpenCurly mark.CloseCurly (IsStmts room)) (IsBlock room)
-      joined_block _ _ (after t p (before u q d)) = (block t u p q d.0, d.1)
+      joined_block _ _ (after_mark t p (before u q d)) = (block t u p q d.0, d.1)
 
       block_apart : Turns (IsBlock room) (Between mark.OpenCurly mark.CloseCurly (IsStmts room))
-      block_apart _ _ (block t u p q d, low) = after t p (before u q (d, low))
+      block_apart _ _ (block t u p q d, low) = after_mark t p (before u q (d, low))
 
   if_inner : {ts : List Lexeme} {ss : List StmtTree} (u : Lexeme) → IsKeyword word.Else u → (rest : List Lexeme) →
       is_if (keyword_at (ts ++ rest)) ≡ true → Made (λ x. x ∷ []) (IsStmt room) ts ss → IsElse room (u ∷ ts) ss
   if_inner u p rest h (made (a_stmt d low)) = an_if u p ((kind_starts d).an_if rest h) low
 
   else_sound : Sound (IsElse room) (else_at inner)
-  unfolding else_at else_behind
+  unfolding else_at after_else
   else_sound ts rest x h = chosen _ _ _ h (λ q e.
       let t = word_ahead ts word.Else (is_else_word _ q) in
       chosen _ _ _ e (λ q e.
@@ -178,33 +178,33 @@ module _ (free : ℕ) (room : ℕ) (inner : Reader StmtTree) (exact : Exact (Few
         taken = t.first ∷ d.taken;
         split = t.is ∙ ap (λ l. t.first ∷ l) d.split;
         spelled = if_inner t.first t.keyword rest begins d.spelled;
-      }) (λ q e. front_taken t.first t.is (block_exact.sound (drop 1 ts) rest x e)
+      }) (λ q e. first_taken t.first t.is (block_exact.sound (drop 1 ts) rest x e)
       (λ us d. a_block t.first t.keyword d.0 d.1))) (λ q e. took [] e refl nothing)
 
   else_complete : Complete (Few free) (IsElse room) NoElse (else_at inner)
-  unfolding else_at else_behind
+  unfolding else_at after_else
   else_complete _ _ nothing rest fits ends = rw ends
   else_complete _ _ (a_block {ts = ts} u p d low) rest fits ends =
-      rw (p, block_no_if d rest, block_exact.complete ts _ (d, low) rest (fits_behind (few free) u ts fits) tt)
+      rw (p, block_no_if d rest, block_exact.complete ts _ (d, low) rest (fits_after (few free) u ts fits) tt)
   else_complete _ _ (an_if {ts = ts} u p d low) rest fits ends = rw (
     p,
     if_begins d rest,
-    exact.complete ts _ (a_stmt (choice d) low) rest (fits_behind (few free) u ts fits) ends,
+    exact.complete ts _ (a_stmt (choice d) low) rest (fits_after (few free) u ts fits) ends,
   )
 
-  if_exact : Exact (Few free) (IfParts room) NoElse (if_behind free inner room)
-  unfolding if_behind
+  if_exact : Exact (Few free) (IfParts room) NoElse (after_if free inner room)
+  unfolding after_if
   if_exact = then_exact (few free) (condition_exact free room) (λ c. then_exact (few free) block_exact (λ th.
       made_exact (stmt.If c th) (record { sound = else_sound; complete = else_complete })) (λ x us y d rest h. tt))
       (λ x us y d rest h. tt)
 
-  while_exact : Exact (Few free) (WhileParts room) Any (while_behind free inner room)
-  unfolding while_behind
+  while_exact : Exact (Few free) (WhileParts room) Any (after_while free inner room)
+  unfolding after_while
   while_exact = then_exact (few free) (condition_exact free room) (λ c. made_exact (stmt.While c) block_exact)
       (λ x us y d rest h. tt)
 
-  for_exact : Exact (Few free) (ForParts room) Any (for_behind free inner room)
-  unfolding for_behind for_head first_part middle_part last_part
+  for_exact : Exact (Few free) (ForParts room) Any (after_for free inner room)
+  unfolding after_for for_head first_part middle_part last_part
   for_exact = then_exact (few free) (then_exact (few free)
       (between_exact (few free) mark.OpenParen mark.Semicolon (part_exact free room mark.Semicolon refl refl)
       (λ t rest p. ((rw p, rw p), rw p))) (λ first. then_exact (few free)
@@ -224,10 +224,10 @@ module _ (free : ℕ) (room : ℕ) (inner : Reader StmtTree) (exact : Exact (Few
       go (Some word.For) q e = as_form for_is (word_taken ts q (for_exact.sound (drop 1 ts) rest x e))
       go _ q e = ended_sound free room ts rest x e
 
-  if_reads : {ts : List Lexeme} {k : StmtKind} (d : Behind word.If (IfParts room) ts k) (rest : List Lexeme) →
+  if_reads : {ts : List Lexeme} {k : StmtKind} (d : AfterWord word.If (IfParts room) ts k) (rest : List Lexeme) →
       Few free ts → NoElse rest → kind_by free inner room (keyword_at (ts ++ rest)) (ts ++ rest) ≡ Some (k, rest)
-  if_reads (behind_word {ts = ts} t p d) rest fits ends =
-      rw p (if_exact.complete ts _ d rest (fits_behind (few free) t ts fits) ends)
+  if_reads (after_word {ts = ts} t p d) rest fits ends =
+      rw p (if_exact.complete ts _ d rest (fits_after (few free) t ts fits) ends)
 
   kind_complete : Complete (Few free) (IsKind room) NoElse (λ ts. kind_by free inner room (keyword_at ts) ts)
   unfolding ended_at plain_at returned
@@ -246,14 +246,14 @@ module _ (free : ℕ) (room : ℕ) (inner : Reader StmtTree) (exact : Exact (Few
   kind_complete _ _ (return_value {ts = ts} {value = e} t u p q d, low) rest fits ends =
       let height = value_height e in
       let read = (expr_exact free room).complete ts e (d, omega arith) (u ∷ rest)
-      ((few free).left ts (u ∷ []) (fits_behind (few free) t _ fits)) (rw q) in
+      ((few free).left ts (u ∷ []) (fits_after (few free) t _ fits)) (rw q) in
       let other = no_mark mark.Semicolon refl (ts ++ u ∷ rest) (expr_starts d (u ∷ rest)) in
       ap (λ l. kind_by free inner room (keyword_at (t ∷ l)) (t ∷ l)) (append_assoc ts (u ∷ []) rest) ∙
       rw (p, other, no_call d (u ∷ rest) (rw q), read, q)
   kind_complete _ _ (return_call {ts = ts} {call = c} t u p q d, low) rest fits ends =
       let height = return_call_height c in
       let read = (call_exact free room).complete ts c (d, omega arith) (u ∷ rest)
-      ((few free).left ts (u ∷ []) (fits_behind (few free) t _ fits)) tt in
+      ((few free).left ts (u ∷ []) (fits_after (few free) t _ fits)) tt in
       let other = no_mark mark.Semicolon refl (ts ++ u ∷ rest) (call_starts d (u ∷ rest)) in
       ap (λ l. kind_by free inner room (keyword_at (t ∷ l)) (t ∷ l)) (append_assoc ts (u ∷ []) rest) ∙
       rw (p, other, call_begins d (u ∷ rest), read, q)
@@ -261,7 +261,7 @@ module _ (free : ℕ) (room : ℕ) (inner : Reader StmtTree) (exact : Exact (Few
   kind_complete _ _ (while_loop {ts = ts} {us = us} {cond = c} {body = body} t p k b, low) rest fits ends =
       let height = while_height c body in
       rw p (while_exact.complete (ts ++ us) _ (both (k, omega arith) (made (b, omega arith))) rest
-      (fits_behind (few free) t (ts ++ us) fits) tt)
+      (fits_after (few free) t (ts ++ us) fits) tt)
   kind_complete _ _ (
     for_loop {ts = ts} {us = us} {vs = vs} {ws = ws} {first = first} {next = next} {cond = c}
         {body = body} t u v w x p q r s k f g n b,
@@ -269,9 +269,9 @@ module _ (free : ℕ) (room : ℕ) (inner : Reader StmtTree) (exact : Exact (Few
   ) rest fits ends =
       let height = for_height first c next body in
       let all = for_lexemes u v w x ts us vs ws in
-      let inside = fits_behind (few free) t (u ∷ (ts ++ v ∷ (us ++ w ∷ (vs ++ x ∷ ws)))) fits in
-      rw p (ap (λ l. for_behind free inner room (l ++ rest)) (sym all) ∙
-      for_exact.complete _ _ (both (both (after u q (before v r (f, omega arith)))
+      let inside = fits_after (few free) t (u ∷ (ts ++ v ∷ (us ++ w ∷ (vs ++ x ∷ ws)))) fits in
+      rw p (ap (λ l. after_for free inner room (l ++ rest)) (sym all) ∙
+      for_exact.complete _ _ (both (both (after_mark u q (before v r (f, omega arith)))
       (both (before w s (g, omega arith)) (made (before x k (n, omega arith))))) (made (b, omega arith))) rest
       (subst (Few free) (sym all) inside) tt)
 

@@ -2,22 +2,22 @@
 use Rattle.sc_parse.proofs.Common.{CallTree, ExprTree, IsKeyword, IsMark, Keyword, Lexeme, List, Mark, None, Option}
 use Rattle.sc_parse.proofs.Common.{SimpleKind, SimpleTree, Some, Spells, SpellsCall, SpellsCondition, SpellsIf}
 use Rattle.sc_parse.proofs.Common.{SpellsKind, SpellsPart, SpellsStmtKind, SpellsTest, StmtKind, StmtTree, Symbol, []}
-use Rattle.sc_parse.proofs.Common.{a_part, a_test, alone, ap, append_assoc, arith, assign, assign_call, begins_with}
-use Rattle.sc_parse.proofs.Common.{behind_mark, bound, break_height, call, choice, compound, cond, cond_is, condition}
+use Rattle.sc_parse.proofs.Common.{a_part, a_test, lone_if, ap, append_assoc, arith, assign, assign_call, begins_with}
+use Rattle.sc_parse.proofs.Common.{first_mark, bound, break_height, call, choice, compound, cond, cond_is, condition}
 use Rattle.sc_parse.proofs.Common.{condition_at, continue_height, drop, empty, empty_height, ended_at, expr_height}
 use Rattle.sc_parse.proofs.Common.{false, false≢true, first_line, for_loop, glued, is_base, is_else, is_if, is_some}
 use Rattle.sc_parse.proofs.Common.{keyword_at, keyword_by, kind_height, kind_of, le-leb, lead_by, leb, leb-true, length}
 use Rattle.sc_parse.proofs.Common.{length-append, no_base, no_part, no_test, not, option_height, otherwise}
 use Rattle.sc_parse.proofs.Common.{otherwise_if, part_at, plain_at, plain_height, read, refl, return_call}
 use Rattle.sc_parse.proofs.Common.{return_call_height, return_height, return_nothing, return_value, returned, simple_at}
-use Rattle.sc_parse.proofs.Common.{simple_or_none, simple_tree, step_before, step_behind, step_of, stmt_tree, sym}
+use Rattle.sc_parse.proofs.Common.{simple_or_none, simple_tree, step_before, step_after, step_of, stmt_tree, sym}
 use Rattle.sc_parse.proofs.Common.{test_at, true, value_height, value_returned, while_loop, ℕ, ◌++◌, ◌-◌, ◌<◌, ◌>>=◌}
 use Rattle.sc_parse.proofs.Common.{◌∙◌, ◌∷◌, ◌≡◌, ◌≤◌}
 use Rattle.sc_expr.specs.declared.mark.Mark.TheVariants as mark
 use Rattle.sc_expr.specs.declared.lexeme.Symbol.TheVariants as symbol
 use Rattle.sc_parse.specs.Statements as statements
-use Rattle.sc_parse.proofs.Exact.{Any, Between, Complete, Exact, Form, Low, Property, Turns, after, as_form, before}
-use Rattle.sc_parse.proofs.Exact.{between_exact, chosen, formed_exact, took, Sound, Taken, front_taken, made_exact}
+use Rattle.sc_parse.proofs.Exact.{Any, Between, Complete, Exact, Form, Low, Property, Turns, after_mark, as_form, before}
+use Rattle.sc_parse.proofs.Exact.{between_exact, chosen, formed_exact, took, Sound, Taken, first_taken, made_exact}
 use Rattle.sc_parse.proofs.Exact.{made_of, word_ahead}
 use Rattle.sc_parse.proofs.Bases.{other_mark}
 use Rattle.sc_parse.proofs.Expressions.{Few, IsExpr, NoExtension, begins_expr, call_starts, expr_exact, expr_starts}
@@ -37,10 +37,10 @@ condition_exact free room = formed_exact (between_exact (few free) mark.OpenPare
     (expr_exact free room) (λ t rest p. rw p)) joined_condition condition_apart (λ rest h. h)
   where
     joined_condition : Turns (Between mark.OpenParen mark.CloseParen (IsExpr room)) (IsCondition room)
-    joined_condition _ _ (after t p (before u q d)) = (condition t u p q d.0, d.1)
+    joined_condition _ _ (after_mark t p (before u q d)) = (condition t u p q d.0, d.1)
 
     condition_apart : Turns (IsCondition room) (Between mark.OpenParen mark.CloseParen (IsExpr room))
-    condition_apart _ _ (condition t u p q d, low) = after t p (before u q (d, low))
+    condition_apart _ _ (condition t u p q d, low) = after_mark t p (before u q (d, low))
 
 call_some : {ts : List Lexeme} {x : CallTree} (d : SpellsCall ts x) → 0 < length ts
 call_some (statements.call t u v name p q r d) = omega arith
@@ -50,7 +50,7 @@ kind_some (assign {ts = ts} {us = us} t p d v) = omega (arith, length-append ts 
 kind_some (assign_call {ts = ts} {us = us} t p d v) = omega (arith, length-append ts (t ∷ us))
 kind_some (compound {ts = ts} {us = us} t m op p q d v) = omega (arith, length-append ts (t ∷ us))
 kind_some (call d) = call_some d
-kind_some (step_behind {ts = ts} t m op p q d) = omega (arith, length-append ts (t ∷ []))
+kind_some (step_after {ts = ts} t m op p q d) = omega (arith, length-append ts (t ∷ []))
 kind_some (step_before t m op p q d) = omega arith
 
 pub first_line_some : (ts rest : List Lexeme) → 0 < length ts → first_line (ts ++ rest) ≡ first_line ts
@@ -67,32 +67,32 @@ unfolding begins_expr
 expr_no_word [] h = refl
 expr_no_word (t ∷ ts) h = symbol_no_word _ h
 
-behind_place : {A : Type 0} (f : List Lexeme → A) (value : A) {level : ℕ} {ts : List Lexeme} {e : ExprTree}
+after_place : {A : Type 0} (f : List Lexeme → A) (value : A) {level : ℕ} {ts : List Lexeme} {e : ExprTree}
     (d : Spells level ts e) (us rest : List Lexeme) → ((l : List Lexeme) → begins_expr l ≡ true → f l ≡ value) →
     f ((ts ++ us) ++ rest) ≡ value
-behind_place f value {level} {ts} d us rest h = ap f (append_assoc ts us rest) ∙ h _ (expr_starts d _)
+after_place f value {level} {ts} d us rest h = ap f (append_assoc ts us rest) ∙ h _ (expr_starts d _)
 
 -- what begins a simple statement: an expression or a step
-kind_front : {A : Type 0} (f : List Lexeme → A) (value : A) → ((l : List Lexeme) → begins_expr l ≡ true → f l ≡ value) →
+kind_start : {A : Type 0} (f : List Lexeme → A) (value : A) → ((l : List Lexeme) → begins_expr l ≡ true → f l ≡ value) →
     ((t : Lexeme) (m : Mark) (l : List Lexeme) → IsMark m t → is_some (step_of m) ≡ true → f (t ∷ l) ≡ value) →
     {ts : List Lexeme} {k : SimpleKind} (d : SpellsKind ts k) (rest : List Lexeme) → f (ts ++ rest) ≡ value
-kind_front f value by_expr by_step (assign {us = us} t p d v) rest = behind_place f value d.0 (t ∷ us) rest by_expr
-kind_front f value by_expr by_step (assign_call {us = us} t p d v) rest = behind_place f value d.0 (t ∷ us) rest by_expr
-kind_front f value by_expr by_step (compound {us = us} t m op p q d v) rest =
-    behind_place f value d.0 (t ∷ us) rest by_expr
-kind_front f value by_expr by_step (call d) rest = by_expr _ (call_starts d rest)
-kind_front f value by_expr by_step (step_behind t m op p q d) rest = behind_place f value d.0 (t ∷ []) rest by_expr
-kind_front f value by_expr by_step (step_before t m op p q d) rest = by_step t m _ p (ap is_some q)
+kind_start f value by_expr by_step (assign {us = us} t p d v) rest = after_place f value d.0 (t ∷ us) rest by_expr
+kind_start f value by_expr by_step (assign_call {us = us} t p d v) rest = after_place f value d.0 (t ∷ us) rest by_expr
+kind_start f value by_expr by_step (compound {us = us} t m op p q d v) rest =
+    after_place f value d.0 (t ∷ us) rest by_expr
+kind_start f value by_expr by_step (call d) rest = by_expr _ (call_starts d rest)
+kind_start f value by_expr by_step (step_after t m op p q d) rest = after_place f value d.0 (t ∷ []) rest by_expr
+kind_start f value by_expr by_step (step_before t m op p q d) rest = by_step t m _ p (ap is_some q)
 
 -- no reserved word begins a simple statement
 pub kind_no_word : {ts : List Lexeme} {k : SimpleKind} (d : SpellsKind ts k) (rest : List Lexeme) →
     keyword_at (ts ++ rest) ≡ None
-kind_no_word d rest = kind_front keyword_at None expr_no_word (λ t m l p q. rw p) d rest
+kind_no_word d rest = kind_start keyword_at None expr_no_word (λ t m l p q. rw p) d rest
 
 -- a mark that begins neither an expression nor a step doesn't begin a simple statement
 pub kind_no_mark : (m : Mark) → is_some (lead_by m) ≡ false → is_some (step_of m) ≡ false →
     {ts : List Lexeme} {k : SimpleKind} (d : SpellsKind ts k) (rest : List Lexeme) → begins_with m (ts ++ rest) ≡ false
-kind_no_mark m h s d rest = kind_front (begins_with m) false (no_mark m h) (λ t n l p q. other_mark m n t p
+kind_no_mark m h s d rest = kind_start (begins_with m) false (no_mark m h) (λ t n l p q. other_mark m n t p
     (λ same. false≢true (sym s ∙ ap (λ k. is_some (step_of k)) (sym same) ∙ q))) d rest
 
 -- a part of a `for`, at most `room` high
@@ -176,7 +176,7 @@ word_starts t ts k w p q r an_if = record {
 }
 
 if_starts : {ts : List Lexeme} {k : StmtKind} (d : SpellsIf ts k) → Starts ts k
-if_starts (alone t p c b) = word_starts t _ _ _ p refl refl (λ h. alone t p c b)
+if_starts (lone_if t p c b) = word_starts t _ _ _ p refl refl (λ h. lone_if t p c b)
 if_starts (otherwise t u p q c b e) = word_starts t _ _ _ p refl refl (λ h. otherwise t u p q c b e)
 if_starts (otherwise_if t u p q c b e) = word_starts t _ _ _ p refl refl (λ h. otherwise_if t u p q c b e)
 
@@ -247,7 +247,7 @@ returned_sound free room ts rest x q h = chosen _ _ (value_returned free room (d
     (λ n e. as_form (made_of (Returned room) (λ us v d t p u r.
     (return_value t u p r d.0, omega (arith, value_height v, d.1))))
     ((made_exact (λ v. stmt.ReturnValue v) (expr_exact free room)).sound (drop 1 ts) rest x e)) in
-    front_taken t.first t.is d (λ us d. d t.first t.keyword))
+    first_taken t.first t.is d (λ us d. d t.first t.keyword))
 
 simple_sound : (free room : ℕ) → Sound (Unended room) (simple_or_none free room)
 simple_sound free room ts rest x h = chosen _ _ _ h
@@ -274,5 +274,5 @@ ended_sound free room ts rest x h =
     let b = bound _ _ _ h in
     let c = bound _ _ _ b.2 in
     let d = unended_sound free room ts b.0.1 b.0.0 b.1 in
-    let u = behind_mark mark.Semicolon b.0.1 c.0 c.1 in
+    let u = first_mark mark.Semicolon b.0.1 c.0 c.1 in
     took (d.taken ++ u.0 ∷ []) c.2 (glued c.0 d.taken (u.0 ∷ []) d.split u.1) (d.spelled u.0 u.2)

@@ -1,15 +1,15 @@
 -- Parameters and heads are read exactly as they are spelled.
 use Rattle.sc_parse.proofs.Common.{HeadTree, Keyword, Lexeme, List, None, Option, ParamTree, Separated, Some}
 use Rattle.sc_parse.proofs.Common.{SpellsHead, SpellsParam, SpellsParams, SpellsResult, SpellsTypeName, TypeName, []}
-use Rattle.sc_parse.proofs.Common.{a_result, adds, all_separated, ap, append_assoc, behind, bound, false, false≢true}
+use Rattle.sc_parse.proofs.Common.{a_result, adds, all_separated, ap, append_assoc, following, bound, false, false≢true}
 use Rattle.sc_parse.proofs.Common.{first_line, glued, head, head_at, head_tree, is_void, keyword_at, name_ahead}
 use Rattle.sc_parse.proofs.Common.{name_at, named, nameless, no_params, no_result, option_map_or, param_at, param_tree}
 use Rattle.sc_parse.proofs.Common.{params_at, params_in_parens, refl, result_at, some_params, subst, sym, true}
 use Rattle.sc_parse.proofs.Common.{type_name, type_name_at, ℕ, ◌++◌, ◌>>=◌, ◌∙◌, ◌∷◌, ◌≡◌}
-use Rattle.sc_parse.proofs.Bases.{NoType, base_front, type_name_exact}
-use Rattle.sc_parse.proofs.Declared.{separated_front}
+use Rattle.sc_parse.proofs.Bases.{NoType, base_start, type_name_exact}
+use Rattle.sc_parse.proofs.Declared.{separated_prefix}
 use Rattle.sc_parse.proofs.Exact.{Any, Between, Complete, Exact, ExactAdder, Form, IsName, Made, Property, Sound, Then}
-use Rattle.sc_parse.proofs.Exact.{Turns, a_name, after, any, as_form, before, between_exact, both, chosen, commas_exact}
+use Rattle.sc_parse.proofs.Exact.{Turns, a_name, after_mark, any, as_form, before, between_exact, both, chosen, commas_exact}
 use Rattle.sc_parse.proofs.Exact.{from_none, given, made, made_exact, name_exact, then_exact, took, word_ahead}
 use Rattle.sc_expr.specs.declared.mark.Keyword.TheVariants as word
 use Rattle.sc_expr.specs.declared.mark.Mark.TheVariants as mark
@@ -21,7 +21,7 @@ abbrev pub EndsParam : List Lexeme → Type 0
 EndsParam rest = NoType rest × NoName rest
 
 abbrev EndsParams : Property
-EndsParams rest = EndsParam rest × (behind mark.Comma rest ≡ None)
+EndsParams rest = EndsParam rest × (following mark.Comma rest ≡ None)
 
 param_sound : Sound SpellsParam param_at
 unfolding param_at
@@ -55,7 +55,7 @@ NoVoid ts = is_void (keyword_at ts) ≡ false
 type_name_no_void : {ts : List Lexeme} {ty : TypeName} (d : SpellsTypeName ts ty) (rest : List Lexeme) →
     NoVoid (ts ++ rest)
 type_name_no_void (type_name {ts = ts} {us = us} d g) rest =
-    subst NoVoid (sym (append_assoc ts us rest)) ((base_front d).no_void (us ++ rest))
+    subst NoVoid (sym (append_assoc ts us rest)) ((base_start d).no_void (us ++ rest))
 
 param_no_void : {ts : List Lexeme} {x : ParamTree} (d : SpellsParam ts x) (rest : List Lexeme) → NoVoid (ts ++ rest)
 param_no_void (named {ts = ts} t name p d) rest = subst NoVoid (sym (append_assoc ts _ rest))
@@ -73,7 +73,7 @@ params_complete : Complete Any SpellsParams EndsParams params_at
 unfolding params_at
 params_complete _ _ (no_params t p) rest fits h = rw p
 params_complete _ _ (some_params d) rest fits h = rw (
-  separated_front NoVoid (λ ts rest x d. param_no_void d rest) d rest,
+  separated_prefix NoVoid (λ ts rest x d. param_no_void d rest) d rest,
   (from_none all_params_exact).complete _ _ d rest tt h,
 )
 
@@ -96,7 +96,7 @@ result_complete _ _ (a_result d) rest fits h =
 first_line_type : {ts : List Lexeme} {ty : TypeName} (d : SpellsTypeName ts ty) (rest : List Lexeme) →
     first_line (ts ++ rest) ≡ first_line ts
 first_line_type (type_name {ts = ts} {us = us} d g) rest =
-    ap first_line (append_assoc ts us rest) ∙ (base_front d).line (us ++ rest) ∙ sym ((base_front d).line us)
+    ap first_line (append_assoc ts us rest) ∙ (base_start d).line (us ++ rest) ∙ sym ((base_start d).line us)
 
 first_line_result : {ts : List Lexeme} {x : Option TypeName} (d : SpellsResult ts x) (rest : List Lexeme) →
     first_line (ts ++ rest) ≡ first_line ts
@@ -133,14 +133,14 @@ head_exact = record {
     lined_is : {line : ℕ} {ts : List Lexeme} {x : HeadTree} (rest : List Lexeme) → line ≡ first_line (ts ++ rest) →
         Lined line ts x → SpellsHead ts x
     lined_is rest e (both {ts = ts} {us = us} {x = result} d
-        (both (a_name t name p) (made {x = params} (after u q (before v r g))))) =
+        (both (a_name t name p) (made {x = params} (after_mark u q (before v r g))))) =
         subst (λ n. SpellsHead (ts ++ us) (head_tree result name params n))
         (sym (e ∙ ap first_line (append_assoc ts us rest) ∙ first_line_result d (us ++ rest)))
         (head t u v name p q r d g)
 
     complete : Complete Any SpellsHead Any head_at
     complete _ _ (head {ts = ts} {us = us} {result = result} {params = params} t u v name p q r d g) rest fits h =
-        let behind_result = t ∷ u ∷ (us ++ v ∷ []) in
-        (lined_exact _).complete _ _ (both d (both (a_name t name p) (made (after u q (before v r g))))) rest tt tt ∙
+        let after_result = t ∷ u ∷ (us ++ v ∷ []) in
+        (lined_exact _).complete _ _ (both d (both (a_name t name p) (made (after_mark u q (before v r g))))) rest tt tt ∙
         ap (λ n. Some (head_tree result name params n, rest))
-        (ap first_line (append_assoc ts behind_result rest) ∙ first_line_result d (behind_result ++ rest))
+        (ap first_line (append_assoc ts after_result rest) ∙ first_line_result d (after_result ++ rest))

@@ -7,7 +7,7 @@ use Rattle.sc_parse.proofs.Common.{section_height, section_tree, section_within,
 use Rattle.sc_parse.proofs.Common.{◌∙◌, ◌∷◌, ◌≡◌, ◌≤◌}
 use Rattle.sc_expr.specs.declared.lexeme.Symbol.TheVariants as symbol
 use Rattle.sc_parse.specs.Lists as lists
-use Rattle.sc_parse.proofs.Exact.{Adds, Form, Low, Turns, adding, fits_behind, from_none, grouped_sound, groups_apart}
+use Rattle.sc_parse.proofs.Exact.{Adds, Form, Low, Turns, adding, fits_after, from_none, grouped_sound, groups_apart}
 use Rattle.sc_parse.proofs.Exact.{groups_joined, same_pair}
 use Rattle.sc_parse.proofs.Expressions.{Few, few}
 use Rattle.sc_parse.proofs.Beginnings.{NoLine, IsDecls, all_exact, decl_exact, decl_no_line}
@@ -95,7 +95,7 @@ within_complete free limit {line} (section {ts = ts} {us = us} {exports = export
     name p d g) low all_fit =
     let lines = lines_complete d (length (ts ++ us) + 1) [] [] us (omega (arith, length-append ts us))
     (decls_no_line g) in
-    let fits = (few free).right ts us (fits_behind (few free) t (ts ++ us) all_fit) in
+    let fits = (few free).right ts us (fits_after (few free) t (ts ++ us) all_fit) in
     let read : decls_at free limit us ≡ Some _ =
     ap (decls_at free limit) (sym (append-nil us)) ∙
     (from_none (all_exact free limit)).complete us decls (groups_joined decl_height limit g low) [] fits refl in

@@ -5,10 +5,10 @@ use Rattle.sc_parse.proofs.Common.{append_assoc, arith, arrow, assign, assign_ca
 use Rattle.sc_parse.proofs.Common.{begins_value, begins_with, bound, call, change_at, change_of, changed, compound}
 use Rattle.sc_parse.proofs.Common.{compound_of, cond_is, drop, expr_height, false, false≢true, index, is_place, is_some}
 use Rattle.sc_parse.proofs.Common.{joined, lead_by, literal, looser, lt-ltb, ltb-true, makes_value, mark_at, mark_by}
-use Rattle.sc_parse.proofs.Common.{max, member, none-some, operand_behind, option_map_or, parenthesised, place_at}
+use Rattle.sc_parse.proofs.Common.{max, member, none-some, operand_at, option_map_or, parenthesised, place_at}
 use Rattle.sc_parse.proofs.Common.{placed, prefix, prefix_of, prefixed, read, read_sound, refl, rules, same_some}
-use Rattle.sc_parse.proofs.Common.{simple_at, simple_kind_height, step_at, step_before, step_behind, step_of, stepped}
-use Rattle.sc_parse.proofs.Common.{subst, sym, true, unary_place, unstepped, updates, value_behind, variable, ℕ, ◌++◌}
+use Rattle.sc_parse.proofs.Common.{simple_at, simple_kind_height, step_at, step_before, step_after, step_of, stepped}
+use Rattle.sc_parse.proofs.Common.{subst, sym, true, unary_place, unstepped, updates, assigned_at, variable, ℕ, ◌++◌}
 use Rattle.sc_parse.proofs.Common.{◌+◌, ◌-◌, ◌<◌, ◌>>=◌, ◌∙◌, ◌∷◌, ◌≡◌, ◌≤◌}
 use Rattle.sc_ast.specs.declared.expr.ExprTree.{the_lemmas}
 use Rattle.sc_ast.specs.declared.expr.ExprTree.TheVariants as expr
@@ -24,7 +24,7 @@ use Rattle.sc_parse.specs.declared.simple.Placed.{Placed}
 use Rattle.sc_parse.specs.Statements.{one}
 use Rattle.sc_parse.specs.StmtReaders as readers
 use Rattle.sc_parse.proofs.Exact.{Complete, Exact, Form, Low, Sound, Taken, Then, Turns, as_form, both, chosen}
-use Rattle.sc_parse.proofs.Exact.{fits_behind, front_taken, given, made_exact, made_of, then_exact, took}
+use Rattle.sc_parse.proofs.Exact.{fits_after, first_taken, given, made_exact, made_of, then_exact, took}
 use Rattle.sc_parse.proofs.Expressions.{Few, IsCall, IsExpr, NoExtension, begins_expr, call_begins, call_exact}
 use Rattle.sc_parse.proofs.Expressions.{call_starts, expr_exact, expr_starts, few, level_reads, no_call, starts_expr}
 
@@ -148,21 +148,21 @@ WithMark room x t us k = IsChange room x (t ∷ us) k
 
 change_sound : (free room : ℕ) (x : Placed) →
     Sound (IsChange room x) (λ ts. changed free room (change_at ts) x (drop 1 ts))
-unfolding value_behind operand_behind stepped
+unfolding assigned_at operand_at stepped
 change_sound free room x ts rest k h = go (change_at ts) refl h
   where
     by_change : (m : Mark) → Marked ts m → (c : Change) → Changes m c →
         changed free room (Some c) x (drop 1 ts) ≡ Some (k, rest) → Taken (IsChange room x) ts k rest
     by_change _ t _ sets e = chosen _ _ _ e
-        (λ q e. front_taken t.first t.is ((made_exact (simple.AssignCall x.place) (call_exact free room)).sound
+        (λ q e. first_taken t.first t.is ((made_exact (simple.AssignCall x.place) (call_exact free room)).sound
         (drop 1 ts) rest k e)
         (λ us d. made_of (WithMark room x t.first) (λ us v d. assigns_call t.first t.mark d) us k d))
-        (λ q e. front_taken t.first t.is ((made_exact (simple.Assign x.place) (expr_exact free room)).sound
+        (λ q e. first_taken t.first t.is ((made_exact (simple.Assign x.place) (expr_exact free room)).sound
         (drop 1 ts) rest k e) (λ us d. made_of (WithMark room x t.first) (λ us v d. assigns t.first t.mark d) us k d))
     by_change _ t _ (by m op q) e =
         let c = cond_is _ _ _ e in
         let short = ltb-true _ room c.0 in
-        front_taken t.first t.is ((made_exact (λ y. updates op x.place y) (expr_exact free (room - 1))).sound
+        first_taken t.first t.is ((made_exact (λ y. updates op x.place y) (expr_exact free (room - 1))).sound
         (drop 1 ts) rest k c.1)
         (λ us d. made_of (WithMark room x t.first) (λ us v d. combines t.first m op t.mark q short d) us k d)
     by_change _ t _ (steps m op q) e = let c = cond_is _ _ _ e in
@@ -226,22 +226,22 @@ EndsSimple rest = NoExtension rest × (begins_with mark.OpenParen rest ≡ false
 
 change_complete : (free room : ℕ) (x : Placed) → Complete (Few free) (IsChange room x) EndsSimple
     (λ ts. changed free room (change_at ts) x (drop 1 ts))
-unfolding value_behind operand_behind stepped
+unfolding assigned_at operand_at stepped
 change_complete free room x _ _ (assigns {us = us} t p d) rest fits ends = rw (
   p,
   no_call d.0 rest ends.1,
-  (expr_exact free room).complete _ _ d rest (fits_behind (few free) t us fits) ends.0,
+  (expr_exact free room).complete _ _ d rest (fits_after (few free) t us fits) ends.0,
 )
 change_complete free room x _ _ (assigns_call {us = us} t p d) rest fits ends = rw (
   p,
   call_begins d.0 rest,
-  (call_exact free room).complete _ _ d rest (fits_behind (few free) t us fits) tt,
+  (call_exact free room).complete _ _ d rest (fits_after (few free) t us fits) tt,
 )
 change_complete free room x _ _ (combines {us = us} t m op p q short d) rest fits ends = rw (
   p,
   compound_change m op q,
   lt-ltb _ room short,
-  (expr_exact free (room - 1)).complete _ _ d rest (fits_behind (few free) t us fits) ends.0,
+  (expr_exact free (room - 1)).complete _ _ d rest (fits_after (few free) t us fits) ends.0,
 )
 change_complete free room x _ _ (moves t m op p q short) rest fits ends =
     rw (p, step_change m op q, lt-ltb _ room short)
@@ -269,7 +269,7 @@ assignment_is _ _ (both d (assigns_call t p v)) = (assign_call t p d.0 v.0, omeg
 assignment_is _ _ (both {x = x} d (combines {value = value} t m op p q short v)) =
     (compound t m op p q d.0 v.0, omega (arith, d.1, v.1, updates_height op x.place value))
 assignment_is {room} _ _ (both {x = x} d (moves t m op p q short)) =
-    (step_behind t m op p q d.0, step_low op x.place room (positive d.0.0) (omega (arith, d.1)))
+    (step_after t m op p q d.0, step_low op x.place room (positive d.0.0) (omega (arith, d.1)))
 
 simple_sound : (free room : ℕ) → Sound (IsSimple room) (simple_at free room)
 unfolding simple_at readers.step_before stepped
@@ -308,7 +308,7 @@ simple_complete free room _ _ (compound {place = place} {operand = operand} t m 
     let made = updates_height op place operand in
     assigned free room (both {x = placed place (expr_height place)} (d, refl, omega arith)
     (combines t m op p q (omega arith) (v, omega arith))) rest fits ends
-simple_complete free room _ _ (step_behind {place = place} t m op p q d, low) rest fits ends =
+simple_complete free room _ _ (step_after {place = place} t m op p q d, low) rest fits ends =
     let made = updates_height op place one in
     let height = one_height in
     assigned free room (both {x = placed place (expr_height place)} (d, refl, omega arith)
@@ -318,7 +318,7 @@ simple_complete free room _ _ (step_before {ts = ts} {place = place} t m op p q 
     let height = one_height in
     let short : expr_height place < room = omega arith in
     let read = (place_exact free room).complete ts (placed place (expr_height place)) (d, refl, omega arith) rest
-    (fits_behind (few free) t ts fits) ends.0 in
+    (fits_after (few free) t ts fits) ends.0 in
     rw (p, q, read, lt-ltb _ room short)
 simple_complete free room _ _ (call d, low) rest fits ends = rw (
   no_step _ (call_starts d rest),

@@ -70,7 +70,7 @@ unfolding stmt_at
 no_room free zero ts h = refl
 no_room free (suc room) ts h = absurd (omega arith)
 
-pub ruleset rooms = (stmt_step, no_room)
+pub ruleset depths = (stmt_step, no_room)
 
 pub lines_end : (turns : ℕ) (found : Directives) (ts : List Lexeme) → 0 < turns → line_at ts ≡ None →
     lines_at turns found ts ≡ Some (found, ts)

@@ -24,7 +24,7 @@ pub use Rattle.sc_ast.specs.declared.stmt.StmtTree.{StmtTree}
 pub use Rattle.sc_ast.specs.declared.types.BaseTree.{BaseTree}
 pub use Rattle.sc_ast.specs.declared.types.TypeName.{TypeName}
 pub use Rattle.sc_ast.specs.declared.types.TypeTree.{TypeTree}
-pub use Rattle.sc_expr.specs.Prelude.{IsIdent, IsMark, Spells, behind, is_mark, lexeme_of, most_open, name_at, name_by}
+pub use Rattle.sc_expr.specs.Prelude.{IsIdent, IsMark, Spells, following, is_mark, lexeme_of, most_open, name_at, name_by}
 pub use Rattle.sc_expr.specs.Prelude.{read, ◌>>=◌}
 pub use Rattle.sc_expr.specs.declared.lexeme.Lexeme.{Lexeme}
 pub use Rattle.sc_expr.specs.declared.lexeme.Symbol.{Symbol}

@@ -5,7 +5,7 @@ pub mod Types
 pub mod Statements
 pub mod Declarations
 pub mod Sections
-pub mod Fronts
+pub mod Lookahead
 pub mod Readers
 pub mod StmtReaders
 pub mod SectionReaders

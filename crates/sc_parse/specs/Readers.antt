@@ -1,6 +1,6 @@
 -- Helping: reading types, lists and declarations from left to right.
 use Rattle.sc_parse.specs.Common.{BaseTree, ConstTree, Decl, Declarator, HeadTree, InitTree, Keyword, Lexeme}
-use Rattle.sc_parse.specs.Common.{MemberTree, Number, ParamTree, StructTree, TypeName, TypeTree, array_length, behind}
+use Rattle.sc_parse.specs.Common.{MemberTree, Number, ParamTree, StructTree, TypeName, TypeTree, array_length, following}
 use Rattle.sc_parse.specs.Common.{name_at, non_empty, ◌>>=◌}
 use Rattle.std.specs.Prelude.{ℕ, zero, suc, ◌+◌, Bool, true, false, ◌||◌, List, [], ◌∷◌, ◌++◌, length, drop, Option}
 use Rattle.std.specs.Prelude.{Some, None, is_some, if◌then◌else◌}
@@ -11,8 +11,8 @@ use Rattle.sc_ast.specs.declared.section.Decl.TheVariants as decl
 use Rattle.sc_expr.specs.declared.mark.Keyword.TheVariants as word
 use Rattle.sc_expr.specs.declared.mark.Mark.TheVariants as mark
 use Rattle.sc_parse.specs.Lists.{first_line}
-use Rattle.sc_parse.specs.Fronts.{Reader, past_int, is_void, keyword_at, integer_by, begins_with, begins_call}
-use Rattle.sc_parse.specs.Fronts.{star_count, behind_inner_comma}
+use Rattle.sc_parse.specs.Lookahead.{Reader, past_int, is_void, keyword_at, integer_by, begins_with, begins_call}
+use Rattle.sc_parse.specs.Lookahead.{star_count, after_inner_comma}
 
 abbrev pub base_by : Option Keyword → Reader BaseTree
 base_by (Some word.Int) ts = Some (base.Int, ts)
@@ -34,11 +34,11 @@ elements_at (t ∷ ts) = integer_by t.symbol >>= (λ number.
     array_length number.value >>= (λ elements. Some (elements, ts)))
 
 abbrev pub bracketed_length : Reader (Option ℕ)
-bracketed_length ts = elements_at ts >>= (λ x. behind mark.CloseSquare x.1 >>= (λ rest. Some (Some x.0, rest)))
+bracketed_length ts = elements_at ts >>= (λ x. following mark.CloseSquare x.1 >>= (λ rest. Some (Some x.0, rest)))
 
 -- the length in brackets, if there is one
 unfoldable pub length_at : Reader (Option ℕ)
-length_at ts = option_map_or bracketed_length (behind mark.OpenSquare ts) (Some (None, ts))
+length_at ts = option_map_or bracketed_length (following mark.OpenSquare ts) (Some (None, ts))
 
 abbrev pub declarator : ℕ → List ℕ → Option ℕ → Declarator
 declarator stars name elements = record { stars = stars; name = name; length = elements }
@@ -67,7 +67,7 @@ separated comma adder (suc turns) xs ts =
     adder xs ts >>= (λ x. option_map_or (λ rest. separated comma adder turns x.0 rest) (comma x.1) (Some x))
 
 abbrev pub all_separated : {A : Type 0} → Adder A → Adder A
-all_separated adder xs ts = separated (behind mark.Comma) adder (length ts + 1) xs ts
+all_separated adder xs ts = separated (following mark.Comma) adder (length ts + 1) xs ts
 
 -- Groups up to where they end, in at most this number of turns.
 unfoldable pub grouped : {A : Type 0} → (List Lexeme → Bool) → Adder A → ℕ → Adder A
@@ -79,29 +79,29 @@ grouped ends group (suc turns) xs ts = if ends ts then Some (xs, ts) else
 unfoldable pub declaration_at : {A : Type 0} → (BaseTree → ℕ → Adder A) → Adder A
 declaration_at adder xs ts =
     base_at ts >>= (λ x. all_separated (adder x.0 (first_line ts)) xs x.1 >>=
-    (λ y. behind mark.Semicolon y.1 >>= (λ rest. Some (y.0, rest))))
+    (λ y. following mark.Semicolon y.1 >>= (λ rest. Some (y.0, rest))))
 
 unfoldable pub member_at : BaseTree → Reader MemberTree
 member_at base ts = declarator_at ts >>= (λ x. Some (record { ty = type_of base x.0; name = x.0.name }, x.1))
 
-abbrev pub members_behind : BaseTree → ℕ → Adder MemberTree
-members_behind base line = adds (member_at base)
+abbrev pub add_member : BaseTree → ℕ → Adder MemberTree
+add_member base line = adds (member_at base)
 
 unfoldable pub members_at : Reader (List MemberTree)
-members_at ts = grouped (begins_with mark.CloseCurly) (declaration_at members_behind) (length ts + 1) [] ts >>=
+members_at ts = grouped (begins_with mark.CloseCurly) (declaration_at add_member) (length ts + 1) [] ts >>=
     (λ x. non_empty x.0 >>= (λ members. Some (members, x.1)))
 
 abbrev pub struct_tree : List ℕ → List MemberTree → ℕ → StructTree
 struct_tree tag members line = record { name = tag; members = members; line = line }
 
 abbrev pub members_in_braces : Reader (List MemberTree)
-members_in_braces ts = behind mark.OpenCurly ts >>= (λ us.
-    members_at us >>= (λ x. behind mark.CloseCurly x.1 >>= (λ rest. Some (x.0, rest))))
+members_in_braces ts = following mark.OpenCurly ts >>= (λ us.
+    members_at us >>= (λ x. following mark.CloseCurly x.1 >>= (λ rest. Some (x.0, rest))))
 
 -- a struct, whose first word was looked at before
 unfoldable pub struct_at : Reader StructTree
 struct_at ts = name_at (drop 1 ts) >>= (λ x. members_in_braces x.1 >>=
-    (λ y. behind mark.Semicolon y.1 >>= (λ rest. Some (struct_tree x.0 y.0 (first_line ts), rest))))
+    (λ y. following mark.Semicolon y.1 >>= (λ rest. Some (struct_tree x.0 y.0 (first_line ts), rest))))
 
 abbrev pub const_tree : Bool → Number → ConstTree
 const_tree negative number = record { negative = negative; literal = number }
@@ -111,29 +111,29 @@ literal_at negative [] = None
 literal_at negative (t ∷ ts) = integer_by t.symbol >>= (λ number. Some (const_tree negative number, ts))
 
 unfoldable pub const_at : Reader ConstTree
-const_at ts = option_map_or (literal_at true) (behind mark.Minus ts) (literal_at false ts)
+const_at ts = option_map_or (literal_at true) (following mark.Minus ts) (literal_at false ts)
 
 abbrev pub past_comma : List Lexeme → List Lexeme
-past_comma ts = option_map_or (λ rest. rest) (behind mark.Comma ts) ts
+past_comma ts = option_map_or (λ rest. rest) (following mark.Comma ts) ts
 
 abbrev pub all_consts : Reader (List ConstTree)
-all_consts ts = separated behind_inner_comma (adds const_at) (length ts + 1) [] ts
+all_consts ts = separated after_inner_comma (adds const_at) (length ts + 1) [] ts
 
 unfoldable pub consts_at : Reader InitTree
 consts_at ts =
     all_consts ts
-    >>= (λ x. behind mark.CloseCurly (past_comma x.1) >>=
+    >>= (λ x. following mark.CloseCurly (past_comma x.1) >>=
     (λ rest. non_empty x.0 >>= (λ values. Some (init.Many values, rest))))
 
 abbrev pub one_at : Reader InitTree
 one_at ts = const_at ts >>= (λ x. Some (init.One x.0, x.1))
 
 -- what follows `=`
-unfoldable pub init_behind : Reader InitTree
-init_behind ts = option_map_or consts_at (behind mark.OpenCurly ts) (one_at ts)
+unfoldable pub initialiser_at : Reader InitTree
+initialiser_at ts = option_map_or consts_at (following mark.OpenCurly ts) (one_at ts)
 
 unfoldable pub init_at : Reader InitTree
-init_at ts = option_map_or init_behind (behind mark.Equal ts) (Some (init.Absent, ts))
+init_at ts = option_map_or initialiser_at (following mark.Equal ts) (Some (init.Absent, ts))
 
 abbrev pub global_decl : BaseTree → Declarator → InitTree → ℕ → Decl
 global_decl base x value line = decl.Global (record { ty = type_of base x; name = x.name; init = value; line = line })
@@ -141,8 +141,8 @@ global_decl base x value line = decl.Global (record { ty = type_of base x; name 
 unfoldable pub global_at : BaseTree → ℕ → Reader Decl
 global_at base line ts = declarator_at ts >>= (λ x. init_at x.1 >>= (λ y. Some (global_decl base x.0 y.0 line, y.1)))
 
-abbrev pub globals_behind : BaseTree → ℕ → Adder Decl
-globals_behind base line = adds (global_at base line)
+abbrev pub add_global : BaseTree → ℕ → Adder Decl
+add_global base line = adds (global_at base line)
 
 abbrev pub param_tree : TypeName → Option (List ℕ) → ParamTree
 param_tree ty name = record { ty = ty; name = name }
@@ -160,8 +160,8 @@ result_at ts = if is_void (keyword_at ts) then Some (None, drop 1 ts) else
     (type_name_at ts >>= (λ x. Some (Some x.0, x.1)))
 
 abbrev pub params_in_parens : Reader (List ParamTree)
-params_in_parens ts = behind mark.OpenParen ts >>= (λ us.
-    params_at us >>= (λ x. behind mark.CloseParen x.1 >>= (λ rest. Some (x.0, rest))))
+params_in_parens ts = following mark.OpenParen ts >>= (λ us.
+    params_at us >>= (λ x. following mark.CloseParen x.1 >>= (λ rest. Some (x.0, rest))))
 
 abbrev pub head_tree : Option TypeName → List ℕ → List ParamTree → ℕ → HeadTree
 head_tree result name params line = record { result = result; name = name; params = params; line = line }

@@ -2,7 +2,7 @@
 -- high as `limit`.
 use Rattle.sc_parse.specs.Common.{BaseTree, Decl, Declarator, ExportLine, ExprTree, FunctionHead, FunctionTree}
 use Rattle.sc_parse.specs.Common.{HeadTree, ImportLine, Lexeme, LocalTree, ParamTree, SectionTree, StmtTree, Symbol}
-use Rattle.sc_parse.specs.Common.{TypeName, behind, ◌>>=◌}
+use Rattle.sc_parse.specs.Common.{TypeName, following, ◌>>=◌}
 use Rattle.std.specs.Prelude.{ℕ, zero, suc, ◌+◌, Bool, true, false, not, List, [], ◌∷◌, ◌++◌, length, drop, Option}
 use Rattle.std.specs.Prelude.{Some, None, if◌then◌else◌}
 use Rattle.std.specs.Option.{option_map_or}
@@ -14,15 +14,15 @@ use Rattle.sc_parse.specs.declared.section.Line.{Line}
 use Rattle.sc_parse.specs.declared.section.Line.TheVariants as line
 use Rattle.sc_parse.specs.declared.section.Directives.{Directives}
 use Rattle.sc_parse.specs.Lists.{first_line}
-use Rattle.sc_parse.specs.Fronts.{Reader, keyword_at, is_base}
+use Rattle.sc_parse.specs.Lookahead.{Reader, keyword_at, is_base}
 use Rattle.sc_parse.specs.Readers.{Adder, adds, grouped, declaration_at, declarator_at, type_of, struct_at, head_at}
-use Rattle.sc_parse.specs.Readers.{begins_struct, begins_head, globals_behind}
+use Rattle.sc_parse.specs.Readers.{begins_struct, begins_head, add_global}
 use Rattle.sc_parse.specs.StmtReaders.{expr_at, stmt_at, stmts_at}
 
 -- what a local begins with
 unfoldable pub value_at : (free limit : ℕ) → Reader (Option ExprTree)
 value_at free limit ts = option_map_or (λ us. expr_at free limit us >>= (λ x. Some (Some x.0, x.1)))
-    (behind mark.Equal ts) (Some (None, ts))
+    (following mark.Equal ts) (Some (None, ts))
 
 abbrev pub local_tree : BaseTree → Declarator → Option ExprTree → ℕ → LocalTree
 local_tree base x value line = record { ty = type_of base x; name = x.name; init = value; line = line }
@@ -31,15 +31,15 @@ unfoldable pub local_at : (free limit : ℕ) → BaseTree → ℕ → Reader Loc
 local_at free limit base line ts = declarator_at ts >>=
     (λ x. value_at free limit x.1 >>= (λ y. Some (local_tree base x.0 y.0 line, y.1)))
 
-abbrev pub locals_behind : (free limit : ℕ) → BaseTree → ℕ → Adder LocalTree
-locals_behind free limit base line = adds (local_at free limit base line)
+abbrev pub add_local : (free limit : ℕ) → BaseTree → ℕ → Adder LocalTree
+add_local free limit base line = adds (local_at free limit base line)
 
 -- no declaration of locals begins here
 abbrev pub no_base : List Lexeme → Bool
 no_base ts = not (is_base (keyword_at ts))
 
 abbrev pub locals_at : (free limit : ℕ) → Reader (List LocalTree)
-locals_at free limit ts = grouped no_base (declaration_at (locals_behind free limit)) (length ts + 1) [] ts
+locals_at free limit ts = grouped no_base (declaration_at (add_local free limit)) (length ts + 1) [] ts
 
 abbrev pub function_param : TypeName → List ℕ → FunctionParam
 function_param ty name = record { ty = ty; name = name }
@@ -65,23 +65,23 @@ function_tree head locals body close_line = record {
 }
 
 -- a function after its head
-unfoldable pub body_behind : (free limit : ℕ) → FunctionHead → Reader FunctionTree
-body_behind free limit head ts =
-    behind mark.OpenCurly ts >>= (λ us. locals_at free limit us >>=
+unfoldable pub body_at : (free limit : ℕ) → FunctionHead → Reader FunctionTree
+body_at free limit head ts =
+    following mark.OpenCurly ts >>= (λ us. locals_at free limit us >>=
     (λ x. stmts_at (stmt_at free limit) x.1 >>= (λ y.
-    behind mark.CloseCurly y.1 >>= (λ rest. Some (function_tree head x.0 y.0 (first_line y.1), rest)))))
+    following mark.CloseCurly y.1 >>= (λ rest. Some (function_tree head x.0 y.0 (first_line y.1), rest)))))
 
-unfoldable pub function_behind : (free limit : ℕ) → HeadTree → Reader Decl
-function_behind free limit head ts = named_head head >>=
-    (λ named. body_behind free limit named ts >>= (λ x. Some (decl.Function x.0, x.1)))
+unfoldable pub function_at : (free limit : ℕ) → HeadTree → Reader Decl
+function_at free limit head ts = named_head head >>=
+    (λ named. body_at free limit named ts >>= (λ x. Some (decl.Function x.0, x.1)))
 
-abbrev pub behind_head : (free limit : ℕ) → HeadTree → Reader Decl
-behind_head free limit head ts = option_map_or (λ rest. Some (decl.Proto head, rest)) (behind mark.Semicolon ts)
-    (function_behind free limit head ts)
+abbrev pub past_head : (free limit : ℕ) → HeadTree → Reader Decl
+past_head free limit head ts = option_map_or (λ rest. Some (decl.Proto head, rest)) (following mark.Semicolon ts)
+    (function_at free limit head ts)
 
 -- a prototype or a function
 unfoldable pub headed_at : (free limit : ℕ) → Reader Decl
-headed_at free limit ts = head_at ts >>= (λ x. behind_head free limit x.0 x.1)
+headed_at free limit ts = head_at ts >>= (λ x. past_head free limit x.0 x.1)
 
 unfoldable pub struct_decl_at : Reader Decl
 struct_decl_at ts = struct_at ts >>= (λ x. Some (decl.Struct x.0, x.1))
@@ -90,7 +90,7 @@ unfoldable pub decl_at : (free limit : ℕ) → Adder Decl
 decl_at free limit decls ts =
     if begins_struct ts then adds struct_decl_at decls ts
     else (if begins_head ts then adds (headed_at free limit) decls ts
-    else declaration_at globals_behind decls ts)
+    else declaration_at add_global decls ts)
 
 abbrev pub is_empty : List Lexeme → Bool
 is_empty [] = true

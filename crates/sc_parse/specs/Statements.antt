@@ -62,7 +62,7 @@ pub data SpellsKind : List Lexeme → SimpleKind → Type 0 where
       compound_of m ≡ Some op → SpellsPlace ts place → Spells loosest_level us operand →
       SpellsKind (ts ++ t ∷ us) (updates op place operand)
   call : {ts : List Lexeme} {call : CallTree} → SpellsCall ts call → SpellsKind ts (simple.Call call)
-  step_behind : {ts : List Lexeme} {place : ExprTree} (t : Lexeme) (m : Mark) (op : BinaryOp) → IsMark m t →
+  step_after : {ts : List Lexeme} {place : ExprTree} (t : Lexeme) (m : Mark) (op : BinaryOp) → IsMark m t →
       step_of m ≡ Some op → SpellsPlace ts place → SpellsKind (ts ++ t ∷ []) (updates op place one)
   step_before : {ts : List Lexeme} {place : ExprTree} (t : Lexeme) (m : Mark) (op : BinaryOp) → IsMark m t →
       step_of m ≡ Some op → SpellsPlace ts place → SpellsKind (t ∷ ts) (updates op place one)
@@ -112,7 +112,7 @@ mutual
 
   -- An `if`; one after `else` is a list of one statement.
   pub data SpellsIf : List Lexeme → StmtKind → Type 0 where
-    alone : {ts us : List Lexeme} {cond : ExprTree} {then_part : List StmtTree} (t : Lexeme) → IsKeyword word.If t →
+    lone_if : {ts us : List Lexeme} {cond : ExprTree} {then_part : List StmtTree} (t : Lexeme) → IsKeyword word.If t →
         SpellsCondition ts cond → SpellsBlock us then_part → SpellsIf (t ∷ (ts ++ us)) (stmt.If cond then_part [])
     otherwise : {ts us vs : List Lexeme} {cond : ExprTree} {then_part else_part : List StmtTree} (t u : Lexeme) →
         IsKeyword word.If t → IsKeyword word.Else u → SpellsCondition ts cond → SpellsBlock us then_part →

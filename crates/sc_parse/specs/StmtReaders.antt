@@ -1,7 +1,7 @@
 -- Helping: reading calls and statements from left to right, where a statement's parts may be `room` high and `free`
 -- brackets may be open.
 use Rattle.sc_parse.specs.Common.{BinaryOp, CallTree, ExprTree, Keyword, Lexeme, Mark, SimpleKind, SimpleTree, StmtKind}
-use Rattle.sc_parse.specs.Common.{StmtTree, Symbol, behind, is_place, kind_of, loosest_level, name_at, read}
+use Rattle.sc_parse.specs.Common.{StmtTree, Symbol, following, is_place, kind_of, loosest_level, name_at, read}
 use Rattle.sc_parse.specs.Common.{unary_level, ◌>>=◌}
 use Rattle.std.specs.Prelude.{ℕ, zero, suc, ◌+◌, ◌-◌, Bool, true, false, nat_le, nat_lt, List, [], ◌∷◌, length, drop}
 use Rattle.std.specs.Prelude.{Option, Some, None, if◌then◌else◌}
@@ -17,26 +17,26 @@ use Rattle.sc_parse.specs.declared.simple.Placed.{Placed}
 use Rattle.sc_parse.specs.declared.stmts.ForHead.{ForHead}
 use Rattle.sc_parse.specs.Lists.{first_line}
 use Rattle.sc_parse.specs.Statements.{compound_of, step_of, one, updates}
-use Rattle.sc_parse.specs.Fronts.{Reader, keyword_at, is_else, begins_with, begins_call}
+use Rattle.sc_parse.specs.Lookahead.{Reader, keyword_at, is_else, begins_with, begins_call}
 use Rattle.sc_parse.specs.Readers.{Adder, adds, all_separated, grouped}
 
 -- an expression, at most `room` high
 unfoldable pub expr_at : (free : ℕ) → ℕ → Reader ExprTree
 expr_at free room ts = read free room loosest_level ts >>= (λ x. Some (x.tree, x.rest))
 
-abbrev pub args_behind : (free : ℕ) → ℕ → Adder ExprTree
-args_behind free room = adds (expr_at free room)
+abbrev pub add_arg : (free : ℕ) → ℕ → Adder ExprTree
+add_arg free room = adds (expr_at free room)
 
 unfoldable pub args_at : (free : ℕ) → ℕ → Reader (List ExprTree)
 args_at free room ts = if begins_with mark.CloseParen ts then Some ([], ts) else
-    all_separated (args_behind free room) [] ts
+    all_separated (add_arg free room) [] ts
 
 abbrev pub call_tree : List ℕ → List ExprTree → CallTree
 call_tree name args = record { name = name; args = args }
 
 abbrev pub args_in_parens : (free : ℕ) → ℕ → Reader (List ExprTree)
-args_in_parens free room ts = behind mark.OpenParen ts >>=
-    (λ us. args_at free room us >>= (λ x. behind mark.CloseParen x.1 >>= (λ rest. Some (x.0, rest))))
+args_in_parens free room ts = following mark.OpenParen ts >>=
+    (λ us. args_at free room us >>= (λ x. following mark.CloseParen x.1 >>= (λ rest. Some (x.0, rest))))
 
 unfoldable pub call_at : (free : ℕ) → ℕ → Reader CallTree
 call_at free room ts = name_at ts >>= (λ x. args_in_parens free room x.1 >>= (λ y. Some (call_tree x.0 y.0, y.1)))
@@ -88,14 +88,14 @@ unfoldable pub place_at : (free : ℕ) → ℕ → Reader Placed
 place_at free room ts = if begins_value ts then None else unary_place free room ts
 
 -- what follows `=`
-unfoldable pub value_behind : (free : ℕ) → ℕ → ExprTree → Reader SimpleKind
-value_behind free room place ts =
+unfoldable pub assigned_at : (free : ℕ) → ℕ → ExprTree → Reader SimpleKind
+assigned_at free room place ts =
     if begins_call ts then (call_at free room ts >>= (λ x. Some (simple.AssignCall place x.0, x.1))) else
     (expr_at free room ts >>= (λ x. Some (simple.Assign place x.0, x.1)))
 
 -- what follows the operator of a compound assignment, where the tree that is made has one level more
-unfoldable pub operand_behind : (free : ℕ) → ℕ → BinaryOp → Placed → Reader SimpleKind
-operand_behind free room op x ts = if nat_lt x.height room then
+unfoldable pub operand_at : (free : ℕ) → ℕ → BinaryOp → Placed → Reader SimpleKind
+operand_at free room op x ts = if nat_lt x.height room then
     (expr_at free (room - 1) ts >>= (λ y. Some (updates op x.place y.0, y.1))) else None
 
 unfoldable pub stepped : ℕ → BinaryOp → Placed → Reader SimpleKind
@@ -103,8 +103,8 @@ stepped room op x ts = if nat_lt x.height room then Some (updates op x.place one
 
 abbrev pub changed : (free : ℕ) → ℕ → Option Change → Placed → Reader SimpleKind
 changed free room None x ts = None
-changed free room (Some change.Set) x ts = value_behind free room x.place ts
-changed free room (Some (change.By op)) x ts = operand_behind free room op x ts
+changed free room (Some change.Set) x ts = assigned_at free room x.place ts
+changed free room (Some (change.By op)) x ts = operand_at free room op x ts
 changed free room (Some (change.Step op)) x ts = stepped room op x ts
 
 unfoldable pub assignment_at : (free : ℕ) → ℕ → Reader SimpleKind
@@ -113,11 +113,11 @@ assignment_at free room ts = place_at free room ts >>= (λ x. changed free room 
 unfoldable pub step_before : (free : ℕ) → ℕ → BinaryOp → Reader SimpleKind
 step_before free room op ts = place_at free room ts >>= (λ x. stepped room op x.0 x.1)
 
-abbrev pub call_alone : (free : ℕ) → ℕ → Reader SimpleKind
-call_alone free room ts = call_at free room ts >>= (λ x. Some (simple.Call x.0, x.1))
+abbrev pub call_statement : (free : ℕ) → ℕ → Reader SimpleKind
+call_statement free room ts = call_at free room ts >>= (λ x. Some (simple.Call x.0, x.1))
 
 abbrev pub unstepped : (free : ℕ) → ℕ → Reader SimpleKind
-unstepped free room ts = if begins_call ts then call_alone free room ts else assignment_at free room ts
+unstepped free room ts = if begins_call ts then call_statement free room ts else assignment_at free room ts
 
 -- what may stand in the head of a `for`, where its parts may be `room` high
 unfoldable pub simple_at : (free : ℕ) → ℕ → Reader SimpleKind
@@ -143,8 +143,8 @@ unfoldable pub test_at : (free : ℕ) → ℕ → Reader ExprTree
 test_at free room ts = if begins_with mark.Semicolon ts then always room ts else expr_at free room ts
 
 unfoldable pub condition_at : (free : ℕ) → ℕ → Reader ExprTree
-condition_at free room ts = behind mark.OpenParen ts >>=
-    (λ us. expr_at free room us >>= (λ x. behind mark.CloseParen x.1 >>= (λ rest. Some (x.0, rest))))
+condition_at free room ts = following mark.OpenParen ts >>=
+    (λ us. expr_at free room us >>= (λ x. following mark.CloseParen x.1 >>= (λ rest. Some (x.0, rest))))
 
 abbrev pub value_returned : (free : ℕ) → ℕ → Reader StmtKind
 value_returned free room ts =
@@ -168,13 +168,13 @@ plain_at free room _ ts = simple_or_none free room ts
 
 unfoldable pub ended_at : (free : ℕ) → ℕ → Reader StmtKind
 ended_at free room ts = plain_at free room (keyword_at ts) ts >>=
-    (λ x. behind mark.Semicolon x.1 >>= (λ rest. Some (x.0, rest)))
+    (λ x. following mark.Semicolon x.1 >>= (λ rest. Some (x.0, rest)))
 
 abbrev pub before_mark : {A : Type 0} → Mark → Reader A → Reader A
-before_mark m reader ts = reader ts >>= (λ x. behind m x.1 >>= (λ rest. Some (x.0, rest)))
+before_mark m reader ts = reader ts >>= (λ x. following m x.1 >>= (λ rest. Some (x.0, rest)))
 
 unfoldable pub first_part : (free : ℕ) → ℕ → Reader (Option SimpleTree)
-first_part free room ts = behind mark.OpenParen ts >>=
+first_part free room ts = following mark.OpenParen ts >>=
     (λ us. before_mark mark.Semicolon (part_at free room mark.Semicolon) us)
 
 unfoldable pub middle_part : (free : ℕ) → ℕ → Reader ExprTree
@@ -205,36 +205,36 @@ module _ (inner : Reader StmtTree) where
   stmts_at ts = grouped (begins_with mark.CloseCurly) (adds inner) (length ts + 1) [] ts
 
   unfoldable pub block_at : Reader (List StmtTree)
-  block_at ts = behind mark.OpenCurly ts >>= (λ us. before_mark mark.CloseCurly stmts_at us)
+  block_at ts = following mark.OpenCurly ts >>= (λ us. before_mark mark.CloseCurly stmts_at us)
 
-  abbrev pub alone : Reader (List StmtTree)
-  alone ts = inner ts >>= (λ x. Some (x.0 ∷ [], x.1))
+  abbrev pub lone_if : Reader (List StmtTree)
+  lone_if ts = inner ts >>= (λ x. Some (x.0 ∷ [], x.1))
 
   -- after `else`
-  unfoldable pub else_behind : Reader (List StmtTree)
-  else_behind ts = if is_if (keyword_at ts) then alone ts else block_at ts
+  unfoldable pub after_else : Reader (List StmtTree)
+  after_else ts = if is_if (keyword_at ts) then lone_if ts else block_at ts
 
   unfoldable pub else_at : Reader (List StmtTree)
-  else_at ts = if is_else (keyword_at ts) then else_behind (drop 1 ts) else Some ([], ts)
+  else_at ts = if is_else (keyword_at ts) then after_else (drop 1 ts) else Some ([], ts)
 
 module _ (free : ℕ) (inner : Reader StmtTree) (room : ℕ) where
   -- after `if`
-  unfoldable pub if_behind : Reader StmtKind
-  if_behind ts = condition_at free room ts >>= (λ x. block_at inner x.1 >>=
+  unfoldable pub after_if : Reader StmtKind
+  after_if ts = condition_at free room ts >>= (λ x. block_at inner x.1 >>=
       (λ y. else_at inner y.1 >>= (λ z. Some (stmt.If x.0 y.0 z.0, z.1))))
 
   -- after `while`
-  unfoldable pub while_behind : Reader StmtKind
-  while_behind ts = condition_at free room ts >>= (λ x. block_at inner x.1 >>= (λ y. Some (stmt.While x.0 y.0, y.1)))
+  unfoldable pub after_while : Reader StmtKind
+  after_while ts = condition_at free room ts >>= (λ x. block_at inner x.1 >>= (λ y. Some (stmt.While x.0 y.0, y.1)))
 
   -- after `for`
-  unfoldable pub for_behind : Reader StmtKind
-  for_behind ts = for_head free room ts >>= (λ x. block_at inner x.1 >>= (λ y. Some (loop_of x.0 y.0, y.1)))
+  unfoldable pub after_for : Reader StmtKind
+  after_for ts = for_head free room ts >>= (λ x. block_at inner x.1 >>= (λ y. Some (loop_of x.0 y.0, y.1)))
 
   abbrev pub kind_by : Option Keyword → Reader StmtKind
-  kind_by (Some word.If) ts = if_behind (drop 1 ts)
-  kind_by (Some word.While) ts = while_behind (drop 1 ts)
-  kind_by (Some word.For) ts = for_behind (drop 1 ts)
+  kind_by (Some word.If) ts = after_if (drop 1 ts)
+  kind_by (Some word.While) ts = after_while (drop 1 ts)
+  kind_by (Some word.For) ts = after_for (drop 1 ts)
   kind_by _ ts = ended_at free room ts
 
 abbrev pub stmt_tree : ℕ → StmtKind → StmtTree

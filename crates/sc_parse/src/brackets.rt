@@ -1,14 +1,14 @@
 //! The limit on open brackets.
 
-ghost use Rattle.sc_parse.specs.Prelude.{IsExcess, most_open, open_after, open_behind};
+ghost use Rattle.sc_parse.specs.Prelude.{IsExcess, most_open, open_after, open_after_mark};
 ghost use Rattle.std.specs.Prelude.{◌≡◌, ◌<◌, ◌≤◌, IfSome, IfNone, length};
 
 use sc_base::MAX_BRACKETS;
 use sc_expr::{Lexeme, Mark, Symbol};
 
-fn open_behind(mark: Mark, count: u32) -> u32
+fn open_after_mark(mark: Mark, count: u32) -> u32
     requires { count < 4294967295 }
-    ensures { result ≡ open_behind mark count }
+    ensures { result ≡ open_after_mark mark count }
 {
     match mark {
         Mark::OpenParen | Mark::OpenSquare | Mark::OpenCurly => count + 1,
@@ -22,7 +22,7 @@ fn open_after(symbol: &Symbol, count: u32) -> u32
     ensures { result ≡ open_after symbol.now count }
 {
     match symbol {
-        Symbol::Mark(mark) => open_behind(*mark, count),
+        Symbol::Mark(mark) => open_after_mark(*mark, count),
         _ => count,
     }
 }

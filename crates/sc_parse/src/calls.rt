@@ -1,10 +1,10 @@
 //! Expressions in statements, and calls.
 
-ghost use Rattle.sc_parse.specs.Prelude.{Agrees, all_separated, args_at, args_behind, args_in_parens, call_at};
+ghost use Rattle.sc_parse.specs.Prelude.{Agrees, all_separated, args_at, add_arg, args_in_parens, call_at};
 ghost use Rattle.sc_parse.specs.Prelude.{condition_at, expr_at};
 ghost use Rattle.std.specs.Prelude.{◌≡◌, ◌+◌, [], length};
 
-use crate::front::{begins_with, ended_by, name_at, skip, take};
+use crate::lookahead::{begins_with, ended_by, name_at, skip, take};
 use sc_ast::{CallTree, ExprTree, Exprs};
 use sc_base::{LOOSEST, MAX_BRACKETS};
 use sc_expr::{Built, Lexeme, Mark, SyntaxFault, parse_level, refused};
@@ -16,8 +16,8 @@ use std::alloc::Global;
 pub fn expr_at(alloc: Global, room: u32, rest: &mut &[Lexeme]) -> Result<ExprTree, SyntaxFault>
     ensures { Agrees (λ x. (x, rest.new.now)) result (expr_at 1024 room rest.old.now) }
 {
-    let (Built { tree, .. }, behind) = parse_level(alloc, MAX_BRACKETS, room, LOOSEST, rest)?;
-    *rest = behind;
+    let (Built { tree, .. }, following) = parse_level(alloc, MAX_BRACKETS, room, LOOSEST, rest)?;
+    *rest = following;
     Ok(tree.into_inner())
 }
 
@@ -28,7 +28,7 @@ fn with_arg(
     mut args: Exprs,
     rest: &mut &[Lexeme],
 ) -> Result<Exprs, SyntaxFault>
-    ensures { Agrees (λ x. (x, rest.new.now)) result (args_behind 1024 room args rest.old.now) }
+    ensures { Agrees (λ x. (x, rest.new.now)) result (add_arg 1024 room args rest.old.now) }
 {
     args.push(expr_at(alloc, room, rest)?)?;
     Ok(args)
@@ -36,7 +36,7 @@ fn with_arg(
 
 #[tactic(auto, using(crate::proofs::Steps::turns))]
 fn all_args(alloc: Global, room: u32, rest: &mut &[Lexeme]) -> Result<Exprs, SyntaxFault>
-    ensures { Agrees (λ x. (x, rest.new.now)) result (all_separated (args_behind 1024 room) [] rest.old.now) }
+    ensures { Agrees (λ x. (x, rest.new.now)) result (all_separated (add_arg 1024 room) [] rest.old.now) }
 {
     let mut args = Items::new(alloc);
     for _ in 0..rest.len() + 1 {

@@ -1,12 +1,12 @@
 //! Locals and functions.
 
-ghost use Rattle.sc_parse.specs.Prelude.{Agrees, all_separated, behind_head, body_behind, declaration_at};
-ghost use Rattle.sc_parse.specs.Prelude.{function_behind, grouped, headed_at, local_at, locals_at, locals_behind};
+ghost use Rattle.sc_parse.specs.Prelude.{Agrees, all_separated, past_head, body_at, declaration_at};
+ghost use Rattle.sc_parse.specs.Prelude.{function_at, grouped, headed_at, local_at, locals_at, add_local};
 ghost use Rattle.sc_parse.specs.Prelude.{named_head, no_base, value_at};
 ghost use Rattle.std.specs.Prelude.{◌≡◌, ◌+◌, [], length};
 
 use crate::calls::expr_at;
-use crate::front::{first_line, is_base, keyword_at, skip, take};
+use crate::lookahead::{first_line, is_base, keyword_at, skip, take};
 use crate::heads::head_at;
 use crate::stmts::stmts_at;
 use crate::types::{Declarator, base_at, declarator_at};
@@ -65,7 +65,7 @@ fn with_local(
     mut locals: LocalTrees,
     rest: &mut &[Lexeme],
 ) -> Result<LocalTrees, SyntaxFault>
-    ensures { Agrees (λ x. (x, rest.new.now)) result (locals_behind 1024 256 base.now line locals rest.old.now) }
+    ensures { Agrees (λ x. (x, rest.new.now)) result (add_local 1024 256 base.now line locals rest.old.now) }
 {
     locals.push(local_at(alloc, base, line, rest)?)?;
     Ok(locals)
@@ -80,7 +80,7 @@ fn with_locals(
     rest: &mut &[Lexeme],
 ) -> Result<LocalTrees, SyntaxFault>
     ensures { Agrees (λ x. (x, rest.new.now)) result (all_separated
-        (locals_behind 1024 256 base.now line) locals rest.old.now) }
+        (add_local 1024 256 base.now line) locals rest.old.now) }
 {
     for _ in 0..rest.len() + 1 {
         locals = with_local(alloc, base, line, locals, rest)?;
@@ -97,7 +97,7 @@ fn local_line(
     locals: LocalTrees,
     rest: &mut &[Lexeme],
 ) -> Result<LocalTrees, SyntaxFault>
-    ensures { Agrees (λ x. (x, rest.new.now)) result (declaration_at (locals_behind 1024 256) locals rest.old.now) }
+    ensures { Agrees (λ x. (x, rest.new.now)) result (declaration_at (add_local 1024 256) locals rest.old.now) }
 {
     let line = first_line(rest);
     let base = base_at(rest)?;
@@ -138,13 +138,13 @@ fn named_head(alloc: Global, head: &HeadTree, rest: &[Lexeme]) -> Result<Functio
     }
 }
 
-#[tactic(auto, unfolding(crate::specs::SectionReaders::body_behind))]
-fn body_behind(
+#[tactic(auto, unfolding(crate::specs::SectionReaders::body_at))]
+fn body_at(
     alloc: Global,
     head: FunctionHead,
     rest: &mut &[Lexeme],
 ) -> Result<FunctionTree, SyntaxFault>
-    ensures { Agrees (λ x. (x, rest.new.now)) result (body_behind 1024 256 head rest.old.now) }
+    ensures { Agrees (λ x. (x, rest.new.now)) result (body_at 1024 256 head rest.old.now) }
 {
     take(Mark::OpenCurly, rest)?;
     let locals = locals_at(alloc, rest)?;
@@ -159,25 +159,25 @@ fn body_behind(
     })
 }
 
-#[tactic(auto, unfolding(crate::specs::SectionReaders::function_behind))]
-fn function_behind(
+#[tactic(auto, unfolding(crate::specs::SectionReaders::function_at))]
+fn function_at(
     alloc: Global,
     head: &HeadTree,
     rest: &mut &[Lexeme],
 ) -> Result<Decl, SyntaxFault>
-    ensures { Agrees (λ x. (x, rest.new.now)) result (function_behind 1024 256 head.now rest.old.now) }
+    ensures { Agrees (λ x. (x, rest.new.now)) result (function_at 1024 256 head.now rest.old.now) }
 {
     let named = named_head(alloc, head, rest)?;
-    Ok(Decl::Function(body_behind(alloc, named, rest)?))
+    Ok(Decl::Function(body_at(alloc, named, rest)?))
 }
 
-fn behind_head(alloc: Global, head: HeadTree, rest: &mut &[Lexeme]) -> Result<Decl, SyntaxFault>
-    ensures { Agrees (λ x. (x, rest.new.now)) result (behind_head 1024 256 head rest.old.now) }
+fn past_head(alloc: Global, head: HeadTree, rest: &mut &[Lexeme]) -> Result<Decl, SyntaxFault>
+    ensures { Agrees (λ x. (x, rest.new.now)) result (past_head 1024 256 head rest.old.now) }
 {
     if skip(Mark::Semicolon, rest) {
         Ok(Decl::Proto(head))
     } else {
-        function_behind(alloc, &head, rest)
+        function_at(alloc, &head, rest)
     }
 }
 
@@ -187,5 +187,5 @@ pub fn headed_at(alloc: Global, rest: &mut &[Lexeme]) -> Result<Decl, SyntaxFaul
     ensures { Agrees (λ x. (x, rest.new.now)) result (headed_at 1024 256 rest.old.now) }
 {
     let head = head_at(alloc, rest)?;
-    behind_head(alloc, head, rest)
+    past_head(alloc, head, rest)
 }

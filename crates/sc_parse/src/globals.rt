@@ -1,11 +1,11 @@
 //! Globals and what they begin with.
 
-ghost use Rattle.sc_parse.specs.Prelude.{Agrees, adds, all_consts, all_separated, behind_inner_comma, const_at};
-ghost use Rattle.sc_parse.specs.Prelude.{consts_at, declaration_at, global_at, globals_behind, init_at, init_behind};
+ghost use Rattle.sc_parse.specs.Prelude.{Agrees, adds, all_consts, all_separated, after_inner_comma, const_at};
+ghost use Rattle.sc_parse.specs.Prelude.{consts_at, declaration_at, global_at, add_global, init_at, initialiser_at};
 ghost use Rattle.sc_parse.specs.Prelude.{literal_at, one_at, past_comma, separated};
 ghost use Rattle.std.specs.Prelude.{◌≡◌, ◌≤◌, ◌+◌, [], length};
 
-use crate::front::{first_line, integer_by, skip, skip_inner_comma, take};
+use crate::lookahead::{first_line, integer_by, skip, skip_inner_comma, take};
 use crate::types::{Declarator, base_at, declarator_at};
 use sc_ast::{BaseTree, ConstTree, Decl, Decls, GlobalTree, InitTree, NonEmpty, TypeTree};
 use sc_expr::{Lexeme, Mark, SyntaxFault, refused};
@@ -15,12 +15,12 @@ use std::alloc::Global;
 fn literal_at(negative: bool, rest: &mut &[Lexeme]) -> Result<ConstTree, SyntaxFault>
     ensures { Agrees (λ x. (x, rest.new.now)) result (literal_at negative rest.old.now) }
 {
-    let [first, behind @ ..] = *rest else {
+    let [first, following @ ..] = *rest else {
         return Err(refused(rest));
     };
     match integer_by(&first.symbol) {
         Some(literal) => {
-            *rest = behind;
+            *rest = following;
             Ok(ConstTree { negative, literal })
         }
         None => Err(refused(rest)),
@@ -90,9 +90,9 @@ fn one_at(rest: &mut &[Lexeme]) -> Result<InitTree, SyntaxFault>
 }
 
 // What follows `=`.
-#[tactic(auto, unfolding(crate::specs::Readers::init_behind))]
-fn init_behind(alloc: Global, rest: &mut &[Lexeme]) -> Result<InitTree, SyntaxFault>
-    ensures { Agrees (λ x. (x, rest.new.now)) result (init_behind rest.old.now) }
+#[tactic(auto, unfolding(crate::specs::Readers::initialiser_at))]
+fn initialiser_at(alloc: Global, rest: &mut &[Lexeme]) -> Result<InitTree, SyntaxFault>
+    ensures { Agrees (λ x. (x, rest.new.now)) result (initialiser_at rest.old.now) }
 {
     if skip(Mark::OpenCurly, rest) {
         consts_at(alloc, rest)
@@ -106,7 +106,7 @@ fn init_at(alloc: Global, rest: &mut &[Lexeme]) -> Result<InitTree, SyntaxFault>
     ensures { Agrees (λ x. (x, rest.new.now)) result (init_at rest.old.now) }
 {
     if skip(Mark::Equal, rest) {
-        init_behind(alloc, rest)
+        initialiser_at(alloc, rest)
     } else {
         Ok(InitTree::Absent)
     }
@@ -148,7 +148,7 @@ fn with_global(
     mut decls: Decls,
     rest: &mut &[Lexeme],
 ) -> Result<Decls, SyntaxFault>
-    ensures { Agrees (λ x. (x, rest.new.now)) result (globals_behind base.now line decls rest.old.now) }
+    ensures { Agrees (λ x. (x, rest.new.now)) result (add_global base.now line decls rest.old.now) }
 {
     decls.push(global_at(alloc, base, line, rest)?)?;
     Ok(decls)
@@ -162,7 +162,7 @@ fn with_globals(
     mut decls: Decls,
     rest: &mut &[Lexeme],
 ) -> Result<Decls, SyntaxFault>
-    ensures { Agrees (λ x. (x, rest.new.now)) result (all_separated (globals_behind base.now line) decls rest.old.now) }
+    ensures { Agrees (λ x. (x, rest.new.now)) result (all_separated (add_global base.now line) decls rest.old.now) }
 {
     for _ in 0..rest.len() + 1 {
         decls = with_global(alloc, base, line, decls, rest)?;
@@ -176,7 +176,7 @@ fn with_globals(
 /// A declaration of globals, added to the declarations before.
 #[tactic(auto, unfolding(crate::specs::Readers::declaration_at))]
 pub fn globals_at(alloc: Global, decls: Decls, rest: &mut &[Lexeme]) -> Result<Decls, SyntaxFault>
-    ensures { Agrees (λ x. (x, rest.new.now)) result (declaration_at globals_behind decls rest.old.now) }
+    ensures { Agrees (λ x. (x, rest.new.now)) result (declaration_at add_global decls rest.old.now) }
 {
     let line = first_line(rest);
     let base = base_at(rest)?;

@@ -5,7 +5,7 @@ ghost use Rattle.sc_parse.specs.Prelude.{name_at, param_at, params_at, params_in
 ghost use Rattle.sc_parse.specs.Prelude.{star_count};
 ghost use Rattle.std.specs.Prelude.{◌≡◌, ℕ, ◌+◌, List, [], length, drop, true, false, None, Some};
 
-use crate::front::{
+use crate::lookahead::{
     begins_call, first_line, is_void, keyword_at, name_at, past, past_int, skip, star_count, take,
 };
 use crate::types::type_name_at;
@@ -20,11 +20,11 @@ fn maybe_name(rest: &mut &[Lexeme]) -> Option<Ident>
     ensures none { result ≡ None → name_at rest.old.now ≡ None }
     ensures same { result ≡ None → rest.new.now ≡ rest.old.now }
 {
-    let [first, behind @ ..] = *rest else {
+    let [first, following @ ..] = *rest else {
         return None;
     };
     let name = name_by(&first.symbol)?;
-    *rest = behind;
+    *rest = following;
     Some(name)
 }
 
@@ -118,14 +118,14 @@ pub fn head_at(alloc: Global, rest: &mut &[Lexeme]) -> Result<HeadTree, SyntaxFa
 fn past_base(rest: &[Lexeme]) -> &[Lexeme]
     ensures { result.now ≡ past_base rest.now }
 {
-    let [_, behind @ ..] = rest else {
+    let [_, following @ ..] = rest else {
         return rest;
     };
     match keyword_at(rest) {
-        Some(Keyword::Signed) => past_int(behind),
-        Some(Keyword::Unsigned) => past_int(behind),
-        Some(Keyword::Struct) => past(behind),
-        _ => behind,
+        Some(Keyword::Signed) => past_int(following),
+        Some(Keyword::Unsigned) => past_int(following),
+        Some(Keyword::Struct) => past(following),
+        _ => following,
     }
 }
 

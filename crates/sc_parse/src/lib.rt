@@ -7,7 +7,7 @@
 mod brackets;
 mod calls;
 mod copy;
-mod front;
+mod lookahead;
 mod functions;
 mod globals;
 mod heads;

@@ -1,11 +1,11 @@
 //! Structs and their members.
 
 ghost use Rattle.sc_parse.specs.Prelude.{Agrees, adds, all_separated, begins_with, declaration_at, grouped, member_at};
-ghost use Rattle.sc_parse.specs.Prelude.{members_at, members_behind, members_in_braces, struct_at};
+ghost use Rattle.sc_parse.specs.Prelude.{members_at, add_member, members_in_braces, struct_at};
 ghost use Rattle.std.specs.Prelude.{◌≡◌, ◌≤◌, ◌+◌, length};
 ghost use Rattle.sc_expr.specs.declared.mark.Mark.TheVariants.{CloseCurly};
 
-use crate::front::{begins_with, first_line, name_at, skip, take};
+use crate::lookahead::{begins_with, first_line, name_at, skip, take};
 use crate::types::{Declarator, base_at, declarator_at};
 use sc_ast::{BaseTree, MemberTree, MemberTrees, NonEmpty, StructTree, TypeTree};
 use sc_expr::{Lexeme, Mark, SyntaxFault, refused};
@@ -57,7 +57,7 @@ fn with_members(
 // One declaration of members, added to the members before.
 #[tactic(auto, unfolding(crate::specs::Readers::declaration_at))]
 fn member_line(members: Members, rest: &mut &[Lexeme]) -> Result<Members, SyntaxFault>
-    ensures { Agrees (λ x. (x, rest.new.now)) result (declaration_at members_behind members rest.old.now) }
+    ensures { Agrees (λ x. (x, rest.new.now)) result (declaration_at add_member members rest.old.now) }
 {
     let base = base_at(rest)?;
     let members = with_members(&base, members, rest)?;
@@ -67,7 +67,7 @@ fn member_line(members: Members, rest: &mut &[Lexeme]) -> Result<Members, Syntax
 
 #[tactic(auto, using(crate::proofs::Steps::groups))]
 fn member_lines(mut members: Members, rest: &mut &[Lexeme]) -> Result<Members, SyntaxFault>
-    ensures { Agrees (λ x. (x, rest.new.now)) result (grouped (begins_with CloseCurly) (declaration_at members_behind)
+    ensures { Agrees (λ x. (x, rest.new.now)) result (grouped (begins_with CloseCurly) (declaration_at add_member)
         (length rest.old.now + 1) members rest.old.now) }
 {
     for _ in 0..rest.len() + 1 {

@@ -7,7 +7,7 @@ ghost use Rattle.sc_parse.specs.Prelude.{names_struct, section_at, struct_decl_a
 ghost use Rattle.std.specs.Prelude.{◌≡◌, ◌≤◌, ◌+◌, ◌-◌, ℕ, List, [], length, drop, true, false, IsSome, IfOk};
 ghost use Rattle.sc_expr.specs.declared.lexeme.Lexeme.{Lexeme};
 
-use crate::front::{begins_with, keyword_at, past};
+use crate::lookahead::{begins_with, keyword_at, past};
 use crate::functions::headed_at;
 use crate::globals::globals_at;
 use crate::heads::begins_head;
@@ -35,11 +35,11 @@ struct Directives {
 fn names_struct(rest: &[Lexeme]) -> bool
     ensures { result ≡ names_struct rest.now }
 {
-    let [first, behind @ ..] = rest else {
+    let [first, following @ ..] = rest else {
         return false;
     };
     match name_by(&first.symbol) {
-        Some(_) => begins_with(Mark::OpenCurly, behind),
+        Some(_) => begins_with(Mark::OpenCurly, following),
         None => false,
     }
 }
@@ -174,12 +174,12 @@ fn compartment_by(symbol: &Symbol) -> Option<Name>
 fn compartment_at(rest: &mut &[Lexeme]) -> Result<Name, SyntaxFault>
     ensures { Agrees (λ x. (x, rest.new.now)) result (compartment_at rest.old.now) }
 {
-    let [first, behind @ ..] = *rest else {
+    let [first, following @ ..] = *rest else {
         return Err(refused(rest));
     };
     match compartment_by(&first.symbol) {
         Some(name) => {
-            *rest = behind;
+            *rest = following;
             Ok(name)
         }
         None => Err(refused(rest)),

@@ -1,16 +1,16 @@
 //! Assignments, `++` and `--`, and calls as statements.
 
-ghost use Rattle.sc_parse.specs.Prelude.{Agrees, always, assignment_at, begins_value, call_alone, change_at, change_of};
-ghost use Rattle.sc_parse.specs.Prelude.{changed, compound_of, makes_value, mark_at, mark_by, operand_behind, part_at};
+ghost use Rattle.sc_parse.specs.Prelude.{Agrees, always, assignment_at, begins_value, call_statement, change_at, change_of};
+ghost use Rattle.sc_parse.specs.Prelude.{changed, compound_of, makes_value, mark_at, mark_by, operand_at, part_at};
 ghost use Rattle.sc_parse.specs.Prelude.{place_at, simple_at, step_at, step_of, stepped, test_at, unstepped, updates};
-ghost use Rattle.sc_parse.specs.Prelude.{value_behind};
+ghost use Rattle.sc_parse.specs.Prelude.{assigned_at};
 ghost use Rattle.std.specs.Prelude.{◌≡◌, ◌≤◌, ◌+◌, drop, length, IsSome, IfOk, Some};
 ghost use Rattle.sc_parse.specs.Statements.{one};
 ghost use Rattle.sc_parse.specs.StmtReaders.{step_before};
 
 use crate::calls::{call_at, expr_at};
 use crate::copy::copy_expr;
-use crate::front::{begins_call, begins_with, first_line, past};
+use crate::lookahead::{begins_call, begins_with, first_line, past};
 use sc_ast::{ExprTree, Literal, PlaceTree, SimpleKind, SimpleTree};
 use sc_base::{BinaryOp, MAX_BRACKETS, UNARY};
 use sc_expr::{Built, Lexeme, Mark, Symbol, SyntaxFault, parse_level, refused, refused_before};
@@ -138,22 +138,22 @@ fn place_at(alloc: Global, room: u32, rest: &mut &[Lexeme]) -> Result<Placed, Sy
     if begins_value(rest) {
         return Err(refused(rest));
     }
-    let (Built { tree, height }, behind) = parse_level(alloc, MAX_BRACKETS, room, UNARY, rest)?;
-    *rest = behind;
+    let (Built { tree, height }, following) = parse_level(alloc, MAX_BRACKETS, room, UNARY, rest)?;
+    *rest = following;
     match PlaceTree::new(tree.into_inner()) {
         Ok(place) => Ok(Placed { place, height }),
         Err(_) => Err(refused(rest)),
     }
 }
 
-#[tactic(auto, unfolding(crate::specs::StmtReaders::value_behind))]
-fn value_behind(
+#[tactic(auto, unfolding(crate::specs::StmtReaders::assigned_at))]
+fn assigned_at(
     alloc: Global,
     room: u32,
     place: PlaceTree,
     rest: &mut &[Lexeme],
 ) -> Result<SimpleKind, SyntaxFault>
-    ensures { Agrees (λ x. (x, rest.new.now)) result (value_behind 1024 room place rest.old.now) }
+    ensures { Agrees (λ x. (x, rest.new.now)) result (assigned_at 1024 room place rest.old.now) }
 {
     if begins_call(rest) {
         let call = call_at(alloc, room, rest)?;
@@ -186,15 +186,15 @@ fn one() -> Option<ExprTree>
     Some(ExprTree::Literal(literal))
 }
 
-#[tactic(auto, unfolding(crate::specs::StmtReaders::operand_behind))]
-fn operand_behind(
+#[tactic(auto, unfolding(crate::specs::StmtReaders::operand_at))]
+fn operand_at(
     alloc: Global,
     room: u32,
     op: BinaryOp,
     placed: Placed,
     rest: &mut &[Lexeme],
 ) -> Result<SimpleKind, SyntaxFault>
-    ensures { Agrees (λ x. (x, rest.new.now)) result (operand_behind 1024 room op placed rest.old.now) }
+    ensures { Agrees (λ x. (x, rest.new.now)) result (operand_at 1024 room op placed rest.old.now) }
 {
     if placed.height >= room {
         return Err(refused_before(rest));
@@ -233,8 +233,8 @@ fn changed(
 {
     match change {
         None => Err(refused_before(rest)),
-        Some(Change::Set) => value_behind(alloc, room, placed.place, rest),
-        Some(Change::By(op)) => operand_behind(alloc, room, op, placed, rest),
+        Some(Change::Set) => assigned_at(alloc, room, placed.place, rest),
+        Some(Change::By(op)) => operand_at(alloc, room, op, placed, rest),
         Some(Change::Step(op)) => stepped(alloc, room, op, placed, rest),
     }
 }
@@ -271,8 +271,8 @@ fn step_before(
     stepped(alloc, room, op, placed, rest)
 }
 
-fn call_alone(alloc: Global, room: u32, rest: &mut &[Lexeme]) -> Result<SimpleKind, SyntaxFault>
-    ensures { Agrees (λ x. (x, rest.new.now)) result (call_alone 1024 room rest.old.now) }
+fn call_statement(alloc: Global, room: u32, rest: &mut &[Lexeme]) -> Result<SimpleKind, SyntaxFault>
+    ensures { Agrees (λ x. (x, rest.new.now)) result (call_statement 1024 room rest.old.now) }
 {
     Ok(SimpleKind::Call(call_at(alloc, room, rest)?))
 }
@@ -295,7 +295,7 @@ fn unstepped(alloc: Global, room: u32, rest: &mut &[Lexeme]) -> Result<SimpleKin
     ensures { Agrees (λ x. (x, rest.new.now)) result (unstepped 1024 room rest.old.now) }
 {
     if begins_call(rest) {
-        call_alone(alloc, room, rest)
+        call_statement(alloc, room, rest)
     } else {
         assignment_at(alloc, room, rest)
     }

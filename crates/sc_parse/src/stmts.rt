@@ -1,15 +1,15 @@
 //! Statements and blocks.
 
-ghost use Rattle.sc_parse.specs.Prelude.{Agrees, adds, block_at, else_at, else_behind, ended_at, first_part};
-ghost use Rattle.sc_parse.specs.Prelude.{for_behind, for_head, if_behind, is_else, keyword_at, kind_by, last_part};
+ghost use Rattle.sc_parse.specs.Prelude.{Agrees, adds, block_at, else_at, after_else, ended_at, first_part};
+ghost use Rattle.sc_parse.specs.Prelude.{after_for, for_head, after_if, is_else, keyword_at, kind_by, last_part};
 ghost use Rattle.sc_parse.specs.Prelude.{loop_of, middle_part, plain_at, returned, simple_or_none, stmt_at};
-ghost use Rattle.sc_parse.specs.Prelude.{stmt_within, stmts_at, value_returned, while_behind};
+ghost use Rattle.sc_parse.specs.Prelude.{stmt_within, stmts_at, value_returned, after_while};
 ghost use Rattle.sc_ast.specs.Prelude.{kind_of};
 ghost use Rattle.std.specs.Prelude.{◌≡◌, ◌≤◌, ◌+◌, [], ◌∷◌, length, drop, true, false, IfOk};
-ghost use Rattle.sc_parse.specs.StmtReaders.{alone};
+ghost use Rattle.sc_parse.specs.StmtReaders.{lone_if};
 
 use crate::calls::{call_at, condition_at, expr_at};
-use crate::front::{
+use crate::lookahead::{
     begins_call, begins_with, ended_by, first_line, is_else, keyword_at, past, take,
 };
 use crate::simple::{part_at, simple_at, test_at};
@@ -200,8 +200,8 @@ fn block_at(alloc: Global, room: u32, rest: &mut &[Lexeme]) -> Result<Stmts, Syn
 
 // The `if` after an `else`, as a list of one statement.
 #[cycle(statements)]
-fn alone(alloc: Global, room: u32, rest: &mut &[Lexeme]) -> Result<Stmts, SyntaxFault>
-    ensures { Agrees (λ x. (x, rest.new.now)) result (alone (stmt_at 1024 room) rest.old.now) }
+fn lone_if(alloc: Global, room: u32, rest: &mut &[Lexeme]) -> Result<Stmts, SyntaxFault>
+    ensures { Agrees (λ x. (x, rest.new.now)) result (lone_if (stmt_at 1024 room) rest.old.now) }
 {
     let mut stmts = Items::new(alloc);
     stmts.push(stmt_at(alloc, room, rest)?)?;
@@ -209,12 +209,12 @@ fn alone(alloc: Global, room: u32, rest: &mut &[Lexeme]) -> Result<Stmts, Syntax
 }
 
 #[cycle(statements)]
-#[tactic(auto, unfolding(crate::specs::StmtReaders::else_behind))]
-fn else_behind(alloc: Global, room: u32, rest: &mut &[Lexeme]) -> Result<Stmts, SyntaxFault>
-    ensures { Agrees (λ x. (x, rest.new.now)) result (else_behind (stmt_at 1024 room) rest.old.now) }
+#[tactic(auto, unfolding(crate::specs::StmtReaders::after_else))]
+fn after_else(alloc: Global, room: u32, rest: &mut &[Lexeme]) -> Result<Stmts, SyntaxFault>
+    ensures { Agrees (λ x. (x, rest.new.now)) result (after_else (stmt_at 1024 room) rest.old.now) }
 {
     match keyword_at(rest) {
-        Some(Keyword::If) => alone(alloc, room, rest),
+        Some(Keyword::If) => lone_if(alloc, room, rest),
         _ => block_at(alloc, room, rest),
     }
 }
@@ -226,16 +226,16 @@ fn else_at(alloc: Global, room: u32, rest: &mut &[Lexeme]) -> Result<Stmts, Synt
 {
     if is_else(keyword_at(rest)) {
         *rest = past(rest);
-        else_behind(alloc, room, rest)
+        after_else(alloc, room, rest)
     } else {
         Ok(Items::new(alloc))
     }
 }
 
 #[cycle(statements)]
-#[tactic(auto, unfolding(crate::specs::StmtReaders::if_behind))]
-fn if_behind(alloc: Global, room: u32, rest: &mut &[Lexeme]) -> Result<StmtKind, SyntaxFault>
-    ensures { Agrees (λ x. (x, rest.new.now)) result (if_behind 1024 (stmt_at 1024 room) room rest.old.now) }
+#[tactic(auto, unfolding(crate::specs::StmtReaders::after_if))]
+fn after_if(alloc: Global, room: u32, rest: &mut &[Lexeme]) -> Result<StmtKind, SyntaxFault>
+    ensures { Agrees (λ x. (x, rest.new.now)) result (after_if 1024 (stmt_at 1024 room) room rest.old.now) }
 {
     let cond = condition_at(alloc, room, rest)?;
     let then_part = block_at(alloc, room, rest)?;
@@ -248,9 +248,9 @@ fn if_behind(alloc: Global, room: u32, rest: &mut &[Lexeme]) -> Result<StmtKind,
 }
 
 #[cycle(statements)]
-#[tactic(auto, unfolding(crate::specs::StmtReaders::while_behind))]
-fn while_behind(alloc: Global, room: u32, rest: &mut &[Lexeme]) -> Result<StmtKind, SyntaxFault>
-    ensures { Agrees (λ x. (x, rest.new.now)) result (while_behind 1024 (stmt_at 1024 room) room rest.old.now) }
+#[tactic(auto, unfolding(crate::specs::StmtReaders::after_while))]
+fn after_while(alloc: Global, room: u32, rest: &mut &[Lexeme]) -> Result<StmtKind, SyntaxFault>
+    ensures { Agrees (λ x. (x, rest.new.now)) result (after_while 1024 (stmt_at 1024 room) room rest.old.now) }
 {
     let cond = condition_at(alloc, room, rest)?;
     let body = block_at(alloc, room, rest)?;
@@ -258,9 +258,9 @@ fn while_behind(alloc: Global, room: u32, rest: &mut &[Lexeme]) -> Result<StmtKi
 }
 
 #[cycle(statements)]
-#[tactic(auto, unfolding(crate::specs::StmtReaders::for_behind))]
-fn for_behind(alloc: Global, room: u32, rest: &mut &[Lexeme]) -> Result<StmtKind, SyntaxFault>
-    ensures { Agrees (λ x. (x, rest.new.now)) result (for_behind 1024 (stmt_at 1024 room) room rest.old.now) }
+#[tactic(auto, unfolding(crate::specs::StmtReaders::after_for))]
+fn after_for(alloc: Global, room: u32, rest: &mut &[Lexeme]) -> Result<StmtKind, SyntaxFault>
+    ensures { Agrees (λ x. (x, rest.new.now)) result (after_for 1024 (stmt_at 1024 room) room rest.old.now) }
 {
     let head = for_head(alloc, room, rest)?;
     let body = block_at(alloc, room, rest)?;
@@ -279,15 +279,15 @@ fn kind_by(
     match word {
         Some(Keyword::If) => {
             *rest = past(rest);
-            if_behind(alloc, room, rest)
+            after_if(alloc, room, rest)
         }
         Some(Keyword::While) => {
             *rest = past(rest);
-            while_behind(alloc, room, rest)
+            after_while(alloc, room, rest)
         }
         Some(Keyword::For) => {
             *rest = past(rest);
-            for_behind(alloc, room, rest)
+            after_for(alloc, room, rest)
         }
         _ => ended_at(alloc, room, rest),
     }
@@ -306,7 +306,7 @@ fn stmt_within(alloc: Global, room: u32, rest: &mut &[Lexeme]) -> Result<StmtTre
 
 // A statement, at most `room` high.
 #[cycle(statements)]
-#[tactic(auto, using(crate::proofs::Steps::rooms))]
+#[tactic(auto, using(crate::proofs::Steps::depths))]
 fn stmt_at(alloc: Global, room: u32, rest: &mut &[Lexeme]) -> Result<StmtTree, SyntaxFault>
     ensures { Agrees (λ x. (x, rest.new.now)) result (stmt_at 1024 room rest.old.now) }
 {

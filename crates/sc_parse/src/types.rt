@@ -4,7 +4,7 @@ ghost use Rattle.sc_parse.specs.Prelude.{Agrees, base_at, base_by, bracketed_len
 ghost use Rattle.sc_parse.specs.Prelude.{length_at, type_name_at};
 ghost use Rattle.std.specs.Prelude.{◌≡◌, ◌+◌, length};
 
-use crate::front::{integer_by, keyword_at, name_at, past_int, skip, star_count, take};
+use crate::lookahead::{integer_by, keyword_at, name_at, past_int, skip, star_count, take};
 use sc_ast::{ArrayLength, BaseTree, Ident, TypeName};
 use sc_expr::{Keyword, Lexeme, Mark, SyntaxFault, refused, refused_before};
 
@@ -33,10 +33,10 @@ pub fn base_at(rest: &mut &[Lexeme]) -> Result<BaseTree, SyntaxFault>
     ensures { Agrees (λ x. (x, rest.new.now)) result (base_at rest.old.now) }
 {
     let word = keyword_at(rest);
-    let [_, behind @ ..] = *rest else {
+    let [_, following @ ..] = *rest else {
         return Err(refused(rest));
     };
-    *rest = behind;
+    *rest = following;
     base_by(word, rest)
 }
 
@@ -57,7 +57,7 @@ pub fn type_name_at(rest: &mut &[Lexeme]) -> Result<TypeName, SyntaxFault>
 fn elements_at(rest: &mut &[Lexeme]) -> Result<ArrayLength, SyntaxFault>
     ensures { Agrees (λ x. (x, rest.new.now)) result (elements_at rest.old.now) }
 {
-    let [first, behind @ ..] = *rest else {
+    let [first, following @ ..] = *rest else {
         return Err(refused(rest));
     };
     let Some(literal) = integer_by(&first.symbol) else {
@@ -65,7 +65,7 @@ fn elements_at(rest: &mut &[Lexeme]) -> Result<ArrayLength, SyntaxFault>
     };
     match ArrayLength::new(literal.value()) {
         Some(elements) => {
-            *rest = behind;
+            *rest = following;
             Ok(elements)
         }
         None => Err(refused(rest)),

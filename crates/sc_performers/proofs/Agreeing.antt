@@ -3,7 +3,7 @@ use Rattle.sc_performers.proofs.Common.{Bool, Decl, FunctionParam, FunctionTree,
 use Rattle.sc_performers.proofs.Common.{ParamTree, Proto, Scalar, SectionTree, Some, StmtTree, Text, Unsigned, []}
 use Rattle.sc_performers.proofs.Common.{agree, agree_symm, agrees, agrees_with, and_first, and_from, and_rest, ap}
 use Rattle.sc_performers.proofs.Common.{append-nil, append_assoc, back_empty, base_scalar, base_tree, bytes_eq, crosses}
-use Rattle.sc_performers.proofs.Common.{decls_from, false, false≢true, filter_map-append, front_empty, function_params}
+use Rattle.sc_performers.proofs.Common.{decls_from, false, false≢true, filter_map-append, prefix_empty, function_params}
 use Rattle.sc_performers.proofs.Common.{head_crosses, head_holds, head_in, head_of, heads_in, imported_agrees, list_all}
 use Rattle.sc_performers.proofs.Common.{main_holds, map, not, option_map, param_of, promised, proto_params, refl}
 use Rattle.sc_performers.proofs.Common.{result_crosses, rule_holds, same_base, same_either_way, same_params}
@@ -103,31 +103,31 @@ agree_if head other = not (bytes_eq other.name head.name) || agree other head
 either_way : (a b : HeadTree) → agree_if a b ≡ agree_if b a
 either_way a b = λ i. not (same_either_way b.name a.name i) || agree_symm b a i
 
-pub all_front : (xs ys : List HeadTree) (p : HeadTree → Bool) → list_all p xs ≡ true → list_all p ys ≡ true →
+pub all_prefix : (xs ys : List HeadTree) (p : HeadTree → Bool) → list_all p xs ≡ true → list_all p ys ≡ true →
     list_all p (xs ++ ys) ≡ true
-all_front [] ys p h k = k
-all_front (x ∷ xs) ys p h k = and_from _ _ (and_first _ _ h) (all_front xs ys p (and_rest (p x) _ h) k)
+all_prefix [] ys p h k = k
+all_prefix (x ∷ xs) ys p h k = and_from _ _ (and_first _ _ h) (all_prefix xs ys p (and_rest (p x) _ h) k)
 
 holds_among : (p : HeadTree → Bool) (x : HeadTree) (xs : List HeadTree) → list_all p xs ≡ true → IsAmong x xs →
     p x ≡ true
 holds_among p x xs h (first rest) = and_first _ _ h
 holds_among p x xs h (later y rest there) = holds_among p x rest (and_rest (p y) _ h) there
 
-more_front : (x : HeadTree) (xs ys : List HeadTree) → IsAmong x xs → IsAmong x (xs ++ ys)
-more_front x xs ys (first rest) = first (rest ++ ys)
-more_front x xs ys (later y rest there) = later y (rest ++ ys) (more_front x rest ys there)
+more_prefix : (x : HeadTree) (xs ys : List HeadTree) → IsAmong x xs → IsAmong x (xs ++ ys)
+more_prefix x xs ys (first rest) = first (rest ++ ys)
+more_prefix x xs ys (later y rest there) = later y (rest ++ ys) (more_prefix x rest ys there)
 
 at_end : (x : HeadTree) (xs : List HeadTree) → IsAmong x (xs ++ x ∷ [])
 at_end x [] = first []
 at_end x (y ∷ xs) = later y (xs ++ x ∷ []) (at_end x xs)
 
 -- those after a head agree with it
-behind_agree : (x : HeadTree) (before heads : List HeadTree) → AreAgreed before heads → IsAmong x before →
+after_agree : (x : HeadTree) (before heads : List HeadTree) → AreAgreed before heads → IsAmong x before →
     agrees_with heads x ≡ true
-behind_agree x before [] h there = refl
-behind_agree x before (head ∷ heads) h there =
+after_agree x before [] h there = refl
+after_agree x before (head ∷ heads) h there =
     and_from _ _ (either_way x head ∙ holds_among (agree_if head) x before h.0 there)
-    (behind_agree x (before ++ head ∷ []) heads h.1 (more_front x before (head ∷ []) there))
+    (after_agree x (before ++ head ∷ []) heads h.1 (more_prefix x before (head ∷ []) there))
 
 self_agrees : (x : HeadTree) → agree_if x x ≡ true
 self_agrees x = or_so (bytes_eq x.name x.name) (agree x x) (agrees x) where
@@ -138,8 +138,8 @@ self_agrees x = or_so (bytes_eq x.name x.name) (agree x x) (agrees x) where
 pub all_agree : (x : HeadTree) (before heads : List HeadTree) → AreAgreed before heads → IsAmong x heads →
     agrees_with (before ++ heads) x ≡ true
 all_agree x before heads h (first rest) =
-    all_front before (x ∷ rest) (agree_if x) h.0
-    (and_from _ _ (self_agrees x) (behind_agree x (before ++ x ∷ []) rest h.1 (at_end x before)))
+    all_prefix before (x ∷ rest) (agree_if x) h.0
+    (and_from _ _ (self_agrees x) (after_agree x (before ++ x ∷ []) rest h.1 (at_end x before)))
 all_agree x before heads h (later y rest there) =
     subst (λ all. agrees_with all x ≡ true) (append_assoc before (y ∷ []) rest)
     (all_agree x (before ++ y ∷ []) rest h.1 there)
@@ -162,7 +162,7 @@ module _ (sections : List SectionTree) (number : ℕ) (section : SectionTree) (m
       (are_agreed (before ++ decl.Global tree ∷ []) decls h)
   are_agreed before (decl.Proto head ∷ decls) h =
       let was : (head_holds sections number section before head && imported_agrees sections number section head) ≡
-      true = rule_holds _ head.line (front_empty _ _ h) in (
+      true = rule_holds _ head.line (prefix_empty _ _ h) in (
         and_first _ _ (and_first _ _ was),
         subst (λ all. AreAgreed all (heads_in decls)) (heads_snoc before (decl.Proto head))
             (are_agreed (before ++ decl.Proto head ∷ []) decls
@@ -171,7 +171,7 @@ module _ (sections : List SectionTree) (number : ℕ) (section : SectionTree) (m
       )
   are_agreed before (decl.Function tree ∷ decls) h =
       let was : (head_holds sections number section before (head_of tree.head) &&
-      main_holds mains (head_of tree.head)) ≡ true = rule_holds _ tree.head.line (front_empty _ _ h) in (
+      main_holds mains (head_of tree.head)) ≡ true = rule_holds _ tree.head.line (prefix_empty _ _ h) in (
         and_first _ _ (and_first _ _ was),
         subst (λ all. AreAgreed all (heads_in decls)) (heads_snoc before (decl.Function tree))
             (are_agreed (before ++ decl.Function tree ∷ []) decls

@@ -14,7 +14,7 @@ pub use Rattle.std.specs.Fmt.{decimal}
 pub use Rattle.std.specs.List.{AllByRecursion, concat, cons_option, filter_map, list_all, list_any}
 pub use Rattle.std.specs.Option.{option_and_then, option_map, option_map_or}
 pub use Rattle.sc_base.proofs.Bools.{and_first, and_rest, implied, implies}
-pub use Rattle.sc_base.proofs.Lists.{get_behind, map_twice, position-cons}
+pub use Rattle.sc_base.proofs.Lists.{get_after, map_twice, position-cons}
 pub use Rattle.sc_base.proofs.Texts.{bytes_eq_self, same_either_way, same_text}
 pub use Rattle.sc_base.specs.Prelude.{all_hold, is_name, number_of}
 pub use Rattle.sc_base.specs.declared.op.BinaryOp.TheVariants.{Equal, Sub}
@@ -84,8 +84,8 @@ pub use Rattle.sc_elab.specs.Prelude.{import_target, imported_target, or_first, 
 pub use Rattle.sc_elab.specs.Prelude.{scope_in, sections_from, signature_by, structs, type_of, type_of_name}
 pub use Rattle.sc_elab.specs.Prelude.{typed_function, typed_global, typed_param, typed_section, visible_of}
 pub use Rattle.sc_types.proofs.Calls.{FoundBy, Offering, comp_is, export_is, find_offering, found_by}
-pub use Rattle.sc_types.proofs.Facts.{DeclFacts, ExportFacts, FaceFacts, Fresh, ImportFacts, fresh_distinct}
-pub use Rattle.sc_types.proofs.Lookups.{Each, FoundFunction, back_empty, each_at, each_empty, front_empty, is_at_most}
+pub use Rattle.sc_types.proofs.Facts.{DeclFacts, ExportFacts, InterfaceFacts, Fresh, ImportFacts, fresh_distinct}
+pub use Rattle.sc_types.proofs.Lookups.{Each, FoundFunction, back_empty, each_at, each_empty, prefix_empty, is_at_most}
 pub use Rattle.sc_types.proofs.Lookups.{map_empty, none_some, rule_holds, some_item}
 pub use Rattle.sc_types.proofs.Sections.{agrees, both_distinct, crossing, g, none_beyond, promised_name}
 pub use Rattle.sc_types.specs.Prelude.{IsTyped, counts_broken, global_lines, head_lines, line_beyond, line_of_some}

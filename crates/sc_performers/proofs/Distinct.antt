@@ -24,14 +24,14 @@ not_to false h = refl
 
 -- Names of two lists.
 
-pub among_front : (xs ys : List Text) (name : Text) → among xs name ≡ true → among (xs ++ ys) name ≡ true
-among_front xs ys name h = among-append xs ys name ∙ or_left (among xs name) (among ys name) h
+pub among_prefix : (xs ys : List Text) (name : Text) → among xs name ≡ true → among (xs ++ ys) name ≡ true
+among_prefix xs ys name h = among-append xs ys name ∙ or_left (among xs name) (among ys name) h
 
 pub among_back : (xs ys : List Text) (name : Text) → among ys name ≡ true → among (xs ++ ys) name ≡ true
 among_back xs ys name h = among-append xs ys name ∙ or_right (among xs name) (among ys name) h
 
-pub not_front : (xs ys : List Text) (name : Text) → among (xs ++ ys) name ≡ false → among xs name ≡ false
-not_front xs ys name h = (or_parts (among xs name) (among ys name) (sym (among-append xs ys name) ∙ h)).0
+pub not_prefix : (xs ys : List Text) (name : Text) → among (xs ++ ys) name ≡ false → among xs name ≡ false
+not_prefix xs ys name h = (or_parts (among xs name) (among ys name) (sym (among-append xs ys name) ∙ h)).0
 
 -- the first of distinct names isn't among the others
 pub first_new : (name : Text) (names : List Text) → are_distinct (name ∷ names) ≡ true → among names name ≡ false
@@ -40,12 +40,12 @@ first_new name names h = not_to (among names name) (and_first (is_new names name
 pub rest_distinct : (name : Text) (names : List Text) → are_distinct (name ∷ names) ≡ true → are_distinct names ≡ true
 rest_distinct name names h = and_rest (is_new names name) (are_distinct names) h
 
-pub front_distinct : (xs ys : List Text) → are_distinct (xs ++ ys) ≡ true → are_distinct xs ≡ true
-front_distinct [] ys h = refl
-front_distinct (x ∷ xs) ys h =
+pub prefix_distinct : (xs ys : List Text) → are_distinct (xs ++ ys) ≡ true → are_distinct xs ≡ true
+prefix_distinct [] ys h = refl
+prefix_distinct (x ∷ xs) ys h =
     and_from (is_new xs x) (are_distinct xs)
-    (not_from (among xs x) (not_front xs ys x (first_new x (xs ++ ys) h)))
-    (front_distinct xs ys (rest_distinct x (xs ++ ys) h))
+    (not_from (among xs x) (not_prefix xs ys x (first_new x (xs ++ ys) h)))
+    (prefix_distinct xs ys (rest_distinct x (xs ++ ys) h))
 
 pub back_distinct : (xs ys : List Text) → are_distinct (xs ++ ys) ≡ true → are_distinct ys ≡ true
 back_distinct [] ys h = h

@@ -1,6 +1,6 @@
 -- A compartment of a text that keeps the rules can perform its part of a legal trace.
 use Rattle.sc_performers.proofs.Common.{All, All-from_recursion, AllByRecursion, Bool, Each, Event, ExportFacts}
-use Rattle.sc_performers.proofs.Common.{ExportLine, FaceFacts, HasWords, ImportFacts, ImportLine, Interface, Interfaces}
+use Rattle.sc_performers.proofs.Common.{ExportLine, InterfaceFacts, HasWords, ImportFacts, ImportLine, Interface, Interfaces}
 use Rattle.sc_performers.proofs.Common.{IsPerformer, IsUsable, List, Proto, SectionTree, Some, Text, [], all_of, among}
 use Rattle.sc_performers.proofs.Common.{ap, ap₂, are_distinct, arith, back_empty, both_distinct, bytes_eq, comp_is}
 use Rattle.sc_performers.proofs.Common.{cons_option, counts_broken, defined, defines_main, eqb-true, export_names}
@@ -82,9 +82,9 @@ each_name : {A : Type 0} (f : A → Text) (P : Text → Type 0) (xs : List A) �
 each_name f P [] h = tt
 each_name f P (x ∷ xs) h = (h.0, each_name f P xs h.1)
 
-each_front : (P : Text → Type 0) (xs ys : List Text) → Each P xs → Each P ys → Each P (xs ++ ys)
-each_front P [] ys h k = k
-each_front P (x ∷ xs) ys h k = (h.0, each_front P xs ys h.1 k)
+each_prefix : (P : Text → Type 0) (xs ys : List Text) → Each P xs → Each P ys → Each P (xs ++ ys)
+each_prefix P [] ys h k = k
+each_prefix P (x ∷ xs) ys h k = (h.0, each_prefix P xs ys h.1 k)
 
 all_both : (P : Proto → Type 0) (xs ys : List Proto) → AllByRecursion P xs → AllByRecursion P ys →
     AllByRecursion P (xs ++ ys)
@@ -99,7 +99,7 @@ pub exports_named : (old : SectionTree) (lines : List ExportLine) →
 exports_named old [] = refl
 exports_named old (line ∷ lines) = λ i. proto_named old line i ∷ exports_named old lines i
 
-module _ (olds : List SectionTree) (in_faces : interface_broken olds ≡ []) (in_counts : counts_broken olds ≡ [])
+module _ (olds : List SectionTree) (in_interfaces : interface_broken olds ≡ []) (in_counts : counts_broken olds ≡ [])
     (number : ℕ) (old : SectionTree) (got : slice_get olds number ≡ Some old) where
   abbrev pub interfaces : Interfaces
   interfaces = interfaces_of olds
@@ -107,11 +107,11 @@ module _ (olds : List SectionTree) (in_faces : interface_broken olds ≡ []) (in
   abbrev pub interface : Interface
   interface = interface_of olds number old
 
-  abbrev pub facts : FaceFacts olds number old
-  facts = facts_at olds in_faces in_counts number old got
+  abbrev pub facts : InterfaceFacts olds number old
+  facts = facts_at olds in_interfaces in_counts number old got
 
   some_main : list_any defines_main olds ≡ true
-  some_main = rule_holds _ 0 (back_empty (lines_from olds 0 [] olds) _ in_faces)
+  some_main = rule_holds _ 0 (back_empty (lines_from olds 0 [] olds) _ in_interfaces)
 
   pub main_here : (number == interfaces.main) ≡ true → defines_main old ≡ true
   main_here is =
@@ -123,12 +123,12 @@ module _ (olds : List SectionTree) (in_faces : interface_broken olds ≡ []) (in
   pub all_resolved : Each (IsResolved olds number old) old.imports
   all_resolved =
       each_map (ImportFacts olds number old) (IsResolved olds number old)
-      (λ a fact. resolved olds in_faces in_counts number old a fact.offered) old.imports facts.imports
+      (λ a fact. resolved olds in_interfaces in_counts number old a fact.offered) old.imports facts.imports
 
   pub all_promised : Each (IsPromised old) old.exports
   all_promised =
       each_from_places (IsPromised old) old.exports
-      (λ index line there. promised_at olds in_faces in_counts number old got index line there)
+      (λ index line there. promised_at olds in_interfaces in_counts number old got index line there)
 
   -- Names.
 
@@ -173,10 +173,10 @@ module _ (olds : List SectionTree) (in_faces : interface_broken olds ≡ []) (in
       Each (λ name. among (function_names old.decls) name ≡ true)
       (export_names old ++ (if b then main_name ∷ [] else []))
   own_defined true is =
-      each_front (λ name. among (function_names old.decls) name ≡ true) (export_names old) (main_name ∷ [])
+      each_prefix (λ name. among (function_names old.decls) name ≡ true) (export_names old) (main_name ∷ [])
       exports_defined (main_here is, tt)
   own_defined false is =
-      each_front (λ name. among (function_names old.decls) name ≡ true) (export_names old) []
+      each_prefix (λ name. among (function_names old.decls) name ≡ true) (export_names old) []
       exports_defined tt
 
   pub imports_apart : Each (λ name. among (function_names old.decls) name ≡ false) (import_names old)
@@ -212,7 +212,7 @@ module _ (olds : List SectionTree) (in_faces : interface_broken olds ≡ []) (in
       both_distinct (own b) (import_names old) (own_distinct b)
       (each_map (λ name. among (function_names old.decls) name ≡ true) (λ name. among (import_names old) name ≡ false)
       (λ name there. not_in (function_names old.decls) (import_names old) name imports_apart there) (own b)
-      (each_front (λ name. among (function_names old.decls) name ≡ true) (export_names old) (names_of (mains b))
+      (each_prefix (λ name. among (function_names old.decls) name ≡ true) (export_names old) (names_of (mains b))
       exports_defined (mains_defined b is)))
       (fresh_distinct [] (import_names old) facts.fresh_imports)
 
@@ -257,9 +257,9 @@ module _ (olds : List SectionTree) (in_faces : interface_broken olds ≡ []) (in
         distinct = ap are_distinct all_names ∙ all_distinct here refl;
         usable = All-from_recursion IsUsable (all_of interfaces number interface) all_usable;
         few_exports = subst (λ n. n ≤ 4096) (sym (length-map old.exports (proto_of old)))
-            (few_exports olds in_faces in_counts number old got);
+            (few_exports olds in_interfaces in_counts number old got);
         few_imports = subst (λ n. n ≤ 4096) (sym (length-map old.imports (import_of olds number)))
-            (few_imports olds in_faces in_counts number old got);
+            (few_imports olds in_interfaces in_counts number old got);
         few_rows = rows.1;
         rows_fit = rows.0;
       }

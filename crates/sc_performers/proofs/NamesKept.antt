@@ -22,7 +22,7 @@ use Rattle.sc_performers.proofs.BackTree.{counter_at, does, ends, function_at, h
 use Rattle.sc_performers.proofs.Undone.{back_tree_is}
 use Rattle.sc_performers.proofs.Declared.{all_functions, all_globals, all_protos, all_structs, decls_of}
 use Rattle.sc_performers.proofs.Declared.{protos_functions, protos_globals, protos_protos, protos_structs}
-use Rattle.sc_performers.proofs.Distinct.{among_back, front_distinct, not_counter, not_from, not_param, params_distinct}
+use Rattle.sc_performers.proofs.Distinct.{among_back, prefix_distinct, not_counter, not_from, not_param, params_distinct}
 use Rattle.sc_performers.proofs.Distinct.{params_named, apart}
 use Rattle.sc_performers.proofs.Uses.{AllFit, AreEntries, IsAmong, are_entries, calls_use, input_use, output_use}
 use Rattle.sc_performers.proofs.Uses.{rows_fit}
@@ -152,19 +152,19 @@ module _ (interfaces : Interfaces) (comp : ℕ) (rows : List Row) (interface : I
       (protos_known 0 f.params)
 
   protos_lines : (others : List (Import × Proto)) (rest : List HeadTree) → AreHeads others rest →
-      (front : List HeadTree) (decls : List Decl) →
-      lines_from section (map decl.Proto front) (map decl.Proto rest ++ decls) ≡
-      lines_from section (map decl.Proto (front ++ rest)) decls
-  protos_lines others rest no_heads front decls =
-      ap (λ x. lines_from section (map decl.Proto x) decls) (sym (append-nil front))
-  protos_lines others rest (and_head u more heads line h) front decls =
+      (prefix : List HeadTree) (decls : List Decl) →
+      lines_from section (map decl.Proto prefix) (map decl.Proto rest ++ decls) ≡
+      lines_from section (map decl.Proto (prefix ++ rest)) decls
+  protos_lines others rest no_heads prefix decls =
+      ap (λ x. lines_from section (map decl.Proto x) decls) (sym (append-nil prefix))
+  protos_lines others rest (and_head u more heads line h) prefix decls =
       let head = head_at u.1 line in
       ap₂ (λ x y. x ++ lines_from section y (map decl.Proto heads ++ decls))
-      (ap (λ n. decl_lines n (decl.Proto head)) (before_protos front) ∙
-      ap (λ b. unless b line) (proto_holds [] (head_names front) u.1 line))
-      (sym (map-append decl.Proto front (head ∷ []))) ∙
-      protos_lines more heads h (front ++ head ∷ []) decls ∙
-      ap (λ x. lines_from section (map decl.Proto x) decls) (append_assoc front (head ∷ []) heads)
+      (ap (λ n. decl_lines n (decl.Proto head)) (before_protos prefix) ∙
+      ap (λ b. unless b line) (proto_holds [] (head_names prefix) u.1 line))
+      (sym (map-append decl.Proto prefix (head ∷ []))) ∙
+      protos_lines more heads h (prefix ++ head ∷ []) decls ∙
+      ap (λ x. lines_from section (map decl.Proto x) decls) (append_assoc prefix (head ∷ []) heads)
 
   -- the counter
 
@@ -219,32 +219,32 @@ module _ (interfaces : Interfaces) (comp : ℕ) (rows : List Row) (interface : I
       (filter (is_of entry) rows) body b (rows_fit interfaces comp rows interface is entry f named))
 
   functions_lines : (heads : List HeadTree) (line : ℕ) (others : List (Entry × Proto)) (rest : List FunctionTree) →
-      AreFunctions interfaces rows others rest → (front : List FunctionTree) → AreEntries interfaces comp others →
+      AreFunctions interfaces rows others rest → (prefix : List FunctionTree) → AreEntries interfaces comp others →
       AllByRecursion (λ e. IsUsable e.1) others →
-      are_distinct (tree_names front ++ entry_names others) ≡ true →
-      lines_from section (decls_of heads (counter_at line) front) (map decl.Function rest) ≡ []
-  functions_lines heads line others rest no_functions front named usable distinct = refl
-  functions_lines heads line others rest (and_function entry f more trees at close body b h) front named usable
+      are_distinct (tree_names prefix ++ entry_names others) ≡ true →
+      lines_from section (decls_of heads (counter_at line) prefix) (map decl.Function rest) ≡ []
+  functions_lines heads line others rest no_functions prefix named usable distinct = refl
+  functions_lines heads line others rest (and_function entry f more trees at close body b h) prefix named usable
       distinct =
       let tree = function_at f at close body in
-      let new : among (tree_names front) f.name ≡ false =
-      apart (tree_names front) (f.name ∷ entry_names more) f.name distinct
+      let new : among (tree_names prefix) f.name ≡ false =
+      apart (tree_names prefix) (f.name ∷ entry_names more) f.name distinct
       (or_left (bytes_eq f.name f.name) (among (entry_names more) f.name) (bytes_eq_self f.name)) in
-      let none : function_lines (declared section (decls_of heads (counter_at line) front)) tree ≡ [] =
-      ap (λ n. function_lines n tree) (before_functions heads line front) ∙
-      function_none entry f at close body (tree_names front) (head_names heads) b named.0 usable.0 new in
-      let next : decls_of heads (counter_at line) front ++ decl.Function tree ∷ [] ≡
-      decls_of heads (counter_at line) (front ++ tree ∷ []) =
-      append_assoc (map decl.Proto heads) (decl.Global (counter_at line) ∷ map decl.Function front)
+      let none : function_lines (declared section (decls_of heads (counter_at line) prefix)) tree ≡ [] =
+      ap (λ n. function_lines n tree) (before_functions heads line prefix) ∙
+      function_none entry f at close body (tree_names prefix) (head_names heads) b named.0 usable.0 new in
+      let next : decls_of heads (counter_at line) prefix ++ decl.Function tree ∷ [] ≡
+      decls_of heads (counter_at line) (prefix ++ tree ∷ []) =
+      append_assoc (map decl.Proto heads) (decl.Global (counter_at line) ∷ map decl.Function prefix)
       (decl.Function tree ∷ []) ∙
       ap (λ x. map decl.Proto heads ++ decl.Global (counter_at line) ∷ x)
-      (sym (map-append decl.Function front (tree ∷ []))) in
-      let still : are_distinct (tree_names (front ++ tree ∷ []) ++ entry_names more) ≡ true =
+      (sym (map-append decl.Function prefix (tree ∷ []))) in
+      let still : are_distinct (tree_names (prefix ++ tree ∷ []) ++ entry_names more) ≡ true =
       subst (λ x. are_distinct x ≡ true) (sym (ap (λ x. x ++ entry_names more)
-      (map-append {A = FunctionTree} (λ tree. tree.head.name) front (tree ∷ [])) ∙
-      append_assoc (tree_names front) (f.name ∷ []) (entry_names more))) distinct in
+      (map-append {A = FunctionTree} (λ tree. tree.head.name) prefix (tree ∷ [])) ∙
+      append_assoc (tree_names prefix) (f.name ∷ []) (entry_names more))) distinct in
       ap₂ (λ x y. x ++ lines_from section y (map decl.Function trees)) none next ∙
-      functions_lines heads line more trees h (front ++ tree ∷ []) named.1 usable.1 still
+      functions_lines heads line more trees h (prefix ++ tree ∷ []) named.1 usable.1 still
 
   -- all of them
   section_none : lines_from section [] section.decls ≡ []
@@ -259,7 +259,7 @@ module _ (interfaces : Interfaces) (comp : ℕ) (rows : List Row) (interface : I
       ap (λ b. unless b t.counter_line) (counter_holds heads t.counter_line t.are_heads)) ∙
       functions_lines heads t.counter_line defined t.functions t.are_functions []
       (are_entries interfaces comp rows interface is) (entries_usable interfaces comp rows interface is)
-      (front_distinct (entry_names defined) (use_names used) (distinct_names interfaces comp rows interface is))
+      (prefix_distinct (entry_names defined) (use_names used) (distinct_names interfaces comp rows interface is))
 
 pub names_hold : NamesHold
 names_hold interfaces comp rows interface section is same =

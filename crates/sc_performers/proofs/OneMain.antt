@@ -1,7 +1,7 @@
 -- One section of a text that keeps the rules defines `main`.
 use Rattle.sc_performers.proofs.Common.{Bool, Decl, Each, Function, Global, List, SectionTree, Some, Struct, [], among}
 use Rattle.sc_performers.proofs.Common.{and_rest, ap, arith, back_empty, bytes_eq, decls_from, defines_main, each_at}
-use Rattle.sc_performers.proofs.Common.{eq-eqb, exports_from, false, false≢true, front_empty, function_names}
+use Rattle.sc_performers.proofs.Common.{eq-eqb, exports_from, false, false≢true, prefix_empty, function_names}
 use Rattle.sc_performers.proofs.Common.{head_holds, head_of, if◌then◌else◌, imported_agrees, imports_from, is_main}
 use Rattle.sc_performers.proofs.Common.{line_of_text, lines_from, list_any, main_from, main_holds, main_name, map}
 use Rattle.sc_performers.proofs.Common.{map_empty, name_holds, none_some, not, refl, rule_holds, same_Some}
@@ -58,7 +58,7 @@ module _ (sections : List SectionTree) (number : ℕ) (section : SectionTree) wh
       imported_agrees sections number section head) head.line) _ h)
   no_main before (Function tree ∷ decls) h =
       let was : (head_holds sections number section before (head_of tree.head) &&
-      main_holds true (head_of tree.head)) ≡ true = rule_holds _ tree.head.line (front_empty _ _ h) in
+      main_holds true (head_of tree.head)) ≡ true = rule_holds _ tree.head.line (prefix_empty _ _ h) in
       or_false (bytes_eq main_name tree.head.name) (among (function_names decls) main_name)
       (same_either_way main_name tree.head.name ∙ not_main (bytes_eq tree.head.name main_name)
       (is_main (head_of tree.head))
@@ -75,13 +75,13 @@ module _ (sections : List SectionTree) (number : ℕ) (section : SectionTree) wh
       (back_empty (unless (name_holds sections number section true before) 1) _ h)))
 
 module _ (sections : List SectionTree) where
-  none_behind : (k : ℕ) (before rest : List SectionTree) → lines_from sections k before rest ≡ [] →
+  none_after : (k : ℕ) (before rest : List SectionTree) → lines_from sections k before rest ≡ [] →
       list_any defines_main before ≡ true → Each (λ s. defines_main s ≡ false) rest
-  none_behind k before [] h some = tt
-  none_behind k before (s ∷ rest) h some = (
+  none_after k before [] h some = tt
+  none_after k before (s ∷ rest) h some = (
     no_other sections k s before
-        (subst (λ mains. section_lines sections k s mains before ≡ []) some (map_empty _ _ (front_empty _ _ h))),
-    none_behind (suc k) (before ++ s ∷ []) rest
+        (subst (λ mains. section_lines sections k s mains before ≡ []) some (map_empty _ _ (prefix_empty _ _ h))),
+    none_after (suc k) (before ++ s ∷ []) rest
         (back_empty (map (line_of_text s.line) (section_lines sections k s (list_any defines_main before) before)) _ h)
         (any_snoc before s some),
   )
@@ -92,10 +92,10 @@ module _ (sections : List SectionTree) where
   main_once k before [] h none i x got other = none_some x got
   main_once k before (s ∷ rest) h none i x got other =
       by (defines_main s) refl i got other
-      (λ some. none_behind (suc k) (before ++ s ∷ []) rest behind (last_any before s some))
-      (λ none_here. main_once (suc k) (before ++ s ∷ []) rest behind (none_snoc before s none none_here)) where
-        behind : lines_from sections (suc k) (before ++ s ∷ []) rest ≡ []
-        behind =
+      (λ some. none_after (suc k) (before ++ s ∷ []) rest following (last_any before s some))
+      (λ none_here. main_once (suc k) (before ++ s ∷ []) rest following (none_snoc before s none none_here)) where
+        following : lines_from sections (suc k) (before ++ s ∷ []) rest ≡ []
+        following =
             back_empty (map (line_of_text s.line)
             (section_lines sections k s (list_any defines_main before) before)) _ h
 

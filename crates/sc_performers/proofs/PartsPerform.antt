@@ -1,6 +1,6 @@
 -- Each compartment of a program can perform its part of a legal trace in a text.
 use Rattle.sc_performers.proofs.Common.{All, All-from_recursion, AllByRecursion, AreNumbered, Bool, Call, Decl, Each}
-use Rattle.sc_performers.proofs.Common.{End, Event, ExportFacts, ExportLine, FaceFacts, HasWords, ImportFacts}
+use Rattle.sc_performers.proofs.Common.{End, Event, ExportFacts, ExportLine, InterfaceFacts, HasWords, ImportFacts}
 use Rattle.sc_performers.proofs.Common.{ImportLine, In, Interfaces, IsCalled, IsImported, IsSpoken, IsTrue, List, None}
 use Rattle.sc_performers.proofs.Common.{Option, Out, Proto, Ret, SectionTree, Some, Standing, Text, [], action_of}
 use Rattle.sc_performers.proofs.Common.{among, and_parts, ap, arith, at_start, bytes_eq, comp_is, counts_broken}
@@ -70,18 +70,18 @@ rows_numbered c number (Some at) (event ∷ later) few =
       by true more less = (refl, omega (arith, few), more)
       by false more less = less
 
-module _ (olds : List SectionTree) (in_faces : interface_broken olds ≡ []) (in_counts : counts_broken olds ≡ [])
+module _ (olds : List SectionTree) (in_interfaces : interface_broken olds ≡ []) (in_counts : counts_broken olds ≡ [])
     (named : AllByRecursion IsNamed olds) where
-  abbrev faces : Interfaces
-  faces = interfaces_of olds
+  abbrev interface_rules : Interfaces
+  interface_rules = interfaces_of olds
 
   -- Sections at their places.
   module _ (number : ℕ) (old : SectionTree) (got : slice_get olds number ≡ Some old) where
     abbrev names : IsNamed old
     names = all_at IsNamed olds number old named got
 
-    abbrev fact : FaceFacts olds number old
-    fact = facts olds in_faces in_counts number old got
+    abbrev fact : InterfaceFacts olds number old
+    fact = facts olds in_interfaces in_counts number old got
 
     one_called : (line : ExportLine) → ExportFacts olds number old line → IsPromised old line →
         IsCalled (proto_of old line)
@@ -99,11 +99,11 @@ module _ (olds : List SectionTree) (in_faces : interface_broken olds ≡ []) (in
 
     exports_called : AllByRecursion IsCalled (map (proto_of old) old.exports)
     exports_called =
-        called_from old.exports fact.exports (all_promised olds in_faces in_counts number old got)
+        called_from old.exports fact.exports (all_promised olds in_interfaces in_counts number old got)
 
     imported_from : (lines : List ImportLine) → Each (ImportFacts olds number old) lines →
         Each (IsResolved olds number old) lines → AllByRecursion IsFromSo lines →
-        AllByRecursion (IsImported faces) (map (import_of olds number) lines)
+        AllByRecursion (IsImported interface_rules) (map (import_of olds number) lines)
     imported_from [] h r from = tt
     imported_from (a ∷ lines) h r from = (
       record {
@@ -128,7 +128,7 @@ module _ (olds : List SectionTree) (in_faces : interface_broken olds ≡ []) (in
   none_from k (s ∷ rest) zero e = none_some s (sym e)
   none_from k (s ∷ rest) (suc j) e = none_from (suc k) rest j e
 
-  export_called : (to index : ℕ) (f : Proto) → export_at faces to index ≡ Some f → IsCalled f
+  export_called : (to index : ℕ) (f : Proto) → export_at interface_rules to index ≡ Some f → IsCalled f
   export_called to index f is = by (slice_get olds to) refl where
     by : (o : Option SectionTree) → slice_get olds to ≡ o → IsCalled f
     by None e =
@@ -139,21 +139,21 @@ module _ (olds : List SectionTree) (in_faces : interface_broken olds ≡ []) (in
 
   -- Rows.
 
-  taken : (to index count : ℕ) → takes faces to index count ≡ true →
-      (f : Proto) × (export_at faces to index ≡ Some f) × IsCalled f
-  taken to index count h = by (export_at faces to index) refl h where
-    by : (o : Option Proto) → export_at faces to index ≡ o →
+  taken : (to index count : ℕ) → takes interface_rules to index count ≡ true →
+      (f : Proto) × (export_at interface_rules to index ≡ Some f) × IsCalled f
+  taken to index count h = by (export_at interface_rules to index) refl h where
+    by : (o : Option Proto) → export_at interface_rules to index ≡ o →
         option_map_or (λ found. length found.params == count) o false ≡ true →
-        (f : Proto) × (export_at faces to index ≡ Some f) × IsCalled f
+        (f : Proto) × (export_at interface_rules to index ≡ Some f) × IsCalled f
     by None e h = absurd (false≢true h)
     by (Some f) e h = (f, e, export_called to index f e)
 
-  spoken : (at : Standing) (event : Event) → may_perform faces at event ≡ true → HasWords event →
-      IsSpoken faces (action_of event)
+  spoken : (at : Standing) (event : Event) → may_perform interface_rules at event ≡ true → HasWords event →
+      IsSpoken interface_rules (action_of event)
   spoken at (Call from to index args) may words = (
     words,
-    taken to index (length args) (and_parts (imports faces from (is_function to index))
-        (takes faces to index (length args)) may).1,
+    taken to index (length args) (and_parts (imports interface_rules from (is_function to index))
+        (takes interface_rules to index (length args)) may).1,
   )
   spoken at (Ret from to None) may words = tt
   spoken at (Ret from to (Some value)) may words = words
@@ -161,21 +161,21 @@ module _ (olds : List SectionTree) (in_faces : interface_broken olds ≡ []) (in
   spoken at (In comp value) may words = tt
   spoken at (End comp value) may words = words
 
-  rows_spoken : (c number : ℕ) (at : Option Standing) (trace : List Event) → is_legal_from faces at trace ≡ true →
+  rows_spoken : (c number : ℕ) (at : Option Standing) (trace : List Event) → is_legal_from interface_rules at trace ≡ true →
       AllByRecursion HasWords trace →
-      AllByRecursion (λ row. IsSpoken faces row.action) (rows_from c number at trace)
+      AllByRecursion (λ row. IsSpoken interface_rules row.action) (rows_from c number at trace)
   rows_spoken c number at [] is words = tt
   rows_spoken c number None (event ∷ later) is words = tt
   rows_spoken c number (Some at) (event ∷ later) is words =
-      let parts = and_parts (is_allowed faces at event) (is_legal_from faces (stands_after at event) later) is in
-      let allowed = and_parts (performer event == at.active.comp) (may_perform faces at event) parts.0 in
+      let parts = and_parts (is_allowed interface_rules at event) (is_legal_from interface_rules (stands_after at event) later) is in
+      let allowed = and_parts (performer event == at.active.comp) (may_perform interface_rules at event) parts.0 in
       by (performer event == c) (spoken at event allowed.1 words.0)
       (rows_spoken c (suc number) (stands_after at event) later parts.1 words.1)
       (rows_spoken c number (stands_after at event) later parts.1 words.1) where
-        by : (mine : Bool) → IsSpoken faces (action_of event) →
-            AllByRecursion (λ row. IsSpoken faces row.action) (rows_from c (suc number) (stands_after at event) later) →
-            AllByRecursion (λ row. IsSpoken faces row.action) (rows_from c number (stands_after at event) later) →
-            AllByRecursion (λ row. IsSpoken faces row.action) (if mine then record {
+        by : (mine : Bool) → IsSpoken interface_rules (action_of event) →
+            AllByRecursion (λ row. IsSpoken interface_rules row.action) (rows_from c (suc number) (stands_after at event) later) →
+            AllByRecursion (λ row. IsSpoken interface_rules row.action) (rows_from c number (stands_after at event) later) →
+            AllByRecursion (λ row. IsSpoken interface_rules row.action) (if mine then record {
               entry = at.active.entry;
               number = number;
               action = action_of event;
@@ -189,7 +189,7 @@ module _ (olds : List SectionTree) (in_faces : interface_broken olds ≡ []) (in
   there (x ∷ xs) zero low = (x, refl)
   there (x ∷ xs) (suc i) low = there xs i (omega (arith, low))
 
-  pub section_performs : (trace : List Event) → legal faces trace ≡ true → All HasWords trace →
+  pub section_performs : (trace : List Event) → legal interface_rules trace ≡ true → All HasWords trace →
       length trace ≤ 4096 → (comp : ℕ) → comp < length olds → PerformsPart (program_of olds) trace comp
   section_performs trace is_legal words few comp low =
       let at : (s : SectionTree) × (slice_get olds comp ≡ Some s) = there olds comp low in
@@ -200,13 +200,13 @@ module _ (olds : List SectionTree) (in_faces : interface_broken olds ≡ []) (in
         can = record {
           name = names.name;
           exports = All-from_recursion IsCalled (map (proto_of at.0) at.0.exports) (exports_called comp at.0 at.1);
-          imports = All-from_recursion (IsImported faces) (map (import_of olds comp) at.0.imports)
-              (imported_from comp at.0 at.1 at.0.imports (facts olds in_faces in_counts comp at.0 at.1).imports
-              (all_resolved olds in_faces in_counts comp at.0 at.1)
+          imports = All-from_recursion (IsImported interface_rules) (map (import_of olds comp) at.0.imports)
+              (imported_from comp at.0 at.1 at.0.imports (facts olds in_interfaces in_counts comp at.0 at.1).imports
+              (all_resolved olds in_interfaces in_counts comp at.0 at.1)
               (recursion_from_All IsFromSo at.0.imports names.comps));
-          actions = All-from_recursion (λ row. IsSpoken faces row.action) (part faces.main comp trace)
-              (rows_spoken comp 0 (at_start faces.main) trace is_legal (recursion_from_All HasWords trace words));
-          numbered = rows_numbered comp 0 (at_start faces.main) trace (omega (arith, few));
+          actions = All-from_recursion (λ row. IsSpoken interface_rules row.action) (part interface_rules.main comp trace)
+              (rows_spoken comp 0 (at_start interface_rules.main) trace is_legal (recursion_from_All HasWords trace words));
+          numbered = rows_numbered comp 0 (at_start interface_rules.main) trace (omega (arith, few));
         };
       }
 

@@ -2,14 +2,14 @@
 use Rattle.sc_performers.proofs.Common.{AllBecome, Bool, Callees, Event, ImportFacts, IsRecomposed, IsTyped, List, None}
 use Rattle.sc_performers.proofs.Common.{Option, SectionTree, Some, [], among, ap, append_assoc, arith, back_empty}
 use Rattle.sc_performers.proofs.Common.{callees_of, concat, decls_from, defines_main, each_at, each_empty, eqb-true}
-use Rattle.sc_performers.proofs.Common.{exports_from, false, false≢true, front_empty, imports_from, interface_broken}
+use Rattle.sc_performers.proofs.Common.{exports_from, false, false≢true, prefix_empty, imports_from, interface_broken}
 use Rattle.sc_performers.proofs.Common.{interface_of, interfaces_of, legal, length, line_of_text, list_any, main_from}
 use Rattle.sc_performers.proofs.Common.{map, map_empty, most_compartments, name_fits, name_holds, part, program_of}
 use Rattle.sc_performers.proofs.Common.{proto_names, refl, slice_get, some_item, subst, suc, sym, true, unless, zero, ℕ}
 use Rattle.sc_performers.proofs.Common.{◌++◌, ◌+◌, ◌<◌, ◌==◌, ◌||◌, ◌∙◌, ◌∷◌, ◌≡◌}
 use Rattle.sc_performers.specs.Recomposed.{RecomposedHold}
 use Rattle.sc_scope.specs.Names as names
-use Rattle.sc_interfaces.specs.Faces as faces
+use Rattle.sc_interfaces.specs.Rules as interface_rules
 use Rattle.sc_elab.specs.Sections as elab
 use Rattle.sc_types.specs.Counts as counts
 use Rattle.sc_performers.proofs.CountsKept.{counts_hold}
@@ -24,9 +24,9 @@ use Rattle.sc_performers.proofs.Turned.{AllTurn, IsRightTrace, Turns, all_turn, 
 use Rattle.sc_performers.proofs.TypesKept.{types_hold}
 use Rattle.sc_performers.proofs.Undone.{back_tree_is}
 
-none_told : (line_of : SectionTree → ℕ) (o : Option SectionTree) → counts.line_of_some line_of o ≡ [] → o ≡ None
-none_told line_of None h = refl
-none_told line_of (Some s) h = some_item (line_of s) [] h
+none_reported : (line_of : SectionTree → ℕ) (o : Option SectionTree) → counts.line_of_some line_of o ≡ [] → o ≡ None
+none_reported line_of None h = refl
+none_reported line_of (Some s) h = some_item (line_of s) [] h
 
 -- as many sections
 none_too : (xs ys : List SectionTree) → AreSeenAs xs ys → (i : ℕ) → slice_get xs i ≡ None → slice_get ys i ≡ None
@@ -84,16 +84,16 @@ module _ (olds news : List SectionTree) (typed : IsTyped olds (program_of olds))
     all = seen_from olds typed.interfaces typed.counts set trace right 0 olds news turn
 
     -- rules whose offending lines are listed section by section
-    told_empty : (lines_of : SectionTree → List ℕ) →
+    listed_empty : (lines_of : SectionTree → List ℕ) →
         ((k : ℕ) (old new : SectionTree) → OneTurns k old new → lines_of new ≡ []) →
         (k : ℕ) (xs ys : List SectionTree) →
         AllOnesTurn k xs ys → concat (map (λ s. map (line_of_text s.line) (lines_of s)) ys) ≡ []
-    told_empty lines_of h k [] [] t = refl
-    told_empty lines_of h k [] (y ∷ ys) t = absurd t
-    told_empty lines_of h k (x ∷ xs) [] t = absurd t
-    told_empty lines_of h k (x ∷ xs) (y ∷ ys) t =
+    listed_empty lines_of h k [] [] t = refl
+    listed_empty lines_of h k [] (y ∷ ys) t = absurd t
+    listed_empty lines_of h k (x ∷ xs) [] t = absurd t
+    listed_empty lines_of h k (x ∷ xs) (y ∷ ys) t =
         both_empty (map (line_of_text y.line) (lines_of y)) _
-        (mapped_empty (line_of_text y.line) (lines_of y) (h k x y t.0)) (told_empty lines_of h (suc k) xs ys t.1)
+        (mapped_empty (line_of_text y.line) (lines_of y) (h k x y t.0)) (listed_empty lines_of h (suc k) xs ys t.1)
 
     names_one : (k : ℕ) (old new : SectionTree) → OneTurns k old new → names.section_lines new ≡ []
     names_one k old new (stays got off line is) =
@@ -138,40 +138,40 @@ module _ (olds news : List SectionTree) (typed : IsTyped olds (program_of olds))
 
     -- Interfaces.
 
-    faces_one : (k : ℕ) (old new : SectionTree) → OneTurns k old new → (mains : Bool)
+    interface_holds : (k : ℕ) (old new : SectionTree) → OneTurns k old new → (mains : Bool)
         (before others : List SectionTree) → AreSeenAs before others → IsSeenAs old new →
         ((k == (interfaces_of olds).main) ≡ true → mains ≡ false) →
-        faces.section_lines olds k old mains before ≡ [] → faces.section_lines news k new mains others ≡ []
-    faces_one k old new t mains before others around seen first_main h =
+        interface_rules.section_lines olds k old mains before ≡ [] → interface_rules.section_lines news k new mains others ≡ []
+    interface_holds k old new t mains before others around seen first_main h =
         both_empty (unless (name_holds news k new mains others) 1) _
         (ap (λ b. unless b 1) (λ i. name_fits (names_same before others around i) (seen.name i)) ∙
-        front_empty (unless (name_holds olds k old mains before) 1) _ h) (behind t) where
-          behind_name : exports_from olds k old [] old.exports ++ (imports_from olds k old [] old.imports ++
+        prefix_empty (unless (name_holds olds k old mains before) 1) _ h) (following t) where
+          after_name : exports_from olds k old [] old.exports ++ (imports_from olds k old [] old.imports ++
               decls_from olds k old mains [] old.decls) ≡ []
-          behind_name = back_empty (unless (name_holds olds k old mains before) 1) _ h
+          after_name = back_empty (unless (name_holds olds k old mains before) 1) _ h
 
           old_imports : imports_from olds k old [] old.imports ≡ []
-          old_imports = front_empty _ _ (back_empty (exports_from olds k old [] old.exports) _ behind_name)
+          old_imports = prefix_empty _ _ (back_empty (exports_from olds k old [] old.exports) _ after_name)
 
           old_decls : decls_from olds k old mains [] old.decls ≡ []
           old_decls =
               back_empty (imports_from olds k old [] old.imports) _
-              (back_empty (exports_from olds k old [] old.exports) _ behind_name)
+              (back_empty (exports_from olds k old [] old.exports) _ after_name)
 
-          behind : OneTurns k old new → exports_from news k new [] new.exports ++
+          following : OneTurns k old new → exports_from news k new [] new.exports ++
               (imports_from news k new [] new.imports ++ decls_from news k new mains [] new.decls) ≡ []
-          behind (stays got off line is) =
+          following (stays got off line is) =
               subst (λ s. exports_from news k s [] s.exports ++
               (imports_from news k s [] s.imports ++ decls_from news k s mains [] s.decls) ≡ []) (sym is)
               (both_empty (exports_from news k (moved line old) [] old.exports) _
-              (exports_kept olds news all k line old [] old.exports ∙ front_empty _ _ behind_name)
+              (exports_kept olds news all k line old [] old.exports ∙ prefix_empty _ _ after_name)
               (both_empty (imports_from news k (moved line old) [] old.imports) _
               (imports_hold olds news all k old (moved line old) (λ name none. none) [] old.imports old.imports
               (alike_self old.imports)
               (each_map (ImportFacts olds k old) (λ a. among (proto_names old.decls) a.name ≡ true)
               (λ a f. f.declared) old.imports (facts olds typed.interfaces typed.counts k old got).imports) old_imports)
               (decls_kept olds news all k line old mains [] old.decls old_decls)))
-          behind (turns got on can same) =
+          following (turns got on can same) =
               let rows = part (interfaces_of olds).main k trace in
               let tree = back_tree_is (interfaces_of olds) k rows (interface_of olds k old) new same in
               both_empty (exports_from news k new [] new.exports) _
@@ -187,45 +187,45 @@ module _ (olds news : List SectionTree) (typed : IsTyped olds (program_of olds))
     length_snoc [] s = refl
     length_snoc (x ∷ before) s = ap suc (length_snoc before s)
 
-    faces_from : (k : ℕ) (before others xs ys : List SectionTree) → k ≡ length others → others ++ ys ≡ news →
-        AreSeenAs before others → AllOnesTurn k xs ys → AreSeenAs xs ys → faces.lines_from olds k before xs ≡ [] →
-        faces.lines_from news k others ys ≡ []
-    faces_from k before others [] [] at whole around t seen h = refl
-    faces_from k before others [] (y ∷ ys) at whole around t seen h = absurd t
-    faces_from k before others (x ∷ xs) [] at whole around t seen h = absurd t
-    faces_from k before others (x ∷ xs) (y ∷ ys) at whole around t seen h =
-        both_empty (map (line_of_text y.line) (faces.section_lines news k y (list_any defines_main others) others)) _
-        (mapped_empty (line_of_text y.line) _ (faces_one k x y t.0 (list_any defines_main others) before others around
-        seen.0 first_main (subst (λ mains. faces.section_lines olds k x mains before ≡ [])
-        (sym (mains_same before others around)) (map_empty _ _ (front_empty _ _ h)))))
-        (faces_from (suc k) (before ++ x ∷ []) (others ++ y ∷ []) xs ys (ap suc at ∙ sym (length_snoc others y))
+    interfaces_hold_from : (k : ℕ) (before others xs ys : List SectionTree) → k ≡ length others → others ++ ys ≡ news →
+        AreSeenAs before others → AllOnesTurn k xs ys → AreSeenAs xs ys → interface_rules.lines_from olds k before xs ≡ [] →
+        interface_rules.lines_from news k others ys ≡ []
+    interfaces_hold_from k before others [] [] at whole around t seen h = refl
+    interfaces_hold_from k before others [] (y ∷ ys) at whole around t seen h = absurd t
+    interfaces_hold_from k before others (x ∷ xs) [] at whole around t seen h = absurd t
+    interfaces_hold_from k before others (x ∷ xs) (y ∷ ys) at whole around t seen h =
+        both_empty (map (line_of_text y.line) (interface_rules.section_lines news k y (list_any defines_main others) others)) _
+        (mapped_empty (line_of_text y.line) _ (interface_holds k x y t.0 (list_any defines_main others) before others around
+        seen.0 first_main (subst (λ mains. interface_rules.section_lines olds k x mains before ≡ [])
+        (sym (mains_same before others around)) (map_empty _ _ (prefix_empty _ _ h)))))
+        (interfaces_hold_from (suc k) (before ++ x ∷ []) (others ++ y ∷ []) xs ys (ap suc at ∙ sym (length_snoc others y))
         (append_assoc others (y ∷ []) ys ∙ whole) (seen_snoc before others x y around seen.0) t.1 seen.1
         (back_empty (map (line_of_text x.line)
-        (faces.section_lines olds k x (list_any defines_main before) before)) _ h)) where
+        (interface_rules.section_lines olds k x (list_any defines_main before) before)) _ h)) where
           first_main : (k == (interfaces_of olds).main) ≡ true → list_any defines_main others ≡ false
           first_main here =
               none_before 0 others (y ∷ ys) (ap (main_from 0) whole ∙
               ap (λ f. f.main) (interfaces_same olds news all) ∙ sym (eqb-true k (interfaces_of olds).main here) ∙ at ∙
               zero_plus (length others))
 
-    faces_hold : interface_broken news ≡ []
-    faces_hold =
-        both_empty (faces.lines_from news 0 [] news) _
-        (faces_from 0 [] [] olds news refl refl tt turn all (front_empty _ _ typed.interfaces))
+    interfaces_hold : interface_broken news ≡ []
+    interfaces_hold =
+        both_empty (interface_rules.lines_from news 0 [] news) _
+        (interfaces_hold_from 0 [] [] olds news refl refl tt turn all (prefix_empty _ _ typed.interfaces))
         (ap (λ b. unless b 0) (mains_same olds news all) ∙
-        back_empty (faces.lines_from olds 0 [] olds) _ typed.interfaces)
+        back_empty (interface_rules.lines_from olds 0 [] olds) _ typed.interfaces)
 
     few_sections : counts.line_beyond {A = SectionTree} (λ s. line_of_text s.line 1) most_compartments news ≡ []
     few_sections =
         ap (counts.line_of_some {A = SectionTree} (λ s. line_of_text s.line 1))
-        (none_too olds news all most_compartments (none_told (λ s. line_of_text s.line 1)
-        (slice_get olds most_compartments) (front_empty _ _ typed.counts)))
+        (none_too olds news all most_compartments (none_reported (λ s. line_of_text s.line 1)
+        (slice_get olds most_compartments) (prefix_empty _ _ typed.counts)))
 
     pub all_typed : IsTyped news (program_of news)
     all_typed = record {
-      names = told_empty names.section_lines names_one 0 olds news turn;
-      types = told_empty (λ s. elab.section_lines s (callees_of news 0 s)) types_one 0 olds news turn;
-      interfaces = faces_hold;
+      names = listed_empty names.section_lines names_one 0 olds news turn;
+      types = listed_empty (λ s. elab.section_lines s (callees_of news 0 s)) types_one 0 olds news turn;
+      interfaces = interfaces_hold;
       counts = both_empty (counts.line_beyond {A = SectionTree} (λ s. line_of_text s.line 1) most_compartments news) _
           few_sections (counts_from 0 olds news turn);
       is = refl;

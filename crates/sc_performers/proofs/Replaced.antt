@@ -11,7 +11,7 @@ use Rattle.sc_performers.proofs.Common.{typed_global, typed_section, zero, ℕ, 
 use Rattle.sc_performers.proofs.BackTree.{AreFunctions, IsBackBody, IsBackTree, and_function, counter_at, entries_from}
 use Rattle.sc_performers.proofs.BackTree.{entries_of, function_at, import_at, main_entries, no_functions, use_of, uses}
 use Rattle.sc_performers.proofs.Undone.{back_tree_is}
-use Rattle.sc_performers.proofs.Distinct.{first_new, front_distinct, is_false, not_both, rest_distinct}
+use Rattle.sc_performers.proofs.Distinct.{first_new, prefix_distinct, is_false, not_both, rest_distinct}
 use Rattle.sc_performers.proofs.Performing.{HasTargets, performing}
 use Rattle.sc_performers.proofs.SectionFacts.{distinct_names, entries, entries_usable, entry_names}
 use Rattle.sc_performers.proofs.SectionTypes.{body_is, functions_are, no_counter, no_locals, no_tags, one_global}
@@ -21,9 +21,9 @@ use Rattle.sc_performers.proofs.Uses.{IsAmong, first, later, is_first_or_later, 
 
 -- An entry's function is among the functions of entries.
 
-among_front : {A : Type 0} (x : A) (xs ys : List A) → IsAmong x xs → IsAmong x (xs ++ ys)
-among_front x xs ys (first more) = first (more ++ ys)
-among_front x xs ys (later y more h) = later y (more ++ ys) (among_front x more ys h)
+among_prefix : {A : Type 0} (x : A) (xs ys : List A) → IsAmong x xs → IsAmong x (xs ++ ys)
+among_prefix x xs ys (first more) = first (more ++ ys)
+among_prefix x xs ys (later y more h) = later y (more ++ ys) (among_prefix x more ys h)
 
 among_back : {A : Type 0} (x : A) (xs ys : List A) → IsAmong x ys → IsAmong x (xs ++ ys)
 among_back x [] ys h = h
@@ -60,7 +60,7 @@ module _ (interfaces : Interfaces) (comp : ℕ) (rows : List Row) (interface : I
       among_back (Main, f) (entries_from 0 interface.exports) (main_entries interfaces comp)
       (main_among (comp == interfaces.main) f h)
   entry_among (Export index) f h =
-      among_front (Export index, f) (entries_from 0 interface.exports) (main_entries interfaces comp)
+      among_prefix (Export index, f) (entries_from 0 interface.exports) (main_entries interfaces comp)
       (export_among interface.exports 0 index index f (omega arith)
       (sym (ap (option_and_then (λ found. slice_get found.exports index)) is.there) ∙ h))
 
@@ -190,7 +190,7 @@ module _ (interfaces : Interfaces) (comp : ℕ) (rows : List Row) (interface : I
       let all = entries interfaces comp rows interface is in
       let s : Stands interfaces rows section callees (entry, f) t.functions =
       stands interfaces rows section callees (entry, f) all t.functions t.are_functions
-      (front_distinct (entry_names all) _ (distinct_names interfaces comp rows interface is)) there in
+      (prefix_distinct (entry_names all) _ (distinct_names interfaces comp rows interface is)) there in
       let listed : map (typed_function section callees) t.functions ≡ (typed_section section callees).functions =
       ap (map (typed_function section callees)) (sym (functions_are interfaces comp rows interface is section t)) in
       record {

@@ -1,5 +1,5 @@
 -- A section that performs breaks no rule of interfaces in a text of which it sees the same.
-use Rattle.sc_performers.proofs.Common.{Bool, DeclFacts, Each, Entry, ExportFacts, ExportLine, FaceFacts, Fresh}
+use Rattle.sc_performers.proofs.Common.{Bool, DeclFacts, Each, Entry, ExportFacts, ExportLine, InterfaceFacts, Fresh}
 use Rattle.sc_performers.proofs.Common.{FunctionTree, HeadTree, Import, ImportLine, Interfaces, IsPerformer, List, Main}
 use Rattle.sc_performers.proofs.Common.{Proto, Row, SectionTree, Some, StmtTree, Text, [], agrees_as, among, and_from}
 use Rattle.sc_performers.proofs.Common.{ap, ap₂, are_distinct, both_distinct, bytes_eq, counts_broken, decls_from}
@@ -16,7 +16,7 @@ use Rattle.sc_performers.proofs.BackTree.{AreFunctions, AreHeads, IsBackTree, an
 use Rattle.sc_performers.proofs.BackTree.{entries_from, entries_of, function_at, head_at, no_functions, no_heads}
 use Rattle.sc_performers.proofs.BackTree.{use_of, uses}
 use Rattle.sc_performers.proofs.Declared.{all_heads, all_protos, heads_of}
-use Rattle.sc_performers.proofs.Distinct.{among_front, apart, back_distinct, front_distinct}
+use Rattle.sc_performers.proofs.Distinct.{among_prefix, apart, back_distinct, prefix_distinct}
 use Rattle.sc_performers.proofs.Fitting.{all_resolved, each_map, facts, own_defined, proto_named}
 use Rattle.sc_performers.proofs.ReplacedSeen.{exports_same, imports_alike, own_names}
 use Rattle.sc_performers.proofs.Resolved.{IsResolved}
@@ -48,37 +48,37 @@ each_made : (P : Proto → Type 0) (old : SectionTree) (lines : List ExportLine)
 each_made P old [] h = tt
 each_made P old (line ∷ lines) h = (h.0, each_made P old lines h.1)
 
-module _ (olds : List SectionTree) (in_faces : interface_broken olds ≡ []) (in_counts : counts_broken olds ≡ [])
+module _ (olds : List SectionTree) (in_interfaces : interface_broken olds ≡ []) (in_counts : counts_broken olds ≡ [])
     (number : ℕ) (old : SectionTree) (got : slice_get olds number ≡ Some old) (rows : List Row)
     (is : IsPerformer (interfaces_of olds) number rows (interface_of olds number old))
     (new : SectionTree) (t : IsBackTree (interfaces_of olds) number rows (interface_of olds number old) new)
     (news : List SectionTree) (all : AreSeenAs olds news) (mains : Bool) where
-  abbrev faces : Interfaces
-  faces = interfaces_of olds
+  abbrev interface_rules : Interfaces
+  interface_rules = interfaces_of olds
 
   abbrev exports : List Proto
   exports = map (proto_of old) old.exports
 
   abbrev entries : List (Entry × Proto)
-  entries = entries_of faces number (interface_of olds number old)
+  entries = entries_of interface_rules number (interface_of olds number old)
 
   abbrev used : List (Import × Proto)
-  used = uses faces (map (import_of olds number) old.imports)
+  used = uses interface_rules (map (import_of olds number) old.imports)
 
-  abbrev fact : FaceFacts olds number old
-  fact = facts olds in_faces in_counts number old got
+  abbrev fact : InterfaceFacts olds number old
+  fact = facts olds in_interfaces in_counts number old got
 
   abbrev here : Bool
-  here = number == faces.main
+  here = number == interface_rules.main
 
   own : function_names new.decls ≡ export_names old ++ (if here then main_name ∷ [] else [])
-  own = own_names olds in_faces in_counts number old got rows is new t
+  own = own_names olds in_interfaces in_counts number old got rows is new t
 
   same_exports : export_names new ≡ export_names old
-  same_exports = exports_same olds in_faces in_counts number old got rows is new t
+  same_exports = exports_same olds in_interfaces in_counts number old got rows is new t
 
   alike : AreAlike old.imports new.imports
-  alike = imports_alike olds in_faces in_counts number old got rows is new t
+  alike = imports_alike olds in_interfaces in_counts number old got rows is new t
 
   -- Exports.
 
@@ -93,7 +93,7 @@ module _ (olds : List SectionTree) (in_faces : interface_broken olds ≡ []) (in
       (each_unmap {A = ExportLine} (λ line. line.name) (λ n. among (function_names new.decls) n ≡ true) new.exports
       (each_there (export_names new) (λ n. among (function_names new.decls) n ≡ true)
       (λ n there. ap (λ ns. among ns n) own ∙
-      among_front (export_names old) (if here then main_name ∷ [] else []) n
+      among_prefix (export_names old) (if here then main_name ∷ [] else []) n
       (ap (λ ns. among ns n) (sym same_exports) ∙ there))))
       (of_exports (λ n. bytes_eq n main_name ≡ false)
       (each_map (ExportFacts olds number old) (λ line. bytes_eq line.name main_name ≡ false)
@@ -110,14 +110,14 @@ module _ (olds : List SectionTree) (in_faces : interface_broken olds ≡ []) (in
   no_more name none =
       ap (λ ns. among ns name) own ∙
       none_of_less (function_names old.decls) (export_names old ++ (if here then main_name ∷ [] else [])) name
-      (own_defined olds in_faces in_counts number old got here refl) none
+      (own_defined olds in_interfaces in_counts number old got here refl) none
 
   protos_named : proto_names new.decls ≡ import_names old
   protos_named =
       ap (map {A = HeadTree} (λ head. head.name))
       (ap protos_in t.decls ∙ all_protos t.heads (counter_at t.counter_line) t.functions) ∙
       names_declared used t.heads t.are_heads ∙
-      sym (imports_named faces number rows (interface_of olds number old) is new t) ∙
+      sym (imports_named interface_rules number rows (interface_of olds number old) is new t) ∙
       alike_names old.imports new.imports alike
 
   all_declared : Each (λ a. among (proto_names new.decls) a.name ≡ true) old.imports
@@ -167,9 +167,9 @@ module _ (olds : List SectionTree) (in_faces : interface_broken olds ≡ []) (in
 
   head_next : (a : ImportLine) (lines : List ImportLine) (r : IsResolved olds number old a) →
       IsAmong a old.imports → ((heads : List HeadTree) →
-      AreHeads (uses faces (map (import_of olds number) lines)) heads →
+      AreHeads (uses interface_rules (map (import_of olds number) lines)) heads →
       Each (DeclFacts news number new mains) (map decl.Proto heads)) → (heads : List HeadTree) →
-      HeadsBy ((import_of olds number a, r.f) ∷ uses faces (map (import_of olds number) lines)) heads →
+      HeadsBy ((import_of olds number a, r.f) ∷ uses interface_rules (map (import_of olds number) lines)) heads →
       Each (DeclFacts news number new mains) (map decl.Proto heads)
   head_next a lines r in_old rest [] h = absurd h
   head_next a lines r in_old rest (head ∷ heads) h = (
@@ -183,14 +183,14 @@ module _ (olds : List SectionTree) (in_faces : interface_broken olds ≡ []) (in
 
   heads_hold : (lines : List ImportLine) → Each (IsResolved olds number old) lines →
       ((a : ImportLine) → IsAmong a lines → IsAmong a old.imports) → (heads : List HeadTree) →
-      AreHeads (uses faces (map (import_of olds number) lines)) heads →
+      AreHeads (uses interface_rules (map (import_of olds number) lines)) heads →
       Each (DeclFacts news number new mains) (map decl.Proto heads)
   heads_hold [] rs there heads h = head_none heads (heads_by [] heads h)
   heads_hold (a ∷ lines) rs there heads h =
       head_next a lines rs.0 (there a (first lines))
       (heads_hold lines rs.1 (λ c in_lines. there c (later a lines in_lines))) heads
-      (heads_by ((import_of olds number a, rs.0.f) ∷ uses faces (map (import_of olds number) lines)) heads
-      (subst (λ o. AreHeads (use_of (import_of olds number a) o (uses faces (map (import_of olds number) lines))) heads)
+      (heads_by ((import_of olds number a, rs.0.f) ∷ uses interface_rules (map (import_of olds number) lines)) heads
+      (subst (λ o. AreHeads (use_of (import_of olds number a) o (uses interface_rules (map (import_of olds number) lines))) heads)
       rs.0.is h))
 
   -- Functions.
@@ -200,7 +200,7 @@ module _ (olds : List SectionTree) (in_faces : interface_broken olds ≡ []) (in
       main_holds mains (head_of (function_at f line close body).head) ≡
       true
 
-  functions_hold : (es : List (Entry × Proto)) (trees : List FunctionTree) → AreFunctions faces rows es trees →
+  functions_hold : (es : List (Entry × Proto)) (trees : List FunctionTree) → AreFunctions interface_rules rows es trees →
       Each (λ e. HoldsMain e.1) es → Each (DeclFacts news number new mains) (map decl.Function trees)
   functions_hold es trees no_functions h = tt
   functions_hold es trees (and_function entry f others more line close body done rest) h = (
@@ -232,7 +232,7 @@ module _ (olds : List SectionTree) (in_faces : interface_broken olds ≡ []) (in
     all_facts =
         subst (Each (DeclFacts news number new mains)) (sym t.decls)
         (each_both (DeclFacts news number new mains) (map decl.Proto t.heads) _
-        (heads_hold old.imports (all_resolved olds in_faces in_counts number old got) (λ a in_it. in_it) t.heads
+        (heads_hold old.imports (all_resolved olds in_interfaces in_counts number old got) (λ a in_it. in_it) t.heads
         t.are_heads) (
           tt,
           functions_hold entries t.functions t.are_functions
@@ -241,7 +241,7 @@ module _ (olds : List SectionTree) (in_faces : interface_broken olds ≡ []) (in
         ))
 
     distinct : are_distinct (entry_names entries ++ use_names used) ≡ true
-    distinct = distinct_names faces number rows (interface_of olds number old) is
+    distinct = distinct_names interface_rules number rows (interface_of olds number old) is
 
     distinct_back : are_distinct (use_names used ++ entry_names entries) ≡ true
     distinct_back =
@@ -249,7 +249,7 @@ module _ (olds : List SectionTree) (in_faces : interface_broken olds ≡ []) (in
         (back_distinct (entry_names entries) (use_names used) distinct)
         (each_there (use_names used) (λ n. among (entry_names entries) n ≡ false)
         (λ n there. apart (entry_names entries) (use_names used) n distinct there))
-        (front_distinct (entry_names entries) (use_names used) distinct)
+        (prefix_distinct (entry_names entries) (use_names used) distinct)
 
     names_of_heads : head_names new.decls ≡ use_names used ++ entry_names entries
     names_of_heads =
@@ -258,7 +258,7 @@ module _ (olds : List SectionTree) (in_faces : interface_broken olds ≡ []) (in
         map-append {A = HeadTree} (λ head. head.name) t.heads (heads_of t.functions) ∙
         ap₂ (λ a b. a ++ b) (names_declared used t.heads t.are_heads)
         (map_twice {A = FunctionTree} {B = HeadTree} (λ head. head.name) (λ tree. head_of tree.head) t.functions ∙
-        names_defined faces rows entries t.functions t.are_functions)
+        names_defined interface_rules rows entries t.functions t.are_functions)
 
     pub decls_new : decls_from news number new mains [] new.decls ≡ []
     decls_new =

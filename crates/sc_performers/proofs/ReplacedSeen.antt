@@ -1,19 +1,19 @@
 -- A section that performs is seen by others as the section is that it replaces.
-use Rattle.sc_performers.proofs.Common.{Bool, Each, Entry, ExportFacts, ExportLine, FaceFacts, HeadTree, Import}
+use Rattle.sc_performers.proofs.Common.{Bool, Each, Entry, ExportFacts, ExportLine, InterfaceFacts, HeadTree, Import}
 use Rattle.sc_performers.proofs.Common.{ImportLine, Interfaces, IsPerformer, List, Main, Proto, Row, SectionTree, Some}
 use Rattle.sc_performers.proofs.Common.{StmtTree, Text, [], agree, agree_left, agrees_with, among, ap, append-nil}
 use Rattle.sc_performers.proofs.Common.{are_distinct, bytes_eq, bytes_eq_self, counts_broken, defines_main}
-use Rattle.sc_performers.proofs.Common.{export_names, false, false≢true, front_empty, function_named, function_names}
+use Rattle.sc_performers.proofs.Common.{export_names, false, false≢true, prefix_empty, function_named, function_names}
 use Rattle.sc_performers.proofs.Common.{functions_in, head_of, heads_in, if◌then◌else◌, import_of, inl, inr}
 use Rattle.sc_performers.proofs.Common.{interface_broken, interface_of, interfaces_of, main_name, main_proto, map}
 use Rattle.sc_performers.proofs.Common.{map_twice, names_of, not, promised, refl, same_either_way, slice_get, subst}
 use Rattle.sc_performers.proofs.Common.{suc, sym, true, ℕ, ◌++◌, ◌==◌, ◌||◌, ◌∙◌, ◌∷◌, ◌≡◌}
 use Rattle.sc_scope.specs.Prelude.{proto_of}
-use Rattle.sc_performers.proofs.Agreeing.{all_front, promise_defined}
+use Rattle.sc_performers.proofs.Agreeing.{all_prefix, promise_defined}
 use Rattle.sc_performers.proofs.BackTree.{AreImports, IsBackTree, counter_at, entries_from, entries_of, function_at}
 use Rattle.sc_performers.proofs.BackTree.{main_entries, use_of, uses}
 use Rattle.sc_performers.proofs.Declared.{all_functions, all_heads, heads_of}
-use Rattle.sc_performers.proofs.Distinct.{among_front, apart, front_distinct, is_false}
+use Rattle.sc_performers.proofs.Distinct.{among_prefix, apart, prefix_distinct, is_false}
 use Rattle.sc_performers.proofs.Fitting.{all_promised, all_resolved, each_map, exports_named, facts, main_here}
 use Rattle.sc_performers.proofs.Fitting.{proto_named}
 use Rattle.sc_performers.proofs.OneMain.{main_only}
@@ -24,32 +24,32 @@ use Rattle.sc_performers.proofs.Uses.{IsAmong}
 use Rattle.sc_performers.proofs.Made.{ImportsBy, IsExportOrMain, IsMade, each_export, each_in, each_mapped, entry_is}
 use Rattle.sc_performers.proofs.Made.{functions_agree, imports_by, made, made_promised, none_named, promised_same}
 
-module _ (olds : List SectionTree) (in_faces : interface_broken olds ≡ []) (in_counts : counts_broken olds ≡ [])
+module _ (olds : List SectionTree) (in_interfaces : interface_broken olds ≡ []) (in_counts : counts_broken olds ≡ [])
     (number : ℕ) (old : SectionTree) (got : slice_get olds number ≡ Some old) (rows : List Row)
     (is : IsPerformer (interfaces_of olds) number rows
     (interface_of olds number old))
     (new : SectionTree) (t : IsBackTree (interfaces_of olds) number rows
     (interface_of olds number old) new) where
-  abbrev faces : Interfaces
-  faces = interfaces_of olds
+  abbrev interface_rules : Interfaces
+  interface_rules = interfaces_of olds
 
   abbrev exports : List Proto
   exports = map (proto_of old) old.exports
 
   abbrev entries : List (Entry × Proto)
-  entries = entries_of faces number (interface_of olds number old)
+  entries = entries_of interface_rules number (interface_of olds number old)
 
   abbrev used : List (Import × Proto)
-  used = uses faces (map (import_of olds number) old.imports)
+  used = uses interface_rules (map (import_of olds number) old.imports)
 
-  abbrev fact : FaceFacts olds number old
-  fact = facts olds in_faces in_counts number old got
+  abbrev fact : InterfaceFacts olds number old
+  fact = facts olds in_interfaces in_counts number old got
 
   distinct : are_distinct (entry_names entries ++ use_names used) ≡ true
-  distinct = distinct_names faces number rows (interface_of olds number old) is
+  distinct = distinct_names interface_rules number rows (interface_of olds number old) is
 
   own_distinct : are_distinct (entry_names entries) ≡ true
-  own_distinct = front_distinct (entry_names entries) (use_names used) distinct
+  own_distinct = prefix_distinct (entry_names entries) (use_names used) distinct
 
   pub exports_same : export_names new ≡ export_names old
   exports_same = t.exports ∙ exports_named old old.exports
@@ -62,7 +62,7 @@ module _ (olds : List SectionTree) (in_faces : interface_broken olds ≡ []) (in
   entry_promised : (e : Entry × Proto) → IsAmong e entries →
       promised e.1.name (function_named e.1.name t.functions) ≡ e.1
   entry_promised e there =
-      let m : IsMade e.1 t.functions = made faces rows entries t.functions t.are_functions own_distinct e there in
+      let m : IsMade e.1 t.functions = made interface_rules rows entries t.functions t.are_functions own_distinct e there in
       ap (promised e.1.name) m.found ∙ made_promised e.1 m.line m.close m.body
 
   protos_same : map (proto_of new) new.exports ≡ map (proto_of old) old.exports
@@ -71,15 +71,15 @@ module _ (olds : List SectionTree) (in_faces : interface_broken olds ≡ []) (in
       sym (map_twice (λ name. promised name (function_named name t.functions)) (λ line. line.name) new.exports) ∙
       ap (map (λ name. promised name (function_named name t.functions))) t.exports ∙
       promised_same t.functions exports (each_export
-      (λ f. promised f.name (function_named f.name t.functions) ≡ f) 0 exports (main_entries faces number)
+      (λ f. promised f.name (function_named f.name t.functions) ≡ f) 0 exports (main_entries interface_rules number)
       entry_promised)
 
   -- imports
 
   alike_next : (line : ImportLine) (lines : List ImportLine) (r : IsResolved olds number old line) →
-      ((others : List ImportLine) → AreImports faces (uses faces (map (import_of olds number) lines)) others →
+      ((others : List ImportLine) → AreImports interface_rules (uses interface_rules (map (import_of olds number) lines)) others →
       AreAlike lines others) → (others : List ImportLine) →
-      ImportsBy faces ((import_of olds number line, r.f) ∷ uses faces (map (import_of olds number) lines)) others →
+      ImportsBy interface_rules ((import_of olds number line, r.f) ∷ uses interface_rules (map (import_of olds number) lines)) others →
       AreAlike (line ∷ lines) others
   alike_next line lines r rest [] h = absurd h
   alike_next line lines r rest (b ∷ others) h = (
@@ -90,27 +90,27 @@ module _ (olds : List SectionTree) (in_faces : interface_broken olds ≡ []) (in
     rest others h.1,
   )
 
-  alike_none : (others : List ImportLine) → ImportsBy faces [] others → AreAlike [] others
+  alike_none : (others : List ImportLine) → ImportsBy interface_rules [] others → AreAlike [] others
   alike_none [] h = tt
   alike_none (b ∷ others) h = absurd h
 
   alike_from : (lines : List ImportLine) → Each (IsResolved olds number old) lines → (others : List ImportLine) →
-      AreImports faces (uses faces (map (import_of olds number) lines)) others → AreAlike lines others
-  alike_from [] rs others h = alike_none others (imports_by faces [] others h)
+      AreImports interface_rules (uses interface_rules (map (import_of olds number) lines)) others → AreAlike lines others
+  alike_from [] rs others h = alike_none others (imports_by interface_rules [] others h)
   alike_from (line ∷ lines) rs others h =
       alike_next line lines rs.0 (alike_from lines rs.1) others
-      (imports_by faces ((import_of olds number line, rs.0.f) ∷ uses faces (map (import_of olds number) lines)) others
-      (subst (λ o. AreImports faces (use_of (import_of olds number line) o
-      (uses faces (map (import_of olds number) lines))) others) rs.0.is h))
+      (imports_by interface_rules ((import_of olds number line, rs.0.f) ∷ uses interface_rules (map (import_of olds number) lines)) others
+      (subst (λ o. AreImports interface_rules (use_of (import_of olds number line) o
+      (uses interface_rules (map (import_of olds number) lines))) others) rs.0.is h))
 
   pub imports_alike : AreAlike old.imports new.imports
   imports_alike =
-      alike_from old.imports (all_resolved olds in_faces in_counts number old got) new.imports t.imports
+      alike_from old.imports (all_resolved olds in_interfaces in_counts number old got) new.imports t.imports
 
   -- main
 
   new_names : function_names new.decls ≡ entry_names entries
-  new_names = functions_named faces number rows (interface_of olds number old) is new t
+  new_names = functions_named interface_rules number rows (interface_of olds number old) is new t
 
   entry_names_are : (b : Bool) (index : ℕ) (fs : List Proto) →
       entry_names (entries_from index fs ++ (if b then (Main, main_proto) ∷ [] else [])) ≡
@@ -120,10 +120,10 @@ module _ (olds : List SectionTree) (in_faces : interface_broken olds ≡ []) (in
   entry_names_are b index (f ∷ fs) = ap (λ x. f.name ∷ x) (entry_names_are b (suc index) fs)
 
   pub own_names : function_names new.decls ≡
-      export_names old ++ (if number == faces.main then main_name ∷ [] else [])
+      export_names old ++ (if number == interface_rules.main then main_name ∷ [] else [])
   own_names =
-      new_names ∙ entry_names_are (number == faces.main) 0 exports ∙
-      ap (λ ns. ns ++ (if number == faces.main then main_name ∷ [] else [])) (exports_named old old.exports)
+      new_names ∙ entry_names_are (number == interface_rules.main) 0 exports ∙
+      ap (λ ns. ns ++ (if number == interface_rules.main then main_name ∷ [] else [])) (exports_named old old.exports)
 
   no_export_main : (lines : List ExportLine) → Each (ExportFacts olds number old) lines →
       among (map {A = ExportLine} (λ line. line.name) lines) main_name ≡ false
@@ -138,13 +138,13 @@ module _ (olds : List SectionTree) (in_faces : interface_broken olds ≡ []) (in
     by true h = refl
     by false h = h
 
-  main_same : (b : Bool) → (number == faces.main) ≡ b →
+  main_same : (b : Bool) → (number == interface_rules.main) ≡ b →
       among (export_names old ++ (if b then main_name ∷ [] else [])) main_name ≡ defines_main old
   main_same true here =
-      among_last (export_names old) main_name ∙ sym (main_here olds in_faces in_counts number old got here)
+      among_last (export_names old) main_name ∙ sym (main_here olds in_interfaces in_counts number old got here)
   main_same false elsewhere =
       ap (λ ns. among ns main_name) (append-nil (export_names old)) ∙ no_export_main old.exports fact.exports ∙
-      sym (main_only olds (front_empty _ _ in_faces) number old got elsewhere)
+      sym (main_only olds (prefix_empty _ _ in_interfaces) number old got elsewhere)
 
   -- what agreed still agrees
 
@@ -168,22 +168,22 @@ module _ (olds : List SectionTree) (in_faces : interface_broken olds ≡ []) (in
   agrees_too head there agrees =
       subst (λ heads. agrees_with heads head ≡ true)
       (sym (ap heads_in t.decls ∙ all_heads t.heads (counter_at t.counter_line) t.functions))
-      (all_front t.heads (heads_of t.functions) (λ other. not (bytes_eq other.name head.name) || agree other head)
+      (all_prefix t.heads (heads_of t.functions) (λ other. not (bytes_eq other.name head.name) || agree other head)
       (none_named t.heads head (ap (λ ns. among ns head.name) (names_declared used t.heads t.are_heads) ∙
       is_false (among (use_names used) head.name) (λ imported. false≢true
       (sym (apart (entry_names entries) (use_names used) head.name distinct imported) ∙ own_there))))
-      (functions_agree faces rows head entries t.functions t.are_functions agree_at)) where
+      (functions_agree interface_rules rows head entries t.functions t.are_functions agree_at)) where
         own_there : among (entry_names entries) head.name ≡ true
         own_there =
             ap (λ ns. among ns head.name) (sym new_names ∙ own_names) ∙
-            among_front (export_names old) (if number == faces.main then main_name ∷ [] else []) head.name there
+            among_prefix (export_names old) (if number == interface_rules.main then main_name ∷ [] else []) head.name there
 
         all_exports : Each (Agrees head) exports
         all_exports =
             each_mapped (Agrees head) (proto_of old) old.exports
             (each_map (IsPromised old) (λ line. Agrees head (proto_of old line))
             (λ line p. export_agrees head agrees line p) old.exports
-            (all_promised olds in_faces in_counts number old got))
+            (all_promised olds in_interfaces in_counts number old got))
 
         by : (e : Entry × Proto) → IsExportOrMain exports e.1 → Agrees head e.1
         by e (inl export) = each_in (Agrees head) e.1 exports all_exports export
@@ -192,7 +192,7 @@ module _ (olds : List SectionTree) (in_faces : interface_broken olds ≡ []) (in
             ap (among (export_names old)) (sym (ap (λ f. f.name) is_main) ∙ named) ∙ there))
 
         agree_at : (e : Entry × Proto) → IsAmong e entries → Agrees head e.1
-        agree_at e among_them = by e (entry_is (number == faces.main) 0 exports e among_them)
+        agree_at e among_them = by e (entry_is (number == interface_rules.main) 0 exports e among_them)
 
   pub seen : IsSeenAs old new
   seen = record {
@@ -200,6 +200,6 @@ module _ (olds : List SectionTree) (in_faces : interface_broken olds ≡ []) (in
     exports = exports_same;
     imports = imports_alike;
     protos = protos_same;
-    main = ap (λ ns. among ns main_name) own_names ∙ main_same (number == faces.main) refl;
+    main = ap (λ ns. among ns main_name) own_names ∙ main_same (number == interface_rules.main) refl;
     agrees = agrees_too;
   }

@@ -1,11 +1,11 @@
 -- What the import lines of a text that keeps the rules lead to.
-use Rattle.sc_performers.proofs.Common.{Bool, Decl, Each, ExportFacts, ExportLine, FaceFacts, FoundBy, FoundFunction}
+use Rattle.sc_performers.proofs.Common.{Bool, Decl, Each, ExportFacts, ExportLine, InterfaceFacts, FoundBy, FoundFunction}
 use Rattle.sc_performers.proofs.Common.{FunctionTree, HeadTree, Import, ImportLine, Interface, Interfaces, List}
 use Rattle.sc_performers.proofs.Common.{Offering, Proto, SectionTree, Some, [], agree, agree_left, agree_symm}
 use Rattle.sc_performers.proofs.Common.{agrees_as, agrees_there, agrees_with, and_first, and_rest, ap, arith}
 use Rattle.sc_performers.proofs.Common.{back_empty, bytes_eq, bytes_eq_self, callees_of, comp_is, concat, counts_broken}
 use Rattle.sc_performers.proofs.Common.{crossing, defines_main, each_at, each_empty, environment, export_is, false}
-use Rattle.sc_performers.proofs.Common.{false≢true, find_offering, found_by, front_empty, functions_in, g, globals_in}
+use Rattle.sc_performers.proofs.Common.{false≢true, find_offering, found_by, prefix_empty, functions_in, g, globals_in}
 use Rattle.sc_performers.proofs.Common.{head_crosses, head_of, heads_in, if◌then◌else◌, implied, import_of, imported}
 use Rattle.sc_performers.proofs.Common.{input_name, input_proto, interface_broken, interfaces_of, is_at_most}
 use Rattle.sc_performers.proofs.Common.{is_environment, is_input, is_offered, is_output, is_plain, is_some, length}
@@ -19,7 +19,7 @@ use Rattle.sc_performers.proofs.Common.{◌≤◌}
 use Rattle.sc_scope.specs.Prelude.{proto_of}
 use Rattle.sc_event.specs.declared.interface.Import.TheVariants as import
 use Rattle.sc_ast.specs.declared.section.Decl.TheVariants as decl
-use Rattle.sc_interfaces.specs.Faces as faces
+use Rattle.sc_interfaces.specs.Rules as interface_rules
 use Rattle.sc_types.specs.Counts as counts
 use Rattle.sc_types.proofs.Whole.{count_at, hold}
 use Rattle.sc_performers.proofs.Agreeing.{AreAgreed, all_agree, are_agreed, promise_declared}
@@ -109,7 +109,7 @@ module _ (olds : List SectionTree) where
       (subst (λ t. AreRules olds k t) (same_Some s section got) (record {
         mains = list_any defines_main before;
         before = before;
-        hold = map_empty _ _ (front_empty _ _ h);
+        hold = map_empty _ _ (prefix_empty _ _ h);
       }))
   rules_from k before (s ∷ rest) (suc j) section h got =
       subst (λ n. AreRules olds n section) (plus_one k j)
@@ -119,14 +119,14 @@ module _ (olds : List SectionTree) where
   plus_none : (n : ℕ) → 0 + n ≡ n
   plus_none n = omega arith
 
-  module _ (in_faces : interface_broken olds ≡ []) (in_counts : counts_broken olds ≡ []) where
+  module _ (in_interfaces : interface_broken olds ≡ []) (in_counts : counts_broken olds ≡ []) where
     pub rules_at : (j : ℕ) (section : SectionTree) → slice_get olds j ≡ Some section → AreRules olds j section
     rules_at j section got =
         subst (λ n. AreRules olds n section) (plus_none j)
-        (rules_from 0 [] olds j section (front_empty _ _ in_faces) got)
+        (rules_from 0 [] olds j section (prefix_empty _ _ in_interfaces) got)
 
-    abbrev pub facts_at : (j : ℕ) (section : SectionTree) → slice_get olds j ≡ Some section → FaceFacts olds j section
-    facts_at = hold olds in_faces
+    abbrev pub facts_at : (j : ℕ) (section : SectionTree) → slice_get olds j ≡ Some section → InterfaceFacts olds j section
+    facts_at = hold olds in_interfaces
 
     pub counted_at : (j : ℕ) (section : SectionTree) → slice_get olds j ≡ Some section →
         counts.section_lines section (callees_of olds j section) ≡ []
@@ -135,50 +135,50 @@ module _ (olds : List SectionTree) where
         (λ section. line_of_text section.line 1) most_compartments olds) _ in_counts)
 
     module _ (j : ℕ) (section : SectionTree) (got : slice_get olds j ≡ Some section) where
-      behind_nodes : counts.line_beyond {A = ExportLine} (λ line. line.line) most_exports section.exports ++
+      after_nodes : counts.line_beyond {A = ExportLine} (λ line. line.line) most_exports section.exports ++
           (counts.line_beyond {A = ImportLine} (λ line. line.line) most_exports section.imports ++
           (counts.structs_from section 0 (structs_in section.decls) ++
           (concat (map (counts.global_lines section) (globals_in section.decls)) ++
           (concat (map (counts.head_lines section) (heads_in section.decls)) ++
           concat (map (counts.function_lines section) (functions_in section.decls)))))) ≡ []
-      behind_nodes = back_empty (unless (nat_le (counts.section_nodes section (callees_of olds j section)) most_nodes &&
+      after_nodes = back_empty (unless (nat_le (counts.section_nodes section (callees_of olds j section)) most_nodes &&
           nat_le (length section.decls) most_nodes) 1) _ (counted_at j section got)
 
       pub few_exports : length section.exports ≤ 4096
       few_exports =
           is_at_most (length section.exports) most_exports
           (none_beyond {A = ExportLine} (λ line. line.line) most_exports section.exports
-          (front_empty _ _ behind_nodes))
+          (prefix_empty _ _ after_nodes))
 
-      behind_exports : counts.line_beyond {A = ImportLine} (λ line. line.line) most_exports section.imports ++
+      after_exports : counts.line_beyond {A = ImportLine} (λ line. line.line) most_exports section.imports ++
           (counts.structs_from section 0 (structs_in section.decls) ++
           (concat (map (counts.global_lines section) (globals_in section.decls)) ++
           (concat (map (counts.head_lines section) (heads_in section.decls)) ++
           concat (map (counts.function_lines section) (functions_in section.decls))))) ≡ []
-      behind_exports =
+      after_exports =
           back_empty (counts.line_beyond {A = ExportLine} (λ line. line.line) most_exports section.exports) _
-          behind_nodes
+          after_nodes
 
       pub few_imports : length section.imports ≤ 4096
       few_imports =
           is_at_most (length section.imports) most_exports
           (none_beyond {A = ImportLine} (λ line. line.line) most_exports section.imports
-          (front_empty _ _ behind_exports))
+          (prefix_empty _ _ after_exports))
 
       heads_few : concat (map (counts.head_lines section) (heads_in section.decls)) ≡ []
       heads_few =
-          front_empty _ _ (back_empty (concat (map (counts.global_lines section) (globals_in section.decls))) _
+          prefix_empty _ _ (back_empty (concat (map (counts.global_lines section) (globals_in section.decls))) _
           (back_empty (counts.structs_from section 0 (structs_in section.decls)) _
           (back_empty (counts.line_beyond {A = ImportLine} (λ line. line.line) most_exports section.imports) _
-          behind_exports)))
+          after_exports)))
 
       pub agreed_at : AreAgreed [] (heads_in section.decls)
       agreed_at =
           let rules : AreRules olds j section = rules_at j section got in
           are_agreed olds j section rules.mains [] section.decls
-          (back_empty (faces.imports_from olds j section [] section.imports) _
-          (back_empty (faces.exports_from olds j section [] section.exports) _
-          (back_empty (unless (faces.name_holds olds j section rules.mains rules.before) 1) _ rules.hold)))
+          (back_empty (interface_rules.imports_from olds j section [] section.imports) _
+          (back_empty (interface_rules.exports_from olds j section [] section.exports) _
+          (back_empty (unless (interface_rules.name_holds olds j section rules.mains rules.before) 1) _ rules.hold)))
 
       module _ (index : ℕ) (line : ExportLine) (there : slice_get section.exports index ≡ Some line) where
         abbrev fact : ExportFacts olds j section line

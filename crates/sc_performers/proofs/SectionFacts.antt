@@ -51,9 +51,9 @@ pub use_holds : (P : Proto → Type 0) (u : Import × Proto) (used : List (Impor
 use_holds P u used h (first xs) = h.0
 use_holds P u used h (later y xs rest) = use_holds P u xs h.1 rest
 
-all_front : (P : Proto → Type 0) (xs ys : List Proto) → AllByRecursion P (xs ++ ys) → AllByRecursion P xs
-all_front P [] ys h = tt
-all_front P (x ∷ xs) ys h = (h.0, all_front P xs ys h.1)
+all_prefix : (P : Proto → Type 0) (xs ys : List Proto) → AllByRecursion P (xs ++ ys) → AllByRecursion P xs
+all_prefix P [] ys h = tt
+all_prefix P (x ∷ xs) ys h = (h.0, all_prefix P xs ys h.1)
 
 all_back : (P : Proto → Type 0) (xs ys : List Proto) → AllByRecursion P (xs ++ ys) → AllByRecursion P ys
 all_back P [] ys h = h
@@ -83,7 +83,7 @@ module _ (interfaces : Interfaces) (comp : ℕ) (rows : List Row) (interface : I
   pub entries_usable : AllByRecursion (λ e. IsUsable e.1) entries
   entries_usable =
       all_along IsUsable (λ e. e.1) entries
-      (all_front IsUsable (protos_of entries) (map (λ u. u.1) imported_uses) all_usable)
+      (all_prefix IsUsable (protos_of entries) (map (λ u. u.1) imported_uses) all_usable)
 
   pub uses_usable : AllByRecursion (λ u. IsUsable u.1) imported_uses
   uses_usable =

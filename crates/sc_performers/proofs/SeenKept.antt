@@ -3,7 +3,7 @@ use Rattle.sc_performers.proofs.Common.{Bool, Decl, Each, ExportLine, Function, 
 use Rattle.sc_performers.proofs.Common.{None, Option, SectionTree, Some, Struct, Text, [], agrees_as, agrees_there}
 use Rattle.sc_performers.proofs.Common.{among, and_first, and_from, and_rest, ap, back_empty, bytes_eq, callees_of}
 use Rattle.sc_performers.proofs.Common.{decls_from, environment, environment_offers, export_holds, exports_from, false}
-use Rattle.sc_performers.proofs.Common.{front_empty, function_names, head_holds, head_of, if◌then◌else◌, import_fits}
+use Rattle.sc_performers.proofs.Common.{prefix_empty, function_names, head_holds, head_of, if◌then◌else◌, import_fits}
 use Rattle.sc_performers.proofs.Common.{import_holds, import_named, import_target, imported_agrees, imported_target}
 use Rattle.sc_performers.proofs.Common.{imports_from, input_name, is_environment, is_input, is_new, is_offered}
 use Rattle.sc_performers.proofs.Common.{is_output, is_plain, list_all, main_holds, not, number_of, offering}
@@ -104,15 +104,15 @@ module _ (olds news : List SectionTree) (all : AreSeenAs olds news) where
         (imports_hold (before ++ a.name ∷ []) xs ys alike.1 declared.1
         (back_empty (unless (import_holds olds number old before a) a.line) _ h))) where
           was : import_holds olds number old before a ≡ true
-          was = rule_holds (import_holds olds number old before a) a.line (front_empty _ _ h)
+          was = rule_holds (import_holds olds number old before a) a.line (prefix_empty _ _ h)
 
-          behind_offered : (is_new before a.name && (is_new (function_names old.decls) a.name &&
+          after_offered : (is_new before a.name && (is_new (function_names old.decls) a.name &&
               (among (proto_names old.decls) a.name && is_plain a.name))) ≡ true
-          behind_offered = and_rest (is_offered olds number old a) _ was
+          after_offered = and_rest (is_offered olds number old a) _ was
 
-          behind_new : (is_new (function_names old.decls) a.name &&
+          after_new : (is_new (function_names old.decls) a.name &&
               (among (proto_names old.decls) a.name && is_plain a.name)) ≡ true
-          behind_new = and_rest (is_new before a.name) _ behind_offered
+          after_new = and_rest (is_new before a.name) _ after_offered
 
           not_again : (b : Bool) → not b ≡ true → b ≡ false
           not_again true q = sym q
@@ -123,12 +123,12 @@ module _ (olds news : List SectionTree) (all : AreSeenAs olds news) where
           holds =
               and_from (is_offered news number new b) _
               (offered_too a b alike.0 (and_first _ _ was))
-              (and_from (is_new before a.name) _ (and_first _ _ behind_offered)
+              (and_from (is_new before a.name) _ (and_first _ _ after_offered)
               (and_from (is_new (function_names new.decls) a.name) _
-              (ap not (no_more a.name (not_again _ (and_first _ _ behind_new))))
+              (ap not (no_more a.name (not_again _ (and_first _ _ after_new))))
               (and_from (among (proto_names new.decls) a.name) _ declared.0
               (and_rest (among (proto_names old.decls) a.name) _
-              (and_rest (is_new (function_names old.decls) a.name) _ behind_new)))))
+              (and_rest (is_new (function_names old.decls) a.name) _ after_new)))))
 
   -- The declarations of a section that is kept.
 
@@ -175,7 +175,7 @@ module _ (olds news : List SectionTree) (all : AreSeenAs olds news) where
     decls_kept mains before (Global tree ∷ decls) h = decls_kept mains (before ++ Global tree ∷ []) decls h
     decls_kept mains before (Proto head ∷ decls) h =
         let was : (head_holds olds number old before head && imported_agrees olds number old head) ≡ true =
-        rule_holds _ head.line (front_empty _ _ h) in
+        rule_holds _ head.line (prefix_empty _ _ h) in
         both_empty (unless (head_holds news number new before head && imported_agrees news number new head) head.line) _
         (holds_rule (head_holds news number new before head && imported_agrees news number new head) head.line
         (and_from (head_holds news number new before head) _ (and_first _ _ was)
@@ -186,7 +186,7 @@ module _ (olds news : List SectionTree) (all : AreSeenAs olds news) where
     decls_kept mains before (Function tree ∷ decls) h =
         both_empty (unless (head_holds news number new before (head_of tree.head) &&
         main_holds mains (head_of tree.head)) tree.head.line) _
-        (front_empty (unless (head_holds olds number old before (head_of tree.head) &&
+        (prefix_empty (unless (head_holds olds number old before (head_of tree.head) &&
         main_holds mains (head_of tree.head)) tree.head.line) _ h)
         (decls_kept mains (before ++ Function tree ∷ []) decls
         (back_empty (unless (head_holds olds number old before (head_of tree.head) &&

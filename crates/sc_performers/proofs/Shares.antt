@@ -68,15 +68,15 @@ module _ (interfaces : Interfaces) (comp : ℕ) (interface : Interface) where
   one_entry : (entry : Entry) (number : ℕ) (a : Action) → hits (row_at entry number a) entries ≤ 1
   one_entry Main number a =
       let all = hits_append (row_at Main number a) (entries_from 0 interface.exports) (main_entries interfaces comp) in
-      let front = main_unhit number a 0 interface.exports in
+      let prefix = main_unhit number a 0 interface.exports in
       let back = main_hits number a (comp == interfaces.main) in
-      omega (arith, all, front, back)
+      omega (arith, all, prefix, back)
   one_entry (Export j) number a =
       let all = hits_append (row_at (Export j) number a) (entries_from 0 interface.exports)
       (main_entries interfaces comp) in
-      let front = one_hit j number a 0 interface.exports in
+      let prefix = one_hit j number a 0 interface.exports in
       let back = export_misses j number a (comp == interfaces.main) in
-      omega (arith, all, front, back)
+      omega (arith, all, prefix, back)
 
   one_more : (test : Row → Bool) (row : Row) (rows : List Row) →
       length (filter test (row ∷ rows)) ≡ one_if (test row) + length (filter test rows)

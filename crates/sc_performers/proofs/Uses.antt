@@ -3,7 +3,7 @@ use Rattle.sc_performers.proofs.Common.{Action, AllByRecursion, Bool, Decides-eq
 use Rattle.sc_performers.proofs.Common.{Interface, Interfaces, IsPerformer, IsWord, List, Main, MayDo, None, Option}
 use Rattle.sc_performers.proofs.Common.{Proto, Row, Scalar, Some, [], and_first, and_rest, ap, append_assoc, ap₂, arith}
 use Rattle.sc_performers.proofs.Common.{cons_option, defined, export_at, false, false≢true, filter, filter_map}
-use Rattle.sc_performers.proofs.Common.{get_behind, if◌then◌else◌, imported, imports, inl, inr, is_function, is_of}
+use Rattle.sc_performers.proofs.Common.{get_after, if◌then◌else◌, imported, imports, inl, inr, is_function, is_of}
 use Rattle.sc_performers.proofs.Common.{length, length-append, list_any, main_proto, map, map-append, option_and_then}
 use Rattle.sc_performers.proofs.Common.{option_map_or, proto_of, recursion_from_All, refl, slice_get, subst, suc, sym}
 use Rattle.sc_performers.proofs.Common.{true, used, ℕ, ◌++◌, ◌==◌, ◌||◌, ◌∙◌, ◌∷◌, ◌≡◌, ◌⊎◌}
@@ -112,14 +112,14 @@ both_entries P (x ∷ xs) ys h k = (h.0, both_entries P xs ys h.1 k)
 
 module _ (interfaces : Interfaces) (comp : ℕ) (rows : List Row) (interface : Interface)
     (is : IsPerformer interfaces comp rows interface) where
-  exports_from : (front exports : List Proto) (index : ℕ) → interface.exports ≡ front ++ exports →
-      index ≡ length front → AreEntries interfaces comp (entries_from index exports)
-  exports_from front [] index all at = tt
-  exports_from front (f ∷ exports) index all at = (
+  exports_from : (prefix exports : List Proto) (index : ℕ) → interface.exports ≡ prefix ++ exports →
+      index ≡ length prefix → AreEntries interfaces comp (entries_from index exports)
+  exports_from prefix [] index all at = tt
+  exports_from prefix (f ∷ exports) index all at = (
     ap (option_and_then (λ found. slice_get found.exports index)) is.there ∙
-        ap₂ slice_get all at ∙ get_behind front f exports,
-    exports_from (front ++ f ∷ []) exports (suc index) (all ∙ sym (append_assoc front (f ∷ []) exports))
-        (let one = length-append front (f ∷ []) in omega (arith, at, one)),
+        ap₂ slice_get all at ∙ get_after prefix f exports,
+    exports_from (prefix ++ f ∷ []) exports (suc index) (all ∙ sym (append_assoc prefix (f ∷ []) exports))
+        (let one = length-append prefix (f ∷ []) in omega (arith, at, one)),
   )
 
   main_from : (b : Bool) → (comp == interfaces.main) ≡ b →

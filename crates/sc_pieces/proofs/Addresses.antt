@@ -127,9 +127,9 @@ module _ (x i j cells : ℕ) (first : x + 4 * i < 2 ^ 31) (second : x + 4 * j < 
   bytes_are : bytes_of cells ≡ 4 * cells
   bytes_are = omega arith
 
-  behind : (d : ℕ) → j + d ≡ i → div_word (sub_word (x + 4 * i) (x + 4 * j)) (4 * cells) ≡
+  following : (d : ℕ) → j + d ≡ i → div_word (sub_word (x + 4 * i) (x + 4 * j)) (4 * cells) ≡
       word_of (int_div (pos i -ℤ pos j) (pos cells))
-  behind d e =
+  following d e =
       let apart : sub_word (x + 4 * i) (x + 4 * j) ≡ 4 * d =
       word_of-unsigned_sub (x + 4 * i) (x + 4 * j) (omega arith) (omega arith) ∙
       (let sum : (x + 4 * i + (2 ^ 32 - (x + 4 * j))) % 2 ^ 32 ≡ 4 * d = omega arith in sum) in
@@ -154,7 +154,7 @@ module _ (x i j cells : ℕ) (first : x + 4 * i < 2 ^ 31) (second : x + 4 * j < 
       word_of (int_div (pos i -ℤ pos j) (pos cells))
   elements_between =
       ap (div_word (sub_word (x + 4 * i) (x + 4 * j))) bytes_are ∙
-      ⊎_elim (λ l. before (j - suc i) (omega arith)) (λ l. behind (i - j) (omega arith)) (cases_lt i j)
+      ⊎_elim (λ l. before (j - suc i) (omega arith)) (λ l. following (i - j) (omega arith)) (cases_lt i j)
 
 -- the order of two places, and whether they are one
 pub order_of : (x i j : ℕ) → nat_lt (x + 4 * i) (x + 4 * j) ≡ int_lt (pos i -ℤ pos j) (pos 0)

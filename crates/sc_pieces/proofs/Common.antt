@@ -23,7 +23,7 @@ pub use Rattle.rv_code.specs.declared.instr.StoreOp.TheVariants.{Sw}
 pub use Rattle.rv_code.specs.declared.instr.UpperOp.TheVariants.{Lui}
 pub use Rattle.sc_store.specs.Prelude.{Memory}
 pub use Rattle.sc_image.specs.Prelude.{Walks, computed, data_start, on_registers, shift_on_registers}
-pub use Rattle.sc_hart.proofs.Fetching.{back_at, front_at}
+pub use Rattle.sc_hart.proofs.Fetching.{back_at, prefix_at}
 pub use Rattle.sc_hart.proofs.Steps.{lui, lw, op_imm, operate, shifts, sw, sw_traps, then_go}
 pub use Rattle.sc_hart.specs.Prelude.{CodeAt, Fetches, Owned, Registers, World, at, look, put_word, set, word}
 pub use Rattle.sc_tac.specs.Prelude.{is_unsigned}

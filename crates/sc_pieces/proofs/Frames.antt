@@ -1,7 +1,7 @@
 -- The prologue of a function, and its epilogue.
 use Rattle.sc_pieces.proofs.Common.{CodeAt, Computes, ImageParts, Instr, List, Load, Lw, Memory, Owned, Registers}
 use Rattle.sc_pieces.proofs.Common.{Store, Stores, Sw, World, [], add_word, ap, arith, back_at, data_start, frame_taken}
-use Rattle.sc_pieces.proofs.Common.{front_at, length, length-append, moved_by, pos, refl, sub_word, sw_traps, word}
+use Rattle.sc_pieces.proofs.Common.{prefix_at, length, length-append, moved_by, pos, refl, sub_word, sw_traps, word}
 use Rattle.sc_pieces.proofs.Common.{word_of-lt, word_of-unsigned_sub, ℕ, ◌%◌, ◌*◌, ◌+◌, ◌<◌, ◌^◌, ◌∙◌, ◌∷◌, ◌≡◌}
 use Rattle.sc_pieces.specs.Frames.{TakesFrame, FrameOverflows, LeavesFrame}
 use Rattle.sc_pieces.proofs.Rows.{in_row, computes, loads, stores}
@@ -52,9 +52,9 @@ module _ (image : ImageParts) (inputs : List ℕ) (world : World) (memory : Memo
       record {
         steps = length down;
         few = omega (arith, all);
-        behind = pc + 4 * length down;
+        following = pc + 4 * length down;
         after = first.after;
-        walks = first.does.walks pc (front_at image world.active pc down last code);
+        walks = first.does.walks pc (prefix_at image world.active pc down last code);
         traps =
             sw_traps image inputs (pc + 4 * length down) first.after memory world 2 1 (pos 0) bottom (omega arith)
             (omega arith) (back_at image world.active pc down last code).0

@@ -3,7 +3,7 @@ use Rattle.sc_pieces.proofs.Common.{Add, Bool, Computes, ImageParts, IsFromSp, I
 use Rattle.sc_pieces.proofs.Common.{Registers, Store, Stores, Sw, World, [], add_word, ap, arith, false, far_from_sp}
 use Rattle.sc_pieces.proofs.Common.{if◌then◌else◌, is_short, load_word, look, lower_part, refl, signed_of, store_word}
 use Rattle.sc_pieces.proofs.Common.{true, upper_part, word, word_of, ℕ, ◌++◌, ◌+◌, ◌<◌, ◌^◌, ◌∙◌, ◌∷◌, ◌≡◌, ◌≢◌}
-use Rattle.sc_pieces.proofs.Rows.{followed_by, stores_behind, computes, stored, looked, upper, of_two, loads, stores}
+use Rattle.sc_pieces.proofs.Rows.{followed_by, stores_after, computes, stored, looked, upper, of_two, loads, stores}
 use Rattle.sc_pieces.proofs.Numbers.{word_of-signed_of, parts}
 
 module _ (image : ImageParts) (inputs : List ℕ) (world : World) (memory : Memory) where
@@ -63,7 +63,7 @@ module _ (image : ImageParts) (inputs : List ℕ) (world : World) (memory : Memo
       let second = stores image inputs world first.after memory 7 rs (lower_part offset) a v (omega arith) h
       (ap (λ x. add_word x (word_of (lower_part offset))) first.result ∙ far_address regs offset a at)
       (looked first.after regs rs v (first.others rs (not, tt)) is) at.owned in
-      stores_behind image inputs world first second
+      stores_after image inputs world first second
 
   -- a register into the word at an offset from sp
   pub stores_word : (regs : Registers) (rs offset a v : ℕ) → rs < 32 → rs ≢ 7 → look regs rs ≡ v →

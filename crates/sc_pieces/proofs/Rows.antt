@@ -1,16 +1,16 @@
 -- Pieces of code in a row, and pieces of one instruction.
 use Rattle.sc_pieces.proofs.Common.{Besides, Computes, Does, Fetches, ImageParts, Instr, IsWritable, List, Load, Lui}
 use Rattle.sc_pieces.proofs.Common.{Lw, Memory, Op, OpImm, OpImmOp, OpOp, Owned, Registers, Shift, Store, Stores, Sw}
-use Rattle.sc_pieces.proofs.Common.{Upper, Walks, World, [], add_word, ap, arith, at, back_at, computed, front_at}
+use Rattle.sc_pieces.proofs.Common.{Upper, Walks, World, [], add_word, ap, arith, at, back_at, computed, prefix_at}
 use Rattle.sc_pieces.proofs.Common.{if◌then◌else◌, length, length-append, look, lui, lw, nat_eq, ne_eqb, on_registers}
 use Rattle.sc_pieces.proofs.Common.{op_imm, operate, put_word, refl, set, shift_on_registers, shifts, subst, sw, sym}
 use Rattle.sc_pieces.proofs.Common.{then_go, word, word_of, ℕ, ℤ, ◌*◌, ◌++◌, ◌+◌, ◌<◌, ◌∙◌, ◌∷◌, ◌≡◌, ◌≢◌}
 use Rattle.rv_code.specs.declared.instr.ShiftOp.{ShiftOp}
 use Rattle.sc_hart.proofs.Registers.{put_here, put_there}
 
-pub besides_front : (rs ss : List ℕ) (q : ℕ) → Besides (rs ++ ss) q → Besides rs q
-besides_front [] ss q h = tt
-besides_front (r ∷ rs) ss q h = (h.0, besides_front rs ss q h.1)
+pub besides_prefix : (rs ss : List ℕ) (q : ℕ) → Besides (rs ++ ss) q → Besides rs q
+besides_prefix [] ss q h = tt
+besides_prefix (r ∷ rs) ss q h = (h.0, besides_prefix rs ss q h.1)
 
 pub besides_back : (rs ss : List ℕ) (q : ℕ) → Besides (rs ++ ss) q → Besides ss q
 besides_back [] ss q h = h
@@ -36,11 +36,11 @@ module _ (image : ImageParts) (inputs : List ℕ) (world : World) where
   in_row {xs} {ys} {regs} {middle} {after} {memory} {between} {left} first second = record {
     walks = λ pc code.
         (let steps : length xs + length ys ≡ length (xs ++ ys) = sym (length-append xs ys) in
-        let behind : pc + 4 * length xs + 4 * length ys ≡ pc + 4 * length (xs ++ ys) = omega (arith, steps) in
+        let following : pc + 4 * length xs + 4 * length ys ≡ pc + 4 * length (xs ++ ys) = omega (arith, steps) in
         let end : ℕ = pc + 4 * length xs + 4 * length ys in
-        subst (λ p. Walks image inputs (length (xs ++ ys)) (at pc regs memory world) (at p after left world)) behind
+        subst (λ p. Walks image inputs (length (xs ++ ys)) (at pc regs memory world) (at p after left world)) following
         (subst (λ n. Walks image inputs n (at pc regs memory world) (at end after left world)) steps
-        (then_go image inputs (first.walks pc (front_at image world.active pc xs ys code))
+        (then_go image inputs (first.walks pc (prefix_at image world.active pc xs ys code))
         (second.walks (pc + 4 * length xs) (back_at image world.active pc xs ys code)))));
   }
 
@@ -54,17 +54,17 @@ module _ (image : ImageParts) (inputs : List ℕ) (world : World) where
     does = in_row first.does second.does;
     result = second.result;
     others = λ q h.
-        second.others q (h.0, besides_back rs ss q h.1.1) ∙ first.others q (h.1.0, besides_front rs ss q h.1.1);
+        second.others q (h.0, besides_back rs ss q h.1.1) ∙ first.others q (h.1.0, besides_prefix rs ss q h.1.1);
   }
 
-  pub stores_behind : {xs ys : List Instr} {rs ss : List ℕ} {regs : Registers} {memory : Memory} {r v a w : ℕ} →
+  pub stores_after : {xs ys : List Instr} {rs ss : List ℕ} {regs : Registers} {memory : Memory} {r v a w : ℕ} →
       (first : Computes image inputs world xs rs regs memory r v) →
       Stores image inputs world ys ss first.after memory a w →
       Stores image inputs world (xs ++ ys) (r ∷ (rs ++ ss)) regs memory a w
-  stores_behind {xs} {ys} {rs} {ss} {regs} {memory} {r} {v} {a} {w} first second = record {
+  stores_after {xs} {ys} {rs} {ss} {regs} {memory} {r} {v} {a} {w} first second = record {
     after = second.after;
     does = in_row first.does second.does;
-    others = λ q h. second.others q (besides_back rs ss q h.1) ∙ first.others q (h.0, besides_front rs ss q h.1);
+    others = λ q h. second.others q (besides_back rs ss q h.1) ∙ first.others q (h.0, besides_prefix rs ss q h.1);
   }
 
   -- the word under another name, and more registers that may change

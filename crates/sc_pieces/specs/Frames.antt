@@ -8,8 +8,8 @@ use Rattle.sc_base.specs.declared.stop.TrapReason.TheVariants.{Owner}
 use Rattle.sc_pieces.specs.Pieces.{Besides, Does}
 
 -- the epilogue but for the jump that ends it
-abbrev pub frame_raised : ℕ → List Instr
-frame_raised bytes = Load Lw ra sp (pos 0) ∷ moved_by sp sp bytes
+abbrev pub epilogue_to_jump : ℕ → List Instr
+epilogue_to_jump bytes = Load Lw ra sp (pos 0) ∷ moved_by sp sp bytes
 
 module _ (image : ImageParts) (inputs : List ℕ) (world : World) (bytes : ℕ) (regs : Registers) (memory : Memory) where
   -- sp comes to the bottom of the frame, where ra is stored
@@ -23,15 +23,15 @@ module _ (image : ImageParts) (inputs : List ℕ) (world : World) (bytes : ℕ) 
   pub record FrameOverflows (pc : ℕ) : Type 0 where
     pub steps : ℕ
     pub few : steps < length (frame_taken bytes)
-    pub behind : ℕ
+    pub following : ℕ
     pub after : Registers
-    pub walks : Walks image inputs steps (at pc regs memory world) (at behind after memory world)
-    pub traps : step image inputs (at behind after memory world) ≡ Traps Owner
+    pub walks : Walks image inputs steps (at pc regs memory world) (at following after memory world)
+    pub traps : step image inputs (at following after memory world) ≡ Traps Owner
 
   -- ra is loaded from the bottom of the frame, above which sp comes
   pub record LeavesFrame : Type 0 where
     pub after : Registers
-    pub does : Does image inputs world (frame_raised bytes) regs memory after memory
+    pub does : Does image inputs world (epilogue_to_jump bytes) regs memory after memory
     pub loaded : after ra ≡ word memory (regs sp)
     pub raised : after sp ≡ regs sp + bytes
     pub others : (q : ℕ) → Besides (ra ∷ sp ∷ address_scratch ∷ []) q → after q ≡ regs q

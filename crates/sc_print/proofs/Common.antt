@@ -18,7 +18,7 @@ pub use Rattle.sc_base.specs.Prelude.{reserved_words}
 unfoldable pub use Rattle.sc_base.specs.Prelude.{is_name, is_reserved}
 pub use Rattle.sc_base.specs.declared.op.BinaryOp.{BinaryOp}
 pub use Rattle.sc_base.specs.declared.op.UnaryOp.{UnaryOp}
-pub use Rattle.sc_lex.proofs.Fronts.{directive_found, mark_one, mark_two, word_found}
+pub use Rattle.sc_lex.proofs.Prefixes.{directive_found, mark_one, mark_two, word_found}
 pub use Rattle.sc_lex.proofs.Texts.{kind_of-directive, word_run}
 pub use Rattle.sc_lex.specs.Prelude.{Cuts, IsToken, allows_directive, base_of, begins_block_comment, begins_heading}
 pub use Rattle.sc_lex.specs.Prelude.{begins_line, begins_line_comment, digit_value, digits_of, gap, greatest_of}
@@ -32,7 +32,7 @@ pub use Rattle.sc_ast.proofs.Induction.{Each, Inside, Under, everywhere, expr_in
 pub use Rattle.sc_ast.proofs.Layers.{expr_at, stmt_at}
 pub use Rattle.sc_ast.proofs.Statements.{bare_stmt, for_height, if_height, tree_height, while_height}
 pub use Rattle.sc_ast.specs.Prelude.{Layout, Number, Piece, Printed, SameButLines, apart, array_length, base_words}
-pub use Rattle.sc_ast.specs.Prelude.{behind_else, binary_text, binary_words, blank, blank_if, block_words, call_words}
+pub use Rattle.sc_ast.specs.Prelude.{after_else, binary_text, binary_words, blank, blank_if, block_words, call_words}
 pub use Rattle.sc_ast.specs.Prelude.{chain_words, comma, condition_words, const_words, decl_height, decl_words}
 pub use Rattle.sc_ast.specs.Prelude.{declared_words, decls_height, deeper, else_words, ended, equals, expr_height}
 pub use Rattle.sc_ast.specs.Prelude.{expr_step, expr_words, first_words, fits, for_words, function_words, global_words}

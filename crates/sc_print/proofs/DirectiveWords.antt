@@ -10,7 +10,7 @@ use Rattle.std.proofs.lemmas.Bool.Decides.{Decides-eqb}
 use Rattle.std.proofs.lemmas.List.Splits.{slice_split_at, slice_split_none}
 use Rattle.sc_base.proofs.Lists.{list_all_along}
 use Rattle.sc_lex.specs.declared.token.TokenKind.TheVariants as kind
-use Rattle.sc_lex.proofs.Wording.{front_byte}
+use Rattle.sc_lex.proofs.Wording.{prefix_byte}
 use Rattle.sc_expr.specs.declared.lexeme.Symbol.TheVariants as symbol
 use Rattle.sc_print.proofs.Spacing.{other}
 
@@ -28,15 +28,15 @@ kept_word : (word : List ℕ) (more : List (List ℕ)) → 0 < length word →
 kept_word word more some = let full = ne_eqb (length word) 0 (λ e. omega (arith, some, e)) in rw full
 
 -- a word, a blank and what follows
-word_front : (word rest : List ℕ) → list_all solid word ≡ true → 0 < length word →
+word_prefix : (word rest : List ℕ) → list_all solid word ≡ true → 0 < length word →
     words (word ++ 32 ∷ rest) ≡ word ∷ words rest
 unfolding words
-word_front word rest all some = ap (λ parts. filter (λ w. not (is_empty w)) parts)
+word_prefix word rest all some = ap (λ parts. filter (λ w. not (is_empty w)) parts)
     (slice_split_at _ word 32 rest (solid_at word all) refl) ∙ kept_word word (slice_split _ rest) some
 
-word_alone : (word : List ℕ) → list_all solid word ≡ true → 0 < length word → words word ≡ word ∷ []
+single_word : (word : List ℕ) → list_all solid word ≡ true → 0 < length word → words word ≡ word ∷ []
 unfolding words
-word_alone word all some = ap (λ parts. filter (λ w. not (is_empty w)) parts)
+single_word word all some = ap (λ parts. filter (λ w. not (is_empty w)) parts)
     (slice_split_none _ word (solid_at word all)) ∙ kept_word word [] some
 
 -- names
@@ -66,7 +66,7 @@ name_inside : (name : List ℕ) → is_name name ≡ true → list_all is_inside
 name_inside name h = list_all_along _ _ byte_inside name (named name h).bytes
 
 name_word : (name : List ℕ) → is_name name ≡ true → words name ≡ name ∷ []
-name_word name h = word_alone name (name_solid name h) (named name h).some
+name_word name h = single_word name (name_solid name h) (named name h).some
 
 named_is : (name : List ℕ) → is_name name ≡ true → name_of name ≡ Some name
 named_is name h = rw h
@@ -98,14 +98,14 @@ line_says text k s first inside is said = ap (λ o. or_unused (option_and_then (
 no_heading : (text : List ℕ) → (slice_index text 8 ≡ 99 → ⊥) → is_some (heading_name text) ≡ false
 unfolding heading_name
 no_heading text other =
-    let no = false_from_ne_true _ (λ h. other (front_byte text (codes "#pragma compartment ") 8 h (omega arith))) in
+    let no = false_from_ne_true _ (λ h. other (prefix_byte text (codes "#pragma compartment ") 8 h (omega arith))) in
     rw no
 
 -- a directive of one more word and more
 directive_words : (word rest : List ℕ) → list_all solid word ≡ true → 0 < length word →
     words (codes "#pragma " ++ (word ++ 32 ∷ rest)) ≡ codes "#pragma" ∷ word ∷ words rest
-directive_words word rest all some = word_front (codes "#pragma") (word ++ 32 ∷ rest) refl (omega arith) ∙
-    ap (λ ws. codes "#pragma" ∷ ws) (word_front word rest all some)
+directive_words word rest all some = word_prefix (codes "#pragma") (word ++ 32 ∷ rest) refl (omega arith) ∙
+    ap (λ ws. codes "#pragma" ∷ ws) (word_prefix word rest all some)
 
 -- `#pragma export F`
 abbrev pub export_text : List ℕ → List ℕ
@@ -150,7 +150,7 @@ module _ (comp name : List ℕ) (g : is_name comp ≡ true) (h : is_name name �
 
   import_words : words (import_text comp name) ≡ codes "#pragma" ∷ codes "import" ∷ comp ∷ name ∷ []
   import_words = directive_words (codes "import") (comp ++ codes " " ++ name) refl (omega arith) ∙
-      ap (λ ws. codes "#pragma" ∷ codes "import" ∷ ws) (ap words seam ∙ word_front comp name (name_solid comp g)
+      ap (λ ws. codes "#pragma" ∷ codes "import" ∷ ws) (ap words seam ∙ word_prefix comp name (name_solid comp g)
       (named comp g).some ∙ ap (λ ws. comp ∷ ws) (name_word name h))
 
   import_is : line_kind (import_text comp name) ≡ Some kind.Import

@@ -19,26 +19,26 @@ pub record Found (bytes : List ℕ) (at : ℕ) (ss : List Symbol) : Type 0 where
 
 module _ (bytes : List ℕ) where
   -- what a token says is what its text says
-  pub token_says : (front text rest : List ℕ) (kind : TokenKind) → bytes ≡ front ++ (text ++ rest) →
+  pub token_says : (leading text rest : List ℕ) (kind : TokenKind) → bytes ≡ leading ++ (text ++ rest) →
       kind_of (take (length text) (text ++ rest)) ≡ Some kind →
-      symbol_of bytes (token_at bytes (length front) kind (length text)) ≡ word_symbol text
+      symbol_of bytes (token_at bytes (length leading) kind (length text)) ≡ word_symbol text
   unfolding word_symbol
-  token_says front text rest kind whole spelled =
-      let behind : drop (length front) bytes ≡ text ++ rest =
-      ap (drop (length front)) whole ∙ drop-append_seam front (text ++ rest) in
+  token_says leading text rest kind whole spelled =
+      let following : drop (length leading) bytes ≡ text ++ rest =
+      ap (drop (length leading)) whole ∙ drop-append_seam leading (text ++ rest) in
       let back = take-append_seam text rest in
-      let long : length front + length text - length front ≡ length text = omega arith in
-      let slice : slice_range bytes (length front) (length front + length text) ≡ text = rw (behind, long) back in
+      let long : length leading + length text - length leading ≡ length text = omega arith in
+      let slice : slice_range bytes (length leading) (length leading + length text) ≡ text = rw (following, long) back in
       let kind_is : kind_of text ≡ Some kind = sym (ap kind_of back) ∙ spelled in
       ap (λ x. or_unused (says kind x)) slice ∙ ap (λ k. or_unused (option_and_then (λ j. says j text) k)) (sym kind_is)
 
   -- one byte of white space
-  pub skipped : (byte : ℕ) → is_white_space byte ≡ true → (front : List ℕ) (ss : List Symbol) (rest : List ℕ) →
-      bytes ≡ front ++ byte ∷ rest → Found bytes (length (front ++ byte ∷ [])) ss → Found bytes (length front) ss
-  skipped byte white front ss rest whole on =
-      let behind : drop (length front) bytes ≡ byte ∷ rest = ap (drop _) whole ∙ drop-append_seam front (byte ∷ rest) in
-      let long = length-append front (byte ∷ []) in
-      let is : IsTrue (is_white_space (slice_index (drop (length front) bytes) 0)) = rw behind white in
+  pub skipped : (byte : ℕ) → is_white_space byte ≡ true → (leading : List ℕ) (ss : List Symbol) (rest : List ℕ) →
+      bytes ≡ leading ++ byte ∷ rest → Found bytes (length (leading ++ byte ∷ [])) ss → Found bytes (length leading) ss
+  skipped byte white leading ss rest whole on =
+      let following : drop (length leading) bytes ≡ byte ∷ rest = ap (drop _) whole ∙ drop-append_seam leading (byte ∷ rest) in
+      let long = length-append leading (byte ∷ []) in
+      let is : IsTrue (is_white_space (slice_index (drop (length leading) bytes) 0)) = rw following white in
       record {
         tokens = on.tokens;
         cuts = gap 1 (white_space is) (subst (λ n. Cuts bytes n (length bytes) on.tokens) long on.cuts);
@@ -46,35 +46,35 @@ module _ (bytes : List ℕ) where
       }
 
   -- `count` blanks
-  indented : (count : ℕ) (front : List ℕ) (ss : List Symbol) (rest : List ℕ) →
-      bytes ≡ front ++ (replicate count 32 ++ rest) →
-      ((before : List ℕ) → bytes ≡ before ++ rest → Found bytes (length before) ss) → Found bytes (length front) ss
-  indented zero front ss rest whole on = on front whole
-  indented (suc count) front ss rest whole on =
-      skipped 32 refl front ss _ whole (indented count _ ss rest (whole ∙ sym (append_assoc front _ _)) on)
+  indented : (count : ℕ) (leading : List ℕ) (ss : List Symbol) (rest : List ℕ) →
+      bytes ≡ leading ++ (replicate count 32 ++ rest) →
+      ((before : List ℕ) → bytes ≡ before ++ rest → Found bytes (length before) ss) → Found bytes (length leading) ss
+  indented zero leading ss rest whole on = on leading whole
+  indented (suc count) leading ss rest whole on =
+      skipped 32 refl leading ss _ whole (indented count _ ss rest (whole ∙ sym (append_assoc leading _ _)) on)
 
-  pub found_from : {pieces : List Piece} {rest : List ℕ} → Tidy pieces rest → rest ≡ [] → (front : List ℕ) →
-      bytes ≡ front ++ text_of pieces → Found bytes (length front) (symbols pieces)
-  found_from spacing.none e front whole =
-      let all = ap (λ x. length x) (whole ∙ append-nil front) in
-      record { tokens = []; cuts = subst (λ n. Cuts bytes (length front) n []) (sym all) nothing; says = refl }
-  found_from (spacing.gap {pieces = pieces} t) e front whole =
-      skipped 32 refl front _ _ whole (found_from t e _ (whole ∙ sym (append_assoc front _ _)))
-  found_from (spacing.line_end {pieces = pieces} t) e front whole =
-      skipped 10 refl front _ _ whole (found_from t e _ (whole ∙ sym (append_assoc front _ _)))
-  found_from (spacing.at_level {pieces = pieces} levels t) e front whole =
-      indented (2 * levels) front _ (text_of pieces) whole (found_from t e)
-  found_from (spacing.next {text = text} {pieces = pieces} {rest = rest} w t) e front whole =
+  pub found_from : {pieces : List Piece} {rest : List ℕ} → Tidy pieces rest → rest ≡ [] → (leading : List ℕ) →
+      bytes ≡ leading ++ text_of pieces → Found bytes (length leading) (symbols pieces)
+  found_from spacing.none e leading whole =
+      let all = ap (λ x. length x) (whole ∙ append-nil leading) in
+      record { tokens = []; cuts = subst (λ n. Cuts bytes (length leading) n []) (sym all) nothing; says = refl }
+  found_from (spacing.gap {pieces = pieces} t) e leading whole =
+      skipped 32 refl leading _ _ whole (found_from t e _ (whole ∙ sym (append_assoc leading _ _)))
+  found_from (spacing.line_end {pieces = pieces} t) e leading whole =
+      skipped 10 refl leading _ _ whole (found_from t e _ (whole ∙ sym (append_assoc leading _ _)))
+  found_from (spacing.at_level {pieces = pieces} levels t) e leading whole =
+      indented (2 * levels) leading _ (text_of pieces) whole (found_from t e)
+  found_from (spacing.next {text = text} {pieces = pieces} {rest = rest} w t) e leading whole =
       let after = ap (λ x. text_of pieces ++ x) e ∙ append-nil _ in
-      let behind = ap (drop _) whole ∙ drop-append_seam front _ ∙ ap (λ x. text ++ x) (sym after) in
-      let on = found_from t e (front ++ text) (whole ∙ sym (append_assoc front text _)) in
-      let long = length-append front text in
-      let first = token_says front text _ w.kind
-      (whole ∙ ap (λ x. front ++ (text ++ x)) (sym after)) (w.token true).spelled in
+      let following = ap (drop _) whole ∙ drop-append_seam leading _ ∙ ap (λ x. text ++ x) (sym after) in
+      let on = found_from t e (leading ++ text) (whole ∙ sym (append_assoc leading text _)) in
+      let long = length-append leading text in
+      let first = token_says leading text _ w.kind
+      (whole ∙ ap (λ x. leading ++ (text ++ x)) (sym after)) (w.token true).spelled in
       record {
         tokens = token_at bytes _ w.kind (length text) ∷ on.tokens;
-        cuts = token w.kind _ (subst (λ x. IsToken (allows_directive bytes (length front)) x w.kind (length text))
-            (sym behind) (w.token _)) (subst (λ n. Cuts bytes n (length bytes) on.tokens) long on.cuts);
+        cuts = token w.kind _ (subst (λ x. IsToken (allows_directive bytes (length leading)) x w.kind (length text))
+            (sym following) (w.token _)) (subst (λ n. Cuts bytes n (length bytes) on.tokens) long on.cuts);
         says = ap₂ (λ s ss. s ∷ ss) first on.says;
       }
 
@@ -100,31 +100,31 @@ line_token text rest l =
 
 module _ (bytes : List ℕ) (heading : begins_heading bytes ≡ true) where
   -- a line begins after a newline
-  next_line : (front rest : List ℕ) → bytes ≡ front ++ 10 ∷ rest → begins_line bytes (length (front ++ 10 ∷ [])) ≡ true
-  next_line front rest whole =
-      let long = length-append front (10 ∷ []) in
-      let before : length (front ++ 10 ∷ []) - 1 ≡ length front = omega (arith, long) in
-      let byte : slice_index bytes (length (front ++ 10 ∷ []) - 1) ≡ 10 = ap (λ n. slice_index bytes n) before ∙
-      ap (λ bs. slice_index bs (length front)) whole ∙ get_or-append_seam front 10 rest 0 in
-      or_right (length (front ++ 10 ∷ []) == 0) (slice_index bytes (length (front ++ 10 ∷ []) - 1) == 10)
+  next_line : (leading rest : List ℕ) → bytes ≡ leading ++ 10 ∷ rest → begins_line bytes (length (leading ++ 10 ∷ [])) ≡ true
+  next_line leading rest whole =
+      let long = length-append leading (10 ∷ []) in
+      let before : length (leading ++ 10 ∷ []) - 1 ≡ length leading = omega (arith, long) in
+      let byte : slice_index bytes (length (leading ++ 10 ∷ []) - 1) ≡ 10 = ap (λ n. slice_index bytes n) before ∙
+      ap (λ bs. slice_index bs (length leading)) whole ∙ get_or-append_seam leading 10 rest 0 in
+      or_right (length (leading ++ 10 ∷ []) == 0) (slice_index bytes (length (leading ++ 10 ∷ []) - 1) == 10)
       (eq-eqb (slice_index bytes _) 10 byte)
 
-  pub found_lines : {pieces : List Piece} → Lined pieces → (front : List ℕ) → begins_line bytes (length front) ≡ true →
-      bytes ≡ front ++ text_of pieces → Found bytes (length front) (symbols pieces)
-  found_lines (tidy t) front begins whole = found_from bytes t refl front whole
-  found_lines (line {text = text} {pieces = pieces} l more) front begins whole =
+  pub found_lines : {pieces : List Piece} → Lined pieces → (leading : List ℕ) → begins_line bytes (length leading) ≡ true →
+      bytes ≡ leading ++ text_of pieces → Found bytes (length leading) (symbols pieces)
+  found_lines (tidy t) leading begins whole = found_from bytes t refl leading whole
+  found_lines (line {text = text} {pieces = pieces} l more) leading begins whole =
       let rest = text_of pieces in
-      let behind = ap (drop _) whole ∙ drop-append_seam front _ in
-      let past = whole ∙ sym (append_assoc front text _) in
-      let on = found_lines more ((front ++ text) ++ 10 ∷ []) (next_line _ rest past)
+      let following = ap (drop _) whole ∙ drop-append_seam leading _ in
+      let past = whole ∙ sym (append_assoc leading text _) in
+      let on = found_lines more ((leading ++ text) ++ 10 ∷ []) (next_line _ rest past)
       (past ∙ sym (append_assoc _ _ rest)) in
-      let end = skipped bytes 10 refl (front ++ text) _ rest past on in
-      let long = length-append front text in
+      let end = skipped bytes 10 refl (leading ++ text) _ rest past on in
+      let long = length-append leading text in
       let allowed = and_from _ _ heading begins in
       let spelled = ap kind_of (take-append_seam text _) ∙ kind_of_line text l.kind l.first l.inside l.is in
-      let first = token_says bytes front text _ l.kind whole spelled in
-      let here = subst (λ b. IsToken b (drop (length front) bytes) l.kind (length text)) (sym allowed)
-      (subst (λ x. IsToken true x l.kind (length text)) (sym behind) (line_token text rest l)) in
+      let first = token_says bytes leading text _ l.kind whole spelled in
+      let here = subst (λ b. IsToken b (drop (length leading) bytes) l.kind (length text)) (sym allowed)
+      (subst (λ x. IsToken true x l.kind (length text)) (sym following) (line_token text rest l)) in
       record {
         tokens = token_at bytes _ l.kind (length text) ∷ end.tokens;
         cuts = token l.kind _ here (subst (λ n. Cuts bytes n (length bytes) end.tokens) long end.cuts);

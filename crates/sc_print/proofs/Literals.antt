@@ -130,7 +130,7 @@ abbrev Fitting : ℕ → Bool → Type 0
 Fitting n u = IsTrue (fits (record { value = n; unsigned = u }))
 
 -- What the text of a constant is.
-record Told (n : ℕ) (u : Bool) (text : List ℕ) : Type 0 where
+record IsLiteral (n : ℕ) (u : Bool) (text : List ℕ) : Type 0 where
   is : word_kind text ≡ Some kind.Integer
   said : word_symbol text ≡ symbol.Integer (record { value = n; unsigned = u })
 
@@ -194,9 +194,9 @@ module _ (n : ℕ) (ds : List ℕ) (positive : 0 < n) (d : Decimal n ds) where
   low_text : (u : Bool) → slice_index (ds ++ suffix u) 0 ≤ 57
   low_text u = let e = first_kept ds (suffix u) d.some in rw e d.low
 
-  positive_told : (u : Bool) → Fitting n u → Told n u (ds ++ suffix u)
+  positive_literal : (u : Bool) → Fitting n u → IsLiteral n u (ds ++ suffix u)
   unfolding word_symbol kind_of word_kind says
-  positive_told u h =
+  positive_literal u h =
       let free = no_reserved (ds ++ suffix u) (low_text u) in
       let unnamed = no_name (ds ++ suffix u) (low_text u) in
       record {
@@ -204,20 +204,20 @@ module _ (n : ℕ) (ds : List ℕ) (positive : 0 < n) (d : Decimal n ds) where
         said = rw (free, unnamed, is_constant u h) (rw (constant_is u h) (rw (number_is u h)));
       }
 
-zero_told : (u : Bool) → Told 0 u ((48 ∷ []) ++ suffix u)
+zero_literal : (u : Bool) → IsLiteral 0 u ((48 ∷ []) ++ suffix u)
 unfolding word_symbol kind_of word_kind is_reserved is_name is_integer is_number integer_of says
-zero_told true = record { is = refl; said = refl }
-zero_told false = record { is = refl; said = refl }
+zero_literal true = record { is = refl; said = refl }
+zero_literal false = record { is = refl; said = refl }
 
 in_words : (n : ℕ) (u : Bool) → Fitting n u → n < 2 ^ 64
 in_words n u h = let le = leb-true n 4294967295 (and_parts _ _ h).1 in omega (arith, le)
 
-told : (n : ℕ) (u : Bool) → Fitting n u → Told n u (decimal n ++ suffix u)
-told zero u h = subst (λ ds. Told 0 u (ds ++ suffix u)) (sym (decimal_digit 0 (omega arith))) (zero_told u)
-told (suc n) u h = positive_told (suc n) _ (omega arith) (decimal_is _ (in_words (suc n) u h)) u h
+is_literal : (n : ℕ) (u : Bool) → Fitting n u → IsLiteral n u (decimal n ++ suffix u)
+is_literal zero u h = subst (λ ds. IsLiteral 0 u (ds ++ suffix u)) (sym (decimal_digit 0 (omega arith))) (zero_literal u)
+is_literal (suc n) u h = positive_literal (suc n) _ (omega arith) (decimal_is _ (in_words (suc n) u h)) u h
 
 pub literal_kind : (number : Number) → IsTrue (fits number) → word_kind (literal_text number) ≡ Some kind.Integer
-literal_kind number h = (told _ _ h).is
+literal_kind number h = (is_literal _ _ h).is
 
 pub literal_some : (number : Number) → IsTrue (fits number) → 0 < length (literal_text number)
 literal_some number h =
@@ -226,4 +226,4 @@ literal_some number h =
     omega (arith, some, long)
 
 pub literal_says : (number : Number) → IsTrue (fits number) → word_symbol (literal_text number) ≡ symbol.Integer number
-literal_says number h = (told _ _ h).said
+literal_says number h = (is_literal _ _ h).said

@@ -32,22 +32,22 @@ none_of (t ∷ ts) h = let e = none_there _ _ (sym h) in absurd (omega (arith, e
 
 -- Two parts.
 pub record Parts (ss us : List Symbol) (ts : List Lexeme) : Type 0 where
-  pub front : List Lexeme
+  pub leading : List Lexeme
   pub back : List Lexeme
-  pub whole : ts ≡ front ++ back
-  pub first : Say ss front
+  pub whole : ts ≡ leading ++ back
+  pub first : Say ss leading
   pub second : Say us back
 
 pub parts_of : (ss us : List Symbol) (ts : List Lexeme) → Say (ss ++ us) ts → Parts ss us ts
-parts_of [] us ts h = record { front = []; back = ts; whole = refl; first = refl; second = h }
+parts_of [] us ts h = record { leading = []; back = ts; whole = refl; first = refl; second = h }
 parts_of (s ∷ ss) us ts h =
     let f = first_of s _ ts h in
     let p = parts_of ss us f.rest f.others in
     record {
-      front = f.first ∷ p.front;
+      leading = f.first ∷ p.leading;
       back = p.back;
       whole = f.whole ∙ ap (λ x. f.first ∷ x) p.whole;
-      first = ap (λ x. x ∷ map (λ t. t.symbol) p.front) f.is ∙ ap (λ x. s ∷ x) p.first;
+      first = ap (λ x. x ∷ map (λ t. t.symbol) p.leading) f.is ∙ ap (λ x. s ∷ x) p.first;
       second = p.second;
     }
 
@@ -103,7 +103,7 @@ reads (fixed newline ∷ items) P take ts h = reads items P take ts h
 reads (part pieces ∷ []) P take ts h = take ts h
 reads (part pieces ∷ next ∷ items) P take ts h =
     let p = parts_of (symbols pieces) (symbols (pieces_of (next ∷ items))) ts (h ∙ joined_symbols pieces _) in
-    subst P (sym p.whole) (reads (next ∷ items) _ (take p.front p.first) p.back p.second)
+    subst P (sym p.whole) (reads (next ∷ items) _ (take p.leading p.first) p.back p.second)
 
 -- items with commas between them
 module _ {A : Type 0} (say : A → List Piece) (kept : A → Bool) (Item : List Lexeme → A → Type 0)
@@ -114,8 +114,8 @@ module _ {A : Type 0} (say : A → List Piece) (kept : A → Bool) (Item : List 
   separated x (y ∷ ys) k all ts h =
       let parts = and_parts (kept y) _ all in
       reads (part (say x) ∷ written _ ∷ fixed blank ∷ part _ ∷ []) (λ us. Separated Item us (x ∷ y ∷ ys))
-      (λ front said t is back behind. more t (is ∙ tables.lone_says tables.comma_mark) (item x k front said)
-      (separated y ys parts.0 parts.1 back behind)) ts h
+      (λ leading said t is back following. more t (is ∙ tables.lone_says tables.comma_mark) (item x k leading said)
+      (separated y ys parts.0 parts.1 back following)) ts h
 
 -- An item that is spelled, and is this one, lines aside; and items one after another.
 pub record Alike {A : Type 0} (Group : List Lexeme → List A → Type 0) (bare : A → A) (ts : List Lexeme)
@@ -136,9 +136,9 @@ module _ {A : Type 0} (say : A → List Piece) (kept : A → Bool) (Group : List
   all_alike [] k = reads [] _ (record { others = []; spelled = lists.none; same = refl })
   all_alike (x ∷ xs) k =
       let parts = and_parts (kept x) _ k in
-      reads (part (say x) ∷ part _ ∷ []) _ (λ front said back behind.
-      let first = item x parts.0 front said in
-      let rest = all_alike xs parts.1 back behind in
+      reads (part (say x) ∷ part _ ∷ []) _ (λ leading said back following.
+      let first = item x parts.0 leading said in
+      let rest = all_alike xs parts.1 back following in
       record {
         others = first.other ∷ rest.others;
         spelled = lists.next first.spelled rest.spelled;

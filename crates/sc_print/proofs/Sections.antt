@@ -103,15 +103,15 @@ init_reads (init.Many (c ∷ cs)) k =
     (separated const_words kept_const SpellsConst (λ c k. const_from _ _ k) c cs parts.0 parts.1 ts said))
 
 -- one declarator after its base, on a line of its own
-single : {A : Type 0} (Item : BaseTree → ℕ → List Lexeme → A → Type 0) (depth : ℕ) (b : BaseTree) (behind : List Piece)
-    (entry : ℕ → A) → IsTrue (kept_base b) → ((line : ℕ) → Reading behind (λ ts. Item b line ts (entry line))) → Reading
-    (line_of depth (ended (base_words b ++ blank ∷ behind))) (λ ts. (line : ℕ) × Declares Item ts (entry line ∷ []))
-single Item depth b behind entry k item ts h =
-    reads (part (base_words b) ∷ fixed blank ∷ part behind ∷ written (codes ";") ∷ [])
-    (λ us. (line : ℕ) × Declares Item us (entry line ∷ [])) (λ front base back said t is. (
-      first_line front,
-      decls.declares t (is ∙ lone_says semicolon) (base_reads b k front base) (one (item _ back said)),
-    )) ts (h ∙ line_symbols depth (ended (base_words b ++ blank ∷ behind)) ∙
+single : {A : Type 0} (Item : BaseTree → ℕ → List Lexeme → A → Type 0) (depth : ℕ) (b : BaseTree) (following : List Piece)
+    (entry : ℕ → A) → IsTrue (kept_base b) → ((line : ℕ) → Reading following (λ ts. Item b line ts (entry line))) → Reading
+    (line_of depth (ended (base_words b ++ blank ∷ following))) (λ ts. (line : ℕ) × Declares Item ts (entry line ∷ []))
+single Item depth b following entry k item ts h =
+    reads (part (base_words b) ∷ fixed blank ∷ part following ∷ written (codes ";") ∷ [])
+    (λ us. (line : ℕ) × Declares Item us (entry line ∷ [])) (λ leading base back said t is. (
+      first_line leading,
+      decls.declares t (is ∙ lone_says semicolon) (base_reads b k leading base) (one (item _ back said)),
+    )) ts (h ∙ line_symbols depth (ended (base_words b ++ blank ∷ following)) ∙
     ap symbols (append_assoc (base_words b) _ _))
 
 -- the same, where something follows the declarator
@@ -122,8 +122,8 @@ valued : {A : Type 0} (Item : BaseTree → ℕ → List Lexeme → A → Type 0)
     (line_of depth (ended (declared_words ty name ++ value))) (λ ts. (line : ℕ) × Declares Item ts (entry line ∷ []))
 valued Item depth ty name value entry Value k ident spells item ts h =
     single Item depth ty.base (declarator_words ty name ++ value) entry (and_parts _ _ k).0
-    (λ line. reads (part (declarator_words ty name) ∷ part value ∷ []) _ (λ front said back behind.
-    item front back line (declarator_reads ty name k ident front said) (spells back behind))) ts
+    (λ line. reads (part (declarator_words ty name) ∷ part value ∷ []) _ (λ leading said back following.
+    item leading back line (declarator_reads ty name k ident leading said) (spells back following))) ts
     (h ∙ ap (λ pieces. symbols (line_of depth (ended pieces)))
     (append_assoc (base_words ty.base) (blank ∷ declarator_words ty name) value))
 
@@ -139,7 +139,7 @@ members_read [] k = reads [] _ lists.none
 members_read (m ∷ ms) k =
     let parts = and_parts (kept_member m) (list_all _ ms) k in
     reads (part (member_line m) ∷ part (flat_map member_line ms) ∷ []) _
-    (λ front said back behind. lists.next (member_reads m parts.0 front said) (members_read ms parts.1 back behind))
+    (λ leading said back following. lists.next (member_reads m parts.0 leading said) (members_read ms parts.1 back following))
 
 -- a declaration that is spelled, and is this one, lines aside
 abbrev Spelled : List Lexeme → Decl → Type 0
@@ -157,12 +157,12 @@ struct_reads name line (m ∷ ms) k ts h =
     reads (written (codes "struct") ∷ written name ∷ written (codes "{") ∷ part (member_line m) ∷
     part (flat_map member_line ms) ∷ written (codes "}") ∷ written (codes ";") ∷ fixed newline ∷ [])
     (λ us. Spelled us (decl.Struct (record { name = name; members = m ∷ ms; line = line })))
-    (λ t is u named v opens front said back behind w closes x ends.
+    (λ t is u named v opens leading said back following w closes x ends.
     record {
       other = decl.Struct _;
       spelled = decls.a_struct (decls.struct t u v w x name (is ∙ tables.keyword_says keyword.Struct)
           (named ∙ name_says name parts.0) (opens ∙ lone_says open_curly) (closes ∙ lone_says close_curly)
-          (ends ∙ lone_says semicolon) (member_reads m both.0 front said) (members_read ms both.1 back behind));
+          (ends ∙ lone_says semicolon) (member_reads m both.0 leading said) (members_read ms both.1 back following));
       same = refl;
     }) ts (h ∙ ap (λ pieces. symbols (word (codes "struct") ∷ word name ∷ word (codes "{") ∷ pieces))
     (append_assoc (member_line m) (flat_map member_line ms) tail))
@@ -193,15 +193,15 @@ locals_read : (ls : List LocalTree) → list_all kept_local ls ≡ true →
     Reading (flat_map local_line ls) (λ ts. AllAlike (Declares IsLocal) lineless_local ts ls)
 locals_read = all_alike local_line _ _ _ local_reads
 
-type_reads : (ty : TypeName) → IsTrue (kept_base ty.base) → (front back : List Lexeme) →
-    Say (symbols (base_words ty.base)) front → Say (symbols (star_words ty.stars)) back →
-    SpellsTypeName (front ++ back) ty
-type_reads ty k front back base stars = type_name (base_reads ty.base k front base) (stars_read _ back stars)
+type_reads : (ty : TypeName) → IsTrue (kept_base ty.base) → (leading back : List Lexeme) →
+    Say (symbols (base_words ty.base)) leading → Say (symbols (star_words ty.stars)) back →
+    SpellsTypeName (leading ++ back) ty
+type_reads ty k leading back base stars = type_name (base_reads ty.base k leading base) (stars_read _ back stars)
 
 result_reads : (r : Option TypeName) → IsTrue (kept_result r) → Reading (result_words r) (λ ts. SpellsResult ts r)
 result_reads None k = reads (written _ ∷ []) _ (λ t is. decls.no_result t (is ∙ tables.keyword_says _))
 result_reads (Some ty) k = reads (part (base_words ty.base) ∷ fixed blank ∷ part _ ∷ []) _
-    (λ front base back stars. decls.a_result (type_reads ty k front back base stars))
+    (λ leading base back stars. decls.a_result (type_reads ty k leading back base stars))
 
 blank_symbols : (wanted : Bool) → symbols (blank_if wanted) ≡ []
 blank_symbols true = refl
@@ -212,16 +212,16 @@ param_from : (ty : TypeName) (name : Option (List ℕ)) (gap : Bool) → IsTrue 
     (λ ts. SpellsParam ts (record { ty = ty; name = name }))
 param_from ty None gap k ident =
     reads (part (base_words ty.base) ∷ part (blank_if gap ++ (star_words ty.stars ++ [])) ∷ []) _
-    (λ front base back said. decls.nameless (type_reads ty k front back base (said ∙
+    (λ leading base back said. decls.nameless (type_reads ty k leading back base (said ∙
     joined_symbols (blank_if gap) (star_words _ ++ []) ∙
     ap (λ x. x ++ symbols (star_words ty.stars ++ [])) (blank_symbols gap) ∙ ap symbols (append-nil (star_words _)))))
 param_from ty (Some name) gap k ident =
     reads (part (base_words ty.base) ∷ part (blank_if gap ++ (star_words _ ++ word name ∷ [])) ∷ []) _
-    (λ front base back said. reads (part (star_words ty.stars) ∷ written name ∷ [])
-    (λ us. SpellsParam (front ++ us) (record { ty = ty; name = Some name }))
+    (λ leading base back said. reads (part (star_words ty.stars) ∷ written name ∷ [])
+    (λ us. SpellsParam (leading ++ us) (record { ty = ty; name = Some name }))
     (λ middle stars t is. subst (λ us. SpellsParam us (record { ty = ty; name = Some name }))
-    (append_assoc front middle _)
-    (decls.named t name (is ∙ name_says name ident) (type_reads ty k front middle base stars))) back
+    (append_assoc leading middle _)
+    (decls.named t name (is ∙ name_says name ident) (type_reads ty k leading middle base stars))) back
     (said ∙ joined_symbols (blank_if gap) (star_words _ ++ word name ∷ []) ∙
     ap (λ x. x ++ symbols (star_words ty.stars ++ word name ∷ [])) (blank_symbols gap)))
 
@@ -243,18 +243,18 @@ head_reads head k =
     let parts = and_parts (kept_result _) _ k in
     let rest = and_parts (is_ident _) (list_all kept_param head.params) parts.1 in
     reads (part (result_words _) ∷ written head.name ∷ written (codes "(") ∷ part (params_words _) ∷
-    written (codes ")") ∷ []) (λ ts. Head ts head) (λ front result t is u opens back params v closes.
+    written (codes ")") ∷ []) (λ ts. Head ts head) (λ leading result t is u opens back params v closes.
     record {
-      line = first_line front;
+      line = first_line leading;
       spelled = decls.head t u v _ (is ∙ name_says _ rest.0) (opens ∙ lone_says open_paren)
-          (closes ∙ lone_says close_paren) (result_reads _ parts.0 front result) (params_read _ rest.1 back params);
+          (closes ∙ lone_says close_paren) (result_reads _ parts.0 leading result) (params_read _ rest.1 back params);
     })
 
 proto_reads : (head : HeadTree) → IsTrue (kept_head head) →
     Reading (ended (head_words head) ++ newline ∷ []) (λ ts. Spelled ts (decl.Proto head))
 proto_reads head k ts h = reads (part (head_words head) ∷ written (codes ";") ∷ []) (λ us. Spelled us (decl.Proto head))
-    (λ front said t ends.
-    let d = head_reads head k front said in
+    (λ leading said t ends.
+    let d = head_reads head k leading said in
     record {
       other = decl.Proto _;
       spelled = decls.prototype t (ends ∙ lone_says semicolon) d.spelled;
@@ -268,8 +268,8 @@ pub function_with : (f : FunctionTree) (body : List Piece) → IsTrue (kept_head
     (body ++ word (codes "}") ∷ newline ∷ []))) (λ ts. Alike SpellsDecl lineless_decl ts (decl.Function f))
 function_with f body kept_h kept_ls read = reads (part (head_words (head_of f.head)) ∷ fixed blank ∷
     written (codes "{") ∷ fixed newline ∷ part (flat_map local_line f.locals) ∷ part body ∷ written (codes "}") ∷
-    fixed newline ∷ []) (λ us. Spelled us (decl.Function f)) (λ front head t opens middle locals back said u closes.
-    let hd = head_reads (head_of f.head) kept_h front head in
+    fixed newline ∷ []) (λ us. Spelled us (decl.Function f)) (λ leading head t opens middle locals back said u closes.
+    let hd = head_reads (head_of f.head) kept_h leading head in
     let ls = locals_read f.locals kept_ls middle locals in
     let b = read back said in
     let tree : FunctionTree = record {

@@ -205,8 +205,8 @@ pub lone : {text : List ℕ} {m : Mark} {pieces : List Piece} {rest : List ℕ} 
     Tidy (word text ∷ pieces) rest
 lone is t = next (lone_word is _) t
 
-behind : (a b : List Piece) (rest : List ℕ) → text_of (a ++ b) ++ rest ≡ text_of a ++ (text_of b ++ rest)
-behind a b rest = ap (λ x. x ++ rest) (flat_map-append _ a b) ∙ append_assoc _ _ rest
+following : (a b : List Piece) (rest : List ℕ) → text_of (a ++ b) ++ rest ≡ text_of a ++ (text_of b ++ rest)
+following a b rest = ap (λ x. x ++ rest) (flat_map-append _ a b) ∙ append_assoc _ _ rest
 
 go_on : (b : List Piece) (rest : List ℕ) {a : List Piece} {r : List ℕ} → Tidy a r → r ≡ text_of b ++ rest →
     Tidy b rest → Tidy (a ++ b) rest
@@ -215,7 +215,7 @@ go_on b rest (gap t) e d = gap (go_on b rest t e d)
 go_on b rest (at_level levels t) e d = at_level levels (go_on b rest t e d)
 go_on b rest (line_end t) e d = line_end (go_on b rest t e d)
 go_on b rest (next {text = text} {pieces = pieces} {rest = r} w t) e d = next
-    (subst (λ x. IsWord text x) (ap (λ x. text_of pieces ++ x) e ∙ sym (behind pieces b rest)) w) (go_on b rest t e d)
+    (subst (λ x. IsWord text x) (ap (λ x. text_of pieces ++ x) e ∙ sym (following pieces b rest)) w) (go_on b rest t e d)
 
 pub tidy_append : (a b : List Piece) (rest : List ℕ) → Tidy a (text_of b ++ rest) → Tidy b rest → Tidy (a ++ b) rest
 tidy_append a b rest t d = go_on b rest t refl d
@@ -248,7 +248,7 @@ from_quiet before level text q = (λ e. q, λ e. quiet q)
 
 quiet_append : (a b : List Piece) (rest : List ℕ) → Quiet (text_of a ++ (text_of b ++ rest)) →
     Quiet (text_of (a ++ b) ++ rest)
-quiet_append a b rest q = subst (λ x. Quiet x) (sym (behind a b rest)) q
+quiet_append a b rest q = subst (λ x. Quiet x) (sym (following a b rest)) q
 
 -- pieces that stand apart, whatever calm text follows them
 abbrev pub Sound : List Piece → Type 0
@@ -302,7 +302,7 @@ Holds e = IsTrue (is_kept e) → Fits (words_at e)
 binary_tidy : (op : BinaryOp) (left right : Printed) → Fits left → Fits right → Fits (binary_words op left right)
 binary_tidy op left right at_left at_right before level rest calm = (
   parens_tidy (nat_lt level (levels.level_of op)) _ plain rest calm,
-  (λ e. front (omega (arith, e)), λ e. quiet (front (omega (arith, e)))),
+  (λ e. leading (omega (arith, e)), λ e. quiet (leading (omega (arith, e)))),
 )
   where
     plain : Sound (left [] (levels.level_of op) ++ blank ∷ word (binary_text op) ∷ blank ∷
@@ -310,8 +310,8 @@ binary_tidy op left right at_left at_right before level rest calm = (
     plain r c = tidy_append (left [] (levels.level_of op)) _ r (at_left [] _ _ refl).0
         (gap (next (binary_word op _) (gap (at_right [] _ r c).0)))
 
-    front : level ≤ 1 → Quiet (text_of (binary_words op left right before level) ++ rest)
-    front low =
+    leading : level ≤ 1 → Quiet (text_of (binary_words op left right before level) ++ rest)
+    leading low =
         let high = at_least_2 op in
         let wanted : nat_lt level (levels.level_of op) ≡ true =
         lt-ltb level (levels.level_of op) (omega (arith, low, high)) in
@@ -319,10 +319,10 @@ binary_tidy op left right at_left at_right before level rest calm = (
         right [] (levels.level_of op - 1))) ++ rest)) (sym wanted) refl
 
 -- what follows a postfix expression
-behind_tidy : (base : Printed) (more : List Piece) → Fits base →
+after_tidy : (base : Printed) (more : List Piece) → Fits base →
     ((rest : List ℕ) → Calm rest → Calm (text_of more ++ rest) × Tidy more rest) →
     Fits (λ before level. base [] 0 ++ more)
-behind_tidy base more fit on before level rest calm =
+after_tidy base more fit on before level rest calm =
     let o = on rest calm in
     let b = fit [] 0 _ o.0 in (
       tidy_append _ more rest b.0 o.1,
@@ -362,17 +362,17 @@ form (term.Binary op left right) u k =
     binary_tidy op (words_at left) (words_at right) (u.0 parts.0) (u.1 parts.1)
 form (term.Index base place) u k =
     let parts = and_parts (is_kept base) (is_kept place) k in
-    behind_tidy (words_at base) _ (u.0 parts.0) (λ r c. (
+    after_tidy (words_at base) _ (u.0 parts.0) (λ r c. (
       refl,
       lone open_square (tidy_append (words_at place [] 11) (word (codes "]") ∷ []) r
           (u.1 parts.1 [] 11 _ refl).0 (lone close_square none)),
     ))
 form (term.Member base name) u k =
     let parts = and_parts (is_kept base) (is_ident name) k in
-    behind_tidy (words_at base) _ (u parts.0) (named_tidy (codes ".") name (lone_word dot) (λ r. refl) parts.1)
+    after_tidy (words_at base) _ (u parts.0) (named_tidy (codes ".") name (lone_word dot) (λ r. refl) parts.1)
 form (term.Arrow base name) u k =
     let parts = and_parts (is_kept base) (is_ident name) k in
-    behind_tidy (words_at base) _ (u parts.0) (named_tidy (codes "->") name (lone_word arrow) (λ r. refl) parts.1)
+    after_tidy (words_at base) _ (u parts.0) (named_tidy (codes "->") name (lone_word arrow) (λ r. refl) parts.1)
 form (term.Deref of) u k = prefix_tidy asterisk (words_at of) (u k)
 form (term.Address of) u k = prefix_tidy (signed ampersand) (words_at of) (u k)
 

@@ -66,10 +66,10 @@ binary_at op e f left right inner_left inner_right before level =
     plain : AtLevel (levels.level_of op) (left [] (levels.level_of op) ++ blank ∷ word (binary_text op) ∷ blank ∷
         right [] (levels.level_of op - 1)) (expr.Binary op e f)
     plain = reads (part (left [] (levels.level_of op)) ∷ fixed blank ∷ written (binary_text op) ∷ fixed blank ∷
-        part (right [] (levels.level_of op - 1)) ∷ []) _ (λ ts said t is us behind.
+        part (right [] (levels.level_of op - 1)) ∷ []) _ (λ ts said t is us following.
         let l = subst (λ n. Spells n ts e) (sym (tables.own_level op)) (inner_left [] (levels.level_of op) ts said) in
         let d = joined t (tables.binary_mark op) op (is ∙ tables.binary_says op) (tables.binary_operator op)
-        (sym (tables.own_level op)) l (inner_right [] (levels.level_of op - 1) us behind) in
+        (sym (tables.own_level op)) l (inner_right [] (levels.level_of op - 1) us following) in
         subst (λ n. Spells n (ts ++ t ∷ us) (expr.Binary op e f)) (tables.own_level op) d)
 
 index_at : (e f : ExprTree) (base place : List Piece) → AtLevel 0 base e → AtLevel 11 place f → (level : ℕ) →

@@ -4,7 +4,7 @@ use Rattle.sc_print.proofs.Common.{Lexeme, List, None, Option, Piece, SimpleKind
 use Rattle.sc_print.proofs.Common.{SpellsBlock, SpellsCall, SpellsCondition, SpellsIf, SpellsKind, SpellsPart}
 use Rattle.sc_print.proofs.Common.{SpellsPlace, SpellsStmtKind, SpellsStmts, StmtKind, StmtKind-F, StmtTree, StmtsSpell}
 use Rattle.sc_print.proofs.Common.{[], all_kept, and_parts, ap, append-nil, append_assoc, ap₂, are_kept, arith}
-use Rattle.sc_print.proofs.Common.{bare_stmt, behind_else, blank, block_words, call_words, chain_words, codes, comma}
+use Rattle.sc_print.proofs.Common.{bare_stmt, after_else, blank, block_words, call_words, chain_words, codes, comma}
 use Rattle.sc_print.proofs.Common.{condition_words, deeper, else_words, ended, eqb-true, equals}
 use Rattle.sc_print.proofs.Common.{everywhere as everywhere_holds, expr_words, false, false≢true, first_line}
 use Rattle.sc_print.proofs.Common.{first_words, for_words, if_words, if◌then◌else◌, indent, is_chain, is_ident, is_kept}
@@ -102,7 +102,7 @@ assigned : (place : ExprTree) (value : List Piece) (P : List Lexeme → Type 0) 
 assigned place value P k take =
     let parts = and_parts _ (is_kept place) k in
     reads (part (place_words place) ∷ fixed blank ∷ written (codes "=") ∷ fixed blank ∷ part value ∷ []) P
-    (λ ts said t is us behind. take ts t us (spelled_at place parts.1 [] 1 ts said, parts.0) (is ∙ tables.equal) behind)
+    (λ ts said t is us following. take ts t us (spelled_at place parts.1 [] 1 ts said, parts.0) (is ∙ tables.equal) following)
 
 pub simple_reads : (k : SimpleKind) → IsTrue (kept_simple k) → Reading (simple_words k) (λ ts. SpellsKind ts k)
 simple_reads (simple.Assign place value) k ts h =
@@ -155,11 +155,11 @@ pub lines_read : (depth : ℕ) (stmts : List StmtTree) → Each (Of Reads) stmts
 lines_read depth [] each = reads [] _ (record { others = []; spelled = spell.none; same = refl })
 lines_read depth (s ∷ stmts) each =
     let words = (stmt_layout s).words depth in
-    reads (part (line_of depth words) ∷ part _ ∷ []) _ (λ front said back behind.
-    let first = each.0 depth front (said ∙ line_symbols depth words) in
-    let rest = lines_read depth stmts each.1 back behind in
+    reads (part (line_of depth words) ∷ part _ ∷ []) _ (λ leading said back following.
+    let first = each.0 depth leading (said ∙ line_symbols depth words) in
+    let rest = lines_read depth stmts each.1 back following in
     record {
-      others = record { line = first_line front; kind = first.kind } ∷ rest.others;
+      others = record { line = first_line leading; kind = first.kind } ∷ rest.others;
       spelled = spell.next first.spelled rest.spelled;
       same = ap₂ (λ x xs. x ∷ xs) (same_line _ _ s first.same) rest.same;
     })
@@ -204,9 +204,9 @@ chain_reads depth s (x ∷ xs) each q u is vs h =
 else_reads : (depth : ℕ) (stmts : List StmtTree) → Each (Of Reads) stmts →
     Reading (else_words depth (layouts stmts)) (λ ts. Else stmts ts)
 else_reads depth [] each ts h = reads [] (λ us. Else [] us) (no_else refl) ts h
-else_reads depth (s ∷ stmts) each ts h = reads (written _ ∷ part (behind_else depth (layouts (s ∷ stmts))) ∷ [])
+else_reads depth (s ∷ stmts) each ts h = reads (written _ ∷ part (after_else depth (layouts (s ∷ stmts))) ∷ [])
     (λ us. Else (s ∷ stmts) us) (λ u is vs said. go u is _ refl vs said) ts (h ∙ ap
-    (λ b. symbols (if b then [] else (blank ∷ word (codes "else") ∷ blank ∷ behind_else depth (layouts (s ∷ stmts)))))
+    (λ b. symbols (if b then [] else (blank ∷ word (codes "else") ∷ blank ∷ after_else depth (layouts (s ∷ stmts)))))
     some)
   where
     some : (length (layouts (s ∷ stmts)) == 0) ≡ false
@@ -238,7 +238,7 @@ if_reads c t e kept_c at_t at_e depth = reads (written (codes "if") ∷ part (in
         {vs : List Lexeme} → Else e vs → Spelled (first ∷ (ts ++ (us ++ vs))) true (stmt.If c t e)
     go first is ts us cond b (no_else r) = chosen (stmt.If c t e) (stmt.If c b.others []) (subst
         (λ ws. SpellsIf (first ∷ (ts ++ ws)) (stmt.If c b.others [])) (sym (append-nil us))
-        (spell.alone first is cond b.spelled)) (same_as b.others [] b.same r)
+        (spell.lone_if first is cond b.spelled)) (same_as b.others [] b.same r)
     go first is ts us cond b (else_if u {vs = vs} kind said i r) =
         let others : List StmtTree = record { line = first_line vs; kind = kind } ∷ [] in
         chosen (stmt.If c t e) (stmt.If c b.others others)

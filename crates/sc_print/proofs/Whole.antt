@@ -108,8 +108,8 @@ section_with tree decls name kept_exports kept_imports read ts h =
     let imports : List Piece = flat_map import_words tree.imports in
     reads (written (heading_text tree.name) ∷ part (exports ++ imports) ∷ part decls ∷ [])
     (λ us. (other : SectionTree) × SpellsSection tree.line us other × SameButLines other tree)
-    (λ t is front directed back declared.
-    let d = exports_read tree.exports tree.imports kept_exports kept_imports front directed in
+    (λ t is leading directed back declared.
+    let d = exports_read tree.exports tree.imports kept_exports kept_imports leading directed in
     let ds = read back declared in
     let other : SectionTree = record {
       name = tree.name;
@@ -152,8 +152,8 @@ pub cut_with : (tree : SectionTree) → IsTrue (kept_section tree) → (decls : 
     (flat_map import_words tree.imports ++ decls)) in Found (text_of words) 0 (symbols words)
 cut_with tree k decls apart =
     let kept = keeps tree k in
-    let behind = flat_map export_words tree.exports ++ (flat_map import_words tree.imports ++ decls) in
-    found_lines _ (heading_begins (tree.name ++ 10 ∷ text_of behind)) (line (heading_line_is _ kept.name)
+    let following = flat_map export_words tree.exports ++ (flat_map import_words tree.imports ++ decls) in
+    found_lines _ (heading_begins (tree.name ++ 10 ∷ text_of following)) (line (heading_line_is _ kept.name)
     (exports_lined tree.exports kept.exports _ (imports_lined tree.imports kept.imports _ (tidy apart)))) [] refl refl
 
 pub section_cut : (tree : SectionTree) → IsTrue (kept_section tree) →
@@ -172,8 +172,8 @@ pub decl_symbols : (d : Decl) → symbols (dense_decl d) ≡ symbols (decl_words
 decl_symbols (decl.Struct tree) = refl
 decl_symbols _ = refl
 
-same_behind : (a b c : List Piece) → symbols b ≡ symbols c → symbols (a ++ b) ≡ symbols (a ++ c)
-same_behind a b c h = joined_symbols a b ∙ ap (λ s. symbols a ++ s) h ∙ sym (joined_symbols a c)
+same_after : (a b c : List Piece) → symbols b ≡ symbols c → symbols (a ++ b) ≡ symbols (a ++ c)
+same_after a b c h = joined_symbols a b ∙ ap (λ s. symbols a ++ s) h ∙ sym (joined_symbols a c)
 
 decls_symbols : (ds : List Decl) → symbols (flat_map dense_decl ds) ≡ symbols (flat_map decl_words ds)
 decls_symbols [] = refl
@@ -186,8 +186,8 @@ section_symbols tree =
     let imports = flat_map import_words tree.imports in
     let dense = flat_map dense_decl tree.decls in
     let decls = flat_map decl_words tree.decls in
-    same_behind (heading_words _) (exports ++ (imports ++ dense)) (exports ++ (imports ++ decls)) (same_behind exports
-    (imports ++ dense) (imports ++ decls) (same_behind imports dense decls (decls_symbols _)))
+    same_after (heading_words _) (exports ++ (imports ++ dense)) (exports ++ (imports ++ decls)) (same_after exports
+    (imports ++ dense) (imports ++ decls) (same_after imports dense decls (decls_symbols _)))
 
 pub dense_cut : (tree : SectionTree) → IsTrue (kept_section tree) →
     SaysAll (dense_text tree) (symbols (section_words tree))

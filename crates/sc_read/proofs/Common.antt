@@ -9,7 +9,7 @@ pub use Rattle.std.proofs.lemmas.Option.{none-some}
 pub use Rattle.std.proofs.lemmas.Result.{err_from_is_err_and}
 pub use Rattle.std.specs.List.{AllByRecursion, AllZip}
 pub use Rattle.sc_lex.proofs.Gaps.{gap_fits, one_gap, same_unless, slash_first, star_first, token_positive}
-pub use Rattle.sc_lex.proofs.Wording.{begins_with, front_byte}
+pub use Rattle.sc_lex.proofs.Wording.{begins_with, prefix_byte}
 pub use Rattle.sc_lex.specs.Prelude.{AreSections, Cuts, IsBadHeading, IsCut, IsGap, IsSection, IsSplit, IsStuck}
 pub use Rattle.sc_lex.specs.Prelude.{IsToken, NoHeading, RefusesBytes, RefusesHeading, allows_directive}
 pub use Rattle.sc_lex.specs.Prelude.{begins_block_comment, begins_line, begins_line_comment, block_comment}

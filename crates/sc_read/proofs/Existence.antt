@@ -60,16 +60,16 @@ module _ (text : List ℕ) where
       record { heading = h; name = is; start = refl; line = refl; bytes = refl; within = within; whole = n.clear }
 
   -- a bad line after a section is the first one
-  bad_behind : (at next : ℕ) (name : List ℕ) → name_at text at ≡ Some name → IsNext (at + 1) next → IsFirstBad next →
+  bad_after : (at next : ℕ) (name : List ℕ) → name_at text at ≡ Some name → IsNext (at + 1) next → IsFirstBad next →
       IsFirstBad at
-  bad_behind at next name is n b = record {
+  bad_after at next name is n b = record {
     at = b.at;
     low = omega (arith, n.low, b.low);
     bad = b.bad;
     first = λ before low high bad. ⊎_elim (λ inside. ⊎_elim (λ less. n.clear before (omega arith) inside bad.heading)
         (λ le. let same : before ≡ at = omega arith in
         none-some name (sym (subst (λ k. name_at text k ≡ None) same bad.nameless) ∙ is)) (cases_lt at before))
-        (λ behind. b.first before behind high bad) (cases_lt before next);
+        (λ following. b.first before following high bad) (cases_lt before next);
   }
 
   abbrev Splits : ℕ → Type 0
@@ -94,7 +94,7 @@ module _ (text : List ℕ) where
       let below = n.1.low in
       elim (next n.0 n.1.high (omega arith) n.1.heading) [
         | inl s ↦ inl (_, section (section_at at n.0 name) (is_section at n.0 name heading e n.1) s.1)
-        | inr bad ↦ inr (bad_behind at n.0 name e n.1 bad)
+        | inr bad ↦ inr (bad_after at n.0 name e n.1 bad)
       ]
 
   sections_from : (fuel at : ℕ) → at ≤ length text → length text ≤ at + fuel →
@@ -116,9 +116,9 @@ module _ (text : List ℕ) where
           take n.0 text,
           s.0,
           record {
-            front = ap (λ k. take k text) (sym long);
+            prefix = ap (λ k. take k text) (sym long);
             before = subst (λ k. NoHeading text 0 k) (sym long) n.1.clear;
-            behind = subst (λ k. AreSections text k (length text) s.0) (sym long) s.1;
+            following = subst (λ k. AreSections text k (length text) s.0) (sym long) s.1;
           },
         )
         | inr b ↦ inr (
@@ -147,7 +147,7 @@ module _ (text : List ℕ) where
     ]
     | inr s ↦ inr (
       line_after (line_at text _) (newlines (take s.to _)),
-      here (record { at = s.to; tokens = s.tokens; front = s.cuts; stuck = s.stuck; phase = refl; line = refl }),
+      here (record { at = s.to; tokens = s.tokens; prefix = s.cuts; stuck = s.stuck; phase = refl; line = refl }),
     )
   ]
 
@@ -199,7 +199,7 @@ module _ (text : List ℕ) where
 
   after_lex : (preamble : List ℕ) (ss : List Section) (before : List Token) (cuts : List (List Token)) →
       IsSplit text preamble ss → IsCut preamble before → AreCutInto (map part_of ss) cuts → Either
-  after_lex preamble ss [] cuts split cut each = elim (read_sections ss cuts (in_text split.behind) each) [
+  after_lex preamble ss [] cuts split cut each = elim (read_sections ss cuts (in_text split.following) each) [
     | inl t ↦ inl (t.0, record { sections = map part_of ss; lexed = lexed cuts split cut each; each = t.1 })
     | inr f ↦ inr (phase.Syntax, f.0, in_section _ (lexed cuts split cut each) f.1)
   ]

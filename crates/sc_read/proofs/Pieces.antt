@@ -54,7 +54,7 @@ find p from (suc n) = find_more p from n (find p (from + 1) n) _ refl
 record IsLast (p : ℕ → Bool) (n at : ℕ) : Type 0 where
   high : at ≤ n
   holds : p at ≡ true
-  last : (behind : ℕ) → at < behind → behind ≤ n → p behind ≡ true → ⊥
+  last : (following : ℕ) → at < following → following ≤ n → p following ≡ true → ⊥
 
 abbrev FoundLast : (ℕ → Bool) → ℕ → Type 0
 FoundLast p n = ((at : ℕ) × IsLast p n at) ⊎ ((at : ℕ) → at ≤ n → p at ≡ true → ⊥)
@@ -66,7 +66,7 @@ last_of p n = elim (find (λ k. p (n - k)) 0 (n + 1)) [
     record {
       high = omega arith;
       holds = f.1.holds;
-      last = λ behind low high h. f.1.first (n - behind) (omega arith) (omega arith) (at behind high h);
+      last = λ following low high h. f.1.first (n - following) (omega arith) (omega arith) (at following high h);
     },
   )
   | inr nowhere ↦ inr (λ k low h. nowhere (n - k) (omega arith) (omega arith) (at k low h))
@@ -196,15 +196,15 @@ module _ (bytes : List ℕ) where
   abbrev Ways : ℕ → Type 0
   Ways at = ((tokens : List Token) × Cuts bytes at (length bytes) tokens) ⊎ IsStopped at
 
-  behind_gap : (at n : ℕ) → IsGap (drop at bytes) n → Ways (at + n) → Ways at
-  behind_gap at n g w = elim w [
+  after_gap : (at n : ℕ) → IsGap (drop at bytes) n → Ways (at + n) → Ways at
+  after_gap at n g w = elim w [
     | inl c ↦ inl (c.0, gap n g c.1)
     | inr s ↦ inr (record { to = s.to; tokens = s.tokens; cuts = gap n g s.cuts; stuck = s.stuck })
   ]
 
-  behind_token : (at : ℕ) (kind : TokenKind) (n : ℕ) → IsToken (allows_directive bytes at) (drop at bytes) kind n →
+  after_token : (at : ℕ) (kind : TokenKind) (n : ℕ) → IsToken (allows_directive bytes at) (drop at bytes) kind n →
       Ways (at + n) → Ways at
-  behind_token at kind n t w = elim w [
+  after_token at kind n t w = elim w [
     | inl c ↦ inl (token_at bytes at kind n ∷ c.0, token kind n t c.1)
     | inr s ↦ inr (record { to = s.to; tokens = _; cuts = token kind n t s.cuts; stuck = s.stuck })
   ]
@@ -215,10 +215,10 @@ module _ (bytes : List ℕ) where
   ways_here : (fuel at : ℕ) → at < length bytes → length bytes ≤ at + suc fuel →
       ((next : ℕ) → next ≤ length bytes → length bytes ≤ next + fuel → Ways next) → Ways at
   ways_here fuel at more high next = elim (decide_gap (drop at bytes)) [
-    | inl g ↦ behind_gap at g.0 g.1 (let fits = gap_fits g.1 in let long = length-drop at bytes in
+    | inl g ↦ after_gap at g.0 g.1 (let fits = gap_fits g.1 in let long = length-drop at bytes in
         next _ (omega arith) (omega arith))
     | inr no_gap ↦ elim (decide_token _ _) [
-      | inl t ↦ behind_token at t.0 t.1 t.2 (let some = token_positive t.1 t.2 in let within = t.2.within in
+      | inl t ↦ after_token at t.0 t.1 t.2 (let some = token_positive t.1 t.2 in let within = t.2.within in
           let long = length-drop at bytes in next _ (omega arith) (omega arith))
       | inr no_token ↦ let stuck : IsStuck bytes at = record { more = more; no_gap = no_gap; no_token = no_token } in
           inr (record { to = at; tokens = []; cuts = nothing; stuck = stuck })

@@ -37,15 +37,15 @@ same_sections {text} (section first g others) (section first' g' others') same e
 -- no compartment line stands before the end of the preamble
 not_before : {text p q : List ℕ} {ss ss' : List Section} → IsSplit text p ss → IsSplit text q ss' →
     length p < length q → ⊥
-not_before {p = p} c d less = d.before _ (omega arith) less (begins c.behind (omega (arith, sections_rise d.behind)))
+not_before {p = p} c d less = d.before _ (omega arith) less (begins c.following (omega (arith, sections_rise d.following)))
 
 pub same_preamble : {text p q : List ℕ} {ss ss' : List Section} → IsSplit text p ss → IsSplit text q ss' → p ≡ q
-same_preamble {text} {p} {q} c d = c.front ∙
-    ap (λ n. take n text) (same_unless (length p) (length q) (not_before c d) (not_before d c)) ∙ sym d.front
+same_preamble {text} {p} {q} c d = c.prefix ∙
+    ap (λ n. take n text) (same_unless (length p) (length q) (not_before c d) (not_before d c)) ∙ sym d.prefix
 
 pub same_parts : {text p q : List ℕ} {ss ss' : List Section} → IsSplit text p ss → IsSplit text q ss' →
     map part_of ss ≡ map part_of ss'
-same_parts c d = same_sections c.behind d.behind (ap length (same_preamble c d)) refl refl
+same_parts c d = same_sections c.following d.following (ap length (same_preamble c d)) refl refl
 
 good_from : {text : List ℕ} {from end : ℕ} {ss : List Section} → AreSections text from end ss → (at : ℕ) → from ≤ at →
     at < end → IsBadHeading text at → ⊥
@@ -54,10 +54,10 @@ good_from {text} {from} (section {next = next} first g others) at low high bad =
     ⊎_elim (λ inside. ⊎_elim (λ less. g.whole at (omega arith) inside bad.heading)
     (λ le. let same : at ≡ from = omega arith in none-some first.name
     (sym (subst (λ k. name_at text k ≡ None) same bad.nameless) ∙ g.name)) (cases_lt from at))
-    (λ behind. good_from others at behind high bad) (cases_lt at next)
+    (λ following. good_from others at following high bad) (cases_lt at next)
 
 -- no compartment line of a split text is bad
 pub split_good : {text p : List ℕ} {ss : List Section} → IsSplit text p ss → (at : ℕ) → IsBadHeading text at → ⊥
 split_good {text} {p} c at bad =
     ⊎_elim (λ less. c.before at (omega arith) less bad.heading)
-    (λ le. good_from c.behind at le (heading_within text at bad.heading) bad) (cases_lt at (length p))
+    (λ le. good_from c.following at le (heading_within text at bad.heading) bad) (cases_lt at (length p))

@@ -4,7 +4,7 @@ use Rattle.sc_read.proofs.Common.{HasTokens, HasTree, IfOk, IsCut, IsCutInto, Is
 use Rattle.sc_read.proofs.Common.{IsRead, IsSplit, IsTreeOf, IsUncut, IsUnread, List, None, Ok, Part, PassesLex, Phase}
 use Rattle.sc_read.proofs.Common.{Reads, Refusal, RefusesBytes, RefusesHeading, RefusesTokens, Result, Section}
 use Rattle.sc_read.proofs.Common.{SectionTree, Some, Token, [], and_parts, ap, arith, bad_heading, begins_line}
-use Rattle.sc_read.proofs.Common.{block_comment, codes, drop, false, false≢true, front_byte, gap, get_or, get_or-take}
+use Rattle.sc_read.proofs.Common.{block_comment, codes, drop, false, false≢true, prefix_byte, gap, get_or, get_or-take}
 use Rattle.sc_read.proofs.Common.{here, in_preamble, in_section, is_white_space, later, length, length-drop}
 use Rattle.sc_read.proofs.Common.{length-take-le, lexemes_of, line_after, line_at, line_comment, map, newlines, none}
 use Rattle.sc_read.proofs.Common.{none-some, nothing, part_of, refl, section, slash_first, slice_get, slice_index}
@@ -22,11 +22,11 @@ zip_push R (a ∷ xs) [] x y h r = absurd h
 zip_push R (a ∷ xs) (b ∷ ys) x y h r = (h.0, zip_push R xs ys x y h.1 r)
 
 -- the first bad one of some items is also the first after more that are good
-pub first_behind : {A B : Type 0} {Good Bad : A → Type 0} (R : A → B → Type 0) → ((x : A) (y : B) → R x y → Good x) →
+pub first_after : {A B : Type 0} {Good Bad : A → Type 0} (R : A → B → Type 0) → ((x : A) (y : B) → R x y → Good x) →
     (xs : List A) (ys : List B) (more : List A) → AllZip R xs ys → First Good Bad more → First Good Bad (xs ++ more)
-first_behind R good [] ys more h f = f
-first_behind R good (x ∷ xs) [] more h f = absurd h
-first_behind R good (x ∷ xs) (y ∷ ys) more h f = later (good x y h.0) (first_behind R good xs ys more h.1 f)
+first_after R good [] ys more h f = f
+first_after R good (x ∷ xs) [] more h f = absurd h
+first_after R good (x ∷ xs) (y ∷ ys) more h f = later (good x y h.0) (first_after R good xs ys more h.1 f)
 
 -- A section lies in the text, and begins with a compartment line.
 pub record InText (text : List ℕ) (s : Section) : Type 0 where
@@ -39,7 +39,7 @@ pub in_text : {text : List ℕ} {at end : ℕ} {ss : List Section} → AreSectio
 in_text none = tt
 in_text {text} {at} (section {next = next} first g others) =
     let begins = (and_parts (begins_line text at) _ g.heading).1 in
-    let sign = front_byte (drop at text) (codes "#pragma compartment ") 0 begins (omega arith) in
+    let sign = prefix_byte (drop at text) (codes "#pragma compartment ") 0 begins (omega arith) in
     let long = length-drop at text in
     let within = g.within in
     let fits : next - at ≤ length (drop at text) = omega arith in
@@ -95,7 +95,7 @@ uncut_at : (text : List ℕ) (part : Part) (line : ℕ) (refusal : Refusal) → 
 uncut_at text part line refusal same r = record {
   at = r.at;
   tokens = r.tokens;
-  front = r.front;
+  prefix = r.prefix;
   stuck = r.stuck;
   phase = refl;
   line = r.line ∙ ap (λ l. line_after l (newlines (take r.at part.bytes))) same;
@@ -136,7 +136,7 @@ module _ (text preamble : List ℕ) (ss : List Section) (divided : IsSplit text 
 
   pub reads : (cuts : List (List Token)) (trees : List SectionTree) → IsCut preamble [] → AllZip IsCutInto ss cuts →
       AllZip IsTreeOf ss trees → Reads text trees
-  reads cuts trees cut each trees_are = let read = trees_read text ss trees (in_text divided.behind) trees_are in
+  reads cuts trees cut each trees_are = let read = trees_read text ss trees (in_text divided.following) trees_are in
       record { sections = map part_of ss; lexed = passes [] cuts cut each; each = read }
 
   fails : (refusal : Refusal) {p : Phase} → refusal.phase ≡ p → Fails text p refusal.line →
@@ -152,7 +152,7 @@ module _ (text preamble : List ℕ) (ss : List Section) (divided : IsSplit text 
       First IsCuttable (λ s. RefusesBytes s.bytes.now s.line refusal) ss → refusal.phase ≡ phase.Lex →
       Fails text refusal.phase refusal.line
   section_uncut before refusal cut f is = fails refusal is
-      (uncut _ ss divided (later (before, cut) (first_uncut text refusal (in_text divided.behind) f)))
+      (uncut _ ss divided (later (before, cut) (first_uncut text refusal (in_text divided.following) f)))
 
   pub preamble_spells : (first : Token) (more : List Token) (cuts : List (List Token)) → IsCut preamble (first ∷ more) →
       AllZip IsCutInto ss cuts → FailsSyntax text first.line
@@ -163,7 +163,7 @@ module _ (text preamble : List ℕ) (ss : List Section) (divided : IsSplit text 
       Fails text refusal.phase refusal.line
   section_unread cuts refusal cut each f is =
       fails refusal is (in_section (map part_of ss) (passes [] cuts cut each)
-      (first_unread text _ (in_text divided.behind) f))
+      (first_unread text _ (in_text divided.following) f))
 
 -- one more section is good
 pub more_sections : {B : Type 0} (R : Section → B → Type 0) (ss : List Section) (ys : List B) (at : ℕ) (s : Section)
@@ -181,7 +181,7 @@ first_bad {Good = Good} {Bad = Bad} R good ss ys at s low is h bad =
     let split =
     ap (λ x. take at ss ++ x ∷ drop (at + 1) ss) is ∙ ap (λ xs. take at ss ++ xs) (sym (drop_more ss at s low)) ∙
     take-append-drop at ss in
-    subst (λ xs. First Good Bad xs) split (first_behind R good _ ys _ h (here bad))
+    subst (λ xs. First Good Bad xs) split (first_after R good _ ys _ h (here bad))
 
 -- as many of the one as of the other
 pub as_many : {A B : Type 0} (R : A → B → Type 0) (xs : List A) (ys : List B) → AllZip R xs ys → length xs ≡ length ys
@@ -204,13 +204,13 @@ pub as_many_from : {A B : Type 0} (R : A → B → Type 0) (xs : List A) (ys : L
 as_many_from R xs ys at h low = omega (arith, length-drop at xs, length-drop at ys, as_many R _ _ h)
 
 -- what follows a place stays, whatever is put there
-pub zip_behind : {A B : Type 0} (R : A → B → Type 0) (xs : List A) (ys : List B) (at : ℕ) (z : B) →
+pub zip_after : {A B : Type 0} (R : A → B → Type 0) (xs : List A) (ys : List B) (at : ℕ) (z : B) →
     AllZip R (drop at xs) (drop at ys) → at < length xs → at < length ys →
     AllZip R (drop (suc at) xs) (drop (suc at) (slice_set ys at z))
-zip_behind R [] ys at z h low few = absurd (omega arith)
-zip_behind R (a ∷ xs) [] at z h low few = absurd (omega arith)
-zip_behind R (a ∷ xs) (b ∷ ys) zero z h low few = h.1
-zip_behind R (a ∷ xs) (b ∷ ys) (suc at) z h low few = zip_behind R xs ys at z h (omega arith) (omega arith)
+zip_after R [] ys at z h low few = absurd (omega arith)
+zip_after R (a ∷ xs) [] at z h low few = absurd (omega arith)
+zip_after R (a ∷ xs) (b ∷ ys) zero z h low few = h.1
+zip_after R (a ∷ xs) (b ∷ ys) (suc at) z h low few = zip_after R xs ys at z h (omega arith) (omega arith)
 
 pub lex_phase : {refusal : Refusal} {ss : List Section} →
     First IsCuttable (λ s. RefusesBytes s.bytes.now s.line refusal) ss → refusal.phase ≡ phase.Lex

@@ -11,12 +11,12 @@ use Rattle.sc_read.proofs.Splits.{same_preamble, same_parts, split_good}
 use Rattle.sc_lex.proofs.Cuts.{gap_and_token, token_le}
 
 module _ (bytes : List ℕ) where
-  no_gap_behind : {n : ℕ} (at : ℕ) → length bytes ≤ at → IsGap (drop at bytes) n → ⊥
-  no_gap_behind at past h = let fits = gap_fits h in omega (arith, length-drop at bytes)
+  no_gap_after : {n : ℕ} (at : ℕ) → length bytes ≤ at → IsGap (drop at bytes) n → ⊥
+  no_gap_after at past h = let fits = gap_fits h in omega (arith, length-drop at bytes)
 
-  no_token_behind : {directives : Bool} {kind : TokenKind} (n at : ℕ) → length bytes ≤ at →
+  no_token_after : {directives : Bool} {kind : TokenKind} (n at : ℕ) → length bytes ≤ at →
       IsToken directives (drop at bytes) kind n → ⊥
-  no_token_behind n at past t = let some = token_positive n t in let within = t.within in
+  no_token_after n at past t = let some = token_positive n t in let within = t.within in
       omega (arith, length-drop at bytes)
 
   -- a token stands at this place
@@ -29,12 +29,12 @@ module _ (bytes : List ℕ) where
   apart nothing nothing same s past = let more = s.more in omega arith
   apart nothing (gap n h d) same s past = s.no_gap n (subst (λ k. IsGap (drop k bytes) n) (sym same) h)
   apart nothing (token kind n t d) same s past = s.no_token kind n (subst (λ k. TokenAt k kind n) (sym same) t)
-  apart {at} (gap n h c) nothing same s past = no_gap_behind at (omega arith) h
+  apart {at} (gap n h c) nothing same s past = no_gap_after at (omega arith) h
   apart {at} (gap n h c) (gap m g d) same s past =
       let long = one_gap h (subst (λ k. IsGap (drop k bytes) m) (sym same) g) in
       apart c d (omega arith) s past
   apart {at} (gap n h c) (token kind m t d) same s past = gap_and_token h (subst (λ k. TokenAt k kind m) (sym same) t)
-  apart {at} (token kind n t c) nothing same s past = no_token_behind n at (omega arith) t
+  apart {at} (token kind n t c) nothing same s past = no_token_after n at (omega arith) t
   apart {at} (token kind n t c) (gap m g d) same s past =
       gap_and_token (subst (λ k. IsGap (drop k bytes) m) (sym same) g) t
   apart {at} (token kind n t c) (token other m u d) same s past =
@@ -45,7 +45,7 @@ module _ (bytes : List ℕ) where
 
   pub cut_refused : (line : ℕ) (refusal : Refusal) → RefusesBytes bytes line refusal → (tokens : List Token) →
       IsCut bytes tokens → ⊥
-  cut_refused line refusal r tokens c = apart r.front c refl r.stuck (omega arith)
+  cut_refused line refusal r tokens c = apart r.prefix c refl r.stuck (omega arith)
 
 -- where each item is good, none is the first bad one
 no_first : {A B : Type 0} {Good Bad : A → Type 0} {R : A → B → Type 0} → ((x : A) (y : B) → R x y → Bad x → ⊥) →

@@ -1,15 +1,15 @@
 -- A call of a function, from its first instruction to its jump back: what its code begins with, and what is left of it.
 use Rattle.sc_relation.proofs.Common.{Activation, All, Begins, BlocksMatch, Cell, Effect, FrameMatches, FrameTree}
-use Rattle.sc_relation.proofs.Common.{Function, HasRoom, IsActivation, IsFrame, IsLeft, IsWellFormed, IsWord, Joint}
+use Rattle.sc_relation.proofs.Common.{Function, FrameFits, IsActivation, IsFrame, IsLeft, IsWellFormed, IsWord, Joint}
 use Rattle.sc_relation.proofs.Common.{Leads, List, LiveAt, Memory as Bytes, Option, Place, Placed, Plan, Protected}
 use Rattle.sc_relation.proofs.Common.{Ready, Registers, Returns, Set, Setting, Settled, Some, Standpoint, StandsFor}
 use Rattle.sc_relation.proofs.Common.{State as Meant, Value, Walks, a0, ap, arith, begun, cases_eq, data_start, done}
-use Rattle.sc_relation.proofs.Common.{eq-eqb, false, inr, length, machine, ne_eqb, no_temps, open_room, put, refl}
+use Rattle.sc_relation.proofs.Common.{eq-eqb, false, inr, length, machine, ne_eqb, no_temps, stack_depth, put, refl}
 use Rattle.sc_relation.proofs.Common.{same_Some, seen_from, slice_get, slice_get_within, sp, stack_size, stack_top}
 use Rattle.sc_relation.proofs.Common.{subst, sym, then_go, walks_steady, wanted, word, ℕ, ⊎_elim, ◌%◌, ◌+◌, ◌<◌, ◌∙◌}
 use Rattle.sc_relation.proofs.Common.{◌≡◌, ◌≢◌, ◌≤◌, ◌⊎◌}
-use Rattle.sc_relation.proofs.Ending.{lives_on, length_closed, LivesOn, room_begun, room_begun_else, room_done}
-use Rattle.sc_relation.proofs.Ending.{room_done_else, told_closed, told_opened}
+use Rattle.sc_relation.proofs.Ending.{lives_on, length_closed, LivesOn, depth_begun, depth_begun_else, depth_done}
+use Rattle.sc_relation.proofs.Ending.{depth_done_else, timed_closed, timed_opened}
 use Rattle.sc_relation.proofs.Held.{held_at_entry}
 use Rattle.sc_relation.proofs.Opening.{Prepared, injection_opened, other_range, lived_before, blocks_opened}
 use Rattle.sc_relation.proofs.Opening.{injection_grows, own_guarded, above_guarded, objects_placed, length_opened}
@@ -43,20 +43,20 @@ closed P x f first = record x { meant = done P.comp f first x.meant }
 module _ (T : Setting) (formed : IsWellFormed T.image) (inputs : All IsWord T.inputs) (P : Standpoint) (f : Function)
     (args : List Value) (address ra_is : ℕ) (x : Joint) (begins : Begins T P f args address ra_is x) where
   -- the meaning's depth, where the frame goes below the stack
-  pub too_deep : (frame : FrameTree) → frame.bytes ≤ f.room → P.bound < data_start P.comp + frame.bytes →
-      stack_size < open_room P.comp (begun P.comp f args x.meant)
+  pub too_deep : (frame : FrameTree) → frame.bytes ≤ f.frame_size → P.bound < data_start P.comp + frame.bytes →
+      stack_size < stack_depth P.comp (begun P.comp f args x.meant)
   too_deep frame roomy low =
       omega (
         arith,
         roomy,
         low,
-        begins.settled.room P.comp begins.honest,
+        begins.settled.depth P.comp begins.honest,
         begins.base.floor,
-        room_begun P.comp P.comp f x.meant args refl,
+        depth_begun P.comp P.comp f x.meant args refl,
       )
 
   module _ (frame : FrameTree) (places : List Place) (nodes low : ℕ) (whole : IsFrame frame)
-      (room : HasRoom f.cells places nodes frame) (roomy : frame.bytes ≤ f.room)
+      (frame_fits : FrameFits f.cells places nodes frame) (roomy : frame.bytes ≤ f.frame_size)
       (bound_is : P.bound ≡ low + frame.bytes) (start : data_start P.comp ≤ low) where
     abbrev pub A : Activation
     A = activated P x frame low ra_is
@@ -70,7 +70,7 @@ module _ (T : Setting) (formed : IsWellFormed T.image) (inputs : All IsWord T.in
       honest = begins.honest;
       known = omega (arith, begins.settled.steady.active, formed.few_comps);
       frame = whole;
-      room = room;
+      frame_fits = frame_fits;
       aligned = omega (arith, begins.base.aligned, bound_is, whole.bytes);
       low = start;
       high = omega (arith, begins.base.high, bound_is);
@@ -113,7 +113,7 @@ module _ (T : Setting) (formed : IsWellFormed T.image) (inputs : All IsWord T.in
 
       grows : (k b a : ℕ) → x.inj k b ≡ Some a → y.inj k b ≡ Some a
       grows = injection_grows T.image T.performs P.floor x.inj x.meant.memory x.bytes bytes P.comp low frame f.cells
-          args formed places nodes whole room begins.settled.blocks prepared
+          args formed places nodes whole frame_fits begins.settled.blocks prepared
 
       floor_there : (k : ℕ) → k ≢ P.comp → put P.floor P.comp low k ≡ P.floor k
       floor_there k d = rw (ne_eqb k P.comp d) refl
@@ -121,46 +121,46 @@ module _ (T : Setting) (formed : IsWellFormed T.image) (inputs : All IsWord T.in
       floor_here : (k : ℕ) → k ≡ P.comp → put P.floor P.comp low k ≡ low
       floor_here k e = rw (eq-eqb k P.comp e) refl
 
-      room_opened : (k : ℕ) → T.performs k ≡ false → stack_top k ≤ put P.floor P.comp low k + open_room k y.meant
-      room_opened k honest = ⊎_elim
+      depth_opened : (k : ℕ) → T.performs k ≡ false → stack_top k ≤ put P.floor P.comp low k + stack_depth k y.meant
+      depth_opened k honest = ⊎_elim
           (λ e. (let same : P.floor k ≡ P.floor P.comp = ap P.floor e in
           omega (
             arith,
-            begins.settled.room k honest,
+            begins.settled.depth k honest,
             floor_here k e,
             same,
             begins.base.floor,
             bound_is,
             roomy,
-            room_begun k P.comp f x.meant args e,
+            depth_begun k P.comp f x.meant args e,
           )))
           (λ d. omega (
             arith,
-            begins.settled.room k honest,
+            begins.settled.depth k honest,
             floor_there k d,
-            room_begun_else k P.comp f x.meant args d,
+            depth_begun_else k P.comp f x.meant args d,
           )) (cases_eq k P.comp)
 
       pub settled_entered : Settled T (seen_from A) y
       settled_entered = record {
         blocks = blocks_opened T.image T.performs P.floor x.inj x.meant.memory x.bytes bytes P.comp low frame f.cells
-            args formed places nodes whole room begins.settled.blocks prepared;
+            args formed places nodes whole frame_fits begins.settled.blocks prepared;
         globals = λ k number honest l. grows k number _ (begins.settled.globals k number honest l);
         saved = λ k d honest. begins.settled.saved k d honest ∙ sym (floor_there k d);
         inputs = begins.settled.inputs;
         steady = walks_steady T.image T.inputs formed inputs n _ _ enters.walks begins.settled.steady;
         came = came_by T n _ _ enters.walks begins.settled.came;
-        room = room_opened;
-        told = told_opened (length x.meant.trace) P.comp f.room x.meant.frames begins.settled.told;
+        frame_fits = depth_opened;
+        timed = timed_opened (length x.meant.trace) P.comp f.frame_size x.meant.frames begins.settled.timed;
       }
 
       pub frame_entered : FrameMatches T.image A y.inj y.meant.memory y.bytes
       frame_entered = record {
         ra = enters.ra;
         guard = λ i offset e. own_guarded T.image T.performs P.floor x.inj x.meant.memory x.bytes bytes P.comp low frame
-            f.cells args formed places nodes whole room begins.settled.blocks prepared i offset begins.honest e;
+            f.cells args formed places nodes whole frame_fits begins.settled.blocks prepared i offset begins.honest e;
         objects = objects_placed T.image T.performs P.floor x.inj x.meant.memory x.bytes bytes P.comp low frame f.cells
-            args formed places nodes whole room begins.settled.blocks prepared;
+            args formed places nodes whole frame_fits begins.settled.blocks prepared;
       }
 
       -- the code of the body begins with all that it takes
@@ -180,7 +180,7 @@ module _ (T : Setting) (formed : IsWellFormed T.image) (inputs : All IsWord T.in
       protected_entered k q p = record {
         honest = p.honest;
         guard = above_guarded T.image T.performs P.floor x.inj x.meant.memory x.bytes bytes P.comp low frame f.cells
-            args formed places nodes whole room begins.settled.blocks prepared k q p.guard
+            args formed places nodes whole frame_fits begins.settled.blocks prepared k q p.guard
             (λ e. omega (arith, p.own e, bound_is));
         own = λ e. omega (arith, p.own e, bound_is);
         other = λ d. omega (arith, p.other d, floor_there k d);
@@ -227,19 +227,19 @@ module _ (T : Setting) (formed : IsWellFormed T.image) (inputs : All IsWord T.in
         all_grows : (k b a : ℕ) → x.inj k b ≡ Some a → z.inj k b ≡ Some a
         all_grows k b a e = leads.effect.grows k b a (grows k b a e)
 
-        rooms_same : (k : ℕ) → open_room k end.meant ≡ open_room k x.meant
-        rooms_same k = ⊎_elim
+        depths_same : (k : ℕ) → stack_depth k end.meant ≡ stack_depth k x.meant
+        depths_same k = ⊎_elim
             (λ e. omega (
               arith,
-              room_done k P.comp f z.meant first e,
-              room_begun k P.comp f x.meant args e,
-              leads.effect.rooms k,
+              depth_done k P.comp f z.meant first e,
+              depth_begun k P.comp f x.meant args e,
+              leads.effect.depths k,
             ))
             (λ d. omega (
               arith,
-              room_done_else k P.comp f z.meant first d,
-              room_begun_else k P.comp f x.meant args d,
-              leads.effect.rooms k,
+              depth_done_else k P.comp f z.meant first d,
+              depth_begun_else k P.comp f x.meant args d,
+              leads.effect.depths k,
             )) (cases_eq k P.comp)
 
         pub effect_closed : Effect T P x end
@@ -248,7 +248,7 @@ module _ (T : Setting) (formed : IsWellFormed T.image) (inputs : All IsWord T.in
           lived = λ k b xs honest h.
               (let l : LivedLong k b xs = lived_long k b xs honest h in (l.old, l.was, l.long));
           keeps = λ k q p. leads.effect.keeps k q (protected_entered k q p) ∙ kept_entered k q p;
-          rooms = rooms_same;
+          depths = depths_same;
         }
 
         pub leads_closed : Leads T P x end (n + budget) left
@@ -294,8 +294,8 @@ module _ (T : Setting) (formed : IsWellFormed T.image) (inputs : All IsWord T.in
           inputs = settled.inputs;
           steady = settled.steady;
           came = settled.came;
-          room = λ k honest. omega (arith, begins.settled.room k honest, rooms_same k);
-          told = told_closed (length z.meant.trace) P.comp f.room z.meant.frames settled.told;
+          depth = λ k honest. omega (arith, begins.settled.depth k honest, depths_same k);
+          timed = timed_closed (length z.meant.trace) P.comp f.frame_size z.meant.frames settled.timed;
         }
 
       -- at the jump back the call is left

@@ -2,9 +2,9 @@
 use Rattle.sc_relation.proofs.Common.{All, All-cons, All-head, All-nil, All-tail, List, [], ◌++◌, ◌∷◌}
 
 module _ {X : Type 0} (P : X → Type 0) where
-  pub all_front : (xs ys : List X) → All P (xs ++ ys) → All P xs
-  all_front [] ys h = All-nil P
-  all_front (x ∷ xs) ys h = All-cons P x xs (All-head P x (xs ++ ys) h) (all_front xs ys (All-tail P x (xs ++ ys) h))
+  pub all_prefix : (xs ys : List X) → All P (xs ++ ys) → All P xs
+  all_prefix [] ys h = All-nil P
+  all_prefix (x ∷ xs) ys h = All-cons P x xs (All-head P x (xs ++ ys) h) (all_prefix xs ys (All-tail P x (xs ++ ys) h))
 
   pub all_back : (xs ys : List X) → All P (xs ++ ys) → All P ys
   all_back [] ys h = h

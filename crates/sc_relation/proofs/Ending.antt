@@ -1,8 +1,8 @@
 -- A call ends: its blocks no longer live, and the stack depth is less by its frame size.
 use Rattle.sc_relation.proofs.Common.{AllBefore, Block, Blocks, Bool, Cell, Closed, FrameChange, Function, List, LiveAt}
 use Rattle.sc_relation.proofs.Common.{Opened, Option, Some, State as Meant, Value, [], ap, arith, begun, cases_eq, done}
-use Rattle.sc_relation.proofs.Common.{ended, eq-eqb, false, if◌then◌else◌, inl, inr, length, ne_eqb, open_room, refl}
-use Rattle.sc_relation.proofs.Common.{room_after, same_Some, slice_get, suc, sym, true, with_blocks, zero, ℕ, ⊎_elim}
+use Rattle.sc_relation.proofs.Common.{ended, eq-eqb, false, if◌then◌else◌, inl, inr, length, ne_eqb, stack_depth, refl}
+use Rattle.sc_relation.proofs.Common.{depth_after, same_Some, slice_get, suc, sym, true, with_blocks, zero, ℕ, ⊎_elim}
 use Rattle.sc_relation.proofs.Common.{◌++◌, ◌+◌, ◌-◌, ◌<◌, ◌==◌, ◌∙◌, ◌∷◌, ◌≡◌, ◌≢◌, ◌≤◌, ◌⊎◌}
 use Rattle.sc_core.specs.Prelude.{Memory}
 use Rattle.sc_relation.proofs.Access.{LivesIn}
@@ -72,48 +72,48 @@ module _ (c first count : ℕ) (memory : Memory) where
       (λ n. ap length (closed_there k n)) (cases_eq k c)
 
 -- the last change of frames
-change_by : (k : ℕ) (last : FrameChange) (a b m n : ℕ) (first : Bool) → a ≡ room_after k m (last ∷ []) →
-    b ≡ room_after k n (last ∷ []) → (if first then a else b) ≡ room_after k (if first then m else n) (last ∷ [])
+change_by : (k : ℕ) (last : FrameChange) (a b m n : ℕ) (first : Bool) → a ≡ depth_after k m (last ∷ []) →
+    b ≡ depth_after k n (last ∷ []) → (if first then a else b) ≡ depth_after k (if first then m else n) (last ∷ [])
 change_by k last a b m n true h g = h
 change_by k last a b m n false h g = g
 
-last_change : (k room : ℕ) (xs : List FrameChange) (last : FrameChange) →
-    room_after k room (xs ++ last ∷ []) ≡ room_after k (room_after k room xs) (last ∷ [])
-last_change k room [] last = refl
-last_change k room (Opened told c more ∷ xs) last =
-    change_by k last _ _ (room_after k (room + more) xs) (room_after k room xs) (c == k)
-    (last_change k (room + more) xs last) (last_change k room xs last)
-last_change k room (Closed told c less ∷ xs) last =
-    change_by k last _ _ (room_after k (room - less) xs) (room_after k room xs) (c == k)
-    (last_change k (room - less) xs last) (last_change k room xs last)
+last_change : (k depth : ℕ) (xs : List FrameChange) (last : FrameChange) →
+    depth_after k depth (xs ++ last ∷ []) ≡ depth_after k (depth_after k depth xs) (last ∷ [])
+last_change k depth [] last = refl
+last_change k depth (Opened timed c more ∷ xs) last =
+    change_by k last _ _ (depth_after k (depth + more) xs) (depth_after k depth xs) (c == k)
+    (last_change k (depth + more) xs last) (last_change k depth xs last)
+last_change k depth (Closed timed c less ∷ xs) last =
+    change_by k last _ _ (depth_after k (depth - less) xs) (depth_after k depth xs) (c == k)
+    (last_change k (depth - less) xs last) (last_change k depth xs last)
 
 module _ (k comp : ℕ) (f : Function) (s : Meant) where
-  pub room_begun : (args : List Value) → k ≡ comp → open_room k (begun comp f args s) ≡ open_room k s + f.room
-  room_begun args e = last_change k 0 s.frames (Opened (length s.trace) comp f.room) ∙ rw (eq-eqb comp k (sym e)) refl
+  pub depth_begun : (args : List Value) → k ≡ comp → stack_depth k (begun comp f args s) ≡ stack_depth k s + f.frame_size
+  depth_begun args e = last_change k 0 s.frames (Opened (length s.trace) comp f.frame_size) ∙ rw (eq-eqb comp k (sym e)) refl
 
-  pub room_begun_else : (args : List Value) → k ≢ comp → open_room k (begun comp f args s) ≡ open_room k s
-  room_begun_else args n =
-      last_change k 0 s.frames (Opened (length s.trace) comp f.room) ∙ rw (ne_eqb comp k (λ e. n (sym e))) refl
+  pub depth_begun_else : (args : List Value) → k ≢ comp → stack_depth k (begun comp f args s) ≡ stack_depth k s
+  depth_begun_else args n =
+      last_change k 0 s.frames (Opened (length s.trace) comp f.frame_size) ∙ rw (ne_eqb comp k (λ e. n (sym e))) refl
 
-  pub room_done : (first : ℕ) → k ≡ comp → open_room k (done comp f first s) ≡ open_room k s - f.room
-  room_done first e = last_change k 0 s.frames (Closed (length s.trace) comp f.room) ∙ rw (eq-eqb comp k (sym e)) refl
+  pub depth_done : (first : ℕ) → k ≡ comp → stack_depth k (done comp f first s) ≡ stack_depth k s - f.frame_size
+  depth_done first e = last_change k 0 s.frames (Closed (length s.trace) comp f.frame_size) ∙ rw (eq-eqb comp k (sym e)) refl
 
-  pub room_done_else : (first : ℕ) → k ≢ comp → open_room k (done comp f first s) ≡ open_room k s
-  room_done_else first n =
-      last_change k 0 s.frames (Closed (length s.trace) comp f.room) ∙ rw (ne_eqb comp k (λ e. n (sym e))) refl
+  pub depth_done_else : (first : ℕ) → k ≢ comp → stack_depth k (done comp f first s) ≡ stack_depth k s
+  depth_done_else first n =
+      last_change k 0 s.frames (Closed (length s.trace) comp f.frame_size) ∙ rw (ne_eqb comp k (λ e. n (sym e))) refl
 
 -- the changes of frames that were made within the trace, and one more
 
 next_told : (n : ℕ) (changes : List FrameChange) (change : FrameChange) → AllBefore (suc n) (change ∷ []) →
     AllBefore (suc n) changes → AllBefore (suc n) (changes ++ change ∷ [])
 next_told n [] change one h = one
-next_told n (Opened told c room ∷ changes) change one h = (h.0, next_told n changes change one h.1)
-next_told n (Closed told c room ∷ changes) change one h = (h.0, next_told n changes change one h.1)
+next_told n (Opened timed c size ∷ changes) change one h = (h.0, next_told n changes change one h.1)
+next_told n (Closed timed c size ∷ changes) change one h = (h.0, next_told n changes change one h.1)
 
-pub told_opened : (n comp room : ℕ) (changes : List FrameChange) → AllBefore (suc n) changes →
-    AllBefore (suc n) (changes ++ Opened n comp room ∷ [])
-told_opened n comp room changes h = next_told n changes (Opened n comp room) (omega arith, tt) h
+pub timed_opened : (n comp depth : ℕ) (changes : List FrameChange) → AllBefore (suc n) changes →
+    AllBefore (suc n) (changes ++ Opened n comp size ∷ [])
+timed_opened n comp depth changes h = next_told n changes (Opened n comp size) (omega arith, tt) h
 
-pub told_closed : (n comp room : ℕ) (changes : List FrameChange) → AllBefore (suc n) changes →
-    AllBefore (suc n) (changes ++ Closed n comp room ∷ [])
-told_closed n comp room changes h = next_told n changes (Closed n comp room) (omega arith, tt) h
+pub timed_closed : (n comp depth : ℕ) (changes : List FrameChange) → AllBefore (suc n) changes →
+    AllBefore (suc n) (changes ++ Closed n comp size ∷ [])
+timed_closed n comp depth changes h = next_told n changes (Closed n comp size) (omega arith, tt) h

@@ -1,12 +1,12 @@
 -- What comes of the parts of a statement: it reads what was assigned, it computes what the meaning computes, or both
 -- sides end; and a call that came back.
-use Rattle.sc_relation.proofs.Common.{All, CallTarget, Cause, Comes, ComesBack, Ends, Err, GivenBack, Here, IsClear}
+use Rattle.sc_relation.proofs.Common.{All, CallTarget, Cause, Comes, ComesBack, Ends, Err, ReturnsValue, Here, IsClear}
 use Rattle.sc_relation.proofs.Common.{Joint, Leads, Left, List, Lives, None, Ok, Option, Piece, Ready, Result, Running}
 use Rattle.sc_relation.proofs.Common.{Setting, Some, Standpoint, State as Meant, Temps, Value, a0, and_then, ap, arith}
 use Rattle.sc_relation.proofs.Common.{computed, false, inl, known, live_across, plain_points, read, refl, seen_from}
 use Rattle.sc_relation.proofs.Common.{subst, true, ℕ, ◌+◌, ◌≡◌}
 use Rattle.sc_relation.proofs.Straight.{live_plain, call_from, leads_from, called}
-use Rattle.sc_relation.proofs.Stretches.{shows_here}
+use Rattle.sc_relation.proofs.Stretches.{emits_here}
 
 -- what is known was assigned
 pub known_is : (o : Option Value) (v : Value) → known o ≡ Ok v → o ≡ Some v
@@ -33,7 +33,7 @@ module _ (T : Setting) (R : Running) where
       ((v : V) → result ≡ Ok v → Comes T R lives x budget ends (go v x.meant)) →
       Comes T R lives x budget ends (and_then (computed here line result x.meant) go)
   comes_computed lives x budget ends here line (Ok v) go h = h v refl
-  comes_computed lives x budget ends here line (Err cause) go h = inl (shows_here T P x budget)
+  comes_computed lives x budget ends here line (Err cause) go h = inl (emits_here T P x budget)
 
   pub comes_read : (lives : Lives) (x : Joint) (budget : ℕ) (ends : Ends) (here : Here) (t : ℕ) (temps : Temps)
       (go : Value → Meant → Piece (Left Temps)) →
@@ -48,7 +48,7 @@ module _ (T : Setting) (R : Running) where
     pub y : Joint
     pub meant_is : y.meant ≡ meant
     pub pc : y.pc ≡ x.pc + 4
-    pub value : GivenBack T (y.inj R.activation.here.comp) (y.regs a0) v
+    pub value : ReturnsValue T (y.inj R.activation.here.comp) (y.regs a0) v
     pub leads : Leads T P x y (1 + left) left
     pub ready : Ready T R (live_across reads true dest lives) temps y
 

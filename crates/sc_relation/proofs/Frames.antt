@@ -1,5 +1,5 @@
 -- The words that a frame keeps for itself, and its objects: they lie inside it, and no two meet.
-use Rattle.sc_relation.proofs.Common.{AllPairs, Apart, FrameTree, HasRoom, List, Place, Range, Some, [], all_at, ap}
+use Rattle.sc_relation.proofs.Common.{AllPairs, Apart, FrameTree, FrameFits, List, Place, Range, Some, [], all_at, ap}
 use Rattle.sc_relation.proofs.Common.{ap₂, arith, cases_order, end_of, get_or_from_slice_get, inl, inr, is_there}
 use Rattle.sc_relation.proofs.Common.{length, length-map, map, object_range, own_words, ranges_of, same_Some, slice_get}
 use Rattle.sc_relation.proofs.Common.{slice_get_within, subst₂, suc, zero, zip, ℕ, ⊎_elim, ◌*◌, ◌++◌, ◌+◌, ◌<◌, ◌∙◌}
@@ -34,20 +34,20 @@ object_in (x ∷ xs) (y ∷ ys) zero offset n e f =
 object_in (x ∷ xs) (y ∷ ys) (suc o) offset n e f = object_in xs ys o offset n e f
 
 module _ (cells : List ℕ) (places : List Place) (nodes : ℕ) (frame : FrameTree)
-    (room : HasRoom cells places nodes frame) where
+    (frame_fits : FrameFits cells places nodes frame) where
   own_at : (i offset : ℕ) → slice_get (own_words frame) i ≡ Some offset →
       slice_get (ranges_of cells frame) i ≡ Some (word_at offset)
   own_at i offset e = range_at (own_words frame) _ i offset e
 
   pub own_inside : (i offset : ℕ) → slice_get (own_words frame) i ≡ Some offset → offset + 4 ≤ frame.bytes
   own_inside i offset e =
-      all_at (λ range. end_of range ≤ frame.bytes) (ranges_of cells frame) i (word_at offset) room.inside
+      all_at (λ range. end_of range ≤ frame.bytes) (ranges_of cells frame) i (word_at offset) frame_fits.inside
       (own_at i offset e)
 
   in_order : (i j o u : ℕ) → i < j → slice_get (own_words frame) i ≡ Some o → slice_get (own_words frame) j ≡ Some u →
       Apart o u
   in_order i j o u l e f =
-      pair_at RangesApart (ranges_of cells frame) i j (word_at o) (word_at u) room.apart l (own_at i o e) (own_at j u f)
+      pair_at RangesApart (ranges_of cells frame) i j (word_at o) (word_at u) frame_fits.apart l (own_at i o e) (own_at j u f)
 
   pub own_apart : (i j o u : ℕ) → i ≢ j → slice_get (own_words frame) i ≡ Some o →
       slice_get (own_words frame) j ≡ Some u → Apart o u
@@ -58,26 +58,26 @@ module _ (cells : List ℕ) (places : List Place) (nodes : ℕ) (frame : FrameTr
 
   -- Objects of these sizes in cells.
 
-  abbrev behind : ℕ
-  behind = length (map word_at (own_words frame))
+  abbrev following : ℕ
+  following = length (map word_at (own_words frame))
 
   object_at : (o offset n : ℕ) → slice_get frame.objects o ≡ Some offset → slice_get cells o ≡ Some n →
-      slice_get (ranges_of cells frame) (behind + o) ≡ Some (record { offset = offset; bytes = 4 * n })
+      slice_get (ranges_of cells frame) (following + o) ≡ Some (record { offset = offset; bytes = 4 * n })
   object_at o offset n e f = get_back (map word_at (own_words frame)) _ o ∙ object_in frame.objects cells o offset n e f
 
   pub object_there : (o n : ℕ) → slice_get cells o ≡ Some n → (offset : ℕ) × (slice_get frame.objects o ≡ Some offset)
-  object_there o n e = is_there frame.objects o (omega (arith, slice_get_within cells o n e, room.objects))
+  object_there o n e = is_there frame.objects o (omega (arith, slice_get_within cells o n e, frame_fits.objects))
 
   pub object_inside : (o offset n : ℕ) → slice_get frame.objects o ≡ Some offset → slice_get cells o ≡ Some n →
       offset + 4 * n ≤ frame.bytes
   object_inside o offset n e f =
-      all_at (λ range. end_of range ≤ frame.bytes) (ranges_of cells frame) (behind + o) _ room.inside
+      all_at (λ range. end_of range ≤ frame.bytes) (ranges_of cells frame) (following + o) _ frame_fits.inside
       (object_at o offset n e f)
 
   objects_in_order : (o p a b n k : ℕ) → o < p → slice_get frame.objects o ≡ Some a → slice_get cells o ≡ Some n →
       slice_get frame.objects p ≡ Some b → slice_get cells p ≡ Some k → (a + 4 * n ≤ b) ⊎ (b + 4 * k ≤ a)
   objects_in_order o p a b n k l e f g h =
-      pair_at RangesApart (ranges_of cells frame) (behind + o) (behind + p) _ _ room.apart (omega arith)
+      pair_at RangesApart (ranges_of cells frame) (following + o) (following + p) _ _ frame_fits.apart (omega arith)
       (object_at o a n e f) (object_at p b k g h)
 
   pub objects_apart : (o p a b n k : ℕ) → o ≢ p → slice_get frame.objects o ≡ Some a → slice_get cells o ≡ Some n →
@@ -94,5 +94,5 @@ module _ (cells : List ℕ) (places : List Place) (nodes : ℕ) (frame : FrameTr
       let within : i < length (own_words frame) = slice_get_within (own_words frame) i u e in
       let long : length (map word_at (own_words frame)) ≡ length (own_words frame) =
       length-map (own_words frame) word_at in
-      pair_at RangesApart (ranges_of cells frame) i (behind + o) (word_at u) _ room.apart (omega arith) (own_at i u e)
+      pair_at RangesApart (ranges_of cells frame) i (following + o) (word_at u) _ frame_fits.apart (omega arith) (own_at i u e)
       (object_at o offset n f g)

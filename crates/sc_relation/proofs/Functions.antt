@@ -1,14 +1,14 @@
 -- What comes of a call of a function, from what comes of its body; and of one whose frame goes below the stack.
-use Rattle.sc_relation.proofs.Common.{All, Begins, FrameTree, Function, FunctionGives, Grown, HasRoom, IsFrame}
+use Rattle.sc_relation.proofs.Common.{All, Begins, FrameTree, Function, FunctionGives, Grown, FrameFits, IsFrame}
 use Rattle.sc_relation.proofs.Common.{IsWellFormed, IsWord, Joint, List, Memory as Bytes, Option, Overflows, Piece}
-use Rattle.sc_relation.proofs.Common.{Place, Plan, Reached, Registers, Returns, Running, Set, Setting, Shows, Some}
+use Rattle.sc_relation.proofs.Common.{Place, Plan, Reached, Registers, Returns, Running, Set, Setting, Emits, Some}
 use Rattle.sc_relation.proofs.Common.{Standpoint, State as Meant, Stopped, Traps, Value, Walks, and_then, ap, arith}
 use Rattle.sc_relation.proofs.Common.{begun, data_start, done, done_goes, inl, inr, last, length, machine, more}
-use Rattle.sc_relation.proofs.Common.{open_room, reached, seen_from, slice_get, stack_size, step, subst, sym, then_from}
+use Rattle.sc_relation.proofs.Common.{stack_depth, reached, seen_from, slice_get, stack_size, step, subst, sym, then_from}
 use Rattle.sc_relation.proofs.Common.{then_go, ℕ, ⊎_elim, ◌+◌, ◌<◌, ◌∙◌, ◌≡◌, ◌≤◌, ◌⊎◌}
 use Rattle.sc_image.specs.Prelude.{State}
 use Rattle.sc_base.specs.declared.stop.TrapReason.TheVariants.{Owner}
-use Rattle.sc_relation.proofs.Ending.{told_opened}
+use Rattle.sc_relation.proofs.Ending.{timed_opened}
 use Rattle.sc_relation.proofs.Calling.{activated, entered, Enters, is_left, too_deep}
 
 module _ (T : Setting) (formed : IsWellFormed T.image) (inputs : All IsWord T.inputs) (P : Standpoint) (f : Function)
@@ -22,7 +22,7 @@ module _ (T : Setting) (formed : IsWellFormed T.image) (inputs : All IsWord T.in
 
   -- The frame doesn't fit: the machine stands trapped in the prologue.
   pub overflows_entering : (frame : FrameTree) (steps budget : ℕ) (stands : State) (piece : Piece (Option Value)) →
-      frame.bytes ≤ f.room → P.bound < data_start P.comp + frame.bytes →
+      frame.bytes ≤ f.frame_size → P.bound < data_start P.comp + frame.bytes →
       Walks T.image T.inputs steps (machine P x) stands → step T.image T.inputs stands ≡ Traps Owner →
       stands.active ≡ P.comp → stands.trace ≡ x.meant.trace → steps ≤ budget →
       Grown (begun P.comp f args x.meant) (last piece) → Overflows T P x budget piece
@@ -34,18 +34,18 @@ module _ (T : Setting) (formed : IsWellFormed T.image) (inputs : All IsWord T.in
     honest = ap T.performs active ∙ begins.honest;
     begun = begun P.comp f args x.meant;
     trace = trace;
-    deep = subst (λ c. stack_size < open_room c (begun P.comp f args x.meant)) (sym active)
+    deep = subst (λ c. stack_size < stack_depth c (begun P.comp f args x.meant)) (sym active)
         (too_deep T formed inputs P f args address ra_is x begins frame roomy low);
-    told = told_opened (length x.meant.trace) P.comp f.room x.meant.frames begins.settled.told;
+    timed = timed_opened (length x.meant.trace) P.comp f.frame_size x.meant.frames begins.settled.timed;
     grown = grown;
     costs = record { least = omega arith; most = λ all. omega (arith, few) };
   }
 
   module _ (frame : FrameTree) (places : List Place) (nodes low : ℕ) (whole : IsFrame frame)
-      (room : HasRoom f.cells places nodes frame) (roomy : frame.bytes ≤ f.room)
+      (frame_fits : FrameFits f.cells places nodes frame) (roomy : frame.bytes ≤ f.frame_size)
       (bound_is : P.bound ≡ low + frame.bytes) (start : data_start P.comp ≤ low) (n pc : ℕ) (regs : Registers)
       (bytes : Bytes)
-      (enters : Enters T formed inputs P f args address ra_is x begins frame places nodes low whole room roomy bound_is
+      (enters : Enters T formed inputs P f args address ra_is x begins frame places nodes low whole frame_fits roomy bound_is
       start n pc regs bytes)
       (params : (o n : ℕ) → o < length args → slice_get f.cells o ≡ Some n → 1 ≤ n) (to : ℕ) (plan : Plan) where
     abbrev y : Joint
@@ -60,10 +60,10 @@ module _ (T : Setting) (formed : IsWellFormed T.image) (inputs : All IsWord T.in
     -- what comes of the body: its call is left, or the meaning ends
     abbrev pub BodyGives : ℕ → Piece (Option Value) → Type 0
     BodyGives budget (Reached v s) = Returns T R y budget v s
-    BodyGives budget (Stopped end s) = Shows T Q y budget s
+    BodyGives budget (Stopped end s) = Emits T Q y budget s
 
-    shows_entered : (budget : ℕ) (s : Meant) → Shows T Q y budget s → Shows T P x (n + budget) s
-    shows_entered budget s g = record {
+    emits_entered : (budget : ℕ) (s : Meant) → Emits T Q y budget s → Emits T P x (n + budget) s
+    emits_entered budget s g = record {
       steps = n + g.steps;
       reached = g.reached;
       run = then_go T.image T.inputs enters.walks g.run;
@@ -74,9 +74,9 @@ module _ (T : Setting) (formed : IsWellFormed T.image) (inputs : All IsWord T.in
     gives_entered : (budget : ℕ) (piece : Piece (Option Value)) → BodyGives budget piece →
         FunctionGives T P x (n + budget) ra_is (with_end piece)
     gives_entered budget (Reached v s) g =
-        is_left T formed inputs P f args address ra_is x begins frame places nodes low whole room roomy bound_is start n
+        is_left T formed inputs P f args address ra_is x begins frame places nodes low whole frame_fits roomy bound_is start n
         pc regs bytes enters params plan to budget v s g
-    gives_entered budget (Stopped end s) g = shows_entered budget s g
+    gives_entered budget (Stopped end s) g = emits_entered budget s g
 
     overflows_entered : (budget : ℕ) (piece : Piece (Option Value)) → Overflows T Q y budget piece →
         Overflows T P x (n + budget) (with_end piece)
@@ -89,7 +89,7 @@ module _ (T : Setting) (formed : IsWellFormed T.image) (inputs : All IsWord T.in
       begun = o.begun;
       trace = o.trace;
       deep = o.deep;
-      told = o.told;
+      timed = o.timed;
       grown = more o.begun (last piece) (last (with_end piece)) o.grown
           (then_from piece (λ v t. Reached v (done P.comp f first t))
           (λ v t. reached v t (done P.comp f first t) (done_goes P.comp f first t)));

@@ -1,6 +1,6 @@
 -- The frame of the running call and the values in its places, across what code does.
-use Rattle.sc_relation.proofs.Common.{Activation, Apart, AreHeld, FrameMatches, Guarded, HasRoom, ImageParts, InPlace}
-use Rattle.sc_relation.proofs.Common.{InSlot, Injection, IsClear, IsHeld, List, Means, Memory as Bytes, Null, Option}
+use Rattle.sc_relation.proofs.Common.{Activation, Apart, AreInPlace, FrameMatches, Guarded, FrameFits, ImageParts, InPlace}
+use Rattle.sc_relation.proofs.Common.{InSlot, Injection, IsClear, IsInPlace, List, Means, Memory as Bytes, Null, Option}
 use Rattle.sc_relation.proofs.Common.{Place, Point, Ptr, Register, Registers, Set, Slot, Some, StandsFor, Temps, Value}
 use Rattle.sc_relation.proofs.Common.{Word, ap, apart_from, arith, cases_eq, eq-eqb, ne_eqb, no_temps, own_words}
 use Rattle.sc_relation.proofs.Common.{put_word, refl, register_of, same_Some, slice_get, subst, suc, sym, true}
@@ -69,11 +69,11 @@ module _ (A : Activation) where
   kept_all regs after bytes later same slots (Slot k) = slots k
 
   -- a slot is written
-  module _ (cells : List ℕ) (places : List Place) (nodes : ℕ) (room : HasRoom cells places nodes A.frame)
+  module _ (cells : List ℕ) (places : List Place) (nodes : ℕ) (frame_fits : FrameFits cells places nodes A.frame)
       (k offset w : ℕ) (is_at : slice_get A.frame.slots k ≡ Some offset) where
     own_moved : (i u : ℕ) → slice_get (own_words A.frame) i ≡ Some u → i ≢ suc k → Apart (A.sp + u) (A.sp + offset)
     own_moved i u e n =
-        let apart : Apart u offset = own_apart cells places nodes A.frame room i (suc k) u offset n e is_at in
+        let apart : Apart u offset = own_apart cells places nodes A.frame frame_fits i (suc k) u offset n e is_at in
         apart_from (A.sp + u) (A.sp + offset) (λ x y. omega (arith, apart))
 
     pub own_kept : (bytes : Bytes) (i u : ℕ) → slice_get (own_words A.frame) i ≡ Some u → i ≢ suc k →
@@ -99,9 +99,9 @@ module _ (A : Activation) where
     pub held_kept : (live less : Set) (temps : Temps) → ((t : ℕ) → less t ≡ true → live t ≡ true) →
         ((t : ℕ) (place : Place) → less t ≡ true → slice_get places t ≡ Some place →
         PlaceKept regs after bytes later place) →
-        AreHeld A places inj regs bytes live temps → AreHeld A places more after later less temps
+        AreInPlace A places inj regs bytes live temps → AreInPlace A places more after later less temps
     held_kept live less temps fewer kept h t v on e =
-        let x : IsHeld A places inj regs bytes t v = h t v (fewer t on) e in
+        let x : IsInPlace A places inj regs bytes t v = h t v (fewer t on) e in
         record {
           place = x.place;
           its = x.its;
@@ -112,7 +112,7 @@ module _ (A : Activation) where
     pub held_over_call : (live : Set) (x : Point) (temps : Temps) → IsClear places x → x.calls ≡ true →
         ((t : ℕ) → x.live t ≡ true → live t ≡ true) →
         ((k : ℕ) → PlaceKept regs after bytes later (Slot k)) →
-        AreHeld A places inj regs bytes live temps → AreHeld A places more after later x.live temps
+        AreInPlace A places inj regs bytes live temps → AreInPlace A places more after later x.live temps
     held_over_call live x temps clear calls fewer slots h =
         held_kept live x.live temps fewer
         (λ t place on e. (let slot : InSlot places t = clear.over_calls t calls on in
@@ -124,12 +124,12 @@ module _ (A : Activation) where
         IsClear places x → x.assigned ≡ Some d → slice_get places d ≡ Some place →
         ((t : ℕ) → x.live t ≡ true → t ≢ d → live t ≡ true) →
         ((other : Place) → other ≢ place → PlaceKept regs after bytes later other) →
-        InPlace A more after later place v → AreHeld A places inj regs bytes live temps →
-        AreHeld A places more after later x.live (with_temp d v temps)
+        InPlace A more after later place v → AreInPlace A places inj regs bytes live temps →
+        AreInPlace A places more after later x.live (with_temp d v temps)
     held_assigned live x d place v temps clear assigned its fewer kept value h t u on e =
         ⊎_elim here there (cases_eq t d)
       where
-        here : t ≡ d → IsHeld A places more after later t u
+        here : t ≡ d → IsInPlace A places more after later t u
         here same =
             let now : Some v ≡ with_temp d v temps t = rw (eq-eqb t d same) refl in
             let is : v ≡ u = same_Some v u (now ∙ e) in
@@ -139,10 +139,10 @@ module _ (A : Activation) where
               value = subst (InPlace A more after later place) is value;
             }
 
-        there : t ≢ d → IsHeld A places more after later t u
+        there : t ≢ d → IsInPlace A places more after later t u
         there other =
             let old : temps t ≡ with_temp d v temps t = rw (ne_eqb t d other) refl in
-            let y : IsHeld A places inj regs bytes t u = h t u (fewer t on other) (old ∙ e) in
+            let y : IsInPlace A places inj regs bytes t u = h t u (fewer t on other) (old ∙ e) in
             record {
               place = y.place;
               its = y.its;
@@ -153,5 +153,5 @@ module _ (A : Activation) where
 
   -- where a function begins no temporary is assigned
   pub held_at_entry : (places : List Place) (inj : Injection) (regs : Registers) (bytes : Bytes) (live : Set) →
-      AreHeld A places inj regs bytes live no_temps
+      AreInPlace A places inj regs bytes live no_temps
   held_at_entry places inj regs bytes live t v on e = cc e

@@ -72,8 +72,8 @@ module _ (T : Setting) (R : Running) (formed : IsWellFormed T.image) (words : Al
             leads.run ready.settled.steady;
         came =
             came_by T leads.steps (machine P x) (machine P (record x { pc = pc })) leads.run ready.settled.came;
-        room = ready.settled.room;
-        told = ready.settled.told;
+        depth = ready.settled.depth;
+        timed = ready.settled.timed;
       };
       frame = ready.frame;
       held = ready.held;

@@ -1,22 +1,22 @@
 -- Lines that the linker completed, in parts.
 use Rattle.sc_relation.proofs.Common.{Addresses, CodeAt, ImageParts, Instr, Line, List, None, Option, [], ap, arith}
-use Rattle.sc_relation.proofs.Common.{completed, length, low_after, low_behind, plainly, refl, subst, suc, with_low}
+use Rattle.sc_relation.proofs.Common.{completed, length, low_after, low_of_target, plainly, refl, subst, suc, with_low}
 use Rattle.sc_relation.proofs.Common.{with_target, ℕ, ◌*◌, ◌++◌, ◌+◌, ◌∙◌, ◌∷◌, ◌≡◌}
-use Rattle.sc_hart.proofs.Fetching.{front_at, back_at}
+use Rattle.sc_hart.proofs.Fetching.{prefix_at, back_at}
 
 module _ (addresses : Addresses) where
   pub completed_length : (pc : ℕ) (low : Option ℕ) (lines : List Line) → length (completed addresses pc low lines) ≡
       length lines
   completed_length pc low [] = refl
   completed_length pc low (line ∷ lines) =
-      ap suc (completed_length (pc + 4) (low_behind addresses line.target) lines)
+      ap suc (completed_length (pc + 4) (low_of_target addresses line.target) lines)
 
   completed_append : (pc : ℕ) (low : Option ℕ) (xs ys : List Line) → completed addresses pc low (xs ++ ys) ≡
       completed addresses pc low xs ++ completed addresses (pc + 4 * length xs) (low_after addresses low xs) ys
   completed_append pc low [] ys = let e : pc ≡ pc + 4 * 0 = omega arith in ap (λ p. completed addresses p low ys) e
   completed_append pc low (x ∷ xs) ys =
       let e : pc + 4 + 4 * length xs ≡ pc + 4 * suc (length xs) = omega arith in
-      let low' : Option ℕ = low_behind addresses x.target in
+      let low' : Option ℕ = low_of_target addresses x.target in
       ap (λ is. with_low low (with_target addresses pc x.target x.instr) ∷ is)
       (completed_append (pc + 4) low' xs ys ∙
       ap (λ p. completed addresses (pc + 4) low' xs ++ completed addresses p (low_after addresses low' xs) ys) e)
@@ -24,7 +24,7 @@ module _ (addresses : Addresses) where
   pub low_append : (low : Option ℕ) (xs ys : List Line) → low_after addresses low (xs ++ ys) ≡
       low_after addresses (low_after addresses low xs) ys
   low_append low [] ys = refl
-  low_append low (x ∷ xs) ys = low_append (low_behind addresses x.target) xs ys
+  low_append low (x ∷ xs) ys = low_append (low_of_target addresses x.target) xs ys
 
   -- lines that refer to nothing
   pub low_plainly : (instrs : List Instr) → low_after addresses None (plainly instrs) ≡ None
@@ -37,21 +37,21 @@ module _ (addresses : Addresses) where
 
   -- code stands in two parts
   pub record InParts (image : ImageParts) (c pc : ℕ) (xs ys : List Line) : Type 0 where
-    pub front : CodeAt image c pc (completed addresses pc None xs)
+    pub prefix : CodeAt image c pc (completed addresses pc None xs)
     pub back : CodeAt image c (pc + 4 * length xs) (completed addresses (pc + 4 * length xs) None ys)
 
   pub in_parts : (image : ImageParts) (c pc : ℕ) (xs ys : List Line) → low_after addresses None xs ≡ None →
       CodeAt image c pc (completed addresses pc None (xs ++ ys)) → InParts image c pc xs ys
   in_parts image c pc xs ys closed code =
-      let front : List Instr = completed addresses pc None xs in
+      let prefix : List Instr = completed addresses pc None xs in
       let back : List Instr = completed addresses (pc + 4 * length xs) (low_after addresses None xs) ys in
-      let whole : CodeAt image c pc (front ++ back) =
+      let whole : CodeAt image c pc (prefix ++ back) =
       subst (CodeAt image c pc) (completed_append pc None xs ys) code in
       record {
-        front = front_at image c pc front back whole;
+        prefix = prefix_at image c pc prefix back whole;
         back = subst (λ low. CodeAt image c (pc + 4 * length xs) (completed addresses (pc + 4 * length xs) low
             ys)) closed
-            (subst (λ n. CodeAt image c (pc + 4 * n) back) (completed_length pc None xs) (back_at image c pc front
+            (subst (λ n. CodeAt image c (pc + 4 * n) back) (completed_length pc None xs) (back_at image c pc prefix
             back whole));
       }
 

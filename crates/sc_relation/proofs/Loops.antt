@@ -14,10 +14,10 @@ use Rattle.rv_code.specs.declared.instr.OpImmOp.TheVariants.{Addi}
 use Rattle.sc_tac.specs.declared.stmt.TacStmt.TheOpen as tac
 use Rattle.sc_relation.proofs.Jumps.{HasNoGap, back_to, jumps, jumps_once, ready_at}
 use Rattle.sc_relation.proofs.Lines.{InParts, in_parts, low_append}
-use Rattle.sc_relation.proofs.Rounds.{Round, behind_head, clear_head, head_live, head_overflows, ready_less}
+use Rattle.sc_relation.proofs.Rounds.{Round, past_head, clear_head, head_live, head_overflows, ready_less}
 use Rattle.sc_relation.proofs.Rounds.{rounds_goes, turned}
 use Rattle.sc_relation.proofs.Stretches.{arrives_with, comes_after, effect_still, leads_then, leads_then_steps}
-use Rattle.sc_relation.proofs.Stretches.{shows_after, shows_here}
+use Rattle.sc_relation.proofs.Stretches.{emits_after, emits_here}
 
 module _ (T : Setting) (R : Running) (formed : IsWellFormed T.image) (words : All IsWord T.inputs)
     (head body next : Codes) (h b n : Code) (hs bs ns : List Trail) (H : Follows T R head h (row hs))
@@ -70,9 +70,9 @@ module _ (T : Setting) (R : Running) (formed : IsWellFormed T.image) (words : Al
       let e3 : L + 4 + 4 * length hl + 4 * length bl + 4 * length nl ≡ back_pc L = omega (arith, e2, N.sized 1 0) in
       record {
         first = code.0;
-        of_head = one.front;
-        of_body = subst (λ pc. StandsAt T R pc b (suc n.size) 0) e1 two.front;
-        of_next = subst (λ pc. StandsAt T R pc n 1 0) e2 three.front;
+        of_head = one.prefix;
+        of_body = subst (λ pc. StandsAt T R pc b (suc n.size) 0) e1 two.prefix;
+        of_next = subst (λ pc. StandsAt T R pc n 1 0) e2 three.prefix;
         back = subst (λ pc. Fetches T.image comp pc (Jal 0 (neg_ℤ (pos (4 * back_lines))))) e3 three.back.0;
       }
 
@@ -144,15 +144,15 @@ module _ (T : Setting) (R : Running) (formed : IsWellFormed T.image) (words : Al
           jump leads there.1 paid)
 
       abbrev head_ends : Ends
-      head_ends = record { left = head_left; behind = body_pc L; broken = ends.behind; continued = body_pc L }
+      head_ends = record { left = head_left; following = body_pc L; broken = ends.following; continued = body_pc L }
 
       after_head : (k : ℕ) → Rounds k → (x : Joint) (budget : ℕ) → Settled T P x →
           (first : Leads T P x (inside x) budget (h.size + head_left)) → first.steps ≡ 1 →
           (piece : Piece (Left Temps)) →
           Gives T R (in_head hs bs ns lives) (inside x) (h.size + head_left) head_ends piece →
-          Goal x budget (follow in_loop piece (behind_head head body next k))
+          Goal x budget (follow in_loop piece (past_head head body next k))
       after_head k more x budget settled first one (Stopped end s) g =
-          inl (shows_after T P x (inside x) budget (h.size + head_left) s first g)
+          inl (emits_after T P x (inside x) budget (h.size + head_left) s first g)
       after_head k more x budget settled first one (Reached l s) g = by l.exit g
         where
           then_on : (piece : Piece (Left Temps)) → Goal (inside x) (h.size + head_left) piece →
@@ -169,9 +169,9 @@ module _ (T : Setting) (R : Running) (formed : IsWellFormed T.image) (words : Al
 
           on : Arrives T R (live_before bs (in_body hs bs ns lives)) (inside x) (h.size +
               head_left) head_left l.carried s
-              (body_pc L) → Goal x budget (behind_head head body next k l.carried s)
+              (body_pc L) → Goal x budget (past_head head body next k l.carried s)
           on g =
-              subst (λ s. Goal x budget (behind_head head body next k l.carried s)) g.meant_is
+              subst (λ s. Goal x budget (past_head head body next k l.carried s)) g.meant_is
               (turned T R head body next b n hs bs ns H.goes B N lives clear ends round k (again k more) l.carried x g.y
               budget settled
               (leads_then T P x (inside x) g.y budget (h.size + head_left) head_left settled first g.leads)
@@ -179,22 +179,22 @@ module _ (T : Setting) (R : Running) (formed : IsWellFormed T.image) (words : Al
 
           by : (exit : Exit) →
               ExitGives T R (in_head hs bs ns lives) (inside x) (h.size + head_left) head_ends exit l.carried s →
-              Goal x budget (take (in_loop exit) (behind_head head body next k) l.carried s)
+              Goal x budget (take (in_loop exit) (past_head head body next k) l.carried s)
           by Next g = on g
           by Continue g = on g
           by Break g =
               then_on (Reached (record { exit = Next; carried = l.carried }) s)
-              (inl (arrives_with T R lives.behind (inside x) (h.size + head_left) (h.size + head_left) head_left left
-              l.carried s ends.behind ends.behind (omega arith) (omega arith) refl g))
+              (inl (arrives_with T R lives.following (inside x) (h.size + head_left) (h.size + head_left) head_left left
+              l.carried s ends.following ends.following (omega arith) (omega arith) refl g))
           by (Return v) g = then_on (Reached (record { exit = Return v; carried = l.carried }) s) (inl g)
 
       -- `k` rounds
       rounds_follow : (k : ℕ) → Rounds k
-      rounds_follow zero temps x budget ready leads one = inl (shows_here T P x budget)
+      rounds_follow zero temps x budget ready leads one = inl (emits_here T P x budget)
       rounds_follow (suc k) temps x budget ready leads one =
           let y : Joint = inside x in
           let e : ends_of h (L + 4) head_left (b.size + suc n.size) 0 ≡ head_ends =
-          (let e2 : L + 4 + 4 * (h.size + (b.size + suc n.size)) ≡ ends.behind = omega arith in
+          (let e2 : L + 4 + 4 * (h.size + (b.size + suc n.size)) ≡ ends.following = omega arith in
           let e3 : L + 4 + 4 * (h.size + 0) ≡ body_pc L = omega arith in rw (e2, e3) refl) in
           let starts : Starts T R h (row hs) (in_head hs bs ns lives) temps y (b.size + suc n.size) 0 = record {
             ready =
@@ -209,7 +209,7 @@ module _ (T : Setting) (R : Running) (formed : IsWellFormed T.image) (words : Al
           (λ g. after_head k (rounds_follow k) x budget ready.settled leads one (head temps x.meant)
           (subst (λ ends. Gives T R (in_head hs bs ns lives) y (h.size + head_left) ends (head temps x.meant)) e g))
           (λ o. comes_after T R lives x y budget (h.size + head_left) ends
-          (follow in_loop (head temps x.meant) (behind_head head body next k)) ready.settled leads
+          (follow in_loop (head temps x.meant) (past_head head body next k)) ready.settled leads
           (head_overflows T R head body next b n hs bs ns H.goes B N lives clear ends k y (h.size + head_left)
           (head temps x.meant) o))
           (H.runs (in_head hs bs ns lives) temps y head_left (b.size + suc n.size) 0 starts)

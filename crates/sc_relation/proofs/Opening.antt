@@ -1,9 +1,9 @@
 -- A call begins: its blocks, their places in its frame, and how the bytes stand for all blocks then.
-use Rattle.sc_relation.proofs.Common.{Block, BlocksMatch, Bool, Cell, FrameTree, Guarded, HasRoom, ImageParts, InCell}
+use Rattle.sc_relation.proofs.Common.{Block, BlocksMatch, Bool, Cell, FrameTree, Guarded, FrameFits, ImageParts, InCell}
 use Rattle.sc_relation.proofs.Common.{Injection, IsFrame, IsWellFormed, List, LiveAt, Memory as Bytes, None, Option}
 use Rattle.sc_relation.proofs.Common.{Owned, Place, Placed, Some, StandsFor, Value, [], all_at, ap, arith, blocks_for}
 use Rattle.sc_relation.proofs.Common.{cases_eq, cases_lt, cases_order, cell_of, data_start, eq-eqb, false, few_globals}
-use Rattle.sc_relation.proofs.Common.{get_front, if◌then◌else◌, inl, inr, le-leb, length, length-append, lt-leb, nat_eq}
+use Rattle.sc_relation.proofs.Common.{get_prefix, if◌then◌else◌, inl, inr, le-leb, length, length-append, lt-leb, nat_eq}
 use Rattle.sc_relation.proofs.Common.{nat_le, ne_eqb, own_words, put, refl, replicate, same_Some, slice_get}
 use Rattle.sc_relation.proofs.Common.{slice_get_within, stack_top, subst, suc, sym, true, with_blocks, word, zero, ℕ}
 use Rattle.sc_relation.proofs.Common.{⊎_elim, ◌%◌, ◌&&◌, ◌*◌, ◌++◌, ◌+◌, ◌-◌, ◌<◌, ◌∙◌, ◌∷◌, ◌≡◌, ◌≢◌, ◌≤◌, ◌⊎◌}
@@ -137,7 +137,7 @@ module _ (image : ImageParts) (performs : ℕ → Bool) (floor : ℕ → ℕ) (i
       let now : slice_get (memory c ++ blocks_for cells args) b ≡ Some block =
       sym (ap (λ bs. slice_get bs b) (opened_here k e)) ∙ h in
       ⊎_elim
-      (λ l. Old (ap (λ k. slice_get (memory k) b) e ∙ sym (get_front (memory c) (blocks_for cells args) b l) ∙ now)
+      (λ l. Old (ap (λ k. slice_get (memory k) b) e ∙ sym (get_prefix (memory c) (blocks_for cells args) b l) ∙ now)
       (injection_old k b (λ e. l)))
       (λ past. (let place : first + (b - first) ≡ b = omega (arith, past) in
       let got : slice_get (blocks_for cells args) (b - first) ≡ Some block =
@@ -161,7 +161,7 @@ module _ (image : ImageParts) (performs : ℕ → Bool) (floor : ℕ → ℕ) (i
       by (Fresh o block ek eb new ex) = absurd (let below : b < first = l ek in omega (arith, eb, below))
 
   module _ (formed : IsWellFormed image) (places : List Place) (nodes : ℕ) (whole : IsFrame frame)
-      (room : HasRoom cells places nodes frame) (blocks : BlocksMatch image performs floor inj memory bytes)
+      (frame_fits : FrameFits cells places nodes frame) (blocks : BlocksMatch image performs floor inj memory bytes)
       (ready : Prepared) where
     pub injection_grows : (k b a : ℕ) → inj k b ≡ Some a → more k b ≡ Some a
     injection_grows k b a h = injection_old k b (λ e. subst (λ k. b < length (memory k)) e (blocks.known k b a h)) ∙ h
@@ -189,14 +189,14 @@ module _ (image : ImageParts) (performs : ℕ → Bool) (floor : ℕ → ℕ) (i
 
     object_of : (o : ℕ) (block : Block) (xs : List Cell) → New cells args o block → xs ≡ block.cells → HasObject o xs
     object_of o block xs new ex =
-        let found = object_there cells places nodes frame room o new.size new.its in
+        let found = object_there cells places nodes frame frame_fits o new.size new.its in
         record {
           offset = found.0;
           object = found.1;
           size = new.size;
           its = new.its;
           fits = fits_by o block xs new ex;
-          inside = object_inside cells places nodes frame room o found.0 new.size found.1 new.its;
+          inside = object_inside cells places nodes frame frame_fits o found.0 new.size found.1 new.its;
         }
 
     abbrev lowered : ℕ → ℕ
@@ -307,7 +307,7 @@ module _ (image : ImageParts) (performs : ℕ → Bool) (floor : ℕ → ℕ) (i
         let other_place : low + y.offset ≡ e = fresh_at k d e u y.offset fk fb y.object q in
         ⊎_elim (λ l. inl (omega (arith, place, other_place, x.fits, l)))
         (λ l. inr (omega (arith, place, other_place, y.fits, l)))
-        (objects_apart cells places nodes frame room o u x.offset y.offset x.size y.size
+        (objects_apart cells places nodes frame frame_fits o u x.offset y.offset x.size y.size
         (λ same. n (eb ∙ ap (λ o. first + o) same ∙ sym fb)) x.object x.its y.object y.its)
 
     object_below : (b a : ℕ) (found : Option ℕ) → slice_get frame.objects (b - first) ≡ found →
@@ -324,7 +324,7 @@ module _ (image : ImageParts) (performs : ℕ → Bool) (floor : ℕ → ℕ) (i
         omega (
           arith,
           long,
-          room.objects,
+          frame_fits.objects,
           object_below b a (slice_get frame.objects (b - first)) refl (sym is ∙ is_at),
         ))) (cases_lt b first)
 
@@ -350,13 +350,13 @@ module _ (image : ImageParts) (performs : ℕ → Bool) (floor : ℕ → ℕ) (i
         inl (omega (
           arith,
           old_above c b a xs s refl live (sym f ∙ is_at),
-          own_inside cells places nodes frame room i u e,
+          own_inside cells places nodes frame frame_fits i u e,
         ))
     own_free i u b a xs s e (Fresh o block ek eb new ex) is_at =
         let x : HasObject o xs = object_of o block xs new ex in
         let place : low + x.offset ≡ a = fresh_at c b a o x.offset ek eb x.object is_at in
         ⊎_elim (λ l. inl (omega (arith, place, l))) (λ l. inr (omega (arith, place, x.fits, l)))
-        (own_beside cells places nodes frame room i u o x.offset x.size e x.object x.its)
+        (own_beside cells places nodes frame frame_fits i u o x.offset x.size e x.object x.its)
 
     own_aligned : (i u : ℕ) → slice_get (own_words frame) i ≡ Some u → u % 4 ≡ 0
     own_aligned zero u e = let is : 0 ≡ u = same_Some 0 u e in omega (arith, is)
@@ -368,7 +368,7 @@ module _ (image : ImageParts) (performs : ℕ → Bool) (floor : ℕ → ℕ) (i
       owned = record {
         aligned = omega (arith, ready.aligned, own_aligned i u e);
         low = omega (arith, ready.start);
-        high = omega (arith, ready.floor_is, ready.high, own_inside cells places nodes frame room i u e);
+        high = omega (arith, ready.floor_is, ready.high, own_inside cells places nodes frame frame_fits i u e);
       };
       free = λ b a xs live is_at. own_free i u b a xs s e (origin c b xs live) is_at;
     }

@@ -2,7 +2,7 @@
 use Rattle.sc_relation.proofs.Common.{All, Arrives, Bool, Break, CodeAt, Codes, Comes, Continue, Ends, Exit, Fetches}
 use Rattle.sc_relation.proofs.Common.{Follows, Goes, Instr, IsClear, IsWellFormed, IsWord, Jal, Joint, Left, Line, List}
 use Rattle.sc_relation.proofs.Common.{Lives, Next, None, Overflows, Piece, Reached, Ready, Return, Returns, Running}
-use Rattle.sc_relation.proofs.Common.{Set, Setting, Settled, Shows, Some, Standpoint, StandsAt, State as Meant, Stopped}
+use Rattle.sc_relation.proofs.Common.{Set, Setting, Settled, Emits, Some, Standpoint, StandsAt, State as Meant, Stopped}
 use Rattle.sc_relation.proofs.Common.{Temps, Trail, [], ap, arith, branch_back, branch_reach, code_inside, completed}
 use Rattle.sc_relation.proofs.Common.{ends_of, false, first_scratch, follow, in_body, in_head, in_loop, inl, is_some}
 use Rattle.sc_relation.proofs.Common.{length, length-append, length-map, live_at_start, live_before, loop, loop_points}
@@ -13,9 +13,9 @@ use Rattle.sc_select.specs.Prelude.{Piece as Code, take}
 use Rattle.sc_tac.specs.declared.stmt.TacStmt.TheOpen as tac
 use Rattle.sc_relation.proofs.Jumps.{HasNoGap, over}
 use Rattle.sc_relation.proofs.Lines.{InParts, in_parts, low_append, low_plainly}
-use Rattle.sc_relation.proofs.Rounds.{Round, behind_head, clear_head, head_live, head_overflows, ready_less}
+use Rattle.sc_relation.proofs.Rounds.{Round, past_head, clear_head, head_live, head_overflows, ready_less}
 use Rattle.sc_relation.proofs.Rounds.{rounds_goes, turned}
-use Rattle.sc_relation.proofs.Stretches.{arrives_with, comes_after, shows_here}
+use Rattle.sc_relation.proofs.Stretches.{arrives_with, comes_after, emits_here}
 
 module _ (T : Setting) (R : Running) where
   -- the code comes to this place, and a step of it isn't paid for by turns that are over
@@ -26,14 +26,14 @@ module _ (T : Setting) (R : Running) where
 
   -- what comes of a head that ends with its test: the body, with a step to spare for its turn, or the end of the loop
   abbrev pub TestGives : Lives → Joint → (budget : ℕ) → Ends → Exit → Temps → Meant → Type 0
-  TestGives lives x budget ends Next temps s = ArrivesLate lives.behind x budget ends.left temps s ends.behind
+  TestGives lives x budget ends Next temps s = ArrivesLate lives.following x budget ends.left temps s ends.following
   TestGives lives x budget ends Break temps s = Arrives T R lives.broken x budget ends.left temps s ends.broken
   TestGives lives x budget ends Continue temps s = ArrivesLate lives.continued x budget ends.left temps s ends.continued
   TestGives lives x budget ends (Return v) temps s = Returns T R x budget v s
 
   abbrev pub HeadGives : Lives → Joint → (budget : ℕ) → Ends → Piece (Left Temps) → Type 0
   HeadGives lives x budget ends (Reached l s) = TestGives lives x budget ends l.exit l.carried s
-  HeadGives lives x budget ends (Stopped end s) = Shows T (seen_from R.activation) x budget s
+  HeadGives lives x budget ends (Stopped end s) = Emits T (seen_from R.activation) x budget s
 
   abbrev pub HeadComes : Lives → Joint → (budget : ℕ) → Ends → Piece (Left Temps) → Type 0
   HeadComes lives x budget ends piece =
@@ -63,7 +63,7 @@ module _ (T : Setting) (R : Running) where
           x.pc + 4 * (i.size + test_size) ≤ R.last →
           HeadComes lives x (i.size + (test_size + left)) (record {
             left = left;
-            behind = body_pc;
+            following = body_pc;
             broken = x.pc + 4 * (i.size + test_size);
             continued = body_pc;
           }) (head temps x.meant)
@@ -117,8 +117,8 @@ module _ (T : Setting) (R : Running) (formed : IsWellFormed T.image) (words : Al
       let e3 : b.size + (n.size + i.size) ≡ b.size + n.size + i.size = omega arith in
       record {
         first = code.0;
-        of_body = one.front;
-        of_next = subst (λ pc. StandsAt T R pc n (i.size + test) 0) e1 two.front;
+        of_body = one.prefix;
+        of_next = subst (λ pc. StandsAt T R pc n (i.size + test) 0) e1 two.prefix;
         of_head =
             subst (λ lines. CodeAt T.image comp (head_pc L) (completed addresses (head_pc L) None (il ++ test_lines
             lines))) e3
@@ -163,23 +163,23 @@ module _ (T : Setting) (R : Running) (formed : IsWellFormed T.image) (words : Al
           Goal x budget (rounds k head body next temps x.meant)
 
       abbrev head_ends : Ends
-      head_ends = record { left = left; behind = L + 4; broken = ends.behind; continued = L + 4 }
+      head_ends = record { left = left; following = L + 4; broken = ends.following; continued = L + 4 }
 
       after_head : (k : ℕ) → Rounds k → (x : Joint) → Settled T P x → (piece : Piece (Left Temps)) →
           HeadGives T R (in_head hs bs ns lives) x budget head_ends piece →
-          Goal x budget (follow in_loop piece (behind_head head body next k))
+          Goal x budget (follow in_loop piece (past_head head body next k))
       after_head k more x settled (Stopped end s) g = inl g
       after_head k more x settled (Reached l s) g = by l.exit g
         where
           on : ArrivesLate T R (live_before bs (in_body hs bs ns lives)) x budget left l.carried s (L + 4) →
-              Goal x budget (behind_head head body next k l.carried s)
+              Goal x budget (past_head head body next k l.carried s)
           on g =
-              subst (λ s. Goal x budget (behind_head head body next k l.carried s)) g.arrives.meant_is
+              subst (λ s. Goal x budget (past_head head body next k l.carried s)) g.arrives.meant_is
               (turned T R head body next b n hs bs ns H.goes B N lives clear ends round k more l.carried x g.arrives.y
               budget settled g.arrives.leads g.spare g.arrives.ready g.arrives.pc_is)
 
           by : (exit : Exit) → TestGives T R (in_head hs bs ns lives) x budget head_ends exit l.carried s →
-              Goal x budget (onward (in_loop exit) (behind_head head body next k) l.carried s)
+              Goal x budget (onward (in_loop exit) (past_head head body next k) l.carried s)
           by Next g = on g
           by Continue g = on g
           by Break g = inl g
@@ -187,17 +187,17 @@ module _ (T : Setting) (R : Running) (formed : IsWellFormed T.image) (words : Al
 
       -- `k` rounds
       rounds_follow : (k : ℕ) → Rounds k
-      rounds_follow zero temps x ready place = inl (shows_here T P x budget)
+      rounds_follow zero temps x ready place = inl (emits_here T P x budget)
       rounds_follow (suc k) temps x ready place =
           let first = code_inside T.image formed comp L code.first.word code.first.fetched in
           let there = gapless L (L + 4) (ap is_some code.first.fetched) (omega arith) (omega (arith, breaks))
           (omega (arith, first.aligned)) in
-          let e : x.pc + 4 * (i.size + test) ≡ ends.behind = omega (arith, place) in
+          let e : x.pc + 4 * (i.size + test) ≡ ends.following = omega (arith, place) in
           let lines : List Line = i.lines test 0 ++ test_lines (b.size + n.size + i.size) in
           ⊎_elim
           (λ g. after_head k (rounds_follow k) x ready.settled (head temps x.meant)
           (subst (λ broken. HeadGives T R (in_head hs bs ns lives) x budget
-          (record { left = left; behind = L + 4; broken = broken; continued = L + 4 }) (head temps x.meant)) e g))
+          (record { left = left; following = L + 4; broken = broken; continued = L + 4 }) (head temps x.meant)) e g))
           (λ o. head_overflows T R head body next b n hs bs ns H.goes B N lives clear ends k x budget
           (head temps x.meant) o)
           (H.runs (in_head hs bs ns lives) temps x left (L + 4)
@@ -229,12 +229,12 @@ module _ (T : Setting) (R : Running) (formed : IsWellFormed T.image) (words : Al
         let branch : List Line =
         branch_back R.activation.frame R.places cond (b.size + (n.size + i.size) + length load) ∷ [] in
         let last : List Line = test_lines (b.size + (n.size + i.size)) in
-        let behind : List Line = i.lines test 0 ++ last in
-        let middle : List Line = n.lines (i.size + test) 0 ++ behind in
+        let following : List Line = i.lines test 0 ++ last in
+        let middle : List Line = n.lines (i.size + test) 0 ++ following in
         omega (
           arith,
           length-append (b.lines (n.size + (i.size + test)) 0) middle,
-          length-append (n.lines (i.size + test) 0) behind,
+          length-append (n.lines (i.size + test) 0) following,
           length-append (i.lines test 0) last,
           length-append (plainly load) branch,
           length-map load plain,

@@ -9,8 +9,8 @@ use Rattle.sc_relation.proofs.Common.{part_ahead, point, readings, refl, rounds,
 use Rattle.sc_relation.proofs.Common.{stays, subst, suc, sym, take, then_from, then_goes, true, turn, turn_goes}
 use Rattle.sc_relation.proofs.Common.{turn_of, zero, ℕ, ⊎_elim, ◌*◌, ◌++◌, ◌+◌, ◌∙◌, ◌∷◌, ◌≡◌, ◌≤◌}
 use Rattle.sc_select.specs.Prelude.{Piece as Code}
-use Rattle.sc_relation.proofs.Clear.{all_back, all_front}
-use Rattle.sc_relation.proofs.Stretches.{arrives_with, comes_after, overflows_with, shows_after, shows_here}
+use Rattle.sc_relation.proofs.Clear.{all_back, all_prefix}
+use Rattle.sc_relation.proofs.Stretches.{arrives_with, comes_after, overflows_with, emits_after, emits_here}
 use Rattle.sc_relation.proofs.Wanted.{wanted_less}
 
 -- a second round adds nothing, whatever the round is
@@ -34,28 +34,28 @@ module _ {A : Type 0} (head body next : Does A) where
   abbrev rest : ℕ → Does A
   rest k a s = follow in_loop (next a s) (rounds k head body next)
 
-  abbrev pub behind_head : ℕ → Does A
-  behind_head k a s = and_then (turn s) (λ u s. follow in_loop (body a s) (rest k))
+  abbrev pub past_head : ℕ → Does A
+  past_head k a s = and_then (turn s) (λ u s. follow in_loop (body a s) (rest k))
 
   module _ (H : (a : A) → Goes (head a)) (B : (a : A) → Goes (body a)) (N : (a : A) → Goes (next a)) where
     rest_by : (k : ℕ) → ((a : A) → Goes (rounds k head body next a)) → (a : A) → Goes (rest k a)
     rest_by k more a s = follow_goes in_loop s (next a s) (rounds k head body next) (N a s) more
 
-    behind_by : (k : ℕ) → ((a : A) → Goes (rounds k head body next a)) → (a : A) → Goes (behind_head k a)
-    behind_by k more a s =
+    after_by : (k : ℕ) → ((a : A) → Goes (rounds k head body next a)) → (a : A) → Goes (past_head k a)
+    after_by k more a s =
         then_goes s (turn s) (λ u s. follow in_loop (body a s) (rest k)) (turn_goes s)
         (λ u s. follow_goes in_loop s (body a s) (rest k) (B a s) (rest_by k more))
 
     pub rounds_goes : (k : ℕ) (a : A) → Goes (rounds k head body next a)
     rounds_goes zero a s = no_turn s
     rounds_goes (suc k) a s =
-        follow_goes in_loop s (head a s) (behind_head k) (H a s) (behind_by k (rounds_goes k))
+        follow_goes in_loop s (head a s) (past_head k) (H a s) (after_by k (rounds_goes k))
 
     rest_goes : (k : ℕ) (a : A) → Goes (rest k a)
     rest_goes k = rest_by k (rounds_goes k)
 
-    behind_goes : (k : ℕ) (a : A) → Goes (behind_head k a)
-    behind_goes k = behind_by k (rounds_goes k)
+    after_goes : (k : ℕ) (a : A) → Goes (past_head k a)
+    after_goes k = after_by k (rounds_goes k)
 
 module _ (T : Setting) (R : Running) where
   -- less is live
@@ -77,9 +77,9 @@ module _ (T : Setting) (R : Running) where
     pub next_break : ℕ
     pub of_body : StandsAt T R body_pc b body_break 0
     pub of_next : StandsAt T R (body_pc + 4 * b.size) n next_break 0
-    pub body_breaks : body_pc + 4 * (b.size + body_break) ≡ ends.behind
-    pub next_breaks : body_pc + 4 * b.size + 4 * (n.size + next_break) ≡ ends.behind
-    pub fits : ends.behind ≤ R.last
+    pub body_breaks : body_pc + 4 * (b.size + body_break) ≡ ends.following
+    pub next_breaks : body_pc + 4 * b.size + 4 * (n.size + next_break) ≡ ends.following
+    pub fits : ends.following ≤ R.last
     pub turn_left : ℕ
     pub round_left : ℕ
     pub pays : b.size + (n.size + round_left) ≤ turn_left + T.turn_pays
@@ -105,18 +105,18 @@ module _ (places : List Place) (hs bs ns : List Trail) (lives : Lives)
       All-tail (IsClear places) start (head_points ++ (body_points ++ (next_points ++ start ∷ []))) clear
 
   pub clear_head : All (IsClear places) head_points
-  clear_head = all_front (IsClear places) head_points (body_points ++ (next_points ++ start ∷ [])) clear_all
+  clear_head = all_prefix (IsClear places) head_points (body_points ++ (next_points ++ start ∷ [])) clear_all
 
-  clear_behind : All (IsClear places) (body_points ++ (next_points ++ start ∷ []))
-  clear_behind = all_back (IsClear places) head_points (body_points ++ (next_points ++ start ∷ [])) clear_all
+  clear_after : All (IsClear places) (body_points ++ (next_points ++ start ∷ []))
+  clear_after = all_back (IsClear places) head_points (body_points ++ (next_points ++ start ∷ [])) clear_all
 
   clear_body : All (IsClear places) body_points
-  clear_body = all_front (IsClear places) body_points (next_points ++ start ∷ []) clear_behind
+  clear_body = all_prefix (IsClear places) body_points (next_points ++ start ∷ []) clear_after
 
   clear_next : All (IsClear places) next_points
   clear_next =
-      all_front (IsClear places) next_points (start ∷ [])
-      (all_back (IsClear places) body_points (next_points ++ start ∷ []) clear_behind)
+      all_prefix (IsClear places) next_points (start ∷ [])
+      (all_back (IsClear places) body_points (next_points ++ start ∷ []) clear_after)
 
 module _ (T : Setting) (R : Running) (head body next : Codes) (b n : Code) (hs bs ns : List Trail)
     (H : (temps : Temps) → Goes (head temps)) (B : Follows T R body b (row bs)) (N : Follows T R next n (row ns))
@@ -146,10 +146,10 @@ module _ (T : Setting) (R : Running) (head body next : Codes) (b n : Code) (hs b
 
     -- one in the head
     pub head_overflows : (k : ℕ) (x : Joint) (budget : ℕ) (piece : Piece (Left Temps)) →
-        Overflows T P x budget piece → Goal x budget (follow in_loop piece (behind_head head body next k))
+        Overflows T P x budget piece → Goal x budget (follow in_loop piece (past_head head body next k))
     head_overflows k x budget piece o =
-        overflow_in x budget piece (behind_head head body next k)
-        (behind_goes head body next H B.goes N.goes k) o
+        overflow_in x budget piece (past_head head body next k)
+        (after_goes head body next H B.goes N.goes k) o
 
     module _ (round : Round T R b n ends) where
       abbrev next_pc : ℕ
@@ -169,8 +169,8 @@ module _ (T : Setting) (R : Running) (head body next : Codes) (b n : Code) (hs b
       abbrev next_ends : Ends
       next_ends = record {
         left = round.round_left;
-        behind = next_pc + 4 * n.size;
-        broken = ends.behind;
+        following = next_pc + 4 * n.size;
+        broken = ends.following;
         continued = next_pc + 4 * n.size;
       }
 
@@ -192,8 +192,8 @@ module _ (T : Setting) (R : Running) (head body next : Codes) (b n : Code) (hs b
           by Next g = on g
           by Continue g = on g
           by Break g =
-              inl (arrives_with T R lives.behind z next_budget next_budget round.round_left ends.left l.carried s
-              ends.behind ends.behind (omega arith) round.enough refl g)
+              inl (arrives_with T R lives.following z next_budget next_budget round.round_left ends.left l.carried s
+              ends.following ends.following (omega arith) round.enough refl g)
           by (Return v) g = inl g
 
       nexts : (k : ℕ) → Again k → (temps : Temps) (z : Joint) →
@@ -202,7 +202,7 @@ module _ (T : Setting) (R : Running) (head body next : Codes) (b n : Code) (hs b
       nexts k more temps z ready place =
           let e : ends_of n z.pc round.round_left round.next_break 0 ≡ next_ends =
           (let e1 : z.pc + 4 * n.size ≡ next_pc + 4 * n.size = ap (λ pc. pc + 4 * n.size) place in
-          let e2 : z.pc + 4 * (n.size + round.next_break) ≡ ends.behind =
+          let e2 : z.pc + 4 * (n.size + round.next_break) ≡ ends.following =
           ap (λ pc. pc + 4 * (n.size + round.next_break)) place ∙ round.next_breaks in
           let e3 : z.pc + 4 * (n.size + 0) ≡ next_pc + 4 * n.size = omega (arith, place) in rw (e1, e2, e3) refl) in
           let starts : Starts T R n (row ns) (in_next hs bs ns lives) temps z round.next_break 0 = record {
@@ -221,7 +221,7 @@ module _ (T : Setting) (R : Running) (head body next : Codes) (b n : Code) (hs b
 
       abbrev body_ends : Ends
       body_ends =
-          record { left = next_budget; behind = next_pc; broken = ends.behind; continued = next_pc }
+          record { left = next_budget; following = next_pc; broken = ends.following; continued = next_pc }
 
       after_body : (k : ℕ) → Again k → (z : Joint) → Settled T P z → (piece : Piece (Left Temps)) →
           Gives T R (in_body hs bs ns lives) z body_budget body_ends piece →
@@ -242,8 +242,8 @@ module _ (T : Setting) (R : Running) (head body next : Codes) (b n : Code) (hs b
           by Next g = on g
           by Continue g = on g
           by Break g =
-              inl (arrives_with T R lives.behind z body_budget body_budget next_budget ends.left l.carried s
-              ends.behind ends.behind (omega arith) (omega (arith, round.enough)) refl g)
+              inl (arrives_with T R lives.following z body_budget body_budget next_budget ends.left l.carried s
+              ends.following ends.following (omega arith) (omega (arith, round.enough)) refl g)
           by (Return v) g = inl g
 
       bodies : (k : ℕ) → Again k → (temps : Temps) (z : Joint) →
@@ -252,7 +252,7 @@ module _ (T : Setting) (R : Running) (head body next : Codes) (b n : Code) (hs b
       bodies k more temps z ready place =
           let e : ends_of b z.pc next_budget round.body_break 0 ≡ body_ends =
           (let e1 : z.pc + 4 * b.size ≡ next_pc = ap (λ pc. pc + 4 * b.size) place in
-          let e2 : z.pc + 4 * (b.size + round.body_break) ≡ ends.behind =
+          let e2 : z.pc + 4 * (b.size + round.body_break) ≡ ends.following =
           ap (λ pc. pc + 4 * (b.size + round.body_break)) place ∙ round.body_breaks in
           let e3 : z.pc + 4 * (b.size + 0) ≡ next_pc = omega (arith, place) in rw (e1, e2, e3) refl) in
           let starts : Starts T R b (row bs) (in_body hs bs ns lives) temps z round.body_break 0 = record {
@@ -275,7 +275,7 @@ module _ (T : Setting) (R : Running) (head body next : Codes) (b n : Code) (hs b
           y.meant.turns ≡ m →
           Goal x budget (and_then (turn_of m y.meant) (λ u s. follow in_loop (body temps s) (rest head body next k)))
       turned_by k more temps x y budget settled l spare ready place zero e =
-          inl (shows_after T P x y budget round.turn_left y.meant l (shows_here T P y round.turn_left))
+          inl (emits_after T P x y budget round.turn_left y.meant l (emits_here T P y round.turn_left))
       turned_by k more temps x y budget settled l spare ready place (suc m) e =
           let z : Joint = record y { meant = record y.meant { turns = m } } in
           let product : T.turn_pays * y.meant.turns ≡ T.turn_pays + T.turn_pays * m =
@@ -291,7 +291,7 @@ module _ (T : Setting) (R : Running) (head body next : Codes) (b n : Code) (hs b
               grows = l.effect.grows;
               lived = l.effect.lived;
               keeps = l.effect.keeps;
-              rooms = l.effect.rooms;
+              depths = l.effect.depths;
             };
           } in
           let there : Ready T R (live_before bs (in_body hs bs ns lives)) temps z = record {
@@ -302,8 +302,8 @@ module _ (T : Setting) (R : Running) (head body next : Codes) (b n : Code) (hs b
               inputs = ready.settled.inputs;
               steady = ready.settled.steady;
               came = ready.settled.came;
-              room = ready.settled.room;
-              told = ready.settled.told;
+              depth = ready.settled.depth;
+              timed = ready.settled.timed;
             };
             frame = ready.frame;
             held = ready.held;
@@ -317,6 +317,6 @@ module _ (T : Setting) (R : Running) (head body next : Codes) (b n : Code) (hs b
       pub turned : (k : ℕ) → Again k → (temps : Temps) (x y : Joint) (budget : ℕ) → Settled T P x →
           (l : Leads T P x y budget round.turn_left) → suc x.meant.turns ≤ y.meant.turns + l.steps →
           Ready T R (live_before bs (in_body hs bs ns lives)) temps y → y.pc ≡ round.body_pc →
-          Goal x budget (behind_head head body next k temps y.meant)
+          Goal x budget (past_head head body next k temps y.meant)
       turned k more temps x y budget settled l spare ready place =
           turned_by k more temps x y budget settled l spare ready place y.meant.turns refl

@@ -7,9 +7,9 @@ use Rattle.sc_relation.proofs.Common.{in_order as in_turn, inl, inr, length, len
 use Rattle.sc_relation.proofs.Common.{nothing, refl, row, row_points, seen_from, stays, subst, sym, take, then_from, ℕ}
 use Rattle.sc_relation.proofs.Common.{⊎_elim, ◌*◌, ◌+◌, ◌∙◌, ◌∷◌, ◌≡◌}
 use Rattle.sc_select.specs.Prelude.{Piece as Code}
-use Rattle.sc_relation.proofs.Clear.{all_front, all_back}
+use Rattle.sc_relation.proofs.Clear.{all_prefix, all_back}
 use Rattle.sc_relation.proofs.Lines.{InParts, in_parts, low_append}
-use Rattle.sc_relation.proofs.Stretches.{leads_none, shows_less, overflows_with, comes_after, arrives_with}
+use Rattle.sc_relation.proofs.Stretches.{leads_none, emits_less, overflows_with, comes_after, arrives_with}
 use Rattle.sc_relation.proofs.Stretches.{returns_with}
 
 module _ (T : Setting) (R : Running) where
@@ -35,7 +35,7 @@ module _ (T : Setting) (R : Running) where
     whole = followed first second
 
     abbrev inner : Lives → Lives
-    inner lives = record lives { behind = live_before trails lives }
+    inner lives = record lives { following = live_before trails lives }
 
     -- the parts of the code
     parts : (pc b c : ℕ) → StandsAt T R pc whole b c →
@@ -62,8 +62,8 @@ module _ (T : Setting) (R : Running) where
       starts_first : Starts T R first trail (inner lives) temps x (second.size + b) (second.size + c)
       starts_first = record {
         ready = starts.ready;
-        clear = all_front (IsClear R.places) (trail.points (inner lives)) (row_points trails lives) starts.clear;
-        stands = code_parts.front;
+        clear = all_prefix (IsClear R.places) (trail.points (inner lives)) (row_points trails lives) starts.clear;
+        stands = code_parts.prefix;
         breaks = omega (arith, starts.breaks);
         continues = omega (arith, starts.continues);
       }
@@ -111,12 +111,12 @@ module _ (T : Setting) (R : Running) where
       onwards (Return v) temps' s g =
           inl (returns_with T R x (first.size + (second.size + left)) (whole.size + left) v s (omega arith) g)
 
-      behind_first : (piece : Piece (Left Temps)) →
+      after_first : (piece : Piece (Left Temps)) →
           Gives T R (inner lives) x (first.size + (second.size + left)) first_ends piece →
           Comes T R lives x (whole.size + left) ends (follow in_turn piece rest)
-      behind_first (Reached l s) g = onwards l.exit l.carried s g
-      behind_first (Stopped end s) g =
-          inl (shows_less T (seen_from R.activation) x (first.size + (second.size + left)) (whole.size + left) s
+      after_first (Reached l s) g = onwards l.exit l.carried s g
+      after_first (Stopped end s) g =
+          inl (emits_less T (seen_from R.activation) x (first.size + (second.size + left)) (whole.size + left) s
           (omega arith) g)
 
       overflow_first : (piece : Piece (Left Temps)) →
@@ -135,7 +135,7 @@ module _ (T : Setting) (R : Running) where
 
       whole_runs : Comes T R lives x (whole.size + left) ends (follow in_turn (one temps x.meant) rest)
       whole_runs =
-          ⊎_elim (λ g. behind_first (one temps x.meant) g) (λ o. inr (overflow_first (one temps x.meant) o))
+          ⊎_elim (λ g. after_first (one temps x.meant) g) (λ o. inr (overflow_first (one temps x.meant) o))
           (F.runs (inner lives) temps x (second.size + left) (second.size + b) (second.size + c) starts_first)
 
     pub row_follows : Follows T R (λ temps s. follow in_turn (one temps s) rest) whole (row (trail ∷ trails))

@@ -30,8 +30,8 @@ module _ (T : Setting) (formed : IsWellFormed T.image) (inputs : All IsWord T.in
     inputs = s.inputs;
     steady = walks_steady T.image T.inputs formed inputs n _ _ walks s.steady;
     came = came_by T n _ _ walks s.came;
-    room = s.room;
-    told = s.told;
+    depth = s.depth;
+    timed = s.timed;
   }
 
   -- a stretch that leaves protected words unchanged
@@ -47,7 +47,7 @@ module _ (T : Setting) (formed : IsWellFormed T.image) (inputs : All IsWord T.in
       grows = λ k b a e. e;
       lived = λ k b cells s live. (cells, live, refl);
       keeps = kept;
-      rooms = λ k. refl;
+      depths = λ k. refl;
     };
   }
 
@@ -71,8 +71,8 @@ module _ (T : Setting) (formed : IsWellFormed T.image) (inputs : All IsWord T.in
       inputs = s.inputs;
       steady = walks_steady T.image T.inputs formed inputs n _ _ walks s.steady;
       came = came_by T n _ _ walks s.came;
-      room = s.room;
-      told = s.told;
+      depth = s.depth;
+      timed = s.timed;
     }
 
     pub leads_stored : (left : ℕ) → Walks T.image T.inputs n (machine P x) (machine P stored_at) →
@@ -89,7 +89,7 @@ module _ (T : Setting) (formed : IsWellFormed T.image) (inputs : All IsWord T.in
             (old.old, old.live, old.long));
         keeps = λ k q g. guarded_kept T.image formed T.performs P.floor x.inj x.meant.memory x.bytes s.blocks P.comp a w
             p v after honest stores is_at k q g.guard;
-        rooms = λ k. refl;
+        depths = λ k. refl;
       };
     }
 
@@ -110,7 +110,7 @@ module _ (T : Setting) (formed : IsWellFormed T.image) (cells : List ℕ) (place
   pub own_keeps : FrameMatches T.image A x.inj x.meant.memory x.bytes → (k q : ℕ) →
       Protected T P x.inj x.meant.memory k q → word (put_word x.bytes (A.sp + offset) w) q ≡ word x.bytes q
   own_keeps frame k q p =
-      let inside : offset + 4 ≤ A.frame.bytes = own_inside cells places nodes A.frame is.room i offset its in
+      let inside : offset + 4 ≤ A.frame.bytes = own_inside cells places nodes A.frame is.frame_fits i offset its in
       let apart : Apart q (A.sp + offset) =
       ⊎_elim (λ e. inr (omega (arith, p.own e, inside)))
       (λ n. other_data T.image k A.here.comp q (A.sp + offset) formed n p.guard.owned

@@ -3,7 +3,7 @@ use Rattle.sc_relation.proofs.Common.{Activation, All, Arrives, Blocks, Bool, Ef
 use Rattle.sc_relation.proofs.Common.{IsActivation, IsClear, IsWellFormed, IsWord, Joint, Leads, List, Lives}
 use Rattle.sc_relation.proofs.Common.{Memory as Bytes, None, Null, Ok, Option, Overflows, Owned, Piece, Place, Point}
 use Rattle.sc_relation.proofs.Common.{Pointer, Protected, Ptr, Ready, Register, Registers, Running, Set, Setting}
-use Rattle.sc_relation.proofs.Common.{Settled, Shows, Slot, Some, Standpoint, StandsFor, State as Meant, Temps, Value}
+use Rattle.sc_relation.proofs.Common.{Settled, Emits, Slot, Some, Standpoint, StandsFor, State as Meant, Temps, Value}
 use Rattle.sc_relation.proofs.Common.{Walks, Word, ahead_at, all_at, and_first, and_from, and_rest, arith, false}
 use Rattle.sc_relation.proofs.Common.{is_one, live_across, load, machine, ne_eqb, not, one_or_none, or_right, own_words}
 use Rattle.sc_relation.proofs.Common.{plain_points, put_word, refl, register_of, seen_from, slice_get, sp, store, subst}
@@ -33,14 +33,14 @@ module _ (reads : List ℕ) (assigned : Option ℕ) (lives : Lives) where
   pub across_live : (t : ℕ) → live_across reads false assigned lives t ≡ true → live_plain t ≡ true
   across_live t is = or_right (is_one t reads) _ is
 
-pub behind_live : (reads : List ℕ) (lives : Lives) (t d : ℕ) → lives.behind t ≡ true → t ≢ d →
+pub after_live : (reads : List ℕ) (lives : Lives) (t d : ℕ) → lives.following t ≡ true → t ≢ d →
     live_plain reads (Some d) lives t ≡ true
-behind_live reads lives t d on n =
-    or_right (is_one t reads) _ (and_from (not (is_one t (one_or_none (Some d)))) (lives.behind t) (not_one t d n) on)
+after_live reads lives t d on n =
+    or_right (is_one t reads) _ (and_from (not (is_one t (one_or_none (Some d)))) (lives.following t) (not_one t d n) on)
 
-pub behind_unassigned : (reads : List ℕ) (lives : Lives) (t : ℕ) → lives.behind t ≡ true →
+pub after_unassigned : (reads : List ℕ) (lives : Lives) (t : ℕ) → lives.following t ≡ true →
     live_plain reads None lives t ≡ true
-behind_unassigned reads lives t on = or_right (is_one t reads) _ on
+after_unassigned reads lives t on = or_right (is_one t reads) _ on
 
 module _ (T : Setting) (R : Running) where
   abbrev A : Activation
@@ -86,8 +86,8 @@ module _ (T : Setting) (R : Running) where
         subst (λ z. StandsFor (x.inj A.here.comp) z v)
             (sym (word_same x.bytes (A.sp + offset) w stands.word)) stands,
       );
-      others = kept_but_slot A cells R.places nodes is.room k offset w its x.regs regs x.bytes others;
-      ra = ra_kept A cells R.places nodes is.room k offset w its x.bytes;
+      others = kept_but_slot A cells R.places nodes is.frame_fits k offset w its x.regs regs x.bytes others;
+      ra = ra_kept A cells R.places nodes is.frame_fits k offset w its x.bytes;
       cells = own_cells T formed cells R.places nodes A is x (suc k) offset w its ready.settled ready.frame;
       keeps = own_keeps T formed cells R.places nodes A is x (suc k) offset w its ready.frame;
     }
@@ -147,12 +147,12 @@ module _ (T : Setting) (R : Running) where
         All (IsClear R.places) (plain_points reads false (Some d) lives) → slice_get R.places d ≡ Some place →
         Assigns x place v regs later →
         Walks T.image T.inputs n (machine P x) (machine P (moved x pc regs later)) →
-        Arrives T R lives.behind x (n + left) left (with_temp d v temps) x.meant pc
+        Arrives T R lives.following x (n + left) left (with_temp d v temps) x.meant pc
     assigned reads lives temps x n left d pc place v regs later ready clear its h walks =
         assigned_at (live_plain reads (Some d) lives)
-        (record { assigned = Some d; calls = false; live = lives.behind }) temps x n left d pc place v regs later ready
+        (record { assigned = Some d; calls = false; live = lives.following }) temps x n left d pc place v regs later ready
         (all_at (IsClear R.places) (plain_points reads false (Some d) lives) 1 _ clear refl) refl its
-        (λ t on e. behind_live reads lives t d on e) h walks
+        (λ t on e. after_live reads lives t d on e) h walks
 
     -- a store through a pointer
     pub stored_through : (reads : List ℕ) (lives : Lives) (temps : Temps) (x : Joint) (n left pc a w : ℕ) (p : Pointer)
@@ -162,7 +162,7 @@ module _ (T : Setting) (R : Running) where
         ((q : ℕ) → HasNoOtherUse q → regs q ≡ x.regs q) →
         Walks T.image T.inputs n (machine P x)
         (machine P (moved_with x A.here.comp after pc regs (put_word x.bytes (a + 4 * p.index) w))) →
-        Arrives T R lives.behind x (n + left) left temps (with_memory A.here.comp after x.meant) pc
+        Arrives T R lives.following x (n + left) left temps (with_memory A.here.comp after x.meant) pc
     stored_through reads lives temps x n left pc a w p v after regs ready stores is_at stands same others walks =
         let s = ready.settled in
         let later : Bytes = put_word x.bytes (a + 4 * p.index) w in
@@ -184,8 +184,8 @@ module _ (T : Setting) (R : Running) where
                 v after is.honest stores is_at A.here.comp)
                 (subst (λ q. word later q ≡ word x.bytes q) here (own 0 0 refl)) ready.frame;
             held = held_kept A R.places x.inj x.inj x.regs regs x.bytes later (λ b a e. e)
-                (wanted R.plan.needed (live_plain reads None lives)) (wanted R.plan.needed lives.behind) temps
-                (wanted_less R.plan.needed lives.behind (live_plain reads None lives) (behind_unassigned reads lives))
+                (wanted R.plan.needed (live_plain reads None lives)) (wanted R.plan.needed lives.following) temps
+                (wanted_less R.plan.needed lives.following (live_plain reads None lives) (after_unassigned reads lives))
                 (λ t place on e. kept_all A x.regs regs x.bytes later others (λ k o f. own (suc k) o f) place)
                 ready.held;
             sp = same ∙ ready.sp;
@@ -230,7 +230,7 @@ module _ (T : Setting) (R : Running) where
         ((r : ℕ) → HasNoOtherUse r → regs r ≡ x.regs r) →
         Walks T.image T.inputs n (machine P x)
         (machine P (moved_with x A.here.comp after pc regs (put_word x.bytes to w))) →
-        Arrives T R lives.behind x (n + left) left temps (with_memory A.here.comp after x.meant) pc
+        Arrives T R lives.following x (n + left) left temps (with_memory A.here.comp after x.meant) pc
     stores reads lives temps x n left pc to w (Word k) v after regs ready place h stands same others walks = cc h
     stores reads lives temps x n left pc to w Null v after regs ready place h stands same others walks = cc h
     stores reads lives temps x n left pc to w (Ptr p) v after regs ready place h stands same others walks =
@@ -253,8 +253,8 @@ module _ (T : Setting) (R : Running) where
     inputs = s.inputs;
     steady = s.steady;
     came = s.came;
-    room = s.room;
-    told = s.told;
+    depth = s.depth;
+    timed = s.timed;
   }
 
   pub settled_to : (x : Joint) → Settled T P x → Settled T call_from x
@@ -265,8 +265,8 @@ module _ (T : Setting) (R : Running) where
     inputs = s.inputs;
     steady = s.steady;
     came = s.came;
-    room = s.room;
-    told = s.told;
+    depth = s.depth;
+    timed = s.timed;
   }
 
   -- what lies above the frame lies above what is called
@@ -284,13 +284,13 @@ module _ (T : Setting) (R : Running) where
         own = λ e. omega (arith, p.own e);
         other = p.other;
       });
-      rooms = l.effect.rooms;
+      depths = l.effect.depths;
     };
   }
 
-  pub shows_from : (x : Joint) (budget : ℕ) (meant : Meant) → Shows T call_from x budget meant → Shows T P x budget
+  pub emits_from : (x : Joint) (budget : ℕ) (meant : Meant) → Emits T call_from x budget meant → Emits T P x budget
       meant
-  shows_from x budget meant g = record {
+  emits_from x budget meant g = record {
     steps = g.steps;
     reached = g.reached;
     run = g.run;
@@ -309,7 +309,7 @@ module _ (T : Setting) (R : Running) where
     begun = o.begun;
     trace = o.trace;
     deep = o.deep;
-    told = o.told;
+    timed = o.timed;
     grown = o.grown;
     costs = o.costs;
   }

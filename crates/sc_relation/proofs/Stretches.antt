@@ -2,7 +2,7 @@
 use Rattle.sc_relation.proofs.Common.{Arrives, Beside, Break, Comes, Continue, Costs, Effect, Ends, Exit, ExitGives}
 use Rattle.sc_relation.proofs.Common.{Gives, Goes, Grown, Joint, Leads, Left, Lives, Next, Option, Overflows, Piece}
 use Rattle.sc_relation.proofs.Common.{Protected, Reached, Registers, Return, Returns, Running, Set, Setting, Settled}
-use Rattle.sc_relation.proofs.Common.{Shows, Standpoint, State as Meant, Stopped, Temps, Value, and_then, arith, inl}
+use Rattle.sc_relation.proofs.Common.{Emits, Standpoint, State as Meant, Stopped, Temps, Value, and_then, arith, inl}
 use Rattle.sc_relation.proofs.Common.{inr, last, length, machine, more, refl, same_Some, seen_from, stay, subst, sym}
 use Rattle.sc_relation.proofs.Common.{then_from, then_go, ℕ, ⊎_elim, ◌+◌, ◌∙◌, ◌≡◌, ◌≤◌}
 
@@ -30,7 +30,7 @@ module _ (T : Setting) (P : Standpoint) where
     grows = λ k b a h. h;
     lived = λ k b cells s live. (cells, live, refl);
     keeps = λ k q p. refl;
-    rooms = λ k. refl;
+    depths = λ k. refl;
   }
 
   pub effect_none : (x : Joint) → Effect T P x x
@@ -43,7 +43,7 @@ module _ (T : Setting) (P : Standpoint) where
         (let middle = f.lived k b cells s live in
         let old = e.lived k b middle.0 s middle.1 in (old.0, old.1, middle.2 ∙ old.2));
     keeps = λ k q p. f.keeps k q (protected_on x y k q settled e p) ∙ e.keeps k q p;
-    rooms = λ k. f.rooms k ∙ e.rooms k;
+    depths = λ k. f.depths k ∙ e.depths k;
   }
 
   pub costs_none : (budget left : ℕ) (s : Meant) → left ≤ budget → Costs T 0 budget left s s
@@ -89,8 +89,8 @@ module _ (T : Setting) (P : Standpoint) where
     effect = l.effect;
   }
 
-  pub shows_after : (x y : Joint) (a b : ℕ) (s : Meant) → Leads T P x y a b → Shows T P y b s → Shows T P x a s
-  shows_after x y a b s l g = record {
+  pub emits_after : (x y : Joint) (a b : ℕ) (s : Meant) → Leads T P x y a b → Emits T P y b s → Emits T P x a s
+  emits_after x y a b s l g = record {
     steps = l.steps + g.steps;
     reached = g.reached;
     run = then_go T.image T.inputs l.run g.run;
@@ -98,8 +98,8 @@ module _ (T : Setting) (P : Standpoint) where
     costs = costs_then l.steps g.steps a b 0 x.meant y.meant s l.costs g.costs;
   }
 
-  pub shows_less : (x : Joint) (a c : ℕ) (s : Meant) → a ≤ c → Shows T P x a s → Shows T P x c s
-  shows_less x a c s h g = record {
+  pub emits_less : (x : Joint) (a c : ℕ) (s : Meant) → a ≤ c → Emits T P x a s → Emits T P x c s
+  emits_less x a c s h g = record {
     steps = g.steps;
     reached = g.reached;
     run = g.run;
@@ -108,8 +108,8 @@ module _ (T : Setting) (P : Standpoint) where
   }
 
   -- nothing happens
-  pub shows_here : (x : Joint) (budget : ℕ) → Shows T P x budget x.meant
-  shows_here x budget = record {
+  pub emits_here : (x : Joint) (budget : ℕ) → Emits T P x budget x.meant
+  emits_here x budget = record {
     steps = 0;
     reached = machine P x;
     run = stay T.image T.inputs;
@@ -129,7 +129,7 @@ module _ (T : Setting) (P : Standpoint) where
     begun = o.begun;
     trace = o.trace;
     deep = o.deep;
-    told = o.told;
+    timed = o.timed;
     grown = o.grown;
     costs = costs_then l.steps o.steps a b 0 x.meant y.meant o.begun l.costs o.costs;
   }
@@ -145,7 +145,7 @@ module _ (T : Setting) (P : Standpoint) where
     begun = o.begun;
     trace = o.trace;
     deep = o.deep;
-    told = o.told;
+    timed = o.timed;
     grown = more o.begun (last piece) (last whole) o.grown goes;
     costs = costs_less o.steps a 0 c 0 x.meant o.begun h (omega arith) o.costs;
   }
@@ -186,7 +186,7 @@ module _ (T : Setting) (R : Running) where
       Settled T P x → Leads T P x y a b → ExitGives T R lives y b ends exit temps s →
       ExitGives T R lives x a ends exit temps s
   exit_after lives x y a b ends Next temps s settled l g =
-      arrives_after lives.behind x y a b ends.left temps s ends.behind settled l g
+      arrives_after lives.following x y a b ends.left temps s ends.following settled l g
   exit_after lives x y a b ends Break temps s settled l g =
       arrives_after lives.broken x y a b ends.left temps s ends.broken settled l g
   exit_after lives x y a b ends Continue temps s settled l g =
@@ -197,7 +197,7 @@ module _ (T : Setting) (R : Running) where
       Leads T P x y a b → Gives T R lives y b ends piece → Gives T R lives x a ends piece
   gives_after lives x y a b ends (Reached l s) settled leads g =
       exit_after lives x y a b ends l.exit l.carried s settled leads g
-  gives_after lives x y a b ends (Stopped end s) settled leads g = shows_after T P x y a b s leads g
+  gives_after lives x y a b ends (Stopped end s) settled leads g = emits_after T P x y a b s leads g
 
   -- a stretch, and what comes after it
   pub comes_after : (lives : Lives) (x y : Joint) (a b : ℕ) (ends : Ends) (piece : Piece (Left Temps)) →

@@ -8,7 +8,7 @@ use Rattle.std.specs.Prelude.{Some, slice_get, IsSome}
 use Rattle.sc_core.specs.declared.expr.CallTarget.TheVariants.{Own, Cross, Input, Output}
 use Rattle.sc_relation.specs.Blocks.{StandsFor}
 use Rattle.sc_relation.specs.Frames.{AreFloors}
-use Rattle.sc_relation.specs.Stretches.{Setting, Joint, Standpoint, Settled, Leads, Shows, Overflows, GivenBack}
+use Rattle.sc_relation.specs.Stretches.{Setting, Joint, Standpoint, Settled, Leads, Emits, Overflows, ReturnsValue}
 
 -- a call of the environment
 abbrev pub of_environment : CallTarget → Bool
@@ -43,14 +43,14 @@ module _ (T : Setting) where
     pub meant_is : y.meant ≡ meant
     pub pc : y.pc ≡ x.pc + 4
     pub sp : y.regs sp ≡ x.regs sp
-    pub value : GivenBack T (y.inj P.comp) (y.regs a0) v
+    pub value : ReturnsValue T (y.inj P.comp) (y.regs a0) v
     pub registers : of_environment target ≡ true → (q : ℕ) → q ≢ a0 → y.regs q ≡ x.regs q
     pub leads : Leads T P x y 1 0
     pub settled : Settled T P y
 
   abbrev pub CallGives : Standpoint → Joint → CallTarget → Piece (Option Value) → Type 0
   CallGives P x target (Reached v s) = ComesBack P x target v s
-  CallGives P x target (Stopped end s) = Shows T P x 1 s
+  CallGives P x target (Stopped end s) = Emits T P x 1 s
 
   -- the instruction of a call of each kind, at the pc; after that of an own function there is code, to come back to
   abbrev pub CallStands : Standpoint → Joint → CallTarget → Type 0
@@ -94,13 +94,13 @@ module _ (T : Setting) where
     pub jump : Fetches T.image P.comp y.pc (Jalr 0 ra (pos 0))
     pub ra : y.regs ra ≡ ra_is
     pub sp : y.regs sp ≡ P.bound
-    pub value : GivenBack T (y.inj P.comp) (y.regs a0) v
+    pub value : ReturnsValue T (y.inj P.comp) (y.regs a0) v
     pub leads : Leads T P x y budget 1
     pub settled : Settled T P y
 
   abbrev pub FunctionGives : Standpoint → Joint → (budget ra_is : ℕ) → Piece (Option Value) → Type 0
   FunctionGives P x budget ra_is (Reached v s) = IsLeft P x budget ra_is v s
-  FunctionGives P x budget ra_is (Stopped end s) = Shows T P x budget s
+  FunctionGives P x budget ra_is (Stopped end s) = Emits T P x budget s
 
   -- what a call of it does after its event, if it has one: its variables and frame begin, it runs, and they end
   abbrev pub runs_with : Calls → ℕ → Function → List Value → Meant → Piece (Option Value)

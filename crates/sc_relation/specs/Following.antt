@@ -5,8 +5,8 @@ use Rattle.sc_relation.specs.Common.{Trail, Value, a0, ahead_at, completed, low_
 use Rattle.sc_relation.specs.Common.{row_fresh, row_points, sp}
 use Rattle.sc_select.specs.Prelude.{Piece as Code}
 use Rattle.std.specs.Prelude.{◌≡◌, ◌&&◌, ℕ, ◌+◌, ◌*◌, ◌≤◌, ◌⊎◌, pos, List, length, All, Option, None}
-use Rattle.sc_relation.specs.Frames.{Activation, FrameMatches, AreHeld}
-use Rattle.sc_relation.specs.Stretches.{Setting, Joint, Standpoint, Settled, Leads, Shows, Overflows, GivenBack}
+use Rattle.sc_relation.specs.Frames.{Activation, FrameMatches, AreInPlace}
+use Rattle.sc_relation.specs.Stretches.{Setting, Joint, Standpoint, Settled, Leads, Emits, Overflows, ReturnsValue}
 
 -- statements in order as one
 abbrev pub row : List Trail → Trail
@@ -38,7 +38,7 @@ pub record Running : Type 0 where
 -- where control may go on, and the budget that is left there
 pub record Ends : Type 0 where
   pub left : ℕ
-  pub behind : ℕ
+  pub following : ℕ
   pub broken : ℕ
   pub continued : ℕ
 
@@ -46,7 +46,7 @@ pub record Ends : Type 0 where
 abbrev pub ends_of : Code → (pc left to_break to_continue : ℕ) → Ends
 ends_of code pc left to_break to_continue = record {
   left = left;
-  behind = pc + 4 * code.size;
+  following = pc + 4 * code.size;
   broken = pc + 4 * (code.size + to_break);
   continued = pc + 4 * (code.size + to_continue);
 }
@@ -56,7 +56,7 @@ module _ (T : Setting) (R : Running) where
   pub record Ready (live : Set) (temps : Temps) (x : Joint) : Type 0 where
     pub settled : Settled T (seen_from R.activation) x
     pub frame : FrameMatches T.image R.activation x.inj x.meant.memory x.bytes
-    pub held : AreHeld R.activation R.places x.inj x.regs x.bytes (wanted R.plan.needed live) temps
+    pub held : AreInPlace R.activation R.places x.inj x.regs x.bytes (wanted R.plan.needed live) temps
     pub sp : x.regs sp ≡ R.activation.sp
 
   -- the code comes to this place, with these temporaries and this state of the meaning
@@ -74,20 +74,20 @@ module _ (T : Setting) (R : Running) where
     pub jump : Fetches T.image R.activation.here.comp y.pc (Jalr 0 ra (pos 0))
     pub ra : y.regs ra ≡ R.activation.ra
     pub sp : y.regs sp ≡ R.activation.sp + R.activation.frame.bytes
-    pub value : GivenBack T (y.inj R.activation.here.comp) (y.regs a0) v
+    pub value : ReturnsValue T (y.inj R.activation.here.comp) (y.regs a0) v
     pub leads : Leads T (seen_from R.activation) x y budget 1
     pub settled : Settled T (seen_from R.activation) y
 
   -- what comes of code: after it, where a break leads, where a continue leads, or at the jump back
   abbrev pub ExitGives : Lives → Joint → (budget : ℕ) → Ends → Exit → Temps → Meant → Type 0
-  ExitGives lives x budget ends Next temps s = Arrives lives.behind x budget ends.left temps s ends.behind
+  ExitGives lives x budget ends Next temps s = Arrives lives.following x budget ends.left temps s ends.following
   ExitGives lives x budget ends Break temps s = Arrives lives.broken x budget ends.left temps s ends.broken
   ExitGives lives x budget ends Continue temps s = Arrives lives.continued x budget ends.left temps s ends.continued
   ExitGives lives x budget ends (Return v) temps s = Returns x budget v s
 
   abbrev pub Gives : Lives → Joint → (budget : ℕ) → Ends → Piece (Left Temps) → Type 0
   Gives lives x budget ends (Reached l s) = ExitGives lives x budget ends l.exit l.carried s
-  Gives lives x budget ends (Stopped end s) = Shows T (seen_from R.activation) x budget s
+  Gives lives x budget ends (Stopped end s) = Emits T (seen_from R.activation) x budget s
 
   abbrev pub Comes : Lives → Joint → (budget : ℕ) → Ends → Piece (Left Temps) → Type 0
   Comes lives x budget ends piece =

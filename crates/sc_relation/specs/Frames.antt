@@ -1,5 +1,5 @@
 -- The running call: its frame, and the places of its temporaries.
-use Rattle.sc_relation.specs.Common.{Crossing, HasRoom, Here, ImageParts, IsFrame, Memory, Place, Registers, Set, Temps}
+use Rattle.sc_relation.specs.Common.{Crossing, FrameFits, Here, ImageParts, IsFrame, Memory, Place, Registers, Set, Temps}
 use Rattle.sc_relation.specs.Common.{Value, data_start, register_of, stack_top, word}
 use Rattle.sc_store.specs.Prelude.{Memory as Bytes}
 use Rattle.std.specs.Prelude.{◌≡◌, ℕ, ◌+◌, ◌%◌, ◌<◌, ◌≤◌, Bool, true, false, List, ◌∷◌, Some, slice_get}
@@ -32,7 +32,7 @@ pub record IsActivation (performs : ℕ → Bool) (cells : List ℕ) (places : L
   pub honest : performs A.here.comp ≡ false
   pub known : A.here.comp < 32
   pub frame : IsFrame A.frame
-  pub room : HasRoom cells places nodes A.frame
+  pub frame_fits : FrameFits cells places nodes A.frame
   pub aligned : A.sp % 4 ≡ 0
   pub low : data_start A.here.comp ≤ A.sp
   pub high : A.sp + A.frame.bytes ≤ stack_top A.here.comp
@@ -56,13 +56,13 @@ InPlace A inj regs bytes (Slot k) v =
     StandsFor (inj A.here.comp) (word bytes (A.sp + offset)) v
 
 -- a temporary has its value in its place
-pub record IsHeld (A : Activation) (places : List Place) (inj : Injection) (regs : Registers) (bytes : Bytes) (t : ℕ)
+pub record IsInPlace (A : Activation) (places : List Place) (inj : Injection) (regs : Registers) (bytes : Bytes) (t : ℕ)
     (v : Value) : Type 0 where
   pub place : Place
   pub its : slice_get places t ≡ Some place
   pub value : InPlace A inj regs bytes place v
 
 -- each that is live and was assigned has
-abbrev pub AreHeld : Activation → List Place → Injection → Registers → Bytes → Set → Temps → Type 0
-AreHeld A places inj regs bytes live temps =
-    (t : ℕ) (v : Value) → live t ≡ true → temps t ≡ Some v → IsHeld A places inj regs bytes t v
+abbrev pub AreInPlace : Activation → List Place → Injection → Registers → Bytes → Set → Temps → Type 0
+AreInPlace A places inj regs bytes live temps =
+    (t : ℕ) (v : Value) → live t ≡ true → temps t ≡ Some v → IsInPlace A places inj regs bytes t v

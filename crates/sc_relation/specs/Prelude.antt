@@ -6,8 +6,8 @@ pub use Rattle.sc_relation.specs.Calls.{FunctionFollows, FunctionGives, GivesVal
 pub use Rattle.sc_relation.specs.Calls.{runs_with}
 pub use Rattle.sc_relation.specs.Following.{Arrives, Comes, Ends, ExitGives, Follows, Gives, Ready, Returns, Running}
 pub use Rattle.sc_relation.specs.Following.{StandsAt, Starts, ends_of, live_at, row, seen_from, wanted}
-pub use Rattle.sc_relation.specs.Frames.{Activation, AreFloors, AreHeld, FrameMatches, InPlace, IsActivation, IsHeld}
+pub use Rattle.sc_relation.specs.Frames.{Activation, AreFloors, AreInPlace, FrameMatches, InPlace, IsActivation, IsInPlace}
 pub use Rattle.sc_relation.specs.Frames.{own_words}
 pub use Rattle.sc_relation.specs.Operators.{IsElement, IsSound}
-pub use Rattle.sc_relation.specs.Stretches.{AllHonest, Came, Costs, Effect, GivenBack, Joint, Leads, Overflows}
-pub use Rattle.sc_relation.specs.Stretches.{Protected, Setting, Settled, Shows, Standpoint, machine}
+pub use Rattle.sc_relation.specs.Stretches.{AllHonest, Came, Costs, Effect, ReturnsValue, Joint, Leads, Overflows}
+pub use Rattle.sc_relation.specs.Stretches.{Protected, Setting, Settled, Emits, Standpoint, machine}

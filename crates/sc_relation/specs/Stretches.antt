@@ -1,6 +1,6 @@
 -- Stretches of a run on both sides: of the machine, and of a meaning whose state stands beside the machine's.
 use Rattle.sc_relation.specs.Common.{Addresses, AllBefore, CallTarget, Cell, Crossing, Grown, ImageParts, IsSteady}
-use Rattle.sc_relation.specs.Common.{Memory, Piece, Registers, State as Meant, Traps, Value, Walks, at, last, open_room}
+use Rattle.sc_relation.specs.Common.{Memory, Piece, Registers, State as Meant, Traps, Value, Walks, at, last, stack_depth}
 use Rattle.sc_relation.specs.Common.{stack_size, stack_top, step, word}
 use Rattle.sc_store.specs.Prelude.{Memory as Bytes}
 use Rattle.sc_image.specs.Prelude.{State}
@@ -63,9 +63,9 @@ module _ (T : Setting) where
     pub steady : IsSteady T.image (machine P x)
     pub came : Came (machine P x)
     -- what is in use of a stack is no more than its stack depth in the meaning
-    pub room : (k : ℕ) → T.performs k ≡ false → stack_top k ≤ P.floor k + open_room k x.meant
+    pub depth : (k : ℕ) → T.performs k ≡ false → stack_top k ≤ P.floor k + stack_depth k x.meant
     -- each change of frames was made within the trace
-    pub told : AllBefore (suc (length x.meant.trace)) x.meant.frames
+    pub timed : AllBefore (suc (length x.meant.trace)) x.meant.frames
 
   -- a word that belongs to what lies above: to calls before, or to another compartment
   pub record Protected (P : Standpoint) (inj : Injection) (memory : Memory) (k q : ℕ) : Type 0 where
@@ -81,7 +81,7 @@ module _ (T : Setting) where
     pub lived : (k b : ℕ) (cells : List Cell) → T.performs k ≡ false → LiveAt y.meant.memory k b cells →
         (old : List Cell) × LiveAt x.meant.memory k b old × (length cells ≡ length old)
     pub keeps : (k q : ℕ) → Protected P x.inj x.meant.memory k q → word y.bytes q ≡ word x.bytes q
-    pub rooms : (k : ℕ) → open_room k y.meant ≡ open_room k x.meant
+    pub depths : (k : ℕ) → stack_depth k y.meant ≡ stack_depth k x.meant
 
   -- every compartment of the image runs its code: only then is there an upper bound on steps
   abbrev pub AllHonest : Type 0
@@ -100,7 +100,7 @@ module _ (T : Setting) where
     pub effect : Effect P x y
 
   -- the meaning ends: the machine has emitted its events
-  pub record Shows (P : Standpoint) (x : Joint) (budget : ℕ) (meant : Meant) : Type 0 where
+  pub record Emits (P : Standpoint) (x : Joint) (budget : ℕ) (meant : Meant) : Type 0 where
     pub steps : ℕ
     pub reached : State
     pub run : Walks T.image T.inputs steps (machine P x) reached
@@ -117,12 +117,12 @@ module _ (T : Setting) where
     pub honest : T.performs reached.active ≡ false
     pub begun : Meant
     pub trace : reached.trace ≡ begun.trace
-    pub deep : stack_size < open_room reached.active begun
-    pub told : AllBefore (suc (length begun.trace)) begun.frames
+    pub deep : stack_size < stack_depth reached.active begun
+    pub timed : AllBefore (suc (length begun.trace)) begun.frames
     pub grown : Grown begun (last piece)
     pub costs : Costs steps budget 0 x.meant begun
 
   -- a value that is returned, in a0
-  abbrev pub GivenBack : (ℕ → Option ℕ) → ℕ → Option Value → Type 0
-  GivenBack place w None = Unit {0}
-  GivenBack place w (Some v) = StandsFor place w v
+  abbrev pub ReturnsValue : (ℕ → Option ℕ) → ℕ → Option Value → Type 0
+  ReturnsValue place w None = Unit {0}
+  ReturnsValue place w (Some v) = StandsFor place w v

@@ -1,23 +1,23 @@
 -- Bodies of functions in both runs, from what bodies do with one call less open.
-use Rattle.sc_replay.proofs.Common.{Blamed, Body, BodyGoes, Bool, Call, CallTarget, CallsTwins, Cross, Entry, Event}
-use Rattle.sc_replay.proofs.Common.{Export, Function, FunctionTwins, Here, In, Input, IsFixed, IsSome, Library, List}
+use Rattle.sc_replay.proofs.Common.{Blamed, Body, BodyGoes, Bool, Call, CallTarget, RelatedCalls, Cross, Entry, Event}
+use Rattle.sc_replay.proofs.Common.{Export, Function, RelatedFunctions, Here, In, Input, IsFixed, IsSome, Denotations, List}
 use Rattle.sc_replay.proofs.Common.{Meets, None, Obedient, Option, Out, Output, Own, Piece, Reached, Roles, Some, State}
 use Rattle.sc_replay.proofs.Common.{Step, Stopped, TurnsOut, Value, Word, [], and_first, and_rest, and_then, ap, arith}
 use Rattle.sc_replay.proofs.Common.{back_cross, back_own, begun, block_does, c_arith, call_cross, call_own, called}
 use Rattle.sc_replay.proofs.Common.{calls, calls_go, count_of, counts_its_own, crossed, done, drop, false, first_word}
-use Rattle.sc_replay.proofs.Common.{found, function, function_twins, if◌then◌else◌, imports, inl, inr, is_function}
+use Rattle.sc_replay.proofs.Common.{found, function, related_functions, if◌then◌else◌, imports, inl, inr, is_function}
 use Rattle.sc_replay.proofs.Common.{is_word, leads, length, list_all, map, may_call, next_input, now, performer}
 use Rattle.sc_replay.proofs.Common.{proto_of, read_input, refl, run_in, run_step, scripted_step, slice_get, subst, suc}
-use Rattle.sc_replay.proofs.Common.{sym, takes, tell, true, word_in, ℕ, ◌&&◌, ◌++◌, ◌<◌, ◌∙◌, ◌∷◌, ◌≡◌, ◌≤◌}
+use Rattle.sc_replay.proofs.Common.{sym, takes, emit_event, true, word_in, ℕ, ◌&&◌, ◌++◌, ◌<◌, ◌∙◌, ◌∷◌, ◌≡◌, ◌≤◌}
 use Rattle.sc_core.specs.declared.cause.Cause.TheVariants.{BadType}
-use Rattle.sc_replay.proofs.Near.{Both, Near, NearBy, Reaches, Returns, Told, ahead, both_so, both_then, counts, firsts}
-use Rattle.sc_replay.proofs.Near.{near_begun, near_done, near_told, reached, stopped, told_ahead, told_other}
+use Rattle.sc_replay.proofs.Near.{Both, Near, NearBy, Reaches, Returns, Emitted, ahead, both_so, both_then, counts, firsts}
+use Rattle.sc_replay.proofs.Near.{near_begun, near_done, near_emitted, reached, stopped, emitted_ahead, emitted_other}
 use Rattle.sc_replay.proofs.Step.{Back, IsOut, function_alike}
-use Rattle.sc_replay.proofs.Kept.{Alike, IsKept, kept_twins, turn_both}
+use Rattle.sc_replay.proofs.Kept.{Alike, IsKept, kept_related, turn_both}
 use Rattle.sc_replay.proofs.Crossing.{at, both_and, came_back, came_kept, cross_counts, inside, inside_cross}
 use Rattle.sc_replay.proofs.Recomposed.{Performed, Recomposed, may_same, taken}
 
-module _ (roles : Roles) (L M : Library) (r : Recomposed roles L M) (obedient : Obedient L) (step : Step)
+module _ (roles : Roles) (L M : Denotations) (r : Recomposed roles L M) (obedient : Obedient L) (step : Step)
     (fixed : IsFixed (scripted_step L roles step)) (most : ℕ) where
   abbrev pub scripts : Body
   scripts = now (scripted_step L roles step)
@@ -44,56 +44,56 @@ module _ (roles : Roles) (L M : Library) (r : Recomposed roles L M) (obedient : 
       back = back_cross L.interfaces from to index
 
       -- a call whose functions are looked up
-      abbrev into : Library → Body → Option ℕ → State → Piece (Option Value)
+      abbrev into : Denotations → Body → Option ℕ → State → Piece (Option Value)
       into N body number s =
-          and_then (found number s) (λ k s. run_in N body to k (crossed args) back (tell e s))
+          and_then (found number s) (λ k s. run_in N body to k (crossed args) back (emit_event e s))
 
       -- into a compartment that keeps its section
       to_kept : roles.scripted to ≡ false → (number : Option ℕ) (s s' : State) →
-          Near roles most (tell e s) (tell e s') → s.turns < most → s.trace ≡ s'.trace →
+          Near roles most (emit_event e s) (emit_event e s') → s.turns < most → s.trace ≡ s'.trace →
           Both R (into M a number s) (into L scripts number s')
       to_kept clear None s s' near less same = stopped TurnsOut same
       to_kept clear (Some k) s s' near less same =
-          subst (λ x. Both R (and_then (found x (tell e s)) (inside a to (crossed args) back k))
-          (and_then (found (function L to k) (tell e s')) (inside scripts to (crossed args) back k)))
+          subst (λ x. Both R (and_then (found x (emit_event e s)) (inside a to (crossed args) back k))
+          (and_then (found (function L to k) (emit_event e s')) (inside scripts to (crossed args) back k)))
           (sym (ap (λ fs. slice_get fs k) (r.kept to clear))) (by (function L to k)) where
-            by : (o : Option Function) → Both R (and_then (found o (tell e s)) (inside a to (crossed args) back k))
-                (and_then (found o (tell e s')) (inside scripts to (crossed args) back k))
+            by : (o : Option Function) → Both R (and_then (found o (emit_event e s)) (inside a to (crossed args) back k))
+                (and_then (found o (emit_event e s')) (inside scripts to (crossed args) back k))
             by None = stopped TurnsOut near.trace
             by (Some f) =
                 inside_cross roles most L.interfaces from to index (crossed args) a scripts k k f f (λ _. refl)
                 (λ first first' t t' place near2 less2.
                 came_kept roles most to (a k (at to first) t) (scripts k (at to first') t') clear
                 (subst (λ i. Both R (a k (at to first) t) (scripts k (at to i) t')) (place.kept clear)
-                (h.kept k (at to first) t t' clear near2 less2))) (tell e s) (tell e s') near less
+                (h.kept k (at to first) t t' clear near2 less2))) (emit_event e s) (emit_event e s') near less
 
       -- into one that performs
       to_text : roles.scripted to ≡ true → IsSome (proto_of L.interfaces to (Export index)) → (s s' : State) →
-          Near roles most (tell e s) (tell e s') → s.turns < most →
+          Near roles most (emit_event e s) (emit_event e s') → s.turns < most →
           Both R (into M a (M.entered to (Export index)) s) (into L scripts (L.entered to (Export index)) s')
       to_text set known s s' near less =
           let p : Performed roles L M to (Export index) = r.performed to (Export index) set known in
           subst (λ x. Both R (into M a x s) (into L scripts (L.entered to (Export index)) s')) (sym p.entered')
           (subst (λ x. Both R (into M a (Some p.number') s) (into L scripts x s')) (sym p.entered)
-          (subst (λ x. Both R (and_then (found x (tell e s)) (inside a to (crossed args) back p.number'))
+          (subst (λ x. Both R (and_then (found x (emit_event e s)) (inside a to (crossed args) back p.number'))
           (into L scripts (Some p.number) s')) (sym p.performer.is)
-          (subst (λ x. Both R (inside a to (crossed args) back p.number' p.performer.item (tell e s))
-          (and_then (found x (tell e s')) (inside scripts to (crossed args) back p.number))) (sym p.there)
+          (subst (λ x. Both R (inside a to (crossed args) back p.number' p.performer.item (emit_event e s))
+          (and_then (found x (emit_event e s')) (inside scripts to (crossed args) back p.number))) (sym p.there)
           (inside_cross roles most L.interfaces from to index (crossed args) a scripts p.number' p.number
           p.performer.item p.f (λ clear. absurd (cc (clear, set))) (λ first first' t t' place near2 less2.
           came_back roles most to (a p.number' (at to first) t) (scripts p.number (at to first') t')
           (h.texts to (Export index) set known p.number p.number' first first' p.entered p.entered' t t' near2 less2))
-          (tell e s) (tell e s') near less))))
+          (emit_event e s) (emit_event e s') near less))))
 
       pub cross_both : (counters : ℕ → ℕ) (s s' : State) → IsSome (proto_of L.interfaces to (Export index)) →
-          NearBy roles most counters s s' → Told roles most counters e s.trace → s.turns < most →
+          NearBy roles most counters s s' → Emitted roles most counters e s.trace → s.turns < most →
           Both R (call_cross M a from to index args s) (call_cross L scripts from to index args s')
-      cross_both counters s s' known near told less =
+      cross_both counters s s' known near emitted less =
           subst (λ I. Both R (and_then (found (M.entered to (Export index)) s)
-          (λ k s. run_in M a to k (crossed args) (back_cross I from to index) (tell e s)))
+          (λ k s. run_in M a to k (crossed args) (back_cross I from to index) (emit_event e s)))
           (call_cross L scripts from to index args s')) (sym r.interfaces) (by (roles.scripted to) refl) where
-            near_e : Near roles most (tell e s) (tell e s')
-            near_e = near_told roles most counters s s' e e refl told near
+            near_e : Near roles most (emit_event e s) (emit_event e s')
+            near_e = near_emitted roles most counters s s' e e refl emitted near
 
             by : (x : Bool) → roles.scripted to ≡ x →
                 Both R (into M a (M.entered to (Export index)) s) (into L scripts (L.entered to (Export index)) s')
@@ -130,11 +130,11 @@ module _ (roles : Roles) (L M : Library) (r : Recomposed roles L M) (obedient : 
               }))
 
     read_both : (counters : ℕ → ℕ) (c : ℕ) (s s' : State) → NearBy roles most counters s s' →
-        Told roles most counters (In c (next_input s.inputs)) s.trace →
+        Emitted roles most counters (In c (next_input s.inputs)) s.trace →
         Near roles most (read_input c s) (read_input c s')
-    read_both counters c s s' near told =
-        near_told roles most counters (record s { inputs = drop 1 s.inputs }) (record s' { inputs = drop 1 s'.inputs })
-        (In c (next_input s.inputs)) (In c (next_input s'.inputs)) (ap (λ i. In c (next_input i)) near.inputs) told
+    read_both counters c s s' near emitted =
+        near_emitted roles most counters (record s { inputs = drop 1 s.inputs }) (record s' { inputs = drop 1 s'.inputs })
+        (In c (next_input s.inputs)) (In c (next_input s'.inputs)) (ap (λ i. In c (next_input i)) near.inputs) emitted
         (record {
           trace = near.trace;
           turns = near.turns;
@@ -165,20 +165,20 @@ module _ (roles : Roles) (L M : Library) (r : Recomposed roles L M) (obedient : 
         (λ _. call_cross L scripts from to index args) s s' near (λ n less near2.
         cross_both from to index args (counts s.trace) (record s { turns = n }) (record s' { turns = n })
         (crossed_known from to index args may) near2
-        (told_other roles most from (Call from to index (map word_in args)) s.trace refl clear)
+        (emitted_other roles most from (Call from to index (map word_in args)) s.trace refl clear)
         (omega (arith, less, near.few)))
     called_both from Input args s s' clear may near =
         reached (record {
           same = ap (λ i. Some (Word (next_input i))) near.inputs;
           near = read_both (counts s.trace) from s s' near
-              (told_other roles most from (In from (next_input s.inputs)) s.trace refl clear);
+              (emitted_other roles most from (In from (next_input s.inputs)) s.trace refl clear);
         })
     called_both from Output args s s' clear may near =
         let e : Event = Out from (first_word args) in
         reached (record {
           same = refl;
-          near = near_told roles most (counts s.trace) s s' e e refl
-              (told_other roles most from e s.trace refl clear) near;
+          near = near_emitted roles most (counts s.trace) s s' e e refl
+              (emitted_other roles most from e s.trace refl clear) near;
         })
 
     calls_both : (from : ℕ) (target : CallTarget) (args : List Value) (s s' : State) → roles.scripted from ≡ false →
@@ -197,16 +197,16 @@ module _ (roles : Roles) (L M : Library) (r : Recomposed roles L M) (obedient : 
     abbrev Backs : CallTarget → ℕ → State → Option Value → Option Value → State → State → Type 0
     Backs target c s = Back roles most L step fixed (calls M a) target c (suc (count_of c s.trace))
 
-    told_both : (target : CallTarget) (c : ℕ) (v w : Option Value) (e e' : Event) (s t t' : State) →
+    emitted_both : (target : CallTarget) (c : ℕ) (v w : Option Value) (e e' : Event) (s t t' : State) →
         performer e ≡ c → t.trace ≡ s.trace → e ≡ e' → NearBy roles most (ahead c s.trace) t t' → v ≡ w →
-        Both (Backs target c s) (Reached v (tell e t)) (Reached w (tell e' t'))
-    told_both target c v w e e' s t t' own same_trace same near value =
+        Both (Backs target c s) (Reached v (emit_event e t)) (Reached w (emit_event e' t'))
+    emitted_both target c v w e e' s t t' own same_trace same near value =
         let count : count_of c (t.trace ++ e ∷ []) ≡ suc (count_of c s.trace) =
         ap (λ u. count_of c (u ++ e ∷ [])) same_trace ∙ counts_its_own c s.trace e own in
         reached (record {
-          near = near_told roles most (ahead c s.trace) t t' e e' same
-              (subst (Told roles most (ahead c s.trace) e) (sym same_trace)
-              (told_ahead roles most c e s.trace own)) near;
+          near = near_emitted roles most (ahead c s.trace) t t' e e' same
+              (subst (Emitted roles most (ahead c s.trace) e) (sym same_trace)
+              (emitted_ahead roles most c e s.trace own)) near;
           least = omega (arith, count);
           exact = λ outside. count;
         })
@@ -226,11 +226,11 @@ module _ (roles : Roles) (L M : Library) (r : Recomposed roles L M) (obedient : 
         (call_cross L scripts c to index args (record s' { turns = n }))
         (cross_both c to index args (ahead c s.trace) (record s { turns = n }) (record s' { turns = n })
         (crossed_known c to index args may) near2
-        (told_ahead roles most c (Call c to index (map word_in args)) s.trace refl) (omega (arith, less, near.few)))
+        (emitted_ahead roles most c (Call c to index (map word_in args)) s.trace refl) (omega (arith, less, near.few)))
         (cross_counts M a goes c to index args (record s { turns = n })))
         (λ v w u u' p. record { near = p.0.near; least = p.1; exact = λ outside. absurd outside }))
     row_calls goes c Input args s s' out may near =
-        told_both Input c (Some (Word (next_input s.inputs))) (Some (Word (next_input s'.inputs)))
+        emitted_both Input c (Some (Word (next_input s.inputs))) (Some (Word (next_input s'.inputs)))
         (In c (next_input s.inputs)) (In c (next_input s'.inputs)) s (record s { inputs = drop 1 s.inputs })
         (record s' { inputs = drop 1 s'.inputs }) refl refl (ap (λ i. In c (next_input i)) near.inputs)
         (record {
@@ -242,7 +242,7 @@ module _ (roles : Roles) (L M : Library) (r : Recomposed roles L M) (obedient : 
           counter = near.counter;
         }) (ap (λ i. Some (Word (next_input i))) near.inputs)
     row_calls goes c Output args s s' out may near =
-        told_both Output c None None (Out c (first_word args)) (Out c (first_word args)) s s s' refl refl refl near refl
+        emitted_both Output c None None (Out c (first_word args)) (Out c (first_word args)) s s s' refl refl refl near refl
 
     pub rows_alike : (goes : BodyGoes a) (c : ℕ) (target : CallTarget) (args : List Value) (s s' : State) →
         IsOut target → may_call L c target args ≡ true → NearBy roles most (ahead c s.trace) s s' →
@@ -263,9 +263,9 @@ module _ (roles : Roles) (L M : Library) (r : Recomposed roles L M) (obedient : 
     kept_step goes goes' number here s s' clear near =
         subst (λ x. Both R (and_then (found x s) (λ f s. f.does (calls M a) here s))
         (run_step L scripts number here s')) (sym (ap (λ fs. slice_get fs number) (r.kept here.comp clear)))
-        (by (function L here.comp number) (function_twins (Near roles most) (Alike roles most) (IsKept roles most) L L
-        (kept_twins roles most L obedient) here.comp number)) where
-          made : CallsTwins (Near roles most) (Alike roles most) (IsKept roles most) here.comp (calls M a)
+        (by (function L here.comp number) (related_functions (Near roles most) (Alike roles most) (IsKept roles most) L L
+        (kept_related roles most L obedient) here.comp number)) where
+          made : RelatedCalls (Near roles most) (Alike roles most) (IsKept roles most) here.comp (calls M a)
               (calls L scripts)
           made target args = record {
             first = calls_go M a goes here.comp target args;
@@ -274,7 +274,7 @@ module _ (roles : Roles) (L M : Library) (r : Recomposed roles L M) (obedient : 
           }
 
           by : (o : Option Function) →
-              Meets (FunctionTwins (Near roles most) (Alike roles most) (IsKept roles most)) o o →
+              Meets (RelatedFunctions (Near roles most) (Alike roles most) (IsKept roles most)) o o →
               Both R (and_then (found o s) (λ f s. f.does (calls M a) here s))
               (and_then (found o s') (λ f s. f.does (calls L scripts) here s))
           by None meets = stopped TurnsOut near.trace

@@ -23,19 +23,19 @@ pub use Rattle.sc_event.specs.declared.row.Row.{Row}
 pub use Rattle.sc_core.proofs.Shapes.{AssignLine, CallLine, IfLine, Lines, Lit, NoLine, One, ReturnLine}
 pub use Rattle.sc_core.proofs.Shapes.{ReturnValueLine, Shape, Two, Var, WhileLine, expr, lines_are, lines_do, stmts}
 pub use Rattle.sc_core.proofs.Shapes.{way}
-pub use Rattle.sc_core.specs.Prelude.{Acts, Arith, Block, Blocks, Body, Calls, FrameChange, Front, Function, Here}
-pub use Rattle.sc_core.specs.Prelude.{IsWellTyped, Left, Library, Memory, Next, Piece, Reached, Return, Roles, State}
+pub use Rattle.sc_core.specs.Prelude.{Acts, Arith, Block, Blocks, Body, Calls, FrameChange, IsPrefix, Function, Here}
+pub use Rattle.sc_core.specs.Prelude.{IsWellTyped, Left, Denotations, Memory, Next, Piece, Reached, Return, Roles, State}
 pub use Rattle.sc_core.specs.Prelude.{Step, Stopped, Ways, acts, all_do, and_then, are_distinct, as_word, assign}
-pub use Rattle.sc_core.specs.Prelude.{back_cross, back_own, begun, block_does, blocks_for, c_arith, call_alone}
+pub use Rattle.sc_core.specs.Prelude.{back_cross, back_own, begun, block_does, blocks_for, c_arith, call_statement}
 pub use Rattle.sc_core.specs.Prelude.{call_cross, call_own, called, calls, choose, closed, computed, crossed, crossing}
 pub use Rattle.sc_core.specs.Prelude.{done, ended, entry_in, evaluated, exit_word, first_blocks, first_state}
 pub use Rattle.sc_core.specs.Prelude.{first_word, follow, found, function, function_of, functions_in, functions_of}
 pub use Rattle.sc_core.specs.Prelude.{global_block, globals_of, in_order, inits_do, is_main, is_number, is_plain_name}
-pub use Rattle.sc_core.specs.Prelude.{is_word, leads, leave, library_of, main_fits, main_name, main_signature, may_call}
+pub use Rattle.sc_core.specs.Prelude.{is_word, leads, leave, denotations_of, main_fits, main_name, main_signature, may_call}
 pub use Rattle.sc_core.specs.Prelude.{next_input, of_bool, option_value, or_cause, performs, place_named}
 pub use Rattle.sc_core.specs.Prelude.{place_of_export, proto_signature, read_input, roles_in, rounds, rows_left, run_by}
 pub use Rattle.sc_core.specs.Prelude.{run_in, run_step, run_to, same_signature, scripted_meaning, scripted_step}
-pub use Rattle.sc_core.specs.Prelude.{signature_of, stmt_does, stopped_at, store, struct_zeros, tell, test, turn}
+pub use Rattle.sc_core.specs.Prelude.{signature_of, stmt_does, stopped_at, store, struct_zeros, emit_event, test, turn}
 pub use Rattle.sc_core.specs.Prelude.{turn_of, values, variable_at, with_blocks, with_memory, within, word_in}
 pub use Rattle.sc_core.specs.declared.cause.Cause.{Cause}
 pub use Rattle.sc_core.specs.declared.expr.CallTarget.{CallTarget}
@@ -51,9 +51,9 @@ pub use Rattle.sc_core.specs.declared.stmt.TypedStmt.{TypedStmt}
 pub use Rattle.sc_core.specs.declared.value.Value.{Value}
 pub use Rattle.sc_core.specs.declared.value.Value.TheVariants.{Word}
 pub use Rattle.sc_laws.proofs.Growing.{BodyGoes, back_goes, calls_go, run_goes, within_goes}
-pub use Rattle.sc_laws.proofs.Matching.{library_twins, run_goes_on, scripted_goes_on}
+pub use Rattle.sc_laws.proofs.Matching.{related_denotations, run_goes_on, scripted_goes_on}
 pub use Rattle.sc_laws.proofs.Rows.{counts_its_own}
-pub use Rattle.sc_laws.proofs.Twins.{CallsTwins, FunctionTwins, Kept, KeptAt, LibraryTwins, function_twins}
+pub use Rattle.sc_laws.proofs.Related.{RelatedCalls, RelatedFunctions, Kept, KeptAt, RelatedDenotations, related_functions}
 pub use Rattle.sc_laws.specs.Prelude.{Goes, Gone, Grown, IsFixed, Meets, Never, Obedient, now}
 pub use Rattle.sc_replay.specs.Replay.{HasReplaced, HasWords, IsCounter, IsRecomposed, IsReplaced, IsReplay, IsWord}
 pub use Rattle.sc_replay.specs.Replay.{Performs, TextsPerform, main_proto, proto_of}

@@ -1,12 +1,12 @@
 -- Calls across in both runs, once their functions are found.
-use Rattle.sc_replay.proofs.Common.{Body, BodyGoes, Bool, Call, Event, Export, Front, Function, Gone, Here, Interfaces}
-use Rattle.sc_replay.proofs.Common.{Library, List, None, Option, Piece, Reached, Ret, Roles, Some, State, Stopped}
+use Rattle.sc_replay.proofs.Common.{Body, BodyGoes, Bool, Call, Event, Export, IsPrefix, Function, Gone, Here, Interfaces}
+use Rattle.sc_replay.proofs.Common.{Denotations, List, None, Option, Piece, Reached, Ret, Roles, Some, State, Stopped}
 use Rattle.sc_replay.proofs.Common.{Value, [], and_then, ap, arith, back_cross, back_goes, begun, call_cross, count_of}
 use Rattle.sc_replay.proofs.Common.{counts_its_own, crossed, crossing, done, export_at, false, filter, found}
 use Rattle.sc_replay.proofs.Common.{if◌then◌else◌, length, map, option_value, performer, refl, run_goes, run_in, subst}
-use Rattle.sc_replay.proofs.Common.{suc, sym, tell, true, word_in, ℕ, ◌++◌, ◌<◌, ◌==◌, ◌∷◌, ◌≡◌, ◌≤◌}
-use Rattle.sc_replay.proofs.Near.{Both, Firsts, Near, NearBy, Reaches, Returns, Told, ahead, both_so, both_then, counts}
-use Rattle.sc_replay.proofs.Near.{firsts, near_begun, near_done, near_told, reached, stopped, told_ahead, told_other}
+use Rattle.sc_replay.proofs.Common.{suc, sym, emit_event, true, word_in, ℕ, ◌++◌, ◌<◌, ◌==◌, ◌∷◌, ◌≡◌, ◌≤◌}
+use Rattle.sc_replay.proofs.Near.{Both, Firsts, Near, NearBy, Reaches, Returns, Emitted, ahead, both_so, both_then, counts}
+use Rattle.sc_replay.proofs.Near.{firsts, near_begun, near_done, near_emitted, reached, stopped, emitted_ahead, emitted_other}
 
 abbrev pub at : (comp first : ℕ) → Here
 at comp first = record { comp = comp; first = first }
@@ -24,7 +24,7 @@ module _ (roles : Roles) (most : ℕ) where
     pub same : v ≡ w
     pub counters : ℕ → ℕ
     pub near : NearBy roles most counters s s'
-    pub told : (e : Event) → performer e ≡ c → Told roles most counters e s.trace
+    pub emitted : (e : Event) → performer e ≡ c → Emitted roles most counters e s.trace
 
   pub came_kept : (c : ℕ) (o p : Piece (Option Value)) → roles.scripted c ≡ false → Both (Reaches roles most) o p →
       Both (Came c) o p
@@ -33,7 +33,7 @@ module _ (roles : Roles) (most : ℕ) where
         same = r.same;
         counters = counts s.trace;
         near = r.near;
-        told = λ e own. told_other roles most c e s.trace own clear;
+        emitted = λ e own. emitted_other roles most c e s.trace own clear;
       })
 
   pub came_back : (c : ℕ) (o p : Piece (Option Value)) → Both (Returns roles most c) o p → Both (Came c) o p
@@ -42,7 +42,7 @@ module _ (roles : Roles) (most : ℕ) where
         same = r.same;
         counters = ahead c s.trace;
         near = r.near;
-        told = λ e own. told_ahead roles most c e s.trace own;
+        emitted = λ e own. emitted_ahead roles most c e s.trace own;
       })
 
   -- the return is emitted in both
@@ -55,8 +55,8 @@ module _ (roles : Roles) (most : ℕ) where
       let e = Ret to from (crossing (export_at interfaces to index) v) in
       reached (record {
         same = ap option_value same;
-        near = near_told roles most came.counters s s' e (Ret to from (crossing (export_at interfaces to index) w))
-            (ap (Ret to from) same) (came.told e refl) came.near;
+        near = near_emitted roles most came.counters s s' e (Ret to from (crossing (export_at interfaces to index) w))
+            (ap (Ret to from) same) (came.emitted e refl) came.near;
       })
 
   -- bodies of two functions that do alike from states in which a call begins
@@ -85,7 +85,7 @@ module _ (roles : Roles) (most : ℕ) where
         same = came.same;
         counters = came.counters;
         near = near_done roles most came.counters t t' to first first' f' f cells place came.near;
-        told = came.told;
+        emitted = came.emitted;
       }))
 
 -- EVENTS OF A CALL
@@ -109,28 +109,28 @@ count_append c (x ∷ u) more = by (performer x == c) (count_append c u more) wh
   by true h = omega (arith, h)
   by false h = h
 
-pub count_front : (c : ℕ) (u v : List Event) → Front u v → count_of c u ≤ count_of c v
-count_front c u v front = subst (λ x. count_of c u ≤ count_of c x) (sym front.is) (count_append c u front.more)
+pub count_prefix : (c : ℕ) (u v : List Event) → IsPrefix u v → count_of c u ≤ count_of c v
+count_prefix c u v prefix = subst (λ x. count_of c u ≤ count_of c x) (sym prefix.is) (count_append c u prefix.more)
 
 -- a call counts as an event of its compartment once it is back
-pub cross_counts : (M : Library) (a : Body) → BodyGoes a → (from to index : ℕ) (args : List Value) (s : State) →
+pub cross_counts : (M : Denotations) (a : Body) → BodyGoes a → (from to index : ℕ) (args : List Value) (s : State) →
     OnReach (λ u. suc (count_of from s.trace) ≤ count_of from u.trace) (call_cross M a from to index args s)
 cross_counts M a goes from to index args s = by (M.entered to (Export index)) where
   e : Event
   e = Call from to index (map word_in args)
 
-  on : (o : Piece (Option Value)) → Gone (tell e s) o →
+  on : (o : Piece (Option Value)) → Gone (emit_event e s) o →
       OnReach (λ u. suc (count_of from s.trace) ≤ count_of from u.trace) o
   on (Reached v u) gone =
       subst (λ n. n ≤ count_of from u.trace) (counts_its_own from s.trace e refl)
-      (count_front from (s.trace ++ e ∷ []) u.trace gone.grown.events)
+      (count_prefix from (s.trace ++ e ∷ []) u.trace gone.grown.events)
   on (Stopped end u) gone = tt
 
   by : (number : Option ℕ) → OnReach (λ u. suc (count_of from s.trace) ≤ count_of from u.trace)
       (and_then (found number s) (λ number s. run_in M a to number (crossed args)
-      (back_cross M.interfaces from to index) (tell (Call from to index (map word_in args)) s)))
+      (back_cross M.interfaces from to index) (emit_event (Call from to index (map word_in args)) s)))
   by None = tt
   by (Some k) =
-      on (run_in M a to k (crossed args) (back_cross M.interfaces from to index) (tell e s))
+      on (run_in M a to k (crossed args) (back_cross M.interfaces from to index) (emit_event e s))
       (run_goes M a goes to k (crossed args) (back_cross M.interfaces from to index)
-      (back_goes M.interfaces from to index) (tell e s))
+      (back_goes M.interfaces from to index) (emit_event e s))

@@ -3,7 +3,7 @@ use Rattle.sc_replay.proofs.Common.{Arith, Bool, Entry, Export, Interfaces, IsSo
 use Rattle.sc_replay.proofs.Common.{Option, ProgramTree, Proto, Some, TypedFunction, TypedSection, [], and_first}
 use Rattle.sc_replay.proofs.Common.{and_rest, ap, are_distinct, bytes_eq, entry_in, eqb-true, export_at, false}
 use Rattle.sc_replay.proofs.Common.{false≢true, function, function_of, functions_in, functions_of, if◌then◌else◌}
-use Rattle.sc_replay.proofs.Common.{is_main, is_number, is_plain_name, library_of, list_any, main_fits, main_name}
+use Rattle.sc_replay.proofs.Common.{is_main, is_number, is_plain_name, denotations_of, list_any, main_fits, main_name}
 use Rattle.sc_replay.proofs.Common.{main_proto, main_signature, map, ne_eqb, not, option_map, option_map_or, or_right}
 use Rattle.sc_replay.proofs.Common.{place_named, place_of_export, proto_of, proto_signature, refl, same_signature}
 use Rattle.sc_replay.proofs.Common.{signature_of, slice_get, slice_index_or, subst, suc, sym, true, zero, ℕ, ◌&&◌, ◌==◌}
@@ -56,13 +56,13 @@ section_at f (x ∷ xs) zero = refl
 section_at f (x ∷ xs) (suc i) = section_at f xs i
 
 pub functions_are : (arith : Arith) (program : ProgramTree) (c : ℕ) →
-    functions_of (library_of arith program) c ≡
+    functions_of (denotations_of arith program) c ≡
     option_map_or (functions_in arith program.interfaces.main) (slice_get program.sections c) []
 functions_are arith program c = section_at (functions_in arith program.interfaces.main) program.sections c
 
 pub function_is : (arith : Arith) (program : ProgramTree) (c n : ℕ) (section : TypedSection) (f : TypedFunction) →
     slice_get program.sections c ≡ Some section → slice_get section.functions n ≡ Some f →
-    function (library_of arith program) c n ≡ Some (function_of arith program.interfaces.main section.structs f)
+    function (denotations_of arith program) c n ≡ Some (function_of arith program.interfaces.main section.structs f)
 function_is arith program c n section f is there =
     ap (λ fs. slice_get fs n) (functions_are arith program c ∙
     ap (λ o. option_map_or (functions_in arith program.interfaces.main) o []) is) ∙
@@ -83,8 +83,8 @@ entry_named program c (Export index) proto is =
     ap (λ o. place_of_export o (slice_get program.sections c)) is
 
 module _ (program : ProgramTree) (typed : IsWellTyped program) where
-  abbrev faces : Interfaces
-  faces = program.interfaces
+  abbrev interface_fitting : Interfaces
+  interface_fitting = program.interfaces
 
   -- the function that an entry leads to
   pub record Leads (c : ℕ) (entry : Entry) (proto : Proto) : Type 0 where
@@ -95,7 +95,7 @@ module _ (program : ProgramTree) (typed : IsWellTyped program) where
     pub there : slice_get section.functions number ≡ Some item
     pub entered : entry_in program c entry ≡ Some number
 
-  leads_by : (c : ℕ) (entry : Entry) (proto : Proto) → proto_of faces c entry ≡ Some proto →
+  leads_by : (c : ℕ) (entry : Entry) (proto : Proto) → proto_of interface_fitting c entry ≡ Some proto →
       (section : TypedSection) → slice_get program.sections c ≡ Some section →
       list_any {X = TypedFunction} (λ f. bytes_eq f.name proto.name) section.functions ≡ true → Leads c entry proto
   leads_by c entry proto known section is any =
@@ -111,8 +111,8 @@ module _ (program : ProgramTree) (typed : IsWellTyped program) where
       }
 
   -- a known entry leads to a function
-  pub leads : (c : ℕ) (entry : Entry) (proto : Proto) → proto_of faces c entry ≡ Some proto → Leads c entry proto
-  leads c Main proto known = by (c == faces.main) refl known where
+  pub leads : (c : ℕ) (entry : Entry) (proto : Proto) → proto_of interface_fitting c entry ≡ Some proto → Leads c entry proto
+  leads c Main proto known = by (c == interface_fitting.main) refl known where
     at_main : (o : Option TypedSection) → slice_get program.sections c ≡ o → main_fits o ≡ true →
         main_name ≡ proto.name → Leads c Main proto
     at_main None is fits same = absurd (false≢true fits)
@@ -122,12 +122,12 @@ module _ (program : ProgramTree) (typed : IsWellTyped program) where
         (any_along {A = TypedFunction} (λ f. is_main f && same_signature (signature_of f) main_signature) is_main
         (λ f k. and_first (is_main f) _ k) section.functions fits))
 
-    by : (b : Bool) → (c == faces.main) ≡ b → (if b then Some main_proto else None) ≡ Some proto →
+    by : (b : Bool) → (c == interface_fitting.main) ≡ b → (if b then Some main_proto else None) ≡ Some proto →
         Leads c Main proto
     by true is h =
         let same : main_proto ≡ proto = cc in
         at_main (slice_get program.sections c) refl
-        (subst (λ n. main_fits (slice_get program.sections n) ≡ true) (sym (eqb-true c faces.main is))
+        (subst (λ n. main_fits (slice_get program.sections n) ≡ true) (sym (eqb-true c interface_fitting.main is))
         (main_so program typed))
         (ap named same)
     by false is h = absurd (cc)
@@ -139,27 +139,27 @@ module _ (program : ProgramTree) (typed : IsWellTyped program) where
       (λ f. bytes_eq f.name proto.name) (λ f k. and_first (bytes_eq f.name proto.name) _ k) e.section.functions e.named)
 
   -- NAMES OF ENTRIES DIFFER
-  main_is : (c : ℕ) (proto : Proto) → proto_of faces c Main ≡ Some proto → proto.name ≡ main_name
-  main_is c proto known = by (c == faces.main) known where
+  main_is : (c : ℕ) (proto : Proto) → proto_of interface_fitting c Main ≡ Some proto → proto.name ≡ main_name
+  main_is c proto known = by (c == interface_fitting.main) known where
     by : (b : Bool) → (if b then Some main_proto else None) ≡ Some proto → proto.name ≡ main_name
     by true h = let same : main_proto ≡ proto = cc in sym (ap named same)
     by false h = absurd (cc)
 
-  no_main : (c index : ℕ) (proto : Proto) → export_at faces c index ≡ Some proto → proto.name ≡ main_name → ⊥
+  no_main : (c index : ℕ) (proto : Proto) → export_at interface_fitting c index ≡ Some proto → proto.name ≡ main_name → ⊥
   no_main c index proto known same =
       let e = exported program typed c index proto known in
       false≢true (sym (ap not (subst (λ name. bytes_eq proto.name name ≡ true) same (bytes_eq_self proto.name))) ∙
       and_first (not (bytes_eq proto.name main_name)) _ (and_rest (is_plain_name proto.name) _ e.fits))
 
-  pub one_entry : (c : ℕ) (entry other : Entry) (p q : Proto) → proto_of faces c entry ≡ Some p →
-      proto_of faces c other ≡ Some q → p.name ≡ q.name → other ≡ entry
+  pub one_entry : (c : ℕ) (entry other : Entry) (p q : Proto) → proto_of interface_fitting c entry ≡ Some p →
+      proto_of interface_fitting c other ≡ Some q → p.name ≡ q.name → other ≡ entry
   one_entry c Main Main p q is js same = refl
   one_entry c Main (Export j) p q is js same = absurd (no_main c j q js (sym same ∙ main_is c p is))
   one_entry c (Export i) Main p q is js same = absurd (no_main c i p is (same ∙ main_is c q js))
   one_entry c (Export i) (Export j) p q is js same =
       let e = exported program typed c i p is in
       let d = exported program typed c j q js in
-      let one : d.interface ≡ e.interface = cc (d.face, e.face) in
+      let one : d.interface ≡ e.interface = cc (d.interface_found, e.interface_found) in
       ap Export (sym (one_place e.interface.exports e.exports_differ i j p q e.at
       (subst {A = Interface} (λ x. slice_get x.exports j ≡ Some q) one d.at) same))
 
@@ -171,7 +171,7 @@ module _ (program : ProgramTree) (typed : IsWellTyped program) where
     pub there : slice_get section.functions number ≡ Some item
     pub name : item.name ≡ proto.name
 
-  called_so : (c number : ℕ) (entry : Entry) (proto : Proto) → proto_of faces c entry ≡ Some proto →
+  called_so : (c number : ℕ) (entry : Entry) (proto : Proto) → proto_of interface_fitting c entry ≡ Some proto →
       entry_in program c entry ≡ Some number → Called c number proto
   called_so c number entry proto known is =
       by (slice_get program.sections c) refl (sym (entry_named program c entry proto known) ∙ is) where
@@ -191,11 +191,11 @@ module _ (program : ProgramTree) (typed : IsWellTyped program) where
 
   -- no other entry leads to the same function
   pub apart : (c : ℕ) (entry other : Entry) (number : ℕ) → entry_in program c entry ≡ Some number →
-      IsSome (proto_of faces c entry) → IsSome (proto_of faces c other) → (other ≡ entry → ⊥) →
+      IsSome (proto_of interface_fitting c entry) → IsSome (proto_of interface_fitting c other) → (other ≡ entry → ⊥) →
       is_number number (entry_in program c other) ≡ false
   apart c entry other number is known known' ne =
-      by_protos (proto_of faces c entry) refl known (proto_of faces c other) refl known' where
-        by_number : (p q : Proto) → proto_of faces c entry ≡ Some p → proto_of faces c other ≡ Some q →
+      by_protos (proto_of interface_fitting c entry) refl known (proto_of interface_fitting c other) refl known' where
+        by_number : (p q : Proto) → proto_of interface_fitting c entry ≡ Some p → proto_of interface_fitting c other ≡ Some q →
             (o : Option ℕ) → entry_in program c other ≡ o → is_number number o ≡ false
         by_number p q ps qs None js = refl
         by_number p q ps qs (Some n) js =
@@ -208,8 +208,8 @@ module _ (program : ProgramTree) (typed : IsWellTyped program) where
             let item : a.item ≡ b.item = cc (a.there, there, same) in
             one_entry c entry other p q ps qs (sym a.name ∙ ap name_of item ∙ b.name)))
 
-        by_protos : (o : Option Proto) → proto_of faces c entry ≡ o → IsSome o → (o' : Option Proto) →
-            proto_of faces c other ≡ o' → IsSome o' → is_number number (entry_in program c other) ≡ false
+        by_protos : (o : Option Proto) → proto_of interface_fitting c entry ≡ o → IsSome o → (o' : Option Proto) →
+            proto_of interface_fitting c other ≡ o' → IsSome o' → is_number number (entry_in program c other) ≡ false
         by_protos None ps some o' qs some' = absurd (false≢true some)
         by_protos (Some p) ps some None qs some' = absurd (false≢true some')
         by_protos (Some p) ps some (Some q) qs some' = by_number p q ps qs (entry_in program c other) refl

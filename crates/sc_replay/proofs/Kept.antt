@@ -1,7 +1,7 @@
 -- Functions of the compartments that keep their sections do the same in both runs.
-use Rattle.sc_replay.proofs.Common.{Blamed, Cause, Err, Goes, Gone, Grown, Here, Kept, KeptAt, Library, LibraryTwins}
+use Rattle.sc_replay.proofs.Common.{Blamed, Cause, Err, Goes, Gone, Grown, Here, Kept, KeptAt, Denotations, RelatedDenotations}
 use Rattle.sc_replay.proofs.Common.{Never, Obedient, Ok, Piece, Result, Roles, State, TurnsOut, and_then, ap, arith}
-use Rattle.sc_replay.proofs.Common.{both_ways, computed, false, if◌then◌else◌, library_twins, ne_eqb, refl, subst, suc}
+use Rattle.sc_replay.proofs.Common.{both_ways, computed, false, if◌then◌else◌, related_denotations, ne_eqb, refl, subst, suc}
 use Rattle.sc_replay.proofs.Common.{sym, turn, turn_of, zero, ℕ, ◌<◌, ◌==◌, ◌∙◌, ◌≡◌}
 use Rattle.sc_laws.proofs.Expressions.{Keeps, alike, blamed}
 use Rattle.sc_replay.proofs.Near.{Both, Near, NearBy, Reaches, counts, near_turns, reached, stopped}
@@ -77,7 +77,7 @@ module _ (roles : Roles) (most : ℕ) where
   }
 
   -- every function does the same in both runs where it is called in a compartment that keeps its section
-  pub kept_twins : (library : Library) → Obedient library →
-      LibraryTwins (Near roles most) Alike IsKept library library
-  kept_twins library obedient =
-      library_twins Never (Near roles most) Alike IsKept alike_kept alike_at library library obedient
+  pub kept_related : (denotations : Denotations) → Obedient denotations →
+      RelatedDenotations (Near roles most) Alike IsKept denotations denotations
+  kept_related denotations obedient =
+      related_denotations Never (Near roles most) Alike IsKept alike_kept alike_at denotations denotations obedient

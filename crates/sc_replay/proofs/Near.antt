@@ -2,7 +2,7 @@
 use Rattle.sc_replay.proofs.Common.{Blocks, Bool, Event, FrameChange, Function, List, Option, Piece, Reached, Roles}
 use Rattle.sc_replay.proofs.Common.{State, Stopped, Value, [], and_then, ap, ap₂, arith, begun, blocks_for, both_ways}
 use Rattle.sc_replay.proofs.Common.{cases_eq, count_of, counts_its_own, done, ended, eq-eqb, false, filter}
-use Rattle.sc_replay.proofs.Common.{if◌then◌else◌, length, ne_eqb, performer, refl, suc, sym, tell, true, with_blocks}
+use Rattle.sc_replay.proofs.Common.{if◌then◌else◌, length, ne_eqb, performer, refl, suc, sym, emit_event, true, with_blocks}
 use Rattle.sc_replay.proofs.Common.{ℕ, ⊎_elim, ◌++◌, ◌==◌, ◌∙◌, ◌∷◌, ◌≡◌, ◌≤◌}
 use Rattle.sc_core.specs.declared.run.RunEnd.{RunEnd}
 use Rattle.sc_replay.proofs.Text.{counted, counting}
@@ -109,20 +109,20 @@ module _ (roles : Roles) (most : ℕ) where
   }
 
   -- once this event is emitted, the counters are those of the trace
-  abbrev pub Told : (ℕ → ℕ) → Event → List Event → Type 0
-  Told counters e u = (d : ℕ) → roles.scripted d ≡ true → counters d ≡ count_of d (u ++ e ∷ [])
+  abbrev pub Emitted : (ℕ → ℕ) → Event → List Event → Type 0
+  Emitted counters e u = (d : ℕ) → roles.scripted d ≡ true → counters d ≡ count_of d (u ++ e ∷ [])
 
-  pub told_ahead : (c : ℕ) (e : Event) (u : List Event) → performer e ≡ c → Told (ahead c u) e u
-  told_ahead c e u own d performs = count_ahead c u e own d
+  pub emitted_ahead : (c : ℕ) (e : Event) (u : List Event) → performer e ≡ c → Emitted (ahead c u) e u
+  emitted_ahead c e u own d performs = count_ahead c u e own d
 
-  pub told_other : (c : ℕ) (e : Event) (u : List Event) → performer e ≡ c → roles.scripted c ≡ false →
-      Told (counts u) e u
-  told_other c e u own clear d performs =
+  pub emitted_other : (c : ℕ) (e : Event) (u : List Event) → performer e ≡ c → roles.scripted c ≡ false →
+      Emitted (counts u) e u
+  emitted_other c e u own clear d performs =
       sym (count_other d u e (λ q. both_ways (roles.scripted d) (ap roles.scripted (sym q ∙ own) ∙ clear) performs))
 
-  pub near_told : (counters : ℕ → ℕ) (s s' : State) (e e' : Event) → e ≡ e' → Told counters e s.trace →
-      NearBy counters s s' → Near (tell e s) (tell e' s')
-  near_told counters s s' e e' same told near = record {
+  pub near_emitted : (counters : ℕ → ℕ) (s s' : State) (e e' : Event) → e ≡ e' → Emitted counters e s.trace →
+      NearBy counters s s' → Near (emit_event e s) (emit_event e' s')
+  near_emitted counters s s' e e' same emitted near = record {
     trace = ap₂ (λ u x. u ++ x ∷ []) near.trace same;
     turns = near.turns;
     inputs = near.inputs;
@@ -130,7 +130,7 @@ module _ (roles : Roles) (most : ℕ) where
     memory = near.memory;
     counter = λ d performs. (
       (near.counter d performs).0,
-      (near.counter d performs).1 ∙ ap (λ n. counting n ∷ (near.counter d performs).0) (told d performs),
+      (near.counter d performs).1 ∙ ap (λ n. counting n ∷ (near.counter d performs).0) (emitted d performs),
     );
   }
 
@@ -177,13 +177,13 @@ module _ (roles : Roles) (most : ℕ) where
   -- where the blocks of a call begin: after the counter, where the compartment performs
   pub record Firsts (c first first' : ℕ) : Type 0 where
     pub kept : roles.scripted c ≡ false → first ≡ first'
-    pub behind : roles.scripted c ≡ true → (n : ℕ) × (first ≡ suc n)
+    pub following : roles.scripted c ≡ true → (n : ℕ) × (first ≡ suc n)
 
   pub firsts : (counters : ℕ → ℕ) (s s' : State) (c : ℕ) → NearBy counters s s' →
       Firsts c (length (s.memory c)) (length (s'.memory c))
   firsts counters s s' c near = record {
     kept = λ clear. ap length (near.memory c clear);
-    behind = λ performs. (length (near.counter c performs).0, ap length (near.counter c performs).1);
+    following = λ performs. (length (near.counter c performs).0, ap length (near.counter c performs).1);
   }
 
   pub near_done : (counters : ℕ → ℕ) (s s' : State) (c first first' : ℕ) (f f' : Function) →
@@ -194,8 +194,8 @@ module _ (roles : Roles) (most : ℕ) where
       (ended first' (length f'.cells) (s'.memory c)) _ _
       (λ clear. (λ i. ended (at.kept clear i) (length (cells clear i)) (near.memory c clear i)))
       (λ performs. (
-        ended (at.behind performs).0 (length f.cells) (near.counter c performs).0,
-        ap₂ (λ n x. ended n (length f.cells) x) (at.behind performs).1 (near.counter c performs).1,
+        ended (at.following performs).0 (length f.cells) (near.counter c performs).0,
+        ap₂ (λ n x. ended n (length f.cells) x) (at.following performs).1 (near.counter c performs).1,
       )) near
 
   -- WHAT PIECES REACH

@@ -1,7 +1,7 @@
 -- The denotations L and M of two programs, where M has functions that perform rows by their texts: the same calls may
 -- be made in both.
 use Rattle.sc_replay.proofs.Common.{Bool, CallTarget, Calls, Cross, Entry, Export, Function, Input, IsPerforming}
-use Rattle.sc_replay.proofs.Common.{IsSome, Left, Library, List, None, Option, Output, Own, Piece, Proto, Reached}
+use Rattle.sc_replay.proofs.Common.{IsSome, Left, Denotations, List, None, Option, Output, Own, Piece, Proto, Reached}
 use Rattle.sc_replay.proofs.Common.{Return, Roles, Scalar, Some, State, TypedStmt, TypedStruct, Value, and_then, ap}
 use Rattle.sc_replay.proofs.Common.{block_does, c_arith, export_at, false, false≢true, function, functions_of, imports}
 use Rattle.sc_replay.proofs.Common.{inl, inr, is_function, is_input, is_number, is_output, is_some, is_word, leads}
@@ -10,7 +10,7 @@ use Rattle.sc_replay.proofs.Common.{true, ℕ, ◌&&◌, ◌==◌, ◌∙◌, �
 use Rattle.sc_replay.proofs.Crossing.{at}
 use Rattle.sc_replay.proofs.Step.{Fair, IsOut}
 
-module _ (roles : Roles) (L M : Library) where
+module _ (roles : Roles) (L M : Denotations) where
   -- a function of M that performs the rows of an entry by its text
   pub record Performer (c : ℕ) (entry : Entry) (number : ℕ) : Type 0 where
     pub item : Function

@@ -1,5 +1,5 @@
 -- Whole runs: the run of the second program's denotations is the one in which the compartments of a set perform.
-use Rattle.sc_replay.proofs.Common.{Blocks, Body, BodyGoes, Bool, End, Ended, Function, Here, IsFixed, IsSome, Library}
+use Rattle.sc_replay.proofs.Common.{Blocks, Body, BodyGoes, Bool, End, Ended, Function, Here, IsFixed, IsSome, Denotations}
 use Rattle.sc_replay.proofs.Common.{List, Main, Memory, None, Obedient, Option, Piece, Roles, Some, State, Step}
 use Rattle.sc_replay.proofs.Common.{TurnsOut, Value, [], and_then, ap, ap₂, arith, back_own, begun, call_own, done}
 use Rattle.sc_replay.proofs.Common.{eq-eqb, exit_word, false, first_state, found, function, if◌then◌else◌, is_some}
@@ -14,7 +14,7 @@ use Rattle.sc_replay.proofs.Crossing.{at, inside}
 use Rattle.sc_replay.proofs.Recomposed.{Performed, Recomposed}
 use Rattle.sc_replay.proofs.Bodies.{BodiesAlike, kept_step, own_both, text_step}
 
-module _ (roles : Roles) (L M : Library) (r : Recomposed roles L M) (obedient : Obedient L)
+module _ (roles : Roles) (L M : Denotations) (r : Recomposed roles L M) (obedient : Obedient L)
     (obedient' : Obedient M) where
   abbrev scripted : Step
   scripted = scripted_step L roles (run_step L)
@@ -78,15 +78,15 @@ module _ (roles : Roles) (L M : Library) (r : Recomposed roles L M) (obedient : 
   bodies_alike (suc n) = more_calls n (bodies_alike n)
 
   -- what both runs come to in the end: the same result and trace
-  record Shows (v w : Option Value) (s s' : State) : Type 0 where
+  record SameEnd (v w : Option Value) (s s' : State) : Type 0 where
     pub same : v ≡ w
     pub trace : s.trace ≡ s'.trace
 
-  shown : (main : ℕ) (o p : Piece (Option Value)) → Both Shows o p →
+  same_end : (main : ℕ) (o p : Piece (Option Value)) → Both SameEnd o p →
       (run_to main o).behaviour ≡ (run_to main p).behaviour
-  shown main _ _ (reached show) =
+  same_end main _ _ (reached show) =
       ap₂ (λ u v. record { trace = u ++ End main (exit_word v) ∷ []; end = Ended }) show.trace show.same
-  shown main _ _ (stopped end same) = ap (λ u. record { trace = u; end = end }) same
+  same_end main _ _ (stopped end same) = ap (λ u. record { trace = u; end = end }) same
 
   module _ (globals globals' : Memory)
       (kept_globals : (c : ℕ) → roles.scripted c ≡ false → globals' c ≡ globals c)
@@ -114,7 +114,7 @@ module _ (roles : Roles) (L M : Library) (r : Recomposed roles L M) (obedient : 
     all : Alike (suc turns)
     all = bodies_alike (suc turns)
 
-    abbrev first_call : Library → Body → Option ℕ → State → Piece (Option Value)
+    abbrev first_call : Denotations → Body → Option ℕ → State → Piece (Option Value)
     first_call N body number s = and_then (found number s) (λ number s. call_own N body main number [] s)
 
     -- there are as many open calls as turns at most
@@ -129,10 +129,10 @@ module _ (roles : Roles) (L M : Library) (r : Recomposed roles L M) (obedient : 
       by (Some f) = refl
 
     from_kept : roles.scripted main ≡ false → (number : Option ℕ) →
-        Both Shows (first_call M (texts (suc turns)) number start') (first_call L (now scripted) number start)
+        Both SameEnd (first_call M (texts (suc turns)) number start') (first_call L (now scripted) number start)
     from_kept clear None = stopped TurnsOut refl
     from_kept clear (Some k) =
-        both_so (Reaches roles (suc turns)) Shows (call_own M (texts (suc turns)) main k [] start')
+        both_so (Reaches roles (suc turns)) SameEnd (call_own M (texts (suc turns)) main k [] start')
         (call_own L (now scripted) main k [] start)
         (own_both roles L M r obedient (run_step L) fixed (suc turns) (texts (suc turns)) all main k [] start' start
         clear (omega arith) begins)
@@ -142,7 +142,7 @@ module _ (roles : Roles) (L M : Library) (r : Recomposed roles L M) (obedient : 
     main_known = ap (λ b. is_some (if b then Some main_proto else None)) (eq-eqb main main refl)
 
     from_text : roles.scripted main ≡ true →
-        Both Shows (first_call M (texts (suc turns)) (M.entered main Main) start')
+        Both SameEnd (first_call M (texts (suc turns)) (M.entered main Main) start')
         (first_call L (now scripted) (L.entered main Main) start)
     from_text set =
         let p : Performed roles L M main Main = r.performed main Main set main_known in
@@ -150,14 +150,14 @@ module _ (roles : Roles) (L M : Library) (r : Recomposed roles L M) (obedient : 
         let first : ℕ = length (start.memory main) in
         let call' = inside (texts (suc turns)) main [] back_own p.number' in
         let call = inside (now scripted) main [] back_own p.number in
-        subst (λ x. Both Shows (first_call M (texts (suc turns)) x start')
+        subst (λ x. Both SameEnd (first_call M (texts (suc turns)) x start')
         (first_call L (now scripted) (L.entered main Main) start)) (sym p.entered')
-        (subst (λ x. Both Shows (first_call M (texts (suc turns)) (Some p.number') start')
+        (subst (λ x. Both SameEnd (first_call M (texts (suc turns)) (Some p.number') start')
         (first_call L (now scripted) x start)) (sym p.entered)
-        (subst (λ x. Both Shows (and_then (found x start') call')
+        (subst (λ x. Both SameEnd (and_then (found x start') call')
         (first_call L (now scripted) (Some p.number) start)) (sym p.performer.is)
-        (subst (λ x. Both Shows (call' p.performer.item start') (and_then (found x start) call)) (sym p.there)
-        (both_then (Returns roles (suc turns) main) Shows
+        (subst (λ x. Both SameEnd (call' p.performer.item start') (and_then (found x start) call)) (sym p.there)
+        (both_then (Returns roles (suc turns) main) SameEnd
         (texts (suc turns) p.number' (at main first') (begun main p.performer.item [] start'))
         (now scripted p.number (at main first) (begun main p.f [] start))
         (λ v t. back_own v (done main p.performer.item first' t)) (λ v t. back_own v (done main p.f first t))
@@ -167,15 +167,15 @@ module _ (roles : Roles) (L M : Library) (r : Recomposed roles L M) (obedient : 
         (λ clear. absurd (cc (clear, set))) begins) (omega arith))
         (λ v w t t' back. reached (record { same = back.same; trace = back.near.trace }))))))
 
-    main_both : Both Shows (first_call M (texts (suc turns)) (M.entered main Main) start')
+    main_both : Both SameEnd (first_call M (texts (suc turns)) (M.entered main Main) start')
         (first_call L (now scripted) (L.entered main Main) start)
     main_both = by (roles.scripted main) refl where
       by : (x : Bool) → roles.scripted main ≡ x →
-          Both Shows (first_call M (texts (suc turns)) (M.entered main Main) start')
+          Both SameEnd (first_call M (texts (suc turns)) (M.entered main Main) start')
           (first_call L (now scripted) (L.entered main Main) start)
       by true set = from_text set
       by false clear =
-          subst (λ x. Both Shows (first_call M (texts (suc turns)) x start')
+          subst (λ x. Both SameEnd (first_call M (texts (suc turns)) x start')
           (first_call L (now scripted) (L.entered main Main) start)) (sym (r.kept_entries main Main clear))
           (from_kept clear (L.entered main Main))
 
@@ -185,6 +185,6 @@ module _ (roles : Roles) (L M : Library) (r : Recomposed roles L M) (obedient : 
     runs_same =
         ap (λ i. (run_to i.main (and_then (found (M.entered i.main Main) start')
         (λ number s. call_own M (texts (suc turns)) i.main number [] s))).behaviour) r.interfaces ∙
-        shown main (first_call M (texts (suc turns)) (M.entered main Main) start')
+        same_end main (first_call M (texts (suc turns)) (M.entered main Main) start')
         (first_call L (now scripted) (L.entered main Main) start) main_both ∙
         ap (λ o. (run_to main o).behaviour) (same_call (L.entered main Main))

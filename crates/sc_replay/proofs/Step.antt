@@ -1,6 +1,6 @@
 -- A function that performs its part by its text, beside the one that performs its rows.
 use Rattle.sc_replay.proofs.Common.{Action, Blocks, Body, Bool, CallTarget, Calls, Cross, Entry, Here, Input, IsFixed}
-use Rattle.sc_replay.proofs.Common.{IsPerforming, IsSome, IsWord, Left, Library, List, None, Option, Output, Own, Piece}
+use Rattle.sc_replay.proofs.Common.{IsPerforming, IsSome, IsWord, Left, Denotations, List, None, Option, Output, Own, Piece}
 use Rattle.sc_replay.proofs.Common.{Reached, Return, Roles, Row, Scalar, Some, State, Step, Stopped, TurnsOut}
 use Rattle.sc_replay.proofs.Common.{TypedStmt, TypedStruct, Value, Word, [], acts, all_do, and_then, ap, arith, calls}
 use Rattle.sc_replay.proofs.Common.{cases_eq, count_of, drop, drop-drop, ends, eq-eqb, false, follow, if◌then◌else◌}
@@ -33,7 +33,7 @@ Suit [] (word ∷ words) = ⊥
 Suit (param ∷ params) [] = ⊥
 Suit (param ∷ params) (word ∷ words) = IsWord word × Suit params words
 
-module _ (L : Library) (c : ℕ) where
+module _ (L : Denotations) (c : ℕ) where
   -- an action that may be done, with words of 32 bits
   abbrev pub MayAct : Action → Type 0
   MayAct (act.Call to index words) =
@@ -66,7 +66,7 @@ drop_none : (i : ℕ) → drop {A = Row} i [] ≡ []
 drop_none zero = refl
 drop_none (suc i) = refl
 
-module _ (roles : Roles) (most : ℕ) (L : Library) (step : Step) (fixed : IsFixed (scripted_step L roles step))
+module _ (roles : Roles) (most : ℕ) (L : Denotations) (step : Step) (fixed : IsFixed (scripted_step L roles step))
     (made : Calls) where
   abbrev pub b : Body
   b = now (scripted_step L roles step)
@@ -169,9 +169,9 @@ module _ (roles : Roles) (most : ℕ) (L : Library) (step : Step) (fixed : IsFix
           (alike target (map (λ w. Word w) ws) s1 s' out may near1) go_on))
 
       -- after an action of the environment the later rows are left
-      behind : (u u' : State) → Near roles most u u' → count_of c u.trace ≡ n →
+      following : (u u' : State) → Near roles most u u' → count_of c u.trace ≡ n →
           Both R (run stmts u) (performs L b rest k here' u')
-      behind u u' near_u is =
+      following u u' near_u is =
           let left : rows_left roles c u'.trace ≡ rest =
           ap (λ t. drop (count_of c t) (roles.rows c)) (sym near_u.trace) ∙ ap (λ i. drop i (roles.rows c)) is ∙
           rest_is in
@@ -193,11 +193,11 @@ module _ (roles : Roles) (most : ℕ) (L : Library) (step : Step) (fixed : IsFix
           calls_on Output (word ∷ []) (acted line (act.Out word)) (performs L b rest k here') tt may.0
           (call_does structs here params made close (does structs here params made stmts) line Output
           (int_shape word ∷ []) (word ∷ []) s1 (one (int_gives structs here params word may.1) none))
-          (λ v w u u' back. behind u u' back.near (back.exact tt))
+          (λ v w u u' back. following u u' back.near (back.exact tt))
       acts_alike line (act.In word) may =
           calls_on Input [] (acted line (act.In word)) (performs L b rest k here') tt may
           (call_does structs here params made close (does structs here params made stmts) line Input [] [] s1 none)
-          (λ v w u u' back. behind u u' back.near (back.exact tt))
+          (λ v w u u' back. following u u' back.near (back.exact tt))
       acts_alike line (act.Ret None) may = returned None (acted line (act.Ret None)) refl
       acts_alike line (act.Ret (Some word)) may =
           returned (Some (Word word)) (acted line (act.Ret (Some word)))

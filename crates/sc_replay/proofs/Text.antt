@@ -4,7 +4,7 @@ use Rattle.sc_replay.proofs.Common.{IfLine, Input, Interfaces, Left, Lines, List
 use Rattle.sc_replay.proofs.Common.{Output, Piece, Reached, Return, ReturnLine, ReturnValueLine, Row, Scalar, Shape}
 use Rattle.sc_replay.proofs.Common.{Some, State, Stopped, TurnsOut, Two, TypedStmt, TypedStruct, Value, Var, Ways}
 use Rattle.sc_replay.proofs.Common.{WhileLine, Word, [], action_kind, all_do, and_then, ap, assign, block_does, c_arith}
-use Rattle.sc_replay.proofs.Common.{call_alone, calls_out, choose, computed, counter, counter_is, eq-eqb, evaluated}
+use Rattle.sc_replay.proofs.Common.{call_statement, calls_out, choose, computed, counter, counter_is, eq-eqb, evaluated}
 use Rattle.sc_replay.proofs.Common.{expr, follow, in_order, leave, lines_are, lines_do, map, ne_eqb, of_bool, or_int}
 use Rattle.sc_replay.proofs.Common.{params_at, refl, rolls-Binary, rolls-Variable, rounds, row_kind, stmt_at, stmt_does}
 use Rattle.sc_replay.proofs.Common.{stmts, store, suc, sym, test, true, turn_of, values, variable_at, waits, way}
@@ -218,7 +218,7 @@ module _ (structs : List TypedStruct) (here : Here) (params : ℕ) (by : Calls) 
     after_call (Stopped e s) = refl
 
     pub call_does : (line : ℕ) (target : CallTarget) (es : List Shape) (ws : List ℕ) (s : State) → Give es ws →
-        and_then (follow in_order (all_do (call_alone here by target (map way_of es) line ∷ []) tt s) y) close ≡
+        and_then (follow in_order (all_do (call_statement here by target (map way_of es) line ∷ []) tt s) y) close ≡
         and_then (by here.comp target (map (λ w. Word w) ws) s) (λ v s. and_then (y tt s) close)
     call_does line target es ws s h =
         ap (λ r. and_then (follow in_order (follow in_order (and_then (and_then (computed here line r s)

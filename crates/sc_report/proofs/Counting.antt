@@ -21,8 +21,8 @@ one_more j =
 -- one number more
 pub number_turn : (f : ℕ → List ℕ) (j : ℕ) (old text now : List ℕ) → text ≡ old ++ flat_map f (numbers_from 0 j) →
     now ≡ text ++ f j → now ≡ old ++ flat_map f (numbers_from 0 (j + 1))
-number_turn f j old text now before told =
-    told ∙ ap (λ t. t ++ f j) before ∙ flat_map_more f old (numbers_from 0 j) j ∙
+number_turn f j old text now before printed =
+    printed ∙ ap (λ t. t ++ f j) before ∙ flat_map_more f old (numbers_from 0 j) j ∙
     ap (λ ns. old ++ flat_map f ns) (sym (one_more j))
 
 module _ (p : ℕ → Bool) (f : ℕ → List ℕ) (j : ℕ) where
@@ -34,8 +34,8 @@ module _ (p : ℕ → Bool) (f : ℕ → List ℕ) (j : ℕ) where
   -- one number more, which passes the test or not
   pub chosen_turn : (old text now : List ℕ) → p j ≡ true → text ≡ old ++ flat_map f (filter p (numbers_from 0 j)) →
       now ≡ text ++ f j → now ≡ old ++ flat_map f (filter p (numbers_from 0 (j + 1)))
-  chosen_turn old text now is before told =
-      told ∙ ap (λ t. t ++ f j) before ∙ flat_map_more f old (filter p (numbers_from 0 j)) j ∙
+  chosen_turn old text now is before printed =
+      printed ∙ ap (λ t. t ++ f j) before ∙ flat_map_more f old (filter p (numbers_from 0 j)) j ∙
       ap (λ ns. old ++ flat_map f ns) (sym (chosen true is))
 
   pub passed_turn : (old text : List ℕ) → p j ≡ false → text ≡ old ++ flat_map f (filter p (numbers_from 0 j)) →

@@ -14,6 +14,6 @@ three_pieces (Err e) old o1 o2 o3 a b c first second third = third
 pub flat_turn : {X : Type 0} (f : X → List ℕ) (xs : List X) (i : ℕ) (x : X) (text now : List ℕ) → i < length xs →
     x ≡ get_or xs i x →
     text ≡ flat_map f (take i xs) → now ≡ text ++ f x → now ≡ flat_map f (take (i + 1) xs)
-flat_turn f xs i x text now within is before told =
-    told ∙ ap (λ t. t ++ f x) before ∙ (flat_map_more f [] (take i xs) x ∙
+flat_turn f xs i x text now within is before printed =
+    printed ∙ ap (λ t. t ++ f x) before ∙ (flat_map_more f [] (take i xs) x ∙
     ap (flat_map f) (ap (λ y. take i xs ++ y ∷ []) is ∙ sym (take_more xs i x within)))

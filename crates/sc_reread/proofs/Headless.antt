@@ -138,44 +138,44 @@ import_headless text h zero is =
     absurd (omega (arith, e))
 import_headless text h (suc at) is = plain_then (codes "pragma import ") text refl h at is
 
-exports_headless : (exports : List Proto) → AllByRecursion IsCalled exports → (behind : List ℕ) → Headless behind →
-    Headless (flat_map export_text exports ++ behind)
-exports_headless [] h behind k = k
-exports_headless (f ∷ exports) h behind k =
+exports_headless : (exports : List Proto) → AllByRecursion IsCalled exports → (following : List ℕ) → Headless following →
+    Headless (flat_map export_text exports ++ following)
+exports_headless [] h following k = k
+exports_headless (f ∷ exports) h following k =
     let line : List ℕ = f.name ++ codes "\n" in
-    subst Headless (sym (append_assoc (export_text f) (flat_map export_text exports) behind))
-    (export_headless (line ++ (flat_map export_text exports ++ behind))
-    (plain_then line (flat_map export_text exports ++ behind)
+    subst Headless (sym (append_assoc (export_text f) (flat_map export_text exports) following))
+    (export_headless (line ++ (flat_map export_text exports ++ following))
+    (plain_then line (flat_map export_text exports ++ following)
     (plain_append f.name (codes "\n") (name_plain f.name (ident_name f.name h.0.name)) refl)
-    (exports_headless exports h.1 behind k)))
+    (exports_headless exports h.1 following k)))
 
 imports_headless : (interfaces : Interfaces) (imports : List Import) → AllByRecursion (IsImported interfaces) imports →
-    (behind : List ℕ) → Headless behind → Headless (flat_map (import_text interfaces) imports ++ behind)
-imports_headless interfaces [] h behind k = k
-imports_headless interfaces (import ∷ imports) h behind k =
+    (following : List ℕ) → Headless following → Headless (flat_map (import_text interfaces) imports ++ following)
+imports_headless interfaces [] h following k = k
+imports_headless interfaces (import ∷ imports) h following k =
     let f : Proto = h.0.f in
     let owner : List ℕ = owner_name interfaces import in
     let line : List ℕ = owner ++ (codes " " ++ (f.name ++ codes "\n")) in
     let is : import_text interfaces import ≡ codes "#pragma import " ++ line = rw h.0.is in
-    let rest : List ℕ = flat_map (import_text interfaces) imports ++ behind in
+    let rest : List ℕ = flat_map (import_text interfaces) imports ++ following in
     subst Headless (ap (λ t. t ++ rest) (sym is) ∙
-    sym (append_assoc (import_text interfaces import) (flat_map (import_text interfaces) imports) behind))
+    sym (append_assoc (import_text interfaces import) (flat_map (import_text interfaces) imports) following))
     (import_headless (line ++ rest) (plain_then line rest
     (plain_append owner (codes " " ++ (f.name ++ codes "\n")) (name_plain owner h.0.owner)
     (plain_append f.name (codes "\n") (name_plain f.name (ident_name f.name h.0.called.name)) refl))
-    (imports_headless interfaces imports h.1 behind k)))
+    (imports_headless interfaces imports h.1 following k)))
 
 -- The text of a section, whose compartment line states its name, and in which no other stands.
 
-module _ (name behind : List ℕ) where
+module _ (name following : List ℕ) where
   abbrev pub headed : List ℕ
-  headed = mark ++ (name ++ (codes "\n" ++ behind))
+  headed = mark ++ (name ++ (codes "\n" ++ following))
 
-  module _ (named : is_name name ≡ true) (headless : Headless behind) where
-    tail_headless : Headless (codes "pragma compartment " ++ (name ++ (codes "\n" ++ behind)))
-    tail_headless = plain_then (codes "pragma compartment ") (name ++ (codes "\n" ++ behind)) refl
-        (plain_then name (codes "\n" ++ behind) (name_plain name named)
-        (plain_then (codes "\n") behind refl headless))
+  module _ (named : is_name name ≡ true) (headless : Headless following) where
+    tail_headless : Headless (codes "pragma compartment " ++ (name ++ (codes "\n" ++ following)))
+    tail_headless = plain_then (codes "pragma compartment ") (name ++ (codes "\n" ++ following)) refl
+        (plain_then name (codes "\n" ++ following) (name_plain name named)
+        (plain_then (codes "\n") following refl headless))
 
     whole : (at : ℕ) → 1 ≤ at → IsTrue (is_heading headed at) → ⊥
     whole zero low h = omega (arith, low)
@@ -185,12 +185,12 @@ module _ (name behind : List ℕ) where
     first_is : first_line headed ≡ mark ++ name
     first_is =
         let line : List ℕ = mark ++ name in
-        let long = run_is is_inside_line line (10 ∷ behind) (heading_line_is name named).inside refl in
-        ap (λ n. take n headed) long ∙ take-append_seam line (10 ∷ behind)
+        let long = run_is is_inside_line line (10 ∷ following) (heading_line_is name named).inside refl in
+        ap (λ n. take n headed) long ∙ take-append_seam line (10 ∷ following)
 
     pub headed_text : IsText headed
     headed_text = record {
-      begins = heading_begins (name ++ (codes "\n" ++ behind));
+      begins = heading_begins (name ++ (codes "\n" ++ following));
       name = name;
       named = ap heading_name first_is ∙ heading_is name named;
       whole = λ at low high h. whole at low h;
@@ -205,8 +205,8 @@ Closed text = (d : ℕ) → d ≡ 10 → last d text ≡ 10
 abbrev pub Closing : List ℕ → Type 0
 Closing text = (d : ℕ) → last d text ≡ 10
 
-pub behind_closing : (a b : List ℕ) → Closing b → Closing (a ++ b)
-behind_closing a b h d = last_append d a b ∙ h (last d a)
+pub after_closing : (a b : List ℕ) → Closing b → Closing (a ++ b)
+after_closing a b h d = last_append d a b ∙ h (last d a)
 
 pub closed_append : (a b : List ℕ) → Closed a → Closed b → Closed (a ++ b)
 closed_append a b h k d e = last_append d a b ∙ k (last d a) (h d e)
@@ -215,9 +215,9 @@ function_closing : (interfaces : Interfaces) (rows : List Row) (e : Entry) (f : 
     Closing (function_text interfaces rows e f)
 function_closing interfaces rows e f =
     let own : List ℕ = flat_map (row_text interfaces f.result) (filter (is_of e) rows) in
-    behind_closing (head_text f) (codes " {\n" ++ (own ++ codes "  while (1) { }\n}\n"))
-    (behind_closing (codes " {\n") (own ++ codes "  while (1) { }\n}\n")
-    (behind_closing own (codes "  while (1) { }\n}\n") (λ d. refl)))
+    after_closing (head_text f) (codes " {\n" ++ (own ++ codes "  while (1) { }\n}\n"))
+    (after_closing (codes " {\n") (own ++ codes "  while (1) { }\n}\n")
+    (after_closing own (codes "  while (1) { }\n}\n") (λ d. refl)))
 
 functions_closed : (interfaces : Interfaces) (rows : List Row) (index : ℕ) (exports : List Proto) →
     Closed (functions_text interfaces rows index exports)
@@ -254,18 +254,18 @@ module _ (interfaces : Interfaces) (comp : ℕ) (rows : List Row) (interface : I
   abbrev decls : List ℕ
   decls = protos ++ (codes "unsigned int bt_n;\n" ++ functions)
 
-  abbrev behind : List ℕ
-  behind = exports ++ (imports ++ decls)
+  abbrev following : List ℕ
+  following = exports ++ (imports ++ decls)
 
   abbrev text : List ℕ
   text = section_text interfaces comp rows interface
 
   pub text_closing : Closing text
   text_closing =
-      behind_closing mark (interface.name ++ (codes "\n" ++ behind))
-      (behind_closing interface.name (codes "\n" ++ behind) (behind_closing (codes "\n") behind
-      (behind_closing exports (imports ++ decls) (behind_closing imports decls
-      (behind_closing protos (codes "unsigned int bt_n;\n" ++ functions) (counter_closing functions
+      after_closing mark (interface.name ++ (codes "\n" ++ following))
+      (after_closing interface.name (codes "\n" ++ following) (after_closing (codes "\n") following
+      (after_closing exports (imports ++ decls) (after_closing imports decls
+      (after_closing protos (codes "unsigned int bt_n;\n" ++ functions) (counter_closing functions
       (closed_append (functions_text interfaces rows 0 interface.exports) (main_text interfaces comp rows)
       (functions_closed interfaces rows 0 interface.exports)
       (main_closed interfaces rows (comp == interfaces.main)))))))))
@@ -277,6 +277,6 @@ module _ (interfaces : Interfaces) (comp : ℕ) (rows : List Row) (interface : I
         ap plain (sym ds.same.spelled) ∙ tidy_plain (ds.same.tidy [])
 
     pub performing_text : IsText text
-    performing_text = headed_text interface.name behind can.name (exports_headless interface.exports
+    performing_text = headed_text interface.name following can.name (exports_headless interface.exports
         (recursion_from_All _ _ can.exports) (imports ++ decls) (imports_headless interfaces interface.imports
         (recursion_from_All _ _ can.imports) decls (plain_headless decls decls_plain)))

@@ -131,14 +131,14 @@ pub record IsHead (f : Proto) : Type 0 where
 pub head_is : (f : Proto) → IsCalled f → IsHead f
 head_is f h =
     let params : List Piece = params_words (proto_params 0 f.params) in
-    let behind : List Piece = word f.name ∷ word (codes "(") ∷ (params ++ word (codes ")") ∷ []) in
-    let behind_spelled : text_of behind ≡ f.name ++ (codes "(" ++ (params_text f.params ++ codes ")")) =
+    let following : List Piece = word f.name ∷ word (codes "(") ∷ (params ++ word (codes ")") ∷ []) in
+    let after_spelled : text_of following ≡ f.name ++ (codes "(" ++ (params_text f.params ++ codes ")")) =
     ap (λ x. f.name ++ (codes "(" ++ x)) (flat_map-append piece_text params (word (codes ")") ∷ []) ∙
     ap (λ x. x ++ codes ")") (params_spelled f.params)) in
     record {
       kept = head_kept f.result f.name f.params h.name h.few;
-      spelled = flat_map-append piece_text (result_words (option_map type_name f.result)) behind ∙
-          ap₂ (λ x y. x ++ y) (result_spelled f.result) behind_spelled ∙
+      spelled = flat_map-append piece_text (result_words (option_map type_name f.result)) following ∙
+          ap₂ (λ x y. x ++ y) (result_spelled f.result) after_spelled ∙
           append_assoc (result_text f.result) (codes " ")
           (f.name ++ (codes "(" ++ (params_text f.params ++ codes ")")));
       nested = nested_append (result_nested f.result) (nested_even (even_ident f.name h.name)

@@ -4,7 +4,7 @@ use Rattle.sc_reread.proofs.Common.{ap₂, arith, concat, drop, drop-append_seam
 use Rattle.sc_reread.proofs.Common.{length, length-append, line_at, map, none, refl, section, subst, sym, take}
 use Rattle.sc_reread.proofs.Common.{take-append-drop, take-append_seam, true, ℕ, ◌++◌, ◌+◌, ◌-◌, ◌∙◌, ◌∷◌, ◌≡◌, ◌⊎◌}
 unfoldable use Rattle.sc_lex.specs.Prelude.{heading_name}
-use Rattle.sc_reread.proofs.Headings.{Ends, begins_outside, first_line_kept, front_ends, heading_behind, heading_first}
+use Rattle.sc_reread.proofs.Headings.{Ends, begins_outside, first_line_kept, prefix_ends, heading_after, heading_first}
 use Rattle.sc_reread.proofs.Headings.{heading_inside, heading_outside, last, last_any, last_append}
 use Rattle.sc_reread.proofs.Splitting.{IsText, Joined, bytes_of, more, nothing, some_bytes}
 
@@ -16,42 +16,42 @@ ends_of text texts ends = elim ends [
 ]
 
 -- one section between a prefix and what follows
-module _ (front u behind : List ℕ) (t : IsText u) (newline : last 10 front ≡ 10) (ends : Ends u behind) where
+module _ (prefix u following : List ℕ) (t : IsText u) (newline : last 10 prefix ≡ 10) (ends : Ends u following) where
   abbrev text : List ℕ
-  text = front ++ (u ++ behind)
+  text = prefix ++ (u ++ following)
 
   abbrev pub here : Section
   here = record {
     name = t.name;
-    start = length front;
-    line = line_at text (length front);
+    start = length prefix;
+    line = line_at text (length prefix);
     bytes = record { ref_ptr = (0, 0); now = u };
   }
 
-  seam : drop (length front) text ≡ u ++ behind
-  seam = drop-append_seam front (u ++ behind)
+  seam : drop (length prefix) text ≡ u ++ following
+  seam = drop-append_seam prefix (u ++ following)
 
-  pub section_here : IsSection text (length front) (length (front ++ u)) here
+  pub section_here : IsSection text (length prefix) (length (prefix ++ u)) here
   section_here =
       let some = some_bytes u t.begins in
-      let long = length-append front u in
-      let size : length (front ++ u) - length front ≡ length u = omega (arith, long) in
+      let long = length-append prefix u in
+      let size : length (prefix ++ u) - length prefix ≡ length u = omega (arith, long) in
       record {
-        heading = heading_first front (u ++ behind) newline (begins_outside u behind t.begins);
+        heading = heading_first prefix (u ++ following) newline (begins_outside u following t.begins);
         name = ap (λ b. heading_name (first_line b)) seam ∙
-            ap heading_name (first_line_kept u behind some ends) ∙ t.named;
+            ap heading_name (first_line_kept u following some ends) ∙ t.named;
         start = refl;
         line = refl;
-        bytes = sym (take-append_seam u behind) ∙ ap₂ take (sym size) (sym seam);
+        bytes = sym (take-append_seam u following) ∙ ap₂ take (sym size) (sym seam);
         within = (
           omega (arith, some, long),
-          omega (arith, long, length-append front (u ++ behind), length-append u behind),
+          omega (arith, long, length-append prefix (u ++ following), length-append u following),
         );
         whole = λ at low high is.
-            let place : length front + (at - length front) ≡ at = omega (arith, low) in
-            t.whole (at - length front) (omega (arith, low)) (omega (arith, low, high, long))
-            (heading_inside u behind (at - length front) (omega (arith, low, high, long)) ends
-            (sym (heading_behind front (u ++ behind) (at - length front) (omega (arith, low))) ∙
+            let place : length prefix + (at - length prefix) ≡ at = omega (arith, low) in
+            t.whole (at - length prefix) (omega (arith, low)) (omega (arith, low, high, long))
+            (heading_inside u following (at - length prefix) (omega (arith, low, high, long)) ends
+            (sym (heading_after prefix (u ++ following) (at - length prefix) (omega (arith, low))) ∙
             subst (λ k. is_heading text k ≡ true) (sym place) is));
       }
 
@@ -61,49 +61,49 @@ pub record IsFound (text : List ℕ) (at : ℕ) (texts : List (List ℕ)) : Type
   pub sections : AreSections text at (length text) found
   pub bytes : map bytes_of found ≡ texts
 
-pub to_sections : (front : List ℕ) (texts : List (List ℕ)) → Joined texts → (texts ≡ []) ⊎ (last 10 front ≡ 10) →
-    IsFound (front ++ concat texts) (length front) texts
-to_sections front [] nothing ends =
-    let long : length front ≡ length (front ++ []) = ap length (sym (append-nil front)) in
+pub to_sections : (prefix : List ℕ) (texts : List (List ℕ)) → Joined texts → (texts ≡ []) ⊎ (last 10 prefix ≡ 10) →
+    IsFound (prefix ++ concat texts) (length prefix) texts
+to_sections prefix [] nothing ends =
+    let long : length prefix ≡ length (prefix ++ []) = ap length (sym (append-nil prefix)) in
     record {
       found = [];
-      sections = subst (λ end. AreSections (front ++ []) (length front) end []) long none;
+      sections = subst (λ end. AreSections (prefix ++ []) (length prefix) end []) long none;
       bytes = refl;
     }
-to_sections front (u ∷ texts) (more t last_line others) ends =
-    let behind : List ℕ = concat texts in
-    let newline : last 10 front ≡ 10 = elim ends [
+to_sections prefix (u ∷ texts) (more t last_line others) ends =
+    let following : List ℕ = concat texts in
+    let newline : last 10 prefix ≡ 10 = elim ends [
       | inl e ↦ absurd (cc)
       | inr n ↦ n
     ] in
     let some = some_bytes u t.begins in
-    let whole : (front ++ u) ++ behind ≡ front ++ (u ++ behind) = append_assoc front u behind in
-    let further : (texts ≡ []) ⊎ (last 10 (front ++ u) ≡ 10) = elim last_line [
+    let whole : (prefix ++ u) ++ following ≡ prefix ++ (u ++ following) = append_assoc prefix u following in
+    let further : (texts ≡ []) ⊎ (last 10 (prefix ++ u) ≡ 10) = elim last_line [
       | inl e ↦ inl e
-      | inr n ↦ inr (last_append 10 front u ∙ last_any (last 10 front) 10 u some ∙ n)
+      | inr n ↦ inr (last_append 10 prefix u ∙ last_any (last 10 prefix) 10 u some ∙ n)
     ] in
-    let rest = subst (λ b. IsFound b (length (front ++ u)) texts) whole
-    (to_sections (front ++ u) texts others further) in
+    let rest = subst (λ b. IsFound b (length (prefix ++ u)) texts) whole
+    (to_sections (prefix ++ u) texts others further) in
     record {
-      found = here front u behind t newline (ends_of u texts last_line) ∷ rest.found;
-      sections = section (here front u behind t newline (ends_of u texts last_line))
-          (section_here front u behind t newline (ends_of u texts last_line)) rest.sections;
+      found = here prefix u following t newline (ends_of u texts last_line) ∷ rest.found;
+      sections = section (here prefix u following t newline (ends_of u texts last_line))
+          (section_here prefix u following t newline (ends_of u texts last_line)) rest.sections;
       bytes = ap (λ bs. u ∷ bs) rest.bytes;
     }
 
 -- the preamble of a split text ends with a newline, where a section follows
 preamble_ends : (text preamble : List ℕ) (found : List Section) → IsSplit text preamble found →
     (map bytes_of found ≡ []) ⊎ (last 10 preamble ≡ 10)
-preamble_ends text preamble found split = by found split.behind refl
+preamble_ends text preamble found split = by found split.following refl
   where
     whole : text ≡ preamble ++ drop (length preamble) text
     whole = sym (take-append-drop (length preamble) text) ∙
-        ap (λ p. p ++ drop (length preamble) text) (sym split.front)
+        ap (λ p. p ++ drop (length preamble) text) (sym split.prefix)
 
     by : (found : List Section) → {at end : ℕ} → AreSections text at end found → at ≡ length preamble →
         (map bytes_of found ≡ []) ⊎ (last 10 preamble ≡ 10)
     by _ none e = inl refl
-    by _ (section s g others) e = inr (front_ends preamble (drop (length preamble) text)
+    by _ (section s g others) e = inr (prefix_ends preamble (drop (length preamble) text)
         (ap₂ is_heading (sym whole) (sym e) ∙ g.heading))
 
 -- A text with the same preamble and other sections, of which there are none where there were none.
@@ -118,14 +118,14 @@ joined_split text preamble found split news joined empty =
     let is = to_sections preamble news joined ends in
     let whole : text ≡ preamble ++ drop (length preamble) text =
     sym (take-append-drop (length preamble) text) ∙
-    ap (λ p. p ++ drop (length preamble) text) (sym split.front) in (
+    ap (λ p. p ++ drop (length preamble) text) (sym split.prefix) in (
       is.found,
       record {
-        front = sym (take-append_seam preamble (concat news));
+        prefix = sym (take-append_seam preamble (concat news));
         before = λ at low high h. split.before at low high
             (ap (λ b. is_heading b at) whole ∙ heading_outside preamble (drop (length preamble) text) at high
             (heading_inside preamble (concat news) at high (ends_of preamble news ends) h));
-        behind = is.sections;
+        following = is.sections;
       },
       is.bytes,
     )

@@ -113,9 +113,9 @@ all_good : (bytes : List ℕ) (tokens : List Token) → AllGood (lexemes_of byte
 all_good bytes [] = tt
 all_good bytes (t ∷ tokens) = (good_says t.kind (slice_range bytes t.start t.end), all_good bytes tokens)
 
-front_good : (ts us : List Lexeme) → AllGood (ts ++ us) → AllGood ts
-front_good [] us h = tt
-front_good (t ∷ ts) us h = (h.0, front_good ts us h.1)
+prefix_good : (ts us : List Lexeme) → AllGood (ts ++ us) → AllGood ts
+prefix_good [] us h = tt
+prefix_good (t ∷ ts) us h = (h.0, prefix_good ts us h.1)
 
 back_good : (ts us : List Lexeme) → AllGood (ts ++ us) → AllGood us
 back_good [] us h = h
@@ -139,13 +139,13 @@ globals_named (tree ∷ trees) = (tt, globals_named trees)
 function_named : (ts : List Lexeme) (tree : FunctionTree) → AllGood ts → SpellsFunction ts tree →
     IsIdentifier tree.head.name
 function_named _ _ g (decls.function {ts = ts} {us = us} {vs = vs} {head = head} t u opens closes spelled locals body) =
-    head_named ts (head_of head) (front_good ts (t ∷ (us ++ (vs ++ u ∷ []))) g) spelled
+    head_named ts (head_of head) (prefix_good ts (t ∷ (us ++ (vs ++ u ∷ []))) g) spelled
 
 decl_named : (ts : List Lexeme) (ds : List Decl) → AllGood ts → SpellsDecl ts ds → AllByRecursion NamedDecl ds
 decl_named _ _ g (decls.a_struct s) = (tt, tt)
 decl_named _ _ g (decls.globals {trees = trees} d) = globals_named trees
 decl_named _ _ g (decls.prototype {ts = ts} {tree = tree} t is s) =
-    (head_named ts tree (front_good ts (t ∷ []) g) s, tt)
+    (head_named ts tree (prefix_good ts (t ∷ []) g) s, tt)
 decl_named _ _ g (decls.a_function {ts = ts} {tree = tree} s) = (function_named ts tree g s, tt)
 
 named_append : (ds es : List Decl) → AllByRecursion NamedDecl ds → AllByRecursion NamedDecl es →
@@ -156,7 +156,7 @@ named_append (d ∷ ds) es h k = (h.0, named_append ds es h.1 k)
 decls_named : (ts : List Lexeme) (ds : List Decl) → AllGood ts → Grouped SpellsDecl ts ds → AllByRecursion NamedDecl ds
 decls_named _ _ g lists.none = tt
 decls_named _ _ g (lists.next {ts = ts} {us = us} {xs = xs} {ys = ys} first others) =
-    named_append xs ys (decl_named ts xs (front_good ts us g) first) (decls_named us ys (back_good ts us g) others)
+    named_append xs ys (decl_named ts xs (prefix_good ts us g) first) (decls_named us ys (back_good ts us g) others)
 
 heads_named : (ds : List Decl) → AllByRecursion NamedDecl ds → AllByRecursion IsNamedHead (heads_in ds)
 heads_named [] h = tt
@@ -193,12 +193,12 @@ section_named : (line : ℕ) (lexemes : List Lexeme) (tree : SectionTree) → Al
     SpellsSection line lexemes tree → IsNamedSection tree
 section_named line _ _ g (spell.section {ts = ts} {us = us} {exports = exports} {imports = imports} {decls = ds}
     t name is directives declared) =
-    let front = front_good ts us g.1 in
+    let prefix = prefix_good ts us g.1 in
     let named = decls_named us ds (back_good ts us g.1) declared in
     record {
       name = subst Good is g.0;
-      exports = All-from_recursion _ _ (exports_named ts exports imports front directives);
-      imports = All-from_recursion _ _ (imports_named ts exports imports front directives);
+      exports = All-from_recursion _ _ (exports_named ts exports imports prefix directives);
+      imports = All-from_recursion _ _ (imports_named ts exports imports prefix directives);
       heads = All-from_recursion _ _ (heads_named ds named);
       functions = All-from_recursion _ _ (functions_named ds named);
     }

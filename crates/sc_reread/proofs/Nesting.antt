@@ -1,7 +1,7 @@
 -- How many brackets are open along words.
 use Rattle.sc_reread.proofs.Common.{IsTrue, Lexeme, List, Number, Piece, Symbol, [], ap, append_assoc, arith}
 use Rattle.sc_reread.proofs.Common.{binary_text, blank, codes, fits, indent, is_ident, joined_symbols, literal_says}
-use Rattle.sc_reread.proofs.Common.{literal_text, map, max, most_open, name_says, newline, open_after, open_behind}
+use Rattle.sc_reread.proofs.Common.{literal_text, map, max, most_open, name_says, newline, open_after, open_past}
 use Rattle.sc_reread.proofs.Common.{refl, subst, suc, sym, symbols, word, word_symbol, ℕ, ◌++◌, ◌+◌, ◌-◌, ◌∙◌, ◌∷◌, ◌≡◌}
 use Rattle.sc_reread.proofs.Common.{◌≤◌}
 use Rattle.sc_base.specs.declared.op.BinaryOp.{BinaryOp}
@@ -115,7 +115,7 @@ even_step count = ap (λ s. open_after s count) (tables.lone_says tables.plus_pl
 pub even_binary : (op : BinaryOp) → Even (word_symbol (binary_text op))
 even_binary op count = ap (λ s. open_after s count) (tables.binary_says op) ∙ by op
   where
-    by : (op : BinaryOp) → open_behind (tables.binary_mark op) count ≡ count
+    by : (op : BinaryOp) → open_past (tables.binary_mark op) count ≡ count
     by binary.OrElse = refl
     by _ = refl
 

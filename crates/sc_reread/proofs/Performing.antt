@@ -161,14 +161,14 @@ protos_are : (interfaces : Interfaces) (imports : List Import) → AllByRecursio
 protos_are interfaces [] h ds more rest = rest
 protos_are interfaces (import ∷ imports) h ds more rest =
     let f : Proto = h.0.f in
-    let behind = protos_are interfaces imports h.1 ds more rest in
+    let following = protos_are interfaces imports h.1 ds more rest in
     let all : filter_map (import_head interfaces) (import ∷ imports) ≡
     proto_head f ∷ filter_map (import_head interfaces) imports = rw h.0.is in
     let text : proto_text interfaces import ≡ head_text f ++ codes ";\n" = rw h.0.is in
     let one = one_decl (decl.Proto (proto_head f)) (map decl.Proto (filter_map (import_head interfaces) imports) ++ ds)
     (decl_words (decl.Proto (proto_head f))) (head_text f ++ codes ";\n")
     (flat_map (proto_text interfaces) imports ++ more) (head_is f h.0.called).kept (omega arith)
-    (proto_same f h.0.called) behind in
+    (proto_same f h.0.called) following in
     subst (λ hs. AreDecls (map decl.Proto hs ++ ds) (flat_map (proto_text interfaces) (import ∷ imports) ++ more))
     (sym all) (subst (λ t. AreDecls
     (decl.Proto (proto_head f) ∷ (map decl.Proto (filter_map (import_head interfaces) imports) ++ ds)) t)
@@ -206,13 +206,13 @@ functions_are : (interfaces : Interfaces) (rows : List Row) → AreSpoken interf
     (functions_text interfaces rows index exports ++ more)
 functions_are interfaces rows h index [] called fs more rest = rest
 functions_are interfaces rows h index (f ∷ exports) called fs more rest =
-    let behind = functions_are interfaces rows h (suc index) exports called.1 fs more rest in
+    let following = functions_are interfaces rows h (suc index) exports called.1 fs more rest in
     subst (λ t. AreDecls (map decl.Function (function_trees interfaces rows index (f ∷ exports) ++ fs)) t)
     (sym (append_assoc (function_text interfaces rows (entry.Export index) f)
     (functions_text interfaces rows (suc index) exports) more))
     (function_decl interfaces rows h (entry.Export index) f called.0
     (map decl.Function (function_trees interfaces rows (suc index) exports ++ fs))
-    (functions_text interfaces rows (suc index) exports ++ more) behind)
+    (functions_text interfaces rows (suc index) exports ++ more) following)
 
 main_called : IsCalled main_proto
 unfolding is_name is_reserved
@@ -266,8 +266,8 @@ pub record IsPerforming (tree : SectionTree) (text : List ℕ) : Type 0 where
   pub says : symbols pieces ≡ symbols (section_words tree)
   pub nested : Nested 3 pieces
 
-same_behind : (a p q : List Piece) → symbols p ≡ symbols q → symbols (a ++ p) ≡ symbols (a ++ q)
-same_behind a p q e = joined_symbols a p ∙ ap (λ ss. symbols a ++ ss) e ∙ sym (joined_symbols a q)
+same_after : (a p q : List Piece) → symbols p ≡ symbols q → symbols (a ++ p) ≡ symbols (a ++ q)
+same_after a p q e = joined_symbols a p ∙ ap (λ ss. symbols a ++ ss) e ∙ sym (joined_symbols a q)
 
 pub section_is : (interfaces : Interfaces) (comp : ℕ) (rows : List Row) (interface : Interface) →
     CanPerform interfaces rows interface →
@@ -295,7 +295,7 @@ section_is interfaces comp rows interface can =
           (flat_map-append piece_text e (i ++ decls.pieces) ∙ ap₂ (λ a b. a ++ b) exports.spelled
           (flat_map-append piece_text i decls.pieces ∙ ap₂ (λ a b. a ++ b) imports.spelled decls.same.spelled));
       says = ap (λ ss. word_symbol (codes "#pragma compartment " ++ interface.name) ∷ ss)
-          (same_behind e (i ++ decls.pieces) (i ++ ds) (same_behind i decls.pieces ds decls.same.says));
+          (same_after e (i ++ decls.pieces) (i ++ ds) (same_after i decls.pieces ds decls.same.says));
       nested = nested_even (even_heading interface.name can.name) (nested_line
           (nested_append (nested_more (omega arith) exports.nested)
           (nested_append (nested_more (omega arith) imports.nested) decls.same.nested)));

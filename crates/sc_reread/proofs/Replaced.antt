@@ -75,11 +75,11 @@ module _ (interfaces : Interfaces) (rows : ℕ → List Row) (set : ℕ → Bool
   joined_again comp [] c nothing = nothing
   joined_again comp (old ∷ olds) c (more t ends others) =
       let first = changed comp (replace comp) c.0 old olds t ends in
-      more first.0 (behind (new_text (replace comp) old) first.1) (joined_again (suc comp) olds c.1 others)
+      more first.0 (following (new_text (replace comp) old) first.1) (joined_again (suc comp) olds c.1 others)
     where
-      behind : (new : List ℕ) → (olds ≡ []) ⊎ (last 10 new ≡ 10) →
+      following : (new : List ℕ) → (olds ≡ []) ⊎ (last 10 new ≡ 10) →
           (new_texts replace (suc comp) olds ≡ []) ⊎ (last 10 new ≡ 10)
-      behind new ends = elim ends [
+      following new ends = elim ends [
         | inl e ↦ inl (ap (new_texts replace (suc comp)) e)
         | inr n ↦ inr n
       ]
@@ -165,7 +165,7 @@ replaced_texts text preamble found trees split reads interfaces rows set replace
     let news : List (List ℕ) = new_texts replace 0 olds in
     let many = as_many text found trees each in
     let changes = changes_of interfaces rows set replace (length trees) 0 olds r (omega (arith, many)) in
-    let joined = joined_again interfaces rows set replace 0 olds changes (from_sections split.behind refl) in
+    let joined = joined_again interfaces rows set replace 0 olds changes (from_sections split.following refl) in
     let again = joined_split text preamble found split news joined (λ e. ap (new_texts replace 0) e) in
     let new : List ℕ = preamble ++ concat news in
     let all = read_all interfaces rows set replace text new 0 found again.0 trees changes each again.2 in

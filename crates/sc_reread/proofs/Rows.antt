@@ -111,7 +111,7 @@ end_says (p ∷ action) = ap (λ ss. piece_symbols p ++ ss) (end_says action)
 row_says : (n m : Number) (action : List Piece) (b : StmtTree) → ((depth : ℕ) → (stmt_layout b).words depth ≡ action) →
     symbols (row_pieces n m action) ≡ symbols (line_of 1 ((stmt_layout (choice (test n) (setting m) b)).words 1))
 row_says n m action b laid =
-    let front : List Piece → List Piece = λ block. condition_words (codes "if") (test n) ++ block in
+    let prefix : List Piece → List Piece = λ block. condition_words (codes "if") (test n) ++ block in
     ap (λ ss. word_symbol (codes "if") ∷ word_symbol (codes "(") ∷ word_symbol counter_name ∷
     word_symbol (codes "==") ∷ word_symbol (literal_text n) ∷ word_symbol (codes ")") ∷ word_symbol (codes "{") ∷
     word_symbol counter_name ∷ word_symbol (codes "=") ∷ word_symbol (literal_text m) ∷

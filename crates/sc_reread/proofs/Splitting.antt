@@ -5,8 +5,8 @@ use Rattle.sc_reread.proofs.Common.{drop_all, first_line, inl, inr, is_heading, 
 use Rattle.sc_reread.proofs.Common.{length-take-le, map, name_at, none, refl, section, slice_range, sym, take}
 use Rattle.sc_reread.proofs.Common.{take-append-drop, true, ℕ, ◌++◌, ◌+◌, ◌-◌, ◌<◌, ◌∙◌, ◌∷◌, ◌≡◌, ◌≤◌, ◌⊎◌}
 unfoldable use Rattle.sc_lex.specs.Prelude.{heading_name}
-use Rattle.sc_reread.proofs.Headings.{Ends, begins_inside, first_line_kept, front_ends, heading_behind}
-use Rattle.sc_reread.proofs.Headings.{heading_begins_behind, heading_outside, last, last_any, last_append, mark}
+use Rattle.sc_reread.proofs.Headings.{Ends, begins_inside, first_line_kept, prefix_ends, heading_after}
+use Rattle.sc_reread.proofs.Headings.{heading_begins_after, heading_outside, last, last_any, last_append, mark}
 use Rattle.sc_reread.proofs.Headings.{to_begins}
 
 -- the bytes of a section, wherever it stands
@@ -33,32 +33,32 @@ bytes_of s = s.bytes.now
 
 -- From a split text.
 
-module _ (front u behind : List ℕ) where
+module _ (prefix u following : List ℕ) where
   abbrev text : List ℕ
-  text = front ++ (u ++ behind)
+  text = prefix ++ (u ++ following)
 
-  pub one_text : (name : List ℕ) → is_heading text (length front) ≡ true →
-      name_at text (length front) ≡ Some name → 0 < length u → Ends u behind →
-      ((k : ℕ) → 1 ≤ k → k < length u → is_heading text (length front + k) ≡ true → ⊥) → IsText u
+  pub one_text : (name : List ℕ) → is_heading text (length prefix) ≡ true →
+      name_at text (length prefix) ≡ Some name → 0 < length u → Ends u following →
+      ((k : ℕ) → 1 ≤ k → k < length u → is_heading text (length prefix + k) ≡ true → ⊥) → IsText u
   one_text name heading named some ends whole =
-      let seam : drop (length front) text ≡ u ++ behind = drop-append_seam front (u ++ behind) in
+      let seam : drop (length prefix) text ≡ u ++ following = drop-append_seam prefix (u ++ following) in
       record {
-        begins = begins_inside u behind some ends (heading_begins_behind front (u ++ behind) heading);
+        begins = begins_inside u following some ends (heading_begins_after prefix (u ++ following) heading);
         name = name;
-        named = ap heading_name (sym (first_line_kept u behind some ends)) ∙
+        named = ap heading_name (sym (first_line_kept u following some ends)) ∙
             ap (λ b. heading_name (first_line b)) (sym seam) ∙ named;
         whole = λ at low high is. whole at low high
-            (heading_behind front (u ++ behind) at low ∙ heading_outside u behind at high is);
+            (heading_after prefix (u ++ following) at low ∙ heading_outside u following at high is);
       }
 
 -- a text in three parts
 record Parts (text : List ℕ) (at next : ℕ) (u : List ℕ) : Type 0 where
-  front : List ℕ
-  behind : List ℕ
-  is : text ≡ front ++ (u ++ behind)
-  long : length front ≡ at
+  prefix : List ℕ
+  following : List ℕ
+  is : text ≡ prefix ++ (u ++ following)
+  long : length prefix ≡ at
   size : length u ≡ next - at
-  rest : behind ≡ drop next text
+  rest : following ≡ drop next text
 
 parts_of : (text : List ℕ) (at next : ℕ) (u : List ℕ) → u ≡ slice_range text at next → at < next →
     next ≤ length text → Parts text at next u
@@ -69,8 +69,8 @@ parts_of text at next u is less within =
     ap₂ (λ a b. a ++ b) is (sym skip) ∙ take-append-drop (next - at) (drop at text) in
     let dropped = length-drop at text in
     record {
-      front = take at text;
-      behind = drop next text;
+      prefix = take at text;
+      following = drop next text;
       is = sym (take-append-drop at text) ∙ ap (λ b. take at text ++ b) (sym rest);
       long = length-take-le at text (omega (arith, less, within));
       size = ap length is ∙ length-take-le (next - at) (drop at text) (omega (arith, dropped, less, within));
@@ -85,17 +85,17 @@ section_text text at next s g follows =
     let p = parts_of text at next s.bytes.now g.bytes g.within.0 g.within.1 in
     let u : List ℕ = s.bytes.now in
     let some : 0 < length u = let size = p.size in let within = g.within.0 in omega arith in
-    let whole : p.front ++ (u ++ p.behind) ≡ (p.front ++ u) ++ p.behind = sym (append_assoc p.front u p.behind) in
-    let place : length (p.front ++ u) ≡ next =
-    let long = p.long in let size = p.size in let within = g.within.0 in omega (arith, length-append p.front u) in
+    let whole : p.prefix ++ (u ++ p.following) ≡ (p.prefix ++ u) ++ p.following = sym (append_assoc p.prefix u p.following) in
+    let place : length (p.prefix ++ u) ≡ next =
+    let long = p.long in let size = p.size in let within = g.within.0 in omega (arith, length-append p.prefix u) in
     let newline : IsTrue (is_heading text next) → last 10 u ≡ 10 = λ h.
-    last_any 10 (last 10 p.front) u some ∙ sym (last_append 10 p.front u) ∙
-    front_ends (p.front ++ u) p.behind (ap₂ is_heading (sym (p.is ∙ whole)) place ∙ h) in
-    let ends : Ends u p.behind = elim follows [
+    last_any 10 (last 10 p.prefix) u some ∙ sym (last_append 10 p.prefix u) ∙
+    prefix_ends (p.prefix ++ u) p.following (ap₂ is_heading (sym (p.is ∙ whole)) place ∙ h) in
+    let ends : Ends u p.following = elim follows [
       | inl empty ↦ inl (p.rest ∙ empty)
       | inr h ↦ inr (newline h)
     ] in (
-      one_text p.front u p.behind s.name (ap₂ is_heading (sym p.is) p.long ∙ g.heading)
+      one_text p.prefix u p.following s.name (ap₂ is_heading (sym p.is) p.long ∙ g.heading)
           (ap₂ name_at (sym p.is) p.long ∙ g.name) some ends
           (λ k low high is. g.whole (at + k) (omega (arith, low))
           (let size = p.size in let within = g.within.0 in omega (arith, high))

@@ -115,7 +115,7 @@ fn last_comment(text: &[u8]) -> &[u8] {
 }
 
 // The places of the cases that are reported otherwise.
-fn told_otherwise(alloc: Global, cases: &[Blamed]) -> Result<Vec<usize>, Fail> {
+fn reported_otherwise(alloc: Global, cases: &[Blamed]) -> Result<Vec<usize>, Fail> {
     let mut wrong = Vec::new(alloc);
     for (place, section) in cases.iter().enumerate() {
         let mut text = b"#pragma compartment M\n".to_vec(alloc)?;
@@ -133,28 +133,28 @@ fn told_otherwise(alloc: Global, cases: &[Blamed]) -> Result<Vec<usize>, Fail> {
 
 #[test]
 fn arithmetic_is_blamed(rt: HostRuntime) -> Result<(), Fail> {
-    let wrong = told_otherwise(rt.alloc(), &ARITHMETIC)?;
+    let wrong = reported_otherwise(rt.alloc(), &ARITHMETIC)?;
     assert!(rt; wrong.is_empty(), "{wrong:?}");
     Ok(())
 }
 
 #[test]
 fn pointers_are_blamed(rt: HostRuntime) -> Result<(), Fail> {
-    let wrong = told_otherwise(rt.alloc(), &POINTERS)?;
+    let wrong = reported_otherwise(rt.alloc(), &POINTERS)?;
     assert!(rt; wrong.is_empty(), "{wrong:?}");
     Ok(())
 }
 
 #[test]
 fn cells_that_hold_nothing_are_blamed(rt: HostRuntime) -> Result<(), Fail> {
-    let wrong = told_otherwise(rt.alloc(), &INDETERMINATE)?;
+    let wrong = reported_otherwise(rt.alloc(), &INDETERMINATE)?;
     assert!(rt; wrong.is_empty(), "{wrong:?}");
     Ok(())
 }
 
 #[test]
 fn the_first_cause_is_blamed(rt: HostRuntime) -> Result<(), Fail> {
-    let wrong = told_otherwise(rt.alloc(), &ORDER)?;
+    let wrong = reported_otherwise(rt.alloc(), &ORDER)?;
     assert!(rt; wrong.is_empty(), "{wrong:?}");
     Ok(())
 }

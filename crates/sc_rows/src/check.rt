@@ -3,7 +3,7 @@ use chain_texts::programs::STORE;
 use memory_runs::Run;
 use std::test::Fail;
 
-const STORE_FACES: &[u8] = b"compartment Main
+const STORE_INTERFACES: &[u8] = b"compartment Main
 import Net put int int int
 import Env output void int
 compartment Net
@@ -26,9 +26,9 @@ int main(void) { return 0; }
 ";
 
 #[test]
-fn the_interfaces_of_a_text_are_told(rt: HostRuntime) -> Result<(), Fail> {
+fn the_interfaces_of_a_text_are_printed(rt: HostRuntime) -> Result<(), Fail> {
     let cases: [(&[u8], &[u8]); 2] = [
-        (STORE, STORE_FACES),
+        (STORE, STORE_INTERFACES),
         (
             b"#pragma compartment A
 #pragma export f

@@ -5,14 +5,14 @@ use memory_runs::{Ran, Run};
 use std::alloc::Global;
 use std::test::Fail;
 
-const STORE_TOLD: &[u8] = b"call Main Net put 4 9
+const STORE_REPORT: &[u8] = b"call Main Net put 4 9
 ret Net Main 9
 out Main 9
 end Main 0
 stop ended
 ";
 
-const TWO_STORES_TOLD: &[u8] = b"call Main A f 2
+const TWO_STORES_REPORT: &[u8] = b"call Main A f 2
 ret A Main 5
 out Main 5
 call Main B g 2
@@ -34,8 +34,8 @@ int main(void) {
 ";
 
 const RUNS: &[(&str, &[u8], &[u8])] = &[
-    ("run", STORE, STORE_TOLD),
-    ("run", TWO_STORES, TWO_STORES_TOLD),
+    ("run", STORE, STORE_REPORT),
+    ("run", TWO_STORES, TWO_STORES_REPORT),
     (
         "run",
         MIN_BY_MINUS_ONE,
@@ -70,7 +70,7 @@ fn a_written_image_runs_as_its_text_does(rt: HostRuntime) -> Result<(), Fail> {
     let image = Run::new("compile", STORE).run(rt.alloc())?;
     assert_eq!(rt; image.status, 0);
     let ran = Run::new("exec", image.out.as_slice()).run(rt.alloc())?;
-    assert!(rt; ran.wrote(0, STORE_TOLD, b""));
+    assert!(rt; ran.wrote(0, STORE_REPORT, b""));
     Ok(())
 }
 
@@ -90,7 +90,7 @@ fn big_code(alloc: Global) -> Result<Vec<u8>, Fail> {
 }
 
 #[test]
-fn what_is_too_large_is_told_with_its_bytes(rt: HostRuntime) -> Result<(), Fail> {
+fn what_is_too_large_is_reported_with_its_bytes(rt: HostRuntime) -> Result<(), Fail> {
     let code = big_code(rt.alloc())?;
     let cases: [(&[u8], &[u8]); 3] = [
         (BIG_DATA, b"secomp: too large data of Main 458756\n"),
@@ -110,8 +110,8 @@ fn is_defined(meant: &Ran) -> bool {
 }
 
 // Whether the machine ran out of stack.
-fn is_full(shown: &Ran) -> bool {
-    let mut lines = shown.out.rsplit(|byte| *byte == b'\n');
+fn is_full(emitted: &Ran) -> bool {
+    let mut lines = emitted.out.rsplit(|byte| *byte == b'\n');
     let _ = lines.next();
     match lines.next() {
         Some(line) => line.starts_with(b"stop trap owner"),
@@ -127,9 +127,9 @@ fn a_defined_program_runs_as_it_means(rt: HostRuntime) -> Result<(), Fail> {
         let meant = Run::new(words, text).run(rt.alloc())?;
         if is_defined(&meant) {
             let words = "run --steps=2000000 --in=1,-2,3";
-            let shown = Run::new(words, text).run(rt.alloc())?;
-            if !is_full(&shown) {
-                assert!(rt; shown.out.as_slice() == meant.out.as_slice());
+            let emitted = Run::new(words, text).run(rt.alloc())?;
+            if !is_full(&emitted) {
+                assert!(rt; emitted.out.as_slice() == meant.out.as_slice());
                 same = same.wrapping_add(1);
             }
         }

@@ -61,7 +61,7 @@ fn an_image_is_run(rt: HostRuntime) -> Result<(), Fail> {
 }
 
 #[test]
-fn the_front_of_an_image_is_told_by_its_first_missing_field(rt: HostRuntime) -> Result<(), Fail> {
+fn a_prefix_of_an_image_is_refused_at_its_first_missing_field(rt: HostRuntime) -> Result<(), Fail> {
     for (length, cause) in CAUSES.iter().enumerate() {
         let want = format!(in rt.alloc(); "secomp: bad image {cause}\n")?;
         let ran = Run::new("exec", &SEVEN[..length]).run(rt.alloc())?;
@@ -71,7 +71,7 @@ fn the_front_of_an_image_is_told_by_its_first_missing_field(rt: HostRuntime) -> 
 }
 
 #[test]
-fn a_byte_behind_an_image_is_bad(rt: HostRuntime) -> Result<(), Fail> {
+fn a_byte_after_an_image_is_bad(rt: HostRuntime) -> Result<(), Fail> {
     let mut longer = SEVEN.to_vec(rt.alloc())?;
     longer.push(0)?;
     let ran = Run::new("exec", &longer).run(rt.alloc())?;

@@ -10,7 +10,7 @@ void output(int v);
 int main(void) {
 ";
 
-const TOLD: &[u8] = b"out Main 7\nend Main 0\nstop ended\n";
+const SEVEN_REPORT: &[u8] = b"out Main 7\nend Main 0\nstop ended\n";
 
 // The program with these statements.
 fn text(alloc: Global, statements: &[&[u8]]) -> Result<Vec<u8>, AllocError> {
@@ -31,14 +31,14 @@ fn repeated(alloc: Global, times: usize, part: &[u8]) -> Result<Vec<u8>, AllocEr
 }
 
 #[test]
-fn a_program_is_told_by_its_events(rt: HostRuntime) -> Result<(), Fail> {
+fn a_program_is_reported_by_its_events(rt: HostRuntime) -> Result<(), Fail> {
     let ran = Run::new("meaning", SEVEN).run(rt.alloc())?;
-    assert!(rt; ran.wrote(0, TOLD, b""));
+    assert!(rt; ran.wrote(0, SEVEN_REPORT, b""));
     Ok(())
 }
 
 #[test]
-fn numbers_are_told_up_to_the_greatest(rt: HostRuntime) -> Result<(), Fail> {
+fn numbers_are_printed_up_to_the_greatest(rt: HostRuntime) -> Result<(), Fail> {
     let statements: [&[u8]; 2] = [
         b"  output(0);\n  output(2147483647);\n",
         b"  return 10;\n}\n",
@@ -73,7 +73,7 @@ fn a_run_stops_after_1024_events(rt: HostRuntime) -> Result<(), Fail> {
 }
 
 #[test]
-fn a_failing_source_or_sink_is_told(rt: HostRuntime) -> Result<(), Fail> {
+fn a_failing_source_or_sink_is_reported(rt: HostRuntime) -> Result<(), Fail> {
     let lines = repeated(rt.alloc(), 1000, b"  output(1);\n")?;
     let long = text(rt.alloc(), &[&lines, b"  return 0;\n}\n"])?;
     // The reads and the writes that fail, the room, and what is read; then the status, and what is written.

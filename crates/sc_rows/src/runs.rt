@@ -7,7 +7,7 @@ use chain_texts::programs::{
 use memory_runs::Run;
 use std::test::Fail;
 
-const REQUESTS_TOLD: &[u8] = b"in Reader 3
+const REQUESTS_REPORT: &[u8] = b"in Reader 3
 in Reader 1
 in Reader 2
 in Reader 500
@@ -68,7 +68,7 @@ stop ended
     (
         "meaning --in 3,1,2,500,3,2,2,200,5,1,3,40,7,99,3,2,5,10,0",
         ACCOUNTS,
-        REQUESTS_TOLD,
+        REQUESTS_REPORT,
     ),
     ("meaning --turns 1", ROUNDS, b"stop turns\n"),
     ("meaning", MISSING_RETURN, b"stop blamed Main NoReturn 3\n"),
@@ -136,7 +136,7 @@ stop ended
 ];
 
 #[test]
-fn whole_programs_are_told(rt: HostRuntime) -> Result<(), Fail> {
+fn whole_programs_are_reported(rt: HostRuntime) -> Result<(), Fail> {
     for (words, text, want) in PROGRAMS {
         let ran = Run::new(words, text).run(rt.alloc())?;
         assert!(rt; ran.wrote(0, want, b""));

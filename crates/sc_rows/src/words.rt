@@ -30,14 +30,14 @@ fn words_that_are_no_command_leave_the_input_unread(rt: HostRuntime) -> Result<(
 }
 
 #[test]
-fn options_bound_what_is_told(rt: HostRuntime) -> Result<(), Fail> {
-    let told: &[u8] = b"out Main 7\nend Main 0\nstop ended\n";
+fn options_bound_what_is_printed(rt: HostRuntime) -> Result<(), Fail> {
+    let report: &[u8] = b"out Main 7\nend Main 0\nstop ended\n";
     let cases: [(&str, &[u8]); 8] = [
         ("run --events 0", b"stop events\n"),
         ("run --steps=0", b"stop steps\n"),
         ("run --steps 6", b"out Main 7\nstop steps\n"),
         ("meaning --events=1 --in=-5,3", b"out Main 7\nstop events\n"),
-        ("meaning --turns 00", told),
+        ("meaning --turns 00", report),
         ("explain --steps=6", b"out Main 7\nstop steps\nchain 0\n"),
         ("explain --show=32", SEVEN),
         ("explain --show 0 --events 0", SEVEN),

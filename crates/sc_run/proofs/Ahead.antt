@@ -14,7 +14,7 @@ use Rattle.sc_core.specs.declared.value.Want.TheVariants as want
 use Rattle.sc_value.specs.Assigning.{AssignedIf, Holding}
 use Rattle.sc_run.proofs.Coming.{computed_comes, stored_ok, then_goes, turn_comes, usual, with_memory}
 use Rattle.sc_run.proofs.Looping.{round_is, steps_as, steps_later, tested, Follows}
-use Rattle.sc_run.proofs.Stating.{alone, first_and_rest, stmt_is}
+use Rattle.sc_run.proofs.Stating.{followed_by_nothing, first_and_rest, stmt_is}
 use Rattle.sc_run.proofs.Blank.{way_same}
 
 at_most : (a b c : ℕ) → b ≤ a → c ≤ b → c ≤ a
@@ -28,7 +28,7 @@ turns_fall c d p x y = omega (arith, p, x, y)
 
 -- nothing is done
 pub stays_so : {seen : Seen} {p : Doing} → Passes seen seen p p
-stays_so = record { passes = λ n s shows. (s, shows, refl); fewer = omega arith }
+stays_so = record { passes = λ n s is_seen. (s, is_seen, refl); fewer = omega arith }
 
 pub unchanged : {before after : Seen} {p : Doing} → after ≡ before → Passes before after p p
 unchanged {before} {p} is = subst (λ x. Passes before x p p) (sym is) stays_so
@@ -38,8 +38,8 @@ pub then_passes : {before middle after : Seen} {p q r : Doing} → Passes before
     Passes before after p r
 then_passes h k =
     record {
-      passes = λ n s shows.
-          let a = h.passes n s shows in
+      passes = λ n s is_seen.
+          let a = h.passes n s is_seen in
           let b = k.passes n a.0 a.1 in
           (b.0, b.1, a.2 ∙ b.2);
       fewer = at_most _ _ _ h.fewer k.fewer;
@@ -49,7 +49,7 @@ then_passes h k =
 pub passes_as : {before after : Seen} {p q r : Doing} → ((n : ℕ) (s : State) → p n s ≡ q n s) →
     Passes before after q r → Passes before after p r
 passes_as same h =
-    record { passes = λ n s shows. let a = h.passes n s shows in (a.0, a.1, same n s ∙ a.2); fewer = h.fewer }
+    record { passes = λ n s is_seen. let a = h.passes n s is_seen in (a.0, a.1, same n s ∙ a.2); fewer = h.fewer }
 
 pub passes_if_as : (b : Bool) (before after : Seen) (p q r : Doing) → ((n : ℕ) (s : State) → p n s ≡ q n s) →
     PassesIf b before after q r → PassesIf b before after p r
@@ -65,7 +65,7 @@ reached_at after v (Stopped end t) go c = elim c [ ]
 pub passes_by : {V : Type 0} {before after : Seen} {v : V} {x : State → Piece V} (go : Follows V) →
     Comes before after (Ok v) x → Passes before after (λ n s. and_then (x s) (go n)) (λ n s. go n v s)
 passes_by {after} {v} {x} go h =
-    record { passes = λ n s shows. reached_at after v (x s) (go n) (h.comes s shows); fewer = h.fewer }
+    record { passes = λ n s is_seen. reached_at after v (x s) (go n) (h.comes s is_seen); fewer = h.fewer }
 
 ended_at : (after : Seen) (y : Piece (Left (Unit {0}))) → CameTo usual after y →
     (t : State) × (seen_of t ≡ after) × (y ≡ leave Next tt t)
@@ -76,7 +76,7 @@ ended_at after (Stopped end t) c = elim c [ ]
 pub passes_to_end : {before after : Seen} {x : State → Piece (Left (Unit {0}))} → Comes before after usual x →
     Passes before after (λ n s. x s) ended_so
 passes_to_end {after} {x} h =
-    record { passes = λ n s shows. ended_at after (x s) (h.comes s shows); fewer = h.fewer }
+    record { passes = λ n s is_seen. ended_at after (x s) (h.comes s is_seen); fewer = h.fewer }
 
 -- with something that follows
 pub passes_follow : {before after : Seen} {p q : Doing} (route : Exit → Route) (go : ℕ → Acts) →
@@ -84,8 +84,8 @@ pub passes_follow : {before after : Seen} {p q : Doing} (route : Exit → Route)
     Passes before after (λ n s. follow route (p n s) (go n)) (λ n s. follow route (q n s) (go n))
 passes_follow route go h =
     record {
-      passes = λ n s shows.
-          let a = h.passes n s shows in
+      passes = λ n s is_seen.
+          let a = h.passes n s is_seen in
           (a.0, a.1, ap (λ y. follow route y (go n)) a.2);
       fewer = h.fewer;
     }
@@ -94,19 +94,19 @@ module _ {program : ProgramTree} {before middle : Seen} {work : List Work} {f : 
   passed : {whole : SourceRun} → Passes before middle p q →
       Standing program whole before work f p → Standing program whole middle work f q
   passed h st =
-      let a = h.passes st.open_calls st.state st.shows in
+      let a = h.passes st.open_calls st.state st.is_seen in
       record {
         open_calls = st.open_calls;
         state = a.0;
-        shows = a.1;
-        enough = enough_left _ (ap (λ x. x.turns) st.shows) (ap (λ x. x.turns) a.1) h.fewer st.enough;
+        is_seen = a.1;
+        enough = enough_left _ (ap (λ x. x.turns) st.is_seen) (ap (λ x. x.turns) a.1) h.fewer st.enough;
         rest = ap (λ x. (resume program st.open_calls (reverse work) f x).behaviour) (sym a.2) ∙ st.rest;
       }
 
   -- a step from where the run got to
-  pub steps_behind : {step : Step} {after : Seen} {later : List Work} {g : Frame} → Passes before middle p q →
+  pub steps_after : {step : Step} {after : Seen} {later : List Work} {g : Frame} → Passes before middle p q →
       Steps program middle work f q step after later g → Steps program before work f p step after later g
-  steps_behind h k = record { stands = λ whole st. k.stands whole (passed h st) }
+  steps_after h k = record { stands = λ whole st. k.stands whole (passed h st) }
 
 -- an assignment
 module _ (f : Frame) (place value : TypedExpr) (line : ℕ) (seen : Seen) (memory : Memory) where
@@ -195,9 +195,9 @@ module _ (program : ProgramTree) (f : Frame) where
       then_passes h (passes_as (λ n s. ap (λ xs. block_by xs n s) (drop-step stmts at stmt there item))
       (passes_follow in_order (λ n. block_acts program n f _) k))
 
-  pub none_behind : (stmts : List TypedStmt) (at : ℕ) {before after : Seen} → length stmts ≤ at →
+  pub none_after : (stmts : List TypedStmt) (at : ℕ) {before after : Seen} → length stmts ≤ at →
       DoneTo stmts at before after → Passes before after (block_by stmts) ended_so
-  none_behind stmts at le h =
+  none_after stmts at le h =
       then_passes h (passes_as (λ n s. ap (λ xs. block_by xs n s) (drop_all at stmts le)) stays_so)
 
   -- control leaves a function
@@ -243,11 +243,11 @@ module _ (program : ProgramTree) (f : Frame) where
     body_done at h k = then_passes h (passes_follow in_loop _ k)
 
     -- the loop stands after its body
-    pub behind_body : {before middle after : Seen} (none : Bor (List TypedStmt)) →
+    pub after_body : {before middle after : Seen} (none : Bor (List TypedStmt)) →
         Passes before middle loop_by (in_body program f l l.body.now) →
         Passes middle after (block_by l.body.now) (left_at program f l.body.now None) → none.now ≡ [] →
         Passes before after loop_by (in_round program f l (Some (record { part = none; count = length l.body.now })))
-    behind_body none h k empty = then_passes (body_done None h k) (passes_as
+    after_body none h k empty = then_passes (body_done None h k) (passes_as
         (λ n s. λ i. follow in_loop (follow in_order (block_by (sym empty i) n s)
         (block_acts program n f (sym (drop_all (length l.body.now) l.body.now (omega arith)) i)))
         (λ a s. follow in_loop (next_acts program n f l a s) (loop_acts program n f l))) stays_so)
@@ -269,7 +269,7 @@ module _ (program : ProgramTree) (f : Frame) where
       Steps program before work f (left_at program f stmts (Some at)) (Go (Run' at.part)) before work f
   part_last stmts {rest} at same none empty = steps_later (λ n s. ap
       (λ xs. follow in_order (block_by at.part.now n s) (block_acts program n f xs))
-      (sym (same ∙ rest_at _ stmts) ∙ none_in rest none empty) ∙ alone _)
+      (sym (same ∙ rest_at _ stmts) ∙ none_in rest none empty) ∙ followed_by_nothing _)
 
   -- the statements, stated otherwise
   pub block_as : {before after : Seen} {work later : List Work} {step : Step} {g : Frame}
@@ -278,22 +278,22 @@ module _ (program : ProgramTree) (f : Frame) where
       Steps program before work f (block_by body) step after later g
   block_as stmts body same h = steps_as (λ n s. ap (λ xs. block_by xs n s) (sym same)) h
 
-  pub rest_behind : {before middle after : Seen} {work later : List Work} (stmts : List TypedStmt) (at : Position)
+  pub rest_after : {before middle after : Seen} {work later : List Work} (stmts : List TypedStmt) (at : Position)
       {step : Step} {g : Frame} → at.part.now ≡ [] →
       Passes before middle (block_by stmts) (left_at program f stmts (Some at)) →
       Steps program middle work f (block_by (take (length stmts - at.count) (drop at.count stmts))) step after later g →
       Steps program before work f (block_by stmts) step after later g
-  rest_behind stmts at empty h k = steps_behind h (steps_as
+  rest_after stmts at empty h k = steps_after h (steps_as
       (λ n s. no_part stmts at empty n s ∙ ap (λ xs. block_by xs n s) (sym (rest_at _ stmts))) k)
 
   -- control leaves the function after the statements that were done
-  pub left_behind : {before middle after : Seen} {work later : List Work} (stmts : List TypedStmt) (at : Position)
+  pub left_after : {before middle after : Seen} {work later : List Work} (stmts : List TypedStmt) (at : Position)
       (exit : Exit) {step : Step} {g : Frame} → at.part.now ≡ [] →
       Passes before middle (block_by stmts) (left_at program f stmts (Some at)) →
       Passes middle middle (block_by (take (length stmts - at.count) (drop at.count stmts))) (left_by exit) →
       Steps program middle work f (left_by exit) step after later g →
       Steps program before work f (block_by stmts) step after later g
-  left_behind stmts at exit empty h left k = rest_behind stmts at empty h (steps_behind left k)
+  left_after stmts at exit empty h left k = rest_after stmts at empty h (steps_after left k)
 
 -- the end of a run, whatever waits
 pub stops_anywhere : {program : ProgramTree} {before after : Seen} {work later last : List Work} {f g h : Frame}

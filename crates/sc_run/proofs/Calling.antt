@@ -5,8 +5,8 @@ use Rattle.sc_run.proofs.Common.{Seen, Some, SourceRun, Standing, State, Step, S
 use Rattle.sc_run.proofs.Common.{Value, Work, [], and_then, ap, arith, back_from, back_to, back_value, begun}
 use Rattle.sc_run.proofs.Common.{blocks_for, bodies, body_acts, c_arith, calls_in, cleared, closes, done, ended}
 use Rattle.sc_run.proofs.Common.{ended_as, entry_from, found, function, function_in, function_of, here_of, leave}
-use Rattle.sc_run.proofs.Common.{left_by, length, library, map, refl, result_goes, resume, returned, reverse, run_in}
-use Rattle.sc_run.proofs.Common.{seen_of, store_at, subst, suc, sym, tell, then_then, told_back, told_call, turn}
+use Rattle.sc_run.proofs.Common.{left_by, length, denotations, map, refl, result_goes, resume, returned, reverse, run_in}
+use Rattle.sc_run.proofs.Common.{seen_of, store_at, subst, suc, sym, emit_event, then_then, emitted_return, emitted_call, turn}
 use Rattle.sc_run.proofs.Common.{variable_count, variables, way_in, with_blocks, with_variables, word_crossing, word_in}
 use Rattle.sc_run.proofs.Common.{zero, ℕ, ◌++◌, ◌∙◌, ◌∷◌, ◌≡◌, ◌≤◌}
 use Rattle.sc_run.proofs.Blank.{left_same, blank_more, blank_new, length_same}
@@ -41,11 +41,11 @@ module _ (program : ProgramTree) (caller : Frame) (callee : Callee) (args : List
       }
 
   abbrev pub Found : Type 0
-  Found = function (library program) callee.comp.now callee.number ≡ Some called_function
+  Found = function (denotations program) callee.comp.now callee.number ≡ Some called_function
 
   -- the function runs, from where its call was emitted
   abbrev pub entering : (Option Value → State → Piece (Option Value)) → ℕ → State → Piece (Option Value)
-  entering back n s = run_in (library program) (bodies program n) callee.comp.now callee.number args back s
+  entering back n s = run_in (denotations program) (bodies program n) callee.comp.now callee.number args back s
 
   pub enter_is : Found → (back : Option Value → State → Piece (Option Value)) (m : ℕ) (t : State) → entering back (suc
       m) t ≡ returned program (frame_at (length (t.memory callee.comp.now))) back (body_acts program m (frame_at (length
@@ -62,35 +62,35 @@ module _ (program : ProgramTree) (caller : Frame) (callee : Callee) (args : List
 
   pub begun_seen : (t : State) {mid : Seen} → seen_of t ≡ mid →
       seen_of (begun callee.comp.now called_function args t) ≡ with_memory mid (with_variables callee args mid.memory)
-  begun_seen t {mid} shows =
-      seen_with t _ _ shows ∙ ap (λ bs. with_memory mid (with_blocks callee.comp.now bs mid.memory))
+  begun_seen t {mid} is_seen =
+      seen_with t _ _ is_seen ∙ ap (λ bs. with_memory mid (with_blocks callee.comp.now bs mid.memory))
       (blank_more (t.memory _) (blocks_for (variables callee.structs.now callee.function.now) args) ∙
-      (λ i. blocks_seen t callee.comp.now shows i ++ blank_new (variables callee.structs.now callee.function.now) args
+      (λ i. blocks_seen t callee.comp.now is_seen i ++ blank_new (variables callee.structs.now callee.function.now) args
       i))
 
   first_seen : (t : State) {mid : Seen} → seen_of t ≡ mid →
       length (mid.memory callee.comp.now) ≡ length (t.memory callee.comp.now)
-  first_seen t shows = ap length (sym (blocks_seen t _ shows)) ∙ length_same _
+  first_seen t is_seen = ap length (sym (blocks_seen t _ is_seen)) ∙ length_same _
 
   pub frame_is : (t : State) {mid after : Seen} {g : Frame} → seen_of t ≡ mid → Begun callee args mid after g →
       g ≡ frame_at (length (t.memory callee.comp.now))
-  frame_is t shows b = λ i.
+  frame_is t is_seen b = λ i.
       record {
         scope = record {
           structs = b.structs i;
           comp = b.comp i;
-          first = (b.first ∙ first_seen t shows) i;
+          first = (b.first ∙ first_seen t is_seen) i;
           params = b.params i;
         };
         function = b.function i;
       }
 
   entry_seen : (crossing : Option ℕ) (s : State) {seen : Seen} → seen_of s ≡ seen →
-      seen_of (entry_from caller callee args crossing s) ≡ told_call caller callee args crossing seen
-  entry_seen None s shows = shows
-  entry_seen (Some index) s shows = ap {A = Seen} (λ x. record x {
+      seen_of (entry_from caller callee args crossing s) ≡ emitted_call caller callee args crossing seen
+  entry_seen None s is_seen = is_seen
+  entry_seen (Some index) s is_seen = ap {A = Seen} (λ x. record x {
     trace = x.trace ++ Call caller.scope.comp.now callee.comp.now index (map word_in args) ∷ [];
-  }) shows
+  }) is_seen
 
   entry_turns : (crossing : Option ℕ) (s : State) → (entry_from caller callee args crossing s).turns ≡ s.turns
   entry_turns None s = refl
@@ -105,24 +105,24 @@ module _ (program : ProgramTree) (caller : Frame) (callee : Callee) (args : List
   tries crossing n s = and_then (and_then (turn s) (λ _ s. from_call crossing n s)) (result_goes program caller to)
 
   module _ (whole : SourceRun) (work later : List Work) (crossing : Option ℕ) (mid begun_to : Seen) (g : Frame)
-      (there : Found) (b : Begun callee args (told_call caller callee args crossing mid) begun_to g) where
+      (there : Found) (b : Begun callee args (emitted_call caller callee args crossing mid) begun_to g) where
     abbrev Entered : Type 0
     Entered = Standing program whole begun_to later g (λ n s. body_acts program n g tt s)
 
     enter_at : (m : ℕ) (t : State) → later ≡ work ++ Caller caller to crossing ∷ [] →
-        seen_of t ≡ told_call caller callee args crossing mid → ((n : ℕ) (p : Piece (Left (Unit {0}))) (f : Frame) → f ≡
+        seen_of t ≡ emitted_call caller callee args crossing mid → ((n : ℕ) (p : Piece (Left (Unit {0}))) (f : Frame) → f ≡
         frame_at (length (t.memory callee.comp.now)) → resume program n (Caller caller to crossing ∷ reverse work) f p ≡
         resume program (suc n) (reverse work) caller (and_then (returned program f (back_from program caller callee
         crossing) p) (result_goes program caller to))) → t.turns ≤ m → (resume program (suc m) (reverse work) caller
         (and_then (entering (back_from program caller callee crossing) (suc m) t) (result_goes program caller
         to))).behaviour ≡ whole → Entered
-    enter_at m t pushed shows waits enough rest =
+    enter_at m t pushed is_seen waits enough rest =
         let same : g ≡ frame_at (length (t.memory callee.comp.now)) =
-        frame_is t shows b in
+        frame_is t is_seen b in
         subst (λ f. Standing program whole begun_to later f (λ n s. body_acts program n f tt s)) (sym same) (record {
           open_calls = m;
           state = begun callee.comp.now called_function args t;
-          shows = begun_seen t shows ∙ sym b.seen;
+          is_seen = begun_seen t is_seen ∙ sym b.seen;
           enough = enough;
           rest = ap (λ ws. (resume program m ws (frame_at (length (t.memory callee.comp.now))) entered_piece).behaviour)
               (ap reverse pushed ∙ newest_first work (Caller caller to _)) ∙ ap (λ x. x.behaviour)
@@ -145,8 +145,8 @@ module _ (program : ProgramTree) (caller : Frame) (callee : Callee) (args : List
 
     entered_from : {before : Seen} → later ≡ work ++ Caller caller to crossing ∷ [] → before.turns ≡ suc mid.turns →
         Comes before mid (Ok tt) turn → Standing program whole before work caller (tries crossing) → Entered
-    entered_from {before} pushed taken c h = by_turn h.open_calls (turn h.state) (c.comes h.state h.shows)
-        (more (ap (λ x. x.turns) h.shows) taken h.enough) h.rest where
+    entered_from {before} pushed taken c h = by_turn h.open_calls (turn h.state) (c.comes h.state h.is_seen)
+        (more (ap (λ x. x.turns) h.is_seen) taken h.enough) h.rest where
           more : h.state.turns ≡ before.turns → before.turns ≡ suc mid.turns → h.state.turns ≤ h.open_calls →
               suc mid.turns ≤ h.open_calls
           more x y z = omega (arith, x, y, z)
@@ -166,16 +166,16 @@ module _ (program : ProgramTree) (caller : Frame) (callee : Callee) (args : List
                 less x y z = omega (arith, x, y, z)
           by_turn (suc m) (Stopped end t) e le rest = elim e [ ]
 
-  pub enter_steps : (crossing : Option ℕ) {work later last_work : List Work} {before mid told begun_to last : Seen}
+  pub enter_steps : (crossing : Option ℕ) {work later last_work : List Work} {before mid emitted begun_to last : Seen}
       {g last_frame : Frame} {step : Step} → Found → Comes before mid (Ok tt) turn → before.turns ≡ suc mid.turns →
-      told ≡ told_call caller callee args crossing mid → Begun callee args told begun_to g →
+      emitted ≡ emitted_call caller callee args crossing mid → Begun callee args emitted begun_to g →
       later ≡ work ++ Caller caller to crossing ∷ [] →
       Steps program begun_to later g (λ n s. body_acts program n g tt s) step last last_work last_frame →
       Steps program before work caller (tries crossing) step last last_work last_frame
-  enter_steps crossing {work} {later} {mid} {begun_to} {g} there c taken tells b pushed h =
+  enter_steps crossing {work} {later} {mid} {begun_to} {g} there c taken emits_trace b pushed h =
       record {
         stands = λ whole standing. h.stands whole (entered_from whole work later _ mid _ g there
-            (subst (λ x. Begun callee args x begun_to g) tells b) pushed taken c standing);
+            (subst (λ x. Begun callee args x begun_to g) emits_trace b) pushed taken c standing);
       }
 
   -- a call that has no turn left
@@ -204,10 +204,10 @@ module _ (program : ProgramTree) (f : Frame) (exit : Exit) where
   returned_err back {s} is = ap (λ p. and_then p (λ v t. back v (over t))) (is s)
 
   over_seen : (s : State) {before : Seen} → seen_of s ≡ before → seen_of (over s) ≡ left_by f before
-  over_seen s {before} shows = seen_with s _ (ended f.scope.first (variable_count f) (s.memory _)) shows ∙ ap
+  over_seen s {before} is_seen = seen_with s _ (ended f.scope.first (variable_count f) (s.memory _)) is_seen ∙ ap
       (λ bs. with_memory before (with_blocks f.scope.comp.now bs before.memory)) (sym
       (left_same f.scope.first (variable_count f) (s.memory _)) ∙ ap (λ bs. cleared f.scope.first (variable_count f) bs)
-      (blocks_seen s f.scope.comp.now shows))
+      (blocks_seen s f.scope.comp.now is_seen))
 
   module _ (whole : SourceRun) (before : Seen) (work : List Work) (caller : Frame) (to : To) (crossing : Option ℕ) where
     abbrev waiting : List Work
@@ -223,32 +223,32 @@ module _ (program : ProgramTree) (f : Frame) (exit : Exit) where
     call_ends end is h = sym h.rest ∙ ap (λ r. r.behaviour) (resumed h.open_calls h.state ∙ ap
         (λ p. resume program (suc h.open_calls) (reverse work) caller (and_then p (result_goes program caller to)))
         (returned_err (back_to program caller f crossing) is)) ∙ resume_stopped program (suc h.open_calls)
-        (reverse work) caller end h.state ∙ (λ i. record { trace = (h.shows i).trace; end = end })
+        (reverse work) caller end h.state ∙ (λ i. record { trace = (h.is_seen i).trace; end = end })
 
     back_at : (cross : Option ℕ) (v : Option Value) (n : ℕ) (s : State) (rest : (resume program n (reverse work) caller
         (and_then (back_to program caller f cross v (over s)) (result_goes program caller to))).behaviour ≡ whole) →
-        seen_of s ≡ before → s.turns ≤ n → Standing program whole (told_back program caller f cross v (left_by f
+        seen_of s ≡ before → s.turns ≤ n → Standing program whole (emitted_return program caller f cross v (left_by f
         before)) work caller (λ n s. result_goes program caller to (back_value program f cross v) s)
-    back_at None v n s rest shows enough =
-        record { open_calls = n; state = over s; shows = over_seen s shows; enough = enough; rest = rest }
-    back_at (Some index) v n s rest shows enough =
+    back_at None v n s rest is_seen enough =
+        record { open_calls = n; state = over s; is_seen = over_seen s is_seen; enough = enough; rest = rest }
+    back_at (Some index) v n s rest is_seen enough =
         record {
           open_calls = n;
-          state = tell _ (over s);
-          shows = ap {A = Seen} (λ x. record x {
+          state = emit_event _ (over s);
+          is_seen = ap {A = Seen} (λ x. record x {
             trace = x.trace ++ Ret f.scope.comp.now caller.scope.comp.now (word_crossing program f index v) ∷ [];
-          }) (over_seen s shows);
+          }) (over_seen s is_seen);
           enough = enough;
           rest = rest;
         }
 
     pub call_returns : (v : Option Value) → ClosedBy program f exit (Ok v) →
-        Standing program whole before waiting f (λ n s. leaving s) → Standing program whole (told_back program caller f
+        Standing program whole before waiting f (λ n s. leaving s) → Standing program whole (emitted_return program caller f
         crossing v (left_by f before)) work caller (λ n s. result_goes program caller to (back_value program f crossing
         v) s)
     call_returns v is h = back_at _ v (suc h.open_calls) h.state (ap (λ r. r.behaviour) (sym (resumed _ h.state ∙ ap
         (λ p. resume program (suc h.open_calls) (reverse work) caller (and_then p (result_goes program caller to)))
-        (returned_ok v (back_to program caller f _) h.state is))) ∙ h.rest) h.shows (more _ _ h.enough) where
+        (returned_ok v (back_to program caller f _) h.state is))) ∙ h.rest) h.is_seen (more _ _ h.enough) where
           more : (a b : ℕ) → a ≤ b → a ≤ suc b
           more a b z = omega (arith, z)
 
@@ -260,17 +260,17 @@ module _ (program : ProgramTree) (f : Frame) (exit : Exit) where
         record { stands = λ whole h. call_ends whole before work caller to _ end is h }
 
     pub return_steps : {work : List Work} {caller : Frame} (to : To) (crossing : Option ℕ) (v : Option Value)
-        {back : Option Value} {ended told after : Seen} {step : Step} → ClosedBy program f exit (Ok v) →
+        {back : Option Value} {ended emitted after : Seen} {step : Step} → ClosedBy program f exit (Ok v) →
         ended ≡ left_by f before → back ≡ back_value program f crossing v →
-        told ≡ told_back program caller f crossing v ended →
-        Steps program told work caller (λ n s. result_goes program caller to back s) step after work caller →
+        emitted ≡ emitted_return program caller f crossing v ended →
+        Steps program emitted work caller (λ n s. result_goes program caller to back s) step after work caller →
         Steps program before (work ++ Caller caller to crossing ∷ []) f (λ n s. leaving s) step after work caller
-    return_steps {work} {caller} to crossing v {back} is ends gives tells h =
+    return_steps {work} {caller} to crossing v {back} is ends gives emits_trace h =
         record {
           stands = λ whole standing. h.stands whole
               (subst (λ x. Standing program whole x work caller (λ n s. result_goes program caller to back s))
-              (sym (tells ∙ ap (told_back program caller f crossing v) ends))
-              (subst (λ x. Standing program whole (told_back program caller f crossing v (left_by f before)) work caller
+              (sym (emits_trace ∙ ap (emitted_return program caller f crossing v) ends))
+              (subst (λ x. Standing program whole (emitted_return program caller f crossing v (left_by f before)) work caller
               (λ n s. result_goes program caller to x s)) (sym gives)
               (call_returns whole before work caller to crossing v is standing)));
         }

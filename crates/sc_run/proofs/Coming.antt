@@ -17,22 +17,22 @@ pub seen_with : (s : State) {seen : Seen} (comp : ℕ) (bs : Blocks) → seen_of
   memory =
       with_blocks comp bs s.memory;
 }) ≡ record seen { memory = with_blocks comp (blank bs) seen.memory }
-seen_with s comp bs shows = ap (λ memory. with_memory (seen_of s) memory) (memory_with comp bs _) ∙ ap {A = Seen}
-    (λ x. record x { memory = with_blocks comp (blank bs) x.memory }) shows
+seen_with s comp bs is_seen = ap (λ memory. with_memory (seen_of s) memory) (memory_with comp bs _) ∙ ap {A = Seen}
+    (λ x. record x { memory = with_blocks comp (blank bs) x.memory }) is_seen
 
 -- the blocks of a compartment, as they are seen
 pub blocks_seen : (s : State) {seen : Seen} (comp : ℕ) → seen_of s ≡ seen → blank (s.memory comp) ≡ seen.memory comp
-blocks_seen s comp shows = ap (λ x. x.memory comp) shows
+blocks_seen s comp is_seen = ap (λ x. x.memory comp) is_seen
 
 computed_ok : {V : Type 0} (here : Here) (line : ℕ) {r : Result V Cause} {v : V} (s : State) {seen : Seen} →
     seen_of s ≡ seen → r ≡ Ok v → CameTo (Ok v) seen (computed here line r s)
-computed_ok here line {v} s {seen} shows is = subst (λ x. CameTo (Ok v) seen (computed here line x s)) (sym is)
-    (refl, shows)
+computed_ok here line {v} s {seen} is_seen is = subst (λ x. CameTo (Ok v) seen (computed here line x s)) (sym is)
+    (refl, is_seen)
 
 computed_err : {V : Type 0} (here : Here) (line : ℕ) {r : Result V Cause} {cause : Cause} (s : State) {seen : Seen} →
     seen_of s ≡ seen → r ≡ Err cause → CameTo (Err (Blamed here.comp cause line)) seen (computed here line r s)
-computed_err here line {cause} s {seen} shows is =
-    subst (λ x. CameTo (Err (Blamed here.comp cause line)) seen (computed here line x s)) (sym is) (refl, shows)
+computed_err here line {cause} s {seen} is_seen is =
+    subst (λ x. CameTo (Err (Blamed here.comp cause line)) seen (computed here line x s)) (sym is) (refl, is_seen)
 
 -- what is computed from the blocks, where it does not depend on what is unseen
 module _ {V : Type 0} (here : Here) (line : ℕ) (f : Blocks → Result V Cause)
@@ -41,7 +41,7 @@ module _ {V : Type 0} (here : Here) (line : ℕ) (f : Blocks → Result V Cause)
       Comes seen seen (Ok v) (λ s. computed here line (f (s.memory here.comp)) s)
   computed_comes is =
       record {
-        comes = λ s shows. computed_ok here line s shows (sym (same _) ∙ ap f (blocks_seen s _ shows) ∙ sym is);
+        comes = λ s is_seen. computed_ok here line s is_seen (sym (same _) ∙ ap f (blocks_seen s _ is_seen) ∙ sym is);
         fewer = omega arith;
       }
 
@@ -49,7 +49,7 @@ module _ {V : Type 0} (here : Here) (line : ℕ) (f : Blocks → Result V Cause)
       Comes seen seen (Err (Blamed here.comp cause line)) (λ s. computed here line (f (s.memory here.comp)) s)
   computed_blamed is =
       record {
-        comes = λ s shows. computed_err here line s shows (sym (same _) ∙ ap f (blocks_seen s _ shows) ∙ sym is);
+        comes = λ s is_seen. computed_err here line s is_seen (sym (same _) ∙ ap f (blocks_seen s _ is_seen) ∙ sym is);
         fewer = omega arith;
       }
 
@@ -57,7 +57,7 @@ module _ {V : Type 0} (here : Here) (line : ℕ) (f : Blocks → Result V Cause)
 pub then_stops : {V W : Type 0} {before after : Seen} {end : RunEnd} {p : State → Piece V} (go : V → State → Piece W) →
     Comes before after (Err end) p → Comes before after (Err end) (λ s. and_then (p s) go)
 then_stops {after} {end} {p} go h = record {
-  comes = λ s shows. by_piece (p s) (h.comes s shows);
+  comes = λ s is_seen. by_piece (p s) (h.comes s is_seen);
   fewer = h.fewer;
 } where
   by_piece : (q : Piece _) → CameTo (Err end) after q → CameTo (Err end) after (and_then q go)
@@ -69,7 +69,7 @@ pub then_goes : {V W : Type 0} {before middle after : Seen} {v : V} {r : Result 
     (go : V → State → Piece W) → Comes before middle (Ok v) p → Comes middle after r (go v) →
     Comes before after r (λ s. and_then (p s) go)
 then_goes {middle} {after} {v} {r} {p} go h k =
-    record { comes = λ s shows. by_piece (p s) (h.comes s shows); fewer = omega (arith, h.fewer, k.fewer) } where
+    record { comes = λ s is_seen. by_piece (p s) (h.comes s is_seen); fewer = omega (arith, h.fewer, k.fewer) } where
       by_piece : (q : Piece _) → CameTo (Ok v) middle q → CameTo r after (and_then q go)
       by_piece (Reached w s) c = subst (λ x. CameTo r after (go x s)) (sym c.0) (k.comes s c.1)
       by_piece (Stopped e s) c = elim c [ ]
@@ -79,21 +79,21 @@ module _ (here : Here) (q v : Value) (line : ℕ) (seen : Seen) (after : Blocks)
   stored_at : (s : State) (r : Result Blocks Cause) → seen_of s ≡ seen → blanked r ≡ Ok after → CameTo usual (record
       seen { memory = with_blocks here.comp after seen.memory }) (and_then (computed here line r s) (λ blocks s. leave
       {A = Unit {0}} Next tt (record s { memory = with_blocks here.comp blocks s.memory })))
-  stored_at s (Ok blocks) shows is = (
+  stored_at s (Ok blocks) is_seen is = (
     refl,
-    seen_with s here.comp blocks shows ∙ ap (λ bs. record seen { memory = with_blocks here.comp bs seen.memory })
+    seen_with s here.comp blocks is_seen ∙ ap (λ bs. record seen { memory = with_blocks here.comp bs seen.memory })
         (unwrap (blank blocks) after is),
   ) where
     unwrap : (a b : Blocks) → ◌≡◌ {A = Result Blocks Cause} (Ok a) (Ok b) → a ≡ b
     unwrap a b h = cc h
-  stored_at s (Err cause) shows is = cc is
+  stored_at s (Err cause) is_seen is = cc is
 
   pub stored_comes : store (seen.memory here.comp) q v ≡ Ok after →
       Comes seen (record seen { memory = with_blocks here.comp after seen.memory }) usual (stored here q v line tt)
   stored_comes is =
       record {
-        comes = λ s shows. stored_at s _ shows
-            (sym (store_same _ q v) ∙ ap (λ bs. store bs q v) (blocks_seen s _ shows) ∙ is);
+        comes = λ s is_seen. stored_at s _ is_seen
+            (sym (store_same _ q v) ∙ ap (λ bs. store bs q v) (blocks_seen s _ is_seen) ∙ is);
         fewer = omega arith;
       }
 
@@ -101,8 +101,8 @@ module _ (here : Here) (q v : Value) (line : ℕ) (seen : Seen) (cause : Cause) 
   blamed_at : (s : State) (r : Result Blocks Cause) → seen_of s ≡ seen → blanked r ≡ Err cause → CameTo (Err (Blamed
       here.comp cause line)) seen (and_then (computed here line r s) (λ blocks s. leave {A = Unit {0}} Next tt (record s
       { memory = with_blocks here.comp blocks s.memory })))
-  blamed_at s (Ok blocks) shows is = cc is
-  blamed_at s (Err other) shows is = (ap (λ x. Blamed here.comp x line) (unwrap other cause is), shows) where
+  blamed_at s (Ok blocks) is_seen is = cc is
+  blamed_at s (Err other) is_seen is = (ap (λ x. Blamed here.comp x line) (unwrap other cause is), is_seen) where
     unwrap : (a b : Cause) → ◌≡◌ {A = Result Blocks Cause} (Err a) (Err b) → a ≡ b
     unwrap a b h = cc h
 
@@ -110,27 +110,27 @@ module _ (here : Here) (q v : Value) (line : ℕ) (seen : Seen) (cause : Cause) 
       Comes seen seen (with_exit {V = Unit {0}} Next (Err (Blamed here.comp cause line))) (stored here q v line tt)
   stored_blamed is =
       record {
-        comes = λ s shows. blamed_at s _ shows
-            (sym (store_same _ q v) ∙ ap (λ bs. store bs q v) (blocks_seen s _ shows) ∙ is);
+        comes = λ s is_seen. blamed_at s _ is_seen
+            (sym (store_same _ q v) ∙ ap (λ bs. store bs q v) (blocks_seen s _ is_seen) ∙ is);
         fewer = omega arith;
       }
 
 -- a turn, if there is one
 turned_at : {n : ℕ} (s : State) {seen : Seen} → seen_of s ≡ seen → s.turns ≡ suc n →
     CameTo (Ok tt) (record seen { turns = n }) (turn_of s.turns s)
-turned_at {n} s {seen} shows is = subst (λ k. CameTo (Ok tt) (record seen { turns = n }) (turn_of k s)) (sym is)
-    (refl, ap {A = Seen} (λ x. record x { turns = n }) shows)
+turned_at {n} s {seen} is_seen is = subst (λ k. CameTo (Ok tt) (record seen { turns = n }) (turn_of k s)) (sym is)
+    (refl, ap {A = Seen} (λ x. record x { turns = n }) is_seen)
 
 pub turn_comes : {n : ℕ} {seen : Seen} → seen.turns ≡ suc n → Comes seen (record seen { turns = n }) (Ok tt) turn
 turn_comes is =
-    record { comes = λ s shows. turned_at s shows (ap (λ x. x.turns) shows ∙ is); fewer = omega (arith, is) }
+    record { comes = λ s is_seen. turned_at s is_seen (ap (λ x. x.turns) is_seen ∙ is); fewer = omega (arith, is) }
 
 out_at : (s : State) {seen : Seen} → seen_of s ≡ seen → s.turns ≡ zero → CameTo (Err TurnsOut) seen (turn_of s.turns s)
-out_at s {seen} shows is = subst (λ k. CameTo (Err TurnsOut) seen (turn_of k s)) (sym is) (refl, shows)
+out_at s {seen} is_seen is = subst (λ k. CameTo (Err TurnsOut) seen (turn_of k s)) (sym is) (refl, is_seen)
 
 pub turn_stops : {seen : Seen} → seen.turns ≡ zero → Comes seen seen (Err TurnsOut) turn
 turn_stops is =
-    record { comes = λ s shows. out_at s shows (ap (λ x. x.turns) shows ∙ is); fewer = omega arith }
+    record { comes = λ s is_seen. out_at s is_seen (ap (λ x. x.turns) is_seen ∙ is); fewer = omega arith }
 
 pub stored_ok : (here : Here) (q v : Value) (line : ℕ) {seen : Seen} {memory : Memory} →
     store (seen.memory here.comp) q v ≡ Ok (memory here.comp) →

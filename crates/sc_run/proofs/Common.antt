@@ -15,7 +15,7 @@ pub use Rattle.sc_base.proofs.Lists.{drop-step, drop_next}
 pub use Rattle.sc_event.specs.declared.event.Event.TheVariants.{End, In, Out}
 pub use Rattle.sc_event.specs.declared.row.Entry.TheVariants.{Export, Main}
 pub use Rattle.sc_core.proofs.Layers.{expr_at, layer_of, stmt_at, term_of, typed}
-pub use Rattle.sc_core.specs.Prelude.{Acts, Blocks, Break, Calls, Exit, Front, Function, Here, IsStop, Left, Meant}
+pub use Rattle.sc_core.specs.Prelude.{Acts, Blocks, Break, Calls, Exit, IsPrefix, Function, Here, IsStop, Left, Meant}
 pub use Rattle.sc_core.specs.Prelude.{Memory, Next, Piece, Reached, Return, Route, State, Stopped, Ways, all_do}
 pub use Rattle.sc_core.specs.Prelude.{and_then, applied, applied_one, assign, at_place, at_pointer, back_cross}
 pub use Rattle.sc_core.specs.Prelude.{back_own, begun, between, binary, bind, block_does, blocks_for, c_arith, call}
@@ -28,7 +28,7 @@ pub use Rattle.sc_core.specs.Prelude.{live_cells, load, loaded, loop, may_call, 
 pub use Rattle.sc_core.specs.Prelude.{member_zeros, moved, moved_back, moved_on, next_input, of_bool, on_words}
 pub use Rattle.sc_core.specs.Prelude.{part_does, place_at, read_input, repeated, run_in, run_of, run_step, run_to}
 pub use Rattle.sc_core.specs.Prelude.{same_place, stmt_step, stopped_at, store, store_at, store_result, stored}
-pub use Rattle.sc_core.specs.Prelude.{struct_zeros, target_cells, tell, term_step, test, turn, turn_of, values}
+pub use Rattle.sc_core.specs.Prelude.{struct_zeros, target_cells, emit_event, term_step, test, turn, turn_of, values}
 pub use Rattle.sc_core.specs.Prelude.{variable_at, variables, wanted, ways, with_blocks, with_cell, with_words, within}
 pub use Rattle.sc_core.specs.Prelude.{word_in, zeros_of}
 pub use Rattle.sc_core.specs.declared.cause.Cause.{Cause}
@@ -49,7 +49,7 @@ pub use Rattle.sc_core.specs.declared.stmt.TypedStmtKind.TheVariants.{rolls-For,
 pub use Rattle.sc_core.specs.declared.stmt.TypedStmtKind.TheVariants.{rolls-ReturnCall, rolls-ReturnValue, rolls-While}
 pub use Rattle.sc_core.specs.declared.value.Cell.{Cell}
 pub use Rattle.sc_core.specs.declared.value.Value.TheVariants.{Ptr, Word}
-pub use Rattle.sc_laws.proofs.Growing.{back_goes, calls_go, done_goes, earlier, follow_goes, front_more, stays}
+pub use Rattle.sc_laws.proofs.Growing.{back_goes, calls_go, done_goes, earlier, follow_goes, prefix_more, stays}
 pub use Rattle.sc_laws.proofs.Growing.{then_goes, then_then, within_goes}
 pub use Rattle.sc_laws.specs.Prelude.{GoFrom, Goes, Gone, Never}
 pub use Rattle.sc_value.specs.Prelude.{here_of}
@@ -59,8 +59,8 @@ pub use Rattle.sc_run.specs.Prelude.{Begun, CameTo, Comes, Doing, EndsAs, EntryA
 pub use Rattle.sc_run.specs.Prelude.{Standing, Stands, Steps, back_from, back_to, back_value, block_acts, block_for}
 pub use Rattle.sc_run.specs.Prelude.{bodies, body_acts, calls_in, cell_with, closes, does_now, ended_as, ended_so}
 pub use Rattle.sc_run.specs.Prelude.{entry_from, exit_of, function_in, in_body, in_round, kept_by, left_at, left_by}
-pub use Rattle.sc_run.specs.Prelude.{library, loop_acts, memory_of, next_acts, part_acts, result_goes, resume, returned}
-pub use Rattle.sc_run.specs.Prelude.{seen_of, stmt_acts, told_back, told_call, variable_count, way_in, with_exit}
+pub use Rattle.sc_run.specs.Prelude.{denotations, loop_acts, memory_of, next_acts, part_acts, result_goes, resume, returned}
+pub use Rattle.sc_run.specs.Prelude.{seen_of, stmt_acts, emitted_return, emitted_call, variable_count, way_in, with_exit}
 pub use Rattle.sc_run.specs.Prelude.{with_variables, word_crossing}
 pub use Rattle.sc_run.specs.declared.work.Now.{Now}
 pub use Rattle.sc_run.specs.declared.work.Now.TheVariants.{Leave, Run}

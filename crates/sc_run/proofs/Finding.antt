@@ -1,6 +1,6 @@
 -- Functions of a program's denotations, by the program's tree.
 use Rattle.sc_run.proofs.Common.{EntryAt, List, None, ProgramTree, TypedSection, [], ap, c_arith, function}
-use Rattle.sc_run.proofs.Common.{functions_in, library, map, refl, slice_get, slice_index_or, suc, zero, ℕ, ◌∷◌, ◌≡◌}
+use Rattle.sc_run.proofs.Common.{functions_in, denotations, map, refl, slice_get, slice_index_or, suc, zero, ℕ, ◌∷◌, ◌≡◌}
 use Rattle.sc_event.specs.declared.row.Entry.{Entry}
 
 module _ (program : ProgramTree) where
@@ -14,7 +14,7 @@ module _ (program : ProgramTree) where
   no_section (s ∷ sections) (suc comp) h = no_section sections comp h
 
   pub none_at : (comp number : ℕ) → slice_get program.sections comp ≡ None →
-      function (library program) comp number ≡ None
+      function (denotations program) comp number ≡ None
   none_at comp number h = ap (λ fs. slice_get fs number) (no_section _ comp h)
 
 -- a compartment that isn't there has no function

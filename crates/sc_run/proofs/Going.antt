@@ -2,11 +2,11 @@
 -- blame or without turns.
 use Rattle.sc_run.proofs.Common.{Acts, Back, Calls, Frame, GoFrom, Goes, Here, Left, List, Loop, Never, Nowhere, Option}
 use Rattle.sc_run.proofs.Common.{Place, ProgramTree, State, To, TypedStmt, Value, block_acts, block_does, bodies}
-use Rattle.sc_run.proofs.Common.{c_arith, calls_go, calls_in, closes, here_of, library, loop, loop_acts, next_acts}
+use Rattle.sc_run.proofs.Common.{c_arith, calls_go, calls_in, closes, here_of, denotations, loop, loop_acts, next_acts}
 use Rattle.sc_run.proofs.Common.{option_copied, part_does, result_goes, run_step, stays, store_result, test, way_in}
 use Rattle.sc_run.proofs.Common.{within_goes, ℕ, ◌≡◌}
 use Rattle.sc_laws.proofs.Expressions.{ArithKeeps}
-use Rattle.sc_laws.proofs.Interactions.{MatchWith, match_loop}
+use Rattle.sc_laws.proofs.InteractionTrees.{MatchWith, match_loop}
 use Rattle.sc_laws.proofs.Matching.{one_round, loop_again, match_goes, run_goes_on}
 use Rattle.sc_laws.proofs.Statements.{itself_keeps, program_obeys, test_matches, store_result_matches, way_matches}
 use Rattle.sc_laws.proofs.Statements.{part_matches, block_matches, closed_matches}
@@ -20,8 +20,8 @@ module _ (program : ProgramTree) (n : ℕ) (f : Frame) where
 
   calls_go_on : GoFrom here.comp (calls_in program n)
   calls_go_on =
-      calls_go (library program) (bodies program n) (within_goes (run_step (library program))
-      (run_goes_on (library program) (program_obeys c_arith program)) n) here.comp
+      calls_go (denotations program) (bodies program n) (within_goes (run_step (denotations program))
+      (run_goes_on (denotations program) (program_obeys c_arith program)) n) here.comp
 
   -- statements of the frame, by what calls do
   abbrev IsTree : (Calls → Acts) → Type 0

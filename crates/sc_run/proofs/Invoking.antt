@@ -5,8 +5,8 @@ use Rattle.sc_run.proofs.Common.{Piece, ProgramTree, Reached, Result, RunEnd, Se
 use Rattle.sc_run.proofs.Common.{Stopped, To, TypedExpr, Value, Word, Work, [], and_then, ap, arith, back_cross}
 use Rattle.sc_run.proofs.Common.{back_from, back_own, bodies, call, called, calls_in, computed, crossed, drop}
 use Rattle.sc_run.proofs.Common.{entry_from, entry_in, false, false≢true, first_word, found, function, here_of}
-use Rattle.sc_run.proofs.Common.{if◌then◌else◌, is_some, is_word, leads, length, library, map, may_call, next_input}
-use Rattle.sc_run.proofs.Common.{read_input, refl, result_goes, run_in, seen_of, sym, tell, then_then, true, true≢false}
+use Rattle.sc_run.proofs.Common.{if◌then◌else◌, is_some, is_word, leads, length, denotations, map, may_call, next_input}
+use Rattle.sc_run.proofs.Common.{read_input, refl, result_goes, run_in, seen_of, sym, emit_event, then_then, true, true≢false}
 use Rattle.sc_run.proofs.Common.{turn, values, way_in, word_in, ℕ, ◌&&◌, ◌++◌, ◌∙◌, ◌∷◌, ◌≡◌}
 use Rattle.sc_event.specs.Prelude.{imports, is_function, takes}
 use Rattle.std.specs.List.{list_all}
@@ -44,51 +44,51 @@ module _ (program : ProgramTree) (f : Frame) (to : To) where
   stops_here s = Stopped refusal s
 
   halts : {V : Type 0} {before : Seen} → Comes before before (Err refusal) (stops_here {V = V})
-  halts = record { comes = λ s shows. (refl, shows); fewer = omega arith }
+  halts = record { comes = λ s is_seen. (refl, is_seen); fewer = omega arith }
 
   -- a call that is refused, or made
   abbrev calling : CallTarget → List Value → Doing
   calling target args n s = and_then (calls_in program n f.scope.comp.now target args s) rg
 
   abbrev tried : Bool → CallTarget → List Value → Doing
-  tried b target args n s = and_then (if b then called (library program) (bodies program n) f.scope.comp.now target args
+  tried b target args n s = and_then (if b then called (denotations program) (bodies program n) f.scope.comp.now target args
       s else Stopped refusal s) rg
 
   pub refused : {before : Seen} {work : List Work} (target : CallTarget) (args : List Value) {end : RunEnd} →
-      end ≡ refusal → may_call (library program) f.scope.comp.now target args ≡ false →
+      end ≡ refusal → may_call (denotations program) f.scope.comp.now target args ≡ false →
       Steps program before work f (calling target args) (Stop end) before work f
   refused target args same is = rw same (steps_as (λ n s. ap (λ b. tried b target args n s) is)
       (step_stops (λ n. rg) halts))
 
   allowed : {before after : Seen} {work later : List Work} (target : CallTarget) (args : List Value) {step : Step}
-      {g : Frame} → may_call (library program) f.scope.comp.now target args ≡ true →
+      {g : Frame} → may_call (denotations program) f.scope.comp.now target args ≡ true →
       Steps program before work f (tried true target args) step after later g →
       Steps program before work f (calling target args) step after later g
   allowed target args is h = steps_as (λ n s. ap (λ b. tried b target args n s) is) h
 
   pub own_missing : {before : Seen} {work : List Work} (number : ℕ) (args : List Value) {end : RunEnd} → end ≡ refusal →
-      function (library program) f.scope.comp.now number ≡ None →
+      function (denotations program) f.scope.comp.now number ≡ None →
       Steps program before work f (calling (Own number) args) (Stop end) before work f
   own_missing number args same is = refused (Own number) args same (ap is_some is)
 
   -- a function that is entered, as a call sees it
   abbrev entering : Callee → List Value → Option ℕ → Doing
   entering callee args crossing n s =
-      and_then (and_then (turn s) (λ _ s. run_in (library program) (bodies program n) callee.comp.now callee.number args
+      and_then (and_then (turn s) (λ _ s. run_in (denotations program) (bodies program n) callee.comp.now callee.number args
       (back_from program f callee crossing) (entry_from f callee args crossing s))) rg
 
   is_there : (callee : Callee) {comp number : ℕ} → callee.comp.now ≡ comp → callee.number ≡ number → {g : Function} →
-      function (library program) callee.comp.now callee.number ≡ Some g →
-      is_some (function (library program) comp number) ≡ true
+      function (denotations program) callee.comp.now callee.number ≡ Some g →
+      is_some (function (denotations program) comp number) ≡ true
   is_there callee here place there = (λ i. is_some
-      (function (library program) (sym here i) (sym place i))) ∙ ap is_some there
+      (function (denotations program) (sym here i) (sym place i))) ∙ ap is_some there
 
   pub own_enters : {before after : Seen} {work later : List Work} (callee : Callee) (number : ℕ) (args : List Value)
       {step : Step} {g : Frame} → FoundAt program f.scope.comp.now number (Some callee) →
       Steps program before work f (entering callee args None) step after later g →
       Steps program before work f (calling (Own number) args) step after later g
   own_enters callee number args found h = allowed (Own number) args (is_there callee found.0 found.1 found.2)
-      (steps_as (λ n s i. and_then (and_then (turn s) (λ _ s. run_in (library program) (bodies program n)
+      (steps_as (λ n s i. and_then (and_then (turn s) (λ _ s. run_in (denotations program) (bodies program n)
       (sym found.0 i) (sym found.1 i) args back_own s)) rg) h)
 
   module _ (comp index : ℕ) (args : List Value) where
@@ -102,7 +102,7 @@ module _ (program : ProgramTree) (f : Frame) (to : To) where
     words = list_all is_word args
 
     abbrev leads_there : Option ℕ → Bool
-    leads_there o = leads (library program) comp o
+    leads_there o = leads (denotations program) comp o
 
     -- what of a call across is tested before its function is looked up
     abbrev pub MayCross : Bool → Type 0
@@ -133,49 +133,49 @@ module _ (program : ProgramTree) (f : Frame) (to : To) where
 
           same : (n : ℕ) (s : State) → tried true (Cross comp index) args n s ≡ entering callee args (Some index) n s
           same n s = (λ i. and_then (and_then (turn s) (λ _ s. and_then (found (entry.0 i) s) (λ number s. run_in
-              (library program) (bodies program n) comp number (as_words i)
+              (denotations program) (bodies program n) comp number (as_words i)
               (back_cross program.interfaces f.scope.comp.now comp index)
-              (tell (Call f.scope.comp.now comp index (map word_in args)) s)))) rg) ∙
-              (λ i. and_then (and_then (turn s) (λ _ s. run_in (library program) (bodies program n) (sym entry.1.0 i)
+              (emit_event (Call f.scope.comp.now comp index (map word_in args)) s)))) rg) ∙
+              (λ i. and_then (and_then (turn s) (λ _ s. run_in (denotations program) (bodies program n) (sym entry.1.0 i)
               callee.number args (back_cross program.interfaces f.scope.comp.now (sym entry.1.0 i) index)
-              (tell (Call f.scope.comp.now (sym entry.1.0 i) index (map word_in args)) s))) rg)
+              (emit_event (Call f.scope.comp.now (sym entry.1.0 i) index (map word_in args)) s))) rg)
 
   -- the next input
-  pub input_steps : {before middle told after : Seen} {work : List Work} (args : List Value) {word : ℕ} {step : Step} →
-      may_call (library program) f.scope.comp.now Input args ≡ true → word ≡ next_input before.inputs →
+  pub input_steps : {before middle emitted after : Seen} {work : List Work} (args : List Value) {word : ℕ} {step : Step} →
+      may_call (denotations program) f.scope.comp.now Input args ≡ true → word ≡ next_input before.inputs →
       middle ≡ record before { inputs = drop 1 before.inputs } →
-      told ≡ record middle { trace = middle.trace ++ In f.scope.comp.now word ∷ [] } →
-      Steps program told work f (λ n s. rg (Some (Word word)) s) step after work f →
+      emitted ≡ record middle { trace = middle.trace ++ In f.scope.comp.now word ∷ [] } →
+      Steps program emitted work f (λ n s. rg (Some (Word word)) s) step after work f →
       Steps program before work f (calling Input args) step after work f
-  input_steps {before} {told} args {word} may is rest tells h = allowed Input args may (steps_on
+  input_steps {before} {emitted} args {word} may is rest emits_trace h = allowed Input args may (steps_on
       {p = λ s. Reached (Some (Word _)) (read_input f.scope.comp.now s)} (λ n. rg) (record {
-        comes = λ s shows. (ap (λ w. Some (Word w)) (ap (λ x. next_input x.inputs) shows ∙ sym is), seen s shows);
-        fewer = omega (arith, ap (λ x. x.turns) tells, ap (λ x. x.turns) rest);
+        comes = λ s is_seen. (ap (λ w. Some (Word w)) (ap (λ x. next_input x.inputs) is_seen ∙ sym is), seen s is_seen);
+        fewer = omega (arith, ap (λ x. x.turns) emits_trace, ap (λ x. x.turns) rest);
       }) h) where
-        seen : (s : State) → seen_of s ≡ before → seen_of (read_input f.scope.comp.now s) ≡ told
-        seen s shows = ap {A = Seen} (λ x. record x {
+        seen : (s : State) → seen_of s ≡ before → seen_of (read_input f.scope.comp.now s) ≡ emitted
+        seen s is_seen = ap {A = Seen} (λ x. record x {
           trace = x.trace ++ In f.scope.comp.now (next_input x.inputs) ∷ [];
           inputs = drop 1 x.inputs;
-        }) shows ∙ (λ i. record before {
+        }) is_seen ∙ (λ i. record before {
           trace = before.trace ++ In f.scope.comp.now (sym is i) ∷ [];
           inputs = drop 1 before.inputs;
         }) ∙ ap {A = Seen} (λ x. record x { trace = x.trace ++ In f.scope.comp.now word ∷ [] }) (sym rest) ∙ sym
-            tells
+            emits_trace
 
-  pub output_steps : {before told after : Seen} {work : List Work} (args : List Value) {word : ℕ} {step : Step} →
-      may_call (library program) f.scope.comp.now Output args ≡ true → word ≡ first_word args →
-      told ≡ record before { trace = before.trace ++ Out f.scope.comp.now word ∷ [] } →
-      Steps program told work f (λ n s. rg None s) step after work f →
+  pub output_steps : {before emitted after : Seen} {work : List Work} (args : List Value) {word : ℕ} {step : Step} →
+      may_call (denotations program) f.scope.comp.now Output args ≡ true → word ≡ first_word args →
+      emitted ≡ record before { trace = before.trace ++ Out f.scope.comp.now word ∷ [] } →
+      Steps program emitted work f (λ n s. rg None s) step after work f →
       Steps program before work f (calling Output args) step after work f
-  output_steps {before} args may is tells h = allowed Output args may (steps_on
+  output_steps {before} args may is emits_trace h = allowed Output args may (steps_on
       {p = λ s. Reached None _} (λ n. rg) (record {
-        comes = λ s shows. (
+        comes = λ s is_seen. (
           refl,
           ap {A = Seen} (λ x.
-              record x { trace = x.trace ++ Out f.scope.comp.now (first_word args) ∷ [] }) shows ∙
-              (λ i. record before { trace = before.trace ++ Out f.scope.comp.now (sym is i) ∷ [] }) ∙ sym tells,
+              record x { trace = x.trace ++ Out f.scope.comp.now (first_word args) ∷ [] }) is_seen ∙
+              (λ i. record before { trace = before.trace ++ Out f.scope.comp.now (sym is i) ∷ [] }) ∙ sym emits_trace,
         );
-        fewer = omega (arith, ap (λ x. x.turns) tells);
+        fewer = omega (arith, ap (λ x. x.turns) emits_trace);
       }) h)
 
   module _ (target : CallTarget) (args : List TypedExpr) (line : ℕ) where

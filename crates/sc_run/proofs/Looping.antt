@@ -25,13 +25,13 @@ module _ (program : ProgramTree) where
 
   module _ (whole : SourceRun) (work : List Work) (f : Frame) where
     -- the same, as the piece is stated otherwise
-    pub told_as : {seen : Seen} {p q : Doing} → ((n : ℕ) (s : State) → p n s ≡ q n s) →
+    pub standing_as : {seen : Seen} {p q : Doing} → ((n : ℕ) (s : State) → p n s ≡ q n s) →
         Standing program whole seen work f p → Standing program whole seen work f q
-    told_as same h =
+    standing_as same h =
         record {
           open_calls = h.open_calls;
           state = h.state;
-          shows = h.shows;
+          is_seen = h.is_seen;
           enough = h.enough;
           rest = ap (λ x. (resume program h.open_calls (reverse work) f x).behaviour) (sym (same _ h.state)) ∙ h.rest;
         }
@@ -43,7 +43,7 @@ module _ (program : ProgramTree) where
         record {
           open_calls = n;
           state = t;
-          shows = c.1;
+          is_seen = c.1;
           enough = le (ap (λ x. x.turns) c.1) enough;
           rest = ap (λ y. (resume program n (reverse work) f (go n y t)).behaviour) (sym c.0) ∙ rest;
         } where
@@ -55,8 +55,8 @@ module _ (program : ProgramTree) where
     pub goes_on : {V : Type 0} {before after : Seen} {v : V} {p : State → Piece V} (go : Follows V) →
         Comes before after (Ok v) p → Standing program whole before work f (λ n s. and_then (p s) (go n)) →
         Standing program whole after work f (λ n s. go n v s)
-    goes_on {before} {after} {v} go c h = goes_at v _ _ go (c.comes h.state h.shows)
-        (fewer (ap (λ x. x.turns) h.shows) c.fewer h.enough) h.rest where
+    goes_on {before} {after} {v} go c h = goes_at v _ _ go (c.comes h.state h.is_seen)
+        (fewer (ap (λ x. x.turns) h.is_seen) c.fewer h.enough) h.rest where
           fewer : h.state.turns ≡ before.turns → after.turns ≤ before.turns → h.state.turns ≤ h.open_calls →
               after.turns ≤ h.open_calls
           fewer a b d = omega (arith, a, b, d)
@@ -69,7 +69,7 @@ module _ (program : ProgramTree) where
       record {
         open_calls = h.open_calls;
         state = h.state;
-        shows = h.shows;
+        is_seen = h.is_seen;
         enough = h.enough;
         rest = ap (λ x. x.behaviour) (sym (same _ h.state)) ∙ h.rest;
       }
@@ -90,11 +90,11 @@ module _ {program : ProgramTree} {before after : Seen} {work : List Work} {f : F
   pub step_stops : {V : Type 0} {end : RunEnd} {p : State → Piece V} (go : Follows V) → Comes before after (Err end) p →
       Steps program before work f (λ n s. and_then (p s) (go n)) (Stop end) after work f
   step_stops go c =
-      record { stands = λ whole h. ended_at program after work f _ _ ((then_stops _ c).comes h.state h.shows) h.rest }
+      record { stands = λ whole h. ended_at program after work f _ _ ((then_stops _ c).comes h.state h.is_seen) h.rest }
 
   pub step_ends : {end : RunEnd} {p : State → Piece (Left (Unit {0}))} → Comes before after (Err end) p →
       Steps program before work f (λ n s. p s) (Stop end) after work f
-  step_ends c = record { stands = λ whole h. ended_at program after work f _ _ (c.comes h.state h.shows) h.rest }
+  step_ends c = record { stands = λ whole h. ended_at program after work f _ _ (c.comes h.state h.is_seen) h.rest }
 
 module _ (program : ProgramTree) (f : Frame) where
   module _ (l : Loop) where
@@ -129,7 +129,7 @@ module _ {program : ProgramTree} {before : Seen} {work : List Work} {f : Frame} 
       ((n : ℕ) (s : State) → p n s ≡ q n s) → Steps program before work f q step after later g →
       Steps program before work f p step after later g
   steps_as same h =
-      record { stands = λ whole standing. h.stands whole (told_as program whole work f same standing) }
+      record { stands = λ whole standing. h.stands whole (standing_as program whole work f same standing) }
 
   -- a piece that came to a value, before the rest of a step
   pub steps_on : {V : Type 0} {middle after : Seen} {v : V} {p : State → Piece V} (go : Follows V) {step : Step}
@@ -168,7 +168,7 @@ module _ {program : ProgramTree} {before : Seen} {work : List Work} {f : Frame} 
   -- what is left to do is done by a later step
   pub steps_later : {now : Now} {p : Doing} → ((n : ℕ) (s : State) → p n s ≡ does_now program f now n s) →
       Steps program before work f p (Go now) before work f
-  steps_later same = record { stands = λ whole standing. told_as program whole work f same standing }
+  steps_later same = record { stands = λ whole standing. standing_as program whole work f same standing }
 
   module _ (l : Loop) where
     pub round_err : {end : RunEnd} → Comes before before (Err end) (cond_evaluated program f l) →

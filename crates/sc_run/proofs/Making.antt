@@ -75,7 +75,7 @@ module _ (structs : List TypedStruct) (here : Here) (params : ℕ) where
       record {
         fewer = omega (arith, h.fewer, c.fewer);
         on = λ after r d. h.on after r (record {
-          comes = λ s shows. by_first after r d s shows;
+          comes = λ s is_seen. by_first after r d s is_seen;
           fewer = omega (arith, c.fewer, d.fewer);
         });
       } where
@@ -89,16 +89,16 @@ module _ (structs : List TypedStruct) (here : Here) (params : ℕ) where
         by_first : (after : Seen) (r : Result (Left (Unit {0})) RunEnd) →
             Comes next after r (inits_from locals (k + 1) tt) → (s : State) → seen_of s ≡ now →
             CameTo r after (inits_from locals k tt s)
-        by_first after r d s shows = subst (CameTo r after) (sym (first_init locals k there item s))
-            (by_piece after r d (init_does c_arith structs here params k local local.init tt s) (c.comes s shows))
+        by_first after r d s is_seen = subst (CameTo r after) (sym (first_init locals k there item s))
+            (by_piece after r d (init_does c_arith structs here params k local local.init tt s) (c.comes s is_seen))
 
   pub started_blamed : (locals : List TypedLocal) (k : ℕ) {local : TypedLocal} {before now next : Seen} {end : RunEnd} →
       k < length locals → local ≡ get_or locals k local → Started locals k before now →
       Comes now next (Err end) (init_does c_arith structs here params k local local.init tt) →
       Comes before next (Err end) (inits_from locals 0 tt)
   started_blamed locals k {local} {next} {end} there item h c = h.on next _ (record {
-    comes = λ s shows. subst (CameTo (Err end) next) (sym (first_init locals k there item s))
-        (by_piece (init_does c_arith structs here params k local _ tt s) (c.comes s shows));
+    comes = λ s is_seen. subst (CameTo (Err end) next) (sym (first_init locals k there item s))
+        (by_piece (init_does c_arith structs here params k local _ tt s) (c.comes s is_seen));
     fewer = c.fewer;
   }) where
     by_piece : (p : Piece (Left (Unit {0}))) → CameTo (Err end) next p →
@@ -109,8 +109,8 @@ module _ (structs : List TypedStruct) (here : Here) (params : ℕ) where
   pub started_all : (locals : List TypedLocal) (k : ℕ) {before now : Seen} → length locals ≤ k →
       Started locals k before now → Comes before now usual (inits_from locals 0 tt)
   started_all locals k {now} all h = h.on now usual (record {
-    comes = λ s shows. subst (λ ls. CameTo usual now
-        (all_do (inits_do c_arith structs here params k ls) tt s)) (sym (drop_all k locals all)) (refl, shows);
+    comes = λ s is_seen. subst (λ ls. CameTo usual now
+        (all_do (inits_do c_arith structs here params k ls) tt s)) (sym (drop_all k locals all)) (refl, is_seen);
     fewer = omega arith;
   })
 
@@ -130,14 +130,14 @@ module _ {A : Type 0} (f : A → ℕ) (xs : List A) (at : ℕ) (x : A) (there : 
   sizes_length = omega (arith, length-take at (map f xs), length-map xs f)
 
   -- one more variable after those of a list
-  pub one_more : (comp : ℕ) (front : List ℕ) (args : List Value) {place count : ℕ} {arg : Option Value}
-      (memory : Memory) {now later : Memory} → place ≡ length front + at → count ≡ f x → arg ≡ slice_get args place →
-      now ≡ with_sizes comp (front ++ take at (map f xs)) args memory →
+  pub one_more : (comp : ℕ) (prefix : List ℕ) (args : List Value) {place count : ℕ} {arg : Option Value}
+      (memory : Memory) {now later : Memory} → place ≡ length prefix + at → count ≡ f x → arg ≡ slice_get args place →
+      now ≡ with_sizes comp (prefix ++ take at (map f xs)) args memory →
       later ≡ with_blocks comp (now comp ++ block_for count arg ∷ []) now →
-      later ≡ with_sizes comp (front ++ take (at + 1) (map f xs)) args memory
-  one_more comp front args {count} memory where_ counted is so_far gives = with_more comp _ args count memory
-      (omega (arith, where_, length-append front (take at (map f xs)), sizes_length)) is so_far gives ∙ ap
-      (λ sizes. with_sizes comp sizes args memory) (append_assoc front _ _ ∙ ap (λ ys. front ++ ys)
+      later ≡ with_sizes comp (prefix ++ take (at + 1) (map f xs)) args memory
+  one_more comp prefix args {count} memory where_ counted is so_far gives = with_more comp _ args count memory
+      (omega (arith, where_, length-append prefix (take at (map f xs)), sizes_length)) is so_far gives ∙ ap
+      (λ sizes. with_sizes comp sizes args memory) (append_assoc prefix _ _ ∙ ap (λ ys. prefix ++ ys)
       (ap (λ n. take at (map f xs) ++ n ∷ []) counted ∙ sym sizes_more))
 
 repeated_more : (zeros : List (List Cell)) (n : ℕ) (cells : List Cell) →

@@ -48,9 +48,9 @@ by_exit Next s = refl
 by_exit _ s = refl
 
 -- nothing follows the last statement
-pub alone : (p : Piece (Left (Unit {0}))) → follow in_order p (leave Next) ≡ p
-alone (Reached left s) = by_exit _ s
-alone (Stopped end s) = refl
+pub followed_by_nothing : (p : Piece (Left (Unit {0}))) → follow in_order p (leave Next) ≡ p
+followed_by_nothing (Reached left s) = by_exit _ s
+followed_by_nothing (Stopped end s) = refl
 
 -- the last statement, with nothing that waits for it
 pub last_steps : {program : ProgramTree} {before after : Seen} {work later : List Work} {f g : Frame}
@@ -58,7 +58,7 @@ pub last_steps : {program : ProgramTree} {before after : Seen} {work later : Lis
     Steps program before work f (λ n. stmt_acts program n f stmt tt) step after later g →
     Steps program before work f (λ n s. block_acts program n f stmts tt s) step after later g
 last_steps {program} {f} {stmts} stmt split one h = steps_as (λ n s. ap (λ xs. block_acts program n f xs tt s)
-    (split ∙ ap (λ xs. stmt ∷ xs) (drop_all 1 stmts (omega (arith, one)))) ∙ alone _) h
+    (split ∙ ap (λ xs. stmt ∷ xs) (drop_all 1 stmts (omega (arith, one)))) ∙ followed_by_nothing _) h
 
 -- a part of a `for`, while the loop waits: the first one, or what comes before the next round
 pub part_steps : {program : ProgramTree} {before after : Seen} {work later last : List Work} {f g : Frame}

@@ -1,13 +1,13 @@
 -- A run from its start to its end, which only adds events, so that it may be stopped at a number of them.
 use Rattle.sc_run.proofs.Common.{Again, Begun, Body as Body', Callee, Caller, Cell, End, Ended, EndsAs, EntryAt, Event}
-use Rattle.sc_run.proofs.Common.{EventsOut, First, Frame, Front, Go, Goes, Gone, IsStop, Leave, Left, List, Main}
+use Rattle.sc_run.proofs.Common.{EventsOut, First, Frame, IsPrefix, Go, Goes, Gone, IsStop, Leave, Left, List, Main}
 use Rattle.sc_run.proofs.Common.{Memory, None, Now, Nowhere, Option, Piece, ProgramTree, Reached, Rest, Run as Run'}
 use Rattle.sc_run.proofs.Common.{RunEnd, Seen, Some, SourceRun, Standing, Stands, State, Step, Steps, Stop, Stopped}
 use Rattle.sc_run.proofs.Common.{TypedGlobal, TypedSection, Value, Work, [], and_then, ap, arith, back_goes, back_own}
 use Rattle.sc_run.proofs.Common.{back_to, begun, bodies, body_acts, c_arith, call_own, does_now, done, done_goes}
 use Rattle.sc_run.proofs.Common.{earlier, entry_in, exit_word, first_blocks, first_state, follow_goes, found}
-use Rattle.sc_run.proofs.Common.{front_more, function, function_in, function_of, global_block, globals_of}
-use Rattle.sc_run.proofs.Common.{if◌then◌else◌, in_loop, in_order, le-leb, length, length-append, library, lt-ltb, map}
+use Rattle.sc_run.proofs.Common.{prefix_more, function, function_in, function_of, global_block, globals_of}
+use Rattle.sc_run.proofs.Common.{if◌then◌else◌, in_loop, in_order, le-leb, length, length-append, denotations, lt-ltb, map}
 use Rattle.sc_run.proofs.Common.{meaning, next_acts, refl, resume, returned, reverse, run_in, run_of, run_step, run_to}
 use Rattle.sc_run.proofs.Common.{seen_of, slice_get, stays, stopped_at, subst, suc, sym, take, take-append-le}
 use Rattle.sc_run.proofs.Common.{then_goes, within, ℕ, ◌<◌, ◌∙◌, ◌∷◌, ◌≡◌, ◌≤◌}
@@ -16,12 +16,12 @@ use Rattle.sc_run.proofs.Blank.{blank}
 use Rattle.sc_run.proofs.Calling.{frame_at, enter_is, begun_seen, frame_is}
 
 -- a trace and one that begins with it have the same prefixes, up to the length of the shorter
-take_front : (n : ℕ) (t u : List Event) → n ≤ length t → Front t u → take n u ≡ take n t
-take_front n t u few g = ap (take n) g.is ∙ take-append-le n t g.more few
+take_prefix : (n : ℕ) (t u : List Event) → n ≤ length t → IsPrefix t u → take n u ≡ take n t
+take_prefix n t u few g = ap (take n) g.is ∙ take-append-le n t g.more few
 
 -- the run has at least these events, and one more where it ends by itself
 pub record Onward (t : List Event) (run : SourceRun) : Type 0 where
-  pub grown : Front t run.trace
+  pub grown : IsPrefix t run.trace
   pub ended : run.end ≡ Ended → suc (length t) ≤ length run.trace
 
 back_to_goes : (program : ProgramTree) (caller f : Frame) (crossing : Option ℕ) (v : Option Value) →
@@ -41,7 +41,7 @@ module _ (program : ProgramTree) (s : State) where
   run_goes : (p : Piece (Option Value)) → Gone s p → Onward s.trace (run_to program.interfaces.main p).behaviour
   run_goes (Reached v t) h =
       record {
-        grown = front_more s.trace t.trace _ h.grown.events (record { more = end ∷ []; is = refl });
+        grown = prefix_more s.trace t.trace _ h.grown.events (record { more = end ∷ []; is = refl });
         ended = λ _. omega (
           arith,
           length-append t.trace (end ∷ []),
@@ -75,7 +75,7 @@ now_goes program n f (Leave exit) = stays _
 
 module _ (program : ProgramTree) (whole : SourceRun) (seen : Seen) (work : List Work) (f : Frame) (now : Now) where
   onward : Standing program whole seen work f (does_now program f now) → Onward seen.trace whole
-  onward h = subst (λ t. Onward t whole) (ap (λ x. x.trace) h.shows) (subst (Onward _) h.rest
+  onward h = subst (λ t. Onward t whole) (ap (λ x. x.trace) h.is_seen) (subst (Onward _) h.rest
       (resume_goes program h.state h.open_calls (reverse work) f (does_now program f now _ h.state)
       (now_goes program _ f now h.state)))
 
@@ -100,7 +100,7 @@ module _ (program : ProgramTree) (whole : SourceRun) (seen : Seen) (work : List 
       Standing program whole seen work f (does_now program f now) →
       stopped_at events whole ≡ record { trace = take events seen.trace; end = EventsOut }
   stopped_here events le h = reached events _ _ le (onward h) ∙
-      (λ i. record { trace = take_front events _ _ le (onward h).grown i; end = EventsOut })
+      (λ i. record { trace = take_prefix events _ _ le (onward h).grown i; end = EventsOut })
 
 globals_live : (zeros : List (List Cell)) (gs : List TypedGlobal) →
     blank (map (global_block zeros) gs) ≡ map (global_block zeros) gs
@@ -130,11 +130,11 @@ module _ (program : ProgramTree) (inputs : List ℕ) (turns : ℕ) where
   -- what `main` does from the start
   abbrev main_does : State → Piece (Option Value)
   main_does s = and_then (found (entry_in program program.interfaces.main Main) s) (λ number s. call_own
-      (library program) (within (run_step (library program)) (suc turns)) program.interfaces.main number [] s)
+      (denotations program) (within (run_step (denotations program)) (suc turns)) program.interfaces.main number [] s)
 
   module _ (callee : Callee) (number : ℕ) (after : Seen) (f : Frame) where
     pub begins : entry_in program program.interfaces.main Main ≡ Some number →
-        callee.comp.now ≡ program.interfaces.main → callee.number ≡ number → function (library program) callee.comp.now
+        callee.comp.now ≡ program.interfaces.main → callee.number ≡ number → function (denotations program) callee.comp.now
         callee.number ≡ Some (function_of c_arith program.interfaces.main callee.structs.now callee.function.now) →
         Begun callee [] seen_first after f →
         Standing program (run_of c_arith program inputs turns).behaviour after [] f (λ n s. body_acts program n f tt s)
@@ -144,7 +144,7 @@ module _ (program : ProgramTree) (inputs : List ℕ) (turns : ℕ) where
           open_calls = turns;
           state = begun callee.comp.now (function_of c_arith program.interfaces.main callee.structs.now
               callee.function.now) [] at_start;
-          shows = begun_seen program f callee [] Nowhere at_start first_seen_is ∙ sym b.seen;
+          is_seen = begun_seen program f callee [] Nowhere at_start first_seen_is ∙ sym b.seen;
           enough = omega arith;
           rest = ap (λ p. (run_to program.interfaces.main p).behaviour)
               (sym (enter_is program f callee [] Nowhere there back_own turns at_start)) ∙
@@ -153,12 +153,12 @@ module _ (program : ProgramTree) (inputs : List ℕ) (turns : ℕ) where
           same : f ≡ frame_at program f callee [] Nowhere (length (at_start.memory callee.comp.now))
           same = frame_is program f callee [] Nowhere at_start first_seen_is b
 
-          called_is : run_in (library program) (bodies program (suc turns)) callee.comp.now callee.number [] back_own
+          called_is : run_in (denotations program) (bodies program (suc turns)) callee.comp.now callee.number [] back_own
               at_start ≡ main_does at_start
           called_is =
-              (λ i. run_in (library program) (bodies program (suc turns)) (here i) (place i) [] back_own at_start) ∙ ap
-              (λ o. and_then (found o at_start) (λ number s. call_own (library program)
-              (within (run_step (library program)) (suc turns)) program.interfaces.main number [] s)) (sym at)
+              (λ i. run_in (denotations program) (bodies program (suc turns)) (here i) (place i) [] back_own at_start) ∙ ap
+              (λ o. and_then (found o at_start) (λ number s. call_own (denotations program)
+              (within (run_step (denotations program)) (suc turns)) program.interfaces.main number [] s)) (sym at)
 
 -- whatever the whole run is, it stands here after it stood there
 abbrev pub Since : ProgramTree → Now → Seen → Frame → Now → Seen → List Work → Frame → Type 0

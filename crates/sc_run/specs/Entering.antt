@@ -1,6 +1,6 @@
 -- Helping: how a call begins, as it is seen.
 use Rattle.sc_run.specs.Common.{Acts, Block, Call, Callee, Frame, Memory, Piece, ProgramTree, State, Undef, Value}
-use Rattle.sc_run.specs.Common.{back_cross, back_own, blocks_for, body_does, c_arith, cell_of, here_of, tell, variables}
+use Rattle.sc_run.specs.Common.{back_cross, back_own, blocks_for, body_does, c_arith, cell_of, here_of, emit_event, variables}
 use Rattle.sc_run.specs.Common.{with_blocks, word_in}
 use Rattle.std.specs.Prelude.{◌≡◌, ℕ, ◌<◌, ◌^◌, ◌++◌, true, List, [], ◌∷◌, length, map, replicate, Option, None, Some}
 use Rattle.sc_run.specs.Seen.{Seen}
@@ -28,14 +28,14 @@ pub record Begun (callee : Callee) (args : List Value) (before after : Seen) (f 
   pub seen : after ≡ record before { memory = with_variables callee args before.memory }
 
 -- a call of an export is emitted
-abbrev pub told_call : Frame → Callee → List Value → Option ℕ → Seen → Seen
-told_call caller callee args None seen = seen
-told_call caller callee args (Some index) seen =
+abbrev pub emitted_call : Frame → Callee → List Value → Option ℕ → Seen → Seen
+emitted_call caller callee args None seen = seen
+emitted_call caller callee args (Some index) seen =
     record seen { trace = seen.trace ++ Call caller.scope.comp.now callee.comp.now index (map word_in args) ∷ [] }
 
 abbrev pub entry_from : Frame → Callee → List Value → Option ℕ → State → State
 entry_from caller callee args None s = s
-entry_from caller callee args (Some index) s = tell (Call caller.scope.comp.now callee.comp.now index
+entry_from caller callee args (Some index) s = emit_event (Call caller.scope.comp.now callee.comp.now index
     (map word_in args)) s
 
 -- a return inside the compartment, or one from an export to the function that called

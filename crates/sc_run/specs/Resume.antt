@@ -1,8 +1,8 @@
 -- Helping: what a run that has got somewhere does from there.
-use Rattle.sc_run.specs.Common.{Acts, Body, Break, Calls, Continue, Event, Exit, Frame, Function, Left, Library, Loop}
+use Rattle.sc_run.specs.Common.{Acts, Body, Break, Calls, Continue, Event, Exit, Frame, Function, Left, Denotations, Loop}
 use Rattle.sc_run.specs.Common.{Next, Piece, ProgramTree, Return, Run, RunEnd, State, TypedStmt, Value, Ways, and_then}
 use Rattle.sc_run.specs.Common.{back_cross, back_own, block_does, c_arith, calls, closed, done, follow, function_of}
-use Rattle.sc_run.specs.Common.{here_of, in_loop, in_order, leave, library_of, loop, main_name, part_does, run_step}
+use Rattle.sc_run.specs.Common.{here_of, in_loop, in_order, leave, denotations_of, loop, main_name, part_does, run_step}
 use Rattle.sc_run.specs.Common.{run_to, stmt_does, stopped_at, store_result, test, ways, within}
 use Rattle.std.specs.Prelude.{◌≡◌, ℕ, suc, ◌≤◌, ◌&&◌, ◌==◌, bytes_eq, List, [], ◌∷◌, reverse, Option, None, Some}
 use Rattle.std.specs.Prelude.{is_some}
@@ -34,15 +34,15 @@ abbrev pub way_in : Frame → TypedExpr → Ways
 way_in f e = ways c_arith f.scope.structs.now (here_of f.scope) f.scope.params e
 
 module _ (program : ProgramTree) where
-  abbrev pub library : Library
-  library = library_of c_arith program
+  abbrev pub denotations : Denotations
+  denotations = denotations_of c_arith program
 
   -- functions in which at most `n` calls are open, and calls of them
   abbrev pub bodies : ℕ → Body
-  bodies n = within (run_step library) n
+  bodies n = within (run_step denotations) n
 
   abbrev pub calls_in : ℕ → Calls
-  calls_in n = calls library (bodies n)
+  calls_in n = calls denotations (bodies n)
 
   module _ (n : ℕ) (f : Frame) where
     -- statements of the function that runs
@@ -110,7 +110,7 @@ module _ (program : ProgramTree) where
       (piece : ℕ → State → Piece (Left (Unit {0}))) : Type 0 where
     pub open_calls : ℕ
     pub state : State
-    pub shows : seen_of state ≡ seen
+    pub is_seen : seen_of state ≡ seen
     pub enough : state.turns ≤ open_calls
     pub rest : (resume open_calls (reverse work) f (piece open_calls state)).behaviour ≡ whole
 

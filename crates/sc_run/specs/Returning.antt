@@ -27,9 +27,9 @@ abbrev pub word_crossing : ProgramTree → Frame → ℕ → Option Value → Op
 word_crossing program f index v = crossing (export_at program.interfaces f.scope.comp.now index) v
 
 -- a return from an export is emitted
-abbrev pub told_back : ProgramTree → Frame → Frame → Option ℕ → Option Value → Seen → Seen
-told_back program caller f None v seen = seen
-told_back program caller f (Some index) v seen =
+abbrev pub emitted_return : ProgramTree → Frame → Frame → Option ℕ → Option Value → Seen → Seen
+emitted_return program caller f None v seen = seen
+emitted_return program caller f (Some index) v seen =
     record seen {
       trace = seen.trace ++ Ret f.scope.comp.now caller.scope.comp.now (word_crossing program f index v) ∷
           [];

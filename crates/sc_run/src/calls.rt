@@ -1,12 +1,12 @@
 //! Calls: from their arguments to the first statement of what is called, and back (C11 6.5.2.2).
 
 ghost use Rattle.sc_run.specs.Prelude.{Advances, Begun, Steps, and_then, back_from, block_acts, bodies, body_acts};
-ghost use Rattle.sc_run.specs.Prelude.{c_arith, entry_from, function, function_of, kept_by, library, result_goes};
-ghost use Rattle.sc_run.specs.Prelude.{run_in, told_call, turn, word_in};
+ghost use Rattle.sc_run.specs.Prelude.{c_arith, entry_from, function, function_of, kept_by, denotations, result_goes};
+ghost use Rattle.sc_run.specs.Prelude.{run_in, emitted_call, turn, word_in};
 ghost use Rattle.std.specs.Prelude.{◌≡◌, ◌<◌, ◌^◌, ◌++◌, [], ◌∷◌, IfOk, OnOk, Some, map, length};
 
 use crate::leaves::return_to;
-use crate::machine::{Machine, init_all, make_blocks, store_at, take_turn, tell};
+use crate::machine::{Machine, init_all, make_blocks, store_at, take_turn, emit_event};
 use crate::plain::{done_first, exit_at_once};
 use crate::steps::go_on;
 use crate::work::{Callee, Frame, Leaving, Now, Run, Step, To, Work};
@@ -91,20 +91,20 @@ pub fn begin<'a>(
 }
 
 // Emits a call of an export.
-fn tell_call<'a>(
+fn emit_call<'a>(
     machine: &mut Machine,
     frame: &Frame<'a>,
     callee: &Callee<'a>,
     args: &[Value],
     crossing: Option<u16>,
 ) -> Result<(), OutOfMemory>
-    ensures { OnOk result (kept_by machine.new ≡ told_call frame.now callee.now args.now crossing
+    ensures { OnOk result (kept_by machine.new ≡ emitted_call frame.now callee.now args.now crossing
         (kept_by machine.old)) }
 {
     match crossing {
         Some(index) => {
             let words = words_of(machine.alloc, args)?;
-            tell(
+            emit_event(
                 machine,
                 Event::Call {
                     from: *frame.scope.comp,
@@ -204,10 +204,10 @@ pub fn enter<'a>(
     to: To<'a>,
     crossing: Option<u16>,
 ) -> Result<Step<'a>, OutOfMemory>
-    requires { function (library program.now) callee.now.comp.now callee.now.number ≡
+    requires { function (denotations program.now) callee.now.comp.now callee.now.number ≡
         Some (function_of c_arith program.now.interfaces.main callee.now.structs.now callee.now.function.now) }
     ensures { IfOk result (λ step. Advances program.now run.old
-        (λ n s. and_then (and_then (turn s) (λ _ s. run_in (library program.now)
+        (λ n s. and_then (and_then (turn s) (λ _ s. run_in (denotations program.now)
         (bodies program.now n) callee.now.comp.now callee.now.number args.now
         (back_from program.now run.old.frame callee.now crossing)
         (entry_from run.old.frame callee.now args.now crossing s)))
@@ -216,7 +216,7 @@ pub fn enter<'a>(
     match take_turn(&mut run.machine) {
         Err(end) => Ok(Step::Stop(end)),
         Ok(()) => {
-            tell_call(&mut run.machine, &run.frame, callee, args, crossing)?;
+            emit_call(&mut run.machine, &run.frame, callee, args, crossing)?;
             let next = begin(&mut run.machine, callee, args)?;
             run_called(program, run, &next, to, crossing)
         }

@@ -2,11 +2,11 @@
 
 ghost use Rattle.sc_run.specs.Prelude.{Advances, State, Steps, back_value, block_acts, closes, ended_as, exit_of};
 ghost use Rattle.sc_run.specs.Prelude.{exit_word, follow, in_loop, in_order, kept_by, leave, left_by, loop_acts};
-ghost use Rattle.sc_run.specs.Prelude.{main_name, next_acts, told_back, variable_count, word_crossing};
+ghost use Rattle.sc_run.specs.Prelude.{main_name, next_acts, emitted_return, variable_count, word_crossing};
 ghost use Rattle.std.specs.Prelude.{◌≡◌, ◌++◌, [], ◌∷◌, IfOk, OnOk, bytes_eq, ◌==◌, ◌&&◌};
 
 use crate::calls::{hand_back, word_in};
-use crate::machine::{Machine, tell};
+use crate::machine::{Machine, emit_event};
 use crate::plain::is_next_done;
 use crate::simple::simple;
 use crate::steps::round;
@@ -195,7 +195,7 @@ fn word_crossing(
 }
 
 // Emits a return from an export, and gives what the caller gets.
-fn tell_back(
+fn emit_return(
     program: &ProgramTree,
     machine: &mut Machine,
     caller: &Frame,
@@ -204,14 +204,14 @@ fn tell_back(
     value: Option<Value>,
 ) -> Result<Option<Value>, OutOfMemory>
     ensures value { IfOk result (λ back. back ≡ back_value program.now frame.now crossed value) }
-    ensures told { OnOk result (kept_by machine.new ≡
-        told_back program.now caller.now frame.now crossed value (kept_by machine.old)) }
+    ensures emitted { OnOk result (kept_by machine.new ≡
+        emitted_return program.now caller.now frame.now crossed value (kept_by machine.old)) }
 {
     match crossed {
         None => Ok(value),
         Some(index) => {
             let word = word_crossing(program, frame, index, value);
-            tell(
+            emit_event(
                 machine,
                 Event::Ret {
                     from: *frame.scope.comp,
@@ -244,7 +244,7 @@ pub fn return_to<'a>(
         Err(end) => Ok(Step::Stop(end)),
         Ok(value) => {
             end_variables(&mut run.machine, &run.frame);
-            let back = tell_back(
+            let back = emit_return(
                 program,
                 &mut run.machine,
                 caller,
@@ -282,7 +282,7 @@ fn finish<'a>(
         Ok(value) => {
             let comp = program.interfaces.main;
             let value = exit_word(value);
-            tell(machine, Event::End { comp, value })?;
+            emit_event(machine, Event::End { comp, value })?;
             Ok(Step::Stop(RunEnd::Ended))
         }
     }

@@ -205,7 +205,7 @@ pub fn init_all(machine: &mut Machine, frame: &Frame) -> Result<(), RunEnd>
 }
 
 /// One more event.
-pub fn tell(machine: &mut Machine, event: Event) -> Result<(), AllocError>
+pub fn emit_event(machine: &mut Machine, event: Event) -> Result<(), AllocError>
     ensures { OnOk result (kept_by machine.new ≡ record
         (kept_by machine.old) { trace = machine.old.trace ++ event ∷ [] }) }
 {

@@ -1,7 +1,7 @@
 //! Calls in statements, and the statements that may stand in the head of a `for`.
 
 ghost use Rattle.sc_run.specs.Prelude.{Advances, Comes, Steps, and_then, assign, c_arith, call, calls_in, computed};
-ghost use Rattle.sc_run.specs.Prelude.{first_word, here_of, is_word, kept_by, library, may_call, next_input};
+ghost use Rattle.sc_run.specs.Prelude.{first_word, here_of, is_word, kept_by, denotations, may_call, next_input};
 ghost use Rattle.sc_run.specs.Prelude.{result_goes, simple_does, values, way_in};
 ghost use Rattle.sc_event.specs.Prelude.{imports, is_function, takes};
 ghost use Rattle.std.specs.Prelude.{◌≡◌, ◌&&◌, IfOk, length, map, drop};
@@ -10,7 +10,7 @@ ghost use Rattle.sc_core.specs.declared.cause.Cause.TheVariants.{BadType};
 
 use crate::calls::{enter, hand_back, word_in};
 use crate::lookups::{are_words, callee_at, entry_callee};
-use crate::machine::{Machine, assign, blamed, tell};
+use crate::machine::{Machine, assign, blamed, emit_event};
 use crate::work::{Frame, Leaving, Now, Run, Step, To, Work};
 use sc_base::OutOfMemory;
 use sc_core::{
@@ -22,7 +22,7 @@ use sc_value::Arguments;
 use std::alloc::AllocError;
 
 // The values of arguments from left to right.
-fn given_all(
+fn evaluate_arguments(
     machine: &Machine,
     frame: &Frame,
     exprs: &[TypedExpr],
@@ -142,12 +142,12 @@ fn call_input<'a>(
         return Ok(Step::Stop(refusal(frame)));
     }
     let value = next_input(machine);
-    tell(machine, Event::In { comp, value })?;
+    emit_event(machine, Event::In { comp, value })?;
     Ok(hand_back(program, machine, work, frame, to, Some(Value::Word(value))))
 }
 
 fn may_output(program: &ProgramTree, comp: CompId, args: &[Value]) -> bool
-    ensures { result ≡ may_call (library program.now) comp CallTarget.Output args.now }
+    ensures { result ≡ may_call (denotations program.now) comp CallTarget.Output args.now }
 {
     program.interfaces.imports_output(comp) && (args.len() == 1 && are_words(args))
 }
@@ -170,7 +170,7 @@ fn call_output<'a>(
         return Ok(Step::Stop(refusal(frame)));
     }
     let value = first_word(args);
-    tell(machine, Event::Out { comp, value })?;
+    emit_event(machine, Event::Out { comp, value })?;
     Ok(hand_back(program, machine, work, frame, to, None))
 }
 
@@ -214,7 +214,7 @@ pub fn call<'a>(
         (map (way_in run.old.frame) made.now.args) line s)
         (result_goes program.now run.old.frame to.entry)) step run.new) }
 {
-    match given_all(&run.machine, &run.frame, made.args.as_slice(), line)? {
+    match evaluate_arguments(&run.machine, &run.frame, made.args.as_slice(), line)? {
         Ok(args) => called(program, run, &made.target, args.as_slice(), to),
         Err(end) => Ok(Step::Stop(end)),
     }

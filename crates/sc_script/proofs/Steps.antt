@@ -8,9 +8,9 @@ use Rattle.sc_event.specs.declared.row.Row.{Row}
 use Rattle.sc_script.specs.Row.{row_of}
 
 -- no event is a row once the run has ended
-pub none_behind : (comp number : ℕ) (later : List Event) → rows_from comp number None later ≡ []
-none_behind comp number [] = refl
-none_behind comp number (event ∷ later) = refl
+pub none_after : (comp number : ℕ) (later : List Event) → rows_from comp number None later ≡ []
+none_after comp number [] = refl
+none_after comp number (event ∷ later) = refl
 
 -- the first event's row, and those after it
 pub one_event : (comp number : ℕ) (at : Standing) (event : Event) (later : List Event) →
@@ -44,10 +44,10 @@ module _ (main comp : ℕ) (trace : List Event) where
       IsPartAt next (stands_after at event) (place + 1)
   passed script next at place event so_far here is =
       let row : List Row = row_of comp (length script) at.active.entry event in
-      let behind : ℕ → List Row = λ n. rows_from comp n (stands_after at event) (drop (place + 1) trace) in
-      ap (λ x. x ++ behind (length x)) is ∙
-      ap (λ n. (script ++ row) ++ behind n) (length-append script row) ∙
-      append_assoc script row (behind (length script + length row)) ∙
+      let following : ℕ → List Row = λ n. rows_from comp n (stands_after at event) (drop (place + 1) trace) in
+      ap (λ x. x ++ following (length x)) is ∙
+      ap (λ n. (script ++ row) ++ following n) (length-append script row) ∙
+      append_assoc script row (following (length script + length row)) ∙
       ap (λ rest. script ++ rest) (sym (one_event comp (length script) at event (drop (place + 1) trace))) ∙
       ap (λ rest. script ++ rows_from comp (length script) (Some at) rest) (sym here) ∙ so_far
 
@@ -56,5 +56,5 @@ module _ (main comp : ℕ) (trace : List Event) where
       script ≡ part main comp trace
   ended script at place none so_far =
       sym (append-nil script) ∙
-      ap (λ rest. script ++ rest) (sym (none_behind comp (length script) (drop place trace))) ∙
+      ap (λ rest. script ++ rest) (sym (none_after comp (length script) (drop place trace))) ∙
       ap (λ at. script ++ rows_from comp (length script) at (drop place trace)) (sym none) ∙ so_far

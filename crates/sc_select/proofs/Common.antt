@@ -29,8 +29,8 @@ pub use Rattle.sc_select.specs.Prelude.{Load, Marked, Need, Op, OpImm, Piece, Pl
 pub use Rattle.sc_select.specs.Prelude.{Upper, all_plain, as_one, at_hand, before_test, between, binary_code}
 pub use Rattle.sc_select.specs.Prelude.{branch_back, branch_reach, breaks, brought, bytes_ahead, bytes_of, call_cross}
 pub use Rattle.sc_select.specs.Prelude.{call_own, choice, choosing, closing, code_of, code_of_lines, copied, cycle}
-pub use Rattle.sc_select.specs.Prelude.{ending_past, ending_test, entrance, environment_call, first_scratch, followed}
-pub use Rattle.sc_select.specs.Prelude.{fork, frame_left, frame_taken, function_lines, has_mark, in_order, in_turn}
+pub use Rattle.sc_select.specs.Prelude.{ending_past, ending_test, prologue, environment_call, first_scratch, followed}
+pub use Rattle.sc_select.specs.Prelude.{fork, epilogue, frame_taken, function_lines, has_mark, in_order, in_turn}
 pub use Rattle.sc_select.specs.Prelude.{is_break, is_near, is_plain, is_short, joined, joins, jump_back, jump_over}
 pub use Rattle.sc_select.specs.Prelude.{keep, kept, kind_by, kind_of_fork, lines_of, load_from, load_word, loading}
 pub use Rattle.sc_select.specs.Prelude.{loop_begins, moved_by, need, need_step, needed_in, needs_of, nothing}
@@ -38,7 +38,7 @@ pub use Rattle.sc_select.specs.Prelude.{object_offset, object_read, object_store
 pub use Rattle.sc_select.specs.Prelude.{past, place_needed, place_of_global, plain, plainly, plan_by, plan_of}
 pub use Rattle.sc_select.specs.Prelude.{pointer_difference, pointer_move, put, receive, referring, register_of}
 pub use Rattle.sc_select.specs.Prelude.{relocation_of, relocations_from, result_register, return, role_before}
-pub use Rattle.sc_select.specs.Prelude.{role_behind, role_first, role_of_load, role_of_operation, role_of_return}
+pub use Rattle.sc_select.specs.Prelude.{role_to_next, role_first, role_of_load, role_of_operation, role_of_return}
 pub use Rattle.sc_select.specs.Prelude.{role_of_store, rotated, row_needs, second_operand, select, select_all}
 pub use Rattle.sc_select.specs.Prelude.{select_step, short_code, short_form, short_operation, short_return, skipping}
 pub use Rattle.sc_select.specs.Prelude.{slot_offset, stepped, store_arguments, store_to, store_word, straight}

@@ -2,16 +2,16 @@
 use Rattle.sc_select.proofs.Common.{Bool, Fits, FitsBetween, FitsLoop, FrameTree, Instr, Line, List, OnOk, Other, Piece}
 use Rattle.sc_select.proofs.Common.{Place, Plan, Result, Role, TacFnTree, TacStmt, [], and_first, and_rest, ap}
 use Rattle.sc_select.proofs.Common.{append_assoc, ap₂, arith, as_one, between, choice, choosing, closing, cycle, drop}
-use Rattle.sc_select.proofs.Common.{drop-cons, entrance, everywhere, false, fold-TacStmt, fold-roll-TacStmt}
+use Rattle.sc_select.proofs.Common.{drop-cons, prologue, everywhere, false, fold-TacStmt, fold-roll-TacStmt}
 use Rattle.sc_select.proofs.Common.{function_lines, get_or, if◌then◌else◌, in_turn, joined, joins, jump_back, jump_over}
 use Rattle.sc_select.proofs.Common.{kind_of_fork, length, length-append, length-map, loop_begins, map, nothing}
-use Rattle.sc_select.proofs.Common.{on_ok_weaker, passes_few, past, plain, plainly, refl, role_before, role_behind}
+use Rattle.sc_select.proofs.Common.{on_ok_weaker, passes_few, past, plain, plainly, refl, role_before, role_to_next}
 use Rattle.sc_select.proofs.Common.{role_first, roll-TacStmt, select, select_all, select_step, skipping, stmt_weight}
 use Rattle.sc_select.proofs.Common.{subst, suc, sym, true, weight, weight_step, with_parts, zero, ℕ, ◌&&◌, ◌++◌, ◌+◌}
 use Rattle.sc_select.proofs.Common.{◌-◌, ◌<◌, ◌==◌, ◌∙◌, ◌∷◌, ◌≡◌, ◌≤◌}
 use Rattle.sc_tac.specs.declared.stmt.TacStmt.TheOpen as tac
 use Rattle.sc_tac.specs.declared.stmt.TacStmt.TheVariants as emit
-use Rattle.sc_select.proofs.Joining.{drop_map, joined_at, joined_length, none_behind, role_in_is}
+use Rattle.sc_select.proofs.Joining.{drop_map, joined_at, joined_length, none_after, role_in_is}
 use Rattle.sc_select.proofs.Sizes.{row_is_sized, row_from_sized}
 
 -- FEW ARGUMENTS
@@ -113,10 +113,10 @@ module _ (frame : FrameTree) (places : List Place) (plan : Plan) where
   size stmts = (select_all frame places plan stmts).size
 
   -- a single statement
-  pub alone : (b c : ℕ) (stmt : TacStmt) → size (stmt ∷ []) ≡ (select frame places plan stmt).size + 0
-  alone b c stmt =
-      ap (λ (behind : Bool). (if behind then nothing else select frame places plan stmt).size + 0)
-      (none_behind (select frame places plan stmt).role)
+  pub single_size : (b c : ℕ) (stmt : TacStmt) → size (stmt ∷ []) ≡ (select frame places plan stmt).size + 0
+  single_size b c stmt =
+      ap (λ (following : Bool). (if following then nothing else select frame places plan stmt).size + 0)
+      (none_after (select frame places plan stmt).role)
 
   -- how many lines statements have prepended
   pub counted : (stmts : List TacStmt) (b c : ℕ) (new old : List Line) (n m : ℕ) → n ≡ length new → m ≡ length old →
@@ -171,8 +171,8 @@ module _ (frame : FrameTree) (places : List Place) (plan : Plan) where
       second_least cond first second in
       record {
         few_arguments = (few_in_fork cond first second h.few_arguments).1;
-        breaks = omega (arith, h.breaks, alone b c (emit.If cond first second), least);
-        continues = omega (arith, h.continues, alone b c (emit.If cond first second), least);
+        breaks = omega (arith, h.breaks, single_size b c (emit.If cond first second), least);
+        continues = omega (arith, h.continues, single_size b c (emit.If cond first second), least);
       }
 
   -- a statement of a known kind
@@ -198,17 +198,17 @@ module _ (frame : FrameTree) (places : List Place) (plan : Plan) where
       abbrev whole : Piece
       whole = select frame places plan (emit.If cond first second)
 
-      behind_is : n1 - end ≡ size second
-      behind_is = written second b c n1 end l1 old n1_is end_is h1
+      after_is : n1 - end ≡ size second
+      after_is = written second b c n1 end l1 old n1_is end_is h1
 
       pub over_second : n1 - end < 262143
       over_second =
           omega (
             arith,
-            behind_is,
+            after_is,
             second_least cond first second,
             fits.breaks,
-            alone b c (emit.If cond first second),
+            single_size b c (emit.If cond first second),
           )
 
       module _ (found : Bool) (test : found ≡ (length first == 0 && n1 - end == 1)) where
@@ -219,7 +219,7 @@ module _ (frame : FrameTree) (places : List Place) (plan : Plan) where
             on_ok_weaker r (λ h.
             h ∙ ap (λ t. branch ++ t) h1 ∙ sym (append_assoc branch ((select_all frame places plan second).lines b c)
             old) ∙
-            ap (λ p. p.lines b c ++ old) (sym (fork_is cond first second (n1 - end) found true behind_is test is))) h
+            ap (λ p. p.lines b c ++ old) (sym (fork_is cond first second (n1 - end) found true after_is test is))) h
 
         -- the jump past the second part is written
         module _ (none : found ≡ false) (l2 : List Line) (n2 : ℕ) (n2_is : n2 ≡ length l2)
@@ -228,13 +228,13 @@ module _ (frame : FrameTree) (places : List Place) (plan : Plan) where
           k = size second
 
           whole_is : whole ≡ as_fork cond first second (both_ways cond first second false)
-          whole_is = fork_is cond first second (n1 - end) found false behind_is test none
+          whole_is = fork_is cond first second (n1 - end) found false after_is test none
 
           size_is : whole.size ≡ length branch + (1 + (size first + length (past k) + k))
           size_is = ap (λ p. p.size) whole_is
 
           l2_is : l2 ≡ past k ++ l1
-          l2_is = h2 ∙ ap (λ n. past n ++ l1) behind_is
+          l2_is = h2 ∙ ap (λ n. past n ++ l1) after_is
 
           over_is : n2 - end ≡ length (past k) + k
           over_is =
@@ -244,15 +244,15 @@ module _ (frame : FrameTree) (places : List Place) (plan : Plan) where
 
           pub over_reaches : (n2 - end + b < 262143) × (n2 - end + c < 262143)
           over_reaches = (
-            omega (arith, over_is, size_is, fits.breaks, alone b c (emit.If cond first second)),
-            omega (arith, over_is, size_is, fits.continues, alone b c (emit.If cond first second)),
+            omega (arith, over_is, size_is, fits.breaks, single_size b c (emit.If cond first second)),
+            omega (arith, over_is, size_is, fits.continues, single_size b c (emit.If cond first second)),
           )
 
           pub first_reaches : Fits frame places plan first (n2 - end + b) (n2 - end + c)
           first_reaches = record {
             few_arguments = (few_in_fork cond first second fits.few_arguments).0;
-            breaks = omega (arith, over_is, size_is, fits.breaks, alone b c (emit.If cond first second));
-            continues = omega (arith, over_is, size_is, fits.continues, alone b c (emit.If cond first second));
+            breaks = omega (arith, over_is, size_is, fits.breaks, single_size b c (emit.If cond first second));
+            continues = omega (arith, over_is, size_is, fits.continues, single_size b c (emit.If cond first second));
           }
 
           -- the first part is written
@@ -267,7 +267,7 @@ module _ (frame : FrameTree) (places : List Place) (plan : Plan) where
                 omega (arith, n2_is, two, length-append (past k) l1, one, n1_is, three)
 
             pub over_first : n3 - end - (n1 - end) < 262143
-            over_first = omega (arith, ahead_is, size_is, fits.breaks, alone b c (emit.If cond first second))
+            over_first = omega (arith, ahead_is, size_is, fits.breaks, single_size b c (emit.If cond first second))
 
             pub choice_returns : {T E : Type 0} (r : Result T E) (over : Instr) (l4 new : List Line) →
                 l4 ≡ plain over ∷ l3 → plain over ≡ jump_over (n3 - end - (n1 - end)) →
@@ -403,8 +403,8 @@ module _ (frame : FrameTree) (places : List Place) (plan : Plan) where
       l3 ≡ (select_all frame places plan body).lines (length l2 - end) 0 ++ l2 →
       l4 ≡ (select_all frame places plan head).lines (length l3 - end) 0 ++ l3 → l5 ≡ plain begin ∷ l4 →
       plain jump ≡ jump_back (n - end - 1) →
-      ((front rest : List Line) (line : Line) → l5 ≡ front ++ line ∷ rest → length rest ≡ end →
-      new ≡ front ++ record line { instr = jump } ∷ rest) →
+      ((prefix rest : List Line) (line : Line) → l5 ≡ prefix ++ line ∷ rest → length rest ≡ end →
+      new ≡ prefix ++ record line { instr = jump } ∷ rest) →
       new ≡ (cycle frame places (select_all frame places plan head) (select_all frame places plan body) (select_all
       frame places plan next)).lines b c ++ old
   cycle_written head body next b c n end first begin jump old l1 l2 l3 l4 l5 new n_is end_is opens h1 h2 h3 h4 h5 back
@@ -443,9 +443,9 @@ module _ (frame : FrameTree) (places : List Place) (plan : Plan) where
   -- A FUNCTION
   pub function_written : (f : TacFnTree) (stmts : List TacStmt) (old l1 l2 new : List Line) → stmts ≡ f.body →
       l1 ≡ plainly (closing frame places f.entry) ++ old → l2 ≡ (select_all frame places plan stmts).lines 0 0 ++ l1 →
-      new ≡ plainly (entrance frame places f.params) ++ l2 → new ≡ function_lines frame places plan f ++ old
+      new ≡ plainly (prologue frame places f.params) ++ l2 → new ≡ function_lines frame places plan f ++ old
   function_written f stmts old l1 l2 new is h1 h2 h3 =
-      let first : List Line = plainly (entrance frame places f.params) in
+      let first : List Line = plainly (prologue frame places f.params) in
       let middle : List Line = (select_all frame places plan f.body).lines 0 0 in
       let last : List Line = plainly (closing frame places f.entry) in
       h3 ∙ ap (λ t. first ++ t) (h2 ∙ ap (λ s. (select_all frame places plan s).lines 0 0 ++ l1) is ∙
@@ -499,7 +499,7 @@ module _ (frame : FrameTree) (places : List Place) (plan : Plan) where
       ap (λ role. between frame places role (select frame places plan stmt) (role_first (drop (suc i) parts)) ∷
       drop (suc i) (pieces stmts)) (role_in_is frame places plan parts i
       (omega (arith, h, length-map stmts (select frame places plan)))) ∙
-      ap (λ behind. between frame places (role_before parts i) (select frame places plan stmt) (role_first behind) ∷
+      ap (λ following. between frame places (role_before parts i) (select frame places plan stmt) (role_first following) ∷
       drop (suc i) (pieces stmts)) (drop_map frame places plan stmts (suc i))
 
   -- what the statements from one on need is no more than what all need
@@ -508,17 +508,17 @@ module _ (frame : FrameTree) (places : List Place) (plan : Plan) where
   rest_reaches stmts i b c h =
       (omega (arith, turn_from (pieces stmts) i, h.breaks), omega (arith, turn_from (pieces stmts) i, h.continues))
 
-  one_fits : (stmts : List TacStmt) (i : ℕ) (stmt : TacStmt) (before behind : Role) (b c n : ℕ) → i < length stmts →
+  one_fits : (stmts : List TacStmt) (i : ℕ) (stmt : TacStmt) (before following : Role) (b c n : ℕ) → i < length stmts →
       stmt ≡ get_or stmts i stmt → n ≡ (from stmts (suc i)).size →
       before ≡ role_before (map (select frame places plan) stmts) i →
-      behind ≡ role_first (map (select frame places plan) (drop (suc i) stmts)) → Fits frame places plan stmts b c →
-      FitsBetween frame places plan before stmt behind (n + b) (n + c)
-  one_fits stmts i stmt before behind b c n h is n_is before_is behind_is fits =
+      following ≡ role_first (map (select frame places plan) (drop (suc i) stmts)) → Fits frame places plan stmts b c →
+      FitsBetween frame places plan before stmt following (n + b) (n + c)
+  one_fits stmts i stmt before following b c n h is n_is before_is after_is fits =
       let parts : (from stmts i).size ≡ (one stmts i stmt).size + (from stmts (suc i)).size =
       ap (λ parts. (in_turn parts).size) (parted_at stmts i stmt h is) in
-      let same : between frame places before (select frame places plan stmt) behind ≡ one stmts i stmt =
-      ap₂ (λ r s. between frame places r (select frame places plan stmt) s) before_is behind_is in
-      let size_is : (between frame places before (select frame places plan stmt) behind).size ≡ (one stmts i
+      let same : between frame places before (select frame places plan stmt) following ≡ one stmts i stmt =
+      ap₂ (λ r s. between frame places r (select frame places plan stmt) s) before_is after_is in
+      let size_is : (between frame places before (select frame places plan stmt) following).size ≡ (one stmts i
       stmt).size =
       ap (λ p. p.size) same in
       record {
@@ -558,41 +558,41 @@ module _ (frame : FrameTree) (places : List Place) (plan : Plan) where
       let next : at ≡ suc (at - 1) = omega (arith, some) in
       written_from list at b c n m now old hn hm h ∙ ap (λ i. (from list i).size) next
 
-  pub step_fits : (stmts list : List TacStmt) (at b c n m : ℕ) (stmt : TacStmt) (before behind : Role)
+  pub step_fits : (stmts list : List TacStmt) (at b c n m : ℕ) (stmt : TacStmt) (before following : Role)
       (now old : List Line) → list ≡ stmts → 0 < at → at ≤ length list → stmt ≡ get_or list (at - 1) stmt →
       ((frame : FrameTree) (places : List Place) → before ≡ role_before (map (select frame places plan) list) (at -
       1)) →
       ((frame : FrameTree) (places : List Place) →
-      behind ≡ role_first (map (select frame places plan) (drop (at - 1 + 1) list))) →
+      following ≡ role_first (map (select frame places plan) (drop (at - 1 + 1) list))) →
       Fits frame places plan stmts b c → n ≡ length now → m ≡ length old → now ≡ (from list at).lines b c ++ old →
-      FitsBetween frame places plan before stmt behind (n - m + b) (n - m + c)
-  step_fits stmts list at b c n m stmt before behind now old same some within is before_is behind_is fits hn hm h =
+      FitsBetween frame places plan before stmt following (n - m + b) (n - m + c)
+  step_fits stmts list at b c n m stmt before following now old same some within is before_is after_is fits hn hm h =
       let next : at - 1 + 1 ≡ suc (at - 1) = omega arith in
-      one_fits list (at - 1) stmt before behind b c (n - m) (omega (arith, some, within)) is
+      one_fits list (at - 1) stmt before following b c (n - m) (omega (arith, some, within)) is
       (from_next list at n m b c now old some hn hm h) (before_is frame places)
-      (behind_is frame places ∙ ap (λ i. role_first (map (select frame places plan) (drop i list))) next)
+      (after_is frame places ∙ ap (λ i. role_first (map (select frame places plan) (drop i list))) next)
       (subst (λ l. Fits frame places plan l b c) (sym same) fits)
 
-  pub step_written : (list : List TacStmt) (at b c n m : ℕ) (stmt : TacStmt) (before behind : Role)
+  pub step_written : (list : List TacStmt) (at b c n m : ℕ) (stmt : TacStmt) (before following : Role)
       (now old new : List Line) → 0 < at → at ≤ length list → stmt ≡ get_or list (at - 1) stmt →
       ((frame : FrameTree) (places : List Place) → before ≡ role_before (map (select frame places plan) list) (at -
       1)) →
       ((frame : FrameTree) (places : List Place) →
-      behind ≡ role_first (map (select frame places plan) (drop (at - 1 + 1) list))) →
+      following ≡ role_first (map (select frame places plan) (drop (at - 1 + 1) list))) →
       n ≡ length now → m ≡ length old → now ≡ (from list at).lines b c ++ old →
-      new ≡ (between frame places before (select frame places plan stmt) behind).lines (n - m + b) (n - m + c) ++ now
+      new ≡ (between frame places before (select frame places plan stmt) following).lines (n - m + b) (n - m + c) ++ now
       →
       new ≡ (from list (at - 1)).lines b c ++ old
-  step_written list at b c n m stmt before behind now old new some within is before_is behind_is hn hm h k =
+  step_written list at b c n m stmt before following now old new some within is before_is after_is hn hm h k =
       let next : at ≡ suc (at - 1) = omega (arith, some) in
       let next' : at - 1 + 1 ≡ suc (at - 1) = omega arith in
-      let behind_here = behind_is frame places ∙
+      let after_here = after_is frame places ∙
       ap (λ i. role_first (map (select frame places plan) (drop i list))) next' in
       one_written list (at - 1) stmt b c (n - m) old now new (omega (arith, some, within)) is
       (from_next list at n m b c now old some hn hm h) (h ∙ ap (λ i. (from list i).lines b c ++ old) next)
       (k ∙ ap₂ (λ r s. (between frame places r (select frame places plan stmt) s).lines (n - m + b) (n - m + c) ++
       now)
-      (before_is frame places) behind_here)
+      (before_is frame places) after_here)
 
   -- all are written, and none yet
   pub none_written : (list : List TacStmt) (b c : ℕ) (old : List Line) →
@@ -610,40 +610,40 @@ module _ (frame : FrameTree) (places : List Place) (plan : Plan) where
       all_dropped (part ∷ parts) (suc n) h = all_dropped parts n (omega (arith, h))
 
   -- A STATEMENT BETWEEN TWO OTHERS
-  module _ (before : Role) (stmt : TacStmt) (behind role : Role) (is : role ≡ (select frame places plan stmt).role)
+  module _ (before : Role) (stmt : TacStmt) (following role : Role) (is : role ≡ (select frame places plan stmt).role)
     where
       abbrev itself : Piece
       itself = select frame places plan stmt
 
       -- what the tests found
-      by_tests : (one two : Bool) → joins (role_behind before role) behind ≡ one → joins before role ≡ two →
-          between frame places before itself behind ≡
+      by_tests : (one two : Bool) → joins (role_to_next before role) following ≡ one → joins before role ≡ two →
+          between frame places before itself following ≡
           (if one then nothing else if two then as_one frame places before itself.role else itself)
       by_tests one two h k =
           ap₂ (λ a b. if a then nothing else if b then as_one frame places before itself.role else itself)
-          (ap (λ r. joins (role_behind before r) behind) (sym is) ∙ h) (ap (joins before) (sym is) ∙ k)
+          (ap (λ r. joins (role_to_next before r) following) (sym is) ∙ h) (ap (joins before) (sym is) ∙ k)
 
-      module _ (found : Bool) (both : found ≡ joins (role_behind before role) behind) where
-        pub is_nothing : found ≡ true → nothing ≡ between frame places before itself behind
+      module _ (found : Bool) (both : found ≡ joins (role_to_next before role) following) where
+        pub is_nothing : found ≡ true → nothing ≡ between frame places before itself following
         is_nothing k = sym (by_tests true (joins before role) (sym both ∙ k) refl)
 
         module _ (none : found ≡ false) (other : Bool) (one : other ≡ joins before role) where
-          pub is_both : other ≡ true → as_one frame places before role ≡ between frame places before itself behind
+          pub is_both : other ≡ true → as_one frame places before role ≡ between frame places before itself following
           is_both k =
               ap (as_one frame places before) is ∙ sym (by_tests false true (sym both ∙ none) (sym one ∙ k))
 
-          pub is_itself : other ≡ false → itself ≡ between frame places before itself behind
+          pub is_itself : other ≡ false → itself ≡ between frame places before itself following
           is_itself k = sym (by_tests false false (sym both ∙ none) (sym one ∙ k))
 
-          pub alone_fits : (b c : ℕ) → other ≡ false → FitsBetween frame places plan before stmt behind b c →
+          pub unjoined_fits : (b c : ℕ) → other ≡ false → FitsBetween frame places plan before stmt following b c →
               Fits frame places plan (stmt ∷ []) b c
-          alone_fits b c k h =
-              let same : itself.size ≡ (between frame places before itself behind).size =
+          unjoined_fits b c k h =
+              let same : itself.size ≡ (between frame places before itself following).size =
               ap (λ p. p.size) (is_itself k) in
               record {
                 few_arguments = h.few_arguments;
-                breaks = omega (arith, h.breaks, same, alone b c stmt);
-                continues = omega (arith, h.continues, same, alone b c stmt);
+                breaks = omega (arith, h.breaks, same, single_size b c stmt);
+                continues = omega (arith, h.continues, same, single_size b c stmt);
               }
 
 -- one piece is written, which is another
@@ -652,6 +652,6 @@ pub as_written : {T E : Type 0} (r : Result T E) (p q : Piece) (b c : ℕ) (new 
 as_written r p q b c new old is h = on_ok_weaker r (λ k. k ∙ ap (λ p. p.lines b c ++ old) is) h
 
 -- whether a statement is one with its neighbour, by its role
-pub joined_by : (role same behind : Role) (found : Bool) → role ≡ same → found ≡ joins role behind →
-    found ≡ joins same behind
-joined_by role same behind found is h = h ∙ ap (λ r. joins r behind) is
+pub joined_by : (role same following : Role) (found : Bool) → role ≡ same → found ≡ joins role following →
+    found ≡ joins same following
+joined_by role same following found is h = h ∙ ap (λ r. joins r following) is

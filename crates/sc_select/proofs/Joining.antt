@@ -6,7 +6,7 @@ use Rattle.sc_select.proofs.Common.{TacStmt, TacStmt-F, [], and_first, and_rest,
 use Rattle.sc_select.proofs.Common.{choice, choosing, drop, ending_past, eqb-true, false, fold-roll-TacStmt, followed}
 use Rattle.sc_select.proofs.Common.{fork, get_or, if◌then◌else◌, in_order, in_turn, inl, inr, is_some, joined, joins}
 use Rattle.sc_select.proofs.Common.{jump_over, kind_of_fork, length, map, map-TacStmt, not, nothing, object_read}
-use Rattle.sc_select.proofs.Common.{object_store, past, refl, role_before, role_behind, role_first, role_of_operation}
+use Rattle.sc_select.proofs.Common.{object_store, past, refl, role_before, role_to_next, role_first, role_of_operation}
 use Rattle.sc_select.proofs.Common.{role_of_store, roll-TacStmt, select, select_step, short_form, short_operation}
 use Rattle.sc_select.proofs.Common.{short_return, skipping, stmt_induction, straight, straightly, suc, sym, true}
 use Rattle.sc_select.proofs.Common.{turning, word_of_constant, zero, ℕ, ⊎_elim, ◌&&◌, ◌-◌, ◌<◌, ◌==◌, ◌∙◌, ◌∷◌, ◌≡◌}
@@ -15,43 +15,43 @@ use Rattle.sc_tac.specs.declared.stmt.Constant.{Constant}
 use Rattle.sc_tac.specs.declared.stmt.TacStmt.TheOpen as tac
 
 -- ROLES
-pub none_behind : (role : Role) → joins role Other ≡ false
-none_behind (Places temp object) = refl
-none_behind (Loads temp) = refl
-none_behind (Sets temp word) = refl
-none_behind (Operates temp left o) = refl
-none_behind (Stores temp value) = refl
-none_behind (Applies temp left o word) = refl
-none_behind (Returns temp) = refl
-none_behind Other = refl
+pub none_after : (role : Role) → joins role Other ≡ false
+none_after (Places temp object) = refl
+none_after (Loads temp) = refl
+none_after (Sets temp word) = refl
+none_after (Operates temp left o) = refl
+none_after (Stores temp value) = refl
+none_after (Applies temp left o word) = refl
+none_after (Returns temp) = refl
+none_after Other = refl
 
 -- a statement that isn't one with the one before it is to its neighbour what it is by itself
-pub role_alone : (before own : Role) → joins before own ≡ false → role_behind before own ≡ own
-role_alone (Sets temp word) (Operates other left o) h =
+pub role_unjoined : (before own : Role) → joins before own ≡ false → role_to_next before own ≡ own
+role_unjoined (Sets temp word) (Operates other left o) h =
     ap (λ b. if b then Applies other left o word else Operates other left o) h
-role_alone (Sets temp word) (Places other object) h = refl
-role_alone (Sets temp word) (Loads other) h = refl
-role_alone (Sets temp word) (Sets other value) h = refl
-role_alone (Sets temp word) (Stores other value) h = refl
-role_alone (Sets temp word) (Applies other from same value) h = refl
-role_alone (Sets temp word) (Returns other) h = refl
-role_alone (Sets temp word) Other h = refl
-role_alone (Places temp object) own h = refl
-role_alone (Loads temp) own h = refl
-role_alone (Operates temp left o) own h = refl
-role_alone (Stores temp value) own h = refl
-role_alone (Applies temp left o word) own h = refl
-role_alone (Returns temp) own h = refl
-role_alone Other own h = refl
+role_unjoined (Sets temp word) (Places other object) h = refl
+role_unjoined (Sets temp word) (Loads other) h = refl
+role_unjoined (Sets temp word) (Sets other value) h = refl
+role_unjoined (Sets temp word) (Stores other value) h = refl
+role_unjoined (Sets temp word) (Applies other from same value) h = refl
+role_unjoined (Sets temp word) (Returns other) h = refl
+role_unjoined (Sets temp word) Other h = refl
+role_unjoined (Places temp object) own h = refl
+role_unjoined (Loads temp) own h = refl
+role_unjoined (Operates temp left o) own h = refl
+role_unjoined (Stores temp value) own h = refl
+role_unjoined (Applies temp left o word) own h = refl
+role_unjoined (Returns temp) own h = refl
+role_unjoined Other own h = refl
 
 -- what it is depends only on the one before it
 role_twice : (first second third : Role) →
-    role_behind (role_behind first second) third ≡ role_behind second third
+    role_to_next (role_to_next first second) third ≡ role_to_next second third
 role_twice (Sets temp word) (Operates other left o) third = by (temp == other && is_some (short_form o word))
   where
     by : (b : Bool) →
-        role_behind (if b then Applies other left o word else Operates other left o) third ≡
-        role_behind (Operates other left o) third
+        role_to_next (if b then Applies other left o word else Operates other left o) third ≡
+        role_to_next (Operates other left o) third
     by true = refl
     by false = refl
 role_twice (Sets temp word) (Places other object) third = refl
@@ -94,7 +94,7 @@ pub record IsShort (first second : Role) : Type 0 where
   pub sets : first ≡ Sets temp word
   pub operates : second ≡ Operates temp left op
   pub form_is : short_form op word ≡ Some form
-  pub behind : role_behind first second ≡ Applies temp left op word
+  pub following : role_to_next first second ≡ Applies temp left op word
 
 -- two that return what the first computes
 pub record IsReturned (first second : Role) : Type 0 where
@@ -124,7 +124,7 @@ short_by temp other word left o h =
       operates = ap (λ t. Operates t left o)
           (sym (eqb-true temp other (and_first (temp == other) (is_some (short_form o word)) h)));
       form_is = found.1;
-      behind =
+      following =
           ap (λ b. if b then Applies other left o word else Operates other left o) h ∙
           ap (λ t. Applies t left o word) (sym (eqb-true temp other same));
     }
@@ -181,20 +181,20 @@ which_pair (Returns temp) second h = cc h
 which_pair Other second h = cc h
 
 -- nothing more is one with two that read a variable or store in one, nor with a return
-pub read_is_last : (first second behind : Role) → IsRead first second →
-    joins (role_behind first second) behind ≡ false
-read_is_last first second behind pair =
-    ap₂ (λ r s. joins (role_behind r s) behind) pair.gives pair.loads
+pub read_is_last : (first second following : Role) → IsRead first second →
+    joins (role_to_next first second) following ≡ false
+read_is_last first second following pair =
+    ap₂ (λ r s. joins (role_to_next r s) following) pair.gives pair.loads
 
-pub store_is_last : (first second behind : Role) → IsStored first second →
-    joins (role_behind first second) behind ≡ false
-store_is_last first second behind pair =
-    ap₂ (λ r s. joins (role_behind r s) behind) pair.gives pair.stores
+pub store_is_last : (first second following : Role) → IsStored first second →
+    joins (role_to_next first second) following ≡ false
+store_is_last first second following pair =
+    ap₂ (λ r s. joins (role_to_next r s) following) pair.gives pair.stores
 
-pub return_is_last : (first second behind : Role) → IsReturned first second →
-    joins (role_behind first second) behind ≡ false
-return_is_last first second behind pair =
-    ap₂ (λ r s. joins (role_behind r s) behind) pair.applies pair.returns
+pub return_is_last : (first second following : Role) → IsReturned first second →
+    joins (role_to_next first second) following ≡ false
+return_is_last first second following pair =
+    ap₂ (λ r s. joins (role_to_next r s) following) pair.applies pair.returns
 
 -- what is one with an operator and its constant gives their result back
 pub return_of : (role : Role) (temp left : ℕ) (o : TacOp) (word : ℕ) → joins (Applies temp left o word) role ≡ true →
@@ -209,20 +209,20 @@ return_of (Applies other from same value) temp left o word h = cc h
 return_of Other temp left o word h = cc h
 
 -- the third of three that are one is no first one
-pub third_is_last : (first second third behind : Role) → joins first second ≡ true →
-    joins (role_behind first second) third ≡ true → joins third behind ≡ false
-third_is_last first second third behind both all =
+pub third_is_last : (first second third following : Role) → joins first second ≡ true →
+    joins (role_to_next first second) third ≡ true → joins third following ≡ false
+third_is_last first second third following both all =
     ⊎_elim (λ pair. never (read_is_last first second third pair))
     (⊎_elim (λ pair. never (store_is_last first second third pair))
     (⊎_elim short (λ pair. never (return_is_last first second third pair)))) (which_pair first second both)
   where
-    never : joins (role_behind first second) third ≡ false → joins third behind ≡ false
+    never : joins (role_to_next first second) third ≡ false → joins third following ≡ false
     never h = let same : true ≡ false = sym all ∙ h in cc same
 
-    short : IsShort first second → joins third behind ≡ false
+    short : IsShort first second → joins third following ≡ false
     short pair =
-        ap (λ r. joins r behind)
-        (return_of third pair.temp pair.left pair.op pair.word (sym (ap (λ r. joins r third) pair.behind) ∙ all))
+        ap (λ r. joins r following)
+        (return_of third pair.temp pair.left pair.op pair.word (sym (ap (λ r. joins r third) pair.following) ∙ all))
 
 -- A CHOICE
 pub is_empty : {A : Type 0} (xs : List A) → (length xs == 0) ≡ true → xs ≡ []
@@ -630,15 +630,15 @@ module _ (frame : FrameTree) (places : List Place) (plan : Plan) where
       stmts)) one)
 
   pub two_before : (stmts : List TacStmt) (i : ℕ) → (i ≡ 0 → ⊥) → (i ≡ 1 → ⊥) →
-      role_behind (role_at stmts (i - 2)) (role_at stmts (i - 1)) ≡
+      role_to_next (role_at stmts (i - 2)) (role_at stmts (i - 1)) ≡
       role_before (map (select frame places plan) stmts) i
   two_before stmts zero none one = absurd (none refl)
   two_before stmts (suc zero) none one = absurd (one refl)
   two_before stmts (suc (suc i)) none one =
       let first : suc (suc i) - 2 ≡ i = omega arith in
       let second : suc (suc i) - 1 ≡ suc i = omega arith in
-      ap₂ (λ n m. role_behind (role_at stmts n) (role_at stmts m)) first second ∙
-      ap₂ (λ ps qs. role_behind (role_first ps) (role_first qs)) (sym (drop_map stmts i)) (sym (drop_map stmts (suc i)))
+      ap₂ (λ n m. role_to_next (role_at stmts n) (role_at stmts m)) first second ∙
+      ap₂ (λ ps qs. role_to_next (role_first ps) (role_first qs)) (sym (drop_map stmts i)) (sym (drop_map stmts (suc i)))
 
   -- PIECES
   -- what holds of a piece and of those that may stand for it and its neighbours
@@ -680,8 +680,8 @@ module _ (frame : FrameTree) (places : List Place) (plan : Plan) where
     as_one_keeps (Returns temp) second = none
     as_one_keeps Other second = none
 
-    pub between_keeps : (before behind : Role) (piece : Piece) → P piece → P (between frame places before piece behind)
-    between_keeps before behind piece h = by (joins (role_behind before piece.role) behind) (joins before piece.role)
+    pub between_keeps : (before following : Role) (piece : Piece) → P piece → P (between frame places before piece following)
+    between_keeps before following piece h = by (joins (role_to_next before piece.role) following) (joins before piece.role)
       where
         by : (one two : Bool) → P (if one then nothing else if two then as_one frame places before piece.role else
             piece)
@@ -692,7 +692,7 @@ module _ (frame : FrameTree) (places : List Place) (plan : Plan) where
     joined_keeps : (before : Role) (pieces : List Piece) → Each P pieces → Each P (joined frame places before pieces)
     joined_keeps before [] h = tt
     joined_keeps before (piece ∷ pieces) h =
-        (between_keeps before (role_first pieces) piece h.0, joined_keeps (role_behind before piece.role) pieces h.1)
+        (between_keeps before (role_first pieces) piece h.0, joined_keeps (role_to_next before piece.role) pieces h.1)
 
     module _ (both : (e f : Piece) → P e → P f → P (followed e f)) where
       turn_keeps : (pieces : List Piece) (i : ℕ) → Each P pieces → P (in_turn (drop i pieces))
@@ -722,13 +722,13 @@ module _ (frame : FrameTree) (places : List Place) (plan : Plan) where
   pub joined_length : (before : Role) (pieces : List Piece) →
       length (joined frame places before pieces) ≡ length pieces
   joined_length before [] = refl
-  joined_length before (piece ∷ pieces) = ap suc (joined_length (role_behind before piece.role) pieces)
+  joined_length before (piece ∷ pieces) = ap suc (joined_length (role_to_next before piece.role) pieces)
 
   -- what the pieces before the one at a number are to it, where this one stands before them all
   abbrev pub role_in : Role → List Piece → ℕ → Role
   role_in before pieces zero = before
   role_in before [] (suc at) = Other
-  role_in before (piece ∷ pieces) (suc at) = role_in (role_behind before piece.role) pieces at
+  role_in before (piece ∷ pieces) (suc at) = role_in (role_to_next before piece.role) pieces at
 
   pub joined_at : (before : Role) (pieces : List Piece) (i : ℕ) (piece : Piece) → i < length pieces →
       piece ≡ get_or pieces i piece →
@@ -738,19 +738,19 @@ module _ (frame : FrameTree) (places : List Place) (plan : Plan) where
   joined_at before [] i piece h is = absurd (omega (arith, h))
   joined_at before (first ∷ pieces) zero piece h is =
       ap (λ p. between frame places before p (role_first pieces) ∷
-      joined frame places (role_behind before first.role) pieces) (sym is)
+      joined frame places (role_to_next before first.role) pieces) (sym is)
   joined_at before (first ∷ pieces) (suc i) piece h is =
-      joined_at (role_behind before first.role) pieces i piece (omega (arith, h)) is
+      joined_at (role_to_next before first.role) pieces i piece (omega (arith, h)) is
 
   -- only the last two pieces decide
   role_of_two : (before : Role) (pieces : List Piece) (at : ℕ) → suc at < length pieces →
       role_in before pieces (suc (suc at)) ≡
-      role_behind (role_first (drop at pieces)) (role_first (drop (suc at) pieces))
+      role_to_next (role_first (drop at pieces)) (role_first (drop (suc at) pieces))
   role_of_two before [] at h = absurd (omega (arith, h))
   role_of_two before (first ∷ []) at h = absurd (omega (arith, h))
   role_of_two before (first ∷ second ∷ pieces) zero h = role_twice before first.role second.role
   role_of_two before (first ∷ second ∷ pieces) (suc at) h =
-      role_of_two (role_behind before first.role) (second ∷ pieces) at (omega (arith, h))
+      role_of_two (role_to_next before first.role) (second ∷ pieces) at (omega (arith, h))
 
   pub role_in_is : (pieces : List Piece) (at : ℕ) → at ≤ length pieces →
       role_in Other pieces at ≡ role_before pieces at

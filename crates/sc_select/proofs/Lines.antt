@@ -59,16 +59,16 @@ set_lines (i ∷ is) (t ∷ ts) (r ∷ R) F line x h =
     tail = cc
 
 -- one line instead of another
-pub replaced : (is : List Instr) (ts : List (Option Target)) (front rest : List Line) (line : Line)
+pub replaced : (is : List Instr) (ts : List (Option Target)) (prefix rest : List Line) (line : Line)
     (x : Instr) (b : ℕ) →
-    reverse (lines_of is ts) ≡ front ++ line ∷ rest → length rest ≡ b →
-    reverse (lines_of (slice_set is b x) ts) ≡ front ++ record line { instr = x } ∷ rest
-replaced is ts front rest line x b h k =
+    reverse (lines_of is ts) ≡ prefix ++ line ∷ rest → length rest ≡ b →
+    reverse (lines_of (slice_set is b x) ts) ≡ prefix ++ record line { instr = x } ∷ rest
+replaced is ts prefix rest line x b h k =
     ap (λ n. reverse (lines_of (slice_set is n x) ts)) (sym (length-reverse rest ∙ k)) ∙
-    ap reverse (set_lines is ts (reverse rest) (reverse front) line x
-    (sym (reverse-reverse (lines_of is ts)) ∙ ap reverse h ∙ seam front line rest)) ∙
-    seam (reverse rest) (record line { instr = x }) (reverse front) ∙
-    ap₂ {A = List Line} {B = List Line} (λ f r. f ++ record line { instr = x } ∷ r) (reverse-reverse front)
+    ap reverse (set_lines is ts (reverse rest) (reverse prefix) line x
+    (sym (reverse-reverse (lines_of is ts)) ∙ ap reverse h ∙ seam prefix line rest)) ∙
+    seam (reverse rest) (record line { instr = x }) (reverse prefix) ∙
+    ap₂ {A = List Line} {B = List Line} (λ f r. f ++ record line { instr = x } ∷ r) (reverse-reverse prefix)
     (reverse-reverse rest)
 
 left : (is js : List Instr) (ts us : List (Option Target)) (i : Instr) (t : Option Target) → length is ≡ length ts →

@@ -4,7 +4,7 @@ use Rattle.sc_select.proofs.Common.{Instr, IsCode, IsTrue, Jal, Jalr, Kind, Line
 use Rattle.sc_select.proofs.Common.{Places, Plan, Relocation, Role, Sets, Some, Store, Sw, TacFnTree, TacStmt}
 use Rattle.sc_select.proofs.Common.{TacStmt-F, Target, Upper, [], and_first, and_from, and_rest, ap, append-nil, arith}
 use Rattle.sc_select.proofs.Common.{branch_back, branch_reach, brought, call_cross, call_own, choice, closing, code_of}
-use Rattle.sc_select.proofs.Common.{code_of_lines, copied, cycle, entrance, environment_call, eq-eqb, false}
+use Rattle.sc_select.proofs.Common.{code_of_lines, copied, cycle, prologue, environment_call, eq-eqb, false}
 use Rattle.sc_select.proofs.Common.{first_scratch, fold-roll-TacStmt, followed, frame_taken, function_lines, has_mark}
 use Rattle.sc_select.proofs.Common.{if◌then◌else◌, in_order, is_address, is_jal, is_linkable, is_near, jump_back, keep}
 use Rattle.sc_select.proofs.Common.{le-ltb, length, length-append, length-map, load_from, loading, map, map-TacStmt}
@@ -198,8 +198,8 @@ module _ (frame : FrameTree) (places : List Place) (plan : Plan) where
   function_complete : (f : TacFnTree) → all_complete (function_lines frame places plan f) ≡ true
   function_complete f =
       let middle : List Line = (select_all frame places plan f.body).lines 0 0 in
-      joined (plainly (entrance frame places f.params) ++ middle) (plainly (closing frame places f.entry))
-      (joined (plainly (entrance frame places f.params)) middle (plain_complete (entrance frame places f.params))
+      joined (plainly (prologue frame places f.params) ++ middle) (plainly (closing frame places f.entry))
+      (joined (plainly (prologue frame places f.params)) middle (plain_complete (prologue frame places f.params))
       ((row_complete f.body (each_holds Complete stmt_complete f.body)).complete 0 0))
       (plain_complete (closing frame places f.entry))
 
@@ -238,10 +238,10 @@ one_linkable : (instrs : List Instr) (at : ℕ) (line : Line) (target : Option T
     (rest : List Relocation) → slice_get instrs at ≡ Some line.instr → slice_get instrs (suc at) ≡ next →
     completes target line.instr next ≡ true → All (Linkable instrs) rest →
     All (Linkable instrs) (relocation_of at target ++ rest)
-one_linkable instrs at line None next rest h k is behind = behind
-one_linkable instrs at line (Some target) next rest h k is behind =
+one_linkable instrs at line None next rest h k is following = following
+one_linkable instrs at line (Some target) next rest h k is following =
     All-cons (Linkable instrs) (record { at = at; target = target }) rest
-    (linkable_here instrs at target line.instr next h k is) behind
+    (linkable_here instrs at target line.instr next h k is) following
 
 linkable_from : (instrs : List Instr) (at : ℕ) (lines : List Line) → StandAt instrs at lines →
     all_complete lines ≡ true → All (Linkable instrs) (relocations_from at lines)
@@ -292,8 +292,8 @@ some_lines frame places plan f =
     let last : List Line = plainly (closing frame places f.entry) in
     let taken : List Instr = moved_by 2 2 (sub_word 0 frame.bytes) in
     let parts : length (function_lines frame places plan f) ≡
-    length (plainly (entrance frame places f.params) ++ middle ++ last) = refl in
-    let entering : length (entrance frame places f.params) ≡
+    length (plainly (prologue frame places f.params) ++ middle ++ last) = refl in
+    let entering : length (prologue frame places f.params) ≡
     length (frame_taken frame.bytes ++ store_arguments frame places f.params 0) = refl in
     let taking : length (frame_taken frame.bytes) ≡ length (taken ++ Store Sw 2 1 (pos 0) ∷ []) = refl in
     omega (
@@ -302,9 +302,9 @@ some_lines frame places plan f =
       entering,
       taking,
       length-map (function_lines frame places plan f) (λ (line : Line). line.instr),
-      length-append (plainly (entrance frame places f.params) ++ middle) last,
-      length-append (plainly (entrance frame places f.params)) middle,
-      length-map (entrance frame places f.params) plain,
+      length-append (plainly (prologue frame places f.params) ++ middle) last,
+      length-append (plainly (prologue frame places f.params)) middle,
+      length-map (prologue frame places f.params) plain,
       length-append (frame_taken frame.bytes) (store_arguments frame places f.params 0),
       length-append taken (Store Sw 2 1 (pos 0) ∷ []),
     )

@@ -7,10 +7,10 @@ use Rattle.sc_select.proofs.Common.{jump_over, length, length-append, length-map
 use Rattle.sc_select.proofs.Common.{plainly, refl, roll-TacStmt, rotated, select, select_all, select_step, suc, sym}
 use Rattle.sc_select.proofs.Common.{take, true, turning, weight, with_parts, zero, ℕ, ◌++◌, ◌+◌, ◌-◌, ◌<◌, ◌∙◌, ◌∷◌}
 use Rattle.sc_select.proofs.Common.{◌≡◌, ◌≤◌}
-use Rattle.std.proofs.Common.{take as take_front}
+use Rattle.std.proofs.Common.{take as take_prefix}
 use Rattle.sc_tac.specs.declared.stmt.TacStmt.TheOpen as tac
 use Rattle.sc_tac.specs.declared.stmt.TacStmt.TheVariants as emit
-use Rattle.sc_select.proofs.Composition.{alone, as_is, counted, few_in_cycle}
+use Rattle.sc_select.proofs.Composition.{single_size, as_is, counted, few_in_cycle}
 
 four_parts : (ws xs ys zs rest : List Line) →
     (ws ++ (xs ++ (ys ++ zs))) ++ rest ≡ ws ++ (xs ++ (ys ++ (zs ++ rest)))
@@ -19,23 +19,23 @@ four_parts ws xs ys zs rest =
     ap (λ t. xs ++ t) (append_assoc ys zs rest))
 
 -- THE PREFIX OF A HEAD
-few_in_front : (stmts : List TacStmt) (n : ℕ) → everywhere passes_few stmts ≡ true →
-    everywhere passes_few (take_front n stmts) ≡ true
-few_in_front stmts zero h = refl
-few_in_front [] (suc n) h = refl
-few_in_front (stmt ∷ rest) (suc n) h =
+few_in_prefix : (stmts : List TacStmt) (n : ℕ) → everywhere passes_few stmts ≡ true →
+    everywhere passes_few (take_prefix n stmts) ≡ true
+few_in_prefix stmts zero h = refl
+few_in_prefix [] (suc n) h = refl
+few_in_prefix (stmt ∷ rest) (suc n) h =
     let own : Bool = fold-TacStmt Bool (with_parts passes_few) stmt in
-    and_from own _ (and_first own _ h) (few_in_front rest n (and_rest own _ h))
+    and_from own _ (and_first own _ h) (few_in_prefix rest n (and_rest own _ h))
 
-pub front_lighter : (stmts : List TacStmt) (n : ℕ) → weight (take_front n stmts) ≤ weight stmts
-front_lighter stmts zero = omega arith
-front_lighter [] (suc n) = omega arith
-front_lighter (stmt ∷ rest) (suc n) = omega (arith, front_lighter rest n)
+pub prefix_lighter : (stmts : List TacStmt) (n : ℕ) → weight (take_prefix n stmts) ≤ weight stmts
+prefix_lighter stmts zero = omega arith
+prefix_lighter [] (suc n) = omega arith
+prefix_lighter (stmt ∷ rest) (suc n) = omega (arith, prefix_lighter rest n)
 
-map_front : {A B : Type 0} (f : A → B) (xs : List A) (n : ℕ) → map f (take_front n xs) ≡ take_front n (map f xs)
-map_front f xs zero = refl
-map_front f [] (suc n) = refl
-map_front f (x ∷ xs) (suc n) = ap (λ l. f x ∷ l) (map_front f xs n)
+map_prefix : {A B : Type 0} (f : A → B) (xs : List A) (n : ℕ) → map f (take_prefix n xs) ≡ take_prefix n (map f xs)
+map_prefix f xs zero = refl
+map_prefix f [] (suc n) = refl
+map_prefix f (x ∷ xs) (suc n) = ap (λ l. f x ∷ l) (map_prefix f xs n)
 
 module _ (frame : FrameTree) (places : List Place) (plan : Plan) where
   abbrev code : TacStmt → Piece
@@ -44,13 +44,13 @@ module _ (frame : FrameTree) (places : List Place) (plan : Plan) where
   abbrev all : List TacStmt → Piece
   all = select_all frame places plan
 
-  abbrev front : List TacStmt → List TacStmt
-  front head = take_front (length head - 1) head
+  abbrev prefix : List TacStmt → List TacStmt
+  prefix head = take_prefix (length head - 1) head
 
-  front_is : (head : List TacStmt) → before_test (map code head) ≡ map code (front head)
-  front_is head =
-      ap (λ n. take_front (n - 1) (map code head)) (length-map head code) ∙
-      sym (map_front code head (length head - 1))
+  prefix_is : (head : List TacStmt) → before_test (map code head) ≡ map code (prefix head)
+  prefix_is head =
+      ap (λ n. take_prefix (n - 1) (map code head)) (length-map head code) ∙
+      sym (map_prefix code head (length head - 1))
 
   -- which test a loop ends with
   abbrev test_of_head : List TacStmt → Option ℕ
@@ -70,11 +70,11 @@ module _ (frame : FrameTree) (places : List Place) (plan : Plan) where
 
   pub rotated_is : (head body next : List TacStmt) (test : Option ℕ) (cond : ℕ) → test ≡ test_of_head head →
       test ≡ Some cond →
-      code (emit.Loop head body next) ≡ rotated frame places cond (all (front head)) (all body) (all next)
+      code (emit.Loop head body next) ≡ rotated frame places cond (all (prefix head)) (all body) (all next)
   rotated_is head body next test cond found some =
       loop_is head body next ∙
       ap (λ t. turning frame places t (map code head) (all body) (all next)) (sym found ∙ some) ∙
-      ap (λ pieces. rotated frame places cond (in_order frame places pieces) (all body) (all next)) (front_is head)
+      ap (λ pieces. rotated frame places cond (in_order frame places pieces) (all body) (all next)) (prefix_is head)
 
   -- a head with a test has a statement
   pub some_in_head : (head : List TacStmt) (test : Option ℕ) (cond : ℕ) → test ≡ test_of_head head →
@@ -91,7 +91,7 @@ module _ (frame : FrameTree) (places : List Place) (plan : Plan) where
   loop_size : (head body next : List TacStmt) → Fits frame places plan (emit.Loop head body next ∷ []) 0 0 →
       (code (emit.Loop head body next)).size < 262143
   loop_size head body next h =
-      omega (arith, h.breaks, alone frame places plan 0 0 (emit.Loop head body next))
+      omega (arith, h.breaks, single_size frame places plan 0 0 (emit.Loop head body next))
 
   pub cycle_fits : (head body next : List TacStmt) (test : Option ℕ) → test ≡ test_of_head head → test ≡ None →
       Fits frame places plan (emit.Loop head body next ∷ []) 0 0 → FitsLoop frame places plan head body next 2
@@ -108,15 +108,15 @@ module _ (frame : FrameTree) (places : List Place) (plan : Plan) where
 
   pub rotated_fits : (head body next : List TacStmt) (test : Option ℕ) (cond : ℕ) → test ≡ test_of_head head →
       test ≡ Some cond → Fits frame places plan (emit.Loop head body next ∷ []) 0 0 →
-      FitsLoop frame places plan (front head) body next (2 + length (take frame places first_scratch cond))
+      FitsLoop frame places plan (prefix head) body next (2 + length (take frame places first_scratch cond))
   rotated_fits head body next test cond found some h =
       let few = few_in_cycle head body next h.few_arguments in
       let before : ℕ = length (take frame places first_scratch cond) in
       let whole : (code (emit.Loop head body next)).size ≡
-      1 + ((all body).size + ((all next).size + ((all (front head)).size + suc before))) =
+      1 + ((all body).size + ((all next).size + ((all (prefix head)).size + suc before))) =
       ap (λ p. p.size) (rotated_is head body next test cond found some) in
       record {
-        few_in_head = few_in_front head (length head - 1) few.0;
+        few_in_head = few_in_prefix head (length head - 1) few.0;
         few_in_body = few.1;
         few_in_next = few.2;
         reaches = omega (arith, whole, loop_size head body next h);
@@ -204,30 +204,30 @@ module _ (frame : FrameTree) (places : List Place) (plan : Plan) where
           },
         )
 
-        module _ (l4 : List Line) (h4 : l4 ≡ (all body).lines (length l3 - end) 0 ++ l3) (n m behind : ℕ)
-            (n_is : n ≡ length l4) (m_is : m ≡ length l4) (behind_is : behind ≡ length l2) where
+        module _ (l4 : List Line) (h4 : l4 ≡ (all body).lines (length l3 - end) 0 ++ l3) (n m following : ℕ)
+            (n_is : n ≡ length l4) (m_is : m ≡ length l4) (after_is : following ≡ length l2) where
           body_written : length l4 ≡ end + ((all body).size + ((all next).size + ((all head).size + test)))
           body_written =
               let more : length l4 ≡ (all body).size + length l3 =
               counted frame places plan body (length l3 - end) 0 l4 l3 (length l4) (length l3) refl refl h4 in
               omega (arith, more, next_written)
 
-          over_is : n - behind ≡ (all body).size + (all next).size
-          over_is = omega (arith, n_is, behind_is, body_written, head_written)
+          over_is : n - following ≡ (all body).size + (all next).size
+          over_is = omega (arith, n_is, after_is, body_written, head_written)
 
           lines_is : m - end - 1 ≡ ((all body).size + ((all next).size + (all head).size)) + length before
           lines_is = omega (arith, m_is, body_written)
 
-          pub over_reaches : n - behind < 262143
+          pub over_reaches : n - following < 262143
           over_reaches = omega (arith, over_is, fits.reaches)
 
           pub lines_reach : m - end - 1 < 262143
           lines_reach = omega (arith, lines_is, fits.reaches)
 
           pub all_written : (jump back : Instr) (l5 new : List Line) (b c : ℕ) → l5 ≡ plain jump ∷ l4 →
-              plain jump ≡ jump_over (n - behind) → plain back ≡ branch_back frame places cond (m - end - 1) →
-              ((front rest : List Line) (line : Line) → l5 ≡ front ++ line ∷ rest → length rest ≡ end →
-              new ≡ front ++ record line { instr = back } ∷ rest) →
+              plain jump ≡ jump_over (n - following) → plain back ≡ branch_back frame places cond (m - end - 1) →
+              ((prefix rest : List Line) (line : Line) → l5 ≡ prefix ++ line ∷ rest → length rest ≡ end →
+              new ≡ prefix ++ record line { instr = back } ∷ rest) →
               new ≡ (rotated frame places cond (all head) (all body) (all next)).lines b c ++ old
           all_written jump back l5 new b c h5 jumps leads replaced =
               let ws : List Line = (all body).lines ((all next).size + ((all head).size + test)) 0 in

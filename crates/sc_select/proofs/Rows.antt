@@ -1,7 +1,7 @@
 -- Worked functions: the code of each.
 use Rattle.sc_select.proofs.Common.{Addi, Bne, Bool, Branch, CodeTree, FrameTree, Function, Jal, Jalr, Line, List, Load}
 use Rattle.sc_select.proofs.Common.{Lw, Need, None, Op, OpImm, Piece, Place, Plan as Way, Register, Slot, Some, Store}
-use Rattle.sc_select.proofs.Common.{Sub, Sw, [], ap, branch_reach, closing, code_of, code_of_lines, entrance, frame_of}
+use Rattle.sc_select.proofs.Common.{Sub, Sw, [], ap, branch_reach, closing, code_of, code_of_lines, prologue, frame_of}
 use Rattle.sc_select.proofs.Common.{function_lines, in_order, is_one, length, nat_lt, need_step, needed_in, negsuc}
 use Rattle.sc_select.proofs.Common.{plainly, plan_of, pos, row_needs, select_step, true, ℕ, ◌++◌, ◌∙◌, ◌∷◌, ◌≡◌}
 use Rattle.sc_base.specs.declared.op.BinaryOp.TheVariants as op
@@ -13,7 +13,7 @@ use Rattle.sc_tac.proofs.Shapes.{Cycle, Done, Fork, Line as Then, rows, rows_are
 
 -- the lines of a function by its outline, on which they compute
 abbrev pub outlined : FrameTree → List Place → Plan → List Piece → List Line
-outlined frame places plan pieces = plainly (entrance frame places plan.params) ++
+outlined frame places plan pieces = plainly (prologue frame places plan.params) ++
     (in_order frame places pieces).lines 0 0 ++ plainly (closing frame places plan.entry)
 
 abbrev pub framed : Plan → List Place → FrameTree

@@ -6,7 +6,7 @@ use Rattle.sc_select.proofs.Common.{fold-roll-TacStmt, get_or, if◌then◌else�
 use Rattle.sc_select.proofs.Common.{kind_of_fork, length, map, map-TacStmt, refl, rotated, select, select_step}
 use Rattle.sc_select.proofs.Common.{stmt_induction, subst, suc, sym, test_by, test_of, true, turning, zero, ℕ, ◌&&◌}
 use Rattle.sc_select.proofs.Common.{◌++◌, ◌-◌, ◌<◌, ◌==◌, ◌∙◌, ◌∷◌, ◌≡◌, ◌≤◌}
-use Rattle.std.proofs.Common.{take as take_front}
+use Rattle.std.proofs.Common.{take as take_prefix}
 unfoldable use Rattle.sc_tac.specs.declared.stmt.TacStmt.{roll-TacStmt}
 use Rattle.sc_tac.specs.declared.stmt.TacStmt.TheOpen as tac
 use Rattle.sc_tac.specs.declared.stmt.TacStmt.TheVariants as emit
@@ -238,23 +238,23 @@ module _ (frame : FrameTree) (places : List Place) (plan : Plan) where
   no_break (stmt ∷ []) h = absurd (h refl)
   no_break (stmt ∷ more ∷ rest) h = refl
 
-  pub break_alone : (stmts : List TacStmt) (stmt : TacStmt) → length stmts ≡ 1 → stmt ≡ get_or stmts 0 stmt →
+  pub single_break : (stmts : List TacStmt) (stmt : TacStmt) → length stmts ≡ 1 → stmt ≡ get_or stmts 0 stmt →
       breaks (kind_of stmt) ≡ is_break (map code stmts)
-  break_alone [] stmt h is = absurd (omega (arith, h))
-  break_alone (first ∷ []) stmt h is = ap (λ s. breaks (kind_of s)) is
-  break_alone (first ∷ more ∷ rest) stmt h is = absurd (omega (arith, h))
+  single_break [] stmt h is = absurd (omega (arith, h))
+  single_break (first ∷ []) stmt h is = ap (λ s. breaks (kind_of s)) is
+  single_break (first ∷ more ∷ rest) stmt h is = absurd (omega (arith, h))
 
   -- the statements before a place are plain, and the rest decides
-  pub test_behind : (stmts : List TacStmt) (at : ℕ) (stmt : TacStmt) → suc at < length stmts →
+  pub test_after : (stmts : List TacStmt) (at : ℕ) (stmt : TacStmt) → suc at < length stmts →
       stmt ≡ get_or stmts at stmt → is_plain (kind_of stmt) ≡ true →
       ending_test (map code (drop at stmts)) ≡ ending_test (map code (drop (suc at) stmts))
-  test_behind [] at stmt h is plain = absurd (omega (arith, h))
-  test_behind (first ∷ []) at stmt h is plain = absurd (omega (arith, h))
-  test_behind (first ∷ next ∷ rest) zero stmt h is plain =
+  test_after [] at stmt h is plain = absurd (omega (arith, h))
+  test_after (first ∷ []) at stmt h is plain = absurd (omega (arith, h))
+  test_after (first ∷ next ∷ rest) zero stmt h is plain =
       ap (λ b. if b then ending_test (map code (next ∷ rest)) else None)
       (sym (ap (λ s. is_plain (kind_of s)) is) ∙ plain)
-  test_behind (first ∷ next ∷ rest) (suc at) stmt h is plain =
-      test_behind (next ∷ rest) at stmt (omega (arith, h)) is plain
+  test_after (first ∷ next ∷ rest) (suc at) stmt h is plain =
+      test_after (next ∷ rest) at stmt (omega (arith, h)) is plain
 
   pub test_refused : (stmts : List TacStmt) (at : ℕ) (stmt : TacStmt) → suc at < length stmts →
       stmt ≡ get_or stmts at stmt → is_plain (kind_of stmt) ≡ false →
@@ -291,7 +291,7 @@ module _ (frame : FrameTree) (places : List Place) (plan : Plan) where
     before = refl;
   }
   tested (stmt ∷ next ∷ rest) cond h =
-      by (is_plain (kind_of stmt)) refl h (λ behind. tested (next ∷ rest) cond behind)
+      by (is_plain (kind_of stmt)) refl h (λ following. tested (next ∷ rest) cond following)
     where
       by : (b : Bool) → is_plain (kind_of stmt) ≡ b →
           (if b then ending_test (map code (next ∷ rest)) else None) ≡ Some cond →
@@ -307,9 +307,9 @@ module _ (frame : FrameTree) (places : List Place) (plan : Plan) where
             is = ap (λ l. stmt ∷ l) more.is;
             plain = (plain, more.plain);
             before =
-                ap (λ k. take_front k (map code (stmt ∷ next ∷ rest))) one ∙
+                ap (λ k. take_prefix k (map code (stmt ∷ next ∷ rest))) one ∙
                 ap (λ l. code stmt ∷ l)
-                (sym (ap (λ k. take_front k (map code (next ∷ rest))) two) ∙ more.before);
+                (sym (ap (λ k. take_prefix k (map code (next ∷ rest))) two) ∙ more.before);
           }
       by false plain h later = cc h
 
@@ -337,8 +337,8 @@ module _ (frame : FrameTree) (places : List Place) (plan : Plan) where
   -- those before the test are fewer statements of the same
   pub each_before : (Q : TacStmt → Type 0) (head init : List TacStmt) (cond : ℕ) →
       head ≡ init ++ (test_stmt cond ∷ []) → Each Q head → Each Q init
-  each_before Q head init cond is h = front init (subst (Each Q) is h)
+  each_before Q head init cond is h = prefix init (subst (Each Q) is h)
     where
-      front : (xs : List TacStmt) → Each Q (xs ++ (test_stmt cond ∷ [])) → Each Q xs
-      front [] h = tt
-      front (x ∷ xs) h = (h.0, front xs h.1)
+      prefix : (xs : List TacStmt) → Each Q (xs ++ (test_stmt cond ∷ [])) → Each Q xs
+      prefix [] h = tt
+      prefix (x ∷ xs) h = (h.0, prefix xs h.1)

@@ -5,14 +5,14 @@ use Rattle.sc_select.proofs.Common.{Option, Other, Piece, Place, Plan, Register,
 use Rattle.sc_select.proofs.Common.{Store, Sw, TacFnTree, TacOp, TacStmt, TacStmt-F, Upper, [], all_true, and_first}
 use Rattle.sc_select.proofs.Common.{and_from, and_rest, ap, ap₂, arith, as_one, at_hand, between, binary_code, brought}
 use Rattle.sc_select.proofs.Common.{bytes_ahead, bytes_of, call_cross, call_own, choice, choosing, closing, code_of}
-use Rattle.sc_select.proofs.Common.{copied, entrance, entry_weight, environment_call, everywhere, false, fold-TacStmt}
-use Rattle.sc_select.proofs.Common.{fold-roll-TacStmt, fork, frame_left, frame_taken, function_lines, has_operands}
+use Rattle.sc_select.proofs.Common.{copied, prologue, entry_weight, environment_call, everywhere, false, fold-TacStmt}
+use Rattle.sc_select.proofs.Common.{fold-roll-TacStmt, fork, epilogue, frame_taken, function_lines, has_operands}
 use Rattle.sc_select.proofs.Common.{if◌then◌else◌, in_order, in_turn, is_near, is_short, is_some, is_unsigned, joined}
 use Rattle.sc_select.proofs.Common.{joins, keep, kept, length, length-append, length-map, load_from, load_word, loading}
 use Rattle.sc_select.proofs.Common.{map, map-TacStmt, moved_by, nothing, object_offset, object_read, object_store}
 use Rattle.sc_select.proofs.Common.{op_code, op_weight, operand, operation, pass, place_of_global, plain, plainly}
 use Rattle.sc_select.proofs.Common.{plan_of, pointer_difference, pointer_move, pos, put, receive, referring, refl}
-use Rattle.sc_select.proofs.Common.{register_of, result_register, return, role_behind, role_first, roll-TacStmt}
+use Rattle.sc_select.proofs.Common.{register_of, result_register, return, role_to_next, role_first, roll-TacStmt}
 use Rattle.sc_select.proofs.Common.{second_operand, select, select_all, select_step, short_code, short_form}
 use Rattle.sc_select.proofs.Common.{short_operation, short_return, skipping, slice_get, slot_offset, stepped}
 use Rattle.sc_select.proofs.Common.{stmt_induction, stmt_weight, store_arguments, store_to, store_word, straightly}
@@ -62,7 +62,7 @@ take_frame bytes =
       move_by 2 2 (sub_word 0 bytes),
     )
 
-leave_frame : (bytes : ℕ) → length (frame_left bytes) ≤ 5
+leave_frame : (bytes : ℕ) → length (epilogue bytes) ≤ 5
 leave_frame bytes = omega (arith, length-append (moved_by 2 2 bytes) (Jalr 0 1 (pos 0) ∷ []), move_by 2 2 bytes)
 
 unary_one : (rd rs : ℕ) (o : UnaryOp) → length (unary_code rd rs o) ≡ 1
@@ -239,11 +239,11 @@ module _ (frame : FrameTree) (places : List Place) (plan : Plan) where
   short_return_few left form =
       let code : List Instr = short_code 10 (operand frame places 5 left) form in
       let whole : length (short_return frame places left form) ≡
-      length ((take frame places 5 left ++ code) ++ frame_left frame.bytes) = refl in
+      length ((take frame places 5 left ++ code) ++ epilogue frame.bytes) = refl in
       omega (
         arith,
         whole,
-        length-append (take frame places 5 left ++ code) (frame_left frame.bytes),
+        length-append (take frame places 5 left ++ code) (epilogue frame.bytes),
         length-append (take frame places 5 left) code,
         taken_few frame 5 (slice_get places left),
         leave_frame frame.bytes,
@@ -384,7 +384,7 @@ module _ (frame : FrameTree) (places : List Place) (plan : Plan) where
   return_few (Some t) =
       omega (
         arith,
-        length-append (brought frame 10 (slice_get places t)) (frame_left frame.bytes),
+        length-append (brought frame 10 (slice_get places t)) (epilogue frame.bytes),
         brought_few frame 10 (slice_get places t),
         leave_frame frame.bytes,
       )
@@ -495,13 +495,13 @@ module _ (frame : FrameTree) (places : List Place) (plan : Plan) where
           omega (arith, heavy, code, few)
 
   -- a statement that is one with the one after it has no code, so that what that one takes of its weight is left
-  between_few : (before : Role) (stmt : TacStmt) (behind : Role) →
+  between_few : (before : Role) (stmt : TacStmt) (following : Role) →
       (select frame places plan stmt).size ≤ stmt_weight stmt →
-      (between frame places before (select frame places plan stmt) behind).size +
-      taken_before (joins (role_behind before (select frame places plan stmt).role) behind) ≤
+      (between frame places before (select frame places plan stmt) following).size +
+      taken_before (joins (role_to_next before (select frame places plan stmt).role) following) ≤
       stmt_weight stmt + taken_before (joins before (select frame places plan stmt).role)
-  between_few before stmt behind h =
-      by (joins (role_behind before (select frame places plan stmt).role) behind)
+  between_few before stmt following h =
+      by (joins (role_to_next before (select frame places plan stmt).role) following)
       (joins before (select frame places plan stmt).role) refl
     where
       by : (one two : Bool) → joins before (select frame places plan stmt).role ≡ two →
@@ -522,7 +522,7 @@ module _ (frame : FrameTree) (places : List Place) (plan : Plan) where
         arith,
         between_few before stmt (role_first (map (select frame places plan) rest))
             (h.0 (and_first (has stmt) (all_true (map has rest)) is)),
-        turn_small (role_behind before (select frame places plan stmt).role) rest h.1
+        turn_small (role_to_next before (select frame places plan stmt).role) rest h.1
             (and_rest (has stmt) (all_true (map has rest)) is),
       )
 
@@ -632,7 +632,7 @@ module _ (frame : FrameTree) (places : List Place) (plan : Plan) where
         store_few_arguments params (suc from),
       )
 
-  entrance_few : (params : ℕ) → length (entrance frame places params) ≤ 4 + 3 * params
+  entrance_few : (params : ℕ) → length (prologue frame places params) ≤ 4 + 3 * params
   entrance_few params =
       omega (
         arith,
@@ -649,14 +649,14 @@ module _ (frame : FrameTree) (places : List Place) (plan : Plan) where
   pub function_small : (f : TacFnTree) → IsFunction f →
       length (function_lines frame places plan f) ≤ entry_weight f.params + weight f.body
   function_small f h =
-      let first : List Line = plainly (entrance frame places f.params) in
+      let first : List Line = plainly (prologue frame places f.params) in
       let middle : List Line = (select_all frame places plan f.body).lines 0 0 in
       let last : List Line = plainly (closing frame places f.entry) in
       omega (
         arith,
         length-append (first ++ middle) last,
         length-append first middle,
-        length-map (entrance frame places f.params) plain,
+        length-map (prologue frame places f.params) plain,
         length-map (closing frame places f.entry) plain,
         (row_is_sized frame places plan f.body).sized 0 0,
         entrance_few f.params,

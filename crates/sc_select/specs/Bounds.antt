@@ -17,11 +17,11 @@ pub record Fits (frame : FrameTree) (places : List Place) (plan : Plan) (stmts :
 
 -- Helping: the same of a statement between two others, of which it may be part
 pub record FitsBetween (frame : FrameTree) (places : List Place) (plan : Plan) (before : Role) (stmt : TacStmt)
-    (behind : Role) (to_break to_continue : ℕ) : Type 0 where
+    (following : Role) (to_break to_continue : ℕ) : Type 0 where
   pub few_arguments : IsTrue (everywhere passes_few (stmt ∷ []))
-  pub breaks : (between frame places before (select frame places plan stmt) behind).size + to_break < most_lines
+  pub breaks : (between frame places before (select frame places plan stmt) following).size + to_break < most_lines
   pub continues :
-      (between frame places before (select frame places plan stmt) behind).size + to_continue < most_lines
+      (between frame places before (select frame places plan stmt) following).size + to_continue < most_lines
 
 -- Helping: the parts of a loop, which has `more` lines besides
 pub record FitsLoop (frame : FrameTree) (places : List Place) (plan : Plan) (head body next : List TacStmt) (more : ℕ)

@@ -27,21 +27,21 @@ module _ (addresses : Addresses) where
   with_target pc target instr = instr
 
   -- the address whose low 12 bits the next line adds
-  abbrev pub low_behind : Option Target → Option ℕ
-  low_behind (Some (Entry comp index)) = Some (addresses.entry comp index)
-  low_behind (Some (Global number)) = Some (addresses.global number)
-  low_behind target = None
+  abbrev pub low_of_target : Option Target → Option ℕ
+  low_of_target (Some (Entry comp index)) = Some (addresses.entry comp index)
+  low_of_target (Some (Global number)) = Some (addresses.global number)
+  low_of_target target = None
 
   -- the instructions of lines from pc on
   abbrev pub completed : (pc : ℕ) → Option ℕ → List Line → List Instr
   completed pc low [] = []
   completed pc low (line ∷ lines) =
-      with_low low (with_target pc line.target line.instr) ∷ completed (pc + 4) (low_behind line.target) lines
+      with_low low (with_target pc line.target line.instr) ∷ completed (pc + 4) (low_of_target line.target) lines
 
   -- what the line after these adds
   abbrev pub low_after : Option ℕ → List Line → Option ℕ
   low_after low [] = low
-  low_after low (line ∷ lines) = low_after (low_behind line.target) lines
+  low_after low (line ∷ lines) = low_after (low_of_target line.target) lines
 
   -- The same by the relocations of code, whose instructions are counted from a number on.
 
@@ -51,16 +51,16 @@ module _ (addresses : Addresses) where
   target_at at [] = None
   target_at at (relocation ∷ relocations) = if relocation.at == at then Some relocation.target else None
 
-  abbrev pub relocations_behind : ℕ → List Relocation → List Relocation
-  relocations_behind at [] = []
-  relocations_behind at (relocation ∷ relocations) =
+  abbrev pub relocations_after : ℕ → List Relocation → List Relocation
+  relocations_after at [] = []
+  relocations_after at (relocation ∷ relocations) =
       if relocation.at == at then relocations else relocation ∷ relocations
 
   abbrev pub linked_from : (pc at : ℕ) → Option ℕ → List Instr → List Relocation → List Instr
   linked_from pc at low [] relocations = []
   linked_from pc at low (instr ∷ instrs) relocations =
       with_low low (with_target pc (target_at at relocations) instr) ∷
-      linked_from (pc + 4) (suc at) (low_behind (target_at at relocations)) instrs (relocations_behind at relocations)
+      linked_from (pc + 4) (suc at) (low_of_target (target_at at relocations)) instrs (relocations_after at relocations)
 
   -- the code of a function as it stands at an address
   abbrev pub linked : (address : ℕ) → CodeTree → List Instr

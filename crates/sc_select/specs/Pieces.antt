@@ -84,5 +84,5 @@ abbrev pub frame_taken : ℕ → List Instr
 frame_taken bytes = moved_by sp sp (sub_word 0 bytes) ++ Store Sw sp ra (pos 0) ∷ []
 
 -- the epilogue
-abbrev pub frame_left : ℕ → List Instr
-frame_left bytes = Load Lw ra sp (pos 0) ∷ moved_by sp sp bytes ++ Jalr 0 ra (pos 0) ∷ []
+abbrev pub epilogue : ℕ → List Instr
+epilogue bytes = Load Lw ra sp (pos 0) ∷ moved_by sp sp bytes ++ Jalr 0 ra (pos 0) ∷ []

@@ -4,7 +4,7 @@ use Rattle.sc_select.specs.Common.{Jal, Jalr, Load, Lui, Lw, OpImm, Place, Store
 use Rattle.sc_select.specs.Common.{fold-TacStmt}
 use Rattle.std.specs.Prelude.{ℕ, zero, suc, pos, ◌+◌, ◌*◌, List, [], ◌∷◌, ◌++◌, map, length, Option, None, Some}
 use Rattle.std.specs.Prelude.{slice_get, neg_ℤ, ◌==◌, ◌&&◌, ◌-◌, if◌then◌else◌, Bool, drop, false, is_some, not, true}
-use Rattle.std.specs.Prelude.{nat_lt, take as take_front}
+use Rattle.std.specs.Prelude.{nat_lt, take as take_prefix}
 use Rattle.std.specs.List.{list_all}
 use Rattle.std.specs.Option.{unwrap_or}
 use Rattle.sc_event.specs.declared.row.Entry.{Entry}
@@ -21,7 +21,7 @@ use Rattle.sc_select.specs.declared.roles.Role.TheVariants.{Stores}
 use Rattle.sc_select.specs.Needs.{has_mark, needed_in}
 use Rattle.sc_select.specs.Lines.{Line, plain, plainly, referring, code_of_lines}
 use Rattle.sc_select.specs.Pieces.{ra, sp, first_scratch, second_scratch, a0, a7, register_of, move, loading, moved_by}
-use Rattle.sc_select.specs.Pieces.{load_word, store_word, frame_taken, frame_left}
+use Rattle.sc_select.specs.Pieces.{load_word, store_word, frame_taken, epilogue}
 use Rattle.sc_select.specs.declared.operators.ShortForm.{ShortForm}
 use Rattle.sc_select.specs.Operators.{op_code, short_code, short_form}
 
@@ -83,10 +83,10 @@ joins (Applies temp left o word) (Returns other) = temp == other
 joins _ _ = false
 
 -- what a statement is to the next one, with the one before it
-abbrev pub role_behind : (before own : Role) → Role
-role_behind (Sets temp word) (Operates other left o) =
+abbrev pub role_to_next : (before own : Role) → Role
+role_to_next (Sets temp word) (Operates other left o) =
     if temp == other && is_some (short_form o word) then Applies other left o word else Operates other left o
-role_behind before own = own
+role_to_next before own = own
 
 -- what an operator does to the temporary of its second operand
 abbrev pub role_of_operation : (dest : ℕ) → TacOp → (left : ℕ) → (right : Option ℕ) → Role
@@ -106,7 +106,7 @@ role_first (piece ∷ pieces) = piece.role
 abbrev pub role_before : List Piece → (at : ℕ) → Role
 role_before pieces zero = Other
 role_before pieces (suc zero) = role_first pieces
-role_before pieces (suc (suc at)) = role_behind (role_first (drop at pieces)) (role_first (drop (suc at) pieces))
+role_before pieces (suc (suc at)) = role_to_next (role_first (drop at pieces)) (role_first (drop (suc at) pieces))
 
 -- what a value that is returned is to the statement before it
 abbrev pub role_of_return : Option ℕ → Role
@@ -154,7 +154,7 @@ ending_test (piece ∷ next ∷ rest) = if is_plain piece.kind then ending_test 
 
 -- those before it
 abbrev pub before_test : List Piece → List Piece
-before_test pieces = take_front (length pieces - 1) pieces
+before_test pieces = take_prefix (length pieces - 1) pieces
 
 -- fewer lines than a branch can lead back over: 2 ^ 12 bytes
 abbrev pub branch_reach : ℕ
@@ -298,8 +298,8 @@ module _ (frame : FrameTree) (places : List Place) where
       plainly (Jalr ra first_scratch (pos 0) ∷ receive dest)
 
   abbrev pub return : Option ℕ → List Instr
-  return None = frame_left frame.bytes
-  return (Some t) = brought frame a0 (place_of t) ++ frame_left frame.bytes
+  return None = epilogue frame.bytes
+  return (Some t) = brought frame a0 (place_of t) ++ epilogue frame.bytes
 
   abbrev pub straightly : List Instr → Piece
   straightly instrs = straight (plainly instrs)
@@ -377,7 +377,7 @@ module _ (frame : FrameTree) (places : List Place) where
   -- it returns what an operator gives of a temporary and a constant
   abbrev pub short_return : (left : ℕ) → Option ShortForm → List Instr
   short_return left form =
-      take first_scratch left ++ short_code a0 (operand first_scratch left) form ++ frame_left frame.bytes
+      take first_scratch left ++ short_code a0 (operand first_scratch left) form ++ epilogue frame.bytes
 
   -- the code of two neighbours that are one piece
   abbrev pub as_one : (first second : Role) → Piece
@@ -388,16 +388,16 @@ module _ (frame : FrameTree) (places : List Place) where
   as_one _ _ = nothing
 
   -- a piece between two others: the last of those that are one has the code of all
-  abbrev pub between : (before : Role) → Piece → (behind : Role) → Piece
-  between before piece behind =
-      if joins (role_behind before piece.role) behind then nothing
+  abbrev pub between : (before : Role) → Piece → (following : Role) → Piece
+  between before piece following =
+      if joins (role_to_next before piece.role) following then nothing
       else if joins before piece.role then as_one before piece.role
       else piece
 
   abbrev pub joined : (before : Role) → List Piece → List Piece
   joined before [] = []
   joined before (piece ∷ pieces) =
-      between before piece (role_first pieces) ∷ joined (role_behind before piece.role) pieces
+      between before piece (role_first pieces) ∷ joined (role_to_next before piece.role) pieces
 
   abbrev pub in_order : List Piece → Piece
   in_order pieces = in_turn (joined Other pieces)
@@ -424,13 +424,13 @@ module _ (frame : FrameTree) (places : List Place) where
       store_word (a0 + from) (object_offset frame from) ++ store_arguments params (suc from)
 
   -- the prologue of a function: its frame is taken, and its arguments go into their variables
-  abbrev pub entrance : ℕ → List Instr
-  entrance params = frame_taken frame.bytes ++ store_arguments params 0
+  abbrev pub prologue : ℕ → List Instr
+  prologue params = frame_taken frame.bytes ++ store_arguments params 0
 
   -- its closing brace: `main` gives 0
   abbrev pub closing : Option Entry → List Instr
-  closing (Some Main) = OpImm Addi a0 0 (pos 0) ∷ frame_left frame.bytes
-  closing _ = frame_left frame.bytes
+  closing (Some Main) = OpImm Addi a0 0 (pos 0) ∷ epilogue frame.bytes
+  closing _ = epilogue frame.bytes
 
   -- statements by a plan
   module _ (plan : Plan) where
@@ -470,7 +470,7 @@ module _ (frame : FrameTree) (places : List Place) where
 
     abbrev pub function_lines : TacFnTree → List Line
     function_lines f =
-        plainly (entrance f.params) ++ (select_all f.body).lines 0 0 ++ plainly (closing f.entry)
+        plainly (prologue f.params) ++ (select_all f.body).lines 0 0 ++ plainly (closing f.entry)
 
 abbrev pub plan_of : TacFnTree → (near : Bool) → Plan
 plan_of f near = record { needed = needed_in f.body; near = near }

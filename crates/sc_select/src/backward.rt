@@ -82,13 +82,13 @@ impl Backward {
         Some((instr, target))
     }
 
-    /// Puts another instruction in the place of the one that has `behind` lines after it.
+    /// Puts another instruction in the place of the one that has `following` lines after it.
     #[tactic(auto, using(crate::proofs::Lines::replaced, crate::proofs::Lines::reversed_length))]
-    pub fn replace(&mut self, behind: usize, instr: Instr)
-        requires { behind < length self.now }
-        ensures { (front rest : List Line) (line : Line) → self.old ≡ front ++ line ∷ rest → length rest ≡ behind →
-            self.new ≡ front ++ record line { instr = instr } ∷ rest }
+    pub fn replace(&mut self, following: usize, instr: Instr)
+        requires { following < length self.now }
+        ensures { (prefix rest : List Line) (line : Line) → self.old ≡ prefix ++ line ∷ rest → length rest ≡ following →
+            self.new ≡ prefix ++ record line { instr = instr } ∷ rest }
     {
-        self.instrs.set(behind, instr);
+        self.instrs.set(following, instr);
     }
 }

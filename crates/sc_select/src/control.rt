@@ -12,7 +12,7 @@ use crate::homes::Homes;
 use crate::jumps::{branch_back, is_skip, jump_back, jump_over, loop_begins};
 use crate::kinds::ending_test;
 use crate::pieces::{FIRST_SCRATCH, register};
-use crate::roles::{Role, joins, role_at, role_before, role_behind, role_of};
+use crate::roles::{Role, joins, role_at, role_before, role_to_next, role_of};
 use sc_base::OutOfMemory;
 use sc_tac::TacStmt;
 
@@ -53,10 +53,10 @@ impl Backward {
     {
         let end = self.len();
         for at in (0..stmts.len()).rev() {
-            let behind = self.len() - end;
+            let following = self.len() - end;
             let from_here = Distances {
-                to_break: behind + distances.to_break,
-                to_continue: behind + distances.to_continue,
+                to_break: following + distances.to_break,
+                to_continue: following + distances.to_continue,
             };
             let before = role_before(homes.needs, stmts, at);
             self.between(
@@ -78,20 +78,20 @@ impl Backward {
         distances: Distances,
         before: Role,
         stmt: &TacStmt,
-        behind: Role,
+        following: Role,
     ) -> Result<(), OutOfMemory>
         requires fits { FitsBetween homes.now.frame.now homes.now.places.now
             (plan_by homes.now.needs.now homes.now.near) before
-            stmt.now behind
+            stmt.now following
             distances.to_break distances.to_continue }
         ensures { OnOk result (self.new ≡ (between homes.now.frame.now homes.now.places.now before
             (select homes.now.frame.now homes.now.places.now (plan_by homes.now.needs.now homes.now.near) stmt.now)
-            behind).lines
+            following).lines
             distances.to_break
             distances.to_continue ++ self.old) }
     {
         let role = role_of(homes.needs, stmt);
-        if joins(role_behind(before, role), behind) {
+        if joins(role_to_next(before, role), following) {
             return Ok(());
         }
         if joins(before, role) {
@@ -103,7 +103,7 @@ impl Backward {
     // A part of a loop: a break leads to where the loop ends, which has `end` lines after it.
     #[cycle(control)]
     fn part(&mut self, homes: &Homes, end: usize, part: &[TacStmt]) -> Result<(), OutOfMemory>
-        requires behind { end ≤ length self.now }
+        requires following { end ≤ length self.now }
         requires fits { Fits homes.now.frame.now homes.now.places.now (plan_by homes.now.needs.now homes.now.near)
             part.now (length
             self.now - end) 0 }
@@ -149,18 +149,18 @@ impl Backward {
     {
         let end = self.len();
         self.in_order(homes, distances, second)?;
-        let behind = self.len() - end;
-        if is_skip(first, behind) {
+        let following = self.len() - end;
+        if is_skip(first, following) {
             return self.choice(homes, cond);
         }
-        self.past(behind)?;
+        self.past(following)?;
         let over = self.len() - end;
         let over_second = Distances {
             to_break: over + distances.to_break,
             to_continue: over + distances.to_continue,
         };
         self.in_order(homes, over_second, first)?;
-        let before = self.len() - end - behind;
+        let before = self.len() - end - following;
         self.plain(jump_over(before))?;
         self.choice(homes, cond)
     }
@@ -222,10 +222,10 @@ impl Backward {
         self.plain(loop_begins())?;
         self.take(homes, register(FIRST_SCRATCH), cond)?;
         self.part(homes, end, head)?;
-        let behind = self.len();
+        let following = self.len();
         self.part(homes, end, next)?;
         self.part(homes, end, body)?;
-        let over = self.len() - behind;
+        let over = self.len() - following;
         let lines = self.len() - end - 1;
         self.plain(jump_over(over))?;
         self.replace(end, branch_back(homes, cond, lines));
@@ -312,7 +312,7 @@ impl Backward {
             } => self.call_cross(homes, *dest, *comp, *index, args),
             TacStmt::Input { dest } => self.input(homes, *dest),
             TacStmt::Output { value } => self.output(homes, *value),
-            TacStmt::Return { value } => self.give_back(homes, *value),
+            TacStmt::Return { value } => self.return_value(homes, *value),
         }
     }
 }

@@ -1,6 +1,6 @@
 //! The code of a function.
 
-ghost use Rattle.sc_select.specs.Prelude.{IsCode, IsFunction, Line, closing, code_of, code_of_lines, entrance};
+ghost use Rattle.sc_select.specs.Prelude.{IsCode, IsFunction, Line, closing, code_of, code_of_lines, prologue};
 ghost use Rattle.sc_select.specs.Prelude.{entry_weight, function_lines, has_mark, needed_in, plainly, plan_by, plan_of};
 ghost use Rattle.sc_select.specs.Prelude.{store_arguments, weight};
 ghost use Rattle.std.specs.Prelude.{◌≡◌, ◌≤◌, ◌<◌, ◌^◌, ◌+◌, ◌*◌, ◌++◌, ℕ, IfOk, OnOk, length};
@@ -30,10 +30,10 @@ impl Backward {
     }
 
     // The prologue of a function.
-    fn entrance(&mut self, homes: &Homes, params: u8) -> Result<(), OutOfMemory>
+    fn prologue(&mut self, homes: &Homes, params: u8) -> Result<(), OutOfMemory>
         requires { params ≤ 8 }
         ensures { OnOk result (self.new ≡
-            plainly (entrance homes.now.frame.now homes.now.places.now params) ++ self.old) }
+            plainly (prologue homes.now.frame.now homes.now.places.now params) ++ self.old) }
     {
         self.store_arguments(homes, params)?;
         self.frame_taken(homes.frame.tree().bytes)
@@ -44,7 +44,7 @@ impl Backward {
         ensures { OnOk result (self.new ≡
             plainly (closing homes.now.frame.now homes.now.places.now entry) ++ self.old) }
     {
-        self.frame_left(homes.frame.tree().bytes)?;
+        self.epilogue(homes.frame.tree().bytes)?;
         match entry {
             Some(Entry::Main) => self.plain(addi(register(A0), register(ZERO), immediate(0))),
             _ => Ok(()),
@@ -65,7 +65,7 @@ impl Backward {
         };
         self.closing(homes, f.entry)?;
         self.in_order(homes, at_end, f.body.as_slice())?;
-        self.entrance(homes, f.params)
+        self.prologue(homes, f.params)
     }
 }
 

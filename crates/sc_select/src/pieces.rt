@@ -1,7 +1,7 @@
 //! Pieces of code: constants, words of the frame, the prologue and the epilogue of a function.
 
 ghost use Rattle.sc_select.specs.Prelude.{Add, Addi, IsImmediate, IsReg, Load, Op, OpImm, Store, Upper, far_from_sp};
-ghost use Rattle.sc_select.specs.Prelude.{frame_left, frame_taken, load_word, loading, lower_part, move, moved_by};
+ghost use Rattle.sc_select.specs.Prelude.{epilogue, frame_taken, load_word, loading, lower_part, move, moved_by};
 ghost use Rattle.sc_select.specs.Prelude.{plainly, store_word, upper_part};
 ghost use Rattle.std.specs.Prelude.{◌≡◌, ◌++◌, ◌∷◌, ◌<◌, OnOk};
 ghost use Rattle.rv_code.specs.declared.instr.UpperOp.TheVariants.{Lui};
@@ -208,8 +208,8 @@ impl Backward {
     }
 
     /// The epilogue.
-    pub fn frame_left(&mut self, bytes: u32) -> Result<(), OutOfMemory>
-        ensures { OnOk result (self.new ≡ plainly (frame_left bytes) ++ self.old) }
+    pub fn epilogue(&mut self, bytes: u32) -> Result<(), OutOfMemory>
+        ensures { OnOk result (self.new ≡ plainly (epilogue bytes) ++ self.old) }
     {
         let sp = register(SP);
         let ra = register(RA);

@@ -2,7 +2,7 @@
 //! there or stores there, or the first sets a constant and the second is an operator that reads it and takes its
 //! temporary, which a third may return.
 
-ghost use Rattle.sc_select.specs.Prelude.{FrameTree, Place, has_mark, joins, plan_by, role_before, role_behind};
+ghost use Rattle.sc_select.specs.Prelude.{FrameTree, Place, has_mark, joins, plan_by, role_before, role_to_next};
 ghost use Rattle.sc_select.specs.Prelude.{role_first, role_of_operation, role_of_return, role_of_store, select};
 ghost use Rattle.std.specs.Prelude.{◌≡◌, ◌≤◌, Bool, List, drop, length, map};
 
@@ -131,8 +131,8 @@ pub(crate) fn role_at(needs: &Needs, stmts: &[TacStmt], at: usize) -> Role
 }
 
 /// What a statement is to the next one, with the one before it.
-pub(crate) fn role_behind(before: Role, own: Role) -> Role
-    ensures { result ≡ role_behind before own }
+pub(crate) fn role_to_next(before: Role, own: Role) -> Role
+    ensures { result ≡ role_to_next before own }
 {
     match (before, own) {
         (
@@ -164,7 +164,7 @@ pub(crate) fn role_before(needs: &Needs, stmts: &[TacStmt], at: usize) -> Role
     if at == 1 {
         return own;
     }
-    role_behind(role_at(needs, stmts, at - 2), own)
+    role_to_next(role_at(needs, stmts, at - 2), own)
 }
 
 /// Whether one piece is for two statements.

@@ -203,7 +203,7 @@ impl Backward {
             plainly (short_return homes.now.frame.now homes.now.places.now left form) ++ self.old) }
     {
         let first = register(FIRST_SCRATCH);
-        self.frame_left(homes.frame.tree().bytes)?;
+        self.epilogue(homes.frame.tree().bytes)?;
         self.short_code(register(A0), homes.operand(first, left), form)?;
         self.take(homes, first, left)
     }
@@ -290,11 +290,11 @@ impl Backward {
     }
 
     /// The end of a call.
-    pub fn give_back(&mut self, homes: &Homes, value: Option<u32>) -> Result<(), OutOfMemory>
+    pub fn return_value(&mut self, homes: &Homes, value: Option<u32>) -> Result<(), OutOfMemory>
         ensures { OnOk result (self.new ≡
             plainly (return homes.now.frame.now homes.now.places.now value) ++ self.old) }
     {
-        self.frame_left(homes.frame.tree().bytes)?;
+        self.epilogue(homes.frame.tree().bytes)?;
         match value {
             Some(value) => self.bring(homes, register(A0), value),
             None => Ok(()),

@@ -1,17 +1,17 @@
 -- A call of a function of another compartment, into it and back, whoever calls and whoever is called.
 use Rattle.sc_simulation.proofs.Common.{All, AllHonest, AreFloors, ArePassed, Bool, Call, ComesBack, Costs, Cross}
-use Rattle.sc_simulation.proofs.Common.{Crossing, Effect, Export, GivenBack, IsWellFormed, IsWord, Joint, Leads, List}
+use Rattle.sc_simulation.proofs.Common.{Crossing, Effect, Export, ReturnsValue, IsWellFormed, IsWord, Joint, Leads, List}
 use Rattle.sc_simulation.proofs.Common.{None, Option, Protected, Proto, Ret, Setting, Settled, Some, Standpoint, Value}
 use Rattle.sc_simulation.proofs.Common.{Walks, [], a0, ap, arguments, arith, called_other, came_by, cases_eq}
 use Rattle.sc_simulation.proofs.Common.{cleared_for_call, false, gate, get_or-set_other, get_or-set_same, has_result}
 use Rattle.sc_simulation.proofs.Common.{if◌then◌else◌, is_some, is_word, length, list_all, listed, machine, map}
 use Rattle.sc_simulation.proofs.Common.{option_value, params_of, ra, refl, returned_to, slice_index, slice_set, sp}
-use Rattle.sc_simulation.proofs.Common.{subst, suc, sym, tell, then_go, true, walks_steady, word_back, word_in, written}
+use Rattle.sc_simulation.proofs.Common.{subst, suc, sym, emit_event, then_go, true, walks_steady, word_back, word_in, written}
 use Rattle.sc_simulation.proofs.Common.{ℕ, ⊎_elim, ◌++◌, ◌+◌, ◌<◌, ◌∙◌, ◌∷◌, ◌≡◌, ◌≢◌, ◌≤◌}
 use Rattle.sc_image.specs.Prelude.{State, called, may_call}
 use Rattle.sc_simulation.proofs.Crossing.{arguments_are, called_listed, called_regs, given_back as given_value}
 use Rattle.sc_simulation.proofs.Crossing.{given_is, returned_listed, returned_regs, returned_sp}
-use Rattle.sc_simulation.proofs.Turning.{GoesIn, before_told, costs_back, turned}
+use Rattle.sc_simulation.proofs.Turning.{GoesIn, before_timed, costs_back, turned}
 
 module _ (T : Setting) (formed : IsWellFormed T.image) (inputs : All IsWord T.inputs) (P : Standpoint) (x : Joint)
     (to index : ℕ) (args : List Value) where
@@ -39,7 +39,7 @@ module _ (T : Setting) (formed : IsWellFormed T.image) (inputs : All IsWord T.in
   -- the call is emitted, and control is at an address of the callee, with words only in the registers of arguments
   abbrev pub across : (turns pc : ℕ) → Joint
   across turns pc = record x {
-    meant = tell (Call P.comp to index (map word_in args)) (turned turns x.meant);
+    meant = emit_event (Call P.comp to index (map word_in args)) (turned turns x.meant);
     pc = pc;
     regs = called_regs params (slice_index x.saved to) x.regs;
     saved = slice_set x.saved P.comp (x.regs sp);
@@ -50,7 +50,7 @@ module _ (T : Setting) (formed : IsWellFormed T.image) (inputs : All IsWord T.in
       (all : list_all is_word args ≡ true) (passed : ArePassed (x.inj P.comp) x.regs args) where
     -- with these registers, and these words in the event
     abbrev built : List ℕ → List ℕ → State
-    built regs told = record {
+    built regs timed = record {
       regs = regs;
       pc = entry;
       active = to;
@@ -58,7 +58,7 @@ module _ (T : Setting) (formed : IsWellFormed T.image) (inputs : All IsWord T.in
       memory = x.bytes;
       cross = opened ∷ P.cross;
       input = x.input;
-      trace = x.meant.trace ++ Call P.comp to index told ∷ [];
+      trace = x.meant.trace ++ Call P.comp to index timed ∷ [];
     }
 
     pub walks_called :
@@ -67,7 +67,7 @@ module _ (T : Setting) (formed : IsWellFormed T.image) (inputs : All IsWord T.in
     walks_called goes =
         let low : ℕ = slice_index x.saved to in
         let regs : List ℕ = listed x.regs in
-        subst (λ told. Walks T.image T.inputs 1 (machine P x) (built (listed (called_regs params low x.regs)) told))
+        subst (λ timed. Walks T.image T.inputs 1 (machine P x) (built (listed (called_regs params low x.regs)) timed))
         (arguments_are (x.inj P.comp) args x.regs few_args all passed)
         (subst (λ list. Walks T.image T.inputs 1 (machine P x) (built list (arguments params regs)))
         (called_listed params low x.regs)
@@ -121,8 +121,8 @@ module _ (T : Setting) (formed : IsWellFormed T.image) (inputs : All IsWord T.in
       inputs = made.settled.inputs;
       steady = walks_steady T.image T.inputs formed inputs 1 _ _ walks_in made.settled.steady;
       came = came_by T 1 _ _ walks_in made.settled.came;
-      room = made.settled.room;
-      told = before_told x.meant.trace (Call P.comp to index (map word_in args)) x.meant.frames made.settled.told;
+      depth = made.settled.depth;
+      timed = before_timed x.meant.trace (Call P.comp to index (map word_in args)) x.meant.frames made.settled.timed;
     }
 
     -- a callee that runs its code gets its floor
@@ -154,7 +154,7 @@ module _ (T : Setting) (formed : IsWellFormed T.image) (inputs : All IsWord T.in
         pub costs : Costs T steps budget 1 y.meant w.meant
         pub effect : Effect T Q y w
         pub settled : Settled T Q w
-        pub given : GivenBack T (w.inj to) (w.regs a0) v
+        pub given : ReturnsValue T (w.inj to) (w.regs a0) v
         pub same : option_value (word_back proto.result v) ≡ v
         pub leaves :
             Walks T.image T.inputs 1 (machine Q w)
@@ -166,12 +166,12 @@ module _ (T : Setting) (formed : IsWellFormed T.image) (inputs : All IsWord T.in
         abbrev result : Bool
         result = is_some proto.result
 
-        abbrev told : Option ℕ
-        told = word_back proto.result v
+        abbrev timed : Option ℕ
+        timed = word_back proto.result v
 
         abbrev z : Joint
         z = record w {
-          meant = tell (Ret to P.comp told) w.meant;
+          meant = emit_event (Ret to P.comp timed) w.meant;
           pc = x.pc + 4;
           regs = returned_regs result (x.regs sp) w.regs;
           saved = slice_set w.saved to (slice_index x.saved to);
@@ -179,7 +179,7 @@ module _ (T : Setting) (formed : IsWellFormed T.image) (inputs : All IsWord T.in
 
         -- with these registers, and this in the event
         abbrev built_back : List ℕ → Option ℕ → State
-        built_back regs told = record {
+        built_back regs timed = record {
           regs = regs;
           pc = x.pc + 4;
           active = P.comp;
@@ -187,13 +187,13 @@ module _ (T : Setting) (formed : IsWellFormed T.image) (inputs : All IsWord T.in
           memory = w.bytes;
           cross = P.cross;
           input = w.input;
-          trace = w.meant.trace ++ Ret to P.comp told ∷ [];
+          trace = w.meant.trace ++ Ret to P.comp timed ∷ [];
         }
 
         walks_back : Walks T.image T.inputs 1 (machine Q w) (machine P z)
         walks_back =
-            subst (λ told. Walks T.image T.inputs 1 (machine Q w)
-            (built_back (listed (returned_regs result (x.regs sp) w.regs)) told))
+            subst (λ timed. Walks T.image T.inputs 1 (machine Q w)
+            (built_back (listed (returned_regs result (x.regs sp) w.regs)) timed))
             (given_is T (w.inj to) (w.regs a0) proto.result v g.same g.given)
             (subst (λ list. Walks T.image T.inputs 1 (machine Q w)
             (built_back list (if result then Some (w.regs a0) else None)))
@@ -221,8 +221,8 @@ module _ (T : Setting) (formed : IsWellFormed T.image) (inputs : All IsWord T.in
           inputs = g.settled.inputs;
           steady = walks_steady T.image T.inputs formed inputs 1 _ _ walks_back g.settled.steady;
           came = came_by T 1 _ _ walks_back g.settled.came;
-          room = g.settled.room;
-          told = before_told w.meant.trace (Ret to P.comp told) w.meant.frames g.settled.told;
+          depth = g.settled.depth;
+          timed = before_timed w.meant.trace (Ret to P.comp timed) w.meant.frames g.settled.timed;
         }
 
         leads_back : Leads T P x z 1 0
@@ -236,12 +236,12 @@ module _ (T : Setting) (formed : IsWellFormed T.image) (inputs : All IsWord T.in
                 grows = g.effect.grows;
                 lived = g.effect.lived;
                 keeps = λ k q p. g.effect.keeps k q (protected_in k q p);
-                rooms = g.effect.rooms;
+                depths = g.effect.depths;
               };
             }
 
         -- and the call comes back
-        pub comes_back : ComesBack T P x (Cross to index) (option_value told) (tell (Ret to P.comp told) w.meant)
+        pub comes_back : ComesBack T P x (Cross to index) (option_value timed) (emit_event (Ret to P.comp timed) w.meant)
         comes_back = record {
           y = z;
           meant_is = refl;

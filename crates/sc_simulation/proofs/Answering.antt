@@ -1,30 +1,30 @@
 -- What calls of functions of a program do: whatever that is, they only go on, and they answer where a value is
 -- promised.
 use Rattle.sc_simulation.proofs.Common.{BadType, Blamed, BodyGoes, Bool, Call, CallTarget, Cross, Export, Function}
-use Rattle.sc_simulation.proofs.Common.{GivesResults, GivesValue, Here, Input, IsSome, Library, List, None, Option}
+use Rattle.sc_simulation.proofs.Common.{GivesResults, GivesValue, Here, Input, IsSome, Denotations, List, None, Option}
 use Rattle.sc_simulation.proofs.Common.{Output, Own, Piece, Proto, Reached, Roles, RunEnd, Scalar, Some, State as Meant}
 use Rattle.sc_simulation.proofs.Common.{Stopped, TacFnTree, TacTree, Value, and_then, ap, back_cross, back_own, begun}
-use Rattle.sc_simulation.proofs.Common.{bodies, called, calls_go, calls_of, code_function, code_library, code_obeys}
+use Rattle.sc_simulation.proofs.Common.{bodies, called, calls_go, calls_of, code_function, code_denotations, code_obeys}
 use Rattle.sc_simulation.proofs.Common.{crossed, crossing, done, export_at, false, found, function, functions_in, gives}
 use Rattle.sc_simulation.proofs.Common.{gives_result, if◌then◌else◌, is_some, length, map, may_call, option_value}
 use Rattle.sc_simulation.proofs.Common.{promises_result, ran, refl, run_in, run_step, scripted_goes_on, scripted_step}
-use Rattle.sc_simulation.proofs.Common.{slice_get, subst, sym, tell, true, turn, within_goes, word_back, word_in}
+use Rattle.sc_simulation.proofs.Common.{slice_get, subst, sym, emit_event, true, turn, within_goes, word_back, word_in}
 use Rattle.sc_simulation.proofs.Common.{wrapping, ℕ, ◌≡◌}
 use Rattle.sc_laws.specs.Prelude.{Goes}
 use Rattle.sc_simulation.proofs.Sections.{function_found}
 
 module _ (program : TacTree) (roles : Roles) (n : ℕ) where
-  abbrev library : Library
-  library = code_library wrapping program
+  abbrev denotations : Denotations
+  denotations = code_denotations wrapping program
 
   pub bodies_go : BodyGoes (bodies program roles n)
   bodies_go =
-      within_goes (scripted_step library roles (run_step library))
-      (scripted_goes_on library (code_obeys.itself wrapping program) roles) n
+      within_goes (scripted_step denotations roles (run_step denotations))
+      (scripted_goes_on denotations (code_obeys.itself wrapping program) roles) n
 
   pub calls_only_go : (comp : ℕ) (target : CallTarget) (args : List Value) →
       Goes (calls_of program roles n comp target args)
-  calls_only_go comp target args = calls_go library (bodies program roles n) bodies_go comp target args
+  calls_only_go comp target args = calls_go denotations (bodies program roles n) bodies_go comp target args
 
   -- a call of an own function takes a turn, and the function runs
   pub own_is : (comp number : ℕ) (f : TacFnTree) (args : List Value) (s : Meant) →
@@ -49,9 +49,9 @@ module _ (program : TacTree) (roles : Roles) (n : ℕ) where
 
   run_value : (comp number : ℕ) (args : List Value) (back : Option Value → Meant → Piece (Option Value)) (s : Meant) →
       ((v : Option Value) (t : Meant) → GivesValue (back v t)) →
-      GivesValue (run_in library (bodies program roles n) comp number args back s)
+      GivesValue (run_in denotations (bodies program roles n) comp number args back s)
   run_value comp number args back s h =
-      values_of {V = Function} (found (function library comp number) s) _ (λ f s e.
+      values_of {V = Function} (found (function denotations comp number) s) _ (λ f s e.
       values_of (bodies program roles n number (record { comp = comp; first = length (s.memory comp) })
       (begun comp f args s)) (λ v t. back v (done comp f (length (s.memory comp)) t))
       (λ v t e. h v (done comp f (length (s.memory comp)) t)))
@@ -91,14 +91,14 @@ module _ (program : TacTree) (roles : Roles) (n : ℕ) where
     answers (Own number) args s h =
         own_value number args s (slice_get (functions_in program comp) number) refl h
     answers (Cross to index) args s h =
-        value_if (may_call library comp (Cross to index) args) (called library (bodies program roles n) comp
+        value_if (may_call denotations comp (Cross to index) args) (called denotations (bodies program roles n) comp
         (Cross to index) args s) (Blamed comp BadType 0) s
         (values_of (turn s) _ (λ u s e.
-        values_of (found (library.entered to (Export index)) s) _ (λ number s e.
+        values_of (found (denotations.entered to (Export index)) s) _ (λ number s e.
         run_value to number (crossed args) (back_cross program.interfaces comp to index)
-        (tell (Call comp to index (map word_in args)) s)
+        (emit_event (Call comp to index (map word_in args)) s)
         (λ v t. crossed_value (export_at program.interfaces to index) v h))))
     answers Input args s h =
-        value_if (may_call library comp Input args) (called library (bodies program roles n) comp Input args s)
+        value_if (may_call denotations comp Input args) (called denotations (bodies program roles n) comp Input args s)
         (Blamed comp BadType 0) s refl
     answers Output args s h = cc h

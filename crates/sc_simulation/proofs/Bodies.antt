@@ -3,11 +3,11 @@
 use Rattle.sc_simulation.proofs.Common.{Addresses, All, ArePassed, BadType, Blamed, BodiesFollow, Bool, CallStands}
 use Rattle.sc_simulation.proofs.Common.{CallTarget, CallsFollow, Cross, Function, FunctionGives, GivesResults, HasCode}
 use Rattle.sc_simulation.proofs.Common.{Here, ImageParts, Input, IsBase, IsFunction, IsLinked, IsProgram, IsRun, IsWord}
-use Rattle.sc_simulation.proofs.Common.{Joint, Library, List, None, Null, Option, Output, Overflows, Own}
+use Rattle.sc_simulation.proofs.Common.{Joint, Denotations, List, None, Null, Option, Output, Overflows, Own}
 use Rattle.sc_simulation.proofs.Common.{PerformersFollow, Piece, Ptr, Reached, Roles, Setting, Settled, Some}
 use Rattle.sc_simulation.proofs.Common.{Standpoint, State as Meant, TacFnTree, TacTree, Value, Word, [], and_parts}
 use Rattle.sc_simulation.proofs.Common.{and_then, ap, arith, begun, bodies, called, calls_of, code_function}
-use Rattle.sc_simulation.proofs.Common.{code_library, done, eqb-true, false, found, functions_in, gives, if◌then◌else◌}
+use Rattle.sc_simulation.proofs.Common.{code_denotations, done, eqb-true, false, found, functions_in, gives, if◌then◌else◌}
 use Rattle.sc_simulation.proofs.Common.{imports, inl, is_output, length, machine, may_call, nat_lt, not, or_parts}
 use Rattle.sc_simulation.proofs.Common.{own_call_fits, passes_words, performs, ran, refl, rows_left, run_step, setting}
 use Rattle.sc_simulation.proofs.Common.{slice_get, sp, stay, subst, suc, sym, true, wrapping, zero, ℕ, ◌+◌, ◌==◌, ◌∙◌}
@@ -52,8 +52,8 @@ module _ (program : TacTree) (image : ImageParts) (inputs : List ℕ) (roles : R
   abbrev T : Setting
   T = setting program image inputs roles.scripted turn_pays addresses
 
-  abbrev library : Library
-  library = code_library wrapping program
+  abbrev denotations : Denotations
+  denotations = code_denotations wrapping program
 
   not_scripted : (k : ℕ) → T.performs k ≡ false → roles.scripted k ≡ false
   not_scripted k h = (or_parts (roles.scripted k) (not (nat_lt k (length image.comps))) h).0
@@ -87,14 +87,14 @@ module _ (program : TacTree) (image : ImageParts) (inputs : List ℕ) (roles : R
       input_follows : T.makes P.comp Input (length args) ≡ true → CallStands T P x Input →
           CallComes T P x Input (calls_of program roles n P.comp Input args x.meant)
       input_follows makes stands =
-          where_made T P x Input (may_call library P.comp Input args) (Blamed P.comp BadType 0)
-          (called library (bodies program roles n) P.comp Input args x.meant)
+          where_made T P x Input (may_call denotations P.comp Input args) (Blamed P.comp BadType 0)
+          (called denotations (bodies program roles n) P.comp Input args x.meant)
           (λ may. inl (input_comes T linked.formed words P x settled stands.0 stands.1 (linked.inputs P.comp may)))
 
       output_by : (args : List Value) → ArePassed (x.inj P.comp) x.regs args →
-          may_call library P.comp Output args ≡ true → T.makes P.comp Output (length args) ≡ true →
+          may_call denotations P.comp Output args ≡ true → T.makes P.comp Output (length args) ≡ true →
           CallStands T P x Output →
-          CallComes T P x Output (called library (bodies program roles n) P.comp Output args x.meant)
+          CallComes T P x Output (called denotations (bodies program roles n) P.comp Output args x.meant)
       output_by [] passed may makes stands =
           let both = and_parts (imports program.interfaces P.comp is_output) false makes in
           let clash : false ≡ true = both.1 in cc clash
@@ -115,8 +115,8 @@ module _ (program : TacTree) (image : ImageParts) (inputs : List ℕ) (roles : R
       output_follows : T.makes P.comp Output (length args) ≡ true → CallStands T P x Output →
           CallComes T P x Output (calls_of program roles n P.comp Output args x.meant)
       output_follows makes stands =
-          where_made T P x Output (may_call library P.comp Output args) (Blamed P.comp BadType 0)
-          (called library (bodies program roles n) P.comp Output args x.meant)
+          where_made T P x Output (may_call denotations P.comp Output args) (Blamed P.comp BadType 0)
+          (called denotations (bodies program roles n) P.comp Output args x.meant)
           (λ may. output_by args passed may makes stands)
 
       cross_by : (scripted : Bool) (to index : ℕ) → roles.scripted to ≡ scripted →
@@ -151,8 +151,8 @@ module _ (program : TacTree) (image : ImageParts) (inputs : List ℕ) (roles : R
       bodies program roles (suc n) number here s ≡
       (code_function wrapping f).does (calls_of program roles n) here s
   does_is n number here f s honest its =
-      ap (λ b. if b then performs library (bodies program roles n) (rows_left roles here.comp s.trace) number here s
-      else run_step library (bodies program roles n) number here s) honest ∙
+      ap (λ b. if b then performs denotations (bodies program roles n) (rows_left roles here.comp s.trace) number here s
+      else run_step denotations (bodies program roles n) number here s) honest ∙
       ap (λ o. and_then (found o s) (λ f s. f.does (calls_of program roles n) here s))
       (function_found program here.comp number f its)
 

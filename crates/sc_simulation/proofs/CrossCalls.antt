@@ -2,17 +2,17 @@
 use Rattle.sc_simulation.proofs.Common.{Addresses, All, ArePassed, BadType, Begins, Blamed, BodiesFollow, Bool, Call}
 use Rattle.sc_simulation.proofs.Common.{CallGives, CallStands, Cross, EntersBy, Export, Function, FunctionGives}
 use Rattle.sc_simulation.proofs.Common.{GivesResults, HasCode, Here, ImageParts, IsBase, IsFunction, IsLeft, IsLinked}
-use Rattle.sc_simulation.proofs.Common.{IsProgram, IsRun, IsWord, Joint, Library, List, None, Option, Overflows, Piece}
+use Rattle.sc_simulation.proofs.Common.{IsProgram, IsRun, IsWord, Joint, Denotations, List, None, Option, Overflows, Piece}
 use Rattle.sc_simulation.proofs.Common.{Proto, Reached, Ret, Roles, Setting, Settled, Some, Standpoint, State as Meant}
 use Rattle.sc_simulation.proofs.Common.{Stopped, TacFnTree, TacTree, Value, Walks, and_parts, and_then, ap, arith}
 use Rattle.sc_simulation.proofs.Common.{back_cross, back_goes, begun, bodies, call_cross, called, called_there}
-use Rattle.sc_simulation.proofs.Common.{calls_of, cases_eq, code_function, code_inside, code_library, cross_call_fits}
+use Rattle.sc_simulation.proofs.Common.{calls_of, cases_eq, code_function, code_inside, code_denotations, cross_call_fits}
 use Rattle.sc_simulation.proofs.Common.{crossed, crossing, done, eqb-true, export_at, false, found, function_entered}
 use Rattle.sc_simulation.proofs.Common.{functions_in, gate, imports, inl, inr, is_function, is_some, is_word, jal}
 use Rattle.sc_simulation.proofs.Common.{jalr_target, leads, length, length-map, list_all, lt-ltb, machine, map}
 use Rattle.sc_simulation.proofs.Common.{may_call, nat_lt, not, option_map, option_value, overflows_then, pos, ra, ran}
 use Rattle.sc_simulation.proofs.Common.{read_listed, refl, reg, run_in, setting, settled_moved, slice_get, slice_index}
-use Rattle.sc_simulation.proofs.Common.{sp, steps_tell, subst, suc, sym, takes, tell, then_go, then_then, true, word_at}
+use Rattle.sc_simulation.proofs.Common.{sp, steps_emit, subst, suc, sym, takes, emit_event, then_go, then_then, true, word_at}
 use Rattle.sc_simulation.proofs.Common.{word_back, word_in, wrapping, ℕ, ⊎_elim, ◌<◌, ◌==◌, ◌||◌, ◌∙◌, ◌≡◌, ◌≢◌, ◌≤◌}
 use Rattle.sc_simulation.proofs.Common.{◌⊎◌}
 use Rattle.sc_image.specs.Prelude.{export_at as image_export}
@@ -20,7 +20,7 @@ use Rattle.sc_simulation.proofs.Across.{IsDone, IsMade, across, comes_back, goes
 use Rattle.sc_simulation.proofs.Across.{settled_in, walks_in}
 use Rattle.sc_simulation.proofs.Placing.{word_there}
 use Rattle.sc_simulation.proofs.Sections.{IsEntered, function_found, function_is, is_export}
-use Rattle.sc_simulation.proofs.Turning.{CallComes, GoesIn, overflows_in, shows_in, turned, where_made, where_turns}
+use Rattle.sc_simulation.proofs.Turning.{CallComes, GoesIn, overflows_in, emits_in, turned, where_made, where_turns}
 use Rattle.sc_simulation.proofs.Crossing.{called_ra, called_sp, crossed_passed}
 use Rattle.sc_simulation.proofs.OwnCalls.{back_to}
 
@@ -63,8 +63,8 @@ module _ (program : TacTree) (image : ImageParts) (inputs : List ℕ) (roles : R
   abbrev T : Setting
   T = setting program image inputs roles.scripted turn_pays addresses
 
-  abbrev library : Library
-  library = code_library wrapping program
+  abbrev denotations : Denotations
+  denotations = code_denotations wrapping program
 
   -- the function that an export leads to
   pub record IsLed (to index : ℕ) : Type 0 where
@@ -80,7 +80,7 @@ module _ (program : TacTree) (image : ImageParts) (inputs : List ℕ) (roles : R
   led_to to index number (Some f) its enters h = record { number = number; enters = enters; f = f; its = its }
 
   pub led_by : (to index : ℕ) (o : Option ℕ) → function_entered (Export index) (slice_get program.sections to) ≡ o →
-      leads library to o ≡ true → IsLed to index
+      leads denotations to o ≡ true → IsLed to index
   led_by to index None enters h = cc h
   led_by to index (Some number) enters h =
       led_to to index number (slice_get (functions_in program to) number) refl enters
@@ -91,23 +91,23 @@ module _ (program : TacTree) (image : ImageParts) (inputs : List ℕ) (roles : R
     cross_is : (from to index number : ℕ) (f : TacFnTree) (args : List Value) (s : Meant) →
         function_entered (Export index) (slice_get program.sections to) ≡ Some number →
         slice_get (functions_in program to) number ≡ Some f →
-        call_cross library (bodies program roles n) from to index args s ≡
-        and_then (ran program roles n to number f (crossed args) (tell (Call from to index (map word_in args)) s))
+        call_cross denotations (bodies program roles n) from to index args s ≡
+        and_then (ran program roles n to number f (crossed args) (emit_event (Call from to index (map word_in args)) s))
         (back_cross program.interfaces from to index)
     cross_is from to index number f args s enters its =
-        let told : Meant = tell (Call from to index (map word_in args)) s in
+        let timed : Meant = emit_event (Call from to index (map word_in args)) s in
         let back : Option Value → Meant → Piece (Option Value) = back_cross program.interfaces from to index in
         let F : Function = code_function wrapping f in
-        let here : Here = record { comp = to; first = length (told.memory to) } in
+        let here : Here = record { comp = to; first = length (timed.memory to) } in
         ap (λ o. and_then (found o s) (λ number s.
-        run_in library (bodies program roles n) to number (crossed args) back
-        (tell (Call from to index (map word_in args)) s))) enters ∙
-        ap (λ (o : Option Function). and_then (found o told) (λ f s.
+        run_in denotations (bodies program roles n) to number (crossed args) back
+        (emit_event (Call from to index (map word_in args)) s))) enters ∙
+        ap (λ (o : Option Function). and_then (found o timed) (λ f s.
         and_then (bodies program roles n number (record { comp = to; first = length (s.memory to) })
         (begun to f (crossed args) s)) (λ v t. back v (done to f (length (s.memory to)) t))))
         (function_found program to number f its) ∙
-        sym (then_then (bodies program roles n number here (begun to F (crossed args) told))
-        (λ v t. Reached v (done to F (length (told.memory to)) t)) back)
+        sym (then_then (bodies program roles n number here (begun to F (crossed args) timed))
+        (λ v t. Reached v (done to F (length (timed.memory to)) t)) back)
 
   -- FROM COMPARTMENTS THAT RUN THEIR CODE
 
@@ -136,7 +136,7 @@ module _ (program : TacTree) (image : ImageParts) (inputs : List ℕ) (roles : R
     pub made_by_code : (left : ℕ) → x.meant.turns ≡ suc left →
         IsMade T linked.formed words P x to index args left entry_there
     made_by_code left turns = record {
-      goes = (steps_tell.jalr_calls image inputs (machine P x) stands.0 stands.1.0 to index entry_there linked.formed
+      goes = (steps_emit.jalr_calls image inputs (machine P x) stands.0 stands.1.0 to index entry_there linked.formed
           (record { word = stands.1.1.word; fetched = stands.1.1.fetched; decodes = stands.1.1.decodes })
           (ap (λ b. jalr_target b stands.1.0) (read_listed x.regs stands.0 stands.1.2) ∙ stands.1.3)
           (record { entry = export_is; may = linked.calls P.comp to index imported })).walks;
@@ -159,21 +159,21 @@ module _ (program : TacTree) (image : ImageParts) (inputs : List ℕ) (roles : R
       ((offered : IsOffered program to index (length args)) (led : IsLed to index) (left : ℕ) →
       IsMade T linked.formed words P x to index args left ((addresses P.comp).entry to index) →
       CallComes T P x (Cross to index)
-      (call_cross library (bodies program roles n) P.comp to index args (turned left x.meant))) →
+      (call_cross denotations (bodies program roles n) P.comp to index args (turned left x.meant))) →
       CallComes T P x (Cross to index) (calls_of program roles n P.comp (Cross to index) args x.meant)
   cross_where n P x to index args makes settled base at_base passed stands comes =
       let made = and_parts (imports program.interfaces P.comp (is_function to index)) _ makes in
       let offered : IsOffered program to index (length args) =
       offered_by program to index (length args) (export_at program.interfaces to index) refl made.1 in
-      where_made T P x (Cross to index) (may_call library P.comp (Cross to index) args) (Blamed P.comp BadType 0)
-      (called library (bodies program roles n) P.comp (Cross to index) args x.meant)
+      where_made T P x (Cross to index) (may_call denotations P.comp (Cross to index) args) (Blamed P.comp BadType 0)
+      (called denotations (bodies program roles n) P.comp (Cross to index) args x.meant)
       (λ may.
       (let one = and_parts (imports program.interfaces P.comp (is_function to index)) _ may in
       let two = and_parts (takes program.interfaces to index (length args)) _ one.1 in
-      let three = and_parts (list_all is_word args) (leads library to (library.entered to (Export index))) two.1 in
-      let led : IsLed to index = led_by to index (library.entered to (Export index)) refl three.1 in
+      let three = and_parts (list_all is_word args) (leads denotations to (denotations.entered to (Export index))) two.1 in
+      let led : IsLed to index = led_by to index (denotations.entered to (Export index)) refl three.1 in
       where_turns T P x (Cross to index) x.meant.turns
-      (λ s. call_cross library (bodies program roles n) P.comp to index args s)
+      (λ s. call_cross denotations (bodies program roles n) P.comp to index args s)
       (λ left few.
       comes offered led left
       (made_by_code P x to index args settled base at_base passed stands made.0 offered three.0 led left few))))
@@ -291,7 +291,7 @@ module _ (program : TacTree) (image : ImageParts) (inputs : List ℕ) (roles : R
             settled = g.settled;
             given = g.value;
             same = same;
-            leaves = (steps_tell.returns image inputs (machine Q g.y) ra (pos 0)
+            leaves = (steps_emit.returns image inputs (machine Q g.y) ra (pos 0)
                 (opened T linked.formed words P x to index args) P.cross
                 (record { word = g.jump.word; fetched = g.jump.fetched; decodes = g.jump.decodes })
                 (back_to (reg (machine Q g.y) ra) gate (read_listed g.y.regs ra (omega arith) ∙ g.ra) (omega arith)
@@ -302,7 +302,7 @@ module _ (program : TacTree) (image : ImageParts) (inputs : List ℕ) (roles : R
           comes_left =
               subst (λ s. CallGives T P x (Cross to index) (back v s)) g.meant_is
               (subst (λ o. CallGives T P x (Cross to index) (Reached (option_value (crossing o v))
-              (tell (Ret to P.comp (crossing o v)) g.y.meant))) (sym offered.export)
+              (emit_event (Ret to P.comp (crossing o v)) g.y.meant))) (sym offered.export)
               (comes_back T linked.formed words P x to index args turns entry made 2 address (omega arith) (omega arith)
               walks budget (λ all. paid) offered.proto g.y v left))
 
@@ -310,7 +310,7 @@ module _ (program : TacTree) (image : ImageParts) (inputs : List ℕ) (roles : R
             ((v : Option Value) (s : Meant) → o ≡ Reached v s → option_value (word_back offered.proto.result v) ≡ v) →
             FunctionGives T Q y budget gate o → CallGives T P x (Cross to index) (and_then o back)
         gives_left budget paid (Reached v s) same g = comes_left budget paid v s (same v s refl) g
-        gives_left budget paid (Stopped end s) same g = shows_in T P Q x y 2 goes budget (λ all. paid) s g
+        gives_left budget paid (Stopped end s) same g = emits_in T P Q x y 2 goes budget (λ all. paid) s g
 
         left_by : (budget : ℕ) → budget < T.turn_pays → (o : Piece (Option Value)) →
             ((v : Option Value) (s : Meant) → o ≡ Reached v s → option_value (word_back offered.proto.result v) ≡ v) →
@@ -330,7 +330,7 @@ module _ (program : TacTree) (image : ImageParts) (inputs : List ℕ) (roles : R
         comes_out = left_by ran_there.0 ran_there.1.0 whole same_value ran_there.1.1
 
       pub into_code : CallComes T P x (Cross to index)
-          (call_cross library (bodies program roles n) P.comp to index args (turned turns x.meant))
+          (call_cross denotations (bodies program roles n) P.comp to index args (turned turns x.meant))
       into_code =
           let word = word_there image (addresses to) turn_pays to led.number led.f code in
           subst (CallComes T P x (Cross to index))

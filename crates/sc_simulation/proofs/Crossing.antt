@@ -1,5 +1,5 @@
 -- What passes between compartments at a call and at its return.
-use Rattle.sc_simulation.proofs.Common.{ArePassed, Bool, GivenBack, List, None, Null, Option, Ptr, Registers, Scalar}
+use Rattle.sc_simulation.proofs.Common.{ArePassed, Bool, ReturnsValue, List, None, Null, Option, Ptr, Registers, Scalar}
 use Rattle.sc_simulation.proofs.Common.{Setting, Some, StandsFor, Value, Word, [], a0, and_parts, ap, ap₂, arguments}
 use Rattle.sc_simulation.proofs.Common.{arith, cleared_for_call, cleared_for_return, crossed, gate, if◌then◌else◌}
 use Rattle.sc_simulation.proofs.Common.{is_argument, is_result, is_some, is_word, kept, kept_from, le-leb, length}
@@ -131,7 +131,7 @@ crossed_passed place other args low regs all passed i v e =
 
 -- what the machine returns is what the meaning does
 pub given_is : (T : Setting) (place : ℕ → Option ℕ) (w : ℕ) (result : Option Scalar) (v : Option Value) →
-    option_value (word_back result v) ≡ v → GivenBack T place w v →
+    option_value (word_back result v) ≡ v → ReturnsValue T place w v →
     (if is_some result then Some w else None) ≡ word_back result v
 given_is T place w None v same given = refl
 given_is T place w (Some scalar) None same given = cc same
@@ -140,8 +140,8 @@ given_is T place w (Some scalar) (Some Null) same given = ap Some given.means
 given_is T place w (Some scalar) (Some (Ptr p)) same given = cc same
 
 pub given_back : (T : Setting) (place other : ℕ → Option ℕ) (w high : ℕ) (regs : Registers) (result : Option Scalar)
-    (v : Option Value) → regs a0 ≡ w → option_value (word_back result v) ≡ v → GivenBack T place w v →
-    GivenBack T other (returned_regs (is_some result) high regs a0) (option_value (word_back result v))
+    (v : Option Value) → regs a0 ≡ w → option_value (word_back result v) ≡ v → ReturnsValue T place w v →
+    ReturnsValue T other (returned_regs (is_some result) high regs a0) (option_value (word_back result v))
 given_back T place other w high regs None v is same given = tt
 given_back T place other w high regs (Some scalar) None is same given = cc same
 given_back T place other w high regs (Some scalar) (Some (Word n)) is same given = record {

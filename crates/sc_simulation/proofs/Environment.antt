@@ -3,10 +3,10 @@ use Rattle.sc_simulation.proofs.Common.{All, ComesBack, Ecall, Fetches, In, Inpu
 use Rattle.sc_simulation.proofs.Common.{List, None, Out, Output, Setting, Settled, Some, Standpoint, StandsFor, Walks}
 use Rattle.sc_simulation.proofs.Common.{Word, [], a0, a7, ap, arith, came_by, drop, drop_next, input_at, listed}
 use Rattle.sc_simulation.proofs.Common.{machine, may_input, may_output, next_input, put, put_here, put_there}
-use Rattle.sc_simulation.proofs.Common.{read_input, read_listed, refl, sp, steps_tell, subst, suc, sym, tell, true}
+use Rattle.sc_simulation.proofs.Common.{read_input, read_listed, refl, sp, steps_emit, subst, suc, sym, emit_event, true}
 use Rattle.sc_simulation.proofs.Common.{walks_steady, write_listed, written, zero, ℕ, ◌++◌, ◌+◌, ◌∙◌, ◌∷◌, ◌≡◌}
 use Rattle.sc_image.specs.Prelude.{State}
-use Rattle.sc_simulation.proofs.Turning.{before_told}
+use Rattle.sc_simulation.proofs.Turning.{before_timed}
 
 -- The next input.
 
@@ -53,7 +53,7 @@ module _ (T : Setting) (formed : IsWellFormed T.image) (inputs : All IsWord T.in
     walks =
         subst (λ regs. Walks T.image T.inputs 1 (machine P x) (read regs w)) (write_listed x.regs a0 w (omega arith))
         (subst (λ word. Walks T.image T.inputs 1 (machine P x) (read (written (listed x.regs) a0 word) word)) word_is
-        (steps_tell.inputs T.image T.inputs (machine P x) is_at (read_listed x.regs a7 (omega arith) ∙ asked)
+        (steps_emit.inputs T.image T.inputs (machine P x) is_at (read_listed x.regs a7 (omega arith) ∙ asked)
         may).walks)
 
     settled_read : Settled T P z
@@ -64,8 +64,8 @@ module _ (T : Setting) (formed : IsWellFormed T.image) (inputs : All IsWord T.in
       inputs = ap (drop 1) settled.inputs ∙ drop_next T.inputs x.input;
       steady = walks_steady T.image T.inputs formed inputs 1 _ _ walks settled.steady;
       came = came_by T 1 _ _ walks settled.came;
-      room = settled.room;
-      told = before_told x.meant.trace (In P.comp w) x.meant.frames settled.told;
+      depth = settled.depth;
+      timed = before_timed x.meant.trace (In P.comp w) x.meant.frames settled.timed;
     }
 
     stands : StandsFor (x.inj P.comp) (put x.regs a0 w a0) (Word w)
@@ -90,15 +90,15 @@ module _ (T : Setting) (formed : IsWellFormed T.image) (inputs : All IsWord T.in
           grows = λ k b a e. e;
           lived = λ k b cells h live. (cells, live, refl);
           keeps = λ k q p. refl;
-          rooms = λ k. refl;
+          depths = λ k. refl;
         };
       };
       settled = settled_read;
     }
 
   module _ (asked : x.regs a7 ≡ 2) (may : may_output T.image P.comp ≡ true) (w : ℕ) (is : x.regs a0 ≡ w) where
-    abbrev shown : ℕ → State
-    shown word = record {
+    abbrev observed : ℕ → State
+    observed word = record {
       regs = listed x.regs;
       pc = x.pc + 4;
       active = P.comp;
@@ -110,15 +110,15 @@ module _ (T : Setting) (formed : IsWellFormed T.image) (inputs : All IsWord T.in
     }
 
     abbrev z' : Joint
-    z' = record x { meant = tell (Out P.comp w) x.meant; pc = x.pc + 4 }
+    z' = record x { meant = emit_event (Out P.comp w) x.meant; pc = x.pc + 4 }
 
     walks' : Walks T.image T.inputs 1 (machine P x) (machine P z')
     walks' =
-        subst (λ word. Walks T.image T.inputs 1 (machine P x) (shown word)) (read_listed x.regs a0 (omega arith) ∙ is)
-        (steps_tell.outputs T.image T.inputs (machine P x) is_at (read_listed x.regs a7 (omega arith) ∙ asked)
+        subst (λ word. Walks T.image T.inputs 1 (machine P x) (observed word)) (read_listed x.regs a0 (omega arith) ∙ is)
+        (steps_emit.outputs T.image T.inputs (machine P x) is_at (read_listed x.regs a7 (omega arith) ∙ asked)
         may).walks
 
-    pub output_comes : ComesBack T P x Output None (tell (Out P.comp w) x.meant)
+    pub output_comes : ComesBack T P x Output None (emit_event (Out P.comp w) x.meant)
     output_comes = record {
       y = z';
       meant_is = refl;
@@ -134,7 +134,7 @@ module _ (T : Setting) (formed : IsWellFormed T.image) (inputs : All IsWord T.in
           grows = λ k b a e. e;
           lived = λ k b cells h live. (cells, live, refl);
           keeps = λ k q p. refl;
-          rooms = λ k. refl;
+          depths = λ k. refl;
         };
       };
       settled = record {
@@ -144,7 +144,7 @@ module _ (T : Setting) (formed : IsWellFormed T.image) (inputs : All IsWord T.in
         inputs = settled.inputs;
         steady = walks_steady T.image T.inputs formed inputs 1 _ _ walks' settled.steady;
         came = came_by T 1 _ _ walks' settled.came;
-        room = settled.room;
-        told = before_told x.meant.trace (Out P.comp w) x.meant.frames settled.told;
+        depth = settled.depth;
+        timed = before_timed x.meant.trace (Out P.comp w) x.meant.frames settled.timed;
       };
     }

@@ -1,6 +1,6 @@
 -- Each export of a program of code leads to a function.
 use Rattle.sc_simulation.proofs.Common.{Bool, Export, ExportsLead, Interface, IsProgram, None, Option, Proto, Some}
-use Rattle.sc_simulation.proofs.Common.{TacFnTree, TacSection, TacTree, and_parts, ap, are_headed, arith, code_library}
+use Rattle.sc_simulation.proofs.Common.{TacFnTree, TacSection, TacTree, and_parts, ap, are_headed, arith, code_denotations}
 use Rattle.sc_simulation.proofs.Common.{comp_at, count, eqb-true, export_at, exports_entered, false, false≢true}
 use Rattle.sc_simulation.proofs.Common.{function_entered, functions_in, functions_or_none, is_entered, is_some}
 use Rattle.sc_simulation.proofs.Common.{is_there, leads, length, option_and_then, option_map_or, refl, same_entry}
@@ -56,10 +56,10 @@ module _ (program : TacTree) (rules : IsProgram program) where
       exported_in to index proto section.0 section.1
       (entered_of program (comp_at program.interfaces to) index proto section.0 entered export)
 
-  pub exports_lead : ExportsLead (code_library wrapping program)
+  pub exports_lead : ExportsLead (code_denotations wrapping program)
   exports_lead to index count takes_so =
       let proto = tested (λ (found : Proto). length found.params == count) (export_at program.interfaces to index)
       takes_so in
       let it = exported to index proto.0 proto.1 in
-      ap (leads (code_library wrapping program) to) it.enters ∙
+      ap (leads (code_denotations wrapping program) to) it.enters ∙
       ap is_some (function_found program to it.number it.f it.its)

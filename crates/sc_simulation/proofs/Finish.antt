@@ -1,21 +1,21 @@
 -- What comes of a run of a program, by what its code comes to once `main` has begun.
 use Rattle.sc_simulation.proofs.Common.{AllBefore, AllFrom, AllHonest, BodiesFollow, Body, Costs, End, Event, Finishes}
-use Rattle.sc_simulation.proofs.Common.{Front, FunctionGives, GivenBack, Gone, Here, ImageParts, IsBuilt, IsFull}
-use Rattle.sc_simulation.proofs.Common.{IsLeft, Joint, Library, List, Main, Memory, Option, Overflows, Piece, Reached}
-use Rattle.sc_simulation.proofs.Common.{Reaches, RunEnd, Setting, Shows, Some, Standpoint, Stands, State as Meant}
+use Rattle.sc_simulation.proofs.Common.{IsPrefix, FunctionGives, ReturnsValue, Gone, Here, ImageParts, IsBuilt, IsFull}
+use Rattle.sc_simulation.proofs.Common.{IsLeft, Joint, Denotations, List, Main, Memory, Option, Overflows, Piece, Reached}
+use Rattle.sc_simulation.proofs.Common.{Reaches, RunEnd, Setting, Emits, Some, Standpoint, Stands, State as Meant}
 use Rattle.sc_simulation.proofs.Common.{Stopped, StopsSpent, TacFnTree, TacTree, TurnsOut, Value, Walks, Word, []}
 use Rattle.sc_simulation.proofs.Common.{and_then, ap, ap₂, arith, begun, bodies, call_own, code_function, code_globals}
-use Rattle.sc_simulation.proofs.Common.{code_library, code_obeys, code_run, done, exit_word, finishes, found}
-use Rattle.sc_simulation.proofs.Common.{frames_are, front_more, front_same, function_entered, functions_in, gate}
-use Rattle.sc_simulation.proofs.Common.{has_no_end, inl, inr, is_full, is_some, jalr_target, keeps_rooms, last, leads}
+use Rattle.sc_simulation.proofs.Common.{code_denotations, code_obeys, code_run, done, exit_word, finishes, found}
+use Rattle.sc_simulation.proofs.Common.{frames_are, prefix_more, prefix_same, function_entered, functions_in, gate}
+use Rattle.sc_simulation.proofs.Common.{has_no_end, inl, inr, is_full, is_some, jalr_target, keeps_depths, last, leads}
 use Rattle.sc_simulation.proofs.Common.{length, lt-ltb, machine, main_call, nobody, own_goes, pos, ran, refl, reg}
-use Rattle.sc_simulation.proofs.Common.{run_goes_on, run_step, run_to, setting, slice_get, stands, steps_tell, subst}
+use Rattle.sc_simulation.proofs.Common.{run_goes_on, run_step, run_to, setting, slice_get, stands, steps_emit, subst}
 use Rattle.sc_simulation.proofs.Common.{suc, sym, true, within, within_goes, wrapping, ℕ, ◌*◌, ◌++◌, ◌+◌, ◌<◌, ◌∙◌, ◌∷◌}
 use Rattle.sc_simulation.proofs.Common.{◌≡◌, ◌≤◌, ◌⊎◌}
 use Rattle.sc_image.specs.Prelude.{State, a0, ra}
 use Rattle.sc_simulation.specs.Prelude.{Outcome}
 use Rattle.sc_laws.proofs.Turns.{spends_turns}
-use Rattle.sc_simulation.proofs.Along.{front_endless}
+use Rattle.sc_simulation.proofs.Along.{prefix_endless}
 use Rattle.sc_simulation.proofs.Sections.{function_found}
 use Rattle.sc_simulation.proofs.Start.{IsMain, P as P', begins, main_there, x as x'}
 
@@ -38,20 +38,20 @@ within_bound turn_pays turns steps left rest budget less most =
     omega (arith, less, most, whole)
 
 -- the events of a run begin with those of what it comes to
-pub run_front : (main : ℕ) (piece : Piece (Option Value)) → Front (last piece).trace (run_to main piece).behaviour.trace
-run_front main (Reached v s) = record { more = End main (exit_word v) ∷ []; is = refl }
-run_front main (Stopped end s) = front_same s.trace
+pub run_prefix : (main : ℕ) (piece : Piece (Option Value)) → IsPrefix (last piece).trace (run_to main piece).behaviour.trace
+run_prefix main (Reached v s) = record { more = End main (exit_word v) ∷ []; is = refl }
+run_prefix main (Stopped end s) = prefix_same s.trace
 
 -- a0 has the word that `main` gives
 pub word_given : (T : Setting) (place : ℕ → Option ℕ) (a : ℕ) (v : Option Value) (w : ℕ) → v ≡ Some (Word w) →
-    GivenBack T place a v → a ≡ exit_word v
+    ReturnsValue T place a v → a ≡ exit_word v
 word_given T place a v w is given =
-    (subst (GivenBack T place a) is given).means ∙ sym (ap exit_word is)
+    (subst (ReturnsValue T place a) is given).means ∙ sym (ap exit_word is)
 
 module _ (program : TacTree) (image : ImageParts) (turn_pays : ℕ) (built : IsBuilt program image turn_pays)
     (inputs : List ℕ) (turns : ℕ) where
-  abbrev library : Library
-  library = code_library wrapping program
+  abbrev denotations : Denotations
+  denotations = code_denotations wrapping program
 
   abbrev main : ℕ
   main = program.interfaces.main
@@ -69,7 +69,7 @@ module _ (program : TacTree) (image : ImageParts) (turn_pays : ℕ) (built : IsB
   x = x' program image inputs nobody.scripted turn_pays built.addresses built.linked turns
 
   abbrev body : Body
-  body = within (run_step library) (suc turns)
+  body = within (run_step denotations) (suc turns)
 
   all_honest : AllHonest T
   all_honest k below = rw (lt-ltb k (length image.comps) below) refl
@@ -85,7 +85,7 @@ module _ (program : TacTree) (image : ImageParts) (turn_pays : ℕ) (built : IsB
 
   -- `main`, with all that it calls
   abbrev whole : Piece (Option Value)
-  whole = call_own library body image.main number [] x.meant
+  whole = call_own denotations body image.main number [] x.meant
 
   its : slice_get (functions_in program image.main) number ≡ Some f
   its = ap (λ c. slice_get (functions_in program c) number) built.linked.main ∙ there.its
@@ -97,10 +97,10 @@ module _ (program : TacTree) (image : ImageParts) (turn_pays : ℕ) (built : IsB
       (begun image.main f [] s)) (λ v t. Reached v (done image.main f (length (s.memory image.main)) t))))
       (function_found program image.main number f its)
 
-  called_whole : main_call library globals inputs turns ≡ whole
+  called_whole : main_call denotations globals inputs turns ≡ whole
   called_whole =
-      ap (λ o. and_then (found o x.meant) (λ number s. call_own library body main number [] s)) there.enters ∙
-      ap (λ c. call_own library body c number [] x.meant) (sym built.linked.main)
+      ap (λ o. and_then (found o x.meant) (λ number s. call_own denotations body main number [] s)) there.enters ∙
+      ap (λ c. call_own denotations body c number [] x.meant) (sym built.linked.main)
 
   run_is : code_run wrapping program inputs turns ≡ run_to main whole
   run_is = ap (run_to main) called_whole
@@ -108,22 +108,22 @@ module _ (program : TacTree) (image : ImageParts) (turn_pays : ℕ) (built : IsB
   -- it emits no end, and goes on from the first state
   no_end : has_no_end (last whole).trace ≡ true
   no_end =
-      (keeps_rooms library (code_obeys.itself wrapping program)).no_end (suc turns) image.main number [] x.meant refl
+      (keeps_depths denotations (code_obeys.itself wrapping program)).no_end (suc turns) image.main number [] x.meant refl
 
   gone : Gone x.meant whole
   gone =
-      own_goes library body (within_goes (run_step library) (run_goes_on library (code_obeys.itself wrapping program))
+      own_goes denotations body (within_goes (run_step denotations) (run_goes_on denotations (code_obeys.itself wrapping program))
       (suc turns)) image.main number [] x.meant
 
-  led : leads library main (library.entered main Main) ≡ true
+  led : leads denotations main (denotations.entered main Main) ≡ true
   led =
-      ap (leads library main) there.enters ∙ ap is_some (function_found program main number f there.its)
+      ap (leads denotations main) there.enters ∙ ap is_some (function_found program main number f there.its)
 
   -- where it is out of turns none is left
   spent : (s : Meant) → whole ≡ Stopped TurnsOut s → s.turns ≡ 0
   spent s is =
-      let out : StopsSpent library globals inputs turns =
-      (spends_turns library (code_obeys.itself wrapping program)).runs globals inputs turns led
+      let out : StopsSpent denotations globals inputs turns =
+      (spends_turns denotations (code_obeys.itself wrapping program)).runs globals inputs turns led
       (ap (λ r. r.behaviour.end) (run_is ∙ ap (run_to main) is)) in
       ap (λ s. s.turns) (stopped_there TurnsOut s out.state (sym is ∙ sym called_whole ∙ out.stopped)) ∙ out.spent
 
@@ -169,7 +169,7 @@ module _ (program : TacTree) (image : ImageParts) (turn_pays : ℕ) (built : IsB
     finished = record {
       place = reaches left.leads.steps budget 1 stands_at left.y.meant less left.leads.run left.leads.costs
           (ap has_no_end trace_is ∙ ap (λ p. has_no_end (last p).trace) (sym is) ∙ no_end);
-      ends = steps_tell.ends image inputs stands_at ra (pos 0)
+      ends = steps_emit.ends image inputs stands_at ra (pos 0)
           (record { word = left.jump.word; fetched = left.jump.fetched; decodes = left.jump.decodes })
           (ap (λ base. jalr_target base (pos 0)) left.ra) refl;
       trace = ap₂ (λ t e. t ++ e ∷ []) trace_is (ap₂ End built.linked.main exit_is);
@@ -178,43 +178,43 @@ module _ (program : TacTree) (image : ImageParts) (turn_pays : ℕ) (built : IsB
 
   -- WHERE IT STOPS
   module _ (budget : ℕ) (less : budget < turn_pays) (end : RunEnd) (s : Meant) (is : whole ≡ Stopped end s)
-      (shown : Shows T P x budget s) where
-    out_of_turns : end ≡ TurnsOut → turns ≤ shown.steps
+      (observed : Emits T P x budget s) where
+    out_of_turns : end ≡ TurnsOut → turns ≤ observed.steps
     out_of_turns same =
-        omega (arith, shown.costs.least, spent s (is ∙ ap (λ end. Stopped end s) same))
+        omega (arith, observed.costs.least, spent s (is ∙ ap (λ end. Stopped end s) same))
 
     stopped : Stands image inputs bound turns (run_to main (Stopped end s))
     stopped = record {
-      place = reaches shown.steps budget 0 shown.reached s less shown.run shown.costs
-          (ap has_no_end shown.trace ∙ ap (λ p. has_no_end (last p).trace) (sym is) ∙ no_end);
-      trace = shown.trace;
+      place = reaches observed.steps budget 0 observed.reached s less observed.run observed.costs
+          (ap has_no_end observed.trace ∙ ap (λ p. has_no_end (last p).trace) (sym is) ∙ no_end);
+      trace = observed.trace;
       end = (subst (Gone x.meant) is gone).stop;
       spent = out_of_turns;
     }
 
   -- WHERE A STACK IS FULL
   module _ (budget : ℕ) (less : budget < turn_pays) (over : Overflows T P x budget whole) where
-    shows_front : Front over.reached.trace (last whole).trace
-    shows_front = subst (λ t. Front t (last whole).trace) (sym over.trace) over.grown.events
+    emits_prefix : IsPrefix over.reached.trace (last whole).trace
+    emits_prefix = subst (λ t. IsPrefix t (last whole).trace) (sym over.trace) over.grown.events
 
     full : IsFull image inputs bound turns (run_to main whole)
     full = record {
       place = reaches over.steps budget 0 over.reached over.begun less over.run over.costs
-          (front_endless over.reached.trace (last whole).trace shows_front no_end);
+          (prefix_endless over.reached.trace (last whole).trace emits_prefix no_end);
       traps = over.traps;
-      trace = front_more over.reached.trace (last whole).trace (run_to main whole).behaviour.trace shows_front
-          (run_front main whole);
+      trace = prefix_more over.reached.trace (last whole).trace (run_to main whole).behaviour.trace emits_prefix
+          (run_prefix main whole);
       frames = over.begun.frames;
-      front = record { more = over.grown.frames.more; is = frames_are main whole ∙ over.grown.frames.is };
-      before = subst (λ (t : List Event). AllBefore (suc (length t)) over.begun.frames) (sym over.trace) over.told;
-      behind = subst (λ (t : List Event). AllFrom (length t) over.grown.frames.more) (sym over.trace) over.grown.late;
+      prefix = record { more = over.grown.frames.more; is = frames_are main whole ∙ over.grown.frames.is };
+      before = subst (λ (t : List Event). AllBefore (suc (length t)) over.begun.frames) (sym over.trace) over.timed;
+      following = subst (λ (t : List Event). AllFrom (length t) over.grown.frames.more) (sym over.trace) over.grown.late;
       deep = over.deep;
     }
 
   outcome_by : (budget : ℕ) → budget < turn_pays → (piece : Piece (Option Value)) → whole ≡ piece →
       FunctionGives T P x budget gate piece → Outcome image inputs bound turns (run_to main piece)
   outcome_by budget less (Reached v s) is left = finishes (finished budget less v s is left)
-  outcome_by budget less (Stopped end s) is shown = stands (stopped budget less end s is shown)
+  outcome_by budget less (Stopped end s) is observed = stands (stopped budget less end s is observed)
 
   -- `main` is followed by its code, in fewer steps than a turn pays for
   abbrev IsFollowed : Piece (Option Value) → Type 0
@@ -233,7 +233,7 @@ module _ (program : TacTree) (image : ImageParts) (turn_pays : ℕ) (built : IsB
       Outcome image inputs bound turns (code_run wrapping program inputs turns)
   outcome follow =
       let ran_is : IsFollowed (ran program nobody (suc turns) image.main number f [] x.meant) =
-      follow (suc turns) P x number f [] gate its (rw there.alone refl) (sym there.alone)
+      follow (suc turns) P x number f [] gate its (rw there.lone refl) (sym there.lone)
       (begins program image inputs nobody.scripted turn_pays built.addresses built.linked turns refl number f
       there.enters) in
       let is : IsFollowed whole = subst IsFollowed (sym whole_ran) ran_is in

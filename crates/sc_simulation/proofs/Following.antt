@@ -1,10 +1,10 @@
 -- The induction on open calls where some compartments perform their parts of the machine's own trace: what they perform
 -- is followed, whatever code they have, and all others are followed by their code.
 use Rattle.sc_simulation.proofs.Common.{Addresses, All, BodiesFollow, Bool, Event, GivesResults, Here, ImageParts}
-use Rattle.sc_simulation.proofs.Common.{IsFunction, IsLinked, IsProgram, IsShown, IsWord, List, PerformersDo, Roles}
+use Rattle.sc_simulation.proofs.Common.{IsFunction, IsLinked, IsProgram, HasEmitted, IsWord, List, PerformersDo, Roles}
 use Rattle.sc_simulation.proofs.Common.{Setting, Some, State as Meant, TacFnTree, TacTree, UnknownComes, ap, bodies}
-use Rattle.sc_simulation.proofs.Common.{code_library, functions_in, if◌then◌else◌, inl, legal, performs, roles_in}
-use Rattle.sc_simulation.proofs.Common.{rows_left, run_step, setting, shows_here, slice_get, subst, suc, sym, true}
+use Rattle.sc_simulation.proofs.Common.{code_denotations, functions_in, if◌then◌else◌, inl, legal, performs, roles_in}
+use Rattle.sc_simulation.proofs.Common.{rows_left, run_step, setting, emits_here, slice_get, subst, suc, sym, true}
 use Rattle.sc_simulation.proofs.Common.{wrapping, zero, ℕ, ◌≡◌}
 use Rattle.sc_simulation.proofs.Bodies.{more_follow, none_follow}
 use Rattle.sc_simulation.proofs.Unknown.{followed}
@@ -15,7 +15,7 @@ module _ (program : TacTree) (image : ImageParts) (inputs : List ℕ) (set : ℕ
     (functions : (comp number : ℕ) (f : TacFnTree) → slice_get (functions_in program comp) number ≡ Some f →
     IsFunction f) (results : GivesResults program (roles_in program.interfaces.main set t))
     (linked : IsLinked program image turn_pays addresses) (words : All IsWord inputs)
-    (shown : IsShown image inputs t) (lawful : legal program.interfaces t ≡ true) where
+    (observed : HasEmitted image inputs t) (lawful : legal program.interfaces t ≡ true) where
   abbrev roles : Roles
   roles = roles_in program.interfaces.main set t
 
@@ -29,24 +29,24 @@ module _ (program : TacTree) (image : ImageParts) (inputs : List ℕ) (set : ℕ
 
   performs_is : (n number : ℕ) (here : Here) (s : Meant) → set here.comp ≡ true →
       bodies program roles (suc n) number here s ≡
-      performs (code_library wrapping program) (bodies program roles n) (rows_left roles here.comp s.trace) number here
+      performs (code_denotations wrapping program) (bodies program roles n) (rows_left roles here.comp s.trace) number here
       s
   performs_is n number here s is =
       ap (λ b. if b then
-      performs (code_library wrapping program) (bodies program roles n) (rows_left roles here.comp s.trace) number here
-      s else run_step (code_library wrapping program) (bodies program roles n) number here s) is
+      performs (code_denotations wrapping program) (bodies program roles n) (rows_left roles here.comp s.trace) number here
+      s else run_step (code_denotations wrapping program) (bodies program roles n) number here s) is
 
   more_perform : (n : ℕ) → AllFollow n → PerformersDo program roles T (suc n)
   more_perform n all P x number first h =
       subst (UnknownComes program roles T P x)
       (sym (performs_is n number (record { comp = P.comp; first = first }) x.meant h.performs))
-      (followed program image inputs set t turn_pays addresses rules functions results linked words shown lawful n P
+      (followed program image inputs set t turn_pays addresses rules functions results linked words observed lawful n P
       number first h.performs h.entered all.run all.perform h.floors x h.settled)
 
   pub all_follow : (n : ℕ) → AllFollow n
   all_follow zero = record {
     run = none_follow program image inputs roles turn_pays addresses rules functions results linked words;
-    perform = λ P x number first h. inl (shows_here T P x 0);
+    perform = λ P x number first h. inl (emits_here T P x 0);
   }
   all_follow (suc n) =
       let all : AllFollow n = all_follow n in

@@ -17,8 +17,8 @@ pub mod Placed
 pub mod Placing
 pub mod Scripts
 pub mod Sections
-pub mod Shown
-pub mod Shows
+pub mod Emitted
+pub mod Emits
 pub mod Start
 pub mod Turning
 pub mod Unknown

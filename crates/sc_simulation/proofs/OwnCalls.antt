@@ -6,7 +6,7 @@ use Rattle.sc_simulation.proofs.Common.{StandsFor, State as Meant, Stopped, Valu
 use Rattle.sc_simulation.proofs.Common.{came_by, code_inside, false, inl, inr, jal, jalr, jalr_target, machine, pos}
 use Rattle.sc_simulation.proofs.Common.{put, put_here, put_there, ra, refl, sp, subst, suc, sym, then_go, walks_steady}
 use Rattle.sc_simulation.proofs.Common.{word_at, word_of, ℕ, ℤ, ⊎_elim, ◌%◌, ◌*◌, ◌+◌, ◌/◌, ◌<◌, ◌^◌, ◌∙◌, ◌≡◌, ◌⊎◌}
-use Rattle.sc_simulation.proofs.Turning.{GoesIn, turned, shows_in, overflows_in, costs_back}
+use Rattle.sc_simulation.proofs.Turning.{GoesIn, turned, emits_in, overflows_in, costs_back}
 use Rattle.sc_base.proofs.Bools.{some_value}
 
 pub back_to : (base a : ℕ) → base ≡ a → a < 2 ^ 32 → a % 2 ≡ 0 → jalr_target base (pos 0) ≡ a
@@ -43,8 +43,8 @@ module _ (T : Setting) (formed : IsWellFormed T.image) (inputs : All IsWord T.in
       inputs = s.inputs;
       steady = walks_steady T.image T.inputs formed inputs 1 _ _ walks_in s.steady;
       came = came_by T 1 _ _ walks_in s.came;
-      room = s.room;
-      told = s.told;
+      depth = s.depth;
+      timed = s.timed;
     }
 
     passed_in : (args : List Value) → ArePassed (x.inj P.comp) x.regs args →
@@ -67,17 +67,17 @@ module _ (T : Setting) (formed : IsWellFormed T.image) (inputs : All IsWord T.in
     }
 
     -- What comes of the function, comes of the call.
-    module _ (number : ℕ) (behind : IsSome (word_at T.image P.comp (x.pc + 4))) (at_base : x.regs sp ≡ P.bound)
+    module _ (number : ℕ) (following : IsSome (word_at T.image P.comp (x.pc + 4))) (at_base : x.regs sp ≡ P.bound)
         (budget : ℕ) (paid : budget < T.turn_pays) where
       module _ (v : Option Value) (s : Meant) (g : IsLeft T P entered budget (x.pc + 4) v s) where
         abbrev z : Joint
         z = record g.y { pc = x.pc + 4 }
 
-        word_behind : (w : ℕ) × (word_at T.image P.comp (x.pc + 4) ≡ Some w)
-        word_behind = some_value (word_at T.image P.comp (x.pc + 4)) behind
+        word_after : (w : ℕ) × (word_at T.image P.comp (x.pc + 4) ≡ Some w)
+        word_after = some_value (word_at T.image P.comp (x.pc + 4)) following
 
-        place_behind : IsInside (x.pc + 4)
-        place_behind = code_inside T.image formed P.comp (x.pc + 4) word_behind.0 word_behind.1
+        place_after : IsInside (x.pc + 4)
+        place_after = code_inside T.image formed P.comp (x.pc + 4) word_after.0 word_after.1
 
         walks_back : Walks T.image T.inputs 1 (machine P g.y) (machine P z)
         walks_back =
@@ -89,9 +89,9 @@ module _ (T : Setting) (formed : IsWellFormed T.image) (inputs : All IsWord T.in
               input = g.y.input;
               trace = g.y.meant.trace;
             }) 0 ra (pos 0)
-            (x.pc + 4) word_behind.0 (omega arith) (omega arith) g.jump
-            (back_to (g.y.regs ra) (x.pc + 4) g.ra (omega (arith, place_behind.low))
-            (omega (arith, place_behind.aligned))) place_behind.aligned word_behind.1
+            (x.pc + 4) word_after.0 (omega arith) (omega arith) g.jump
+            (back_to (g.y.regs ra) (x.pc + 4) g.ra (omega (arith, place_after.low))
+            (omega (arith, place_after.aligned))) place_after.aligned word_after.1
 
         comes_back : ComesBack T P x (Own number) v s
         comes_back = record {
@@ -114,7 +114,7 @@ module _ (T : Setting) (formed : IsWellFormed T.image) (inputs : All IsWord T.in
                 own = p.own;
                 other = p.other;
               });
-              rooms = g.leads.effect.rooms;
+              depths = g.leads.effect.depths;
             };
           };
           settled = record {
@@ -124,15 +124,15 @@ module _ (T : Setting) (formed : IsWellFormed T.image) (inputs : All IsWord T.in
             inputs = g.settled.inputs;
             steady = walks_steady T.image T.inputs formed inputs 1 _ _ walks_back g.settled.steady;
             came = came_by T 1 _ _ walks_back g.settled.came;
-            room = g.settled.room;
-            told = g.settled.told;
+            depth = g.settled.depth;
+            timed = g.settled.timed;
           };
         }
 
       gives : (piece : Piece (Option Value)) → FunctionGives T P entered budget (x.pc + 4) piece →
           CallGives T P x (Own number) piece
       gives (Reached v s) g = comes_back v s g
-      gives (Stopped end s) g = shows_in T P P x entered 1 goes_in budget (λ all. paid) s g
+      gives (Stopped end s) g = emits_in T P P x entered 1 goes_in budget (λ all. paid) s g
 
       pub own_comes : (piece : Piece (Option Value)) →
           FunctionGives T P entered budget (x.pc + 4) piece ⊎ Overflows T P entered budget piece →

@@ -4,7 +4,7 @@ use Rattle.sc_simulation.proofs.Common.{IsWellFormed, List, None, Option, Out, O
 use Rattle.sc_simulation.proofs.Common.{Walks, [], and_parts, ap, arguments, arith, at_start, count_of, entered_by}
 use Rattle.sc_simulation.proofs.Common.{false, filter, given_back, has_result, if◌then◌else◌, input_at, is_allowed}
 use Rattle.sc_simulation.proofs.Common.{is_legal_from, length, params_of, performer, refl, reg, returned, rows_from}
-use Rattle.sc_simulation.proofs.Common.{stands_after, stands_behind, stands_last, start, step, step_of, subst, suc}
+use Rattle.sc_simulation.proofs.Common.{stands_after, stands_after_all, stands_last, start, step, step_of, subst, suc}
 use Rattle.sc_simulation.proofs.Common.{suc-add, sym, then_on, true, walk, zero, zero-add, ℕ, ◌++◌, ◌+◌, ◌==◌, ◌∙◌, ◌∷◌}
 use Rattle.sc_simulation.proofs.Common.{◌≡◌, ◌≤◌}
 use Rattle.sc_image.specs.Prelude.{State, a0}
@@ -64,9 +64,9 @@ standing_in s = record {
 -- after this trace the run stands here: it hasn't ended
 pub record HasStood (from : Option Standing) (trace : List Event) : Type 0 where
   pub at : Standing
-  pub stood : stands_behind from trace ≡ Some at
+  pub stood : stands_after_all from trace ≡ Some at
 
-stood_before : (from : Option Standing) (xs ys : List Event) (at : Standing) → stands_behind from (xs ++ ys) ≡ Some at →
+stood_before : (from : Option Standing) (xs ys : List Event) (at : Standing) → stands_after_all from (xs ++ ys) ≡ Some at →
     HasStood from xs
 stood_before None [] [] at is = cc is
 stood_before None [] (y ∷ ys) at is = cc is
@@ -79,19 +79,19 @@ stood_before (Some first) (x ∷ xs) ys at is =
 module _ (image : ImageParts) (inputs : List ℕ) (formed : IsWellFormed image) where
   -- where a trace stands, it stands where the state does
   pub record StandsSo (s : State) : Type 0 where
-    pub place : (at : Standing) → stands_behind (at_start image.main) s.trace ≡ Some at → at ≡ standing_in s
+    pub place : (at : Standing) → stands_after_all (at_start image.main) s.trace ≡ Some at → at ≡ standing_in s
 
-  abbrev StandsBehind : Outcome → Type 0
-  StandsBehind (Goes next) = StandsSo next
-  StandsBehind (Traps reason) = Unit {0}
+  abbrev StandsAfter : Outcome → Type 0
+  StandsAfter (Goes next) = StandsSo next
+  StandsAfter (Traps reason) = Unit {0}
 
   module _ (s : State) (stands : StandsSo s) where
-    told : (event : Event) (after : Option Standing) → stands_after (standing_in s) event ≡ after → (at : Standing) →
-        stands_behind (at_start image.main) (s.trace ++ event ∷ []) ≡ Some at → Some at ≡ after
-    told event after is at behind =
+    timed : (event : Event) (after : Option Standing) → stands_after (standing_in s) event ≡ after → (at : Standing) →
+        stands_after_all (at_start image.main) (s.trace ++ event ∷ []) ≡ Some at → Some at ≡ after
+    timed event after is at following =
         let before : HasStood (at_start image.main) s.trace =
-        stood_before (at_start image.main) s.trace (event ∷ []) at behind in
-        sym behind ∙ stands_last (at_start image.main) s.trace event before.at before.stood ∙
+        stood_before (at_start image.main) s.trace (event ∷ []) at following in
+        sym following ∙ stands_last (at_start image.main) s.trace event before.at before.stood ∙
         ap (λ x. stands_after x event) (stands.place before.at before.stood) ∙ is
 
     same_at : (at to : Standing) → ◌≡◌ {A = Option Standing} (Some at) (Some to) → at ≡ to
@@ -99,42 +99,42 @@ module _ (image : ImageParts) (inputs : List ℕ) (formed : IsWellFormed image) 
 
     gone_back : (cross : List Crossing) → s.cross ≡ cross → StandsSo (returned image s cross)
     gone_back [] is = record {
-      place = λ at behind.
+      place = λ at following.
           (let never : ◌≡◌ {A = Option Standing} (Some at) None =
-          told (End s.active (reg s a0)) None refl at behind in cc never);
+          timed (End s.active (reg s a0)) None refl at following in cc never);
     }
     gone_back (x ∷ xs) is = record {
-      place = λ at behind. same_at at _
-          (told (Ret s.active x.caller (given_back (has_result image x.callee x.entry) s)) (Some (record {
+      place = λ at following. same_at at _
+          (timed (Ret s.active x.caller (given_back (has_result image x.callee x.entry) s)) (Some (record {
             active = record { comp = x.caller; entry = entered_by xs };
             waiting = waiting_in xs;
           }))
           (ap (λ cross. stands_after (record {
             active = record { comp = s.active; entry = entered_by s.cross };
             waiting = waiting_in cross;
-          }) (Ret s.active x.caller (given_back (has_result image x.callee x.entry) s))) is) at behind);
+          }) (Ret s.active x.caller (given_back (has_result image x.callee x.entry) s))) is) at following);
     }
 
-    stands_next : StandsBehind (step image inputs s)
-    stands_next = step_of image inputs formed s StandsBehind (record {
+    stands_next : StandsAfter (step image inputs s)
+    stands_next = step_of image inputs formed s StandsAfter (record {
       same = λ a owned. refl;
       traps = λ reason. tt;
       quiet = λ regs pc is. record { place = stands.place };
       stores = λ op a word allowed. record { place = stands.place };
       calls = λ to index target at may. record {
-        place = λ at behind. same_at at _
-            (told (Call s.active to index (arguments (params_of image to index) s.regs)) _ refl at behind);
+        place = λ at following. same_at at _
+            (timed (Call s.active to index (arguments (params_of image to index) s.regs)) _ refl at following);
       };
       returns = gone_back s.cross refl;
       outputs = λ may. record {
-        place = λ at behind. same_at at _ (told (Out s.active (reg s a0)) _ refl at behind);
+        place = λ at following. same_at at _ (timed (Out s.active (reg s a0)) _ refl at following);
       };
       reads = λ may. record {
-        place = λ at behind. same_at at _ (told (In s.active (input_at inputs s.input)) _ refl at behind);
+        place = λ at following. same_at at _ (timed (In s.active (input_at inputs s.input)) _ refl at following);
       };
     })
 
-  stands_by : (n : ℕ) (s t : State) (outcome : Outcome) → StandsBehind outcome →
+  stands_by : (n : ℕ) (s t : State) (outcome : Outcome) → StandsAfter outcome →
       then_on outcome (walk image inputs n) ≡ Goes t →
       ((u : State) → StandsSo u → walk image inputs n u ≡ Goes t → StandsSo t) → StandsSo t
   stands_by n s t (Goes u) stands walks later = later u stands walks
@@ -147,7 +147,7 @@ module _ (image : ImageParts) (inputs : List ℕ) (formed : IsWellFormed image) 
 
   pub stands_so : (n : ℕ) (s : State) → Walks image inputs n (start image) s → StandsSo s
   stands_so n s walks =
-      stands_on n (start image) s (record { place = λ at behind. cc behind }) walks.by
+      stands_on n (start image) s (record { place = λ at following. cc following }) walks.by
 
 -- LEGAL TRACES
 

@@ -34,12 +34,12 @@ first_word image A comp address pc at low (instr ∷ instrs) relocations some co
 pub word_there : (image : ImageParts) (A : Addresses) (turn_pays comp number : ℕ) (f : TacFnTree) →
     HasCode image A turn_pays comp number f → (w : ℕ) × (word_at image comp (A.function number) ≡ Some w)
 word_there image A turn_pays comp number f code =
-    let front = code.emitted.enters in
+    let prefix = code.emitted.enters in
     first_word image A comp (A.function number) (A.function number) 0 None code.code.instrs code.code.relocations
     (omega (
       arith,
-      ap length front.is,
-      length-append (frame_taken code.frame.bytes) front.more,
+      ap length prefix.is,
+      length-append (frame_taken code.frame.bytes) prefix.more,
       length-append (moved_by sp sp (sub_word 0 code.frame.bytes)) (Store Sw sp ra (pos 0) ∷ []),
     )) code.stands
 
@@ -60,18 +60,18 @@ module _ (tests : List Test) (test : Test)
     abbrev itself : TacStmt-F TacStmt → Bool
     itself layer = test (map-TacStmt _ _ (passes test) layer)
 
-    alone : (layer : TacStmt-F TacStmt) → PassesAll tests (roll-TacStmt layer) → (itself layer && true) ≡ true
-    alone layer all = and_from (itself layer) true (implies layer (passes_here tests layer all)) refl
+    lone : (layer : TacStmt-F TacStmt) → PassesAll tests (roll-TacStmt layer) → (itself layer && true) ≡ true
+    lone layer all = and_from (itself layer) true (implies layer (passes_here tests layer all)) refl
 
     layer_implied : (layer : TacStmt-F TacStmt) → Inside Implied layer → PassesAll tests (roll-TacStmt layer) →
         with_parts test (map-TacStmt _ _ (passes test) layer) ≡ true
-    layer_implied (tac.Const dest value) h all = alone (tac.Const dest value) all
-    layer_implied (tac.Copy dest from) h all = alone (tac.Copy dest from) all
-    layer_implied (tac.Op dest op left right) h all = alone (tac.Op dest op left right) all
-    layer_implied (tac.ObjectPlace dest object) h all = alone (tac.ObjectPlace dest object) all
-    layer_implied (tac.GlobalPlace dest global) h all = alone (tac.GlobalPlace dest global) all
-    layer_implied (tac.Load dest place pointer) h all = alone (tac.Load dest place pointer) all
-    layer_implied (tac.Store place value) h all = alone (tac.Store place value) all
+    layer_implied (tac.Const dest value) h all = lone (tac.Const dest value) all
+    layer_implied (tac.Copy dest from) h all = lone (tac.Copy dest from) all
+    layer_implied (tac.Op dest op left right) h all = lone (tac.Op dest op left right) all
+    layer_implied (tac.ObjectPlace dest object) h all = lone (tac.ObjectPlace dest object) all
+    layer_implied (tac.GlobalPlace dest global) h all = lone (tac.GlobalPlace dest global) all
+    layer_implied (tac.Load dest place pointer) h all = lone (tac.Load dest place pointer) all
+    layer_implied (tac.Store place value) h all = lone (tac.Store place value) all
     layer_implied (tac.If cond first second) h all =
         let inner = choice_passes tests cond first second all in
         and_from (itself (tac.If cond first second))
@@ -92,13 +92,13 @@ module _ (tests : List Test) (test : Test)
         (and_from (all_true (map (passes test) body)) (all_true (map (passes test) next) && true)
         (row_implied body h.1 inner.1)
         (and_from (all_true (map (passes test) next)) true (row_implied next h.2 inner.2) refl)))
-    layer_implied tac.Break h all = alone tac.Break all
-    layer_implied tac.Continue h all = alone tac.Continue all
-    layer_implied (tac.CallOwn dest function args) h all = alone (tac.CallOwn dest function args) all
-    layer_implied (tac.CallCross dest comp index args) h all = alone (tac.CallCross dest comp index args) all
-    layer_implied (tac.Input dest) h all = alone (tac.Input dest) all
-    layer_implied (tac.Output value) h all = alone (tac.Output value) all
-    layer_implied (tac.Return value) h all = alone (tac.Return value) all
+    layer_implied tac.Break h all = lone tac.Break all
+    layer_implied tac.Continue h all = lone tac.Continue all
+    layer_implied (tac.CallOwn dest function args) h all = lone (tac.CallOwn dest function args) all
+    layer_implied (tac.CallCross dest comp index args) h all = lone (tac.CallCross dest comp index args) all
+    layer_implied (tac.Input dest) h all = lone (tac.Input dest) all
+    layer_implied (tac.Output value) h all = lone (tac.Output value) all
+    layer_implied (tac.Return value) h all = lone (tac.Return value) all
 
     implied : (stmt : TacStmt) → Implied stmt
     implied =

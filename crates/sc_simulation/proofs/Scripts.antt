@@ -1,23 +1,23 @@
 -- The run of a program's code in which a set performs its part of the machine's trace keeps to that trace, by what its
 -- code comes to once `main` has begun.
-use Rattle.sc_simulation.proofs.Common.{BodiesFollow, Body, Bool, Departs, End, Event, Front, Function, FunctionGives}
+use Rattle.sc_simulation.proofs.Common.{BodiesFollow, Body, Bool, Departs, End, Event, IsPrefix, Function, FunctionGives}
 use Rattle.sc_simulation.proofs.Common.{Gone, Here, ImageParts, IsBuilt, IsLeft, IsRun, IsUnknown, Joint, KeepsTo}
-use Rattle.sc_simulation.proofs.Common.{Library, List, Main, Memory, Option, Overflows, Owner, PerformersDo, Piece}
-use Rattle.sc_simulation.proofs.Common.{Reached, Reaches, Roles, RunEnd, Setting, Shows, Some, Standpoint}
+use Rattle.sc_simulation.proofs.Common.{Denotations, List, Main, Memory, Option, Overflows, Owner, PerformersDo, Piece}
+use Rattle.sc_simulation.proofs.Common.{Reached, Reaches, Roles, RunEnd, Setting, Emits, Some, Standpoint}
 use Rattle.sc_simulation.proofs.Common.{State as Meant, Stopped, TacTree, Traps, TurnsOut, UnknownGives, Value, Walks}
 use Rattle.sc_simulation.proofs.Common.{Word, [], and_then, ap, ap₂, arith, begun, bodies, call_own, code_function}
-use Rattle.sc_simulation.proofs.Common.{code_globals, code_library, code_obeys, done, exit_word, false, found}
-use Rattle.sc_simulation.proofs.Common.{front_more, function_entered, functions_in, gate, has_no_end, inl, inr, is_some}
-use Rattle.sc_simulation.proofs.Common.{jalr_target, keeps_rooms, last, leads, legal, length, machine, own_goes, pos}
+use Rattle.sc_simulation.proofs.Common.{code_globals, code_denotations, code_obeys, done, exit_word, false, found}
+use Rattle.sc_simulation.proofs.Common.{prefix_more, function_entered, functions_in, gate, has_no_end, inl, inr, is_some}
+use Rattle.sc_simulation.proofs.Common.{jalr_target, keeps_depths, last, leads, legal, length, machine, own_goes, pos}
 use Rattle.sc_simulation.proofs.Common.{ran, refl, roles_in, run_step, run_to, scripted_call, scripted_code_run}
 use Rattle.sc_simulation.proofs.Common.{scripted_goes_on, scripted_step, setting, slice_get, spends_along, step}
-use Rattle.sc_simulation.proofs.Common.{steps_tell, subst, suc, sym, true, within_goes, wrapping, ℕ, ⊎_elim, ◌++◌, ◌∙◌}
+use Rattle.sc_simulation.proofs.Common.{steps_emit, subst, suc, sym, true, within_goes, wrapping, ℕ, ⊎_elim, ◌++◌, ◌∙◌}
 use Rattle.sc_simulation.proofs.Common.{◌∷◌, ◌≡◌, ◌≤◌, ◌⊎◌}
 use Rattle.sc_image.specs.Prelude.{State, a0, machine as ran_by, ra}
-use Rattle.sc_simulation.proofs.Along.{front_endless}
+use Rattle.sc_simulation.proofs.Along.{prefix_endless}
 use Rattle.sc_simulation.proofs.Exports.{exports_lead}
-use Rattle.sc_simulation.proofs.Finish.{body_gave, run_front, word_given}
-use Rattle.sc_simulation.proofs.Passing.{shows_finish, shows_stop, shows_trap}
+use Rattle.sc_simulation.proofs.Finish.{body_gave, run_prefix, word_given}
+use Rattle.sc_simulation.proofs.Passing.{emits_finish, emits_stop, emits_trap}
 use Rattle.sc_simulation.proofs.Sections.{function_found}
 use Rattle.sc_simulation.proofs.Start.{IsMain, P as P', base, begins, main_there, settled, x as x'}
 use Rattle.sc_simulation.proofs.UnknownFrames.{settled_started, started}
@@ -28,8 +28,8 @@ module _ (program : TacTree) (image : ImageParts) (turn_pays : ℕ) (built : IsB
   abbrev pub trace : List Event
   trace = (ran_by image inputs steps events).state.trace
 
-  abbrev library : Library
-  library = code_library wrapping program
+  abbrev denotations : Denotations
+  denotations = code_denotations wrapping program
 
   abbrev main : ℕ
   main = program.interfaces.main
@@ -57,7 +57,7 @@ module _ (program : TacTree) (image : ImageParts) (turn_pays : ℕ) (built : IsB
 
   -- `main`, with all that it calls
   abbrev whole : Piece (Option Value)
-  whole = call_own library body image.main there.number [] x.meant
+  whole = call_own denotations body image.main there.number [] x.meant
 
   abbrev pub main_ran : Piece (Option Value)
   main_ran = ran program roles (suc steps) image.main there.number there.f [] x.meant
@@ -72,10 +72,10 @@ module _ (program : TacTree) (image : ImageParts) (turn_pays : ℕ) (built : IsB
       (begun image.main f [] s)) (λ v t. Reached v (done image.main f (length (s.memory image.main)) t))))
       (function_found program image.main there.number there.f its)
 
-  called_whole : scripted_call library roles globals inputs steps ≡ whole
+  called_whole : scripted_call denotations roles globals inputs steps ≡ whole
   called_whole =
-      ap (λ o. and_then (found o x.meant) (λ number s. call_own library body main number [] s)) there.enters ∙
-      ap (λ c. call_own library body c there.number [] x.meant) (sym built.linked.main)
+      ap (λ o. and_then (found o x.meant) (λ number s. call_own denotations body main number [] s)) there.enters ∙
+      ap (λ c. call_own denotations body c there.number [] x.meant) (sym built.linked.main)
 
   run_is : scripted_code_run wrapping program inputs steps set trace ≡ run_to main whole
   run_is = ap (run_to main) called_whole
@@ -83,18 +83,18 @@ module _ (program : TacTree) (image : ImageParts) (turn_pays : ℕ) (built : IsB
   -- it emits no end, and goes on from the first state
   no_end : has_no_end (last whole).trace ≡ true
   no_end =
-      (keeps_rooms library (code_obeys.itself wrapping program)).scripted_no_end roles (suc steps) image.main
+      (keeps_depths denotations (code_obeys.itself wrapping program)).scripted_no_end roles (suc steps) image.main
       there.number [] x.meant refl
 
   gone : Gone x.meant whole
   gone =
-      own_goes library body (within_goes (scripted_step library roles (run_step library))
-      (scripted_goes_on library (code_obeys.itself wrapping program) roles) (suc steps)) image.main there.number []
+      own_goes denotations body (within_goes (scripted_step denotations roles (run_step denotations))
+      (scripted_goes_on denotations (code_obeys.itself wrapping program) roles) (suc steps)) image.main there.number []
       x.meant
 
-  led : leads library main (library.entered main Main) ≡ true
+  led : leads denotations main (denotations.entered main Main) ≡ true
   led =
-      ap (leads library main) there.enters ∙ ap is_some (function_found program main there.number there.f there.its)
+      ap (leads denotations main) there.enters ∙ ap is_some (function_found program main there.number there.f there.its)
 
   abbrev reaches : (taken : ℕ) (reached : State) → Walks image inputs taken (machine P x) reached →
       has_no_end reached.trace ≡ true → Reaches image inputs (suc taken)
@@ -108,8 +108,8 @@ module _ (program : TacTree) (image : ImageParts) (turn_pays : ℕ) (built : IsB
 
   -- the machine's trace where `main` returns, and where it stops
   abbrev pub MainGives : Piece (Option Value) → Type 0
-  MainGives (Reached v s) = Front trace (run_to main (Reached v s)).behaviour.trace
-  MainGives (Stopped end s) = (budget : ℕ) × Shows T P x budget s
+  MainGives (Reached v s) = IsPrefix trace (run_to main (Reached v s)).behaviour.trace
+  MainGives (Stopped end s) = (budget : ℕ) × Emits T P x budget s
 
   -- the machine stands trapped, and has emitted a prefix of the piece's trace
   pub record IsTrapped (piece : Piece (Option Value)) : Type 0 where
@@ -117,7 +117,7 @@ module _ (program : TacTree) (image : ImageParts) (turn_pays : ℕ) (built : IsB
     pub reached : State
     pub walks : Walks image inputs taken (machine P x) reached
     pub traps : step image inputs reached ≡ Traps Owner
-    pub front : Front reached.trace (last piece).trace
+    pub prefix : IsPrefix reached.trace (last piece).trace
 
   overflow_traps : (budget : ℕ) (piece : Piece (Option Value)) → Overflows T P x budget piece → IsTrapped piece
   overflow_traps budget piece over = record {
@@ -125,7 +125,7 @@ module _ (program : TacTree) (image : ImageParts) (turn_pays : ℕ) (built : IsB
     reached = over.reached;
     walks = over.run;
     traps = over.traps;
-    front = subst (λ t. Front t (last piece).trace) (sym over.trace) over.grown.events;
+    prefix = subst (λ t. IsPrefix t (last piece).trace) (sym over.trace) over.grown.events;
   }
 
   abbrev pub MainFollowed : Piece (Option Value) → Type 0
@@ -133,39 +133,39 @@ module _ (program : TacTree) (image : ImageParts) (turn_pays : ℕ) (built : IsB
 
   module _ (is_legal : legal program.interfaces trace ≡ true) where
     -- WHERE IT STOPS
-    module _ (end : RunEnd) (s : Meant) (is : whole ≡ Stopped end s) (budget : ℕ) (shown : Shows T P x budget s) where
+    module _ (end : RunEnd) (s : Meant) (is : whole ≡ Stopped end s) (budget : ℕ) (observed : Emits T P x budget s) where
       -- where it is out of turns, and hasn't emitted all of the trace, no step is left
       used : end ≡ TurnsOut → (event : Event) (more : List Event) → trace ≡ s.trace ++ event ∷ more →
-          steps ≤ shown.steps
+          steps ≤ observed.steps
       used out event more along =
           omega (
             arith,
-            shown.costs.least,
-            spends_along library (code_obeys.itself wrapping program) (exports_lead program built.rules) led trace
+            observed.costs.least,
+            spends_along denotations (code_obeys.itself wrapping program) (exports_lead program built.rules) led trace
                 is_legal set globals inputs steps s (called_whole ∙ is ∙ ap (λ end. Stopped end s) out) event more
                 along,
           )
 
       stops : KeepsTo trace (run_to main (Stopped end s)).behaviour
       stops =
-          shows_stop image inputs built.linked.formed steps events (suc shown.steps)
-          (reaches shown.steps shown.reached shown.run
-          (ap has_no_end shown.trace ∙ ap (λ p. has_no_end (last p).trace) (sym is) ∙ no_end))
-          (run_to main (Stopped end s)).behaviour shown.trace (subst (Gone x.meant) is gone).stop used
+          emits_stop image inputs built.linked.formed steps events (suc observed.steps)
+          (reaches observed.steps observed.reached observed.run
+          (ap has_no_end observed.trace ∙ ap (λ p. has_no_end (last p).trace) (sym is) ∙ no_end))
+          (run_to main (Stopped end s)).behaviour observed.trace (subst (Gone x.meant) is gone).stop used
 
     keeps_by : (piece : Piece (Option Value)) → whole ≡ piece → MainGives piece →
         KeepsTo trace (run_to main piece).behaviour
-    keeps_by (Reached v s) is front = inl front
-    keeps_by (Stopped end s) is shown = stops end s is shown.0 shown.1
+    keeps_by (Reached v s) is prefix = inl prefix
+    keeps_by (Stopped end s) is observed = stops end s is observed.0 observed.1
 
     -- WHERE A STACK IS FULL
     full : IsTrapped whole → KeepsTo trace (run_to main whole).behaviour
     full at =
-        inl (shows_trap image inputs built.linked.formed steps events (suc at.taken)
-        (reaches at.taken at.reached at.walks (front_endless at.reached.trace (last whole).trace at.front no_end))
+        inl (emits_trap image inputs built.linked.formed steps events (suc at.taken)
+        (reaches at.taken at.reached at.walks (prefix_endless at.reached.trace (last whole).trace at.prefix no_end))
         at.traps (run_to main whole).behaviour.trace
-        (front_more at.reached.trace (last whole).trace (run_to main whole).behaviour.trace at.front
-        (run_front main whole)))
+        (prefix_more at.reached.trace (last whole).trace (run_to main whole).behaviour.trace at.prefix
+        (run_prefix main whole)))
 
     -- where `main` is followed, the run keeps to the machine's trace
     pub keeps_trace : MainFollowed main_ran →
@@ -195,12 +195,12 @@ module _ (program : TacTree) (image : ImageParts) (turn_pays : ℕ) (built : IsB
       trace_is : stands_at.trace ≡ s.trace
       trace_is = ap (λ m. m.trace) left.meant_is
 
-      returns : Front trace (run_to main (Reached v s)).behaviour.trace
+      returns : IsPrefix trace (run_to main (Reached v s)).behaviour.trace
       returns =
-          shows_finish image inputs built.linked.formed steps events (suc left.leads.steps)
+          emits_finish image inputs built.linked.formed steps events (suc left.leads.steps)
           (reaches left.leads.steps stands_at left.leads.run
           (ap has_no_end trace_is ∙ ap (λ p. has_no_end (last p).trace) (sym (whole_ran ∙ is)) ∙ no_end))
-          (steps_tell.ends image inputs stands_at ra (pos 0)
+          (steps_emit.ends image inputs stands_at ra (pos 0)
           (record { word = left.jump.word; fetched = left.jump.fetched; decodes = left.jump.decodes })
           (ap (λ base. jalr_target base (pos 0)) left.ra) refl) (run_to main (Reached v s)).behaviour.trace
           (ap₂ (λ t e. t ++ e ∷ []) trace_is (ap₂ End built.linked.main
@@ -209,12 +209,12 @@ module _ (program : TacTree) (image : ImageParts) (turn_pays : ℕ) (built : IsB
     gives_by : (budget : ℕ) (piece : Piece (Option Value)) → main_ran ≡ piece → FunctionGives T P x budget gate piece →
         MainGives piece
     gives_by budget (Reached v s) is left = returns budget v s is left
-    gives_by budget (Stopped end s) is shown = (budget, shown)
+    gives_by budget (Stopped end s) is observed = (budget, observed)
 
     pub runs_code : ((n : ℕ) → BodiesFollow program roles T n) → MainFollowed main_ran
     runs_code follow =
         let run : IsRun program roles T (suc steps) there.number there.f P x [] gate =
-        follow (suc steps) P x there.number there.f [] gate its (rw there.alone refl) (sym there.alone)
+        follow (suc steps) P x there.number there.f [] gate its (rw there.lone refl) (sym there.lone)
         (begins program image inputs set turn_pays built.addresses built.linked steps honest there.number there.f
         there.enters) in
         ⊎_elim (λ gives. inl (gives_by run.0 main_ran refl gives)) (λ over. inr (overflow_traps run.0 main_ran over))
@@ -260,7 +260,7 @@ module _ (program : TacTree) (image : ImageParts) (turn_pays : ℕ) (built : IsB
     departs v s is left =
         let y : State = machine P left.y in
         let trace_is : y.trace ≡ s.trace = ap (λ m. m.trace) left.meant_is in
-        shows_finish image inputs built.linked.formed steps events (suc left.leads.steps)
+        emits_finish image inputs built.linked.formed steps events (suc left.leads.steps)
         (reaches left.leads.steps y left.leads.run
         (ap has_no_end trace_is ∙ ap (λ p. has_no_end (last (closing p)).trace) (sym is) ∙
         ap (λ p. has_no_end (last p).trace) (sym whole_ran) ∙ no_end))
@@ -270,14 +270,14 @@ module _ (program : TacTree) (image : ImageParts) (turn_pays : ℕ) (built : IsB
     performs_by : (piece : Piece (Option Value)) → performed ≡ piece → UnknownGives program roles T P opened piece →
         MainGives (closing piece)
     performs_by (Reached v s) is left = departs v s is left
-    performs_by (Stopped end s) is shown = (
+    performs_by (Stopped end s) is observed = (
       0,
       record {
-        steps = shown.steps;
-        reached = shown.reached;
-        run = shown.run;
-        trace = shown.trace;
-        costs = record { least = shown.costs.least; most = shown.costs.most };
+        steps = observed.steps;
+        reached = observed.reached;
+        run = observed.run;
+        trace = observed.trace;
+        costs = record { least = observed.costs.least; most = observed.costs.most };
       },
     )
 
@@ -291,8 +291,8 @@ module _ (program : TacTree) (image : ImageParts) (turn_pays : ℕ) (built : IsB
       reached = over.reached;
       walks = over.run;
       traps = over.traps;
-      front = subst (Front over.reached.trace) (sym (last_closed performed))
-          (subst (λ t. Front t (last performed).trace) (sym over.trace) over.grown.events);
+      prefix = subst (IsPrefix over.reached.trace) (sym (last_closed performed))
+          (subst (λ t. IsPrefix t (last performed).trace) (sym over.trace) over.grown.events);
     }
 
     pub performs_rows : ((n : ℕ) → PerformersDo program roles T n) → MainFollowed main_ran

@@ -1,7 +1,7 @@
 -- The functions of a program by their numbers, and what its rules say of each.
 use Rattle.sc_simulation.proofs.Common.{Bool, Export, Interface, IsFunction, IsProgram, List, None, Option, Proto, Some}
 use Rattle.sc_simulation.proofs.Common.{TacFnTree, TacSection, TacStmt-F, TacTree, [], and_parts, ap, are_entered}
-use Rattle.sc_simulation.proofs.Common.{are_headed, arith, code_function, code_functions, code_library, comp_at}
+use Rattle.sc_simulation.proofs.Common.{are_headed, arith, code_function, code_functions, code_denotations, comp_at}
 use Rattle.sc_simulation.proofs.Common.{enters_by_words, eqb-true, everywhere, export_at, exports_entered, function}
 use Rattle.sc_simulation.proofs.Common.{function_entered, functions_in, functions_or_none, get_or_from_slice_get}
 use Rattle.sc_simulation.proofs.Common.{has_head, in_section, is_entered, is_some, length, list_all, map, not, numbered}
@@ -48,14 +48,14 @@ functions_are (section ∷ sections) zero = refl
 functions_are (section ∷ sections) (suc comp) = functions_are sections comp
 
 module _ (program : TacTree) where
-  pub function_is : (comp number : ℕ) → function (code_library wrapping program) comp number ≡
+  pub function_is : (comp number : ℕ) → function (code_denotations wrapping program) comp number ≡
       option_map (code_function wrapping) (slice_get (functions_in program comp) number)
   function_is comp number =
       ap (λ fs. slice_get fs number) (functions_are program.sections comp) ∙
       slice_get-map (code_function wrapping) (functions_in program comp) number
 
   pub function_found : (comp number : ℕ) (f : TacFnTree) → slice_get (functions_in program comp) number ≡ Some f →
-      function (code_library wrapping program) comp number ≡ Some (code_function wrapping f)
+      function (code_denotations wrapping program) comp number ≡ Some (code_function wrapping f)
   function_found comp number f e = function_is comp number ∙ ap (option_map (code_function wrapping)) e
 
   -- a function of a section

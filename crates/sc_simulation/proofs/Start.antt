@@ -49,7 +49,7 @@ pub record IsMain (functions : List TacFnTree) (entered : Option ℕ) : Type 0 w
   pub f : TacFnTree
   pub enters : entered ≡ Some number
   pub its : slice_get functions number ≡ Some f
-  pub alone : f.params ≡ 0
+  pub lone : f.params ≡ 0
 
 main_of : (o : Option TacSection) → main_entered o ≡ true → IsMain (functions_or_none o) (function_entered Main o)
 main_of None h = cc h
@@ -70,7 +70,7 @@ main_of (Some section) h =
       f = first.it;
       enters = first.place;
       its = first.its;
-      alone = eqb-true first.it.params 0 (and_parts (first.it.params == 0) _ head).0;
+      lone = eqb-true first.it.params 0 (and_parts (first.it.params == 0) _ head).0;
     }
 
 pub main_there : (program : TacTree) → IsProgram program → IsMain (functions_in program program.interfaces.main)
@@ -176,8 +176,8 @@ module _ (program : TacTree) (image : ImageParts) (inputs : List ℕ) (performs 
     inputs = refl;
     steady = runs_are_steady.first image linked.formed;
     came = record { steps = 0; walks = record { by = refl } };
-    room = λ k honest. omega arith;
-    told = tt;
+    depth = λ k honest. omega arith;
+    timed = tt;
   }
 
   pub base : IsBase T P

@@ -1,14 +1,14 @@
 -- A call takes a turn, and that pays for what is called.
 use Rattle.sc_simulation.proofs.Common.{AllBefore, AllHonest, Bool, CallGives, CallTarget, Costs, Event, FrameChange}
-use Rattle.sc_simulation.proofs.Common.{Joint, List, Option, Overflows, Piece, RunEnd, Setting, Shows, Standpoint}
+use Rattle.sc_simulation.proofs.Common.{Joint, List, Option, Overflows, Piece, RunEnd, Setting, Emits, Standpoint}
 use Rattle.sc_simulation.proofs.Common.{State as Meant, Stopped, Value, Walks, [], and_then, ap, arith, before_more}
-use Rattle.sc_simulation.proofs.Common.{false, if◌then◌else◌, inl, length, length_push, machine, refl, shows_here}
+use Rattle.sc_simulation.proofs.Common.{false, if◌then◌else◌, inl, length, length_push, machine, refl, emits_here}
 use Rattle.sc_simulation.proofs.Common.{subst, suc, then_go, true, turn_of, zero, ℕ, ◌*◌, ◌++◌, ◌+◌, ◌<◌, ◌∷◌, ◌≡◌, ◌≤◌}
 use Rattle.sc_simulation.proofs.Common.{◌⊎◌}
 
-pub before_told : (trace : List Event) (event : Event) (changes : List FrameChange) →
+pub before_timed : (trace : List Event) (event : Event) (changes : List FrameChange) →
     AllBefore (suc (length trace)) changes → AllBefore (suc (length (trace ++ event ∷ []))) changes
-before_told trace event changes h =
+before_timed trace event changes h =
     before_more (suc (length trace)) (suc (length (trace ++ event ∷ []))) (omega (arith, length_push trace event))
     changes h
 
@@ -36,8 +36,8 @@ module _ (T : Setting) (P Q : Standpoint) (x y : Joint) where
         }
 
     -- where it ends there, it ends
-    pub shows_in : (s : Meant) → Shows T Q y budget s → Shows T P x 1 s
-    shows_in s g =
+    pub emits_in : (s : Meant) → Emits T Q y budget s → Emits T P x 1 s
+    emits_in s g =
         let whole : n + (g.steps + 0) ≡ n + g.steps = omega arith in
         record {
           steps = n + g.steps;
@@ -59,7 +59,7 @@ module _ (T : Setting) (P Q : Standpoint) (x y : Joint) where
           begun = o.begun;
           trace = o.trace;
           deep = o.deep;
-          told = o.told;
+          timed = o.timed;
           grown = o.grown;
           costs = subst (λ k. Costs T k 1 0 x.meant o.begun) whole (costs_in o.steps 0 o.begun (omega arith) o.costs);
         }
@@ -77,10 +77,10 @@ module _ (T : Setting) (P : Standpoint) (x : Joint) (target : CallTarget) where
   pub where_made : (may : Bool) (end : RunEnd) (piece : Piece (Option Value)) → (may ≡ true → CallComes piece) →
       CallComes (if may then piece else Stopped end x.meant)
   where_made true end piece h = h refl
-  where_made false end piece h = inl (shows_here T P x 1)
+  where_made false end piece h = inl (emits_here T P x 1)
 
   pub where_turns : (turns : ℕ) (go : Meant → Piece (Option Value)) →
       ((left : ℕ) → turns ≡ suc left → CallComes (go (turned left x.meant))) →
       CallComes (and_then (turn_of turns x.meant) (λ u s. go s))
-  where_turns zero go h = inl (shows_here T P x 1)
+  where_turns zero go h = inl (emits_here T P x 1)
   where_turns (suc left) go h = h left refl

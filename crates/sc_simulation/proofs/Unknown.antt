@@ -1,45 +1,45 @@
 -- Unknown code: whatever code the compartments have that perform their parts of the machine's own trace, the machine
 -- follows what they perform, and what all others do.
 use Rattle.sc_simulation.proofs.Common.{Addresses, All, AllHonest, AreFloors, BodiesFollow, Bool, Call, ComesBack}
-use Rattle.sc_simulation.proofs.Common.{Cross, Crossing, End, Event, Front, GivesResults, Goes as Steps, Here}
-use Rattle.sc_simulation.proofs.Common.{ImageParts, In, IsFunction, IsLinked, IsProgram, IsShown, IsSteady, IsWord}
-use Rattle.sc_simulation.proofs.Common.{Joint, Leads, Library, List, None, Option, Out, Overflows, PerformersDo, Piece}
-use Rattle.sc_simulation.proofs.Common.{Reached, Ret, Roles, Setting, Settled, Shows, Some, Standpoint, State as Meant}
+use Rattle.sc_simulation.proofs.Common.{Cross, Crossing, End, Event, IsPrefix, GivesResults, Goes as Steps, Here}
+use Rattle.sc_simulation.proofs.Common.{ImageParts, In, IsFunction, IsLinked, IsProgram, HasEmitted, IsSteady, IsWord}
+use Rattle.sc_simulation.proofs.Common.{Joint, Leads, Denotations, List, None, Option, Out, Overflows, PerformersDo, Piece}
+use Rattle.sc_simulation.proofs.Common.{Reached, Ret, Roles, Setting, Settled, Emits, Some, Standpoint, State as Meant}
 use Rattle.sc_simulation.proofs.Common.{Stopped, TacFnTree, TacTree, Traps, UnknownComes, UnknownGives, Value, Walks}
 use Rattle.sc_simulation.proofs.Common.{Word, [], a0, allowed_at, and_then, ap, append-nil, append_assoc, ap₂}
-use Rattle.sc_simulation.proofs.Common.{arguments, arith, at_start, bodies, call_cross, came_by, cases_lt, code_library}
+use Rattle.sc_simulation.proofs.Common.{arguments, arith, at_start, bodies, call_cross, came_by, cases_lt, code_denotations}
 use Rattle.sc_simulation.proofs.Common.{departing, drop, drop_next, entered_by, false, functions_in, given_back}
 use Rattle.sc_simulation.proofs.Common.{has_result, if◌then◌else◌, inl, input, input_at, inr, leads_moved, leads_then}
 use Rattle.sc_simulation.proofs.Common.{legal, length, listed, machine, nat_lt, next_input, not, option_value, output}
 use Rattle.sc_simulation.proofs.Common.{overflows_after, overflows_then, params_of, read_input, read_listed, refl, reg}
-use Rattle.sc_simulation.proofs.Common.{returned, roles_in, setting, settled_moved, shows_after, shows_here, slice_get}
-use Rattle.sc_simulation.proofs.Common.{slice_index, stands_behind, start, step, subst, suc, sym, tell, true, turn}
+use Rattle.sc_simulation.proofs.Common.{returned, roles_in, setting, settled_moved, emits_after, emits_here, slice_get}
+use Rattle.sc_simulation.proofs.Common.{slice_index, stands_after_all, start, step, subst, suc, sym, emit_event, true, turn}
 use Rattle.sc_simulation.proofs.Common.{walk_one, walks_steady, with_pc, word, wrapping, written, zero, ℕ, ◌*◌, ◌++◌}
 use Rattle.sc_simulation.proofs.Common.{◌+◌, ◌-◌, ◌<◌, ◌||◌, ◌∙◌, ◌∷◌, ◌≡◌, ◌≢◌, ◌≤◌, ◌⊎◌}
 use Rattle.sc_store.specs.Prelude.{Memory as Bytes}
 use Rattle.sc_image.specs.Prelude.{State, called, export_at as image_export, may_call as may_make}
 use Rattle.sc_relation.proofs.Storing.{block_owned}
-use Rattle.sc_simulation.proofs.Along.{walk_front}
+use Rattle.sc_simulation.proofs.Along.{walk_prefix}
 use Rattle.sc_simulation.proofs.Answering.{bodies_go}
 use Rattle.sc_simulation.proofs.CrossCalls.{IsLed, IsOffered, into_code}
 use Rattle.sc_simulation.proofs.Environment.{next_at}
 use Rattle.sc_simulation.proofs.Exports.{IsExported}
 use Rattle.sc_simulation.proofs.Placed.{HasStood, StepsOn, first_step, legal_stood, stands_so, standing_in, walk_rest}
 use Rattle.sc_simulation.proofs.Sections.{IsEntered, is_export}
-use Rattle.sc_simulation.proofs.Turning.{CallComes, before_told, turned, where_turns}
+use Rattle.sc_simulation.proofs.Turning.{CallComes, before_timed, turned, where_turns}
 use Rattle.sc_simulation.proofs.Across.{IsMade}
 use Rattle.sc_simulation.proofs.UnknownCrossing.{into_unknown}
 use Rattle.sc_simulation.proofs.UnknownEvents.{IsNext, call_is, end_is, enters, input_is, offered, output_is, return_is}
 use Rattle.sc_simulation.proofs.UnknownEvents.{work, work_done}
 use Rattle.sc_simulation.proofs.UnknownRules.{are_words, as_values, entry_is, words_passed}
-use Rattle.sc_simulation.proofs.UnknownSteps.{KeepsOthers, StepIs, calls, leaves, listed_is, moves, reads, shows}
+use Rattle.sc_simulation.proofs.UnknownSteps.{KeepsOthers, StepIs, calls, leaves, listed_is, moves, reads, emits}
 use Rattle.sc_simulation.proofs.UnknownSteps.{step_is, traps}
 
 -- WHERE SOMEONE PERFORMS, THERE IS NO UPPER BOUND
 
 module _ (T : Setting) (never : AllHonest T → ⊥) (P : Standpoint) where
-  shows_free : (x : Joint) (a : ℕ) (s : Meant) → Shows T P x a s → Shows T P x 0 s
-  shows_free x a s g = record {
+  emits_free : (x : Joint) (a : ℕ) (s : Meant) → Emits T P x a s → Emits T P x 0 s
+  emits_free x a s g = record {
     steps = g.steps;
     reached = g.reached;
     run = g.run;
@@ -66,7 +66,7 @@ module _ (T : Setting) (never : AllHonest T → ⊥) (P : Standpoint) where
     begun = o.begun;
     trace = o.trace;
     deep = o.deep;
-    told = o.told;
+    timed = o.timed;
     grown = o.grown;
     costs = record { least = o.costs.least; most = λ all. absurd (never all) };
   }
@@ -79,22 +79,22 @@ module _ (program : TacTree) (image : ImageParts) (inputs : List ℕ) (set : ℕ
     (functions : (comp number : ℕ) (f : TacFnTree) → slice_get (functions_in program comp) number ≡ Some f →
     IsFunction f) (results : GivesResults program (roles_in program.interfaces.main set t))
     (linked : IsLinked program image turn_pays addresses) (words : All IsWord inputs)
-    (shown : IsShown image inputs t) (lawful : legal program.interfaces t ≡ true) where
+    (observed : HasEmitted image inputs t) (lawful : legal program.interfaces t ≡ true) where
   abbrev roles : Roles
   roles = roles_in program.interfaces.main set t
 
   abbrev T : Setting
   T = setting program image inputs set turn_pays addresses
 
-  abbrev library : Library
-  library = code_library wrapping program
+  abbrev denotations : Denotations
+  denotations = code_denotations wrapping program
 
   at_work : (k : ℕ) → set k ≡ true → T.performs k ≡ true
   at_work k is = ap (λ b. b || not (nat_lt k (length image.comps))) is
 
   -- AT A STATE OF UNKNOWN CODE
   module _ (n : ℕ) (P : Standpoint) (number first : ℕ) (at_works : set P.comp ≡ true)
-      (entered : library.entered P.comp (entered_by P.cross) ≡ Some number) where
+      (entered : denotations.entered P.comp (entered_by P.cross) ≡ Some number) where
     other_than : (k : ℕ) → T.performs k ≡ false → P.comp ≢ k
     other_than k honest same =
         let clash : true ≡ false = sym (at_work P.comp at_works) ∙ ap T.performs same ∙ honest in cc clash
@@ -120,7 +120,7 @@ module _ (program : TacTree) (image : ImageParts) (inputs : List ℕ) (set : ℕ
       leads = leads_then T P x y d.y 0 0 0 settled l d.leads;
       settled = d.settled;
     }
-    gives_after x y (Stopped end s) settled l g = shows_after T P x y 0 0 s l g
+    gives_after x y (Stopped end s) settled l g = emits_after T P x y 0 0 s l g
 
     comes_after : (x y : Joint) (piece : Piece (Option Value)) → Settled T P x → Leads T P x y 0 0 →
         UnknownComes program roles T P y piece → UnknownComes program roles T P x piece
@@ -167,74 +167,74 @@ module _ (program : TacTree) (image : ImageParts) (inputs : List ℕ) (set : ℕ
 
     -- A STEP THAT EMITS AN EVENT
     module _ (x : Joint) (settled : Settled T P x) (m : ℕ) (next : State) (event : Event)
-        (goes : step image inputs (machine P x) ≡ Steps next) (tells : next.trace ≡ x.meant.trace ++ event ∷ [])
-        (rest : Walks image inputs m next shown.last) where
-      front : Front next.trace shown.last.trace
-      front = walk_front image inputs linked.formed m next shown.last rest.by
+        (goes : step image inputs (machine P x) ≡ Steps next) (emits_trace : next.trace ≡ x.meant.trace ++ event ∷ [])
+        (rest : Walks image inputs m next observed.last) where
+      prefix : IsPrefix next.trace observed.last.trace
+      prefix = walk_prefix image inputs linked.formed m next observed.last rest.by
 
-      whole : t ≡ x.meant.trace ++ event ∷ front.more
+      whole : t ≡ x.meant.trace ++ event ∷ prefix.more
       whole =
-          sym shown.trace_is ∙ front.is ∙ ap (λ z. z ++ front.more) tells ∙
-          append_assoc x.meant.trace (event ∷ []) front.more
+          sym observed.trace_is ∙ prefix.is ∙ ap (λ z. z ++ prefix.more) emits_trace ∙
+          append_assoc x.meant.trace (event ∷ []) prefix.more
 
-      legal_whole : legal program.interfaces (x.meant.trace ++ event ∷ front.more) ≡ true
+      legal_whole : legal program.interfaces (x.meant.trace ++ event ∷ prefix.more) ≡ true
       legal_whole = subst (λ z. legal program.interfaces z ≡ true) whole lawful
 
       has_stood : HasStood (at_start program.interfaces.main) x.meant.trace
       has_stood =
-          legal_stood program.interfaces (at_start program.interfaces.main) x.meant.trace event front.more legal_whole
+          legal_stood program.interfaces (at_start program.interfaces.main) x.meant.trace event prefix.more legal_whole
 
       place : has_stood.at ≡ standing_in (machine P x)
       place =
           (stands_so image inputs linked.formed settled.came.steps (machine P x) settled.came.walks).place has_stood.at
-          (ap (λ main. stands_behind (at_start main) x.meant.trace) linked.main ∙ has_stood.stood)
+          (ap (λ main. stands_after_all (at_start main) x.meant.trace) linked.main ∙ has_stood.stood)
 
-      stood_here : stands_behind (at_start program.interfaces.main) x.meant.trace ≡ Some (standing_in (machine P x))
+      stood_here : stands_after_all (at_start program.interfaces.main) x.meant.trace ≡ Some (standing_in (machine P x))
       stood_here = has_stood.stood ∙ ap Some place
 
       is_next : IsNext program set t n x.meant (standing_in (machine P x)) event
       is_next = record {
-        more = front.more;
+        more = prefix.more;
         whole = whole;
         stood = stood_here;
-        allowed = allowed_at program.interfaces (at_start program.interfaces.main) x.meant.trace event front.more
+        allowed = allowed_at program.interfaces (at_start program.interfaces.main) x.meant.trace event prefix.more
             (standing_in (machine P x)) legal_whole stood_here;
       }
 
     -- AN OUTPUT
     module _ (x : Joint) (settled : Settled T P x) (goes : step image inputs (machine P x) ≡
         Steps (with_pc (output (machine P x)) (x.pc + 4))) where
-      abbrev shown_word : ℕ
-      shown_word = reg (machine P x) a0
+      abbrev emitted_word : ℕ
+      emitted_word = reg (machine P x) a0
 
-      abbrev showing : Joint
-      showing = record x { meant = tell (Out P.comp shown_word) x.meant; pc = x.pc + 4 }
+      abbrev emitting : Joint
+      emitting = record x { meant = emit_event (Out P.comp emitted_word) x.meant; pc = x.pc + 4 }
 
-      walks_showing : Walks image inputs 1 (machine P x) (machine P showing)
-      walks_showing = walk_one image inputs (machine P x) (machine P showing) goes
+      walks_emitting : Walks image inputs 1 (machine P x) (machine P emitting)
+      walks_emitting = walk_one image inputs (machine P x) (machine P emitting) goes
 
-      settled_showing : Settled T P showing
-      settled_showing = record {
+      settled_emitting : Settled T P emitting
+      settled_emitting = record {
         blocks = settled.blocks;
         globals = settled.globals;
         saved = settled.saved;
         inputs = settled.inputs;
-        steady = walks_steady image inputs linked.formed words 1 _ _ walks_showing settled.steady;
-        came = came_by T 1 _ _ walks_showing settled.came;
-        room = settled.room;
-        told = before_told x.meant.trace (Out P.comp shown_word) x.meant.frames settled.told;
+        steady = walks_steady image inputs linked.formed words 1 _ _ walks_emitting settled.steady;
+        came = came_by T 1 _ _ walks_emitting settled.came;
+        depth = settled.depth;
+        timed = before_timed x.meant.trace (Out P.comp emitted_word) x.meant.frames settled.timed;
       }
 
-      leads_showing : Leads T P x showing 0 0
-      leads_showing = record {
+      leads_emitting : Leads T P x emitting 0 0
+      leads_emitting = record {
         steps = 1;
-        run = walks_showing;
+        run = walks_emitting;
         costs = record { least = omega arith; most = λ all. absurd (never x settled all) };
         effect = record {
           grows = λ k b a e. e;
           lived = λ k b cells h live. (cells, live, refl);
           keeps = λ k q p. refl;
-          rooms = λ k. refl;
+          depths = λ k. refl;
         };
       }
 
@@ -284,8 +284,8 @@ module _ (program : TacTree) (image : ImageParts) (inputs : List ℕ) (set : ℕ
         inputs = ap (drop 1) settled.inputs ∙ drop_next inputs x.input;
         steady = walks_steady image inputs linked.formed words 1 _ _ walks_reading settled.steady;
         came = came_by T 1 _ _ walks_reading settled.came;
-        room = settled.room;
-        told = before_told x.meant.trace (In P.comp (next_input x.meant.inputs)) x.meant.frames settled.told;
+        depth = settled.depth;
+        timed = before_timed x.meant.trace (In P.comp (next_input x.meant.inputs)) x.meant.frames settled.timed;
       }
 
       leads_reading : Leads T P x reading 0 0
@@ -297,7 +297,7 @@ module _ (program : TacTree) (image : ImageParts) (inputs : List ℕ) (set : ℕ
           grows = λ k b a e. e;
           lived = λ k b cells h live. (cells, live, refl);
           keeps = λ k q p. refl;
-          rooms = λ k. refl;
+          depths = λ k. refl;
         };
       }
 
@@ -360,7 +360,7 @@ module _ (program : TacTree) (image : ImageParts) (inputs : List ℕ) (set : ℕ
 
           callee_by : (performs : Bool) → set to ≡ performs → (left : ℕ) → x.meant.turns ≡ suc left →
               CallComes T P x (Cross to index)
-              (call_cross library (bodies program roles n) P.comp to index values (turned left x.meant))
+              (call_cross denotations (bodies program roles n) P.comp to index values (turned left x.meant))
           callee_by true is left turns =
               into_unknown program image inputs roles turn_pays addresses rules functions results linked words n P x to
               index values offer led left target (made left turns) is perform
@@ -372,12 +372,12 @@ module _ (program : TacTree) (image : ImageParts) (inputs : List ℕ) (set : ℕ
 
           abbrev whole_call : Piece (Option Value)
           whole_call = and_then (turn x.meant) (λ u s.
-              call_cross library (bodies program roles n) P.comp to index values s)
+              call_cross denotations (bodies program roles n) P.comp to index values s)
 
           call_comes : CallComes T P x (Cross to index) whole_call
           call_comes =
               where_turns T P x (Cross to index) x.meant.turns
-              (λ s. call_cross library (bodies program roles n) P.comp to index values s)
+              (λ s. call_cross denotations (bodies program roles n) P.comp to index values s)
               (λ left turns. callee_by (set to) refl left turns)
 
           abbrev again : Option Value → Meant → Piece (Option Value)
@@ -392,11 +392,11 @@ module _ (program : TacTree) (image : ImageParts) (inputs : List ℕ) (set : ℕ
               (perform P c.y number first
               (record { performs = at_works; settled = c.settled; floors = floors; entered = entered })))
 
-          behind_by : (piece : Piece (Option Value)) → CallComes T P x (Cross to index) piece →
+          after_by : (piece : Piece (Option Value)) → CallComes T P x (Cross to index) piece →
               UnknownComes program roles T P x (and_then piece again)
-          behind_by (Reached v s) (inl c) = goes_on v s c
-          behind_by (Stopped end s) (inl g) = inl (shows_free T (never x settled) P x 1 s g)
-          behind_by piece (inr o) =
+          after_by (Reached v s) (inl c) = goes_on v s c
+          after_by (Stopped end s) (inl g) = inl (emits_free T (never x settled) P x 1 s g)
+          after_by piece (inr o) =
               inr (overflows_then T P x 0 piece again (λ v. bodies_go program roles n number here)
               (overflows_free T (never x settled) P x 1 piece o))
 
@@ -405,7 +405,7 @@ module _ (program : TacTree) (image : ImageParts) (inputs : List ℕ) (set : ℕ
               subst (UnknownComes program roles T P x)
               (sym (call_is program set t n P.comp number first x.meant (standing_in (machine P x)) entered rules to
               index passed next))
-              (behind_by whole_call call_comes)
+              (after_by whole_call call_comes)
 
       -- A RETURN
       module _ (x : Joint) (settled : Settled T P x) (goes : step image inputs (machine P x) ≡
@@ -428,44 +428,44 @@ module _ (program : TacTree) (image : ImageParts) (inputs : List ℕ) (set : ℕ
               grows = λ k b a e. e;
               lived = λ k b cells h live. (cells, live, refl);
               keeps = λ k q p. refl;
-              rooms = λ k. refl;
+              depths = λ k. refl;
             };
           };
           settled = settled;
         })
 
         module _ (m : ℕ) (next : State) (goes_to : step image inputs (machine P x) ≡ Steps next)
-            (rest : Walks image inputs m next shown.last) where
+            (rest : Walks image inputs m next observed.last) where
           same_next : next ≡ returned image (machine P x) P.cross
           same_next = same_state next (returned image (machine P x) P.cross) (sym goes_to ∙ goes)
 
           leave_by : (cross : List Crossing) → P.cross ≡ cross → UnknownComes program roles T P x (does x.meant)
           leave_by [] is =
               let w : ℕ = reg (machine P x) a0 in
-              let tells : next.trace ≡ x.meant.trace ++ End P.comp w ∷ [] =
+              let emits_trace : next.trace ≡ x.meant.trace ++ End P.comp w ∷ [] =
               ap (λ s. s.trace) (same_next ∙ ap (returned image (machine P x)) is) in
               subst (UnknownComes program roles T P x)
               (sym (end_is program set t n P.comp number first x.meant (standing_in (machine P x)) entered w
-              (is_next x settled m next (End P.comp w) goes_to tells rest)))
+              (is_next x settled m next (End P.comp w) goes_to emits_trace rest)))
               (departs (Some (Word w)) (ap (λ w. Some (Word w)) a0_is ∙ ap (departing image (x.regs a0)) (sym is)))
           leave_by (c ∷ cs) is =
               let value : Option ℕ = given_back (has_result image c.callee c.entry) (machine P x) in
-              let tells : next.trace ≡ x.meant.trace ++ Ret P.comp c.caller value ∷ [] =
+              let emits_trace : next.trace ≡ x.meant.trace ++ Ret P.comp c.caller value ∷ [] =
               ap (λ s. s.trace) (same_next ∙ ap (returned image (machine P x)) is) in
               subst (UnknownComes program roles T P x)
               (sym (return_is program set t n P.comp number first x.meant (standing_in (machine P x)) entered c.caller
-              value (is_next x settled m next (Ret P.comp c.caller value) goes_to tells rest)))
+              value (is_next x settled m next (Ret P.comp c.caller value) goes_to emits_trace rest)))
               (departs (option_value value)
               (ap (λ w. option_value (if has_result image c.callee c.entry then Some w else None)) a0_is ∙
               ap (departing image (x.regs a0)) (sym is)))
 
       -- ONE STEP, AND ALL AFTER IT
       abbrev Later : ℕ → Type 0
-      Later m = (y : Joint) → Settled T P y → Walks image inputs m (machine P y) shown.last →
+      Later m = (y : Joint) → Settled T P y → Walks image inputs m (machine P y) observed.last →
           UnknownComes program roles T P y (does y.meant)
 
       by_step : (m : ℕ) (x : Joint) → Settled T P x → (next : State) → step image inputs (machine P x) ≡ Steps next →
-          Walks image inputs m next shown.last → Later m →
+          Walks image inputs m next observed.last → Later m →
           StepIs image inputs (machine P x) (step image inputs (machine P x)) →
           UnknownComes program roles T P x (does x.meant)
       by_step m x settled next goes rest later (traps reason is) =
@@ -476,22 +476,22 @@ module _ (program : TacTree) (image : ImageParts) (inputs : List ℕ) (set : ℕ
           same_state next _ (sym goes ∙ is) ∙ sym (next_is x settled regs pc after keeps is) in
           comes_after x y (does x.meant) settled (leads_silent x settled regs pc after keeps is)
           (later y (settled_silent x settled regs pc after keeps is)
-          (subst (λ s. Walks image inputs m s shown.last) to_y rest))
+          (subst (λ s. Walks image inputs m s observed.last) to_y rest))
       by_step m x settled next goes rest later (calls to index target export may is) =
-          let tells = ap (λ s. s.trace) (same_state next _ (sym goes ∙ is)) in
+          let emits_trace = ap (λ s. s.trace) (same_state next _ (sym goes ∙ is)) in
           call_followed x settled to index target export may is
-          (is_next x settled m next (calling x settled to index target export may is) goes tells rest)
+          (is_next x settled m next (calling x settled to index target export may is) goes emits_trace rest)
       by_step m x settled next goes rest later (leaves is) =
           leave_by x settled is m next goes rest P.cross refl
-      by_step m x settled next goes rest later (shows may is) =
-          let y : Joint = showing x settled is in
+      by_step m x settled next goes rest later (emits may is) =
+          let y : Joint = emitting x settled is in
           let to_y : next ≡ machine P y = same_state next (machine P y) (sym goes ∙ is) in
-          let w : ℕ = shown_word x settled is in
+          let w : ℕ = emitted_word x settled is in
           subst (UnknownComes program roles T P x)
           (sym (output_is program set t n P.comp number first x.meant (standing_in (machine P x)) entered w
           (is_next x settled m next (Out P.comp w) goes (ap (λ s. s.trace) to_y) rest)))
-          (comes_after x y (does y.meant) settled (leads_showing x settled is)
-          (later y (settled_showing x settled is) (subst (λ s. Walks image inputs m s shown.last) to_y rest)))
+          (comes_after x y (does y.meant) settled (leads_emitting x settled is)
+          (later y (settled_emitting x settled is) (subst (λ s. Walks image inputs m s observed.last) to_y rest)))
       by_step m x settled next goes rest later (reads may is) =
           let y : Joint = reading x settled is in
           let to_y : next ≡ machine P y = same_state next _ (sym goes ∙ is) ∙ sym (reading_is x settled is) in
@@ -499,41 +499,41 @@ module _ (program : TacTree) (image : ImageParts) (inputs : List ℕ) (set : ℕ
           (sym (input_is program set t n P.comp number first x.meant (standing_in (machine P x)) entered
           (is_next x settled m next (In P.comp (next_input x.meant.inputs)) goes (ap (λ s. s.trace) to_y) rest)))
           (comes_after x y (does y.meant) settled (leads_reading x settled is)
-          (later y (settled_reading x settled is) (subst (λ s. Walks image inputs m s shown.last) to_y rest)))
+          (later y (settled_reading x settled is) (subst (λ s. Walks image inputs m s observed.last) to_y rest)))
 
       -- past the trace the function stops
-      past : (x : Joint) → Front t x.meant.trace → UnknownComes program roles T P x (does x.meant)
-      past x front =
+      past : (x : Joint) → IsPrefix t x.meant.trace → UnknownComes program roles T P x (does x.meant)
+      past x prefix =
           subst (UnknownComes program roles T P x)
-          (sym (work_done program set t n P.comp number first x.meant front)) (inl (shows_here T P x 0))
+          (sym (work_done program set t n P.comp number first x.meant prefix)) (inl (emits_here T P x 0))
 
       on_to_last : (m : ℕ) → Later m
       on_to_last zero x settled walks =
-          let same : machine P x ≡ shown.last = cc (walks.by) in
-          past x (record { more = []; is = ap (λ s. s.trace) same ∙ shown.trace_is ∙ sym (append-nil t) })
+          let same : machine P x ≡ observed.last = cc (walks.by) in
+          past x (record { more = []; is = ap (λ s. s.trace) same ∙ observed.trace_is ∙ sym (append-nil t) })
       on_to_last (suc m) x settled walks =
-          let on : StepsOn image inputs m (machine P x) shown.last =
-          first_step image inputs m (machine P x) shown.last walks in
+          let on : StepsOn image inputs m (machine P x) observed.last =
+          first_step image inputs m (machine P x) observed.last walks in
           by_step m x settled on.next on.goes on.rest (on_to_last m) (step_is image inputs linked.formed (machine P x))
 
       -- from any state of the run
       pub followed : (x : Joint) → Settled T P x → UnknownComes program roles T P x (does x.meant)
-      followed x settled = by (cases_lt shown.steps settled.came.steps)
+      followed x settled = by (cases_lt observed.steps settled.came.steps)
         where
-          by : (shown.steps < settled.came.steps) ⊎ (settled.came.steps ≤ shown.steps) →
+          by : (observed.steps < settled.came.steps) ⊎ (settled.came.steps ≤ observed.steps) →
               UnknownComes program roles T P x (does x.meant)
           by (inl over) =
-              let gap : ℕ = settled.came.steps - shown.steps in
-              let whole : settled.came.steps ≡ shown.steps + gap = omega (arith, over) in
-              let rest : Walks image inputs gap shown.last (machine P x) =
-              walk_rest image inputs shown.steps gap (start image) shown.last (machine P x) shown.walks
+              let gap : ℕ = settled.came.steps - observed.steps in
+              let whole : settled.came.steps ≡ observed.steps + gap = omega (arith, over) in
+              let rest : Walks image inputs gap observed.last (machine P x) =
+              walk_rest image inputs observed.steps gap (start image) observed.last (machine P x) observed.walks
               (subst (λ k. Walks image inputs k (start image) (machine P x)) whole settled.came.walks) in
               past x
-              (subst (λ z. Front z x.meant.trace) shown.trace_is
-              (walk_front image inputs linked.formed gap shown.last (machine P x) rest.by))
+              (subst (λ z. IsPrefix z x.meant.trace) observed.trace_is
+              (walk_prefix image inputs linked.formed gap observed.last (machine P x) rest.by))
           by (inr within) =
-              let gap : ℕ = shown.steps - settled.came.steps in
-              let whole : shown.steps ≡ settled.came.steps + gap = omega (arith, within) in
+              let gap : ℕ = observed.steps - settled.came.steps in
+              let whole : observed.steps ≡ settled.came.steps + gap = omega (arith, within) in
               on_to_last gap x settled
-              (walk_rest image inputs settled.came.steps gap (start image) (machine P x) shown.last settled.came.walks
-              (subst (λ k. Walks image inputs k (start image) shown.last) whole shown.walks))
+              (walk_rest image inputs settled.came.steps gap (start image) (machine P x) observed.last settled.came.walks
+              (subst (λ k. Walks image inputs k (start image) observed.last) whole observed.walks))

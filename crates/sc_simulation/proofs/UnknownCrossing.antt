@@ -1,20 +1,20 @@
 -- Calls of compartments that perform are followed, whoever makes them, where their functions are.
 use Rattle.sc_simulation.proofs.Common.{Addresses, All, AllHonest, Bool, Call, CallGives, Cross, Departs, Export}
-use Rattle.sc_simulation.proofs.Common.{Function, GivenBack, GivesResults, Here, ImageParts, IsFunction, IsLinked}
-use Rattle.sc_simulation.proofs.Common.{IsProgram, IsUnknown, IsWord, Joint, Library, List, None, Option, PerformersDo}
+use Rattle.sc_simulation.proofs.Common.{Function, ReturnsValue, GivesResults, Here, ImageParts, IsFunction, IsLinked}
+use Rattle.sc_simulation.proofs.Common.{IsProgram, IsUnknown, IsWord, Joint, Denotations, List, None, Option, PerformersDo}
 use Rattle.sc_simulation.proofs.Common.{Piece, Reached, Ret, Roles, Scalar, Setting, Some, Standpoint, State as Meant}
 use Rattle.sc_simulation.proofs.Common.{Stopped, TacFnTree, TacTree, UnknownComes, UnknownGives, Value, a0, and_then}
 use Rattle.sc_simulation.proofs.Common.{ap, arith, back_cross, back_goes, begun, bodies, call_cross, called_there}
-use Rattle.sc_simulation.proofs.Common.{code_function, code_library, crossed, crossing, done, done_goes, earlier, false}
+use Rattle.sc_simulation.proofs.Common.{code_function, code_denotations, crossed, crossing, done, done_goes, earlier, false}
 use Rattle.sc_simulation.proofs.Common.{found, functions_in, has_result, if◌then◌else◌, inl, inr, is_some, length}
 use Rattle.sc_simulation.proofs.Common.{machine, map, nat_lt, not, option_value, overflows_then, read_listed, refl}
-use Rattle.sc_simulation.proofs.Common.{run_in, setting, slice_get, subst, sym, tell, true, walk_one, word_back}
+use Rattle.sc_simulation.proofs.Common.{run_in, setting, slice_get, subst, sym, emit_event, true, walk_one, word_back}
 use Rattle.sc_simulation.proofs.Common.{word_in, wrapping, ℕ, ◌<◌, ◌||◌, ◌∙◌, ◌≡◌}
 use Rattle.sc_laws.specs.Prelude.{Goes}
 use Rattle.sc_simulation.proofs.Across.{IsDone, IsMade, across, comes_back, seen_across, settled_in, walks_in}
 use Rattle.sc_simulation.proofs.CrossCalls.{IsLed, IsOffered}
 use Rattle.sc_simulation.proofs.Sections.{function_found}
-use Rattle.sc_simulation.proofs.Turning.{CallComes, GoesIn, overflows_in, shows_in, turned}
+use Rattle.sc_simulation.proofs.Turning.{CallComes, GoesIn, overflows_in, emits_in, turned}
 use Rattle.sc_simulation.proofs.UnknownFrames.{effect_whole, finished, settled_finished, settled_started, started}
 
 -- a result that a0 has crosses as it is
@@ -25,9 +25,9 @@ crosses_as (Some scalar) w v is =
     ap (λ v. option_value (word_back (Some scalar) v)) is ∙ sym is
 
 given_as : (T : Setting) (place : ℕ → Option ℕ) (result : Bool) (w : ℕ) (v : Option Value) → IsWord w →
-    v ≡ option_value (if result then Some w else None) → GivenBack T place w v
-given_as T place true w v word is = subst (GivenBack T place w) (sym is) (record { word = word; means = refl })
-given_as T place false w v word is = subst (GivenBack T place w) (sym is) tt
+    v ≡ option_value (if result then Some w else None) → ReturnsValue T place w v
+given_as T place true w v word is = subst (ReturnsValue T place w) (sym is) (record { word = word; means = refl })
+given_as T place false w v word is = subst (ReturnsValue T place w) (sym is) tt
 
 module _ (program : TacTree) (image : ImageParts) (inputs : List ℕ) (roles : Roles) (turn_pays : ℕ)
     (addresses : ℕ → Addresses) (rules : IsProgram program)
@@ -37,8 +37,8 @@ module _ (program : TacTree) (image : ImageParts) (inputs : List ℕ) (roles : R
   abbrev T : Setting
   T = setting program image inputs roles.scripted turn_pays addresses
 
-  abbrev library : Library
-  library = code_library wrapping program
+  abbrev denotations : Denotations
+  denotations = code_denotations wrapping program
 
   abbrev Led : (to index : ℕ) → Type 0
   Led = IsLed program image inputs roles turn_pays addresses rules functions results linked words
@@ -85,12 +85,12 @@ module _ (program : TacTree) (image : ImageParts) (inputs : List ℕ) (roles : R
           earlier s (done to F first s) (end v s) (done_goes to F first s)
           (back_goes program.interfaces P.comp to index v (done to F first s))
 
-      call_is : call_cross library (bodies program roles n) P.comp to index args (turned turns x.meant) ≡
+      call_is : call_cross denotations (bodies program roles n) P.comp to index args (turned turns x.meant) ≡
           and_then piece end
       call_is =
           ap (λ o. and_then (found o (turned turns x.meant)) (λ number s.
-          run_in library (bodies program roles n) to number (crossed args) back
-          (tell (Call P.comp to index (map word_in args)) s))) led.enters ∙
+          run_in denotations (bodies program roles n) to number (crossed args) back
+          (emit_event (Call P.comp to index (map word_in args)) s))) led.enters ∙
           ap (λ (o : Option Function). and_then (found o entering.meant) (λ f s.
           and_then (bodies program roles n led.number (record { comp = to; first = length (s.memory to) })
           (begun to f (crossed args) s)) (λ v t. back v (done to f (length (s.memory to)) t))))
@@ -150,14 +150,14 @@ module _ (program : TacTree) (image : ImageParts) (inputs : List ℕ) (roles : R
         comes =
             subst (λ s. CallGives T P x (Cross to index) (end v s)) d.meant_is
             (subst (λ o. CallGives T P x (Cross to index) (Reached (option_value (crossing o v))
-            (tell (Ret to P.comp (crossing o v)) w.meant))) (sym offered.export)
+            (emit_event (Ret to P.comp (crossing o v)) w.meant))) (sym offered.export)
             (comes_back T linked.formed words P x to index args turns entry made 1 entry (omega arith) (omega arith)
             (walks_in T linked.formed words P x to index args turns entry made) 0 paid offered.proto w v is_done))
 
       gives : (o : Piece (Option Value)) → UnknownGives program roles T Q begins o →
           CallGives T P x (Cross to index) (and_then o end)
       gives (Reached v s) d = comes v s d
-      gives (Stopped e s) g = shows_in T P Q x begins 1 goes 0 paid s g
+      gives (Stopped e s) g = emits_in T P Q x begins 1 goes 0 paid s g
 
       comes_by : (o : Piece (Option Value)) → UnknownComes program roles T Q begins o →
           CallComes T P x (Cross to index) (and_then o end)
@@ -166,7 +166,7 @@ module _ (program : TacTree) (image : ImageParts) (inputs : List ℕ) (roles : R
           inr (overflows_then T P x 1 o end end_goes (overflows_in T P Q x begins 1 goes 0 paid o g))
 
       pub into_unknown : CallComes T P x (Cross to index)
-          (call_cross library (bodies program roles n) P.comp to index args (turned turns x.meant))
+          (call_cross denotations (bodies program roles n) P.comp to index args (turned turns x.meant))
       into_unknown =
           subst (CallComes T P x (Cross to index)) (sym call_is)
           (comes_by piece (perform Q begins led.number first is_unknown))

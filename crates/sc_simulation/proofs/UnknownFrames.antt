@@ -1,10 +1,10 @@
 -- The variables and the frame of a function that performs, only in the meaning: the machine knows nothing of them.
 use Rattle.sc_simulation.proofs.Common.{AllBefore, Cell, Effect, FrameChange, Function, Joint, List, LiveAt, Memory}
 use Rattle.sc_simulation.proofs.Common.{Protected, Setting, Settled, Standpoint, Value, ap, arith, begun, cases_eq}
-use Rattle.sc_simulation.proofs.Common.{done, false, length, ne_eqb, open_room, refl, room_after, slice_get, suc, sym}
+use Rattle.sc_simulation.proofs.Common.{done, false, length, ne_eqb, stack_depth, refl, depth_after, slice_get, suc, sym}
 use Rattle.sc_simulation.proofs.Common.{true, ℕ, ⊎_elim, ◌∙◌, ◌≡◌, ◌≢◌, ◌≤◌}
-use Rattle.sc_relation.proofs.Ending.{length_closed, memory_closed, room_begun, room_begun_else, room_done}
-use Rattle.sc_relation.proofs.Ending.{room_done_else, told_closed, told_opened}
+use Rattle.sc_relation.proofs.Ending.{length_closed, memory_closed, depth_begun, depth_begun_else, depth_done}
+use Rattle.sc_relation.proofs.Ending.{depth_done_else, timed_closed, timed_opened}
 use Rattle.sc_relation.proofs.Opening.{length_opened, memory_opened}
 
 module _ (T : Setting) (Q : Standpoint) (comp : ℕ) (performs : T.performs comp ≡ true) where
@@ -19,8 +19,8 @@ module _ (T : Setting) (Q : Standpoint) (comp : ℕ) (performs : T.performs comp
   record IsElsewhere (y : Joint) (memory : Memory) (frames : List FrameChange) : Type 0 where
     same : (k : ℕ) → k ≢ comp → memory k ≡ y.meant.memory k
     longer : (k : ℕ) → length (y.meant.memory k) ≤ length (memory k)
-    rooms : (k : ℕ) → k ≢ comp → room_after k 0 frames ≡ open_room k y.meant
-    told : AllBefore (suc (length y.meant.trace)) frames
+    depths : (k : ℕ) → k ≢ comp → depth_after k 0 frames ≡ stack_depth k y.meant
+    timed : AllBefore (suc (length y.meant.trace)) frames
 
   was_live : (memory later : Memory) (k b : ℕ) (cells : List Cell) → later k ≡ memory k → LiveAt later k b cells →
       LiveAt memory k b cells
@@ -47,8 +47,8 @@ module _ (T : Setting) (Q : Standpoint) (comp : ℕ) (performs : T.performs comp
         inputs = s.inputs;
         steady = s.steady;
         came = s.came;
-        room = λ k honest. omega (arith, s.room k honest, else.rooms k (other_than k honest));
-        told = else.told;
+        depth = λ k honest. omega (arith, s.depth k honest, else.depths k (other_than k honest));
+        timed = else.timed;
       }
 
   module _ (f : Function) (args : List Value) (y : Joint) where
@@ -74,8 +74,8 @@ module _ (T : Setting) (Q : Standpoint) (comp : ℕ) (performs : T.performs comp
         settled_elsewhere y started.meant.memory started.meant.frames (record {
           same = opened_there;
           longer = opened_longer;
-          rooms = λ k n. room_begun_else k comp f y.meant args n;
-          told = told_opened (length y.meant.trace) comp f.room y.meant.frames s.told;
+          depths = λ k n. depth_begun_else k comp f y.meant args n;
+          timed = timed_opened (length y.meant.trace) comp f.frame_size y.meant.frames s.timed;
         }) s
 
     module _ (z : Joint) where
@@ -91,23 +91,23 @@ module _ (T : Setting) (Q : Standpoint) (comp : ℕ) (performs : T.performs comp
           settled_elsewhere z finished.meant.memory finished.meant.frames (record {
             same = closed_there;
             longer = λ k. omega (arith, length_closed comp first (length f.cells) z.meant.memory k);
-            rooms = λ k n. room_done_else k comp f z.meant first n;
-            told = told_closed (length z.meant.trace) comp f.room z.meant.frames s.told;
+            depths = λ k n. depth_done_else k comp f z.meant first n;
+            timed = timed_closed (length z.meant.trace) comp f.frame_size z.meant.frames s.timed;
           }) s
 
-      rooms_same : Effect T Q started z → (k : ℕ) → open_room k finished.meant ≡ open_room k y.meant
-      rooms_same effect k = ⊎_elim
+      depths_same : Effect T Q started z → (k : ℕ) → stack_depth k finished.meant ≡ stack_depth k y.meant
+      depths_same effect k = ⊎_elim
           (λ e. omega (
             arith,
-            room_done k comp f z.meant first e,
-            room_begun k comp f y.meant args e,
-            effect.rooms k,
+            depth_done k comp f z.meant first e,
+            depth_begun k comp f y.meant args e,
+            effect.depths k,
           ))
           (λ d. omega (
             arith,
-            room_done_else k comp f z.meant first d,
-            room_begun_else k comp f y.meant args d,
-            effect.rooms k,
+            depth_done_else k comp f z.meant first d,
+            depth_begun_else k comp f y.meant args d,
+            effect.depths k,
           ))
           (cases_eq k comp)
 
@@ -137,5 +137,5 @@ module _ (T : Setting) (Q : Standpoint) (comp : ℕ) (performs : T.performs comp
               was.2,
             ));
         keeps = λ k q p. effect.keeps k q (protected_started k q p);
-        rooms = rooms_same effect;
+        depths = depths_same effect;
       }

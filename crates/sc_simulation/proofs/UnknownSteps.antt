@@ -42,7 +42,7 @@ pub data StepIs (image : ImageParts) (inputs : List ℕ) (s : State) (outcome : 
   calls : (to index target : ℕ) → export_at image to target ≡ Some index → may_call image s.active to index ≡ true →
       outcome ≡ Goes (called s to index (params_of image to index) target) → StepIs image inputs s outcome
   leaves : outcome ≡ Goes (returned image s s.cross) → StepIs image inputs s outcome
-  shows : may_output image s.active ≡ true → outcome ≡ Goes (with_pc (output s) (s.pc + 4)) →
+  emits : may_output image s.active ≡ true → outcome ≡ Goes (with_pc (output s) (s.pc + 4)) →
       StepIs image inputs s outcome
   reads : may_input image s.active ≡ true → outcome ≡ Goes (with_pc (input inputs s) (s.pc + 4)) →
       StepIs image inputs s outcome
@@ -60,7 +60,7 @@ step_is image inputs formed s = step_of image inputs formed s (StepIs image inpu
       }) refl;
   calls = λ to index target at may. calls to index target at may refl;
   returns = leaves refl;
-  outputs = λ may. shows may refl;
+  outputs = λ may. emits may refl;
   reads = λ may. reads may refl;
 })
 

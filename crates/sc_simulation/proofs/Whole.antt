@@ -5,7 +5,7 @@ use Rattle.sc_simulation.proofs.Bodies.{bodies_follow}
 use Rattle.sc_simulation.proofs.Finish.{outcome}
 use Rattle.sc_simulation.proofs.Following.{all_follow}
 use Rattle.sc_simulation.proofs.Scripts.{keeps}
-use Rattle.sc_simulation.proofs.Shown.{is_shown}
+use Rattle.sc_simulation.proofs.Emitted.{has_emitted}
 
 pub simulates : Simulates
 simulates program image turn_pays built inputs turns words =
@@ -16,8 +16,8 @@ simulates program image turn_pays built inputs turns words =
 
 pub scripts_simulate : ScriptsSimulate
 scripts_simulate program image turn_pays built inputs steps events set words is_legal =
-    let shown : List Event = (machine image inputs steps events).state.trace in
-    let all = all_follow program image inputs set shown turn_pays built.addresses built.rules built.functions
-    (built.results (roles_in program.interfaces.main set shown)) built.linked words
-    (is_shown image inputs events steps) is_legal in
+    let observed : List Event = (machine image inputs steps events).state.trace in
+    let all = all_follow program image inputs set observed turn_pays built.addresses built.rules built.functions
+    (built.results (roles_in program.interfaces.main set observed)) built.linked words
+    (has_emitted image inputs events steps) is_legal in
     keeps program image turn_pays built inputs steps events set is_legal (λ n. (all n).run) (λ n. (all n).perform)

@@ -2,9 +2,9 @@
 -- whatever code these have.
 use Rattle.sc_simulation.specs.Common.{AreFloors, ArePassed, Begins, CallGives, CallStands, Calls, Cross, Crossing}
 use Rattle.sc_simulation.specs.Common.{Event, FunctionGives, Goes, ImageParts, IsBase, Joint, Leads, Main, Overflows}
-use Rattle.sc_simulation.specs.Common.{Piece, Reached, Roles, Setting, Settled, Shows, Standpoint, State as Meant}
+use Rattle.sc_simulation.specs.Common.{Piece, Reached, Roles, Setting, Settled, Emits, Standpoint, State as Meant}
 use Rattle.sc_simulation.specs.Common.{Stopped, TacFnTree, TacTree, Value, Walks, Word, a0, and_then, begun, calls}
-use Rattle.sc_simulation.specs.Common.{code_function, code_library, done, has_result, option_value, passes_words}
+use Rattle.sc_simulation.specs.Common.{code_function, code_denotations, done, has_result, option_value, passes_words}
 use Rattle.sc_simulation.specs.Common.{returned, sp, start, step, wrapping}
 use Rattle.sc_image.specs.Prelude.{State}
 use Rattle.sc_relation.specs.Prelude.{machine}
@@ -25,7 +25,7 @@ departing image w [] = Some (Word w)
 departing image w (x ∷ xs) = option_value (if has_result image x.callee x.entry then Some w else None)
 
 -- some steps from its start, the machine has emitted these events
-pub record IsShown (image : ImageParts) (inputs : List ℕ) (trace : List Event) : Type 0 where
+pub record HasEmitted (image : ImageParts) (inputs : List ℕ) (trace : List Event) : Type 0 where
   pub steps : ℕ
   pub last : State
   pub walks : Walks image inputs steps (start image) last
@@ -34,7 +34,7 @@ pub record IsShown (image : ImageParts) (inputs : List ℕ) (trace : List Event)
 module _ (program : TacTree) (roles : Roles) where
   -- what calls do whose functions may have at most `open_calls` calls open
   abbrev pub calls_of : (open_calls : ℕ) → Calls
-  calls_of open_calls = calls (code_library wrapping program) (bodies program roles open_calls)
+  calls_of open_calls = calls (code_denotations wrapping program) (bodies program roles open_calls)
 
   -- a function from the beginning of its variables and its frame to their end
   abbrev pub ran : (open_calls comp number : ℕ) → TacFnTree → List Value → Meant → Piece (Option Value)
@@ -67,7 +67,7 @@ module _ (program : TacTree) (roles : Roles) where
       pub performs : roles.scripted P.comp ≡ true
       pub settled : Settled T P x
       pub floors : AreFloors T.performs P.floor
-      pub entered : (code_library wrapping program).entered P.comp (entered_by P.cross) ≡ Some number
+      pub entered : (code_denotations wrapping program).entered P.comp (entered_by P.cross) ≡ Some number
 
     -- it stands before the step that leaves the active function with a value
     pub record Departs (P : Standpoint) (x : Joint) (v : Option Value) (meant : Meant) : Type 0 where
@@ -80,7 +80,7 @@ module _ (program : TacTree) (roles : Roles) where
 
     abbrev pub UnknownGives : Standpoint → Joint → Piece (Option Value) → Type 0
     UnknownGives P x (Reached v s) = Departs P x v s
-    UnknownGives P x (Stopped end s) = Shows T P x 0 s
+    UnknownGives P x (Stopped end s) = Emits T P x 0 s
 
     abbrev pub UnknownComes : Standpoint → Joint → Piece (Option Value) → Type 0
     UnknownComes P x piece = UnknownGives P x piece ⊎ Overflows T P x 0 piece

@@ -1,6 +1,6 @@
 -- What the machine does from its start, beside a run of code.
-use Rattle.sc_simulation.specs.Common.{AllBefore, AllFrom, Ended, FrameChange, Front, Goes, ImageParts, IsStop, Owner}
-use Rattle.sc_simulation.specs.Common.{Run, Traps, TurnsOut, Walks, ended, has_no_end, room_after, stack_size, start}
+use Rattle.sc_simulation.specs.Common.{AllBefore, AllFrom, Ended, FrameChange, IsPrefix, Goes, ImageParts, IsStop, Owner}
+use Rattle.sc_simulation.specs.Common.{Run, Traps, TurnsOut, Walks, ended, has_no_end, depth_after, stack_size, start}
 use Rattle.sc_simulation.specs.Common.{step}
 use Rattle.sc_image.specs.Prelude.{State}
 use Rattle.std.specs.Prelude.{◌≡◌, ℕ, suc, ◌<◌, ◌≤◌, true, List, length}
@@ -32,12 +32,12 @@ module _ (image : ImageParts) (inputs : List ℕ) (bound turns : ℕ) (run : Run
   pub record IsFull : Type 0 where
     pub place : Reaches image inputs bound
     pub traps : step image inputs place.reached ≡ Traps Owner
-    pub trace : Front place.reached.trace run.behaviour.trace
+    pub trace : IsPrefix place.reached.trace run.behaviour.trace
     pub frames : List FrameChange
-    pub front : Front frames run.frames
+    pub prefix : IsPrefix frames run.frames
     pub before : AllBefore (suc (length place.reached.trace)) frames
-    pub behind : AllFrom (length place.reached.trace) front.more
-    pub deep : stack_size < room_after place.reached.active 0 frames
+    pub following : AllFrom (length place.reached.trace) prefix.more
+    pub deep : stack_size < depth_after place.reached.active 0 frames
 
   pub data Outcome : Type 0 where
     finishes : Finishes → Outcome

@@ -1,6 +1,6 @@
 -- What the functions of a program return, whoever performs and however many calls may be open.
 use Rattle.sc_simulation.specs.Common.{Body, Export, Here, Main, Proto, Reached, Roles, State, TacFnTree, TacTree}
-use Rattle.sc_simulation.specs.Common.{Value, Word, code_library, crossing, export_at, function_entered, option_value}
+use Rattle.sc_simulation.specs.Common.{Value, Word, code_denotations, crossing, export_at, function_entered, option_value}
 use Rattle.sc_simulation.specs.Common.{run_step, scripted_step, within, wrapping}
 use Rattle.std.specs.Prelude.{◌≡◌, ℕ, true, false, Option, Some, slice_get, IsSome}
 use Rattle.sc_simulation.specs.Linked.{functions_in}
@@ -8,7 +8,7 @@ use Rattle.sc_simulation.specs.Linked.{functions_in}
 -- what its functions do where at most `open_calls` calls may be open and some compartments perform
 abbrev pub bodies : TacTree → Roles → (open_calls : ℕ) → Body
 bodies program roles =
-    within (scripted_step (code_library wrapping program) roles (run_step (code_library wrapping program)))
+    within (scripted_step (code_denotations wrapping program) roles (run_step (code_denotations wrapping program)))
 
 pub record GivesResults (program : TacTree) (roles : Roles) : Type 0 where
   -- a function with a result gives a value

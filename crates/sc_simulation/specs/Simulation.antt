@@ -32,6 +32,6 @@ Simulates = (program : TacTree) (image : ImageParts) (turn_pays : ℕ) → IsBui
 abbrev pub ScriptsSimulate : Type 0
 ScriptsSimulate = (program : TacTree) (image : ImageParts) (turn_pays : ℕ) → IsBuilt program image turn_pays →
     (inputs : List ℕ) (steps events : ℕ) (set : ℕ → Bool) → All IsWord inputs →
-    let shown = (machine image inputs steps events).state.trace in
-    legal program.interfaces shown ≡ true →
-    KeepsTo shown (scripted_code_run wrapping program inputs steps set shown).behaviour
+    let observed = (machine image inputs steps events).state.trace in
+    legal program.interfaces observed ≡ true →
+    KeepsTo observed (scripted_code_run wrapping program inputs steps set observed).behaviour

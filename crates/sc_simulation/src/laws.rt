@@ -1,6 +1,6 @@
 // The laws, each the contract of a function with nothing to do.
 
-ghost use Rattle.sc_simulation.specs.Prelude.{OutcomesShow, ScriptsSimulate, Simulates};
+ghost use Rattle.sc_simulation.specs.Prelude.{OutcomesSimulate, ScriptsSimulate, Simulates};
 
 /// From its start, the machine on an image in which the code of a program stands emits what a run of that code emits,
 /// unless a stack is full; and it takes no more steps than the turns pay for.
@@ -10,8 +10,8 @@ pub fn simulates()
 
 /// What the machine does beside a run, in steps, gives the traces of its runs wherever they are stopped: all that the
 /// run emits within a bound on steps, or a full stack, and nothing else in as many steps as the run has turns.
-pub fn outcomes_show()
-    ensures { OutcomesShow }
+pub fn outcomes_simulate()
+    ensures { OutcomesSimulate }
 {}
 
 /// Where a set of compartments performs its part of the machine's trace, whatever its code does, the run of all other

@@ -256,7 +256,7 @@ copied s a xs bs low high b =
     by_access s (length xs) b (λ out. written-apart off s new b (λ l u. out l (omega arith)) ∙
     sym (kept (λ l u. out (omega arith) (omega arith)) ∙ written-apart off s xs b out)) (λ from inside.
     written-in off s new b from (omega arith) ∙ ⊎_elim
-    (λ front. ap Some (before (a - s) _ (b - s) xs bs (omega arith) (omega arith)) ∙
+    (λ prefix. ap Some (before (a - s) _ (b - s) xs bs (omega arith) (omega arith)) ∙
     sym (kept (λ l u. omega arith) ∙ written-in off s xs b from inside))
     (λ later. ⊎_elim (λ here. ap Some (within _ _ _ xs bs (omega arith) refl (omega arith) (omega arith) ∙
     ap (λ i. get_or bs i 0) (let i : b - s - (a - s) ≡ b - a = omega arith in i)) ∙
@@ -288,7 +288,7 @@ written_nothing m a = λ k b. nothing_at m a b k
 more_at : (m : Memory) (a : ℕ) (bs : List ℕ) (k : ℕ) → k < length bs → (b : ℕ) →
     written (written m a (take k bs)) (a + k) (get_or bs k 0 ∷ []) b ≡ written m a (take (k + 1) bs) b
 more_at m a bs k h b =
-    let front : length (take k bs) ≡ k = length-take-le k bs (omega arith) in
+    let prefix : length (take k bs) ≡ k = length-take-le k bs (omega arith) in
     let more : length (take (k + 1) bs) ≡ k + 1 = length-take-le (k + 1) bs (omega arith) in
     ⊎_elim (λ low. written-apart (written m a (take k bs)) (a + k) (get_or bs k 0 ∷ []) b (λ l u. omega arith) ∙ ⊎_elim
     (λ before. written-apart m a (take k bs) b (λ l u. omega arith) ∙
@@ -313,7 +313,7 @@ written_more m a bs k h = λ i b. more_at m a bs k h b i
 pub next_there : (m m' : Memory) (a : ℕ) (bs : List ℕ) (k : ℕ) → m' ≡ written m a (take k bs) → k < length bs →
     HasBytes m a (length bs) → IsSome (m' (a + k))
 next_there m m' a bs k e h has =
-    let front = length-take-le k bs (omega arith) in
+    let prefix = length-take-le k bs (omega arith) in
     subst (λ o. IsSome o) (sym (ap (λ f. f (a + k)) e ∙ written-apart m a (take k bs) (a + k) (λ l u. omega arith)))
     (has k h)
 

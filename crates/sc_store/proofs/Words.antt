@@ -69,14 +69,14 @@ cut_more : (v k : ℕ) → v % 256 ^ k + byte_of v k * 256 ^ k ≡ v % 256 ^ suc
 cut_more v k = rw (pow-succ' 256 k) (omega (arith, mod-mul v {m = 256} {c = 256 ^ k} (omega arith) (pow_pos k)))
 
 -- the first `k` bytes of what was stored
-front_stored : (m : Memory) (a n v k : ℕ) → k ≤ n → load_of (stored m a n v) a k ≡ v % 256 ^ k
-front_stored m a n v zero h = omega arith
-front_stored m a n v (suc k) h = ap (λ w. w + unwrap_or (stored m a n v (a + k)) 0 * 256 ^ k)
-    (front_stored m a n v k (omega arith)) ∙ ap (λ o. v % 256 ^ k + unwrap_or o 0 * 256 ^ k)
+first_bytes_stored : (m : Memory) (a n v k : ℕ) → k ≤ n → load_of (stored m a n v) a k ≡ v % 256 ^ k
+first_bytes_stored m a n v zero h = omega arith
+first_bytes_stored m a n v (suc k) h = ap (λ w. w + unwrap_or (stored m a n v (a + k)) 0 * 256 ^ k)
+    (first_bytes_stored m a n v k (omega arith)) ∙ ap (λ o. v % 256 ^ k + unwrap_or o 0 * 256 ^ k)
     (stored-at m a n v k (omega arith)) ∙ cut_more v k
 
 pub load_of-stored : (m : Memory) (a n v : ℕ) → load_of (stored m a n v) a n ≡ v % 256 ^ n
-load_of-stored m a n v = front_stored m a n v n (omega arith)
+load_of-stored m a n v = first_bytes_stored m a n v n (omega arith)
 
 -- two memories with the same bytes there give the same number
 pub load_of-same : (m m' : Memory) (a n : ℕ) → ((k : ℕ) → k < n → m (a + k) ≡ m' (a + k)) →

@@ -11,18 +11,18 @@ use Rattle.sc_tac.proofs.Owned.{OwnPoint, points_own}
 use Rattle.std.proofs.lemmas.Map.Keys.{any_passes_from_place}
 
 -- a span that is found lasts to the number from which points are counted, or longer
-behind_by : (b : Bool) (from : ℕ) (later : Option Span) (span : Span) →
+after_by : (b : Bool) (from : ℕ) (later : Option Span) (span : Span) →
     ((s : Span) → later ≡ Some s → suc from ≤ s.last) →
     (if b then Some (from_here from later) else later) ≡ Some span → from ≤ span.last
-behind_by true from None span h e = subst (λ (s : Span). from ≤ s.last) (same_Some _ span e) (omega arith)
-behind_by true from (Some s) span h e =
+after_by true from None span h e = subst (λ (s : Span). from ≤ s.last) (same_Some _ span e) (omega arith)
+after_by true from (Some s) span h e =
     subst (λ (s : Span). from ≤ s.last) (same_Some _ span e) (omega (arith, h s refl))
-behind_by false from later span h e = omega (arith, h span e)
+after_by false from later span h e = omega (arith, h span e)
 
-behind : (t from : ℕ) (xs : List Point) (span : Span) → span_from t from xs ≡ Some span → from ≤ span.last
-behind t from [] span e = absurd (cc e)
-behind t from (x ∷ xs) span e =
-    behind_by (is_used t x) from (span_from t (suc from) xs) span (behind t (suc from) xs) e
+following : (t from : ℕ) (xs : List Point) (span : Span) → span_from t from xs ≡ Some span → from ≤ span.last
+following t from [] span e = absurd (cc e)
+following t from (x ∷ xs) span e =
+    after_by (is_used t x) from (span_from t (suc from) xs) span (following t (suc from) xs) e
 
 -- a span is there, and the point lies in it
 record Covers (span : Option Span) (at : ℕ) : Type 0 where
@@ -71,7 +71,7 @@ covered : (t from k : ℕ) (xs : List Point) (x : Point) → slice_get xs k ≡ 
 covered t from k [] x at used = absurd (cc at)
 covered t from zero (z ∷ xs) x at used =
     first_covered (is_used t z) from (span_from t (suc from) xs) (ap (is_used t) (same_Some z x at) ∙ used)
-    (behind t (suc from) xs)
+    (following t (suc from) xs)
 covered t from (suc k) (z ∷ xs) x at used =
     later_covered (is_used t z) from k (span_from t (suc from) xs) (covered t (suc from) k xs x at used)
 
@@ -91,18 +91,18 @@ get_dropped (x ∷ xs) zero k m e = ap (slice_get (x ∷ xs)) (omega (arith, e))
 get_dropped (x ∷ xs) (suc n) k zero e = absurd (omega (arith, e))
 get_dropped (x ∷ xs) (suc n) k (suc m) e = get_dropped xs n k m (omega (arith, e))
 
-get_front : {A : Type 0} (xs : List A) (n k : ℕ) → k < n → slice_get (take n xs) k ≡ slice_get xs k
-get_front xs zero k less = absurd (omega arith)
-get_front [] (suc n) k less = refl
-get_front (x ∷ xs) (suc n) zero less = refl
-get_front (x ∷ xs) (suc n) (suc k) less = get_front xs n k (omega (arith, less))
+get_prefix : {A : Type 0} (xs : List A) (n k : ℕ) → k < n → slice_get (take n xs) k ≡ slice_get xs k
+get_prefix xs zero k less = absurd (omega arith)
+get_prefix [] (suc n) k less = refl
+get_prefix (x ∷ xs) (suc n) zero less = refl
+get_prefix (x ∷ xs) (suc n) (suc k) less = get_prefix xs n k (omega (arith, less))
 
 call_found : (xs : List Point) (span : Span) (k : ℕ) (x : Point) → slice_get xs k ≡ Some x → x.calls ≡ true →
     span.first ≤ k → k ≤ span.last → has_call xs span ≡ true
 call_found xs span k x at calls begun lasts =
     any_passes_from_place (λ (x : Point). x.calls) (take (suc span.last - span.first) (drop span.first xs))
     (k - span.first) x
-    (get_front (drop span.first xs) (suc span.last - span.first) (k - span.first) (omega (arith, begun, lasts)) ∙
+    (get_prefix (drop span.first xs) (suc span.last - span.first) (k - span.first) (omega (arith, begun, lasts)) ∙
     get_dropped xs span.first (k - span.first) k (omega (arith, begun)) ∙ at) calls
 
 get_ranged : {A : Type 0} (g : ℕ → A) (from n t : ℕ) → t < n →
@@ -126,8 +126,8 @@ module _ (f : TacFnTree) (places : List Place) (rules : IsFunction f) (assigned 
       get_ranged (interval_of (function_points f)) 0 f.temps t less ∙
       ap (λ i. Some (interval_of (function_points f) i)) (omega arith))
 
-  alone : (t u : ℕ) → is_used t x ≡ true → is_used u x ≡ true → Share places t u → t ≡ u
-  alone t u used other =
+  only_main : (t u : ℕ) → is_used t x ≡ true → is_used u x ≡ true → Share places t u → t ≡ u
+  only_main t u used other =
       assigned.apart t u k (interval_of (function_points f) t) (interval_of (function_points f) u)
       (its t used) (its u other)
       (within (function_points f) t k x at used) (within (function_points f) u k x at other)
@@ -141,8 +141,8 @@ module _ (f : TacFnTree) (places : List Place) (rules : IsFunction f) (assigned 
 
   clear_at : IsClear places x
   clear_at = record {
-    assigned = λ d t is live. alone d t (assigned_used d is) (live_used t live);
-    live = λ t u live other. alone t u (live_used t live) (live_used u other);
+    assigned = λ d t is live. only_main d t (assigned_used d is) (live_used t live);
+    live = λ t u live other. only_main t u (live_used t live) (live_used u other);
     over_calls = λ t calls live.
         (let w = within (function_points f) t k x at (live_used t live) in
         assigned.over_calls t (interval_of (function_points f) t) (its t (live_used t live))

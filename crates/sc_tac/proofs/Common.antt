@@ -7,7 +7,7 @@ pub use Rattle.std.proofs.lemmas.Bool.{or_cases, or_left, or_right}
 pub use Rattle.std.specs.List.{list_all, range_with_len}
 pub use Rattle.sc_event.specs.declared.interface.Interfaces.{Interfaces}
 pub use Rattle.sc_core.proofs.Induction.{Each}
-pub use Rattle.sc_core.specs.Prelude.{Arith, Blocks, Break, Calls, Continue, Function, Here, Library, Next, Reached}
+pub use Rattle.sc_core.specs.Prelude.{Arith, Blocks, Break, Calls, Continue, Function, Here, Denotations, Next, Reached}
 pub use Rattle.sc_core.specs.Prelude.{Return, all_do, and_then, c_arith, choose, closed, frame_bound, functions_of}
 pub use Rattle.sc_core.specs.Prelude.{leave, load, roles_in, run_by, run_step, scripted_step, stopped_at, stored, total}
 pub use Rattle.sc_core.specs.Prelude.{wrapping}
@@ -18,7 +18,7 @@ pub use Rattle.sc_tac.specs.Prelude.{Ahead, CodeObeys, Codes, IsAssignment, IsCl
 pub use Rattle.sc_tac.specs.Prelude.{PlacesAreClear, Point, Reading, Set, Share, Span, Temps, Trail, Within}
 pub use Rattle.sc_tac.specs.Prelude.{WrappedCodeAgrees, ahead_at, all_assigned_first, branch_step, branches, call_does}
 pub use Rattle.sc_tac.specs.Prelude.{calls_exports, calls_imports, calls_own, code_does, code_function, code_functions}
-pub use Rattle.sc_tac.specs.Prelude.{code_globals, code_library, code_meaning, code_meaning_by, code_step, code_wrapped}
+pub use Rattle.sc_tac.specs.Prelude.{code_globals, code_denotations, code_meaning, code_meaning_by, code_step, code_wrapped}
 pub use Rattle.sc_tac.specs.Prelude.{constant_value, enters_by_words, entry_known, entry_weight, everywhere, from_here}
 pub use Rattle.sc_tac.specs.Prelude.{function_points, gets, has_call, has_elements, has_none, has_operands, has_words}
 pub use Rattle.sc_tac.specs.Prelude.{if_calls, in_body, in_head, in_next, interval_of, intervals_of, is_assigned_first}

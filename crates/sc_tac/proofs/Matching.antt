@@ -2,19 +2,19 @@
 use Rattle.sc_tac.proofs.Common.{Arith, Blocks, Break, Calls, CodeObeys, Codes, Continue, Each, Here, List, Main, Next}
 use Rattle.sc_tac.proofs.Common.{None, Option, Reached, Result, Return, Some, TacFnTree, TacSection, TacStmt, TacStmt-F}
 use Rattle.sc_tac.proofs.Common.{TacTree, Temps, WrappedCodeAgrees, [], and_then, c_arith, call_does, choose, closed}
-use Rattle.sc_tac.proofs.Common.{code_does, code_function, code_functions, code_globals, code_library, code_step}
+use Rattle.sc_tac.proofs.Common.{code_does, code_function, code_functions, code_globals, code_denotations, code_step}
 use Rattle.sc_tac.proofs.Common.{constant_value, false, fold-roll-TacStmt, functions_of, gets, is_unsigned, known}
 use Rattle.sc_tac.proofs.Common.{leave, load, map, map-TacStmt, no_temps, op_does, operated, read, read_all, received}
 use Rattle.sc_tac.proofs.Common.{refl, return_does, roles_in, roll-TacStmt, same_entry, second, start_of, stmt_does}
 use Rattle.sc_tac.proofs.Common.{store_does, stored, subst, sym, true, with_temp, wrapping, ℕ, ◌+◌, ◌∷◌, ◌≡◌}
-use Rattle.sc_laws.specs.Prelude.{FunctionsMatch, IsArithmetic, LibrariesMatch, Match, Never}
+use Rattle.sc_laws.specs.Prelude.{FunctionsMatch, IsArithmetic, DenotationsMatch, Match, Never}
 use Rattle.sc_core.specs.declared.cause.Cause.{Cause}
 use Rattle.sc_core.specs.declared.expr.CallTarget.{CallTarget}
 use Rattle.sc_core.specs.declared.expr.CallTarget.TheVariants.{Own, Cross, Input, Output}
 use Rattle.sc_core.specs.declared.value.Value.{Value}
 use Rattle.sc_laws.proofs.Expressions.{ArithKeeps, Keeps, alike, on_words_keep, one_keeps}
-use Rattle.sc_laws.proofs.Interactions.{MatchWith, match_reached, match_then, match_computed, match_store, match_call}
-use Rattle.sc_laws.proofs.Interactions.{match_if, match_leave, match_all, match_loop}
+use Rattle.sc_laws.proofs.InteractionTrees.{MatchWith, match_reached, match_then, match_computed, match_store, match_call}
+use Rattle.sc_laws.proofs.InteractionTrees.{match_if, match_leave, match_all, match_loop}
 use Rattle.sc_laws.proofs.Statements.{Pairs, meets_at, lists_at, itself_keeps, closed_matches}
 use Rattle.sc_laws.proofs.ProgramLaws.{wrapped_agrees, wrapping_agrees}
 use Rattle.sc_laws.proofs.Wrapping.{binary_fits, negated_fits}
@@ -193,7 +193,7 @@ module _ (Soft : Cause → Type 0) (ar br : Arith) (arith : ArithKeeps Soft ar b
   of_function : (f : TacFnTree) → FunctionsMatch Soft (code_function ar f) (code_function br f)
   of_function f = record {
     cells = refl;
-    room = refl;
+    frame_size = refl;
     does = λ here.
         match_then Soft here _ _ (λ left by s. closed left.exit f.result (same_entry Main f.entry) 0 here s)
         (λ left by s. closed left.exit f.result (same_entry Main f.entry) 0 here s)
@@ -211,34 +211,34 @@ module _ (Soft : Cause → Type 0) (ar br : Arith) (arith : ArithKeeps Soft ar b
   of_sections [] = tt
   of_sections (section ∷ sections) = (of_functions section.functions, of_sections sections)
 
-  pub library_matches : (program : TacTree) → LibrariesMatch Soft (code_library ar program) (code_library br program)
-  library_matches program = record {
+  pub denotations_match : (program : TacTree) → DenotationsMatch Soft (code_denotations ar program) (code_denotations br program)
+  denotations_match program = record {
     interfaces = refl;
     functions =
-        λ comp number. meets_at (FunctionsMatch Soft) (functions_of (code_library ar program) comp)
-        (functions_of (code_library br program) comp) number
-        (lists_at (FunctionsMatch Soft) (code_library ar program).functions (code_library br program).functions
+        λ comp number. meets_at (FunctionsMatch Soft) (functions_of (code_denotations ar program) comp)
+        (functions_of (code_denotations br program) comp) number
+        (lists_at (FunctionsMatch Soft) (code_denotations ar program).functions (code_denotations br program).functions
         comp (of_sections program.sections));
     entered = λ comp entry. refl;
   }
 
 code_wraps : (program : TacTree) →
-    LibrariesMatch IsArithmetic (code_library c_arith program) (code_library wrapping program)
+    DenotationsMatch IsArithmetic (code_denotations c_arith program) (code_denotations wrapping program)
 code_wraps program =
-    library_matches IsArithmetic c_arith wrapping (record { binary = binary_fits; negated = negated_fits }) program
+    denotations_match IsArithmetic c_arith wrapping (record { binary = binary_fits; negated = negated_fits }) program
 
 pub code_obeys : CodeObeys
 code_obeys = record {
-  itself = λ arith program. library_matches Never arith arith (itself_keeps Never arith) program;
+  itself = λ arith program. denotations_match Never arith arith (itself_keeps Never arith) program;
   wraps = code_wraps;
 }
 
 pub wrapped_code_agrees : WrappedCodeAgrees
 wrapped_code_agrees = record {
   meaning =
-      λ program inputs turns. wrapped_agrees.libraries _ _ (code_wraps program) (code_globals program.sections)
+      λ program inputs turns. wrapped_agrees.any_denotations _ _ (code_wraps program) (code_globals program.sections)
       inputs turns;
   scripted = λ program set trace inputs turns.
-      wrapping_agrees.libraries _ _ (code_wraps program) (code_globals program.sections) inputs turns
+      wrapping_agrees.any_denotations _ _ (code_wraps program) (code_globals program.sections) inputs turns
       (roles_in program.interfaces.main set trace);
 }

@@ -20,12 +20,12 @@ module _ (temps : ℕ) where
   OwnPoint x = (t : ℕ) → is_used t x ≡ true → t < temps
 
   record OwnAhead (t : ℕ) (ahead : Ahead) : Type 0 where
-    behind : ahead.behind ≡ true → t < temps
+    following : ahead.following ≡ true → t < temps
     broken : ahead.broken ≡ true → t < temps
     continued : ahead.continued ≡ true → t < temps
 
   record OwnLives (lives : Lives) : Type 0 where
-    behind : Own lives.behind
+    following : Own lives.following
     broken : Own lives.broken
     continued : Own lives.continued
 
@@ -34,7 +34,7 @@ module _ (temps : ℕ) where
     points : (lives : Lives) → OwnLives lives → Each OwnPoint (trail.points lives)
 
   own_ahead : (lives : Lives) (t : ℕ) → OwnLives lives → OwnAhead t (ahead_at lives t)
-  own_ahead lives t own = record { behind = own.behind t; broken = own.broken t; continued = own.continued t }
+  own_ahead lives t own = record { following = own.following t; broken = own.broken t; continued = own.continued t }
 
   both : (xs ys : List Point) → Each OwnPoint xs → Each OwnPoint ys → Each OwnPoint (xs ++ ys)
   both [] ys a b = b
@@ -43,10 +43,10 @@ module _ (temps : ℕ) where
   -- statements in order
   row_reads : (t : ℕ) (trails : List Trail) (ahead : Ahead) → Each OwnTrail trails → OwnAhead t ahead →
       row_first (readings t trails) ahead ≡ true → t < temps
-  row_reads t [] ahead each own is = own.behind is
+  row_reads t [] ahead each own is = own.following is
   row_reads t (trail ∷ trails) ahead each own is =
-      each.0.reads t (record ahead { behind = row_first (readings t trails) ahead })
-      (record { behind = row_reads t trails ahead each.1 own; broken = own.broken; continued = own.continued }) is
+      each.0.reads t (record ahead { following = row_first (readings t trails) ahead })
+      (record { following = row_reads t trails ahead each.1 own; broken = own.broken; continued = own.continued }) is
 
   row_live : (trails : List Trail) (lives : Lives) → Each OwnTrail trails → OwnLives lives →
       Own (live_before trails lives)
@@ -56,9 +56,9 @@ module _ (temps : ℕ) where
       Each OwnPoint (row_points trails lives)
   row_own [] lives each own = tt
   row_own (trail ∷ trails) lives each own =
-      both (trail.points (record lives { behind = live_before trails lives })) (row_points trails lives)
-      (each.0.points (record lives { behind = live_before trails lives })
-      (record { behind = row_live trails lives each.1 own; broken = own.broken; continued = own.continued }))
+      both (trail.points (record lives { following = live_before trails lives })) (row_points trails lives)
+      (each.0.points (record lives { following = live_before trails lives })
+      (record { following = row_live trails lives each.1 own; broken = own.broken; continued = own.continued }))
       (row_own trails lives each.1 own)
 
   -- a statement without others inside
@@ -79,7 +79,7 @@ module _ (temps : ℕ) where
   module _ (reads : List ℕ) (calls : Bool) (assigned : Option ℕ)
       (all : list_all (λ t. nat_lt t temps) (one_or_none assigned ++ reads) ≡ true) where
     across_own : (lives : Lives) → OwnLives lives → Own (live_across reads calls assigned lives)
-    across_own lives own t is = own.behind t (and_rest (not (is_one t (one_or_none assigned))) (lives.behind t) is)
+    across_own lives own t is = own.following t (and_rest (not (is_one t (one_or_none assigned))) (lives.following t) is)
 
     called : (b : Bool) (live : Set) → Own live → Each OwnPoint (if_calls b (point true live))
     called true live own = (own, tt)
@@ -89,8 +89,8 @@ module _ (temps : ℕ) where
     plain_own = record {
       reads = λ t ahead own is. ⊎_elim
           (among t reads (split (one_or_none assigned) reads all).1)
-          (λ later. own.behind (and_rest (not (is_one t (one_or_none assigned))) ahead.behind later))
-          (or_cases (is_one t reads) (not (is_one t (one_or_none assigned)) && ahead.behind) is);
+          (λ later. own.following (and_rest (not (is_one t (one_or_none assigned))) ahead.following later))
+          (or_cases (is_one t reads) (not (is_one t (one_or_none assigned)) && ahead.following) is);
       points = λ lives own. (
         (λ t is. ⊎_elim
             (among t reads (split (one_or_none assigned) reads all).1)
@@ -100,8 +100,8 @@ module _ (temps : ℕ) where
             (called calls (live_across reads calls assigned lives) (across_own lives own)) (
               (λ t is. ⊎_elim
                   (among t (one_or_none assigned) (split (one_or_none assigned) reads all).0)
-                  (own.behind t)
-                  (or_cases (is_one t (one_or_none assigned)) (lives.behind t) is)),
+                  (own.following t)
+                  (or_cases (is_one t (one_or_none assigned)) (lives.following t) is)),
               tt,
             ),
       );
@@ -110,10 +110,10 @@ module _ (temps : ℕ) where
   -- a loop
   part_own : (t : ℕ) (ahead : Ahead) (end : Bool) → OwnAhead t ahead → (end ≡ true → t < temps) →
       OwnAhead t (part_ahead ahead end)
-  part_own t ahead end own is = record { behind = is; broken = own.behind; continued = is }
+  part_own t ahead end own is = record { following = is; broken = own.following; continued = is }
 
   lives_own : (lives : Lives) (end : Set) → OwnLives lives → Own end → OwnLives (part_lives lives end)
-  lives_own lives end own is = record { behind = is; broken = own.behind; continued = is }
+  lives_own lives end own is = record { following = is; broken = own.following; continued = is }
 
   module _ (head body next : List Trail)
       (h : Each OwnTrail head) (b : Each OwnTrail body) (n : Each OwnTrail next) where
@@ -239,4 +239,4 @@ module _ (temps : ℕ) where
       Each OwnPoint (points stmts nothing_live)
   points_own stmts all =
       row_own (map trail stmts) nothing_live (rows stmts (each_own stmts) all)
-      (record { behind = λ t is. absurd (cc is); broken = λ t is. absurd (cc is); continued = λ t is. absurd (cc is) })
+      (record { following = λ t is. absurd (cc is); broken = λ t is. absurd (cc is); continued = λ t is. absurd (cc is) })

@@ -1,8 +1,8 @@
 -- Functions and programs by plans, on which rules and meanings compute.
-use Rattle.sc_tac.proofs.Common.{Arith, Bool, Codes, Entry, Event, Function, Interfaces, Library, List, Main, Option}
+use Rattle.sc_tac.proofs.Common.{Arith, Bool, Codes, Entry, Event, Function, Interfaces, Denotations, List, Main, Option}
 use Rattle.sc_tac.proofs.Common.{Reading, TacFnTree, TacSection, TacStmt-F, TacTree, TypedGlobal, []}
 use Rattle.sc_tac.proofs.Common.{all_assigned_first, all_do, and_then, ap, branch_step, branches, closed, code_function}
-use Rattle.sc_tac.proofs.Common.{code_functions, code_globals, code_library, code_meaning_by, code_step, codes}
+use Rattle.sc_tac.proofs.Common.{code_functions, code_globals, code_denotations, code_meaning_by, code_step, codes}
 use Rattle.sc_tac.proofs.Common.{everywhere, frame_bound, has_none, is_assigned_first, list_all, map, no_temps, not}
 use Rattle.sc_tac.proofs.Common.{nothing_ahead, reading_step, refl, roles_in, row_first, row_fresh, run_by, run_step}
 use Rattle.sc_tac.proofs.Common.{same_entry, scripted_code_by, scripted_step, some_hold, stopped_at, suc, total, true}
@@ -92,7 +92,7 @@ module _ (arith : Arith) where
   quick plan =
       record {
         cells = plan.objects;
-        room = frame_bound plan.objects plan.nodes;
+        frame_size = frame_bound plan.objects plan.nodes;
         does = λ by here s.
             and_then (all_do (rows Codes (code_step arith here by) plan.body) no_temps s) (λ left s.
             closed left.exit plan.result (same_entry Main plan.entry) 0 here s);
@@ -102,7 +102,7 @@ module _ (arith : Arith) where
   function_is plan = λ i.
       record {
         cells = plan.objects;
-        room = frame_bound plan.objects plan.nodes;
+        frame_size = frame_bound plan.objects plan.nodes;
         does = λ by here s.
             and_then (all_do (rows_are Codes (code_step arith here by) plan.body i) no_temps s) (λ left s.
             closed left.exit plan.result (same_entry Main plan.entry) 0 here s);
@@ -118,42 +118,42 @@ module _ (arith : Arith) where
   sections_are (sheet ∷ sheets) = λ i. functions_are sheet.plans i ∷ sections_are sheets i
 
 module _ (arith : Arith) (interfaces : Interfaces) (sheets : List Sheet) where
-  abbrev pub quick_library : Library
-  quick_library = record {
+  abbrev pub quick_denotations : Denotations
+  quick_denotations = record {
     interfaces = interfaces;
     functions = map (λ sheet. map (quick arith) sheet.plans) sheets;
-    entered = (code_library arith (program interfaces sheets)).entered;
+    entered = (code_denotations arith (program interfaces sheets)).entered;
   }
 
-  library_is : code_library arith (program interfaces sheets) ≡ quick_library
-  library_is = λ i.
+  denotations_are : code_denotations arith (program interfaces sheets) ≡ quick_denotations
+  denotations_are = λ i.
       record {
         interfaces = interfaces;
         functions = sections_are arith sheets i;
-        entered = (code_library arith (program interfaces sheets)).entered;
+        entered = (code_denotations arith (program interfaces sheets)).entered;
       }
 
   module _ (inputs : List ℕ) (turns events : ℕ) where
     abbrev pub quick_meaning : SourceRun
     quick_meaning =
         stopped_at events
-        (run_by quick_library (run_step quick_library) (code_globals (map section sheets)) inputs turns).behaviour
+        (run_by quick_denotations (run_step quick_denotations) (code_globals (map section sheets)) inputs turns).behaviour
 
     pub meaning_is : code_meaning_by arith (program interfaces sheets) inputs turns events ≡ quick_meaning
     meaning_is =
-        ap (λ library. stopped_at events
-        (run_by library (run_step library) (code_globals (map section sheets)) inputs turns).behaviour) library_is
+        ap (λ denotations. stopped_at events
+        (run_by denotations (run_step denotations) (code_globals (map section sheets)) inputs turns).behaviour) denotations_are
 
     abbrev pub quick_scripted : (ℕ → Bool) → List Event → SourceRun
     quick_scripted set trace =
         stopped_at events
-        (run_by quick_library
-        (scripted_step quick_library (roles_in interfaces.main set trace) (run_step quick_library))
+        (run_by quick_denotations
+        (scripted_step quick_denotations (roles_in interfaces.main set trace) (run_step quick_denotations))
         (code_globals (map section sheets)) inputs turns).behaviour
 
     pub scripted_is : (set : ℕ → Bool) (trace : List Event) →
         scripted_code_by arith (program interfaces sheets) set trace inputs turns events ≡ quick_scripted set trace
     scripted_is set trace =
-        ap (λ library. stopped_at events
-        (run_by library (scripted_step library (roles_in interfaces.main set trace) (run_step library))
-        (code_globals (map section sheets)) inputs turns).behaviour) library_is
+        ap (λ denotations. stopped_at events
+        (run_by denotations (scripted_step denotations (roles_in interfaces.main set trace) (run_step denotations))
+        (code_globals (map section sheets)) inputs turns).behaviour) denotations_are

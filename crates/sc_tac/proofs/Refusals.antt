@@ -14,7 +14,7 @@ use Rattle.sc_tac.specs.declared.stmt.TacStmt.TheOpen as tac
 use Rattle.sc_tac.proofs.Shapes.{Shape, Done, Line, Fork, Cycle, stmts}
 use Rattle.sc_tac.proofs.Plans.{Plan, Sheet, function, section, program, weight_is, shape_passes, everywhere_is}
 use Rattle.sc_tac.proofs.Plans.{has_none_is, assigned_first_is, all_assigned_is}
-use Rattle.sc_tac.proofs.Runs.{word, output, give, alone, main_with, skips_two, int_global, across_interfaces, asking}
+use Rattle.sc_tac.proofs.Runs.{word, output, give, only_main, main_with, skips_two, int_global, across_interfaces, asking}
 use Rattle.sc_tac.proofs.Runs.{answering, caller, callee, across}
 
 -- the loop with a `continue` keeps every rule
@@ -117,9 +117,9 @@ pub assigned_in_the_body : is_assigned_first 0 (stmts (Cycle Done (word 0 1 Done
 assigned_in_the_body = assigned_first_is 0 (Cycle Done (word 0 1 Done) (output 0 Done) Done)
 
 -- a read after the loop, which the body may leave before the head assigns
-pub read_behind_the_loop : is_assigned_first 0
+pub read_after_the_loop : is_assigned_first 0
     (stmts (Cycle (word 0 1 Done) (Line tac.Break Done) Done (output 0 Done))) ≡ false
-read_behind_the_loop = assigned_first_is 0 (Cycle (word 0 1 Done) (Line tac.Break Done) Done (output 0 Done))
+read_after_the_loop = assigned_first_is 0 (Cycle (word 0 1 Done) (Line tac.Break Done) Done (output 0 Done))
 
 -- a parameter of three cells gets no word
 pub a_struct_from_outside : enters_by_words (Some (Export 0)) 2 (1 ∷ 3 ∷ []) ≡ false
@@ -159,10 +159,10 @@ too_many_nodes kept = let few : 16777217 ≤ 16777216 = kept.few_nodes in omega 
 
 -- what a program's statements name
 pub a_foreign_global : everywhere
-    (names_own_global alone 0 (section (record { globals = int_global ∷ []; plans = [] })))
+    (names_own_global only_main 0 (section (record { globals = int_global ∷ []; plans = [] })))
     (stmts (Line (tac.GlobalPlace 0 1) Done)) ≡ false
 a_foreign_global =
-    everywhere_is (names_own_global alone 0 (section (record { globals = int_global ∷ []; plans = [] })))
+    everywhere_is (names_own_global only_main 0 (section (record { globals = int_global ∷ []; plans = [] })))
     (Line (tac.GlobalPlace 0 1) Done)
 
 -- a section of one function with a result and two parameters, one of which has three cells
@@ -194,21 +194,21 @@ wide = record {
       } ∷ [];
 }
 
-pub a_struct_argument : everywhere (calls_own alone 0 (section wide))
+pub a_struct_argument : everywhere (calls_own only_main 0 (section wide))
     (stmts (Line (tac.CallOwn None 0 (0 ∷ 0 ∷ [])) Done)) ≡ false
-a_struct_argument = everywhere_is (calls_own alone 0 (section wide)) (Line (tac.CallOwn None 0 (0 ∷ 0 ∷ [])) Done)
+a_struct_argument = everywhere_is (calls_own only_main 0 (section wide)) (Line (tac.CallOwn None 0 (0 ∷ 0 ∷ [])) Done)
 
-pub a_missing_argument : everywhere (calls_own alone 0 (section wide)) (stmts (Line (tac.CallOwn None 1 []) Done)) ≡
+pub a_missing_argument : everywhere (calls_own only_main 0 (section wide)) (stmts (Line (tac.CallOwn None 1 []) Done)) ≡
     false
-a_missing_argument = everywhere_is (calls_own alone 0 (section wide)) (Line (tac.CallOwn None 1 []) Done)
+a_missing_argument = everywhere_is (calls_own only_main 0 (section wide)) (Line (tac.CallOwn None 1 []) Done)
 
-pub a_result_of_none : everywhere (calls_own alone 0 (section wide))
+pub a_result_of_none : everywhere (calls_own only_main 0 (section wide))
     (stmts (Line (tac.CallOwn (Some 0) 1 (0 ∷ [])) Done)) ≡ false
-a_result_of_none = everywhere_is (calls_own alone 0 (section wide)) (Line (tac.CallOwn (Some 0) 1 (0 ∷ [])) Done)
+a_result_of_none = everywhere_is (calls_own only_main 0 (section wide)) (Line (tac.CallOwn (Some 0) 1 (0 ∷ [])) Done)
 
-pub a_missing_function : everywhere (calls_own alone 0 (section wide)) (stmts (Line (tac.CallOwn None 2 []) Done)) ≡
+pub a_missing_function : everywhere (calls_own only_main 0 (section wide)) (stmts (Line (tac.CallOwn None 2 []) Done)) ≡
     false
-a_missing_function = everywhere_is (calls_own alone 0 (section wide)) (Line (tac.CallOwn None 2 []) Done)
+a_missing_function = everywhere_is (calls_own only_main 0 (section wide)) (Line (tac.CallOwn None 2 []) Done)
 
 pub two_arguments_for_one : everywhere (calls_exports across_interfaces 0 (section wide))
     (stmts (Line (tac.CallCross None 1 0 (0 ∷ 0 ∷ [])) Done)) ≡ false
@@ -233,7 +233,7 @@ another_main = refl
 pub a_foreign_compartment : IsProgram (program across_interfaces (callee ∷ callee ∷ [])) → ⊥
 a_foreign_compartment kept = let own : false ≡ true = kept.numbers in absurd (cc)
 
-pub no_main : IsProgram (program alone (wide ∷ [])) → ⊥
+pub no_main : IsProgram (program only_main (wide ∷ [])) → ⊥
 no_main kept = let there : false ≡ true = kept.main_there in absurd (cc)
 
 pub a_missing_section : IsProgram (program across_interfaces (caller ∷ [])) → ⊥

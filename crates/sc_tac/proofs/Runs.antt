@@ -34,8 +34,8 @@ fetched dest object rest = Line (tac.ObjectPlace dest object) (Line (tac.Load de
 abbrev pub put_into : ℕ → ℕ → ℕ → Shape → Shape
 put_into object place value rest = Line (tac.ObjectPlace place object) (Line (tac.Store place value) rest)
 
-abbrev pub alone : Interfaces
-alone = record {
+abbrev pub only_main : Interfaces
+only_main = record {
   comps = record { name = codes "Main"; exports = []; imports = import.Input ∷ import.Output ∷ [] } ∷ [];
   main = 0;
 }
@@ -60,21 +60,21 @@ one_function plan = record { globals = []; plans = plan ∷ [] } ∷ []
 abbrev pub sum : ℕ → ℕ → Plan
 sum a b = main_with 3 [] 5 (word 0 a (word 1 b (int_op op.Add 2 0 1 (output 2 (give 0)))))
 
-pub adds : code_meaning (program alone (one_function (sum 2 3))) [] 0 10 ≡
+pub adds : code_meaning (program only_main (one_function (sum 2 3))) [] 0 10 ≡
     record { trace = Out 0 5 ∷ End 0 2 ∷ []; end = Ended }
-adds = meaning_is c_arith alone (one_function (sum 2 3)) [] 0 10
+adds = meaning_is c_arith only_main (one_function (sum 2 3)) [] 0 10
 
-pub overflow_is_blamed : code_meaning (program alone (one_function (sum 2147483647 1))) [] 0 10 ≡
+pub overflow_is_blamed : code_meaning (program only_main (one_function (sum 2147483647 1))) [] 0 10 ≡
     record { trace = []; end = Blamed 0 Overflow 0 }
-overflow_is_blamed = meaning_is c_arith alone (one_function (sum 2147483647 1)) [] 0 10
+overflow_is_blamed = meaning_is c_arith only_main (one_function (sum 2147483647 1)) [] 0 10
 
-pub overflow_wraps : code_wrapped (program alone (one_function (sum 2147483647 1))) [] 0 10 ≡
+pub overflow_wraps : code_wrapped (program only_main (one_function (sum 2147483647 1))) [] 0 10 ≡
     record { trace = Out 0 2147483648 ∷ End 0 2147483647 ∷ []; end = Ended }
-overflow_wraps = meaning_is wrapping alone (one_function (sum 2147483647 1)) [] 0 10
+overflow_wraps = meaning_is wrapping only_main (one_function (sum 2147483647 1)) [] 0 10
 
-pub stops_at_its_events : code_meaning (program alone (one_function (sum 2 3))) [] 0 1 ≡
+pub stops_at_its_events : code_meaning (program only_main (one_function (sum 2 3))) [] 0 1 ≡
     record { trace = Out 0 5 ∷ []; end = EventsOut }
-stops_at_its_events = meaning_is c_arith alone (one_function (sum 2 3)) [] 0 1
+stops_at_its_events = meaning_is c_arith only_main (one_function (sum 2 3)) [] 0 1
 
 -- `for (i = 0; i < 4; i = i + 1) { if (i == 2) continue; output(i); } return 7;`
 abbrev pub skips_two : Shape
@@ -95,13 +95,13 @@ its_branches = branches_are skips_two
 abbrev pub skipping : List Sheet
 skipping = one_function (main_with 14 (1 ∷ []) 20 skips_two)
 
-pub continue_goes_to_next : code_meaning (program alone skipping) [] 4 10 ≡
+pub continue_goes_to_next : code_meaning (program only_main skipping) [] 4 10 ≡
     record { trace = Out 0 0 ∷ Out 0 1 ∷ Out 0 3 ∷ End 0 7 ∷ []; end = Ended }
-continue_goes_to_next = meaning_is c_arith alone skipping [] 4 10
+continue_goes_to_next = meaning_is c_arith only_main skipping [] 4 10
 
-pub each_round_takes_a_turn : code_meaning (program alone skipping) [] 3 10 ≡
+pub each_round_takes_a_turn : code_meaning (program only_main skipping) [] 3 10 ≡
     record { trace = Out 0 0 ∷ Out 0 1 ∷ []; end = TurnsOut }
-each_round_takes_a_turn = meaning_is c_arith alone skipping [] 3 10
+each_round_takes_a_turn = meaning_is c_arith only_main skipping [] 3 10
 
 -- `int f(int a) { a = a + x; return a; }` with a global `x`, and `x = input(); r = f(5); output(r); return 0;`
 abbrev pub int_global : TypedGlobal
@@ -131,21 +131,21 @@ calling =
           ∷ [];
     } ∷ []
 
-pub calls_its_function : code_meaning (program alone calling) (37 ∷ []) 1 10 ≡
+pub calls_its_function : code_meaning (program only_main calling) (37 ∷ []) 1 10 ≡
     record { trace = In 0 37 ∷ Out 0 42 ∷ End 0 0 ∷ []; end = Ended }
-calls_its_function = meaning_is c_arith alone calling (37 ∷ []) 1 10
+calls_its_function = meaning_is c_arith only_main calling (37 ∷ []) 1 10
 
-pub a_call_takes_a_turn : code_meaning (program alone calling) (37 ∷ []) 0 10 ≡
+pub a_call_takes_a_turn : code_meaning (program only_main calling) (37 ∷ []) 0 10 ≡
     record { trace = In 0 37 ∷ []; end = TurnsOut }
-a_call_takes_a_turn = meaning_is c_arith alone calling (37 ∷ []) 0 10
+a_call_takes_a_turn = meaning_is c_arith only_main calling (37 ∷ []) 0 10
 
 -- `int x; return x;`
 abbrev pub uninitialised : List Sheet
 uninitialised = one_function (main_with 1 (1 ∷ []) 4 (fetched 0 0 (give 0)))
 
-pub uninitialised_is_blamed : code_meaning (program alone uninitialised) [] 0 10 ≡
+pub uninitialised_is_blamed : code_meaning (program only_main uninitialised) [] 0 10 ≡
     record { trace = []; end = Blamed 0 Indeterminate 0 }
-uninitialised_is_blamed = meaning_is c_arith alone uninitialised [] 0 10
+uninitialised_is_blamed = meaning_is c_arith only_main uninitialised [] 0 10
 
 -- `int x[2]; x[2] = 1;` and the closing brace
 abbrev pub past_the_end : List Sheet
@@ -154,9 +154,9 @@ past_the_end =
     word 0 1 (Line (tac.ObjectPlace 1 0) (word 2 2 (
     Line (tac.Op 3 (tacop.PointerMove false 1 scalar.Int) 1 (Some 2)) (Line (tac.Store 3 0) Done))))))
 
-pub past_the_end_is_blamed : code_meaning (program alone past_the_end) [] 0 10 ≡
+pub past_the_end_is_blamed : code_meaning (program only_main past_the_end) [] 0 10 ≡
     record { trace = []; end = Blamed 0 OutOfBounds 0 }
-past_the_end_is_blamed = meaning_is c_arith alone past_the_end [] 0 10
+past_the_end_is_blamed = meaning_is c_arith only_main past_the_end [] 0 10
 
 -- the closing brace gives 0 only in `main`
 abbrev pub braces : Shape → List Sheet
@@ -177,12 +177,12 @@ braces body =
           main_with 1 [] 3 body ∷ [];
     } ∷ []
 
-pub main_gives_0 : code_meaning (program alone (braces Done)) [] 0 10 ≡ record { trace = End 0 0 ∷ []; end = Ended }
-main_gives_0 = meaning_is c_arith alone (braces Done) [] 0 10
+pub main_gives_0 : code_meaning (program only_main (braces Done)) [] 0 10 ≡ record { trace = End 0 0 ∷ []; end = Ended }
+main_gives_0 = meaning_is c_arith only_main (braces Done) [] 0 10
 
-pub others_are_blamed : code_meaning (program alone (braces (Line (tac.CallOwn (Some 0) 0 []) Done))) [] 1 10 ≡
+pub others_are_blamed : code_meaning (program only_main (braces (Line (tac.CallOwn (Some 0) 0 []) Done))) [] 1 10 ≡
     record { trace = []; end = Blamed 0 NoReturn 0 }
-others_are_blamed = meaning_is c_arith alone (braces (Line (tac.CallOwn (Some 0) 0 []) Done)) [] 1 10
+others_are_blamed = meaning_is c_arith only_main (braces (Line (tac.CallOwn (Some 0) 0 []) Done)) [] 1 10
 
 -- `Main` calls `put` of `Net`, which gives what it was handed
 abbrev pub across_interfaces : Interfaces
@@ -230,9 +230,9 @@ pub calls_across : code_meaning (program across_interfaces across) [] 1 10 ≡
 calls_across = meaning_is c_arith across_interfaces across [] 1 10
 
 -- `Net` performs a script in which it gives 8
-abbrev pub told : List Event
-told = Call 0 1 0 (9 ∷ []) ∷ Ret 1 0 (Some 8) ∷ Out 0 8 ∷ End 0 0 ∷ []
+abbrev pub emitted : List Event
+emitted = Call 0 1 0 (9 ∷ []) ∷ Ret 1 0 (Some 8) ∷ Out 0 8 ∷ End 0 0 ∷ []
 
-pub performs_its_part : scripted_code_meaning (program across_interfaces across) (λ comp. comp == 1) told [] 1 10 ≡
-    record { trace = told; end = Ended }
-performs_its_part = scripted_is c_arith across_interfaces across [] 1 10 (λ comp. comp == 1) told
+pub performs_its_part : scripted_code_meaning (program across_interfaces across) (λ comp. comp == 1) emitted [] 1 10 ≡
+    record { trace = emitted; end = Ended }
+performs_its_part = scripted_is c_arith across_interfaces across [] 1 10 (λ comp. comp == 1) emitted

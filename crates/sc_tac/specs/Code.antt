@@ -1,5 +1,5 @@
 -- The meaning of three-address code, by the combinators of programs' meaning.
-use Rattle.sc_tac.specs.Common.{Arith, Blocks, Break, Calls, Continue, Does, Entry, Event, Function, Here, Library}
+use Rattle.sc_tac.specs.Common.{Arith, Blocks, Break, Calls, Continue, Does, Entry, Event, Function, Here, Denotations}
 use Rattle.sc_tac.specs.Common.{Main, Memory, Next, Piece, Reached, Return, Run, State, Step, all_do, and_then}
 use Rattle.sc_tac.specs.Common.{applied_one, between, c_arith, choose, closed, computed, depth_in, frame_bound}
 use Rattle.sc_tac.specs.Common.{global_block, leave, load, loop, moved, moved_back, moved_on, on_words, roles_in}
@@ -171,7 +171,7 @@ abbrev pub code_function : Arith → TacFnTree → Function
 code_function arith f =
     record {
       cells = f.objects;
-      room = frame_bound f.objects f.nodes;
+      frame_size = frame_bound f.objects f.nodes;
       does = λ by here s.
           and_then (code_does arith here by f.body no_temps s) (λ left s.
           closed left.exit f.result (same_entry Main f.entry) 0 here s);
@@ -185,8 +185,8 @@ abbrev pub function_entered : Entry → Option TacSection → Option ℕ
 function_entered entry None = None
 function_entered entry (Some section) = position {X = TacFnTree} (λ f. same_entry entry f.entry) section.functions
 
-abbrev pub code_library : Arith → TacTree → Library
-code_library arith program =
+abbrev pub code_denotations : Arith → TacTree → Denotations
+code_denotations arith program =
     record {
       interfaces = program.interfaces;
       functions = map (code_functions arith) program.sections;
@@ -203,16 +203,16 @@ code_globals sections comp = first_blocks (slice_get sections comp)
 
 -- each function runs its code
 abbrev pub code_runs : Arith → TacTree → Step
-code_runs arith program = run_step (code_library arith program)
+code_runs arith program = run_step (code_denotations arith program)
 
 -- those of the compartments of a set perform their parts of a trace
 abbrev pub code_performs : Arith → TacTree → (ℕ → Bool) → List Event → Step
 code_performs arith program set trace =
-    scripted_step (code_library arith program) (roles_in program.interfaces.main set trace) (code_runs arith program)
+    scripted_step (code_denotations arith program) (roles_in program.interfaces.main set trace) (code_runs arith program)
 
 module _ (arith : Arith) (program : TacTree) (inputs : List ℕ) (turns : ℕ) where
   abbrev pub code_run_by : Step → Run
-  code_run_by step = run_by (code_library arith program) step (code_globals program.sections) inputs turns
+  code_run_by step = run_by (code_denotations arith program) step (code_globals program.sections) inputs turns
 
   abbrev pub code_run : Run
   code_run = code_run_by (code_runs arith program)

@@ -7,12 +7,12 @@ use Rattle.sc_tac.specs.declared.stmt.TacStmt.TheOpen as tac
 
 -- whether a temporary is read first on some path from where control goes on: after the code, at a break, at a continue
 pub record Ahead : Type 0 where
-  pub behind : Bool
+  pub following : Bool
   pub broken : Bool
   pub continued : Bool
 
 abbrev pub nothing_ahead : Ahead
-nothing_ahead = record { behind = false; broken = false; continued = false }
+nothing_ahead = record { following = false; broken = false; continued = false }
 
 -- of a piece of code: whether the temporary is read first from its start, and whether no loop in it begins one of its
 -- parts with such a read
@@ -25,16 +25,16 @@ is_one t temps = list_any (λ other. other == t) temps
 
 -- statements in order: from the last one back
 abbrev pub row_first : List Reading → Ahead → Bool
-row_first [] ahead = ahead.behind
-row_first (r ∷ rs) ahead = r.first (record ahead { behind = row_first rs ahead })
+row_first [] ahead = ahead.following
+row_first (r ∷ rs) ahead = r.first (record ahead { following = row_first rs ahead })
 
 abbrev pub row_fresh : List Reading → Ahead → Bool
 row_fresh [] ahead = true
-row_fresh (r ∷ rs) ahead = r.fresh (record ahead { behind = row_first rs ahead }) && row_fresh rs ahead
+row_fresh (r ∷ rs) ahead = r.fresh (record ahead { following = row_first rs ahead }) && row_fresh rs ahead
 
 -- a part of a loop that has this ahead at its end; a break leads to what follows the loop
 abbrev pub part_ahead : Ahead → Bool → Ahead
-part_ahead ahead end = record { behind = end; broken = ahead.behind; continued = end }
+part_ahead ahead end = record { following = end; broken = ahead.following; continued = end }
 
 -- the loop's start, where nothing more is read than in one round
 abbrev pub round_first : List Reading → List Reading → List Reading → Ahead → Bool
@@ -48,7 +48,7 @@ module _ (t : ℕ) where
   -- a statement without others inside: it reads, then it assigns
   abbrev pub plain : List ℕ → Option ℕ → Reading
   plain reads assigned = record {
-    first = λ ahead. is_one t reads || (not (is_one t (one_or_none assigned)) && ahead.behind);
+    first = λ ahead. is_one t reads || (not (is_one t (one_or_none assigned)) && ahead.following);
     fresh = λ ahead. true;
   }
 

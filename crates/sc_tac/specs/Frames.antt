@@ -58,7 +58,7 @@ abbrev pub Apart : Range → Range → Type 0
 Apart a b = (end_of a ≤ b.offset) ⊎ (end_of b ≤ a.offset)
 
 -- all that a frame keeps fits and doesn't overlap, and the frame is no larger than its bound
-pub record HasRoom (cells : List ℕ) (places : List Place) (nodes : ℕ) (frame : FrameTree) : Type 0 where
+pub record FrameFits (cells : List ℕ) (places : List Place) (nodes : ℕ) (frame : FrameTree) : Type 0 where
   pub objects : length frame.objects ≡ length cells
   pub slots : length frame.slots ≡ slots_of places
   pub inside : All (λ range. end_of range ≤ frame.bytes) (ranges_of cells frame)

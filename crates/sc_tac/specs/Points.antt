@@ -20,7 +20,7 @@ pub record Point : Type 0 where
 
 -- what is live where control goes on: after the code, at a break, at a continue
 pub record Lives : Type 0 where
-  pub behind : Set
+  pub following : Set
   pub broken : Set
   pub continued : Set
 
@@ -28,10 +28,10 @@ abbrev pub nothing : Set
 nothing t = false
 
 abbrev pub nothing_live : Lives
-nothing_live = record { behind = nothing; broken = nothing; continued = nothing }
+nothing_live = record { following = nothing; broken = nothing; continued = nothing }
 
 abbrev pub ahead_at : Lives → ℕ → Ahead
-ahead_at lives t = record { behind = lives.behind t; broken = lives.broken t; continued = lives.continued t }
+ahead_at lives t = record { following = lives.following t; broken = lives.broken t; continued = lives.continued t }
 
 -- of a piece of code: how it reads each temporary, and its points
 pub record Trail : Type 0 where
@@ -49,7 +49,7 @@ live_before trails lives t = row_first (readings t trails) (ahead_at lives t)
 abbrev pub row_points : List Trail → Lives → List Point
 row_points [] lives = []
 row_points (trail ∷ trails) lives =
-    trail.points (record lives { behind = live_before trails lives }) ++ row_points trails lives
+    trail.points (record lives { following = live_before trails lives }) ++ row_points trails lives
 
 -- a point at which nothing is assigned
 abbrev pub point : Bool → Set → Point
@@ -63,17 +63,17 @@ if_calls false x = []
 module _ (reads : List ℕ) (calls : Bool) (assigned : Option ℕ) (lives : Lives) where
   -- what is live while it computes: what isn't assigned by it
   abbrev pub live_across : Set
-  live_across t = not (is_one t (one_or_none assigned)) && lives.behind t
+  live_across t = not (is_one t (one_or_none assigned)) && lives.following t
 
   abbrev pub plain_points : List Point
   plain_points =
       point false (λ t. is_one t reads || live_across t) ∷
       if_calls calls (point true live_across) ++
-      record { assigned = assigned; calls = false; live = lives.behind } ∷ []
+      record { assigned = assigned; calls = false; live = lives.following } ∷ []
 
 -- what is live in a part of a loop at whose end this is live; a break leads to what follows the loop
 abbrev pub part_lives : Lives → Set → Lives
-part_lives lives end = record { behind = end; broken = lives.behind; continued = end }
+part_lives lives end = record { following = end; broken = lives.following; continued = end }
 
 -- a loop: its start, its parts, and its end, from which it goes on at its start
 module _ (head body next : List Trail) (lives : Lives) where

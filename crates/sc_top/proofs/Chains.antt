@@ -2,7 +2,7 @@
 use Rattle.sc_top.proofs.Common.{Accepts, All-from_recursion, AllByRecursion, ArePerforming, Bool, CompileFault, Err}
 use Rattle.sc_top.proofs.Common.{Event, Explanation, IfOk, ImageParts, IsAccounted, IsChainFrom, IsExplained, IsNext}
 use Rattle.sc_top.proofs.Common.{IsSource, IsSplitInto, IsSummary, Link, List, MakeOptions, None, Ok, Option}
-use Rattle.sc_top.proofs.Common.{ProgramTree, Result, RunOptions, Some, SourceParts, TellsTrace, [], account, among, ap}
+use Rattle.sc_top.proofs.Common.{ProgramTree, Result, RunOptions, Some, SourceParts, MeansTrace, [], account, among, ap}
 use Rattle.sc_top.proofs.Common.{ap₂, arith, comp_of, concat, false, if◌then◌else◌, joined, length, machine, map}
 use Rattle.sc_top.proofs.Common.{meaning, performing, performing_text, recomposed, recursion_from_All, refl}
 use Rattle.sc_top.proofs.Common.{replacement_of, subst, suc, summary_text, sym, take, text_after, text_for, true}
@@ -76,16 +76,16 @@ recomposed_after source explanation links all =
     (recursion_from_All _ _ all)))
 
 -- the same of the call that joins them
-pub shown_after : {E : Type 0} (r : Result (List ℕ) E) (source : SourceParts) (explanation : Explanation) (links : ℕ)
+pub printed_after : {E : Type 0} (r : Result (List ℕ) E) (source : SourceParts) (explanation : Explanation) (links : ℕ)
     (replacements : List Replacement) →
     replacements ≡ map replacement_of (take links explanation.links) →
     ArePerforming source explanation.trace explanation.links →
     IfOk r (λ text. text ≡ joined source (text_for replacements)) →
     IfOk r (λ text. text ≡ text_after source explanation links)
-shown_after (Ok text) source explanation links replacements are all told =
-    told ∙ ap (λ replacements. joined source (text_for replacements)) are ∙
+printed_after (Ok text) source explanation links replacements are all printed =
+    printed ∙ ap (λ replacements. joined source (text_for replacements)) are ∙
     recomposed_after source explanation links all
-shown_after (Err fault) source explanation links replacements are all told = tt
+printed_after (Err fault) source explanation links replacements are all printed = tt
 
 -- ONE ACCOUNT
 
@@ -142,15 +142,15 @@ module _
     exact_take (suc n) [] less = absurd (omega (arith, less))
     exact_take (suc n) (x ∷ xs) less = ap suc (exact_take n xs (omega (arith, less)))
 
-    not_both : (comps : List ℕ) (least : ℕ) (link : Link) → TellsTrace source inputs steps trace (among comps) →
+    not_both : (comps : List ℕ) (least : ℕ) (link : Link) → MeansTrace source inputs steps trace (among comps) →
         IsNext source inputs steps trace comps least link → ⊥
-    not_both comps least link told next =
-        let same = same_program comps least link next told.text.program told.text.accepted in
-        let front =
-        sym told.tells ∙ ap (λ program. (meaning program inputs steps _).trace) (sym same) ∙ next.blamed.front in
+    not_both comps least link printed next =
+        let same = same_program comps least link next printed.text.program printed.text.accepted in
+        let prefix =
+        sym printed.is_trace ∙ ap (λ program. (meaning program inputs steps _).trace) (sym same) ∙ next.blamed.prefix in
         let proper = next.blamed.proper in
         let long =
-        subst (λ xs. length xs ≤ link.after) (sym front) (long_take _ trace) in
+        subst (λ xs. length xs ≤ link.after) (sym prefix) (long_take _ trace) in
         absurd (omega (arith, proper, long))
 
     one_link : (comps : List ℕ) (least : ℕ) (link other : Link) →
@@ -179,15 +179,15 @@ module _
         line : link.line ≡ other.line
         line = cc end
 
-        front : take link.after trace ≡ take other.after trace
-        front = sym next.blamed.front ∙
-            ap (λ program. (meaning program inputs steps _).trace) same ∙ known.blamed.front
+        prefix : take link.after trace ≡ take other.after trace
+        prefix = sym next.blamed.prefix ∙
+            ap (λ program. (meaning program inputs steps _).trace) same ∙ known.blamed.prefix
 
         after : link.after ≡ other.after
         after =
             let here = next.blamed.proper in
             let there = known.blamed.proper in
-            sym (exact_take _ trace (omega (arith, here))) ∙ ap length front ∙
+            sym (exact_take _ trace (omega (arith, here))) ∙ ap length prefix ∙
             exact_take _ trace (omega (arith, there))
 
         text : link.text ≡ other.text
@@ -196,12 +196,12 @@ module _
     one_chain : (comps : List ℕ) (least : ℕ) (links others : List Link) →
         IsChainFrom source inputs steps trace comps least links →
         IsChainFrom source inputs steps trace comps least others → links ≡ others
-    one_chain comps least [] [] told known = refl
-    one_chain comps least [] (other ∷ others) told known = absurd (not_both comps least other told known.0)
-    one_chain comps least (link ∷ links) [] told known = absurd (not_both comps least link known told.0)
-    one_chain comps least (link ∷ links) (other ∷ others) told known =
-        let same = one_link comps least link other told.0 known.0 in
-        ap₂ (λ x xs. x ∷ xs) same (one_chain _ _ links others told.1
+    one_chain comps least [] [] printed known = refl
+    one_chain comps least [] (other ∷ others) printed known = absurd (not_both comps least other printed known.0)
+    one_chain comps least (link ∷ links) [] printed known = absurd (not_both comps least link known printed.0)
+    one_chain comps least (link ∷ links) (other ∷ others) printed known =
+        let same = one_link comps least link other printed.0 known.0 in
+        ap₂ (λ x xs. x ∷ xs) same (one_chain _ _ links others printed.1
         (subst (λ l. IsChainFrom source inputs steps trace (l.comp ∷ comps) (suc l.after) others) (sym same) known.1))
 
   one_explanation : (source : SourceParts) (inputs : List ℕ) (steps events : ℕ) (explanation other : Explanation) →

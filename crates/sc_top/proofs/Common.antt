@@ -27,7 +27,7 @@ pub use Rattle.sc_compile.specs.Prelude.{frame_bytes, image_of, large_code, larg
 pub use Rattle.sc_compile.specs.Prelude.{too_large, unless_large}
 pub use Rattle.sc_compile.specs.declared.fault.CompileFault.TheVariants.{CodeTooLarge, DataTooLarge, FrameTooLarge}
 pub use Rattle.sc_compile.specs.declared.fault.CompileFault.TheVariants.{OutOfMemory}
-pub use Rattle.sc_chain.specs.Prelude.{IsChainFrom, IsExplained, IsFault, IsNext, TellsTrace, among, joined, performing}
+pub use Rattle.sc_chain.specs.Prelude.{IsChainFrom, IsExplained, IsFault, IsNext, MeansTrace, among, joined, performing}
 pub use Rattle.sc_chain.specs.Prelude.{performing_text, recomposed, text_for}
 pub use Rattle.sc_chain.specs.declared.explanation.Explanation.{Explanation}
 pub use Rattle.sc_made.specs.Laws.{AreSmall, IsAccepted, IsSmall}
@@ -41,7 +41,7 @@ pub use Rattle.sc_top.specs.Prelude.{Answers, ArePerforming, Check, Command, Com
 pub use Rattle.sc_top.specs.Prelude.{HasImage, IsAccounted, IsAnswer, IsBounded, IsCompiling, IsExecuted, IsGood}
 pub use Rattle.sc_top.specs.Prelude.{IsGoodText, IsInput, IsMadeBy, IsMadeText, IsNamed, IsOutput, IsOutputCause}
 pub use Rattle.sc_top.specs.Prelude.{IsSummary, IsTextOutput, IsUndisturbed, IsUnfit, IsWhole, IsWithin, IsWithinLimit}
-pub use Rattle.sc_top.specs.Prelude.{Meaning, Refuses, Run, SameAnswer, Says, Status, Tells, Traffic, Wrote, account}
+pub use Rattle.sc_top.specs.Prelude.{Meaning, Refuses, Run, SameAnswer, Says, Status, Prints, Traffic, Wrote, account}
 pub use Rattle.sc_top.specs.Prelude.{bytes_of, cause_in, comp_of, compiles, limit_of, machine_run, machine_text, meant}
 pub use Rattle.sc_top.specs.Prelude.{of_compile_fault, output, own_text, owner_text, replacement_of, status_by}
 pub use Rattle.sc_top.specs.Prelude.{text_after}

@@ -45,9 +45,9 @@ record HasMain (program : ProgramTree) : Type 0 where
 
 has_main : (program : ProgramTree) → IsWellTyped program → HasMain program
 has_main program typed =
-    let behind = (and_parts _ _ (and_parts _ _ typed).1).1 in
-    let fit = (and_parts _ _ behind).0 in
-    let main = (and_parts _ _ (and_parts _ _ behind).1).0 in
+    let following = (and_parts _ _ (and_parts _ _ typed).1).1 in
+    let fit = (and_parts _ _ following).0 in
+    let main = (and_parts _ _ (and_parts _ _ following).1).0 in
     record {
       as_many = as_many program.interfaces 0 _ _ fit;
       main = main_there _ _ main;
@@ -94,15 +94,15 @@ machine_run_known legal options image formed =
     (legal image _ _ _ formed (inputs_are_words _))
 
 -- the run's text, from what was found of the run
-pub shown_text : {E : Type 0} (r : Result (List ℕ) E) (names : Interfaces) (options : RunOptions) (image : ImageParts)
+pub text_printed : {E : Type 0} (r : Result (List ℕ) E) (names : Interfaces) (options : RunOptions) (image : ImageParts)
     (trace : List Event) (stop : Stop) →
     trace ≡ (machine_run options image).state.trace → stop ≡ (machine_run options image).stop →
     IfOk r (λ text. text ≡ run_text names trace stop) → IfOk r (λ text. text ≡ machine_text names options image)
-shown_text (Ok text) names options image trace stop events why told = told ∙ rw (events, why) refl
-shown_text (Err fault) names options image trace stop events why told = tt
+text_printed (Ok text) names options image trace stop events why printed = printed ∙ rw (events, why) refl
+text_printed (Err fault) names options image trace stop events why printed = tt
 
 -- an image that was read and run
 pub executed : (options : RunOptions) (bytes text : List ℕ) (image : ImageParts) → bytes ≡ image_bytes image →
     IsWellFormed image → text ≡ machine_text (interfaces_of image) options image → IsExecuted options bytes text
-executed options bytes text image bytes_are formed told =
-    record { read = record { image = image; well_formed = formed; bytes_are = bytes_are }; written = told }
+executed options bytes text image bytes_are formed printed =
+    record { read = record { image = image; well_formed = formed; bytes_are = bytes_are }; written = printed }

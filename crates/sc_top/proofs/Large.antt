@@ -30,8 +30,8 @@ module _ (interfaces : Interfaces) where
   AreNamed = AllByRecursion (IsNamed interfaces)
 
   named_append : (xs ys : List CompileFault) → AreNamed xs → AreNamed ys → AreNamed (xs ++ ys)
-  named_append [] ys here behind = behind
-  named_append (x ∷ xs) ys here behind = (here.0, named_append xs ys here.1 behind)
+  named_append [] ys here following = following
+  named_append (x ∷ xs) ys here following = (here.0, named_append xs ys here.1 following)
 
   named_above : (limit size : ℕ) (fault : CompileFault) → IsNamed interfaces fault → AreNamed (above limit size fault)
   named_above limit size fault is = by _ where
@@ -90,17 +90,17 @@ named_fault program typed fault of =
           (code_bytes section) (CodeTooLarge comp _) is) 0 program.sections few))
 
 -- so it is why the program isn't compiled
-told_fault : (program : ProgramTree) (fault : CompileFault) → too_large program ≡ Some fault →
+printed_fault : (program : ProgramTree) (fault : CompileFault) → too_large program ≡ Some fault →
     IsCompiling program (of_compile_fault program.interfaces fault)
-told_fault program (CodeTooLarge comp bound) is = ap (option_and_then _) is
-told_fault program (DataTooLarge comp bytes) is = ap (option_and_then _) is
-told_fault program (FrameTooLarge comp function bound) is = ap (option_and_then _) is
-told_fault program OutOfMemory is = tt
+printed_fault program (CodeTooLarge comp bound) is = ap (option_and_then _) is
+printed_fault program (DataTooLarge comp bytes) is = ap (option_and_then _) is
+printed_fault program (FrameTooLarge comp function bound) is = ap (option_and_then _) is
+printed_fault program OutOfMemory is = tt
 
 pub why_not_compiled : (program : ProgramTree) (fault : CompileFault) → IsFaultOf program fault →
     IsCompiling program (of_compile_fault program.interfaces fault)
 why_not_compiled program fault of =
-    ⊎_elim (λ is. told_fault program fault (large_of _ _ fault is))
+    ⊎_elim (λ is. printed_fault program fault (large_of _ _ fault is))
     (λ is. subst (λ f. IsCompiling program (of_compile_fault program.interfaces f)) (sym is) tt) of
 
 -- the same in two cases

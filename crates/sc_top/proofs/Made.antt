@@ -12,7 +12,7 @@ none_above : (limit size : ℕ) (fault : CompileFault) → size ≤ limit → ab
 none_above limit size fault few = ap (λ large. if large then fault ∷ [] else []) (le-ltb limit size few)
 
 both_none : (xs ys : List CompileFault) → xs ≡ [] → ys ≡ [] → xs ++ ys ≡ []
-both_none xs ys here behind = ap₂ (λ a b. a ++ b) here behind
+both_none xs ys here following = ap₂ (λ a b. a ++ b) here following
 
 none_found : (find : ℕ → TypedSection → List CompileFault) →
     ((comp : ℕ) (section : TypedSection) → IsSmall section → find comp section ≡ []) →

@@ -1,6 +1,6 @@
 -- What was read and written so far, in pieces.
 use Rattle.sc_top.proofs.Common.{Adds, Err, Fetches, IsAtEnd, List, None, Ok, OnOk, Option, Result, Rose, Some, Takes}
-use Rattle.sc_top.proofs.Common.{Tells, Wrote, [], ap, append-nil, append_assoc, arith, drop, inl, inr, length}
+use Rattle.sc_top.proofs.Common.{Prints, Wrote, [], ap, append-nil, append_assoc, arith, drop, inl, inr, length}
 use Rattle.sc_top.proofs.Common.{length-append, length-drop, refl, subst, sym, take, take-append-drop, take_all}
 use Rattle.sc_top.proofs.Common.{take_rest, ℕ, ⊎_elim, ◌++◌, ◌+◌, ◌-◌, ◌∙◌, ◌≡◌, ◌≤◌}
 use Rattle.std.proofs.Math.Seq.{take-add}
@@ -95,51 +95,51 @@ all_added bytes a b f g count so_far whole = subst (Adds a b) (take_all count by
 
 -- where a write fails, what came before it is a prefix of the bytes
 pub cut_short : (bytes : List ℕ) (a b c : Option (List ℕ)) (f g h count : ℕ) → HasAdded bytes a b f g count → c ≡ b →
-    Rose g h → Tells bytes a c f h
+    Rose g h → Prints bytes a c f h
 cut_short bytes a b c f g h count so_far same rose =
     record {
-      front = take count bytes;
+      prefix = take count bytes;
       begins = record { rest = drop count bytes; joined = sym (take-append-drop count bytes) };
       part = subst (λ w. Adds a w (take count bytes)) (sym same) so_far.added;
       whole = inr (rose_since f g h so_far.counted rose);
     }
 
 -- what was written of a text that was cut short is a prefix of any longer one
-first_cut : (a b : List ℕ) (w w' : Option (List ℕ)) (f f' : ℕ) → Tells a w w' f f' → Rose f f' →
-    Tells (a ++ b) w w' f f'
+first_cut : (a b : List ℕ) (w w' : Option (List ℕ)) (f f' : ℕ) → Prints a w w' f f' → Rose f f' →
+    Prints (a ++ b) w w' f f'
 first_cut a b w w' f f' t rose =
     record {
-      front = t.front;
+      prefix = t.prefix;
       begins = record {
         rest = t.begins.rest ++ b;
-        joined = ap (λ x. x ++ b) t.begins.joined ∙ append_assoc t.front _ b;
+        joined = ap (λ x. x ++ b) t.begins.joined ∙ append_assoc t.prefix _ b;
       };
       part = t.part;
       whole = inr rose;
     }
 
 -- a text that was written whole, and then another, whole or cut short
-then_told : (a b : List ℕ) (w u w' : Option (List ℕ)) (f g f' : ℕ) → Adds w u a → f ≤ g → Tells b u w' g f' →
-    Tells (a ++ b) w w' f f'
-then_told a b w u w' f g f' added low t =
+then_printed : (a b : List ℕ) (w u w' : Option (List ℕ)) (f g f' : ℕ) → Adds w u a → f ≤ g → Prints b u w' g f' →
+    Prints (a ++ b) w w' f f'
+then_printed a b w u w' f g f' added low t =
     record {
-      front = a ++ t.front;
+      prefix = a ++ t.prefix;
       begins = record {
         rest = t.begins.rest;
-        joined = ap (λ x. a ++ x) t.begins.joined ∙ sym (append_assoc a t.front _);
+        joined = ap (λ x. a ++ x) t.begins.joined ∙ sym (append_assoc a t.prefix _);
       };
-      part = Adds-more w u w' a t.front added t.part;
+      part = Adds-more w u w' a t.prefix added t.part;
       whole = ⊎_elim (λ same. inl (ap (λ x. a ++ x) same)) (λ rose. inr (rose_since f g f' low rose)) t.whole;
     }
 
 -- a text with a prefix that was cut short, so that the call fails
 pub cut_wrote : {T E : Type 0} (text a b : List ℕ) (r : Result T E) (w w' : Option (List ℕ)) (f f' : ℕ) →
-    text ≡ a ++ b → OnOk r ⊥ → Tells a w w' f f' → Rose f f' → f ≤ f' → Wrote text r w w' f f'
-cut_wrote text a b (Ok value) w w' f f' joined fails told rose low = absurd fails
-cut_wrote text a b (Err error) w w' f f' joined fails told rose low =
+    text ≡ a ++ b → OnOk r ⊥ → Prints a w w' f f' → Rose f f' → f ≤ f' → Wrote text r w w' f f'
+cut_wrote text a b (Ok value) w w' f f' joined fails printed rose low = absurd fails
+cut_wrote text a b (Err error) w w' f f' joined fails printed rose low =
     record {
       ok = tt;
-      err = subst (λ t. Tells t w w' f f') (sym joined) (first_cut a b w w' f f' told rose);
+      err = subst (λ t. Prints t w w' f f') (sym joined) (first_cut a b w w' f f' printed rose);
       fault = rose;
       counted = low;
     }
@@ -159,7 +159,7 @@ then_wrote text a b (Err error) w u w' f g f' joined added low wrote =
     let counted = wrote.counted in
     record {
       ok = tt;
-      err = subst (λ t. Tells t w w' f f') (sym joined) (then_told a b w u w' f g f' added low wrote.err);
+      err = subst (λ t. Prints t w w' f f') (sym joined) (then_printed a b w u w' f g f' added low wrote.err);
       fault = rose_since f g f' low wrote.fault;
       counted = omega (arith, counted, low);
     }
@@ -178,16 +178,16 @@ part_wrote bytes (Err error) a b c f g h count fails so_far same rose low =
     }
 
 -- a text was written, whole or cut short, whether or not the call failed
-pub told_by : {T E : Type 0} (text : List ℕ) (r : Result T E) (w w' : Option (List ℕ)) (f f' : ℕ) →
-    Wrote text r w w' f f' → Tells text w w' f f'
-told_by text (Ok value) w w' f f' wrote =
+pub printed_by : {T E : Type 0} (text : List ℕ) (r : Result T E) (w w' : Option (List ℕ)) (f f' : ℕ) →
+    Wrote text r w w' f f' → Prints text w w' f f'
+printed_by text (Ok value) w w' f f' wrote =
     record {
-      front = text;
+      prefix = text;
       begins = record { rest = []; joined = sym (append-nil text) };
       part = wrote.ok;
       whole = inl refl;
     }
-told_by text (Err error) w w' f f' wrote = wrote.err
+printed_by text (Err error) w w' f f' wrote = wrote.err
 
 pub ruleset reading = (nothing_taken, more_taken, all_taken, enough_taken, rose_since)
 

@@ -26,9 +26,9 @@ pub record Traffic : Type 0 where
   pub write_faults_after : ℕ
 
 -- a text begins with this prefix
-pub record IsFront (front text : List ℕ) : Type 0 where
+pub record IsPrefix (prefix text : List ℕ) : Type 0 where
   pub rest : List ℕ
-  pub joined : text ≡ front ++ rest
+  pub joined : text ≡ prefix ++ rest
 
 -- these bytes are all that was left, and no more than the limit
 pub record IsWhole (limit : ℕ) (left left_after : Option (List ℕ)) (bytes : List ℕ) : Type 0 where
@@ -62,10 +62,10 @@ pub record HasWritten (command : Command) (traffic : Traffic) (bytes : List ℕ)
 -- a prefix of the text was written
 pub record HasBegun (command : Command) (traffic : Traffic) (bytes : List ℕ) : Type 0 where
   pub text : List ℕ
-  pub front : List ℕ
+  pub prefix : List ℕ
   pub output : IsOutput command bytes text
-  pub begins : IsFront front text
-  pub part : Adds traffic.written traffic.written_after front
+  pub begins : IsPrefix prefix text
+  pub part : Adds traffic.written traffic.written_after prefix
 
 -- Causes: why a command has no output for its input.
 
@@ -148,11 +148,11 @@ abbrev pub IsGood : Command → List ℕ → Type 0
 IsGood command bytes = IsGoodIn (intake command) command bytes
 
 -- a text was written, whole or cut short by a fault
-pub record Tells (text : List ℕ) (written written_after : Option (List ℕ)) (faults faults_after : ℕ) : Type 0 where
-  pub front : List ℕ
-  pub begins : IsFront front text
-  pub part : Adds written written_after front
-  pub whole : (front ≡ text) ⊎ Rose faults faults_after
+pub record Prints (text : List ℕ) (written written_after : Option (List ℕ)) (faults faults_after : ℕ) : Type 0 where
+  pub prefix : List ℕ
+  pub begins : IsPrefix prefix text
+  pub part : Adds written written_after prefix
+  pub whole : (prefix ≡ text) ⊎ Rose faults faults_after
 
 -- the words are no command that reads
 abbrev pub IsSilent : Option Command → Type 0

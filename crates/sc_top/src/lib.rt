@@ -11,11 +11,11 @@ mod machine;
 mod make;
 mod output;
 mod status;
-mod telling;
+mod printing;
 mod text;
 mod top;
 
 pub use laws::{images_are_within, one_answer, one_output};
 pub use status::{Status, TooLarge};
-pub use telling::tell;
+pub use printing::print;
 pub use top::secomp;

@@ -1,4 +1,4 @@
-ghost use Rattle.sc_top.specs.Prelude.{Answers, Command, IsBounded, IsOutput, IsOutputCause, IsSilent, Says, Tells};
+ghost use Rattle.sc_top.specs.Prelude.{Answers, Command, IsBounded, IsOutput, IsOutputCause, IsSilent, Says, Prints};
 ghost use Rattle.sc_top.specs.Prelude.{status_by, status_text};
 ghost use Rattle.sc_words.specs.Prelude.{command};
 ghost use Rattle.std.specs.Prelude.{◌≡◌, ◌≢◌, ◌⊎◌, None, Some, map, IfOk, IfErr, IsErrOf};
@@ -13,7 +13,7 @@ use crate::failure::Failure;
 use crate::input::read_input;
 use crate::make::make;
 use crate::output::write_text;
-use crate::telling::tell;
+use crate::printing::print;
 use crate::text::{check, compiled, meaning, run};
 use sc_base::Text;
 use sc_edge::{Sink, Source};
@@ -45,14 +45,14 @@ pub fn secomp<S: Source, O: Sink, E: Sink>(
     ensures unread { IsSilent (command (map string_bytes words.now)) → source.new ≡ source.old }
     ensures untouched { result ≢ Status.Done → result ≢ Status.WriteFault → out.new ≡ out.old }
 
-    ensures told { Tells (status_text result) (E.written err.old) (E.written err.new)
+    ensures printed { Prints (status_text result) (E.written err.old) (E.written err.new)
         (E.faults err.old) (E.faults err.new) }
 {
     accepted_or_refused();
     one_phase();
     one_program();
     let status = status_by(answer(alloc, words, source, out));
-    tell(err, &status);
+    print(err, &status);
     status
 }
 

@@ -15,7 +15,7 @@ use Rattle.sc_event.specs.declared.interface.Import.TheVariants as import
 use Rattle.sc_core.specs.declared.ty.Ty.TheVariants as ty
 use Rattle.sc_types.proofs.Lookups.{or_not, each_passes, Text, same_refl, eq_refl, each_at, FoundFunction}
 use Rattle.sc_types.proofs.Lookups.{find_function, no_function, no_place, heads_of_functions, FoundHead, find_head}
-use Rattle.sc_types.proofs.Facts.{ExportFacts, ImportFacts, DeclFacts, FaceFacts}
+use Rattle.sc_types.proofs.Facts.{ExportFacts, ImportFacts, DeclFacts, InterfaceFacts}
 use Rattle.sc_types.proofs.Calls.{agreed_signature, input_signature, output_signature, FoundBy, own_at, FoundImport}
 use Rattle.sc_types.proofs.Calls.{find_import, Offering, find_offering, found_export, export_is}
 
@@ -29,7 +29,7 @@ names_append : (a b : List Text) (name : Text) → is_numbered (a ++ b) name ≡
 names_append a b name h q = grind (arith, list_any-append (bytes_eq name) a b)
 
 module _ (sections : List SectionTree) (hold : (j : ℕ) (s : SectionTree) → slice_get sections j ≡ Some s →
-    FaceFacts sections j s) (number : ℕ) (section : SectionTree)
+    InterfaceFacts sections j s) (number : ℕ) (section : SectionTree)
     (there : slice_get sections number ≡ Some section) where
   abbrev pub callees : Callees
   callees = callees_of sections number section
@@ -37,7 +37,7 @@ module _ (sections : List SectionTree) (hold : (j : ℕ) (s : SectionTree) → s
   abbrev pub callable : Callable
   callable = callable_in (interfaces_of sections) (interface_of sections number section) (typed_section section callees)
 
-  abbrev facts : FaceFacts sections number section
+  abbrev facts : InterfaceFacts sections number section
   facts = hold number section there
 
   -- what is imported is among the imports
@@ -108,7 +108,7 @@ module _ (sections : List SectionTree) (hold : (j : ℕ) (s : SectionTree) → s
       abbrev other : SectionTree
       other = o.section
 
-      abbrev there_facts : FaceFacts sections o.number other
+      abbrev there_facts : InterfaceFacts sections o.number other
       there_facts = hold o.number other o.got
 
       abbrev export : FoundBy {A = ExportLine} (λ line. line.name) line.name other.exports

@@ -16,7 +16,7 @@ pub use Rattle.std.proofs.lemmas.Result.{err_from_is_err_and}
 pub use Rattle.std.specs.List.{All, AllZip, concat, filter_map, list_all, list_any}
 pub use Rattle.std.specs.Option.{option_and_then, option_map, option_map_or}
 pub use Rattle.sc_base.proofs.Bools.{and_first, and_rest, implied}
-pub use Rattle.sc_base.proofs.Lists.{drop-step, get_behind, get_front, map_twice, position-cons}
+pub use Rattle.sc_base.proofs.Lists.{drop-step, get_after, get_prefix, map_twice, position-cons}
 pub use Rattle.sc_base.proofs.Texts.{same_text}
 pub use Rattle.sc_base.specs.Prelude.{is_numbered, number_of}
 pub use Rattle.sc_event.specs.Prelude.{export_at}

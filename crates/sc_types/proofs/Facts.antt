@@ -8,8 +8,8 @@ use Rattle.sc_types.proofs.Common.{proto_names, refl, same_text, section_lines, 
 use Rattle.sc_types.proofs.Common.{◌≡◌}
 use Rattle.sc_scope.specs.Prelude.{are_distinct}
 use Rattle.sc_types.specs.Counts as counts
-use Rattle.sc_types.proofs.Lookups.{rule_holds, front_empty, back_empty, no_lines, Each, Text, same_refl}
-use Rattle.sc_types.proofs.Lookups.{numbered_front}
+use Rattle.sc_types.proofs.Lookups.{rule_holds, prefix_empty, back_empty, no_lines, Each, Text, same_refl}
+use Rattle.sc_types.proofs.Lookups.{numbered_prefix}
 
 -- Names that are new one after another are distinct.
 
@@ -24,7 +24,7 @@ not_again name before (x ∷ names) fresh there = grind (
   arith,
   same_text name x,
   fresh.0,
-  not_again name (before ++ x ∷ []) names fresh.1 (numbered_front before (x ∷ []) name there),
+  not_again name (before ++ x ∷ []) names fresh.1 (numbered_prefix before (x ∷ []) name there),
 )
 
 pub fresh_distinct : (before names : List Text) → Fresh before names → are_distinct names ≡ true
@@ -74,7 +74,7 @@ module _ (sections : List SectionTree) (number : ℕ) (section : SectionTree) wh
       Each ImportFacts lines × Fresh before (map {A = ImportLine} (λ line. line.name) lines)
   imports_each before [] h = (tt, tt)
   imports_each before (line ∷ lines) h =
-      let p = import_parts _ _ _ _ _ (rule_holds _ line.line (front_empty _ _ h)) in
+      let p = import_parts _ _ _ _ _ (rule_holds _ line.line (prefix_empty _ _ h)) in
       let rest = imports_each (before ++ line.name ∷ []) lines (back_empty _ _ h) in
       ((record { offered = p.0; not_defined = p.2; declared = p.3; plain = p.4 }, rest.0), (p.1, rest.1))
 
@@ -84,7 +84,7 @@ module _ (sections : List SectionTree) (number : ℕ) (section : SectionTree) wh
   decls_each mains before (decl ∷ decls) h = grind (arith, no_lines, decls_each mains (before ++ decl ∷ []) decls)
 
   -- what a section keeps, where some sections before it define `main` or not
-  pub record FaceFacts : Type 0 where
+  pub record InterfaceFacts : Type 0 where
     pub exports : Each ExportFacts section.exports
     pub fresh_exports : Fresh [] (export_names section)
     pub imports : Each ImportFacts section.imports
@@ -92,9 +92,9 @@ module _ (sections : List SectionTree) (number : ℕ) (section : SectionTree) wh
     pub mains : Bool
     pub decls : Each (DeclFacts mains) section.decls
 
-  pub face_facts : (mains : Bool) (before : List SectionTree) →
-      section_lines sections number section mains before ≡ [] → FaceFacts
-  face_facts mains before h =
+  pub interface_facts : (mains : Bool) (before : List SectionTree) →
+      section_lines sections number section mains before ≡ [] → InterfaceFacts
+  interface_facts mains before h =
       let out = exports_each [] section.exports (grind (arith, no_lines)) in
       let imported = imports_each [] section.imports (grind (arith, no_lines)) in
       record {

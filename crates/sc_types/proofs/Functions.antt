@@ -26,7 +26,7 @@ use Rattle.sc_core.specs.declared.ty.BaseTy.TheVariants as base
 use Rattle.sc_core.specs.declared.section.TypedLocal.{TypedLocal}
 use Rattle.sc_scope.specs.Names as names
 use Rattle.sc_types.specs.Counts as counts
-use Rattle.sc_types.proofs.Lookups.{rule_holds, front_empty, back_empty, no_lines, Text, at_most, numbered_front}
+use Rattle.sc_types.proofs.Lookups.{rule_holds, prefix_empty, back_empty, no_lines, Text, at_most, numbered_prefix}
 use Rattle.sc_types.proofs.Structs.{Known, AllKnown, AllSmall, structs_length, type_is_within, name_is_within, is_less}
 use Rattle.sc_types.proofs.Bodies.{fits}
 use Rattle.sc_types.proofs.TypedNodes as heights
@@ -43,16 +43,16 @@ pub struct_names_append : (before decls : List Decl) →
     struct_names (before ++ decls) ≡ struct_names before ++ struct_names decls
 struct_names_append before decls = ap (map _) (filter_map-append _ before decls) ∙ map-append _ _ _
 
-known_front : (some more : List Text) (b : BaseTree) → base_known some b ≡ true → base_known (some ++ more) b ≡ true
-known_front some more (base_tree.Struct tag) h = numbered_front some more tag h
-known_front some more _ h = refl
+known_prefix : (some more : List Text) (b : BaseTree) → base_known some b ≡ true → base_known (some ++ more) b ≡ true
+known_prefix some more (base_tree.Struct tag) h = numbered_prefix some more tag h
+known_prefix some more _ h = refl
 
 module _ (section : SectionTree) where
   -- what is known among the first declarations is known in the section
   known_whole : (before decls : List Decl) → before ++ decls ≡ section.decls → (b : BaseTree) →
       base_known (struct_names before) b ≡ true → base_known (tags section) b ≡ true
   known_whole before decls whole b h = subst (λ names. base_known names b ≡ true)
-      (sym (struct_names_append before decls) ∙ ap struct_names whole) (known_front _ (struct_names decls) b h)
+      (sym (struct_names_append before decls) ∙ ap struct_names whole) (known_prefix _ (struct_names decls) b h)
 
   count_is : length (structs section) ≡ length (tags section)
   count_is = structs_length _
@@ -74,7 +74,7 @@ module _ (section : SectionTree) where
       AllSmall (structs section) k trees
   small_from k [] h = tt
   small_from k (tree ∷ trees) h = (
-    rule_holds _ tree.line (front_empty _ _ h),
+    rule_holds _ tree.line (prefix_empty _ _ h),
     small_from (suc k) trees (back_empty (unless (is_small section (ty.Struct k)) tree.line) _ h),
   )
 
@@ -193,13 +193,13 @@ module _ (section : SectionTree) where
 
   -- All declarations, those before one after another.
 
-  pub record Behind (callees : Callees) (before decls : List Decl) : Type 0 where
+  pub record After (callees : Callees) (before decls : List Decl) : Type 0 where
     pub whole : before ++ decls ≡ section.decls
     pub in_names : names.lines_from section before decls ≡ []
     pub holds : concat (map (decl_lines section callees) decls) ≡ []
 
   next : {callees : Callees} {before : List Decl} {decl : Decl} {decls : List Decl} →
-      Behind callees before (decl ∷ decls) → Behind callees (before ++ decl ∷ []) decls
+      After callees before (decl ∷ decls) → After callees (before ++ decl ∷ []) decls
   next {callees} {before} {decl} {decls} b = record {
     whole = append_assoc before _ decls ∙ b.whole;
     in_names = back_empty (names.decl_lines (names.declared section before) decl) _ b.in_names;
@@ -274,7 +274,7 @@ module _ (section : SectionTree) where
         ap (λ n. nat_le n most_params) (length-map tree.head.params (typed_param _) ∙ sym (length-map _ _)) ∙
         rule_holds _ _ count in
         let locals = locals_are callees before decls whole (global_names before) (param_names tree) tree 0 tree.locals
-        (front_empty _ _ holds) known.locals (back_empty _ _ sizes) (low_left _ _ 256 low) in
+        (prefix_empty _ _ holds) known.locals (back_empty _ _ sizes) (low_left _ _ 256 low) in
         let body = body_is before tree tree.body known.body (back_empty _ _ holds) in
         cc (
           scope_is callees tree,
@@ -286,7 +286,7 @@ module _ (section : SectionTree) where
         )
 
     pub functions_are : AllSmall (structs section) 0 (structs_in section.decls) → (before decls : List Decl) →
-        Behind callees before decls → concat (map (counts.head_lines section) (heads_in decls)) ≡ [] →
+        After callees before decls → concat (map (counts.head_lines section) (heads_in decls)) ≡ [] →
         concat (map (counts.function_lines section) (functions_in decls)) ≡ [] →
         nat_le (surface.decls_height decls) 256 ≡ true → list_all (function_fits callable
         (typed_section section callees)) (map (typed_function section callees) (functions_in decls)) ≡ true
@@ -301,7 +301,7 @@ module _ (section : SectionTree) where
     )
 
   module _ (callees : Callees) where
-    pub globals_are : (before decls : List Decl) → Behind callees before decls →
+    pub globals_are : (before decls : List Decl) → After callees before decls →
         concat (map (counts.global_lines section) (globals_in decls)) ≡ [] →
         list_all (global_fits (structs section)) (map (typed_global (tags section)) (globals_in decls)) ≡ true
     globals_are before [] b sizes = refl
@@ -327,11 +327,11 @@ module _ (section : SectionTree) where
     same_names before decl decls h = subst (λ all. AllKnown all (structs_in decls))
         (struct_names_append before _ ∙ ap (λ more. struct_names before ++ more) h ∙ append-nil _)
 
-    pub structs_known : (before decls : List Decl) → Behind callees before decls →
+    pub structs_known : (before decls : List Decl) → After callees before decls →
         AllKnown (struct_names before) (structs_in decls)
     structs_known before [] b = tt
     structs_known before (Struct tree ∷ decls) b = (
-      struct_is before tree (front_empty _ _ b.in_names) (front_empty _ _ b.holds),
+      struct_is before tree (prefix_empty _ _ b.in_names) (prefix_empty _ _ b.holds),
       subst (λ all. AllKnown all
           (structs_in decls)) (struct_names_append before (Struct tree ∷ [])) (structs_known _ decls (next b)),
     )

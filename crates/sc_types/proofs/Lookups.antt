@@ -19,16 +19,16 @@ some_item x xs h = cc
 pub rule_holds : (b : Bool) (line : ℕ) → unless b line ≡ [] → b ≡ true
 rule_holds b line h = grind arith
 
-pub front_empty : {A : Type 0} (xs ys : List A) → xs ++ ys ≡ [] → xs ≡ []
-front_empty [] ys h = refl
-front_empty (x ∷ xs) ys h = cc
+pub prefix_empty : {A : Type 0} (xs ys : List A) → xs ++ ys ≡ [] → xs ≡ []
+prefix_empty [] ys h = refl
+prefix_empty (x ∷ xs) ys h = cc
 
 pub back_empty : {A : Type 0} (xs ys : List A) → xs ++ ys ≡ [] → ys ≡ []
 back_empty [] ys h = h
 back_empty (x ∷ xs) ys h = cc
 
 -- what lists of lines hold that are empty together
-pub ruleset no_lines = (rule_holds, front_empty, back_empty)
+pub ruleset no_lines = (rule_holds, prefix_empty, back_empty)
 
 pub map_empty : {A B : Type 0} (f : A → B) (xs : List A) → map f xs ≡ [] → xs ≡ []
 map_empty f [] h = refl
@@ -123,9 +123,9 @@ module _ {A : Type 0} (p : A → Bool) where
   ]
 
   -- what is found in a prefix is found there in the whole
-  pub find_front : (xs ys : List A) → list_any p xs ≡ true → find p (xs ++ ys) ≡ find p xs
-  find_front [] ys h = cc
-  find_front (x ∷ xs) ys h = grind (arith, find_front xs ys)
+  pub find_prefix : (xs ys : List A) → list_any p xs ≡ true → find p (xs ++ ys) ≡ find p xs
+  find_prefix [] ys h = cc
+  find_prefix (x ∷ xs) ys h = grind (arith, find_prefix xs ys)
 
   -- the first one after a prefix in which nothing is found
   pub find_next : (xs : List A) (y : A) (ys : List A) → list_any p xs ≡ false → p y ≡ true →
@@ -148,17 +148,17 @@ pub number_within : (names : List Text) (name : Text) → is_numbered names name
 number_within names name h =
     let p = placed names name h in subst (λ o. number_or_zero o < length names) (sym p.is) p.within
 
-pub number_front : (names more : List Text) (name : Text) → is_numbered names name ≡ true →
+pub number_prefix : (names more : List Text) (name : Text) → is_numbered names name ≡ true →
     number_of (names ++ more) name ≡ number_of names name
-number_front names more name h = number_is _ name ∙ find_front _ names more h ∙ sym (number_is names name)
+number_prefix names more name h = number_is _ name ∙ find_prefix _ names more h ∙ sym (number_is names name)
 
 pub number_next : (names : List Text) (name : Text) (more : List Text) → is_numbered names name ≡ false →
     number_of (names ++ name ∷ more) name ≡ Some (length names)
 number_next names name more h = number_is _ name ∙ find_next _ names name more h (same_refl name)
 
-pub numbered_front : (names more : List Text) (name : Text) → is_numbered names name ≡ true →
+pub numbered_prefix : (names more : List Text) (name : Text) → is_numbered names name ≡ true →
     is_numbered (names ++ more) name ≡ true
-numbered_front names more name h = list_any-append _ names more ∙ or_left _ _ h
+numbered_prefix names more name h = list_any-append _ names more ∙ or_left _ _ h
 
 pub each_at : {A : Type 0} (P : A → Type 0) (xs : List A) (i : ℕ) (x : A) → Each P xs → slice_get xs i ≡ Some x → P x
 each_at P [] i x h got = none_some x got

@@ -5,7 +5,7 @@ use Rattle.sc_types.proofs.Common.{callees_of, concat, counts_broken, functions_
 use Rattle.sc_types.proofs.Common.{length-map, line_of_text, map, names_broken, nat_tests, program_of, refused_at}
 use Rattle.sc_types.proofs.Common.{subst, suc, sym, types_broken, zero, ℕ, ◌∙◌, ◌∷◌, ◌≡◌}
 use Rattle.sc_types.specs.Counts as counts
-use Rattle.sc_types.proofs.Lookups.{Each, no_lines, front_empty, back_empty, map_empty, is_at_most}
+use Rattle.sc_types.proofs.Lookups.{Each, no_lines, prefix_empty, back_empty, map_empty, is_at_most}
 use Rattle.sc_types.proofs.Facts.{count_facts}
 use Rattle.sc_types.proofs.Sections.{none_beyond}
 use Rattle.sc_types.proofs.Verdicts.{no_line}
@@ -54,13 +54,13 @@ all_counts : (sections : List SectionTree) (k : ℕ) (rest : List SectionTree) �
     Each HasFewExports rest × Each Params rest
 all_counts sections k [] h = (tt, tt)
 all_counts sections k (section ∷ rest) h =
-    let here = section_counts sections k section (map_empty _ _ (front_empty _ _ h)) in
+    let here = section_counts sections k section (map_empty _ _ (prefix_empty _ _ h)) in
     let later = all_counts sections (suc k) rest (back_empty _ _ h) in
     ((here.0, later.0), (here.1, later.1))
 
 pub within_counts : (sections : List SectionTree) → counts_broken sections ≡ [] → IsWithinCounts sections
 within_counts sections h = let c = all_counts sections 0 _ (back_empty _ _ h) in record {
-  sections = is_at_most _ _ (none_beyond (λ section. line_of_text _ 1) _ _ (front_empty _ _ h));
+  sections = is_at_most _ _ (none_beyond (λ section. line_of_text _ 1) _ _ (prefix_empty _ _ h));
   exports = all_of HasFewExports _ c.0;
   params = all_of Params _ c.1;
 }

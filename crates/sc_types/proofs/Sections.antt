@@ -4,7 +4,7 @@ use Rattle.sc_types.proofs.Common.{HeadTree, ImportLine, Interface, List, None, 
 use Rattle.sc_types.proofs.Common.{Signature, Some, Struct, Ty, TypeName, TypedSection, [], agree, and_from}
 use Rattle.sc_types.proofs.Common.{any_passes_from_place, ap, append-nil, append_assoc, are_distinct, arith, bytes_eq}
 use Rattle.sc_types.proofs.Common.{callees_of, export_at, export_fits, export_name, export_names, false}
-use Rattle.sc_types.proofs.Common.{filter_map-append, function_named, function_names, functions_in, get_behind}
+use Rattle.sc_types.proofs.Common.{filter_map-append, function_named, function_names, functions_in, get_after}
 use Rattle.sc_types.proofs.Common.{head_crosses, head_fits, head_of, if◌then◌else◌, import_fits, import_name}
 use Rattle.sc_types.proofs.Common.{import_names, import_of, input_name, interface_fits, interface_of, interfaces_of}
 use Rattle.sc_types.proofs.Common.{is_numbered, is_some, length, length-map, list_all, list_any, list_any-append, map}
@@ -20,11 +20,11 @@ use Rattle.sc_event.specs.declared.interface.Proto as event
 use Rattle.sc_ast.specs.declared.types.BaseTree.TheVariants as tree_base
 use Rattle.sc_scope.specs.Declarations as decls
 use Rattle.sc_scope.specs.Names as names
-use Rattle.sc_interfaces.specs.Faces as faces
+use Rattle.sc_interfaces.specs.Rules as interface_rules
 use Rattle.sc_types.specs.Counts as counts
 use Rattle.sc_types.proofs.Lookups.{or_not, back_empty, no_lines, Each, Text, same_refl, each_at, each_function}
 use Rattle.sc_types.proofs.Lookups.{FoundFunction, find_function}
-use Rattle.sc_types.proofs.Facts.{Fresh, fresh_distinct, ExportFacts, ImportFacts, DeclFacts, FaceFacts, CountFacts}
+use Rattle.sc_types.proofs.Facts.{Fresh, fresh_distinct, ExportFacts, ImportFacts, DeclFacts, InterfaceFacts, CountFacts}
 use Rattle.sc_types.proofs.Calls.{agreed_signature, own_signature, Offering, find_offering, found_export, export_is}
 
 -- Signatures are the same as themselves.
@@ -42,18 +42,18 @@ signature_refl s = and_from _ _ (types_refl s.params) (result_refl s.result)
 
 -- Heads agree with themselves.
 
-base_agrees : (a : BaseTree) → faces.same_base a a ≡ true
+base_agrees : (a : BaseTree) → interface_rules.same_base a a ≡ true
 base_agrees (tree_base.Struct tag) = same_refl tag
 base_agrees _ = refl
 
 type_agrees : (t : TypeName) → same_type t t ≡ true
 type_agrees t = and_from _ _ ((Decides-eqb t.stars t.stars).1 refl) (base_agrees t.base)
 
-params_agree : (params : List ParamTree) → faces.same_params params params ≡ true
+params_agree : (params : List ParamTree) → interface_rules.same_params params params ≡ true
 params_agree [] = refl
 params_agree (p ∷ params) = and_from _ _ (type_agrees p.ty) (params_agree params)
 
-result_agrees : (result : Option TypeName) → faces.same_result result result ≡ true
+result_agrees : (result : Option TypeName) → interface_rules.same_result result result ≡ true
 result_agrees None = refl
 result_agrees (Some t) = type_agrees t
 
@@ -108,7 +108,7 @@ promised_name name None = refl
 promised_name name (Some tree) = refl
 
 module _ (sections : List SectionTree) (hold : (j : ℕ) (s : SectionTree) → slice_get sections j ≡ Some s →
-    FaceFacts sections j s) (number : ℕ) (section : SectionTree)
+    InterfaceFacts sections j s) (number : ℕ) (section : SectionTree)
     (there : slice_get sections number ≡ Some section) where
   abbrev callees : Callees
   callees = callees_of sections number section
@@ -116,7 +116,7 @@ module _ (sections : List SectionTree) (hold : (j : ℕ) (s : SectionTree) → s
   abbrev typed : TypedSection
   typed = typed_section section callees
 
-  abbrev facts : FaceFacts sections number section
+  abbrev facts : InterfaceFacts sections number section
   facts = hold number section there
 
   abbrev interface : Interface
@@ -233,7 +233,7 @@ module _ (sections : List SectionTree) (hold : (j : ℕ) (s : SectionTree) → s
       list_all (export_fits typed.functions) (map (proto_of section) lines) ≡ true
   exports_are before [] whole each = refl
   exports_are before (line ∷ lines) whole each = and_from _ _ (export_is_function (length before) line
-      (ap (λ list. slice_get list (length before)) (sym whole) ∙ get_behind before line lines) each.0)
+      (ap (λ list. slice_get list (length before)) (sym whole) ∙ get_after before line lines) each.0)
       (exports_are (before ++ line ∷ []) lines (append_assoc before _ lines ∙ whole) each.1)
 
   -- Imports lead to exports of other sections.

@@ -33,7 +33,7 @@ joined {text} {preamble} {found} split = progress_joined text _ (length text) (l
   heading = λ less. absurd (omega arith);
   in_line = refl;
   before = split.before;
-  so_far = split.behind;
+  so_far = split.following;
   good = λ k low bad. split_good split k bad;
 }) (omega arith)
 
@@ -53,14 +53,14 @@ each_has_one {text} {preamble} {found} program split a =
 
 -- what is kept of a text makes its parts
 module _ (text starts : List ℕ) (program : ProgramTree) (k : IsKept text starts program) where
-  front_is : first_start text starts ≡ length k.starts_are.preamble
-  front_is = ap (first_start text) k.starts_are.places ∙ first_is k.starts_are.split.behind refl
+  prefix_is : first_start text starts ≡ length k.starts_are.preamble
+  prefix_is = ap (first_start text) k.starts_are.places ∙ first_is k.starts_are.split.following refl
 
   bytes_are : parts_from text starts ≡ map bytes_of k.starts_are.found
-  bytes_are = ap (parts_from text) k.starts_are.places ∙ parts_are k.starts_are.split.behind refl
+  bytes_are = ap (parts_from text) k.starts_are.places ∙ parts_are k.starts_are.split.following refl
 
   preamble_is : take (first_start text starts) text ≡ k.starts_are.preamble
-  preamble_is = ap (λ n. take n text) front_is ∙ sym k.starts_are.split.front
+  preamble_is = ap (λ n. take n text) prefix_is ∙ sym k.starts_are.split.prefix
 
   pub source_kept : IsSource (source_of text starts program)
   source_kept = record {
@@ -70,7 +70,7 @@ module _ (text starts : List ℕ) (program : ProgramTree) (k : IsKept text start
       split = subst (λ p. IsSplit text p k.starts_are.found) (sym preamble_is) k.starts_are.split;
       bytes = bytes_are;
     };
-    joined = ap₂ (λ a b. a ++ b) (ap (λ n. take n text) front_is)
+    joined = ap₂ (λ a b. a ++ b) (ap (λ n. take n text) prefix_is)
         (ap concat bytes_are ∙ concat_is k.starts_are.found) ∙ joined k.starts_are.split;
     each = ap length bytes_are
         ∙ length-map k.starts_are.found bytes_of ∙ each_has_one program k.starts_are.split k.accepted;
@@ -112,7 +112,7 @@ section_is text starts at start end bytes within from to is =
 pub section_lies : (text starts : List ℕ) (at start end : ℕ) → AreStarts text starts → start ≡ first_start text
     (drop at starts) → end ≡ first_start text (drop (at + 1) starts) → (start ≤ end) × (end ≤ length text)
 section_lies text starts at start end a from to =
-    let r : IsRange text starts at = subst (λ s. IsRange text s at) (sym a.places) (ranges a.split.behind refl at) in
+    let r : IsRange text starts at = subst (λ s. IsRange text s at) (sym a.places) (ranges a.split.following refl at) in
     let last : end ≡ first_start text (drop (suc at) starts) =
     to ∙ ap (λ n. first_start text (drop n starts)) (add-one at) in
     (omega (arith, r.low, from, last), omega (arith, r.high, last))
@@ -121,8 +121,8 @@ section_lies text starts at start end a from to =
 pub preamble_lies : (text starts : List ℕ) (end : ℕ) → AreStarts text starts → end ≡ first_start text (drop 0 starts) →
     (0 ≤ end) × (end ≤ length text)
 preamble_lies text starts end a to =
-    let is : first_start text starts ≡ length _ = ap (first_start text) a.places ∙ first_is a.split.behind refl in
-    (omega arith, omega (arith, to, is, sections_rise a.split.behind))
+    let is : first_start text starts ≡ length _ = ap (first_start text) a.places ∙ first_is a.split.following refl in
+    (omega arith, omega (arith, to, is, sections_rise a.split.following))
 
 pub preamble_ends : (text starts : List ℕ) (end : ℕ) (bytes : List ℕ) → end ≡ first_start text (drop 0 starts) →
     bytes ≡ slice_range text 0 end → bytes ≡ take (first_start text starts) text

@@ -2,7 +2,7 @@
 use Rattle.sc_types.proofs.Common.{BaseTree, BaseTy, List, None, Option, Some, StructTree, Ty, TypeName, TypeTree, []}
 use Rattle.sc_types.proofs.Common.{and_first, and_from, and_rest, ap, append-nil, append_assoc, arith, base_cells}
 use Rattle.sc_types.proofs.Common.{base_known, base_of, base_within, bytes_eq, cells_from, cells_of, end_of_member}
-use Rattle.sc_types.proofs.Common.{false, get_behind, get_front, is_numbered, is_sized, length, length-map, list_all}
+use Rattle.sc_types.proofs.Common.{false, get_after, get_prefix, is_numbered, is_sized, length, length-map, list_all}
 use Rattle.sc_types.proofs.Common.{ltb-true, map, member_known, members_fit, members_from, most_cells, nat_le, nat_lt}
 use Rattle.sc_types.proofs.Common.{number_of, number_or_zero, option_map_or, pointed_known, refl, same_text, slice_get}
 use Rattle.sc_types.proofs.Common.{starred, starred_cells, starred_within, struct_cells, struct_fits, structs_fit}
@@ -13,7 +13,7 @@ use Rattle.sc_ast.specs.declared.types.BaseTree.TheVariants as base_tree
 use Rattle.sc_core.specs.declared.ty.Ty.TheVariants as ty
 use Rattle.sc_core.specs.declared.ty.BaseTy.TheVariants as base
 use Rattle.sc_core.specs.declared.section.TypedStruct.{TypedStruct}
-use Rattle.sc_types.proofs.Lookups.{Text, eq_refl, less, at_most, is_at_most, number_within, number_front, number_next}
+use Rattle.sc_types.proofs.Lookups.{Text, eq_refl, less, at_most, is_at_most, number_within, number_prefix, number_next}
 use Rattle.sc_types.proofs.Calls.{length_snoc}
 
 -- Tags.
@@ -22,7 +22,7 @@ use Rattle.sc_types.proofs.Calls.{length_snoc}
 pub base_is_within : (tags more : List Text) (b : BaseTree) → base_known tags b ≡ true →
     base_within (length tags) (base_of (tags ++ more) b) ≡ true
 base_is_within tags more (base_tree.Struct tag) h = less _ _
-    (subst (λ o. number_or_zero o < length tags) (sym (number_front tags more tag h)) (number_within tags tag h))
+    (subst (λ o. number_or_zero o < length tags) (sym (number_prefix tags more tag h)) (number_within tags tag h))
 base_is_within tags more _ h = refl
 
 pub is_less : (i n : ℕ) → nat_lt i n ≡ true → i < n
@@ -98,7 +98,7 @@ module _ (names : List Text) (self : Text) (more : List Text) (new : is_numbered
 
 module _ (done more : List TypedStruct) (n : ℕ) (size : length done ≡ n) where
   base_cells_same : (b : BaseTy) → base_within n b ≡ true → base_cells (done ++ more) b ≡ base_cells done b
-  base_cells_same (base.Struct i) h = ap struct_cells (get_front done more i (omega (arith, size, is_less i n h)))
+  base_cells_same (base.Struct i) h = ap struct_cells (get_prefix done more i (omega (arith, size, is_less i n h)))
   base_cells_same _ h = refl
 
   starred_cells_same : (pointed stars : ℕ) (b : BaseTy) → starred_within n pointed stars b ≡ true →
@@ -107,7 +107,7 @@ module _ (done more : List TypedStruct) (n : ℕ) (size : length done ≡ n) whe
   starred_cells_same pointed (suc stars) b h = refl
 
   pub cells_same : (pointed : ℕ) (t : Ty) → type_within n pointed t ≡ true → cells_of (done ++ more) t ≡ cells_of done t
-  cells_same pointed (ty.Struct i) h = ap struct_cells (get_front done more i (omega (arith, size, is_less i n h)))
+  cells_same pointed (ty.Struct i) h = ap struct_cells (get_prefix done more i (omega (arith, size, is_less i n h)))
   cells_same pointed (ty.Array stars b count) h =
       ap (λ cells. count * cells) (starred_cells_same pointed stars b (and_rest _ _ h))
   cells_same pointed _ h = refl
@@ -140,13 +140,13 @@ module _ (names : List Text) (self : Text) (after : List Text) (new : is_numbere
   below : (offset : ℕ) (members : List MemberTree) → offset ≤ 4294967295 → offset ≤ cells_from every done offset members
   below offset [] within = omega arith
   below offset (m ∷ members) within =
-      let behind = below (end offset m) members (end_within offset m) in
-      omega (arith, within, behind)
+      let following = below (end offset m) members (end_within offset m) in
+      omega (arith, within, following)
 
   -- in a small struct no offset stops
   exact : (offset : ℕ) (m : MemberTree) (members : List MemberTree) → cells_from every done
       (end offset m) members ≤ 1048576 → end offset m ≡ offset + cells_of done (type_of every m.ty)
-  exact offset m members small = let behind = below _ members (end_within offset m) in omega (arith, small, behind)
+  exact offset m members small = let following = below _ members (end_within offset m) in omega (arith, small, following)
 
   member_is : (offset : ℕ) (m : MemberTree) (members : List MemberTree) → member_known names self m ≡ true →
       is_sized m.ty ≡ true → end offset m ≡ offset + cells_of done (type_of every m.ty) →
@@ -212,7 +212,7 @@ module _ (all : List Text) where
       and_from _ _ (ap (nat_le 1) (members_length all done 0 tree.members) ∙ known.some)
       (and_from _ _ members (subst (λ o. nat_le (struct_cells o) most_cells ≡ true) got small)) where
         got : slice_get structs (length names) ≡ Some (typed_struct all done tree)
-        got = cc (get_behind done (typed_struct all done tree) more)
+        got = cc (get_after done (typed_struct all done tree) more)
 
         whole_cells : nat_le (cells_from all done 0 tree.members) most_cells ≡ true
         whole_cells = subst (λ o. nat_le (struct_cells o) most_cells ≡ true) got small

@@ -3,7 +3,7 @@ use Rattle.sc_types.proofs.Common.{AreLow, Bool, Callees, Decl, Function, Functi
 use Rattle.sc_types.proofs.Common.{Option, SectionTree, Some, TypedSection, [], and_first, and_from, and_rest}
 use Rattle.sc_types.proofs.Common.{any_passes_from_place, ap, append_assoc, are_distinct, arith, bytes_eq, callees_of}
 use Rattle.sc_types.proofs.Common.{codes, counts_broken, decl_count, defines_main, environment, false, functions_in}
-use Rattle.sc_types.proofs.Common.{get_behind, globals_in, head_of, if◌then◌else◌, interface_broken, interface_fits}
+use Rattle.sc_types.proofs.Common.{get_after, globals_in, head_of, if◌then◌else◌, interface_broken, interface_fits}
 use Rattle.sc_types.proofs.Common.{interface_of, interfaces_from, interfaces_of, is_main, is_numbered, is_well_typed}
 use Rattle.sc_types.proofs.Common.{length, length-map, line_of_text, list_any, list_any-append, main_fits, main_from}
 use Rattle.sc_types.proofs.Common.{main_name, mains_in, map, map-append, most_compartments, most_nodes, names_broken}
@@ -15,17 +15,17 @@ use Rattle.sc_types.proofs.Common.{◌&&◌, ◌++◌, ◌+◌, ◌==◌, ◌||�
 use Rattle.sc_core.specs.declared.ty.Ty.TheVariants as ty
 use Rattle.sc_scope.specs.Names as names
 use Rattle.sc_elab.specs.Sections as elab
-use Rattle.sc_interfaces.specs.Faces as faces
+use Rattle.sc_interfaces.specs.Rules as interface_rules
 use Rattle.sc_types.specs.Counts as counts
-use Rattle.sc_types.proofs.Lookups.{rule_holds, front_empty, back_empty, map_empty, Each, each_empty, each_passes, find}
+use Rattle.sc_types.proofs.Lookups.{rule_holds, prefix_empty, back_empty, map_empty, Each, each_empty, each_passes, find}
 use Rattle.sc_types.proofs.Lookups.{none_some, Text, any_found, each_at, each_function, same_sym, FoundFunction}
 use Rattle.sc_types.proofs.Lookups.{find_function}
 use Rattle.sc_types.proofs.Structs.{AllSmall, structs_all_fit, structs_length}
-use Rattle.sc_types.proofs.Facts.{Fresh, fresh_distinct, DeclFacts, FaceFacts, face_facts, decls_hold, CountFacts}
+use Rattle.sc_types.proofs.Facts.{Fresh, fresh_distinct, DeclFacts, InterfaceFacts, interface_facts, decls_hold, CountFacts}
 use Rattle.sc_types.proofs.Facts.{count_facts}
 use Rattle.sc_types.proofs.Calls.{input_signature, length_snoc, own_signature, plus_none, plus_zero}
 use Rattle.sc_types.proofs.Callees as called
-use Rattle.sc_types.proofs.Functions.{small_from, Behind, functions_are, globals_are, structs_known}
+use Rattle.sc_types.proofs.Functions.{small_from, After, functions_are, globals_are, structs_known}
 use Rattle.sc_types.proofs.Sections.{none_beyond, interface_is}
 use Rattle.std.proofs.Math.Bool.{or-false}
 
@@ -75,17 +75,17 @@ each_here P xs j x each got = subst (λ n. P n x) (plus_none j) (each_from P 0 x
 
 module _ (sections : List SectionTree) where
   -- the rules of interfaces, by the section's number
-  faces_each : (k : ℕ) (before rest : List SectionTree) → faces.lines_from sections k before rest ≡ [] →
-      EachFrom (FaceFacts sections) k rest
-  faces_each k before [] h = tt
-  faces_each k before (s ∷ rest) h = (
-    face_facts _ k s (list_any defines_main before) before (map_empty _ _ (front_empty _ _ h)),
-    faces_each (suc k) (before ++ s ∷ []) rest (back_empty _ _ h),
+  interfaces_each : (k : ℕ) (before rest : List SectionTree) → interface_rules.lines_from sections k before rest ≡ [] →
+      EachFrom (InterfaceFacts sections) k rest
+  interfaces_each k before [] h = tt
+  interfaces_each k before (s ∷ rest) h = (
+    interface_facts _ k s (list_any defines_main before) before (map_empty _ _ (prefix_empty _ _ h)),
+    interfaces_each (suc k) (before ++ s ∷ []) rest (back_empty _ _ h),
   )
 
   pub hold : interface_broken sections ≡ [] → (j : ℕ) (section : SectionTree) → slice_get sections j ≡ Some section →
-      FaceFacts sections j section
-  hold h j section got = each_here (FaceFacts sections) _ j section (faces_each 0 [] _ (front_empty _ _ h)) got
+      InterfaceFacts sections j section
+  hold h j section got = each_here (InterfaceFacts sections) _ j section (interfaces_each 0 [] _ (prefix_empty _ _ h)) got
 
   -- the rules of counts, by the section's number
   abbrev Counted : ℕ → SectionTree → Type 0
@@ -93,14 +93,14 @@ module _ (sections : List SectionTree) where
 
   counts_each : (k : ℕ) (rest : List SectionTree) → counts.lines_from sections k rest ≡ [] → EachFrom Counted k rest
   counts_each k [] h = tt
-  counts_each k (s ∷ rest) h = (map_empty _ _ (front_empty _ _ h), counts_each (suc k) rest (back_empty _ _ h))
+  counts_each k (s ∷ rest) h = (map_empty _ _ (prefix_empty _ _ h), counts_each (suc k) rest (back_empty _ _ h))
 
   pub count_at : counts.lines_from sections 0 sections ≡ [] → (j : ℕ) (section : SectionTree) →
       slice_get sections j ≡ Some section → counts.section_lines section (callees_of sections j section) ≡ []
   count_at h j section got = each_here Counted _ j section (counts_each 0 _ h) got
 
   module _ (low : AreLow sections) (in_names : names_broken sections ≡ []) (in_types : types_broken sections ≡ [])
-      (in_faces : interface_broken sections ≡ []) (in_counts : counts_broken sections ≡ []) where
+      (in_interfaces : interface_broken sections ≡ []) (in_counts : counts_broken sections ≡ []) where
     counts_of : counts.lines_from sections 0 sections ≡ []
     counts_of = back_empty (counts.line_beyond (λ section. line_of_text _ 1) most_compartments sections) _ in_counts
 
@@ -132,40 +132,40 @@ module _ (sections : List SectionTree) where
       small : AllSmall (structs section) 0 (structs_in section.decls)
       small = small_from section 0 _ facts.structs
 
-      all : Behind section callees [] section.decls
+      all : After section callees [] section.decls
       all = record { whole = refl; in_names = names_at; holds = types_at }
 
       section_is : section_fits (interfaces_of sections) number (interface_of sections number section) typed ≡ true
       section_is = and_from _ _ (structs_all_fit _ (structs_known section callees [] _ all) small) (and_from _ _
           (globals_are section callees [] _ all facts.globals) (and_from _ _ (functions_are section callees
-          (called.callable _ (hold in_faces) number section there) (called.same_signature_called _
-          (hold in_faces) number section there) small [] _ all facts.heads facts.functions low_at)
+          (called.callable _ (hold in_interfaces) number section there) (called.same_signature_called _
+          (hold in_interfaces) number section there) small [] _ all facts.heads facts.functions low_at)
           (and_from _ _ (and_first _ _ facts.nodes) (few_kept section callees (and_rest (nat_le _ _) _ facts.nodes)))))
 
-      faces_is : interface_fits (interfaces_of sections) number (interface_of sections number section) typed ≡ true
-      faces_is = interface_is _ (hold in_faces) number section there names_at facts
+      interfaces_is : interface_fits (interfaces_of sections) number (interface_of sections number section) typed ≡ true
+      interfaces_is = interface_is _ (hold in_interfaces) number section there names_at facts
 
     -- All sections.
-    sections_are : (front rest : List SectionTree) → front ++ rest ≡ sections →
-        sections_fit (interfaces_of sections) (length front) (interfaces_from sections (length front) rest)
-        (sections_from sections (length front) rest) ≡ true
-    sections_are front [] whole = refl
-    sections_are front (section ∷ rest) whole =
-        let there = ap (λ list. slice_get list (length front)) (sym whole) ∙ get_behind front section rest in
+    sections_are : (prefix rest : List SectionTree) → prefix ++ rest ≡ sections →
+        sections_fit (interfaces_of sections) (length prefix) (interfaces_from sections (length prefix) rest)
+        (sections_from sections (length prefix) rest) ≡ true
+    sections_are prefix [] whole = refl
+    sections_are prefix (section ∷ rest) whole =
+        let there = ap (λ list. slice_get list (length prefix)) (sym whole) ∙ get_after prefix section rest in
         and_from _ _ (section_is _ section there)
-        (and_from _ _ (faces_is _ section there) (subst (λ n. sections_fit (interfaces_of sections) n
+        (and_from _ _ (interfaces_is _ section there) (subst (λ n. sections_fit (interfaces_of sections) n
         (interfaces_from sections n rest) (sections_from sections n rest) ≡ true)
-        (length_snoc front section) (sections_are (front ++ section ∷ []) rest (append_assoc front _ rest ∙ whole))))
+        (length_snoc prefix section) (sections_are (prefix ++ section ∷ []) rest (append_assoc prefix _ rest ∙ whole))))
 
     -- Names of compartments.
-    compartments : (k : ℕ) (before rest : List SectionTree) → faces.lines_from sections k before rest ≡ [] →
+    compartments : (k : ℕ) (before rest : List SectionTree) → interface_rules.lines_from sections k before rest ≡ [] →
         Fresh (map name_of before) (map name_of rest) ×
         Each (λ name. bytes_eq name environment ≡ false) (map name_of rest)
     compartments k before [] h = (tt, tt)
     compartments k before (section ∷ rest) h =
         let next = compartments (suc k) (before ++ section ∷ []) rest (back_empty _ _ h) in
         let holds : (not (is_numbered (map name_of before) section.name) && not (bytes_eq section.name environment)) ≡
-        true = rule_holds _ 1 (front_empty _ _ (map_empty _ _ (front_empty _ _ h))) in
+        true = rule_holds _ 1 (prefix_empty _ _ (map_empty _ _ (prefix_empty _ _ h))) in
         grind (arith, next, map-append name_of before (section ∷ []))
 
     no_environment : (all : List Text) → Each (λ name. bytes_eq name environment ≡ false) all →
@@ -181,7 +181,7 @@ module _ (sections : List SectionTree) where
     names_distinct : are_distinct (codes "Env" ∷ map {A = Interface} (λ i. i.name) (interfaces_of sections).comps) ≡
         true
     names_distinct =
-        let c = compartments 0 [] sections (front_empty _ _ in_faces) in
+        let c = compartments 0 [] sections (prefix_empty _ _ in_interfaces) in
         subst (λ all. are_distinct (codes "Env" ∷ all) ≡ true) (sym (interface_names 0 sections))
         (and_from _ _ (ap not (no_environment _ c.1)) (fresh_distinct [] _ c.0))
 
@@ -203,19 +203,19 @@ module _ (sections : List SectionTree) where
       main_found : FoundFunction main_name (functions_in section.decls)
       main_found = find_function _ _ has
 
-      main_rule : faces.main_holds mains (head_of main_found.tree.head) ≡ true
+      main_rule : interface_rules.main_holds mains (head_of main_found.tree.head) ≡ true
       main_rule = (each_at (λ tree. DeclFacts sections k section mains (Function tree))
           (functions_in section.decls) main_found.at main_found.tree (each_function _ _ each) main_found.got).1
 
-      main_alone : (not mains && faces.is_main (head_of main_found.tree.head)) ≡ true
-      main_alone = grind (arith, main_found.named, main_rule)
+      only_main : (not mains && interface_rules.is_main (head_of main_found.tree.head)) ≡ true
+      only_main = grind (arith, main_found.named, main_rule)
 
     main_typed : (k : ℕ) (section : SectionTree) → slice_get sections k ≡ Some section → defines_main section ≡ true →
         main_fits (Some (typed_section section (callees_of sections k section))) ≡ true
     main_typed k section got has =
-        let facts = hold in_faces k section got in
+        let facts = hold in_interfaces k section got in
         let g = main_found k section facts.mains facts.decls has in
-        let is = and_rest (not facts.mains) _ (main_alone k section facts.mains facts.decls has) in
+        let is = and_rest (not facts.mains) _ (only_main k section facts.mains facts.decls has) in
         any_passes_from_place (λ f. is_main f && same_signature (signature_of f)
         (record { params = []; result = Some ty.Int })) (typed_section section (callees_of _ k section)).functions g.at
         (typed_function section (callees_of _ k section) g.tree) (slice_get-map _ _ g.at ∙ ap (option_map _) g.got)
@@ -234,21 +234,21 @@ module _ (sections : List SectionTree) where
     none_more : (b : Bool) → truth false ≡ (if b then 0 else truth false)
     none_more b = grind arith
 
-    mains_count : (k : ℕ) (before rest : List SectionTree) → faces.lines_from sections k before rest ≡ [] →
+    mains_count : (k : ℕ) (before rest : List SectionTree) → interface_rules.lines_from sections k before rest ≡ [] →
         mains_in (sections_from sections k rest) ≡ (if list_any defines_main before then 0 else
         truth (list_any defines_main rest))
     mains_count k before [] h = none_more _
     mains_count k before (section ∷ rest) h = ap (λ b. truth b + mains_in (sections_from sections (suc k) rest))
         (section_mains section (callees_of _ k section)) ∙ count_by _ (defines_main section)
-        (list_any _ rest) (mains_in _) (λ has. and_first _ _ (main_alone k section _ (decls_hold _ k section _ before
-        (map_empty _ _ (front_empty _ _ h))) has)) (mains_count (suc k) (before ++ section ∷ []) rest
+        (list_any _ rest) (mains_in _) (λ has. and_first _ _ (only_main k section _ (decls_hold _ k section _ before
+        (map_empty _ _ (prefix_empty _ _ h))) has)) (mains_count (suc k) (before ++ section ∷ []) rest
         (back_empty _ _ h) ∙ ap (λ b. if b then 0 else truth (list_any defines_main rest)) (any_append before section))
 
     has_main : list_any defines_main sections ≡ true
-    has_main = rule_holds _ 0 (back_empty (faces.lines_from sections 0 [] sections) _ in_faces)
+    has_main = rule_holds _ 0 (back_empty (interface_rules.lines_from sections 0 [] sections) _ in_interfaces)
 
     one_main : (mains_in (sections_from sections 0 sections) == 1) ≡ true
-    one_main = ap (λ n. n == 1) (mains_count 0 [] _ (front_empty _ _ in_faces) ∙ ap truth has_main)
+    one_main = ap (λ n. n == 1) (mains_count 0 [] _ (prefix_empty _ _ in_interfaces) ∙ ap truth has_main)
 
     -- The section of `main`.
 
@@ -285,7 +285,7 @@ module _ (sections : List SectionTree) where
 
     few : nat_le (length (sections_from sections 0 sections)) most_compartments ≡ true
     few = ap (λ n. nat_le n most_compartments) (typed_length 0 _)
-        ∙ none_beyond (λ section. line_of_text section.line 1) most_compartments sections (front_empty _ _ in_counts)
+        ∙ none_beyond (λ section. line_of_text section.line 1) most_compartments sections (prefix_empty _ _ in_counts)
 
     is_typed : is_well_typed (program_of sections) ≡ true
     is_typed = and_from _ _ few
@@ -295,5 +295,5 @@ module _ (sections : List SectionTree) where
 pub well_typed : (sections : List SectionTree) → AreLow sections → names_broken sections ≡ [] →
     types_broken sections ≡ [] → interface_broken sections ≡ [] → counts_broken sections ≡ [] →
     IsWellTyped (program_of sections)
-well_typed sections low in_names in_types in_faces in_counts =
-    is_typed sections low in_names in_types in_faces in_counts
+well_typed sections low in_names in_types in_interfaces in_counts =
+    is_typed sections low in_names in_types in_interfaces in_counts

@@ -3,9 +3,9 @@ use Rattle.sc_value.proofs.Common.{Blocks, Cause, Err, List, Ok, Result, TypedEx
 use Rattle.sc_value.proofs.Common.{drop-cons, get_or, length, sym, ℕ, ◌++◌, ◌+◌, ◌<◌, ◌∷◌, ◌≡◌}
 
 -- values that are there already, and those that follow
-abbrev pub behind : List Value → Result (List Value) Cause → Result (List Value) Cause
-behind vs (Ok ws) = Ok (vs ++ ws)
-behind vs (Err cause) = Err cause
+abbrev pub following : List Value → Result (List Value) Cause → Result (List Value) Cause
+following vs (Ok ws) = Ok (vs ++ ws)
+following vs (Err cause) = Err cause
 
 module _ (f : TypedExpr → Ways) (es : List TypedExpr) (blocks : Blocks) (i : ℕ) (e : TypedExpr) (there : i < length es)
     (item : e ≡ get_or es i e) where

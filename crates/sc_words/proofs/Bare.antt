@@ -29,46 +29,46 @@ by_command P (c ∷ cs) holds name form is = go (bytes_eq c.0 name) refl (by_com
 
 -- no option of the form has an empty name
 abbrev HasNames : Form → Type 0
-HasNames form = (has_value form [] ≡ false) × (is_among form.alone [] ≡ false)
+HasNames form = (has_value form [] ≡ false) × (is_among form.flags [] ≡ false)
 
 pub names_of_forms : (name : Text) (form : Form) → form_of name ≡ Some form → HasNames form
 names_of_forms = by_command _ commands
     ((refl, refl), ((refl, refl), ((refl, refl), ((refl, refl), ((refl, refl), ((refl, refl), ((refl, refl), tt)))))))
 
-nothing_behind : (form : Form) (o : Option (Text × Option Text)) (behind : Option Text → Option (List Setting)) →
-    ((waiting : Option Text) → behind waiting ≡ None) → named_option form o behind ≡ None
-nothing_behind form None behind none = refl
-nothing_behind form (Some (name, Some value)) behind none = go (has_value form name)
+nothing_after : (form : Form) (o : Option (Text × Option Text)) (following : Option Text → Option (List Setting)) →
+    ((waiting : Option Text) → following waiting ≡ None) → named_option form o following ≡ None
+nothing_after form None following none = refl
+nothing_after form (Some (name, Some value)) following none = go (has_value form name)
   where
-    go : (b : Bool) → cond b (more name value (behind None)) None ≡ None
+    go : (b : Bool) → cond b (more name value (following None)) None ≡ None
     go true = ap (more name value) (none None)
     go false = refl
-nothing_behind form (Some (name, None)) behind none = go (has_value form name) _
+nothing_after form (Some (name, None)) following none = go (has_value form name) _
   where
-    go : (a b : Bool) → cond a (behind (Some name)) (cond b (more name [] (behind None)) None) ≡ None
+    go : (a b : Bool) → cond a (following (Some name)) (cond b (more name [] (following None)) None) ≡ None
     go true b = none (Some name)
     go false true = ap (more name []) (none None)
     go false false = refl
 
 -- a bare word names no option
-bare_fails : (form : Form) → HasNames form → (word : Text) (behind : Option Text → Option (List Setting)) →
-    is_bare word ≡ true → named_option form (named word) behind ≡ None
-bare_fails form has [] behind bare = absurd (true≢false (sym bare))
-bare_fails form has (a ∷ []) behind bare = go _ refl
+bare_fails : (form : Form) → HasNames form → (word : Text) (following : Option Text → Option (List Setting)) →
+    is_bare word ≡ true → named_option form (named word) following ≡ None
+bare_fails form has [] following bare = absurd (true≢false (sym bare))
+bare_fails form has (a ∷ []) following bare = go _ refl
   where
-    go : (b : Bool) → (a == 45) ≡ b → named_option form (named (a ∷ [])) behind ≡ None
+    go : (b : Bool) → (a == 45) ≡ b → named_option form (named (a ∷ [])) following ≡ None
     go true e = rw e refl
     go false e = rw e refl
-bare_fails form has (a ∷ b ∷ []) behind bare = go _ refl _ refl
+bare_fails form has (a ∷ b ∷ []) following bare = go _ refl _ refl
   where
-    go : (x : Bool) → (a == 45) ≡ x → (y : Bool) → (b == 45) ≡ y → named_option form (named (a ∷ b ∷ [])) behind ≡ None
+    go : (x : Bool) → (a == 45) ≡ x → (y : Bool) → (b == 45) ≡ y → named_option form (named (a ∷ b ∷ [])) following ≡ None
     go true e true f = rw (e, f, has.0, has.1) refl
     go true e false f = rw (e, f) refl
     go false e y f = rw e refl
-bare_fails form has (a ∷ b ∷ x ∷ xs) behind bare = go _ refl _ refl
+bare_fails form has (a ∷ b ∷ x ∷ xs) following bare = go _ refl _ refl
   where
     go : (y : Bool) → (a == 45) ≡ y → (z : Bool) → (b == 45) ≡ z →
-        named_option form (named (a ∷ b ∷ x ∷ xs)) behind ≡ None
+        named_option form (named (a ∷ b ∷ x ∷ xs)) following ≡ None
     go true e true f =
         let two = eqb-true _ 2 (rw (e, f) at bare) in
         absurd (omega arith)
@@ -91,7 +91,7 @@ no_options form has (word ∷ words) bare waiting = go (is_bare word) refl waiti
         settings form waiting (word ∷ words) ≡ None
     go true e None later = bare_fails form has word (λ waiting. settings form waiting words) e
     go true e (Some name) later = rw (and_first (begins_with_hyphen word) _ e) refl
-    go false e None later = nothing_behind form (named word) (λ waiting. settings form waiting words)
+    go false e None later = nothing_after form (named word) (λ waiting. settings form waiting words)
         (later (rw e at bare))
     go false e (Some name) later = waits (begins_with_hyphen word) name (later (rw e at bare) None)
 

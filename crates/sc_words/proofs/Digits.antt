@@ -1,10 +1,10 @@
 -- Numbers as `parse` reads them, and lists cut at their commas.
 use Rattle.sc_words.proofs.Common.{Bool, Err, List, None, Ok, OkIff, Option, Result, Some, [], after_first}
 use Rattle.sc_words.proofs.Common.{all_ascii_digits, and_parts, ap, append_assoc, ap₂, arith, cond, eq-eqb, eqb-true}
-use Rattle.sc_words.proofs.Common.{false, first_piece, get_or, in_front, inl, inr, integer, integer_list, integers}
+use Rattle.sc_words.proofs.Common.{false, first_piece, get_or, prepended, inl, inr, integer, integer_list, integers}
 use Rattle.sc_words.proofs.Common.{is_comma, le-leb, leb-true, length, list_any, lt-leb, lt-ltb, ltb-true, nat_le}
 use Rattle.sc_words.proofs.Common.{nat_lt, neg_ℤ, number_within, onto_first, option_and_then, option_map, or_parts}
-use Rattle.sc_words.proofs.Common.{pieces, pieces_behind, pos, position_or_len, refl, slice_index, suc, sym, true}
+use Rattle.sc_words.proofs.Common.{pieces, pieces_after, pos, position_or_len, refl, slice_index, suc, sym, true}
 use Rattle.sc_words.proofs.Common.{true≢false, w32, when_within, ℕ, ℤ, ◌&&◌, ◌++◌, ◌+◌, ◌<◌, ◌==◌, ◌||◌, ◌∙◌, ◌∷◌, ◌≡◌}
 use Rattle.sc_words.proofs.Common.{◌≢◌, ◌≤◌, ◌⊎◌}
 use Rattle.std.specs.Result.{result_ok}
@@ -40,8 +40,8 @@ parts : (most : ℕ) (text : List ℕ) → test most text ≡ true →
     (all_ascii_digits text ≡ true) × (0 < length text) × (digits_value 10 text ≤ most)
 parts most text e =
     let all = and_parts _ _ e in
-    let front = and_parts _ _ all.0 in
-    (front.1, ltb-true 0 _ front.0, leb-true _ most all.1)
+    let prefix = and_parts _ _ all.0 in
+    (prefix.1, ltb-true 0 _ prefix.0, leb-true _ most all.1)
 
 within_by_test : {T : Type 0} (f : ℕ → T) (most : ℕ) (text : List ℕ) →
     cond (test most text) (Some (f (digits_value 10 text))) None ≡ option_map f (number_within 0 most text)
@@ -117,7 +117,7 @@ none_passes (b ∷ rest) e = go (is_comma b) refl (none_passes rest)
         let more : 1 + position_or_len is_comma rest ≡ length (b ∷ rest) = rw is at e in
         rw is (later (omega arith))
 
-pub no_comma : (text : List ℕ) → position_or_len is_comma text ≡ length text → None ≡ pieces_behind text
+pub no_comma : (text : List ℕ) → position_or_len is_comma text ≡ length text → None ≡ pieces_after text
 no_comma text e = sym (ap (λ b. cond b (Some (after_first is_comma text)) None) (none_passes text e))
 
 one_piece : (text : List ℕ) → list_any is_comma text ≡ false → pieces text ≡ first_piece text ∷ []
@@ -151,14 +151,14 @@ pub record IsReadUpTo (text : List ℕ) (count : ℕ) (done : List ℤ) (left : 
   pub pieces : length (pieces text) ≡ count + length (pieces left)
 
 -- the pieces that are left
-cut : (left : List ℕ) → ((pieces_behind left ≡ None) × (pieces left ≡ first_piece left ∷ []))
-    ⊎ ((behind : List ℕ) × (pieces_behind left ≡ Some behind) × (pieces left ≡ first_piece left ∷ pieces behind))
+cut : (left : List ℕ) → ((pieces_after left ≡ None) × (pieces left ≡ first_piece left ∷ []))
+    ⊎ ((following : List ℕ) × (pieces_after left ≡ Some following) × (pieces left ≡ first_piece left ∷ pieces following))
 cut left = go _ refl
   where
     go : (b : Bool) → list_any is_comma left ≡ b → ((cond b (Some (after_first is_comma left)) None ≡ None) ×
         (pieces left ≡ first_piece left ∷ []))
-        ⊎ ((behind : List ℕ) × (cond b (Some (after_first is_comma left)) None ≡ Some behind) ×
-        (pieces left ≡ first_piece left ∷ pieces behind))
+        ⊎ ((following : List ℕ) × (cond b (Some (after_first is_comma left)) None ≡ Some following) ×
+        (pieces left ≡ first_piece left ∷ pieces following))
     go true e = inr (after_first _ left, refl, more_pieces left e)
     go false e = inl (refl, one_piece left e)
 
@@ -171,8 +171,8 @@ pub refused : (text : List ℕ) (count : ℕ) (done : List ℤ) (left : List ℕ
 unfolding integers
 refused text count done left is bad = none_or_not _ _ (is.values ∙ ap (option_map (λ xs. done ++ xs)) none)
   where
-    first_bad : (o : Option (List ℤ)) → in_front (integer (first_piece left)) o ≡ None
-    first_bad o = ap (λ x. in_front x o) bad
+    first_bad : (o : Option (List ℤ)) → prepended (integer (first_piece left)) o ≡ None
+    first_bad o = ap (λ x. prepended x o) bad
 
     none : integers (pieces left) ≡ None
     none = elim (cut left) [
@@ -182,42 +182,42 @@ refused text count done left is bad = none_or_not _ _ (is.values ∙ ap (option_
 
 pub ends : (text : List ℕ) (count : ℕ) (done : List ℤ) (left : List ℕ) (last : ℤ) → IsReadUpTo text count done left →
     count < 65536
-    → integer (first_piece left) ≡ Some last → pieces_behind left ≡ None → integer_list text ≡ Some (done ++ last ∷ [])
+    → integer (first_piece left) ≡ Some last → pieces_after left ≡ None → integer_list text ≡ Some (done ++ last ∷ [])
 unfolding integers
 ends text count done left last is few good none = elim (cut left) [
   | inl c ↦
       let one = ap length c.1 in
       let within : length (pieces text) ≤ 65536 = omega (arith, is.pieces) in
       let all =
-      is.values ∙ ap (option_map (λ xs. done ++ xs)) (ap integers c.1 ∙ ap (λ x. in_front x (Some [])) good) in
+      is.values ∙ ap (option_map (λ xs. done ++ xs)) (ap integers c.1 ∙ ap (λ x. prepended x (Some [])) good) in
       rw (le-leb _ 65536 within) all
   | inr c ↦
       let bad = sym none ∙ c.1 in
       cc
 ]
 
-pub goes_on : (text : List ℕ) (count : ℕ) (done : List ℤ) (left : List ℕ) (next : ℤ) (behind : List ℕ) →
-    IsReadUpTo text count done left → integer (first_piece left) ≡ Some next → pieces_behind left ≡ Some behind →
-    IsReadUpTo text (count + 1) (done ++ next ∷ []) behind
+pub goes_on : (text : List ℕ) (count : ℕ) (done : List ℤ) (left : List ℕ) (next : ℤ) (following : List ℕ) →
+    IsReadUpTo text count done left → integer (first_piece left) ≡ Some next → pieces_after left ≡ Some following →
+    IsReadUpTo text (count + 1) (done ++ next ∷ []) following
 unfolding integers
-goes_on text count done left next behind is good some = elim (cut left) [
+goes_on text count done left next following is good some = elim (cut left) [
   | inl c ↦
-      let bad : None ≡ Some behind = sym c.0 ∙ some in
+      let bad : None ≡ Some following = sym c.0 ∙ some in
       cc
   | inr c ↦
-      let same_some : Some c.0 ≡ Some behind = sym c.1 ∙ some in
-      let same : c.0 ≡ behind = cc in
-      let parts : pieces left ≡ first_piece left ∷ pieces behind = c.2 ∙ ap (λ x. first_piece left ∷ pieces x) same in
+      let same_some : Some c.0 ≡ Some following = sym c.1 ∙ some in
+      let same : c.0 ≡ following = cc in
+      let parts : pieces left ≡ first_piece left ∷ pieces following = c.2 ∙ ap (λ x. first_piece left ∷ pieces x) same in
       let more : length (pieces left) ≡ suc _ = ap length parts in
       record {
         values = is.values ∙ (ap (option_map (λ xs. done ++ xs))
-            (ap integers parts ∙ ap (λ o. in_front o (integers (pieces behind))) good)
-            ∙ joined (integers (pieces behind)));
+            (ap integers parts ∙ ap (λ o. prepended o (integers (pieces following))) good)
+            ∙ joined (integers (pieces following)));
         pieces = omega (arith, is.pieces);
       }
 ]
   where
-    joined : (o : Option (List ℤ)) → option_map (λ xs. done ++ xs) (in_front (Some next) o) ≡
+    joined : (o : Option (List ℤ)) → option_map (λ xs. done ++ xs) (prepended (Some next) o) ≡
         option_map (λ xs. (done ++ next ∷ []) ++ xs) o
     joined None = refl
     joined (Some xs) = ap Some (sym (append_assoc done _ xs))

@@ -12,9 +12,9 @@ use Rattle.std.proofs.lemmas.List.{map-append}
 use Rattle.clap.specs.declared.error.kind.ErrorKind.TheVariants as kind
 use Rattle.sc_words.proofs.Basics.{by_hyphens, first_fails, first_plain, first_not, not_empty, or_else_assoc}
 use Rattle.sc_words.proofs.Basics.{second_fails}
-use Rattle.sc_words.proofs.Lookup.{by_id, by_index, by_long, lookup, lookup_other, lookup_valued, ready, ready_alone}
+use Rattle.sc_words.proofs.Lookup.{by_id, by_index, by_long, lookup, lookup_other, lookup_valued, ready, ready_flag}
 use Rattle.sc_words.proofs.Lookup.{ready_rules, ready_valued}
-use Rattle.sc_words.proofs.Rows.{Uses, alone_uses, check, check_is, final, has_row_rows, no_default_fails, once_more}
+use Rattle.sc_words.proofs.Rows.{Uses, flag_uses, check, check_is, final, has_row_rows, no_default_fails, once_more}
 use Rattle.sc_words.proofs.Rows.{plain_row, repeated, row, rows, valued_uses}
 
 -- ---- the walk over the words of one command
@@ -92,7 +92,7 @@ module _ (title : Text) (form : Form) where
   -- ---- what the words come to, where `before` is given already
 
   abbrev accepted : List Setting → Option (List Setting) → Option (List Setting)
-  accepted before = option_and_then (λ behind. when_complete form (before ++ behind))
+  accepted before = option_and_then (λ following. when_complete form (before ++ following))
 
   abbrev pub Agrees : Kinds → List Row → Option (List Setting) → Type 0
   Agrees k now None = k ≡ [] → ⊥
@@ -111,15 +111,15 @@ module _ (title : Text) (form : Form) where
       (subst (λ rows. Agrees (or_else k (faults next words)) rows o)
       (sym (ends_next w word words ∙ ap (λ w. ends w words) walks)) agrees)
 
-  accepted_more : (before : List Setting) (name value : Text) (behind : Option (List Setting))
-      → accepted before (more name value behind) ≡ accepted (before ++ (name, value) ∷ []) behind
+  accepted_more : (before : List Setting) (name value : Text) (following : Option (List Setting))
+      → accepted before (more name value following) ≡ accepted (before ++ (name, value) ∷ []) following
   accepted_more before name value None = refl
-  accepted_more before name value (Some behind) = ap (when_complete form) (sym (append_assoc before _ behind))
+  accepted_more before name value (Some following) = ap (when_complete form) (sym (append_assoc before _ following))
 
-  accepted_again : (before : List Setting) (name value : Text) (behind : Option (List Setting)) →
-      has_option name before ≡ true → accepted before (more name value behind) ≡ None
+  accepted_again : (before : List Setting) (name value : Text) (following : Option (List Setting)) →
+      has_option name before ≡ true → accepted before (more name value following) ≡ None
   accepted_again before name value None has = refl
-  accepted_again before name value (Some behind) has = rw (repeated before name value behind has) refl
+  accepted_again before name value (Some following) has = rw (repeated before name value following has) refl
 
   abbrev IdleAgrees : List Text → Type 0
   IdleAgrees words = (h : Held) (before : List Setting) → settle_fault rs false h ≡ [] →
@@ -168,29 +168,29 @@ module _ (title : Text) (form : Form) where
 
   lookup_cases : (P : Option Rule → Type 0) (name : Text)
       → (has_value form name ≡ true → (r : Bool) → P (Some (ready_valued r name)))
-      → (has_value form name ≡ false → is_among form.alone name ≡ true → P (Some (ready_alone name)))
-      → (has_value form name ≡ false → is_among form.alone name ≡ false → P None) → P (lookup form name)
-  lookup_cases P name valued alone none = go (has_value form name) refl (is_among form.alone name) refl
+      → (has_value form name ≡ false → is_among form.flags name ≡ true → P (Some (ready_flag name)))
+      → (has_value form name ≡ false → is_among form.flags name ≡ false → P None) → P (lookup form name)
+  lookup_cases P name valued flags none = go (has_value form name) refl (is_among form.flags name) refl
     where
-      go : (a : Bool) → has_value form name ≡ a → (b : Bool) → is_among form.alone name ≡ b → P (lookup form name)
+      go : (a : Bool) → has_value form name ≡ a → (b : Bool) → is_among form.flags name ≡ b → P (lookup form name)
       go true e b f =
           let is = lookup_valued form name e in
           subst P (sym is.1) (valued e is.0)
-      go false e true f = subst P (sym (lookup_other form name e ∙ rw f refl)) (alone e f)
+      go false e true f = subst P (sym (lookup_other form name e ∙ rw f refl)) (flags e f)
       go false e false f = subst P (sym (lookup_other form name e ∙ rw f refl)) (none e f)
 
   -- where what is held fails, a named word fails with it
   long_fails : (waiting : Waiting) (word name : Text) (v : Option Text) (h : Held) → (settle_fault rs false h ≡ [] → ⊥)
       → fault_by waiting word (lookup form name) v h ≡ [] → ⊥
   long_fails waiting word name v h fails = lookup_cases (λ a. fault_by waiting word a v h ≡ [] → ⊥) name
-      (λ has r. valued r v) (λ has alone. flag v) (λ has alone e. not_empty _ _ e)
+      (λ has r. valued r v) (λ has flags. flag v) (λ has flags e. not_empty _ _ e)
     where
       valued : (r : Bool) (v : Option Text) → fault_by waiting word (Some (ready_valued r name)) v h ≡ [] → ⊥
       valued r (Some value) = first_fails (or_else (settle_fault rs false h) _) _
           (first_fails (settle_fault rs false h) _ fails)
       valued r None = first_fails (settle_fault rs false h) _ fails
 
-      flag : (v : Option Text) → fault_by waiting word (Some (ready_alone name)) v h ≡ [] → ⊥
+      flag : (v : Option Text) → fault_by waiting word (Some (ready_flag name)) v h ≡ [] → ⊥
       flag (Some value) = λ e. not_empty _ _ e
       flag None = first_fails (or_else (settle_fault rs false h) _) _ (first_fails (settle_fault rs false h) _ fails)
 
@@ -222,17 +222,17 @@ module _ (title : Text) (form : Form) where
       (accepted before (more name value (settings form None words)))
   one_more next before name value words k once idles again new = go (has_option name before) refl
     where
-      behind : Option (List Setting)
-      behind = settings form None words
+      following : Option (List Setting)
+      following = settings form None words
 
       go : (b : Bool) → has_option name before ≡ b → Agrees (or_else k (faults (at idle next) words))
-          (ends (at idle next) words) (accepted before (more name value behind))
-      go true e = subst (Agrees _ _) (sym (accepted_again before name value behind e)) (again e)
+          (ends (at idle next) words) (accepted before (more name value following))
+      go true e = subst (Agrees _ _) (sym (accepted_again before name value following e)) (again e)
       go false e =
           let fine = new e in
           subst (λ x. Agrees (or_else x (faults (at idle next) words)) (ends (at idle next) words)
-          (accepted before (more name value behind))) (sym fine.0) (subst (GoesAs (at idle next) words)
-          (sym (accepted_more before name value behind)) (idles next (before ++ (name, value) ∷ []) fine.1
+          (accepted before (more name value following))) (sym fine.0) (subst (GoesAs (at idle next) words)
+          (sym (accepted_more before name value following)) (idles next (before ++ (name, value) ∷ []) fine.1
           (fine.2 ∙ sym (map-append _ before _)) (once_more before name value once e)))
 
   module _ (h : Held) (before : List Setting) (word name : Text) (words : List Text)
@@ -275,23 +275,23 @@ module _ (title : Text) (form : Form) where
         (subst (λ k. Agrees (or_else (or_else k []) (faults next words)) (ends next words)
         (accepted before (settings form (Some name) words))) (sym settles) later)
 
-    alone_agrees : has_value form name ≡ false → is_among form.alone name ≡ true → (v : Option Text) →
-        LongAgrees h before word name v words (Some (ready_alone name))
-    alone_agrees has alone (Some value) =
-        by_option (Some (ready_alone name)) (Some value) None (rw has refl) (λ e. not_empty _ _ e)
-    alone_agrees has alone None =
-        let rule = ready_alone name in
-        by_option (Some rule) None (more name [] (settings form None words)) (rw (has, alone) refl)
-        (taken rule [] [] (codes "true") (alone_uses name) (rw has refl) (reacted rs rule [] h) refl refl)
+    flag_agrees : has_value form name ≡ false → is_among form.flags name ≡ true → (v : Option Text) →
+        LongAgrees h before word name v words (Some (ready_flag name))
+    flag_agrees has flags (Some value) =
+        by_option (Some (ready_flag name)) (Some value) None (rw has refl) (λ e. not_empty _ _ e)
+    flag_agrees has flags None =
+        let rule = ready_flag name in
+        by_option (Some rule) None (more name [] (settings form None words)) (rw (has, flags) refl)
+        (taken rule [] [] (codes "true") (flag_uses name) (rw has refl) (reacted rs rule [] h) refl refl)
 
-    none_agrees : has_value form name ≡ false → is_among form.alone name ≡ false → (v : Option Text) →
+    none_agrees : has_value form name ≡ false → is_among form.flags name ≡ false → (v : Option Text) →
         LongAgrees h before word name v words None
-    none_agrees has alone (Some value) = by_option None (Some value) None (rw has refl) (λ e. not_empty _ _ e)
-    none_agrees has alone None = by_option None None None (rw (has, alone) refl) (λ e. not_empty _ _ e)
+    none_agrees has flags (Some value) = by_option None (Some value) None (rw has refl) (λ e. not_empty _ _ e)
+    none_agrees has flags None = by_option None None None (rw (has, flags) refl) (λ e. not_empty _ _ e)
 
     long_agrees : (v : Option Text) → LongAgrees h before word name v words (lookup form name)
     long_agrees v = lookup_cases (LongAgrees h before word name v words) name (λ has r. valued_agrees has r v)
-        (λ has alone. alone_agrees has alone v) (λ has alone. none_agrees has alone v)
+        (λ has flags. flag_agrees has flags v) (λ has flags. none_agrees has flags v)
 
   idle_next : (word : Text) (words : List Text) → is_bare word ≡ false →
       list_all (λ word. not (is_bare word)) words ≡ true

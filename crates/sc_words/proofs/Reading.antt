@@ -1,6 +1,6 @@
 -- The command that a parse which succeeds comes to.
 use Rattle.sc_words.proofs.Common.{App, Bool, Box, ErrorKind, Form, HasMatchesOf, IsAmong, IsReading, List, None}
-use Rattle.sc_words.proofs.Common.{Option, Row, Setting, Some, Tells, Text, [], ap, application, bytes_eq, codes}
+use Rattle.sc_words.proofs.Common.{Option, Row, Setting, Some, Says, Text, [], ap, application, bytes_eq, codes}
 use Rattle.sc_words.proofs.Common.{command, command_with, commands, events, false, fault_of, first_of, first_value-rows}
 use Rattle.sc_words.proofs.Common.{flag_text, form_of, has_option, has_value, inputs, is_among, is_bare, is_simple}
 use Rattle.sc_words.proofs.Common.{limit, list_any, make_form, number_within, one_of, one_text-rows, option_and_then}
@@ -19,43 +19,43 @@ use Rattle.sc_words.proofs.Top.{Reads, has_matches, words_agree}
 -- each command reads only the options of its form
 
 abbrev Same : Text → Form → Type 0
-Same name form = (settings : List Setting) (rows : List Row) (summary : Bool) → Tells form settings rows
+Same name form = (settings : List Setting) (rows : List Row) (summary : Bool) → Says form settings rows
     → command_with name (λ n. first_of n rows) summary ≡ command_with name (λ n. value_of n settings) summary
 
 -- a command with the options of `run`
-runs_same : (form : Form) (settings : List Setting) (rows : List Row) → Tells form settings rows →
+runs_same : (form : Form) (settings : List Setting) (rows : List Row) → Says form settings rows →
     has_value form (codes "steps") ≡ true → has_value form (codes "events") ≡ true →
-    has_value form (codes "in") ≡ true → form.alone ≡ [] → run (λ n. first_of n rows) ≡ run (λ n. value_of n settings)
-runs_same form settings rows tells has_steps has_events has_inputs none =
+    has_value form (codes "in") ≡ true → form.flags ≡ [] → run (λ n. first_of n rows) ≡ run (λ n. value_of n settings)
+runs_same form settings rows says has_steps has_events has_inputs none =
     λ i. option_and_then (λ steps. option_and_then (λ events. option_map (λ inputs.
     record { steps = steps; events = events; inputs = inputs }) (inputs (given (codes "in") has_inputs i)))
     (events (given (codes "events") has_events i))) (limit (given (codes "steps") has_steps i)) where
       given : (name : Text) → has_value form name ≡ true → first_of name rows ≡ value_of name settings
-      given name has = tells.values name has (ap (λ alone. is_among alone name) none)
+      given name has = says.values name has (ap (λ flags. is_among flags name) none)
 
 pub values_same : (name : Text) (form : Form) → form_of name ≡ Some form → Same name form
 values_same = by_command Same commands (
-  (λ settings rows summary tells. refl),
+  (λ settings rows summary says. refl),
   (
-    (λ settings rows summary tells i. option_map Meaning (option_and_then (λ turns. option_and_then (λ events.
+    (λ settings rows summary says i. option_map Meaning (option_and_then (λ turns. option_and_then (λ events.
         option_map (λ inputs. record { turns = turns; events = events; inputs = inputs })
-        (inputs (tells.values (codes "in") refl refl i))) (events (tells.values (codes "events") refl refl i)))
-        (limit (tells.values (codes "turns") refl refl i)))),
+        (inputs (says.values (codes "in") refl refl i))) (events (says.values (codes "events") refl refl i)))
+        (limit (says.values (codes "turns") refl refl i)))),
     (
-      (λ settings rows summary tells. refl),
+      (λ settings rows summary says. refl),
       (
-        (λ settings rows summary tells. ap (option_map Run) (runs_same _ settings rows tells refl refl refl refl)),
+        (λ settings rows summary says. ap (option_map Run) (runs_same _ settings rows says refl refl refl refl)),
         (
-          (λ settings rows summary tells. ap (option_map Exec) (runs_same _ settings rows tells refl refl refl refl)),
+          (λ settings rows summary says. ap (option_map Exec) (runs_same _ settings rows says refl refl refl refl)),
           (
-            (λ settings rows summary tells i. option_and_then (λ options. option_map (λ show. Explain options show)
-                (text_to_show (tells.values (codes "show") refl refl i)))
-                (runs_same _ settings rows tells refl refl refl refl i)),
+            (λ settings rows summary says i. option_and_then (λ options. option_map (λ show. Explain options show)
+                (text_to_show (says.values (codes "show") refl refl i)))
+                (runs_same _ settings rows says refl refl refl refl i)),
             (
-              (λ settings rows summary tells i. option_map Make (option_and_then (λ size.
+              (λ settings rows summary says i. option_map Make (option_and_then (λ size.
                   option_map (λ seed. record { size = size; seed = seed; summary = summary })
-                  (option_and_then (number_within 0 4294967295) (tells.values (codes "seed") refl refl i)))
-                  (option_and_then (number_within 1 1000) (tells.values (codes "size") refl refl i)))),
+                  (option_and_then (number_within 0 4294967295) (says.values (codes "seed") refl refl i)))
+                  (option_and_then (number_within 1 1000) (says.values (codes "size") refl refl i)))),
               tt,
             ),
           ),
@@ -66,12 +66,12 @@ values_same = by_command Same commands (
 )
 
 pub summary_same : (name : Text) (form : Form) (settings : List Setting) (rows : List Row) → form_of name ≡ Some form →
-    Tells form settings rows → bytes_eq name (codes "make") ≡ true →
+    Says form settings rows → bytes_eq name (codes "make") ≡ true →
     one_of (codes "summary") rows ≡ Some (flag_text (has_option (codes "summary") settings))
-summary_same name form settings rows has tells make =
+summary_same name form settings rows has says make =
     let found : Some make_form ≡ Some form = ap form_of (sym (same_text name _ make)) ∙ has in
     let same : form ≡ make_form = cc in
-    (subst (λ f. Tells f settings rows) same tells).alone (codes "summary") refl refl
+    (subst (λ f. Says f settings rows) same says).flags (codes "summary") refl refl
 
 -- ---- what the parse gives
 
@@ -92,7 +92,7 @@ reading words a m is bare matches passes = go (parsed words) refl (words_agree w
       has = reads.1.1;
       rows = reads.1.2.0;
       found = entered ∙ reads.1.2.1;
-      tells = reads.1.2.2;
+      says = reads.1.2.2;
     }
 
 pub refusal : (words : List Text) (a : App) (k : ErrorKind) → a ≡ application → list_any is_bare words ≡ false →
@@ -126,10 +126,10 @@ pub commanded : (words : List Text) (m : ArgMatches) (name : Text) (f : Found) �
 unfolding command
 commanded words m name f r named rowed = record {
   summary = has_option (codes "summary") r.read.1;
-  flag = λ make. one_text-rows f _ ∙ (ap (one_of _) rows_are ∙ summary_same r.read.0 r.form _ r.rows r.has r.tells
+  flag = λ make. one_text-rows f _ ∙ (ap (one_of _) rows_are ∙ summary_same r.read.0 r.form _ r.rows r.has r.says
       (ap (λ n. bytes_eq n _) (sym name_is) ∙ make));
   is = ap (option_and_then _) r.is
-      ∙ (sym (values_same r.read.0 r.form r.has _ r.rows (has_option (codes "summary") r.read.1) r.tells)
+      ∙ (sym (values_same r.read.0 r.form r.has _ r.rows (has_option (codes "summary") r.read.1) r.says)
       ∙ sym (λ i. command_with (name_is i) (λ n. (first_value-rows f n ∙ ap (first_of n) rows_are) i)
       (has_option (codes "summary") r.read.1)));
 }

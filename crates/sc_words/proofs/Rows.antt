@@ -1,5 +1,5 @@
 -- The rows of the options that are given: what a use adds, what is found at the end, and what is checked there.
-use Rattle.sc_words.proofs.Common.{Bool, Form, Kinds, List, None, Option, Row, Rule, Setting, Some, Tells, Text, []}
+use Rattle.sc_words.proofs.Common.{Bool, Form, Kinds, List, None, Option, Row, Rule, Setting, Some, Says, Text, []}
 use Rattle.sc_words.proofs.Common.{and-false, ap, append-nil, ap₂, at_row, bytes_eq, codes, cond, defaults_fault}
 use Rattle.sc_words.proofs.Common.{each_once, false, find, find-append, find-map, find_passes, flag_text, fold}
 use Rattle.sc_words.proofs.Common.{has_option, has_row, has_value, if◌then◌else◌, is_among, is_some, list_all, list_any}
@@ -13,7 +13,7 @@ use Rattle.clap.specs.declared.builder.value_parser.Reading.TheVariants.{AsWritt
 use Rattle.clap.specs.declared.error.kind.ErrorKind.TheVariants as kind
 use Rattle.clap.specs.declared.parser.matches.ValueSource.TheVariants.{DefaultValue, CommandLine}
 use Rattle.sc_words.proofs.Basics.{first_not, not_empty}
-use Rattle.sc_words.proofs.Lookup.{ready_alone, ready_rules, ready_valued}
+use Rattle.sc_words.proofs.Lookup.{ready_flag, ready_rules, ready_valued}
 
 -- ---- the rows of the options that are given
 
@@ -76,8 +76,8 @@ valued_uses r name value = record {
   again = λ now some. rw some (λ e. not_empty _ _ e);
 }
 
-pub alone_uses : (name : Text) → Uses (ready_alone name) [] name (codes "true")
-alone_uses name = record {
+pub flag_uses : (name : Text) → Uses (ready_flag name) [] name (codes "true")
+flag_uses name = record {
   adds = λ now none. joins name (codes "true") now none;
   new = λ now none. rw none refl;
   again = λ now some. rw some (λ e. not_empty _ _ e);
@@ -111,7 +111,7 @@ past_valued r (n ∷ names) rest now = ap (λ rs. fold with_default rs (map (rea
     kept false = refl
 
 final_is : (form : Form) (all : List Setting) → final form all ≡
-    fold with_default (rows form all) (map ready_alone form.alone ++ [])
+    fold with_default (rows form all) (map ready_flag form.flags ++ [])
 final_is form all = past_valued true form.needed _ (rows form all) ∙ past_valued false form.valued _ (rows form all)
 
 abbrev default_of : List Text → Text → Option Row
@@ -123,11 +123,11 @@ or_none (Some x) = refl
 
 -- what the defaults of the flags add
 found_final : (names : List Text) (now : List Row) (name : Text)
-    → find (by_name name) (fold with_default now (map ready_alone names ++ [])) ≡
+    → find (by_name name) (fold with_default now (map ready_flag names ++ [])) ≡
     option_or (find (by_name name) now) (default_of names name)
 found_final [] now name = sym (or_none (find (by_name name) now))
 found_final (n ∷ names) now name =
-    found_final names (with_default now (ready_alone n)) name ∙ go (has_row n now) refl (bytes_eq n name) refl
+    found_final names (with_default now (ready_flag n)) name ∙ go (has_row n now) refl (bytes_eq n name) refl
   where
     known : (o : Option Row) (d e : Option Row) → is_some o ≡ true → option_or o d ≡ option_or o e
     known None d e some = absurd (true≢false (sym some))
@@ -141,7 +141,7 @@ found_final (n ∷ names) now name =
     chosen None false is = refl
 
     go : (has : Bool) → has_row n now ≡ has → (same : Bool) → bytes_eq n name ≡ same
-        → option_or (find (by_name name) (with_default now (ready_alone n))) (default_of names name)
+        → option_or (find (by_name name) (with_default now (ready_flag n))) (default_of names name)
         ≡ option_or (find (by_name name) now) (cond (same || is_among names name) (Some (default_row name)) None)
     go true some true same =
         let some_name : is_some (find (by_name name) now) ≡ true =
@@ -149,7 +149,7 @@ found_final (n ∷ names) now name =
         rw some (known (find (by_name name) now) (default_of names name) (Some (default_row name)) some_name)
     go true some false same = rw some refl
     go false none same is =
-        let one : with_default now (ready_alone n) ≡ now ++ default_row n ∷ []
+        let one : with_default now (ready_flag n) ≡ now ++ default_row n ∷ []
         = rw none (joined n (more_values DefaultValue (codes "false" ∷ [])) (default_row n ∷ []) now none) in
         let here : find (by_name name) (default_row n ∷ []) ≡ cond same (Some (default_row n)) None = rw is refl in
         ap (λ rs. option_or (find (by_name name) rs) (default_of names name)) one
@@ -158,9 +158,9 @@ found_final (n ∷ names) now name =
 
 found_at_end : (form : Form) (all : List Setting) (name : Text)
     → find (by_name name) (final form all) ≡ option_or (option_map (row form) (option_named name all))
-    (default_of form.alone name)
-found_at_end form all name = ap (find _) (final_is form all) ∙ (found_final form.alone (rows form all) name
-    ∙ ap (λ o. option_or o (default_of form.alone name)) (sym (find-map _ _ all)))
+    (default_of form.flags name)
+found_at_end form all name = ap (find _) (final_is form all) ∙ (found_final form.flags (rows form all) name
+    ∙ ap (λ o. option_or o (default_of form.flags name)) (sym (find-map _ _ all)))
 
 given_at_end : (form : Form) (all : List Setting) (name : Text) → is_given name (final form all) ≡ has_option name all
 given_at_end form all name = ap (λ o. option_map_or (λ r. explicit_source r.source) o false)
@@ -172,27 +172,27 @@ given_at_end form all name = ap (λ o. option_map_or (λ r. explicit_source r.so
     go None true = refl
     go None false = refl
 
-pub tells : (form : Form) (all : List Setting) → Tells form all (final form all)
-tells form all = record {
-  values = λ name has alone. ap (option_and_then _) (found_at_end form all name) ∙ value_at name has alone _ refl;
-  alone = λ name has alone. ap (option_and_then _) (found_at_end form all name)
-      ∙ (flag_at name has alone _ refl ∙ ap (λ b. Some (flag_text b)) (found_any _ all));
+pub says : (form : Form) (all : List Setting) → Says form all (final form all)
+says form all = record {
+  values = λ name has flags. ap (option_and_then _) (found_at_end form all name) ∙ value_at name has flags _ refl;
+  flags = λ name has flags. ap (option_and_then _) (found_at_end form all name)
+      ∙ (flag_at name has flags _ refl ∙ ap (λ b. Some (flag_text b)) (found_any _ all));
 }
   where
-    value_at : (name : Text) → has_value form name ≡ true → is_among form.alone name ≡ false → (o : Option Setting) →
+    value_at : (name : Text) → has_value form name ≡ true → is_among form.flags name ≡ false → (o : Option Setting) →
         option_named name all ≡ o → option_and_then (λ (r : Row). slice_get r.values 0)
-        (option_or (option_map (row form) o) (default_of form.alone name)) ≡ option_map (λ x. x.1) o
-    value_at name has alone None is = rw alone refl
-    value_at name has alone (Some o) is =
+        (option_or (option_map (row form) o) (default_of form.flags name)) ≡ option_map (λ x. x.1) o
+    value_at name has flags None is = rw flags refl
+    value_at name has flags (Some o) is =
         let same = same_text o.0 name (find_passes _ all o is) in
         let valued = ap (has_value form) same ∙ has in
         rw valued refl
 
-    flag_at : (name : Text) → has_value form name ≡ false → is_among form.alone name ≡ true → (o : Option Setting) →
+    flag_at : (name : Text) → has_value form name ≡ false → is_among form.flags name ≡ true → (o : Option Setting) →
         option_named name all ≡ o → option_and_then row_text (option_or (option_map (row form) o)
-        (default_of form.alone name)) ≡ Some (flag_text (is_some o))
-    flag_at name has alone None is = rw alone refl
-    flag_at name has alone (Some o) is =
+        (default_of form.flags name)) ≡ Some (flag_text (is_some o))
+    flag_at name has flags None is = rw flags refl
+    flag_at name has flags (Some o) is =
         let same = same_text o.0 name (find_passes _ all o is) in
         let valued = ap (has_value form) same ∙ has in
         rw valued refl
@@ -209,10 +209,10 @@ any_valued : (now : List Row) (names : List Text) (rest : List Rule)
 any_valued now [] rest = refl
 any_valued now (n ∷ names) rest = any_valued now names rest
 
-any_alone : (now : List Row) (names : List Text) → list_any (λ a. a.required && not (is_given a.id now))
-    (map ready_alone names ++ []) ≡ false
-any_alone now [] = refl
-any_alone now (n ∷ names) = any_alone now names
+any_flag : (now : List Row) (names : List Text) → list_any (λ a. a.required && not (is_given a.id now))
+    (map ready_flag names ++ []) ≡ false
+any_flag now [] = refl
+any_flag now (n ∷ names) = any_flag now names
 
 any_needed : (now : List Row) (all : List Setting) → ((name : Text) → is_given name now ≡ has_option name all) →
     (names : List Text) (rest : List Rule) → list_any (λ a. a.required && not (is_given a.id now)) rest ≡ false →
@@ -231,7 +231,7 @@ pub check_is : (form : Form) (all : List Setting)
     kind.MissingRequiredArgument ∷ [])
 check_is form all =
     let now = final form all in
-    let none = any_valued now form.valued _ ∙ any_alone now form.alone in
+    let none = any_valued now form.valued _ ∙ any_flag now form.flags in
     ap (λ b. cond b (kind.MissingRequiredArgument ∷ []) []) (any_needed now all (given_at_end form all) _ _ none)
     ∙ turned _
   where
@@ -253,33 +253,33 @@ valued_defaults r [] rest none now = none now
 valued_defaults r (n ∷ names) rest none now =
     nothing_first (has_row n now || true) (valued_defaults r names rest none _)
 
-alone_defaults : (names : List Text) (now : List Row) → defaults_fault now (map ready_alone names ++ []) ≡ []
+flag_defaults : (names : List Text) (now : List Row) → defaults_fault now (map ready_flag names ++ []) ≡ []
 unfolding defaults_fault
-alone_defaults [] now = refl
-alone_defaults (n ∷ names) now = nothing_first (has_row n now || false) (alone_defaults names _)
+flag_defaults [] now = refl
+flag_defaults (n ∷ names) now = nothing_first (has_row n now || false) (flag_defaults names _)
 
 pub no_default_fails : (form : Form) (now : List Row) → defaults_fault now (ready_rules form) ≡ []
-no_default_fails form = valued_defaults true form.needed _ (valued_defaults false form.valued _ (alone_defaults _))
+no_default_fails form = valued_defaults true form.needed _ (valued_defaults false form.valued _ (flag_defaults _))
 
 -- ---- options that are given once
 
-pub repeated : (before : List Setting) (name value : Text) (behind : List Setting) → has_option name before ≡ true →
-    each_once (before ++ (name, value) ∷ behind) ≡ false
-repeated [] name value behind has = absurd (true≢false (sym has))
-repeated (o ∷ before) name value behind has = go (bytes_eq o.0 name) refl (repeated before name value behind)
+pub repeated : (before : List Setting) (name value : Text) (following : List Setting) → has_option name before ≡ true →
+    each_once (before ++ (name, value) ∷ following) ≡ false
+repeated [] name value following has = absurd (true≢false (sym has))
+repeated (o ∷ before) name value following has = go (bytes_eq o.0 name) refl (repeated before name value following)
   where
     go : (b : Bool) → bytes_eq o.0 name ≡ b → (has_option name before ≡ true →
-        each_once (before ++ (name, value) ∷ behind) ≡ false)
-        → (not (has_option o.0 (before ++ (name, value) ∷ behind)) && each_once (before ++ (name, value) ∷ behind)) ≡
+        each_once (before ++ (name, value) ∷ following) ≡ false)
+        → (not (has_option o.0 (before ++ (name, value) ∷ following)) && each_once (before ++ (name, value) ∷ following)) ≡
         false
     go true e later =
         let turned : bytes_eq name o.0 ≡ true = same_either_way name o.0 ∙ e in
-        let there : has_option o.0 (before ++ (name, value) ∷ behind) ≡ true
-        = list_any-append _ before ((name, value) ∷ behind) ∙
-        (ap (λ b. has_option o.0 before || (b || has_option o.0 behind)) turned ∙ or-true (has_option o.0 before)) in
-        ap (λ b. not b && each_once (before ++ (name, value) ∷ behind)) there
+        let there : has_option o.0 (before ++ (name, value) ∷ following) ≡ true
+        = list_any-append _ before ((name, value) ∷ following) ∙
+        (ap (λ b. has_option o.0 before || (b || has_option o.0 following)) turned ∙ or-true (has_option o.0 before)) in
+        ap (λ b. not b && each_once (before ++ (name, value) ∷ following)) there
     go false e later =
-        ap (λ b. not (has_option o.0 (before ++ (name, value) ∷ behind)) && b) (later (rw e at has)) ∙ and-false _
+        ap (λ b. not (has_option o.0 (before ++ (name, value) ∷ following)) && b) (later (rw e at has)) ∙ and-false _
 
 pub once_more : (before : List Setting) (name value : Text) → each_once before ≡ true → has_option name before ≡ false →
     each_once (before ++ (name, value) ∷ []) ≡ true

@@ -1,6 +1,6 @@
 -- What a parse makes of all the words: the command's name and its options, or a fault.
 use Rattle.sc_words.proofs.Common.{App, Bool, Form, Held, Kinds, List, Names, None, Option, Row, Setting, Shape, Some}
-use Rattle.sc_words.proofs.Common.{Step, Tells, Text, Walk, [], after_step, answers_to, ap, append-nil, append_assoc}
+use Rattle.sc_words.proofs.Common.{Step, Says, Text, Walk, [], after_step, answers_to, ap, append-nil, append_assoc}
 use Rattle.sc_words.proofs.Common.{application, begins_with_hyphen, bytes_eq, check_fault, codes, commands, cond}
 use Rattle.sc_words.proofs.Common.{defaults_fault, entered, entered_fault, false, fault_of, find, find-map, find_passes}
 use Rattle.sc_words.proofs.Common.{finished, fold, form_of, idle, is_bare, is_simple, is_simple_and_free, is_some}
@@ -14,7 +14,7 @@ use Rattle.clap.proofs.SimpleLemmas.{label_first}
 use Rattle.clap.specs.declared.error.kind.ErrorKind.TheVariants as kind
 use Rattle.sc_words.proofs.Basics.{by_hyphens, first_fails, first_plain, first_not, not_empty}
 use Rattle.sc_words.proofs.Lookup.{ready, ready_rules}
-use Rattle.sc_words.proofs.Rows.{tells}
+use Rattle.sc_words.proofs.Rows.{says}
 use Rattle.sc_words.proofs.Level.{Agrees, level_agrees}
 
 -- ---- the commands as they are built
@@ -116,7 +116,7 @@ fold_stopped w p (word ∷ words) =
 abbrev pub Reads : Kinds → Option (Text × List Row) → Option (Text × List Setting) → Type 0
 Reads faults entered None = faults ≡ [] → ⊥
 Reads faults entered (Some read) = (faults ≡ []) × ((form : Form) × (form_of read.0 ≡ Some form) ×
-    ((rows : List Row) × (entered ≡ Some (read.0, rows)) × Tells form read.1 rows))
+    ((rows : List Row) × (entered ≡ Some (read.0, rows)) × Says form read.1 rows))
 
 abbrev stopped_at : Text → List Text → Walk
 stopped_at name words = record start { stopped = Some (name, words) }
@@ -174,7 +174,7 @@ known_agrees c words found all =
         (
           rows_after (ready_rules c.1) [] words,
           refl,
-          subst (Tells c.1 settings) (sym agrees.1) (tells c.1 settings),
+          subst (Says c.1 settings) (sym agrees.1) (says c.1 settings),
         ),
       ),
     )

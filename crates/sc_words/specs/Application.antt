@@ -14,11 +14,11 @@ use Rattle.sc_words.specs.Words.{commands, form_of, parsed}
 abbrev pub valued_rule : (required : Bool) → Text → Rule
 valued_rule required name = record (new_rule name) { long = Some name; action = Some Set; required = required }
 
-abbrev pub alone_rule : Text → Rule
-alone_rule name = record (new_rule name) { long = Some name; action = Some SetTrue }
+abbrev pub flag_rule : Text → Rule
+flag_rule name = record (new_rule name) { long = Some name; action = Some SetTrue }
 
 abbrev pub rules_of : Form → List Rule
-rules_of form = map (valued_rule true) form.needed ++ (map (valued_rule false) form.valued ++ map alone_rule form.alone)
+rules_of form = map (valued_rule true) form.needed ++ (map (valued_rule false) form.valued ++ map flag_rule form.flags)
 
 abbrev pub shape_with : Text → Form → Shape
 shape_with name form = record (new_shape name) { rules = rules_of form }
@@ -53,10 +53,10 @@ flag_text true = codes "true"
 flag_text false = codes "false"
 
 -- the rows say which options are given, with their values
-pub record Tells (form : Form) (settings : List Setting) (rows : List Row) : Type 0 where
-  pub values : (name : Text) → has_value form name ≡ true → is_among form.alone name ≡ false
+pub record Says (form : Form) (settings : List Setting) (rows : List Row) : Type 0 where
+  pub values : (name : Text) → has_value form name ≡ true → is_among form.flags name ≡ false
       → first_of name rows ≡ value_of name settings
-  pub alone : (name : Text) → has_value form name ≡ false → is_among form.alone name ≡ true
+  pub flags : (name : Text) → has_value form name ≡ false → is_among form.flags name ≡ true
       → one_of name rows ≡ Some (flag_text (has_option name settings))
 
 -- the parse found the command and the options that the words are
@@ -67,4 +67,4 @@ pub record IsReading (words : List Text) (matches : ArgMatches) : Type 0 where
   pub has : form_of read.0 ≡ Some form
   pub rows : List Row
   pub found : subcommand_rows_of matches ≡ Some (read.0, rows)
-  pub tells : Tells form read.1 rows
+  pub says : Says form read.1 rows

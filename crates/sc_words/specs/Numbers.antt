@@ -39,16 +39,16 @@ pieces (byte ∷ rest) = if is_comma byte then [] ∷ pieces rest else onto_firs
 abbrev pub first_piece : List ℕ → List ℕ
 first_piece text = before_first is_comma text
 
-abbrev pub pieces_behind : List ℕ → Option (List ℕ)
-pieces_behind text = if list_any is_comma text then Some (after_first is_comma text) else None
+abbrev pub pieces_after : List ℕ → Option (List ℕ)
+pieces_after text = if list_any is_comma text then Some (after_first is_comma text) else None
 
-abbrev pub in_front : Option ℤ → Option (List ℤ) → Option (List ℤ)
-in_front first rest = option_and_then (λ x. option_map (λ xs. x ∷ xs) rest) first
+abbrev pub prepended : Option ℤ → Option (List ℤ) → Option (List ℤ)
+prepended first rest = option_and_then (λ x. option_map (λ xs. x ∷ xs) rest) first
 
 -- each text as an integer
 unfoldable pub integers : List (List ℕ) → Option (List ℤ)
 integers [] = Some []
-integers (text ∷ rest) = in_front (integer text) (integers rest)
+integers (text ∷ rest) = prepended (integer text) (integers rest)
 
 -- a list of 1 to 65,536 integers with single commas between them
 abbrev pub integer_list : List ℕ → Option (List ℤ)

@@ -11,7 +11,7 @@ Text = List ℕ
 pub record Form : Type 0 where
   pub needed : List Text
   pub valued : List Text
-  pub alone : List Text
+  pub flags : List Text
 
 -- an option with its value, which is empty for a flag
 abbrev pub Setting : Type 0
@@ -46,15 +46,15 @@ is_bare word = begins_with_hyphen word && (not (bytes_eq (take 2 word) (codes "-
 abbrev pub more : Text → Text → Option (List Setting) → Option (List Setting)
 more name value = option_map (λ settings. (name, value) ∷ settings)
 
--- what a word that is no value says, where `behind` reads the words after it for the option that waits for its value
+-- what a word that is no value says, where `following` reads the words after it for the option that waits for its value
 abbrev pub named_option : Form → Option (Text × Option Text) → (Option Text → Option (List Setting)) →
     Option (List Setting)
-named_option form None behind = None
-named_option form (Some (name, Some value)) behind =
-    if has_value form name then more name value (behind None) else None
-named_option form (Some (name, None)) behind =
-    if has_value form name then behind (Some name)
-    else (if is_among form.alone name then more name [] (behind None) else None)
+named_option form None following = None
+named_option form (Some (name, Some value)) following =
+    if has_value form name then more name value (following None) else None
+named_option form (Some (name, None)) following =
+    if has_value form name then following (Some name)
+    else (if is_among form.flags name then more name [] (following None) else None)
 
 -- the options that words give, in order, where `waiting` is the option whose value is the first word. A value in a word
 -- of its own doesn't begin with a hyphen

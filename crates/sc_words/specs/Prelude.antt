@@ -1,9 +1,9 @@
 -- What this crate's contracts, its proofs and the crates above cite, passed on from one place. Declares nothing.
 pub use Rattle.clap.specs.Words.{app_of, found_of, kind_of}
-pub use Rattle.sc_words.specs.Application.{IsArgumentOf, IsCommandOf, IsReading, Tells, alone_rule, application}
+pub use Rattle.sc_words.specs.Application.{IsArgumentOf, IsCommandOf, IsReading, Says, flag_rule, application}
 pub use Rattle.sc_words.specs.Application.{flag_text, shape_with, top, valued_rule}
-pub use Rattle.sc_words.specs.Numbers.{first_piece, in_front, integer, integer_list, is_comma, number, number_within}
-pub use Rattle.sc_words.specs.Numbers.{onto_first, pieces_behind, when_within}
+pub use Rattle.sc_words.specs.Numbers.{first_piece, prepended, integer, integer_list, is_comma, number, number_within}
+pub use Rattle.sc_words.specs.Numbers.{onto_first, pieces_after, when_within}
 unfoldable pub use Rattle.sc_words.specs.Numbers.{integers, pieces}
 pub use Rattle.sc_words.specs.Options.{Form, Setting, Text, begins_with_hyphen, each_once, has_option, has_value}
 pub use Rattle.sc_words.specs.Options.{is_among, is_bare, more, name_and_value, named, named_option, options, value_of}

@@ -13,10 +13,10 @@ use Rattle.sc_words.specs.declared.command.RunOptions.{RunOptions}
 -- ---- the commands
 
 abbrev pub with_values : List Text → Form
-with_values names = record { needed = []; valued = names; alone = [] }
+with_values names = record { needed = []; valued = names; flags = [] }
 
 abbrev pub make_form : Form
-make_form = record { needed = codes "size" ∷ codes "seed" ∷ []; valued = []; alone = codes "summary" ∷ [] }
+make_form = record { needed = codes "size" ∷ codes "seed" ∷ []; valued = []; flags = codes "summary" ∷ [] }
 
 -- the commands by their names, with the options of each
 abbrev pub commands : List (Text × Form)

@@ -1,4 +1,4 @@
-ghost use Rattle.sc_words.specs.Prelude.{IsArgumentOf, IsCommandOf, alone_rule, app_of, application, make_form, top};
+ghost use Rattle.sc_words.specs.Prelude.{IsArgumentOf, IsCommandOf, flag_rule, app_of, application, make_form, top};
 ghost use Rattle.sc_words.specs.Prelude.{valued_rule, with_values};
 ghost use Rattle.std.specs.Prelude.{◌≡◌, ◌∷◌, [], codes, true, false, IfOk};
 
@@ -54,7 +54,7 @@ fn make<'a>(alloc: Global) -> Result<Command<'a>, AllocError>
     Command::new(alloc, "make")
         .arg(needed(alloc, "size"))?
         .arg(needed(alloc, "seed"))?
-        .arg(alone(alloc, "summary"))
+        .arg(flags(alloc, "summary"))
 }
 
 // An option with a value.
@@ -75,8 +75,8 @@ fn needed<'a>(alloc: Global, name: &'a str) -> Arg<'a>
 }
 
 // A flag, an option without a value.
-fn alone<'a>(alloc: Global, name: &'a str) -> Arg<'a>
-    ensures { IsArgumentOf (alone_rule name.entry.now) result }
+fn flags<'a>(alloc: Global, name: &'a str) -> Arg<'a>
+    ensures { IsArgumentOf (flag_rule name.entry.now) result }
 {
     Arg::new(alloc, name).long(name).action(ArgAction::SetTrue)
 }

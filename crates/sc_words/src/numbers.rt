@@ -1,4 +1,4 @@
-ghost use Rattle.sc_words.specs.Prelude.{first_piece, integer, integer_list, number_within, pieces_behind};
+ghost use Rattle.sc_words.specs.Prelude.{first_piece, integer, integer_list, number_within, pieces_after};
 ghost use Rattle.std.specs.Prelude.{◌≡◌, Some, None, IfOk, IsErrOf, length, option_map, slice_index, ◌==◌};
 
 use crate::WordsFault;
@@ -62,7 +62,7 @@ pub(crate) fn read_list(alloc: Global, text: &str) -> Result<Items<i32>, WordsFa
         list.push(integer)?;
         match rest {
             None => return Ok(list),
-            Some(behind) => left = behind,
+            Some(following) => left = following,
         }
     }
     Err(WordsFault::Usage)
@@ -72,7 +72,7 @@ pub(crate) fn read_list(alloc: Global, text: &str) -> Result<Items<i32>, WordsFa
 #[tactic(auto, using(crate::proofs::Digits::no_comma))]
 fn first_piece(text: &str) -> (&str, Option<&str>)
     ensures piece { result.0.now ≡ first_piece text.now }
-    ensures behind { option_map (λ rest. rest.now) result.1 ≡ pieces_behind text.now }
+    ensures following { option_map (λ rest. rest.now) result.1 ≡ pieces_after text.now }
 {
     match text.split_once(',') {
         None => (text, None),

@@ -5,4 +5,4 @@
 #[cfg(test)]
 mod again;
 #[cfg(test)]
-mod shown;
+mod emitted;

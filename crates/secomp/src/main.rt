@@ -2,7 +2,7 @@
 #![tactic(auto)]
 
 use sc_edge::{StdSink, StdSource};
-use sc_top::{Status, secomp, tell};
+use sc_top::{Status, secomp, print};
 use std::env;
 use std::io::ErrorKind;
 use std::process::ExitCode;
@@ -17,7 +17,7 @@ fn main(rt: HostRuntime) -> ExitCode {
             secomp(rt.alloc(), &words, &mut source, &mut out, &mut err)
         }
         Err(status) => {
-            tell(&mut err, &status);
+            print(&mut err, &status);
             status
         }
     };

@@ -101,13 +101,13 @@ impl<'a> Run<'a> {
             return self.stop(RunEnd::TurnsOut);
         };
         let frame = self.begin(comp, function, args)?;
-        let behind = self.memory.len();
+        let following = self.memory.len();
         self.initialise(&frame, function)?;
         let value = match self.statements(below, &frame, function.body.as_slice())? {
             Exit::Return(value) => value,
             _ => self.brace(comp, function)?,
         };
-        self.memory.end(frame.params, behind);
+        self.memory.end(frame.params, following);
         Ok(value)
     }
 
@@ -137,7 +137,7 @@ impl<'a> Run<'a> {
                     };
                     let _given = self.cross(below, &crossing, args.copied())?;
                 }
-                Event::Out { comp, value } => self.tell(Event::Out {
+                Event::Out { comp, value } => self.emit_event(Event::Out {
                     comp: *comp,
                     value: *value,
                 })?,
@@ -164,7 +164,7 @@ impl<'a> Run<'a> {
         for word in args.as_slice() {
             values.push(Value::Word(*word))?;
         }
-        self.tell(Event::Call {
+        self.emit_event(Event::Call {
             from,
             to,
             index,
@@ -172,7 +172,7 @@ impl<'a> Run<'a> {
         })?;
         let given = self.enter(below, to, number, values.as_slice())?;
         let value = self.crossing(to, index, given);
-        self.tell(Event::Ret {
+        self.emit_event(Event::Ret {
             from: to,
             to: from,
             value,
@@ -210,7 +210,7 @@ impl<'a> Run<'a> {
             CallTarget::Input => Ok(Some(Value::Word(self.input(comp)?))),
             CallTarget::Output => {
                 let value = values.first().copied().map_or(0, word_in);
-                self.tell(Event::Out { comp, value })?;
+                self.emit_event(Event::Out { comp, value })?;
                 Ok(None)
             }
         }

@@ -56,8 +56,8 @@ impl Memory {
     }
 
     /// Ends the variables of these numbers.
-    pub fn end(&mut self, first: usize, behind: usize) {
-        for number in first..behind {
+    pub fn end(&mut self, first: usize, following: usize) {
+        for number in first..following {
             if let Some(variable) = self.variables.get_mut(number) {
                 variable.is_live = false;
             }
@@ -72,7 +72,7 @@ impl Memory {
     }
 
     /// How many cells the variable has that a pointer leads to.
-    pub fn cells_behind(&self, pointer: Pointer) -> Result<usize, Cause> {
+    pub fn cells_after(&self, pointer: Pointer) -> Result<usize, Cause> {
         match self.variables.get(pointer.block as usize) {
             Some(variable) if variable.is_live => Ok(variable.cells.len()),
             _ => Err(Cause::Dangling),

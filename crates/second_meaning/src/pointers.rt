@@ -11,7 +11,7 @@ pub fn moved(memory: &Memory, place: Value, by: i64) -> Result<Value, Cause> {
         Value::Null => return Err(Cause::NullUse),
         Value::Ptr(pointer) => pointer,
     };
-    let cells = memory.cells_behind(pointer)?;
+    let cells = memory.cells_after(pointer)?;
     let index = (pointer.index as i64)
         .checked_add(by)
         .ok_or(Cause::OutOfBounds)?;
@@ -57,7 +57,7 @@ fn apart(left: Value, right: Value) -> Result<i64, Cause> {
 }
 
 fn is_inside(memory: &Memory, pointer: Pointer) -> Result<bool, Cause> {
-    Ok((pointer.index as usize) < memory.cells_behind(pointer)?)
+    Ok((pointer.index as usize) < memory.cells_after(pointer)?)
 }
 
 fn is_same(memory: &Memory, left: Value, right: Value) -> Result<bool, Cause> {

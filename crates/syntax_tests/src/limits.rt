@@ -22,7 +22,7 @@ int main(void) {
   int i, a[2];
 ";
 
-const BEHIND: &[u8] = b"
+const AFTER: &[u8] = b"
   return 0;
 }
 ";
@@ -73,14 +73,14 @@ fn repeat(text: &mut Vec<u8>, each: &[u8], count: usize) -> Result<(), Fail> {
 }
 
 fn grown(alloc: Global, statement: &Growing, count: usize) -> Result<Vec<u8>, Fail> {
-    let (before, each, middle, closing, behind, _) = *statement;
+    let (before, each, middle, closing, following, _) = *statement;
     let mut text = BEFORE.to_vec(alloc)?;
     text.extend_from_slice(before)?;
     repeat(&mut text, each, count)?;
     text.extend_from_slice(middle)?;
     repeat(&mut text, closing, count)?;
-    text.extend_from_slice(behind)?;
-    text.extend_from_slice(BEHIND)?;
+    text.extend_from_slice(following)?;
+    text.extend_from_slice(AFTER)?;
     Ok(text)
 }
 

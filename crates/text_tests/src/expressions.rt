@@ -26,7 +26,7 @@ const GROUPED: &str = "\
     s.m.n => ((s.m).n); p->q->r => ((p->q)->r); *p->q[i].m => (*(((p->q)[i]).m))";
 
 // Texts, and the number of lexemes that are left after their first expression.
-const FRONTS: [(&[u8], usize); 10] = [
+const PREFIXES: [(&[u8], usize); 10] = [
     (b"a;", 1),
     (b"a b", 1),
     (b"a+b)", 1),
@@ -119,7 +119,7 @@ fn other_groups_are_other_trees(rt: HostRuntime) -> Result<(), Fail> {
 
 #[test]
 fn ends_where_nothing_goes_on(rt: HostRuntime) -> Result<(), Fail> {
-    for (text, left) in FRONTS {
+    for (text, left) in PREFIXES {
         let lexemes = lexemes_of(rt.alloc(), text)?;
         let (_, rest) = parse_expr(rt.alloc(), 0, lexemes.as_slice())?;
         assert_eq!(rt; rest.len(), left);
@@ -141,10 +141,10 @@ fn refuses_at_the_lexeme(rt: HostRuntime) -> Result<(), Fail> {
 }
 
 // So often the one text, then `a`, then so often the other.
-fn around(alloc: Global, front: &[u8], count: usize, back: &[u8]) -> Result<Lexemes, Fail> {
+fn around(alloc: Global, prefix: &[u8], count: usize, back: &[u8]) -> Result<Lexemes, Fail> {
     let mut text = Vec::new(alloc);
     for _ in 0..count {
-        text.extend_from_slice(front)?;
+        text.extend_from_slice(prefix)?;
     }
     text.push(b'a')?;
     for _ in 0..count {
@@ -168,10 +168,10 @@ const LIMITS: [(&[u8], usize, &[u8]); 9] = [
 
 #[test]
 fn stops_at_limits(rt: HostRuntime) -> Result<(), Fail> {
-    for (front, count, back) in LIMITS {
-        let lexemes = around(rt.alloc(), front, count, back)?;
+    for (prefix, count, back) in LIMITS {
+        let lexemes = around(rt.alloc(), prefix, count, back)?;
         assert!(rt; parse_expr(rt.alloc(), 0, lexemes.as_slice()).is_ok());
-        let lexemes = around(rt.alloc(), front, count + 1, back)?;
+        let lexemes = around(rt.alloc(), prefix, count + 1, back)?;
         assert!(rt; parse_expr(rt.alloc(), 0, lexemes.as_slice()).is_err());
     }
     let lexemes = around(rt.alloc(), b"(", 1, b")")?;

@@ -19,19 +19,19 @@ const AROUND: [(&[u8], &[u8]); 6] = [
     (b"#pragma compartment Main\nvoid f(void) { ", b" = 1; }"),
 ];
 
-fn is_read(alloc: Global, before: &[u8], word: &[u8], behind: &[u8]) -> Result<bool, Fail> {
+fn is_read(alloc: Global, before: &[u8], word: &[u8], following: &[u8]) -> Result<bool, Fail> {
     let mut text = before.to_vec(alloc)?;
     text.extend_from_slice(word)?;
-    text.extend_from_slice(behind)?;
+    text.extend_from_slice(following)?;
     Ok(read_trees(alloc, &text).is_ok())
 }
 
 #[test]
 fn no_reserved_word_is_an_identifier(rt: HostRuntime) -> Result<(), Fail> {
-    for (before, behind) in AROUND {
-        assert!(rt; is_read(rt.alloc(), before, b"x", behind)?);
+    for (before, following) in AROUND {
+        assert!(rt; is_read(rt.alloc(), before, b"x", following)?);
         for word in WORDS.split(' ') {
-            assert!(rt; !is_read(rt.alloc(), before, word.as_bytes(), behind)?);
+            assert!(rt; !is_read(rt.alloc(), before, word.as_bytes(), following)?);
         }
     }
     Ok(())

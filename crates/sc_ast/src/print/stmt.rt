@@ -1,6 +1,6 @@
 //! Statements.
 
-ghost use Rattle.sc_ast.specs.Prelude.{assign_call_words, assign_words, behind_else, blank, block_words, call_words};
+ghost use Rattle.sc_ast.specs.Prelude.{assign_call_words, assign_words, after_else, blank, block_words, call_words};
 ghost use Rattle.sc_ast.specs.Prelude.{chain_words, condition_words, deeper, else_words, expr_words, first_words};
 ghost use Rattle.sc_ast.specs.Prelude.{is_chain, kind_layout, layouts, line_of, lines_at, next_words, return_words};
 ghost use Rattle.sc_ast.specs.Prelude.{simple_words, stmt_layout, text_of, word};
@@ -198,12 +198,12 @@ fn append_else(out: &mut Text, stmts: &Stmts, depth: u32) -> Result<(), OutOfMem
         return Ok(());
     }
     out.append(b" else ")?;
-    append_behind_else(out, stmts, depth)
+    append_after_else(out, stmts, depth)
 }
 
 #[cycle(stmt)]
-fn append_behind_else(out: &mut Text, stmts: &Stmts, depth: u32) -> Result<(), OutOfMemory>
-    ensures { OnOk result (out.new ≡ out.old ++ text_of (behind_else depth (layouts stmts.now))) }
+fn append_after_else(out: &mut Text, stmts: &Stmts, depth: u32) -> Result<(), OutOfMemory>
+    ensures { OnOk result (out.new ≡ out.old ++ text_of (after_else depth (layouts stmts.now))) }
 {
     if is_chain(stmts) {
         append_chain(out, stmts, depth)

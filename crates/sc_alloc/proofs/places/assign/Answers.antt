@@ -1,4 +1,4 @@
-use Rattle.sc_alloc.proofs.Common.{All, AreNumbered, ArePlaced, Given, Interval, IsAssignment, IsPermutation, IsSparing}
+use Rattle.sc_alloc.proofs.Common.{All, AreNumbered, ArePlaced, Placement, Interval, IsAssignment, IsPermutation, IsSparing}
 use Rattle.sc_alloc.proofs.Common.{List, ap, at_first, fold, map, scan_next, sorted_by, subst, sym, ◌∙◌, ◌≡◌, ◌≤◌}
 use Rattle.sc_alloc.proofs.Assignment.{all_ordered, are_places, is_assignment, is_sparing, moved_to, numbered}
 use Rattle.sc_alloc.proofs.ByTemp.{by_temps, place_of, temp_of}
@@ -15,58 +15,58 @@ scan-requires-clause-ordered c =
 
 pub by_temp-requires : goal.by_temp-requires
 by_temp-requires c =
-    let given = c.in_ok-given.given in
+    let placements = c.in_ok-placements.placements in
     subst AreNumbered (sym c.as_slice-3.ensures)
-    (numbered c.args.intervals.now given c.as_slice.ensures.rules
-    (moved_to c.args.intervals.now c.as_slice.result.now c.in_ok-order.order.items c.as_slice-2.result.now given
-    c.as_slice.ensures.list c.in_ok-order.ensures.same c.as_slice-2.ensures.value c.in_ok-given.ensures.each))
+    (numbered c.args.intervals.now placements c.as_slice.ensures.rules
+    (moved_to c.args.intervals.now c.as_slice.result.now c.in_ok-order.order.items c.as_slice-2.result.now placements
+    c.as_slice.ensures.list c.in_ok-order.ensures.same c.as_slice-2.ensures.value c.in_ok-placements.ensures.each))
 
 pub new-requires : goal.new-requires
 new-requires c =
-    let given = c.in_ok-given.given in
+    let placements = c.in_ok-placements.placements in
     let places = c.in_ok-by_temp.field-0 in
-    are_places c.args.intervals.now given c.as_slice.ensures.rules
-    (moved_to c.args.intervals.now c.as_slice.result.now c.in_ok-order.order.items c.as_slice-2.result.now given
-    c.as_slice.ensures.list c.in_ok-order.ensures.same c.as_slice-2.ensures.value c.in_ok-given.ensures.each)
-    places c.in_ok-given.ensures.fair c.in_ok-given.ensures.known
-    (subst (λ (given : List Given). ArePlaced given places) c.as_slice-3.ensures c.in_ok-by_temp.ensures)
+    are_places c.args.intervals.now placements c.as_slice.ensures.rules
+    (moved_to c.args.intervals.now c.as_slice.result.now c.in_ok-order.order.items c.as_slice-2.result.now placements
+    c.as_slice.ensures.list c.in_ok-order.ensures.same c.as_slice-2.ensures.value c.in_ok-placements.ensures.each)
+    places c.in_ok-placements.ensures.fair c.in_ok-placements.ensures.known
+    (subst (λ (placements : List Placement). ArePlaced placements places) c.as_slice-3.ensures c.in_ok-by_temp.ensures)
 
 pub returns-clause-assignment : goal.returns-clause-assignment
 returns-clause-assignment c =
-    let given = c.in_ok-given.given in
+    let placements = c.in_ok-placements.placements in
     let places = c.in_ok-by_temp.field-0 in
     subst (IsAssignment c.args.intervals.now) (sym c.new.ensures)
-    (is_assignment c.args.intervals.now given c.as_slice.ensures.rules
-    (moved_to c.args.intervals.now c.as_slice.result.now c.in_ok-order.order.items c.as_slice-2.result.now given
-    c.as_slice.ensures.list c.in_ok-order.ensures.same c.as_slice-2.ensures.value c.in_ok-given.ensures.each)
-    places c.in_ok-given.ensures.fair c.in_ok-given.ensures.known
-    (subst (λ (given : List Given). ArePlaced given places) c.as_slice-3.ensures c.in_ok-by_temp.ensures))
+    (is_assignment c.args.intervals.now placements c.as_slice.ensures.rules
+    (moved_to c.args.intervals.now c.as_slice.result.now c.in_ok-order.order.items c.as_slice-2.result.now placements
+    c.as_slice.ensures.list c.in_ok-order.ensures.same c.as_slice-2.ensures.value c.in_ok-placements.ensures.each)
+    places c.in_ok-placements.ensures.fair c.in_ok-placements.ensures.known
+    (subst (λ (placements : List Placement). ArePlaced placements places) c.as_slice-3.ensures c.in_ok-by_temp.ensures))
 
 pub returns-clause-sparing : goal.returns-clause-sparing
 returns-clause-sparing c =
-    let given = c.in_ok-given.given in
+    let placements = c.in_ok-placements.placements in
     let places = c.in_ok-by_temp.field-0 in
     subst (IsSparing c.args.intervals.now) (sym c.new.ensures)
-    (is_sparing c.args.intervals.now given c.as_slice.ensures.rules
-    (moved_to c.args.intervals.now c.as_slice.result.now c.in_ok-order.order.items c.as_slice-2.result.now given
-    c.as_slice.ensures.list c.in_ok-order.ensures.same c.as_slice-2.ensures.value c.in_ok-given.ensures.each)
-    places c.in_ok-given.ensures.fair c.in_ok-given.ensures.known
-    (subst (λ (given : List Given). ArePlaced given places) c.as_slice-3.ensures c.in_ok-by_temp.ensures))
+    (is_sparing c.args.intervals.now placements c.as_slice.ensures.rules
+    (moved_to c.args.intervals.now c.as_slice.result.now c.in_ok-order.order.items c.as_slice-2.result.now placements
+    c.as_slice.ensures.list c.in_ok-order.ensures.same c.as_slice-2.ensures.value c.in_ok-placements.ensures.each)
+    places c.in_ok-placements.ensures.fair c.in_ok-placements.ensures.known
+    (subst (λ (placements : List Placement). ArePlaced placements places) c.as_slice-3.ensures c.in_ok-by_temp.ensures))
 
 pub returns-clause-places : goal.returns-clause-places
 returns-clause-places c =
-    let given = c.in_ok-given.given in
+    let placements = c.in_ok-placements.placements in
     let places = c.in_ok-by_temp.field-0 in
-    let placed : ArePlaced given places =
-    subst (λ (given : List Given). ArePlaced given places) c.as_slice-3.ensures c.in_ok-by_temp.ensures in
+    let placed : ArePlaced placements places =
+    subst (λ (placements : List Placement). ArePlaced placements places) c.as_slice-3.ensures c.in_ok-by_temp.ensures in
     let sorted : c.as_slice-2.result.now ≡ sorted_by (λ (x : Interval). x.first) c.args.intervals.now =
     c.as_slice-2.ensures.value ∙ c.in_ok-order.ensures.sorted ∙
     ap (sorted_by (λ (x : Interval). x.first)) c.as_slice.ensures.list in
-    let scanned : given ≡ (fold scan_next at_first (sorted_by (λ (x : Interval). x.first) c.args.intervals.now)).given =
-    c.in_ok-given.ensures.places ∙ ap (λ order. (fold scan_next at_first order).given) sorted in
+    let scanned : placements ≡ (fold scan_next at_first (sorted_by (λ (x : Interval). x.first) c.args.intervals.now)).placements =
+    c.in_ok-placements.ensures.places ∙ ap (λ order. (fold scan_next at_first order).placements) sorted in
     c.new.ensures ∙
-    by_temps c.args.intervals.now given c.as_slice.ensures.rules
-    (moved_to c.args.intervals.now c.as_slice.result.now c.in_ok-order.order.items c.as_slice-2.result.now given
-    c.as_slice.ensures.list c.in_ok-order.ensures.same c.as_slice-2.ensures.value c.in_ok-given.ensures.each)
+    by_temps c.args.intervals.now placements c.as_slice.ensures.rules
+    (moved_to c.args.intervals.now c.as_slice.result.now c.in_ok-order.order.items c.as_slice-2.result.now placements
+    c.as_slice.ensures.list c.in_ok-order.ensures.same c.as_slice-2.ensures.value c.in_ok-placements.ensures.each)
     places placed ∙
-    ap (λ given. map place_of (sorted_by temp_of given)) scanned
+    ap (λ placements. map place_of (sorted_by temp_of placements)) scanned

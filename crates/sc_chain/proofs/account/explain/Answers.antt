@@ -1,16 +1,16 @@
 use Rattle.sc_chain.proofs.Common.{◌∙◌}
-use Rattle.sc_chain.proofs.ChainShown.{explained, shown_allowed, shown_scripted}
+use Rattle.sc_chain.proofs.ChainTrace.{explained, emitted_allowed, emitted_scripted}
 use Rattle.sc_chain.proofs.account.explain.Goals as goal
 
 pub chain-requires-clause-allowed : goal.chain-requires-clause-allowed
 chain-requires-clause-allowed c =
-    shown_allowed c.args.source.now c.args.inputs.now c.args.steps c.args.events c.program.result.now
+    emitted_allowed c.args.source.now c.args.inputs.now c.args.steps c.args.events c.program.result.now
     c.program.ensures.program c.in-Ok.image c.in-Ok.ensures.compiled c.as_slice.result.now
     (c.as_slice.ensures ∙ c.in-Ok-run_image.ensures.trace)
 
 pub chain-requires-clause-scripted : goal.chain-requires-clause-scripted
 chain-requires-clause-scripted c =
-    shown_scripted c.args.source.now c.args.inputs.now c.args.steps c.args.events c.program.result.now
+    emitted_scripted c.args.source.now c.args.inputs.now c.args.steps c.args.events c.program.result.now
     c.program.ensures.program c.in-Ok.image c.in-Ok.ensures.compiled c.as_slice.result.now
     (c.as_slice.ensures ∙ c.in-Ok-run_image.ensures.trace)
 
@@ -18,11 +18,11 @@ pub returns-clause-explained : goal.returns-clause-explained
 returns-clause-explained c =
     explained c.args.source.now c.args.inputs.now c.args.steps c.args.events c.program.result.now
     c.program.ensures.program c.in-Ok.image c.in-Ok.ensures.compiled c.in-Ok.ensures.image
-    c.in-Ok-run_image.shown.trace c.as_slice.result.now c.as_slice.ensures c.in-Ok-run_image.ensures.trace
-    c.in-Ok-run_image.shown.stop c.in-Ok-run_image.ensures.stop c.in-Ok-chain.links c.in-Ok-chain.ensures
+    c.in-Ok-run_image.observed.trace c.as_slice.result.now c.as_slice.ensures c.in-Ok-run_image.ensures.trace
+    c.in-Ok-run_image.observed.stop c.in-Ok-run_image.ensures.stop c.in-Ok-chain.links c.in-Ok-chain.ensures
 
 pub returns-clause-allowed : goal.returns-clause-allowed
 returns-clause-allowed c =
-    shown_allowed c.args.source.now c.args.inputs.now c.args.steps c.args.events c.program.result.now
-    c.program.ensures.program c.in-Ok.image c.in-Ok.ensures.compiled c.in-Ok-run_image.shown.trace
+    emitted_allowed c.args.source.now c.args.inputs.now c.args.steps c.args.events c.program.result.now
+    c.program.ensures.program c.in-Ok.image c.in-Ok.ensures.compiled c.in-Ok-run_image.observed.trace
     c.in-Ok-run_image.ensures.trace

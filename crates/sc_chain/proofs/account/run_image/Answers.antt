@@ -4,7 +4,7 @@ use Rattle.sc_chain.proofs.account.run_image.Goals as goal
 
 pub returns-clause-trace : goal.returns-clause-trace
 returns-clause-trace c =
-    let shows : c.trace.result.now
+    let emits : c.trace.result.now
     ≡ (machine c.args.image (map word_of c.args.inputs.now) c.args.steps c.args.events).state.trace =
     search (
       rules,
@@ -15,7 +15,7 @@ returns-clause-trace c =
       c.in_ok-machine.ensures,
       c.in_ok-machine.was,
     ) in
-    c.in_ok-trace.ensures ∙ shows
+    c.in_ok-trace.ensures ∙ emits
 
 pub returns-clause-stop : goal.returns-clause-stop
 returns-clause-stop c =
@@ -31,7 +31,7 @@ returns-clause-stop c =
 
 pub returns-clause-few : goal.returns-clause-few
 returns-clause-few c =
-    let shows : c.trace.result.now
+    let emits : c.trace.result.now
     ≡ (machine c.args.image (map word_of c.args.inputs.now) c.args.steps c.args.events).state.trace =
     search (
       rules,
@@ -42,6 +42,6 @@ returns-clause-few c =
       c.in_ok-machine.ensures,
       c.in_ok-machine.was,
     ) in
-    subst (λ trace. length trace ≤ c.args.events) (sym (c.in_ok-trace.ensures ∙ shows))
+    subst (λ trace. length trace ≤ c.args.events) (sym (c.in_ok-trace.ensures ∙ emits))
     (few_events c.args.image (map word_of c.args.inputs.now) c.args.steps c.args.events
     c.parts-parts.ensures.well_formed)

@@ -1,4 +1,4 @@
-use Rattle.sc_compile.proofs.Common.{All, AreGivenWords, FitAll, IsLinkable, ap, subst, sym, ◌∙◌}
+use Rattle.sc_compile.proofs.Common.{All, GlobalsAreWords, FitAll, IsLinkable, ap, subst, sym, ◌∙◌}
 use Rattle.sc_compile.proofs.Building.{image_is, may_link, whole_compiled}
 use Rattle.sc_compile.proofs.Counted.{all_fit, sections_are}
 use Rattle.sc_compile.proofs.passes.build.Goals as goal
@@ -32,5 +32,5 @@ returns-clause-compiled c =
     c.tree-2.ensures.tree c.requires.lowered) c.in_ok-codes.ensures.emitted c.as_slice-3.result.now
     (c.as_slice-3.ensures ∙ c.in_ok-codes.ensures.codes) c.in_ok-image.image c.in_ok-image.ensures.image
     c.in_ok-image.ensures.named
-    (subst AreGivenWords (c.as_slice.ensures ∙ ap (λ p. p.sections) c.tree.ensures.tree) c.are_given_words.ensures)
+    (subst GlobalsAreWords (c.as_slice.ensures ∙ ap (λ p. p.sections) c.tree.ensures.tree) c.globals_are_words.ensures)
     c.in_ok-image.ensures.whole

@@ -34,7 +34,7 @@ pub parse_level-returns-in_err-left-2-clause-read : goal.parse_level-returns-in_
 parse_level-returns-in_err-left-2-clause-read t c =
     let left = found c.loop.left.tree c.loop.left.height c.loop.rest.now in
     let stop = turns_stop (read_nested c.args.free) (read c.args.free c.in-Some.below) c.in-Some.below c.args.level
-    (c.args.room - c.loop.counter) left c.in-Some-extension_within.extension c.in-Some-extension_within.behind.now
+    (c.args.room - c.loop.counter) left c.in-Some-extension_within.extension c.in-Some-extension_within.following.now
     (omega arith) (sym c.in-Some-extension_within.ensures) in
     let fault = err_from_is_err_and c.from_residual-in_err-left-2.result c.from_residual-in_err-left-2.ensures.1 in
     rw (fault.1, fault.2) (fails_on _ _ _ c.in_err-left-2.ensures.read (λ none. c.loop.invariant.1 ∙ stop none))

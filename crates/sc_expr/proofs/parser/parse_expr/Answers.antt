@@ -1,9 +1,9 @@
 use Rattle.sc_expr.proofs.Common.{arith, loosest_level}
-use Rattle.sc_expr.proofs.Theorem.{found_front, found_height, refused_front}
+use Rattle.sc_expr.proofs.Theorem.{found_parse, found_height, refused_parse}
 use Rattle.sc_expr.proofs.parser.parse_expr.Goals as goal
 
 pub returns-clause-found : goal.returns-clause-found
-returns-clause-found c = found_front loosest_level c.args.opened c.args.lexemes.now c.parse_level.result
+returns-clause-found c = found_parse loosest_level c.args.opened c.args.lexemes.now c.parse_level.result
     (omega arith) c.requires c.parse_level.ensures.read
 
 pub returns-clause-height : goal.returns-clause-height
@@ -11,5 +11,5 @@ returns-clause-height c = found_height loosest_level c.args.opened c.args.lexeme
     (omega arith) c.parse_level.ensures.read
 
 pub returns-clause-refused : goal.returns-clause-refused
-returns-clause-refused c = refused_front loosest_level c.args.opened c.args.lexemes.now c.parse_level.result
+returns-clause-refused c = refused_parse loosest_level c.args.opened c.args.lexemes.now c.parse_level.result
     c.parse_level.ensures.read

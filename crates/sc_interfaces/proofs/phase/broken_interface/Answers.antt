@@ -1,5 +1,5 @@
 use Rattle.sc_interfaces.proofs.Common.{◌∙◌}
-use Rattle.sc_interfaces.proofs.Telling.{sections_turn, sections_end}
+use Rattle.sc_interfaces.proofs.Reporting.{sections_turn, sections_end}
 use Rattle.sc_interfaces.proofs.phase.broken_interface.Goals as goal
 
 pub loop-number-preserved : goal.loop-number-preserved

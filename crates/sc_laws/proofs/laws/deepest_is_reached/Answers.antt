@@ -1,4 +1,4 @@
-use Rattle.sc_laws.proofs.Rooms.{deepest_is_reached}
+use Rattle.sc_laws.proofs.Depths.{deepest_is_reached}
 use Rattle.sc_laws.proofs.laws.deepest_is_reached.Goals as goal
 
 pub returns : goal.returns

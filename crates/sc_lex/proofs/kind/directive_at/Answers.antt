@@ -1,5 +1,5 @@
 use Rattle.sc_lex.proofs.Common.{sym, ◌∙◌}
-use Rattle.sc_lex.proofs.Fronts.{directive_found, directive_none}
+use Rattle.sc_lex.proofs.Prefixes.{directive_found, directive_none}
 use Rattle.sc_lex.proofs.kind.directive_at.Goals as goal
 
 pub returns-in_err-kind-clause-none : goal.returns-in_err-kind-clause-none

@@ -1,5 +1,5 @@
 use Rattle.sc_lex.proofs.Common.{sym, ◌∙◌}
-use Rattle.sc_lex.proofs.Fronts.{mark_three, mark_two, mark_one, mark_none}
+use Rattle.sc_lex.proofs.Prefixes.{mark_three, mark_two, mark_one, mark_none}
 use Rattle.sc_lex.proofs.kind.mark_at.Goals as goal
 
 pub returns-then-mark_stands-clause-found : goal.returns-then-mark_stands-clause-found

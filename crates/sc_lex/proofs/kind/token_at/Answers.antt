@@ -1,4 +1,4 @@
-use Rattle.sc_lex.proofs.Fronts.{found_at, none_at, directive_forbidden}
+use Rattle.sc_lex.proofs.Prefixes.{found_at, none_at, directive_forbidden}
 use Rattle.sc_lex.proofs.kind.token_at.Goals as goal
 
 pub returns-then-is_name_byte-clause-found : goal.returns-then-is_name_byte-clause-found

@@ -1,5 +1,5 @@
 use Rattle.sc_lex.proofs.Common.{sym, ◌∙◌}
-use Rattle.sc_lex.proofs.Fronts.{word_found, word_none}
+use Rattle.sc_lex.proofs.Prefixes.{word_found, word_none}
 use Rattle.sc_lex.proofs.kind.word_at.Goals as goal
 
 pub returns-in_err-kind-clause-none : goal.returns-in_err-kind-clause-none

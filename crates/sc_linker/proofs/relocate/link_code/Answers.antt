@@ -1,7 +1,7 @@
 use Rattle.sc_linker.proofs.Common.{Instr, IsInstr, List, addresses_of, ap, arith, get_or, length, length-drop, subst}
 use Rattle.sc_linker.proofs.Common.{with_low, word_of, ◌<◌, ◌∙◌, ◌≡◌}
 use Rattle.sc_linker.proofs.Beginnings.{all_more}
-use Rattle.sc_linker.proofs.Relocating.{known_at, known_behind, one_linked, room_behind}
+use Rattle.sc_linker.proofs.Relocating.{known_at, known_after, one_linked, room_after}
 use Rattle.sc_linker.proofs.relocate.link_code.Goals as goal
 
 pub completed-instr-requires-clause-known : goal.completed-instr-requires-clause-known
@@ -30,14 +30,14 @@ loop-instr-preserved c =
     record {
       number = omega arith;
       within = c.take_target-target.ensures.within;
-      room = room_behind layout.comp now.pc now.instr-index c.args.code.now.instrs within now.invariant.room;
-      known = known_behind addresses (length layout.functions) (length layout.globals) now.at _ _
-          (c.take_target-target.ensures.behind addresses) now.invariant.known;
+      room = room_after layout.comp now.pc now.instr-index c.args.code.now.instrs within now.invariant.room;
+      known = known_after addresses (length layout.functions) (length layout.globals) now.at _ _
+          (c.take_target-target.ensures.following addresses) now.invariant.known;
       instrs = all_more IsInstr c.args.code.now.instrs now.instr-index instr within item now.invariant.instrs
           c.completed-instr.ensures.known;
       words = one_linked addresses c.args.code.now.instrs now.instr-index instr within item now.words c.push.new.self _
           now.pc now.at now.low c.completed-instr.result.1 c.take_target-target.result _ _ c.encode.result
-          (c.take_target-target.ensures.target addresses) (c.take_target-target.ensures.behind addresses)
+          (c.take_target-target.ensures.target addresses) (c.take_target-target.ensures.following addresses)
           c.completed-instr.ensures.low (c.encode.ensures.word ∙ ap word_of (c.with_low.ensures ∙
           ap (with_low now.low) c.completed-instr.ensures.instr)) c.in_ok-push.ensures.ok now.invariant.words;
     }

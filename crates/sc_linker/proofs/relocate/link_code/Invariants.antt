@@ -1,4 +1,4 @@
-use Rattle.sc_linker.proofs.Common.{All, AreKnown, HasRoom, IsInstr, addresses_of, drop, length, linked, linked_from}
+use Rattle.sc_linker.proofs.Common.{All, AreKnown, Fits, IsInstr, addresses_of, drop, length, linked, linked_from}
 use Rattle.sc_linker.proofs.Common.{map, take, word_of, ◌++◌, ◌≡◌, ◌≤◌}
 use Rattle.sc_linker.proofs.relocate.link_code.Given as goal
 
@@ -7,7 +7,7 @@ abbrev pub invariant-loop-instr : goal.invariant-loop-instr
 invariant-loop-instr l = record {
   number : l.at ≡ l.instr-index;
   within : l.next ≤ length l.relocations;
-  room : HasRoom l.layout.comp l.pc (length (drop l.instr-index l.code.instrs));
+  room : Fits l.layout.comp l.pc (length (drop l.instr-index l.code.instrs));
   known : AreKnown (length l.layout.functions) (length l.layout.globals) (drop l.next l.relocations);
   instrs : All IsInstr (take l.instr-index l.code.instrs);
   words :

@@ -13,15 +13,15 @@ returns-clause-stays c =
           formed = c.requires.ready.sound.place.formed;
           within = All-head waits latest c.ret.new.self.calls all;
         };
-        callers = rw c.show-2.ensures.cross (All-tail waits latest c.ret.new.self.calls all);
-        saved = length-set c.show-2.new.self.saved.items c.number.result c.in-Some.call.saved ∙
-            rw c.show-2.ensures.saved c.requires.ready.sound.saved;
-        input = rw (c.show-2.ensures.input, c.show-2.ensures.trace)
+        callers = rw c.emit-2.ensures.cross (All-tail waits latest c.ret.new.self.calls all);
+        saved = length-set c.emit-2.new.self.saved.items c.number.result c.in-Some.call.saved ∙
+            rw c.emit-2.ensures.saved c.requires.ready.sound.saved;
+        input = rw (c.emit-2.ensures.input, c.emit-2.ensures.trace)
             (simp length-append (omega (arith, c.requires.ready.sound.input)));
       };
       room = λ events has. record {
-        trace = omega (arith, has.trace, c.show-2.ensures.room);
-        cross = rw (c.show-2.ensures.cross, c.show-2.ensures.trace)
+        trace = omega (arith, has.trace, c.emit-2.ensures.room);
+        cross = rw (c.emit-2.ensures.cross, c.emit-2.ensures.trace)
             (simp length-append (omega (arith, has.cross, c.in-Some.ensures.room)));
       };
     }

@@ -1,10 +1,10 @@
-use Rattle.sc_parse.proofs.Common.{[], args_behind, behind, length, separated, ◌+◌, ◌-◌, ◌≡◌}
+use Rattle.sc_parse.proofs.Common.{[], add_arg, following, length, separated, ◌+◌, ◌-◌, ◌≡◌}
 use Rattle.sc_expr.specs.declared.mark.Mark.TheVariants as mark
 use Rattle.sc_parse.proofs.calls.all_args.Given as goal
 
 -- what is read is what the rest of the loop reads
 abbrev pub invariant-loop : goal.invariant-loop
-invariant-loop l = separated (behind mark.Comma) (args_behind 1024 l.room)
+invariant-loop l = separated (following mark.Comma) (add_arg 1024 l.room)
     (length l.initial.rest.now + 1) [] l.initial.rest.now ≡
-    separated (behind mark.Comma) (args_behind 1024 l.room)
+    separated (following mark.Comma) (add_arg 1024 l.room)
     (length l.initial.rest.now + 1 - l.counter) l.args l.rest.now

@@ -1,10 +1,10 @@
-use Rattle.sc_parse.proofs.Common.{behind, globals_behind, length, separated, ◌+◌, ◌-◌, ◌≡◌}
+use Rattle.sc_parse.proofs.Common.{following, add_global, length, separated, ◌+◌, ◌-◌, ◌≡◌}
 use Rattle.sc_expr.specs.declared.mark.Mark.TheVariants as mark
 use Rattle.sc_parse.proofs.globals.with_globals.Given as goal
 
 -- what is read is what the rest of the loop reads
 abbrev pub invariant-loop : goal.invariant-loop
-invariant-loop l = separated (behind mark.Comma) (globals_behind l.base l.line)
+invariant-loop l = separated (following mark.Comma) (add_global l.base l.line)
     (length l.initial.rest.now + 1) l.initial.decls l.initial.rest.now ≡
-    separated (behind mark.Comma) (globals_behind l.base l.line)
+    separated (following mark.Comma) (add_global l.base l.line)
     (length l.initial.rest.now + 1 - l.counter) l.decls l.rest.now

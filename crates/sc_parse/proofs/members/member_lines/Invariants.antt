@@ -1,10 +1,10 @@
-use Rattle.sc_parse.proofs.Common.{begins_with, declaration_at, grouped, length, members_behind, ◌+◌, ◌-◌, ◌≡◌}
+use Rattle.sc_parse.proofs.Common.{begins_with, declaration_at, grouped, length, add_member, ◌+◌, ◌-◌, ◌≡◌}
 use Rattle.sc_expr.specs.declared.mark.Mark.TheVariants as mark
 use Rattle.sc_parse.proofs.members.member_lines.Given as goal
 
 -- what is read is what the rest of the loop reads
 abbrev pub invariant-loop : goal.invariant-loop
-invariant-loop l = grouped (begins_with mark.CloseCurly) (declaration_at members_behind)
+invariant-loop l = grouped (begins_with mark.CloseCurly) (declaration_at add_member)
     (length l.initial.rest.now + 1) l.initial.members l.initial.rest.now ≡
-    grouped (begins_with mark.CloseCurly) (declaration_at members_behind)
+    grouped (begins_with mark.CloseCurly) (declaration_at add_member)
     (length l.initial.rest.now + 1 - l.counter) l.members l.rest.now

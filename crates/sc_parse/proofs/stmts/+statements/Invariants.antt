@@ -8,8 +8,8 @@ decreases-stmt_at l = 9 * l.room
 abbrev pub decreases-with_stmt : goal.decreases-with_stmt
 decreases-with_stmt l = 9 * l.room + 1
 
-abbrev pub decreases-alone : goal.decreases-alone
-decreases-alone l = 9 * l.room + 1
+abbrev pub decreases-lone_if : goal.decreases-lone_if
+decreases-lone_if l = 9 * l.room + 1
 
 abbrev pub decreases-stmts_at : goal.decreases-stmts_at
 decreases-stmts_at l = 9 * l.room + 2
@@ -17,20 +17,20 @@ decreases-stmts_at l = 9 * l.room + 2
 abbrev pub decreases-block_at : goal.decreases-block_at
 decreases-block_at l = 9 * l.room + 3
 
-abbrev pub decreases-else_behind : goal.decreases-else_behind
-decreases-else_behind l = 9 * l.room + 4
+abbrev pub decreases-after_else : goal.decreases-after_else
+decreases-after_else l = 9 * l.room + 4
 
 abbrev pub decreases-else_at : goal.decreases-else_at
 decreases-else_at l = 9 * l.room + 5
 
-abbrev pub decreases-if_behind : goal.decreases-if_behind
-decreases-if_behind l = 9 * l.room + 6
+abbrev pub decreases-after_if : goal.decreases-after_if
+decreases-after_if l = 9 * l.room + 6
 
-abbrev pub decreases-while_behind : goal.decreases-while_behind
-decreases-while_behind l = 9 * l.room + 6
+abbrev pub decreases-after_while : goal.decreases-after_while
+decreases-after_while l = 9 * l.room + 6
 
-abbrev pub decreases-for_behind : goal.decreases-for_behind
-decreases-for_behind l = 9 * l.room + 6
+abbrev pub decreases-after_for : goal.decreases-after_for
+decreases-after_for l = 9 * l.room + 6
 
 abbrev pub decreases-kind_by : goal.decreases-kind_by
 decreases-kind_by l = 9 * l.room + 7

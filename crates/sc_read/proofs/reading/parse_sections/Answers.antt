@@ -1,6 +1,6 @@
 use Rattle.sc_read.proofs.Common.{AllZip, Err, IsCutInto, IsTreeOf, Refused, ap, arith, drop, err_from_is_err_and}
 use Rattle.sc_read.proofs.Common.{subst, suc, sym, ℕ, ◌+◌, ◌∙◌, ◌≡◌}
-use Rattle.sc_read.proofs.Steps.{more_sections, first_bad, as_many_from, zip_at, zip_behind}
+use Rattle.sc_read.proofs.Steps.{more_sections, first_bad, as_many_from, zip_at, zip_after}
 use Rattle.sc_read.proofs.reading.parse_sections.Goals as goal
 
 further : (at : ℕ) → suc at ≡ at + 1
@@ -26,7 +26,7 @@ loop-at-preserved c =
           c.index-sections-at.result c.in_ok-parse_section.field-0 c.loop-at-test.true c.index-sections-at.is
           c.loop-at.invariant.0 c.in_ok-parse_section.ensures.read),
       subst (λ k. AllZip IsCutInto (drop k c.args.sections.now) (drop k c.set.new.self)) (further c.loop-at.at)
-          (rw c.set.ensures (zip_behind IsCutInto c.args.sections.now c.loop-at.cuts c.loop-at.at c.new.result
+          (rw c.set.ensures (zip_after IsCutInto c.args.sections.now c.loop-at.cuts c.loop-at.at c.new.result
           c.loop-at.invariant.1 c.loop-at-test.true few)),
     )
 

@@ -9,7 +9,7 @@ loop-j-preserved c =
     let drawn = c.next_function.ensures c.args.seed j c.loop-j.invariant.drawn in
     record {
       drawn = drawn.state ∙ ap (state_at c.args.seed) next;
-      told = number_turn (call_text c.args.seed) j c.args.text.now c.loop-j.text c.append_call.new.text
-          c.loop-j.invariant.told
+      printed = number_turn (call_text c.args.seed) j c.args.text.now c.loop-j.text c.append_call.new.text
+          c.loop-j.invariant.printed
           (c.in_ok-append_call.ensures ∙ ap (λ argument. c.loop-j.text ++ call_with j argument) drawn.argument);
     }

@@ -4,5 +4,5 @@ use Rattle.sc_report.proofs.make.append_calls.Given as goal
 abbrev pub invariant-loop-j : goal.invariant-loop-j
 invariant-loop-j l = record {
   drawn : l.draws.state ≡ state_at l.seed l.j;
-  told : l.text ≡ l.initial.text ++ flat_map (call_text l.seed) (numbers_from 0 l.j);
+  printed : l.text ≡ l.initial.text ++ flat_map (call_text l.seed) (numbers_from 0 l.j);
 }

@@ -11,14 +11,14 @@ loop-j-preserved c =
     let drawn = c.next_function-drawn.ensures c.args.seed j c.loop-j.invariant.drawn in
     record {
       drawn = drawn.state ∙ ap (state_at c.args.seed) next;
-      told = elim c.if-j-workers.branch [
+      printed = elim c.if-j-workers.branch [
         | then-j-workers+in_ok-append_function w ↦
             w.text-is ∙
             chosen_turn (λ j. nat_eq (j % workers c.args.size) c.args.worker) (function_text c.args.seed) j
             c.args.text.now c.loop-j.text w.append_function.new.text
             (eq-eqb (j % workers c.args.size) c.args.worker
             (ap (λ n. j % n) (sym c.workers.ensures) ∙ w.if-j-workers.true))
-            c.loop-j.invariant.told
+            c.loop-j.invariant.printed
             (w.in_ok-append_function.ensures ∙ ap (λ addend. c.loop-j.text ++ function_with j addend) drawn.addend)
         | else-j-workers w ↦
             w.text-is ∙
@@ -26,6 +26,6 @@ loop-j-preserved c =
             c.args.text.now c.loop-j.text
             (ne_eqb (j % workers c.args.size) c.args.worker
             (λ same. w.if-j-workers.false (ap (λ n. j % n) c.workers.ensures ∙ same)))
-            c.loop-j.invariant.told
+            c.loop-j.invariant.printed
       ];
     }

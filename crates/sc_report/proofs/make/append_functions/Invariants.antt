@@ -5,6 +5,6 @@ use Rattle.sc_report.proofs.make.append_functions.Given as goal
 abbrev pub invariant-loop-j : goal.invariant-loop-j
 invariant-loop-j l = record {
   drawn : l.draws.state ≡ state_at l.seed l.j;
-  told : l.text ≡ l.initial.text ++
+  printed : l.text ≡ l.initial.text ++
       flat_map (function_text l.seed) (filter (λ j. nat_eq (j % workers l.size) l.worker) (numbers_from 0 l.j));
 }

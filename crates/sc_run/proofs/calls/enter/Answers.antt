@@ -11,4 +11,4 @@ pub returns-in_ok-next-in-Ok : goal.returns-in_ok-next-in-Ok
 returns-in_ok-next-in-Ok c =
     IfOk-weaker c.run_called.result _ _ (λ step h. enter_steps c.args.program.now c.args.run.now.frame c.args.callee.now
     c.args.args.now c.args.to c.args.crossing c.requires c.in-Ok.ensures.comes c.in-Ok.ensures.taken
-    c.in_ok-tell_call-in-Ok.ensures c.in_ok-next-in-Ok.ensures refl h) c.run_called.ensures
+    c.in_ok-emit_call-in-Ok.ensures c.in_ok-next-in-Ok.ensures refl h) c.run_called.ensures

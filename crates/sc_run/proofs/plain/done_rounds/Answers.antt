@@ -1,5 +1,5 @@
 use Rattle.sc_run.proofs.Common.{Some, [], refl}
-use Rattle.sc_run.proofs.Ahead.{behind_body, body_done, round_done, stays_so, then_passes, turns_fall, unchanged}
+use Rattle.sc_run.proofs.Ahead.{after_body, body_done, round_done, stays_so, then_passes, turns_fall, unchanged}
 use Rattle.sc_run.proofs.plain.done_rounds.Goals as goal
 
 pub loop-machine-init : goal.loop-machine-init
@@ -23,7 +23,7 @@ returns-in-Some-clause-passes c = body_done c.args.program.now c.args.frame.now 
 
 pub returns-then-not-is_next_done-clause-passes : goal.returns-then-not-is_next_done-clause-passes
 returns-then-not-is_next_done-clause-passes c =
-    then_passes (behind_body c.args.program.now c.args.frame.now c.args.whole.now
+    then_passes (after_body c.args.program.now c.args.frame.now c.args.whole.now
     (record { ref_ptr = c.args.whole.now.body.ref_ptr; now = [] })
     (then_passes c.loop-machine.invariant c.loop-machine-test.ensures.passes) c.in_default.ensures.passes refl)
     (unchanged c.if-not-is_next_done.ensures)

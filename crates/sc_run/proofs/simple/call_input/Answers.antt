@@ -9,4 +9,4 @@ returns-then-not-imports_input c = refused c.args.program.now c.args.frame.now c
 pub returns : goal.returns
 returns c = input_steps c.args.program.now c.args.frame.now c.args.to c.args.args.now
     (sym c.if-not-imports_input.ensures) c.next_input-value.ensures.word c.next_input-value.ensures.rest
-    c.in_ok-tell.ensures c.hand_back.ensures
+    c.in_ok-emit_event.ensures c.hand_back.ensures

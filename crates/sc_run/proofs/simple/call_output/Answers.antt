@@ -8,4 +8,4 @@ returns-then-not-may_output c = refused c.args.program.now c.args.frame.now c.ar
 
 pub returns : goal.returns
 returns c = output_steps c.args.program.now c.args.frame.now c.args.to c.args.args.now (sym c.if-not-may_output.ensures)
-    c.first_word-value.ensures c.in_ok-tell.ensures c.hand_back.ensures
+    c.first_word-value.ensures c.in_ok-emit_event.ensures c.hand_back.ensures

@@ -1,6 +1,6 @@
 use Rattle.sc_select.proofs.Common.{ap, arith, drop, ending_test, length, map, refl, select, suc, sym, ◌+◌, ◌-◌, ◌∙◌}
 use Rattle.sc_select.proofs.Common.{◌≡◌}
-use Rattle.sc_select.proofs.Turning.{some_last, test_at_last, test_behind, test_refused}
+use Rattle.sc_select.proofs.Turning.{some_last, test_at_last, test_after, test_refused}
 use Rattle.sc_select.proofs.kinds.ending_test.Goals as goal
 
 pub loop-at-init : goal.loop-at-init
@@ -16,7 +16,7 @@ pub loop-at-preserved : goal.loop-at-preserved
 loop-at-preserved c frame places plan =
     let next : suc c.loop-at.at ≡ c.loop-at.at + 1 = omega arith in
     c.loop-at.invariant frame places plan ∙
-    test_behind frame places plan c.args.stmts.now c.loop-at.at _ (omega (arith, c.loop-at-test.true))
+    test_after frame places plan c.args.stmts.now c.loop-at.at _ (omega (arith, c.loop-at-test.true))
     c.index-stmts-at.is (sym (c.is_plain.ensures frame places plan) ∙ c.if-not-is_plain.false) ∙
     ap (λ n. ending_test (map (select frame places plan) (drop n c.args.stmts.now))) next
 

@@ -1,4 +1,4 @@
-use Rattle.sc_select.proofs.Common.{ap₂, plan_by, role_behind, ◌∙◌}
+use Rattle.sc_select.proofs.Common.{ap₂, plan_by, role_to_next, ◌∙◌}
 use Rattle.sc_select.proofs.Joining.{one_before, two_before}
 use Rattle.sc_select.proofs.roles.role_before.Goals as goal
 
@@ -9,7 +9,7 @@ returns-then-at-eq1 c frame places near =
 
 pub returns : goal.returns
 returns c frame places near =
-    c.role_behind.ensures ∙
-    ap₂ role_behind (c.role_at.ensures frame places near) (c.role_at-own.ensures frame places near) ∙
+    c.role_to_next.ensures ∙
+    ap₂ role_to_next (c.role_at.ensures frame places near) (c.role_at-own.ensures frame places near) ∙
     two_before frame places (plan_by c.args.needs.now near) c.args.stmts.now c.args.at c.if-at-eq0.false
     c.if-at-eq1.false

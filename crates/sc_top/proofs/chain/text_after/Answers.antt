@@ -1,10 +1,10 @@
 use Rattle.sc_top.proofs.Common.{ap, map, replacement_of, take, ◌∙◌}
-use Rattle.sc_top.proofs.Chains.{shown_after}
+use Rattle.sc_top.proofs.Chains.{printed_after}
 use Rattle.sc_top.proofs.chain.text_after.Goals as goal
 
 pub returns : goal.returns
 returns c =
-    shown_after c.recompose.result c.args.source.now c.args.explanation.now c.args.links c.as_slice-2.result.now
+    printed_after c.recompose.result c.args.source.now c.args.explanation.now c.args.links c.as_slice-2.result.now
     (c.as_slice-2.ensures ∙ c.in_ok-replacements.ensures ∙
     ap (map replacement_of) (c.first_links-first.ensures ∙ ap (take c.args.links) c.as_slice.ensures))
     c.requires c.recompose.ensures

@@ -12,7 +12,7 @@ machine_text-requires c =
 pub returns-clause-ok : goal.returns-clause-ok
 returns-clause-ok c =
     let image = c.in_ok-image.image in
-    let told = c.in_ok-machine_text.ensures ∙
+    let printed = c.in_ok-machine_text.ensures ∙
     ap (λ (names : Interfaces). machine_text names c.args.options.now image) c.in_ok-names.ensures in
     executed c.args.options.now c.args.bytes.now c.in_ok-machine_text.field-0 image c.in_ok-image.ensures.image
-    c.parts-parts.ensures.well_formed told
+    c.parts-parts.ensures.well_formed printed

@@ -1,5 +1,5 @@
 use Rattle.sc_top.proofs.Common.{All, IsKnown, machine_run, rules, subst, sym, ◌≡◌}
-use Rattle.sc_top.proofs.Known.{shown_text}
+use Rattle.sc_top.proofs.Known.{text_printed}
 use Rattle.sc_top.proofs.machine.machine_text.Goals as goal
 
 pub run_text-requires : goal.run_text-requires
@@ -38,5 +38,5 @@ returns c =
       c.in_ok-machine.ensures,
       c.in_ok-machine.was,
     ) in
-    shown_text c.run_text.result c.args.names.now c.args.options.now c.args.image c.trace.result.now c.run-stop.result
+    text_printed c.run_text.result c.args.names.now c.args.options.now c.args.image c.trace.result.now c.run-stop.result
     trace stop c.run_text.ensures

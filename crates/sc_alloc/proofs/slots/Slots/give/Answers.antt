@@ -13,9 +13,9 @@ returns-clause-slot c slots has =
     )
 
 pub returns-clause-rules : goal.returns-clause-rules
-returns-clause-rules c given slots =
-    let out = c.in_ok-slot.ensures.rules given slots in (
-      slot_given given c.args.interval.now (heap_items c.take.new.self.ends) (heap_items c.push.new.self)
+returns-clause-rules c placements slots =
+    let out = c.in_ok-slot.ensures.rules placements slots in (
+      slot_given placements c.args.interval.now (heap_items c.take.new.self.ends) (heap_items c.push.new.self)
           c.take.new.self.count c.in_ok-slot.slot out c.requires c.in_ok-push.ensures.permutation,
       out.free,
     )

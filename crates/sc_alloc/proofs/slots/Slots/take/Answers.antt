@@ -13,7 +13,7 @@ returns-in_ok-self-in-None-clause-slot c slots has =
     )
 
 pub returns-in_ok-self-in-None-clause-rules : goal.returns-in_ok-self-in-None-clause-rules
-returns-in_ok-self-in-None-clause-rules c given slots =
+returns-in_ok-self-in-None-clause-rules c placements slots =
     let new = c.take_free.new.self in
-    subst (λ count. IsOut given (heap_items new.ends) count c.args.at new.count) (sym c.in_ok-self-in-None.ensures)
-    (fresh given (heap_items new.ends) new.count c.args.at (c.in-None.ensures.rules given slots))
+    subst (λ count. IsOut placements (heap_items new.ends) count c.args.at new.count) (sym c.in_ok-self-in-None.ensures)
+    (fresh placements (heap_items new.ends) new.count c.args.at (c.in-None.ensures.rules placements slots))

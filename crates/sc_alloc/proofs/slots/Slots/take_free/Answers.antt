@@ -40,10 +40,10 @@ returns-clause-soonest c slots has =
     )
 
 pub returns-clause-rules : goal.returns-clause-rules
-returns-clause-rules c given slots =
+returns-clause-rules c placements slots =
     let ends = c.args.self.now.ends in
     let some : 0 < heap_len ends = search rules in
-    taken given (heap_items ends) (heap_items c.pop.new.self) c.in_ok-soonest.field-0.now c.args.self.now.count
+    taken placements (heap_items ends) (heap_items c.pop.new.self) c.in_ok-soonest.field-0.now c.args.self.now.count
     c.args.at slots
     (popped (λ x. IsPermutation (heap_items ends) (x ∷ heap_items c.pop.new.self)) c.pop.result (heap_items ends)
     (heap_items c.pop.new.self) (heap_len ends) c.in_ok-soonest.field-0.now c.pop.ensures.none some c.pop.ensures.top

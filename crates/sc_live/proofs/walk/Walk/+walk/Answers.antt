@@ -13,7 +13,7 @@ row-loop-at-preserved t c =
 
 pub stmt-returns-in_ok-join-in-If : goal.stmt-returns-in_ok-join-in-If
 stmt-returns-in_ok-join-in-If t c =
-    forked _ _ _ _ _ _ _ _ _ _ _ _ c.in-If.is (c.replace-live.ensures.after ∙ c.in_ok-behind-in-If.ensures)
+    forked _ _ _ _ _ _ _ _ _ _ _ _ c.in-If.is (c.replace-live.ensures.after ∙ c.in_ok-following-in-If.ensures)
     c.replace-live.ensures.value c.in_ok-row-in-If.ensures c.in_ok-row-in-If-2.ensures c.in_ok-join-in-If.ensures
 
 pub stmt-returns-in_ok-pass_to-in-Loop : goal.stmt-returns-in_ok-pass_to-in-Loop

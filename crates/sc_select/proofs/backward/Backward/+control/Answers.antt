@@ -3,9 +3,9 @@ use Rattle.sc_select.proofs.Common.{sym, weight, ◌++◌, ◌+◌, ◌-◌, ◌
 use Rattle.sc_select.proofs.Composition.{as_if, as_loop, joined_by, cycle_heavier, fork_heavier, back_reaches}
 use Rattle.sc_select.proofs.Composition.{body_reaches, cycle_written, first_reaches, choice_returns, skip_returns}
 use Rattle.sc_select.proofs.Composition.{as_is, head_reaches, next_reaches, over_first, over_reaches, over_second}
-use Rattle.sc_select.proofs.Composition.{second_fits, step_fits, step_lighter, step_reaches, alone_fits, as_written}
+use Rattle.sc_select.proofs.Composition.{second_fits, step_fits, step_lighter, step_reaches, unjoined_fits, as_written}
 use Rattle.sc_select.proofs.Composition.{is_itself, is_nothing, is_both, none_written, step_written}
-use Rattle.sc_select.proofs.Rotating.{all_written, taken_by, front_lighter, cycle_fits, cycle_is, lines_reach}
+use Rattle.sc_select.proofs.Rotating.{all_written, taken_by, prefix_lighter, cycle_fits, cycle_is, lines_reach}
 use Rattle.sc_select.proofs.Rotating.{loop_fits, over_reaches as body_over, body_reaches as reaches_body}
 use Rattle.sc_select.proofs.Rotating.{head_reaches as reaches_head, next_reaches as reaches_next, rotated_fits}
 use Rattle.sc_select.proofs.Rotating.{rotated_is, some_in_head, written_as}
@@ -103,7 +103,7 @@ turning-slice_bounds-rotated-count t c =
 
 pub turning-rotated-requires : goal.turning-rotated-requires
 turning-rotated-requires t c = (
-  omega (arith, c.decreases, front_lighter c.args.head.now (length c.args.head.now - 1)),
+  omega (arith, c.decreases, prefix_lighter c.args.head.now (length c.args.head.now - 1)),
   rotated_fits c.args.homes.now.frame.now c.args.homes.now.places.now (plan_by c.args.homes.now.needs.now
       c.args.homes.now.near) c.args.head.now c.args.body.now c.args.next.now _ c.in-Some.cond
       (c.test_at_end.ensures c.args.homes.now.frame.now c.args.homes.now.places.now) c.in-Some.is c.requires.fits,
@@ -179,7 +179,7 @@ rotated-jump_over-requires t c =
     c.args.homes.now.near) c.args.cond c.register.result 5 _ _ c.register.ensures c.in_ok-take.ensures)
     c.len-end.ensures
     _ c.in_ok-part.ensures _ c.in_ok-part-2.ensures _ c.in_ok-part-3.ensures c.len.result c.len-2.result
-    c.len-behind.result c.len.ensures c.len-2.ensures c.len-behind.ensures
+    c.len-following.result c.len.ensures c.len-2.ensures c.len-following.ensures
 
 pub rotated-branch_back-requires : goal.rotated-branch_back-requires
 rotated-branch_back-requires t c =
@@ -190,7 +190,7 @@ rotated-branch_back-requires t c =
     c.args.homes.now.near) c.args.cond c.register.result 5 _ _ c.register.ensures c.in_ok-take.ensures)
     c.len-end.ensures
     _ c.in_ok-part.ensures _ c.in_ok-part-2.ensures _ c.in_ok-part-3.ensures c.len.result c.len-2.result
-    c.len-behind.result c.len.ensures c.len-2.ensures c.len-behind.ensures
+    c.len-following.result c.len.ensures c.len-2.ensures c.len-following.ensures
 
 pub rotated-returns : goal.rotated-returns
 rotated-returns t c to_break to_continue =
@@ -201,7 +201,7 @@ rotated-returns t c to_break to_continue =
     c.args.homes.now.near) c.args.cond c.register.result 5 _ _ c.register.ensures c.in_ok-take.ensures)
     c.len-end.ensures
     _ c.in_ok-part.ensures _ c.in_ok-part-2.ensures _ c.in_ok-part-3.ensures c.len.result c.len-2.result
-    c.len-behind.result c.len.ensures c.len-2.ensures c.len-behind.ensures
+    c.len-following.result c.len.ensures c.len-2.ensures c.len-following.ensures
     c.jump_over.result c.branch_back.result _ _ to_break to_continue c.in_ok-plain-2.ensures c.jump_over.ensures
     c.branch_back.ensures c.replace.ensures
 
@@ -308,9 +308,9 @@ between-statement-requires t c =
     let places = c.args.homes.now.places.now in
     let plan = plan_by c.args.homes.now.needs.now c.args.homes.now.near in (
       omega (arith, c.decreases),
-      alone_fits frame places plan c.args.before c.args.stmt.now c.args.behind c.role_of-role.result
+      unjoined_fits frame places plan c.args.before c.args.stmt.now c.args.following c.role_of-role.result
           (c.role_of-role.ensures frame places c.args.homes.now.near) c.joins.result
-          (joined_by _ _ c.args.behind _ c.role_behind.ensures c.joins.ensures) c.if-joins.false c.joins-2.result
+          (joined_by _ _ c.args.following _ c.role_to_next.ensures c.joins.ensures) c.if-joins.false c.joins-2.result
           c.joins-2.ensures
           c.args.distances.to_break c.args.distances.to_continue c.if-joins-2.false c.requires.fits,
     )
@@ -321,9 +321,9 @@ between-returns-then-joins t c =
     let places = c.args.homes.now.places.now in
     let plan = plan_by c.args.homes.now.needs.now c.args.homes.now.near in
     ap (λ p. p.lines c.args.distances.to_break c.args.distances.to_continue ++ c.args.self.now)
-    (is_nothing frame places plan c.args.before c.args.stmt.now c.args.behind c.role_of-role.result
+    (is_nothing frame places plan c.args.before c.args.stmt.now c.args.following c.role_of-role.result
     (c.role_of-role.ensures frame places c.args.homes.now.near) c.joins.result
-    (joined_by _ _ c.args.behind _ c.role_behind.ensures c.joins.ensures) c.if-joins.true)
+    (joined_by _ _ c.args.following _ c.role_to_next.ensures c.joins.ensures) c.if-joins.true)
 
 pub between-returns-then-joins-2 : goal.between-returns-then-joins-2
 between-returns-then-joins-2 t c =
@@ -331,9 +331,9 @@ between-returns-then-joins-2 t c =
     let places = c.args.homes.now.places.now in
     let plan = plan_by c.args.homes.now.needs.now c.args.homes.now.near in
     as_written c.as_one.result _ _ c.args.distances.to_break c.args.distances.to_continue _ c.args.self.now
-    (is_both frame places plan c.args.before c.args.stmt.now c.args.behind c.role_of-role.result
+    (is_both frame places plan c.args.before c.args.stmt.now c.args.following c.role_of-role.result
     (c.role_of-role.ensures frame places c.args.homes.now.near) c.joins.result
-    (joined_by _ _ c.args.behind _ c.role_behind.ensures c.joins.ensures) c.if-joins.false c.joins-2.result
+    (joined_by _ _ c.args.following _ c.role_to_next.ensures c.joins.ensures) c.if-joins.false c.joins-2.result
     c.joins-2.ensures
     c.if-joins-2.true) (c.as_one.ensures c.args.distances.to_break c.args.distances.to_continue)
 
@@ -343,8 +343,8 @@ between-returns t c =
     let places = c.args.homes.now.places.now in
     let plan = plan_by c.args.homes.now.needs.now c.args.homes.now.near in
     as_written c.statement.result _ _ c.args.distances.to_break c.args.distances.to_continue _ c.args.self.now
-    (is_itself frame places plan c.args.before c.args.stmt.now c.args.behind c.role_of-role.result
+    (is_itself frame places plan c.args.before c.args.stmt.now c.args.following c.role_of-role.result
     (c.role_of-role.ensures frame places c.args.homes.now.near) c.joins.result
-    (joined_by _ _ c.args.behind _ c.role_behind.ensures c.joins.ensures) c.if-joins.false c.joins-2.result
+    (joined_by _ _ c.args.following _ c.role_to_next.ensures c.joins.ensures) c.if-joins.false c.joins-2.result
     c.joins-2.ensures
     c.if-joins-2.false) c.statement.ensures

@@ -12,7 +12,7 @@ in_order-requires c = record {
 
 pub returns : goal.returns
 returns c =
-    on_ok_weaker c.entrance.result (λ h.
+    on_ok_weaker c.prologue.result (λ h.
     function_written c.args.homes.now.frame.now c.args.homes.now.places.now (plan_by c.args.homes.now.needs.now
     c.args.homes.now.near) c.args.f.now c.as_slice.result.now c.args.self.now c.closing.new.self c.in_order.new.self
-    c.entrance.new.self c.as_slice.ensures c.in_ok-closing.ensures c.in_ok-in_order.ensures h) c.entrance.ensures
+    c.prologue.new.self c.as_slice.ensures c.in_ok-closing.ensures c.in_ok-in_order.ensures h) c.prologue.ensures

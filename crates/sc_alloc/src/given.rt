@@ -1,8 +1,0 @@
-use sc_tac::{Interval, Place};
-
-/// An interval, and the place that it got.
-#[derive(Clone, Copy)]
-pub struct Given {
-    pub interval: Interval,
-    pub place: Place,
-}

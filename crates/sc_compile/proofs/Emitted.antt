@@ -1,0 +1,99 @@
+-- What is compiled does what its program means.
+use Rattle.sc_compile.proofs.Common.{AgreesInDepth, All, AreEmitted, GlobalsAreWords, AreNamed, Arith, EachEmits, Event}
+use Rattle.sc_compile.proofs.Common.{ImageParts, IsBuilt, IsCompiled, IsFunction, IsLinkable, IsLinked, IsWellTyped}
+use Rattle.sc_compile.proofs.Common.{IsWhole, IsWord, List, None, ProgramTree, Run, ForwardSimulation, SimulatesRun, addresses_at}
+use Rattle.sc_compile.proofs.Common.{all_codes, arith, built_image, c_arith, code_run, inl, inr, keeps_meaning}
+use Rattle.sc_compile.proofs.Common.{keeps_rules, lowered_program, machine, outcomes_simulate, program_nodes, refl, run_of}
+use Rattle.sc_compile.proofs.Common.{same, same_run, subst, suc, too_large, wrapped_code_agrees, wrapping, ℕ, ⊎_elim}
+use Rattle.sc_compile.proofs.Common.{◌*◌, ◌≡◌}
+use Rattle.sc_simulation.proofs.Whole.{scripts_simulate, simulates}
+use Rattle.sc_compile.proofs.Allowed.{allowed}
+use Rattle.sc_compile.proofs.Linkable.{is_linkable}
+use Rattle.sc_compile.proofs.Linked.{is_linked}
+use Rattle.sc_compile.proofs.NoTests.{no_tests}
+use Rattle.sc_compile.proofs.Results.{gives_results, source_of}
+use Rattle.sc_compile.proofs.Scripted.{scripted_emits}
+
+-- a run agrees with itself
+itself : (run : Run) → AgreesInDepth run run
+itself run = record {
+  whole = same_run refl;
+  behaviour = λ events. same refl;
+  depth = λ events comp. omega arith;
+}
+
+module _ (program : ProgramTree) (typed : IsWellTyped program) (named : AreNamed program.interfaces)
+    (words : GlobalsAreWords program.sections) (fits : too_large program ≡ None) (each : EachEmits program)
+    (whole : All IsWhole (all_codes (lowered_program program))) where
+  abbrev image : ImageParts
+  image = built_image program
+
+  abbrev turn_pays : ℕ
+  turn_pays = 24 * program_nodes program
+
+  emitted : AreEmitted program
+  emitted = record { functions = each; whole = whole }
+
+  linkable : IsLinkable program (all_codes (lowered_program program))
+  linkable = is_linkable program typed fits each
+
+  linked : IsLinked (lowered_program program) image turn_pays
+      (addresses_at program (all_codes (lowered_program program)))
+  linked = is_linked program typed named words fits emitted
+
+  built : IsBuilt (lowered_program program) image turn_pays
+  built = record {
+    rules = keeps_rules.programs program typed;
+    functions = λ comp number f is.
+        let from = source_of program typed comp number f is in
+        subst IsFunction from.same
+        (keeps_rules.functions program typed comp from.section from.is number from.source from.its);
+    results = gives_results program typed;
+    addresses = addresses_at program (all_codes (lowered_program program));
+    linked = linked;
+  }
+
+  -- beside a run of the code that agrees with the one in which every operation gives a word
+  emits_by : (arith' : Arith) (inputs : List ℕ) (turns : ℕ) → All IsWord inputs →
+      AgreesInDepth (code_run arith' (lowered_program program) inputs turns)
+      (code_run wrapping (lowered_program program) inputs turns) →
+      SimulatesRun image inputs (turn_pays * suc turns) turns (run_of arith' program inputs turns)
+  emits_by arith' inputs turns are agrees =
+      outcomes_simulate.along image inputs (turn_pays * suc turns) turns (run_of arith' program inputs turns)
+      (code_run arith' (lowered_program program) inputs turns) (keeps_meaning.meaning arith' program typed inputs turns)
+      (outcomes_simulate.emits image inputs (turn_pays * suc turns) turns
+      (code_run arith' (lowered_program program) inputs turns)
+      (code_run wrapping (lowered_program program) inputs turns) linked.formed are agrees
+      (simulates (lowered_program program) image turn_pays built inputs turns are))
+
+  all_by : (arith' : Arith) → ((inputs : List ℕ) (turns : ℕ) → All IsWord inputs →
+      SimulatesRun image inputs (turn_pays * suc turns) turns (run_of arith' program inputs turns)) →
+      ForwardSimulation arith' program image
+  all_by arith' observed inputs turns events are =
+      ⊎_elim (λ prefix. inl prefix)
+      (λ full. inr (record { stop = full.stop; deep = full.deep; trace = full.trace }))
+      ((observed inputs turns are).forward events)
+
+  emits_c : (inputs : List ℕ) (turns : ℕ) → All IsWord inputs →
+      SimulatesRun image inputs (turn_pays * suc turns) turns (run_of c_arith program inputs turns)
+  emits_c inputs turns are =
+      emits_by c_arith inputs turns are (wrapped_code_agrees.meaning (lowered_program program) inputs turns)
+
+  -- the machine's trace
+  abbrev observed : (inputs : List ℕ) (steps events : ℕ) → List Event
+  observed inputs steps events = (machine image inputs steps events).state.trace
+
+  pub compiled : IsCompiled program image
+  compiled = record {
+    forward = all_by c_arith emits_c;
+    wrapped = all_by wrapping (λ inputs turns are. emits_by wrapping inputs turns are
+        (itself (code_run wrapping (lowered_program program) inputs turns)));
+    backward = λ inputs steps events are. (emits_c inputs steps are).backward steps events (omega arith);
+    no_tests = no_tests program typed linkable emitted;
+    scripted = λ inputs steps events set are.
+        scripted_emits program typed set inputs steps (observed inputs steps events)
+        (scripts_simulate (lowered_program program) image turn_pays built inputs steps events set are
+        (allowed program (all_codes (lowered_program program)) linked.formed inputs steps events are));
+    allowed = λ inputs steps events are.
+        allowed program (all_codes (lowered_program program)) linked.formed inputs steps events are;
+  }

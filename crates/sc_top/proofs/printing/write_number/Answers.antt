@@ -1,0 +1,17 @@
+use Rattle.sc_top.proofs.Common.{ap, codes, decimal, rules, ◌++◌, ◌≡◌}
+use Rattle.sc_top.proofs.Streams.{cut_wrote, then_wrote}
+use Rattle.sc_top.proofs.printing.write_number.Goals as goal
+
+pub returns-in_err-write_text : goal.returns-in_err-write_text
+returns-in_err-write_text g c =
+    let digits : decimal c.args.number ≡ c.as_bytes.result.now = cc in
+    let wrote = c.in_err-write_text.ensures in
+    cut_wrote _ c.as_bytes.result.now (codes "\n") c.from_residual.result _ _ _ _
+    (ap (λ number. number ++ codes "\n") digits) (search rules) wrote.err wrote.fault wrote.counted
+
+pub returns : goal.returns
+returns g c =
+    let digits : decimal c.args.number ≡ c.as_bytes.result.now = cc in
+    let wrote = c.in_ok-write_text.ensures in
+    then_wrote _ c.as_bytes.result.now (codes "\n") c.write_text-2.result _ _ _ _ _ _
+    (ap (λ number. number ++ codes "\n") digits) wrote.ok wrote.counted c.write_text-2.ensures
