@@ -1,4 +1,4 @@
-use sc_words::{WordsFault, read_command, usage};
+use sc_top_words::{WordsFault, read_command, usage};
 use std::alloc::{AllocError, Global};
 use std::test::Fail;
 

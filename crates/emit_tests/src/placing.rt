@@ -5,7 +5,7 @@ ghost use Rattle.std.specs.List.{list_all};
 ghost use Rattle.std.specs.Prelude.{◌≡◌, ◌==◌, ◌%◌, All, IsTrue, length};
 
 use sc_base::OutOfMemory;
-use sc_select::select;
+use sc_emit_select::select;
 use sc_tac::{Code, Frame, FrameTree, Offsets, Place, Places, TacFn};
 use sqlite_items::Items;
 use std::alloc::Global;

@@ -3,7 +3,7 @@ use crate::frames::lay_out;
 use code_texts::{PROGRAMS, lowered};
 use rv_code::{Instr, decode, encode};
 use sc_base::OutOfMemory;
-use sc_select::select;
+use sc_emit_select::select;
 use sc_tac::{Tac, TacFn};
 use std::alloc::Global;
 use std::test::Fail;

@@ -1,7 +1,7 @@
 use crate::texts::PROGRAMS;
 use sc_ast::{SectionTree, print_section};
 use sc_base::Text;
-use sc_read::read_trees;
+use sc_parse_read::read_trees;
 use std::alloc::Global;
 use std::test::Fail;
 

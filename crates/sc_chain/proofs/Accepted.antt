@@ -5,19 +5,19 @@ use Rattle.sc_chain.proofs.Common.{IsWellTyped, List, ProgramTree, Reads, Row, S
 use Rattle.sc_chain.proofs.Common.{false, legal, length, meaning, new_texts, part, performing, recomposed}
 use Rattle.sc_chain.proofs.Common.{recursion_from_All, refl, scripted_meaning, subst, sym, true, ℕ, ◌++◌, ◌<◌, ◌∙◌, ◌∷◌}
 use Rattle.sc_chain.proofs.Common.{◌≡◌, ◌≤◌}
-use Rattle.sc_elab.specs.Prelude.{program_of}
+use Rattle.sc_types_elab.specs.Prelude.{program_of}
 use Rattle.sc_ast.specs.declared.section.ImportLine.{ImportLine}
 use Rattle.sc_ast.specs.declared.section.SectionTree.{SectionTree}
 use Rattle.sc_types.proofs.Whole.{well_typed}
-use Rattle.sc_replay.proofs.Replays.{texts_perform}
-use Rattle.sc_reread.specs.Names.{IsNamedImport, IsNamedSection}
-use Rattle.sc_reread.specs.Replaced.{IsReplacement, IsReread, texts_of}
-use Rattle.sc_reread.proofs.Names.{names_are_identifiers}
-use Rattle.sc_reread.proofs.Replaced.{replaced_texts}
-use Rattle.sc_performers.specs.Performing.{IsFromSo, IsNamed, PerformsPart}
-use Rattle.sc_performers.specs.Recomposed.{IsPerformable}
-use Rattle.sc_performers.proofs.PartsPerform.{parts_perform}
-use Rattle.sc_performers.proofs.Recomposed.{recomposed_hold}
+use Rattle.sc_back_replay_laws.proofs.Replays.{texts_perform}
+use Rattle.sc_back_reread_laws.specs.Names.{IsNamedImport, IsNamedSection}
+use Rattle.sc_back_reread_laws.specs.Replaced.{IsReplacement, IsReread, texts_of}
+use Rattle.sc_back_reread_laws.proofs.Names.{names_are_identifiers}
+use Rattle.sc_back_reread_laws.proofs.Replaced.{replaced_texts}
+use Rattle.sc_back_performer_laws.specs.Performing.{IsFromSo, IsNamed, PerformsPart}
+use Rattle.sc_back_performer_laws.specs.Recomposed.{IsPerformable}
+use Rattle.sc_back_performer_laws.proofs.PartsPerform.{parts_perform}
+use Rattle.sc_back_performer_laws.proofs.Recomposed.{recomposed_hold}
 use Rattle.sc_types.proofs.Sources.{interfaces_length}
 use Rattle.sc_types.proofs.Verdicts.{reads_low}
 

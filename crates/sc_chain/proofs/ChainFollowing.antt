@@ -5,7 +5,7 @@ use Rattle.sc_chain.proofs.Common.{append_assoc, arith, blamed_are_there, c_arit
 use Rattle.sc_chain.proofs.Common.{empty_set, eq-eqb, false, length, length-append, length-map, map, map-append}
 use Rattle.sc_chain.proofs.Common.{meaning, ne_eqb, nobody, performed, performing_text, subst, suc, sym, true, with, ℕ}
 use Rattle.sc_chain.proofs.Common.{⊎_elim, ◌++◌, ◌+◌, ◌-◌, ◌<◌, ◌==◌, ◌||◌, ◌∙◌, ◌∷◌, ◌≡◌, ◌≤◌, ◌⊎◌}
-use Rattle.sc_laws.specs.Prelude.{IsChain, Link as Blame}
+use Rattle.sc_core_laws.specs.Prelude.{IsChain, Link as Blame}
 use Rattle.std.proofs.lemmas.List.Folds.{list_any-append}
 
 -- SETS

@@ -6,7 +6,7 @@ use Rattle.sc_chain.proofs.Common.{chain_is_least, chains_rise, concat, empty_se
 use Rattle.sc_chain.proofs.Common.{meaning, new_texts, nobody, performing, recomposed, refl, scripted_meaning, subst}
 use Rattle.sc_chain.proofs.Common.{suc, sym, take, take-append-le, take_all, true, ℕ, ◌++◌, ◌<◌, ◌==◌, ◌||◌, ◌∙◌, ◌∷◌}
 use Rattle.sc_chain.proofs.Common.{◌≡◌}
-use Rattle.sc_laws.specs.Chains as laws
+use Rattle.sc_core_laws.specs.Chains as laws
 use Rattle.sc_chain.proofs.ChainFollowing.{IsFound, Performs, among_also, blame_of, runs}
 
 -- LISTS

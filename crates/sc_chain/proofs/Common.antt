@@ -10,19 +10,19 @@ pub use Rattle.std.specs.List.{AllByRecursion, concat, list_any}
 pub use Rattle.sc_base.specs.declared.stop.Stop.{Stop}
 pub use Rattle.sc_event.specs.Prelude.{Standing, action_of, at_start, legal, part, performer, rows_from, stands_after}
 pub use Rattle.sc_event.specs.declared.row.Row.{Row}
-pub use Rattle.sc_read.specs.Reading.{Part, Reads, part_of}
+pub use Rattle.sc_parse_read.specs.Reading.{Part, Reads, part_of}
 pub use Rattle.sc_word.specs.Prelude.{word_of}
 pub use Rattle.sc_core.specs.Prelude.{IsPrefix, IsWellTyped, c_arith, meaning, scripted_meaning}
 pub use Rattle.sc_core.specs.declared.run.SourceRun.{SourceRun}
 pub use Rattle.sc_types.specs.Prelude.{Accepts, IsSource, IsSplitInto, IsTyped, SourceParts}
-pub use Rattle.sc_laws.proofs.ProgramLaws.{blamed_are_there, chain_exists, chain_is_least, chains_rise, empty_set}
-pub use Rattle.sc_laws.specs.Prelude.{AreFresh, IsBlamedOutside, IsLink, IsRising, Set, nobody, performed, with}
+pub use Rattle.sc_core_laws.proofs.ProgramLaws.{blamed_are_there, chain_exists, chain_is_least, chains_rise, empty_set}
+pub use Rattle.sc_core_laws.specs.Prelude.{AreFresh, IsBlamedOutside, IsLink, IsRising, Set, nobody, performed, with}
 pub use Rattle.sc_image.specs.Prelude.{Goes, IsWellFormed, IsWord, Outcome, Run, State, Traps, machine, run, start}
 pub use Rattle.sc_image.specs.Prelude.{step, stopped}
 pub use Rattle.sc_image.specs.declared.parts.ImageParts.{ImageParts}
 pub use Rattle.sc_compile.specs.Prelude.{IsCompiled, EmitsOrIsBlamed, image_of}
 pub use Rattle.sc_back.specs.Prelude.{HasNext, new_text, new_texts}
-pub use Rattle.sc_replay.specs.Replay.{HasWords, IsRecomposed, IsReplay}
+pub use Rattle.sc_back_replay_laws.specs.Replay.{HasWords, IsRecomposed, IsReplay}
 pub use Rattle.sc_chain.specs.Common.{Blamed, Cause, Event, Interfaces, Link, ProgramTree, Replacement}
 pub use Rattle.sc_chain.specs.Prelude.{HasProgram, Includes, IsChain, IsChainFrom, IsExplained, IsNextLink, IsNextOf}
 pub use Rattle.sc_chain.specs.Prelude.{IsReplaced, MeansTrace, among, joined, performing, performing_text, recomposed}

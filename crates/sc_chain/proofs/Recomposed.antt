@@ -7,7 +7,7 @@ use Rattle.sc_chain.proofs.Common.{performing_text, recomposed, recursion_from_A
 use Rattle.sc_chain.proofs.Common.{sym, text_for, true, ℕ, ◌++◌, ◌<◌, ◌==◌, ◌||◌, ◌∙◌, ◌∷◌, ◌≡◌, ◌≤◌}
 use Rattle.sc_lex.specs.Prelude.{IsSplit}
 use Rattle.sc_lex.specs.declared.section.Section.{Section}
-use Rattle.sc_read.proofs.Splits.{same_parts, same_preamble}
+use Rattle.sc_parse_read.proofs.Splits.{same_parts, same_preamble}
 use Rattle.sc_chain.proofs.Accepted as accepted
 
 -- The replacements of a list of compartments are those of their set.

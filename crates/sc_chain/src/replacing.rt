@@ -4,7 +4,7 @@ ghost use Rattle.sc_chain.specs.Prelude.{Accepts, IsReplaced, IsSource, among, l
 ghost use Rattle.sc_chain.specs.Prelude.{recomposed, replacement_of};
 ghost use Rattle.std.specs.Prelude.{◌≡◌, ◌<◌, ◌≤◌, ◌^◌, true, length, map, All, IfOk};
 ghost use Rattle.sc_core.specs.declared.program.ProgramTree.{ProgramTree};
-ghost use Rattle.sc_replay.specs.Replay.{HasWords, IsWord};
+ghost use Rattle.sc_back_replay_laws.specs.Replay.{HasWords, IsWord};
 
 use crate::composed::{Replacement, recompose};
 use sc_back::back_section;

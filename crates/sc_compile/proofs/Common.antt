@@ -31,8 +31,8 @@ pub use Rattle.sc_core.specs.Prelude.{section_fits, signature_of, struct_zeros, 
 pub use Rattle.sc_core.specs.Prelude.{variables, wrapping}
 pub use Rattle.sc_core.specs.declared.section.TypedFunction.{TypedFunction}
 pub use Rattle.sc_core.specs.declared.section.TypedStruct.{TypedStruct}
-pub use Rattle.sc_laws.specs.Prelude.{AgreesInDepth, Set, piece_without_line, same, same_run}
-pub use Rattle.sc_kinds.proofs.Sections.{found_passes, main_so, named_so, own_names_differ}
+pub use Rattle.sc_core_laws.specs.Prelude.{AgreesInDepth, Set, piece_without_line, same, same_run}
+pub use Rattle.sc_core_kind_laws.proofs.Sections.{found_passes, main_so, named_so, own_names_differ}
 pub use Rattle.rv_code.specs.declared.instr.Instr.{Instr}
 pub use Rattle.sc_image.specs.Prelude.{IsWellFormed, IsWord, code_of, import_of, interface_of, interfaces_of, machine}
 pub use Rattle.sc_image.specs.Prelude.{most_globals, proto_of, start_memory, stretch}
@@ -50,8 +50,8 @@ pub use Rattle.sc_lower.proofs.Whole.{keeps_meaning}
 pub use Rattle.sc_lower.specs.Prelude.{body_code, branches, ifs, ifs_step, lowered_function, lowered_program}
 pub use Rattle.sc_lower.specs.Prelude.{lowered_section, lowered_sections}
 pub use Rattle.sc_alloc.specs.Prelude.{assigned}
-pub use Rattle.sc_select.specs.Prelude.{Addresses, linked, linked_from, low_of_target, lower_part, refers_only}
-pub use Rattle.sc_select.specs.Prelude.{relocations_after, target_at, upper_part, with_low, with_target}
+pub use Rattle.sc_emit_select.specs.Prelude.{Addresses, linked, linked_from, low_of_target, lower_part, refers_only}
+pub use Rattle.sc_emit_select.specs.Prelude.{relocations_after, target_at, upper_part, with_low, with_target}
 pub use Rattle.sc_linker.proofs.Beginnings.{all_done, all_more}
 pub use Rattle.sc_linker.proofs.Comps.{Fits, comps_length, exports_are, few_so, fits_or_none, number_below, of_section}
 pub use Rattle.sc_linker.proofs.Comps.{part_at, part_is}
@@ -63,9 +63,9 @@ pub use Rattle.sc_linker.specs.Prelude.{addresses_at, cell_word, cells, codes_at
 pub use Rattle.sc_linker.specs.Prelude.{entry_address, entry_jump, entry_jumps, exports_at, exports_in, import_part}
 pub use Rattle.sc_linker.specs.Prelude.{instructions, linked_codes, linked_image, section_at, section_or_none}
 pub use Rattle.sc_emit.specs.Prelude.{IsCodeAddress, IsEmitted, is_branch, is_ebreak, names_only}
-pub use Rattle.sc_simulation.proofs.Emits.{outcomes_simulate, shorter_first, unstopped}
-pub use Rattle.sc_simulation.specs.Prelude.{EntersBy, GivesResults, GlobalStands, HasCode, IsBlamed, IsBuilt, IsLinked}
-pub use Rattle.sc_simulation.specs.Prelude.{KeepsTo, SimulatesRun, bodies, functions_in, functions_or_none}
+pub use Rattle.sc_emit_run_laws.proofs.Emits.{outcomes_simulate, shorter_first, unstopped}
+pub use Rattle.sc_emit_run_laws.specs.Prelude.{EntersBy, GivesResults, GlobalStands, HasCode, IsBlamed, IsBuilt, IsLinked}
+pub use Rattle.sc_emit_run_laws.specs.Prelude.{KeepsTo, SimulatesRun, bodies, functions_in, functions_or_none}
 pub use Rattle.sc_compile.specs.Common.{CodeTooLarge, CompileFault, ImageParts, ProgramTree, TacFnTree, TacSection}
 pub use Rattle.sc_compile.specs.Common.{TypedGlobal, TypedSection}
 pub use Rattle.sc_compile.specs.Prelude.{AreEmitted, BeginAsWords, BeginsAsWords, EachEmits, EmitsAll, EmitsSo, FitAll}

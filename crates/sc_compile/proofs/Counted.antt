@@ -15,7 +15,7 @@ use Rattle.sc_compile.proofs.Common.{result_fits, scope_of, section_fits, slice_
 use Rattle.sc_compile.proofs.Common.{sym, too_large, total, true, variable_fits, variables, zero, ℕ, ◌&&◌, ◌*◌, ◌++◌}
 use Rattle.sc_compile.proofs.Common.{◌+◌, ◌<◌, ◌^◌, ◌∙◌, ◌∷◌, ◌≡◌, ◌≤◌}
 use Rattle.sc_compile.specs.Prelude.{Fits}
-use Rattle.sc_kinds.proofs.Sections.{all_at}
+use Rattle.sc_core_kind_laws.proofs.Sections.{all_at}
 use Rattle.sc_core.specs.declared.section.TypedLocal.{TypedLocal}
 use Rattle.sc_core.specs.declared.section.TypedParam.{TypedParam}
 use Rattle.sc_compile.proofs.Fitting.{code_fits, frames_fit, prefix_none, rest_none, within}

@@ -6,7 +6,7 @@ use Rattle.sc_compile.proofs.Common.{all_codes, arith, built_image, c_arith, cod
 use Rattle.sc_compile.proofs.Common.{keeps_rules, lowered_program, machine, outcomes_simulate, program_nodes, refl, run_of}
 use Rattle.sc_compile.proofs.Common.{same, same_run, subst, suc, too_large, wrapped_code_agrees, wrapping, ℕ, ⊎_elim}
 use Rattle.sc_compile.proofs.Common.{◌*◌, ◌≡◌}
-use Rattle.sc_simulation.proofs.Whole.{scripts_simulate, simulates}
+use Rattle.sc_emit_run_laws.proofs.Whole.{scripts_simulate, simulates}
 use Rattle.sc_compile.proofs.Allowed.{allowed}
 use Rattle.sc_compile.proofs.Linkable.{is_linkable}
 use Rattle.sc_compile.proofs.Linked.{is_linked}

@@ -14,8 +14,8 @@ use Rattle.sc_compile.proofs.Common.{◌≤◌, ◌⊎◌}
 use Rattle.sc_tac.specs.declared.stmt.TacStmt.TheOpen as tac
 use Rattle.sc_emit.proofs.Passing.{AllPass, PassesHere, Test, passes}
 use Rattle.sc_linker.proofs.Codes.{codes_none}
-use Rattle.sc_simulation.proofs.Placing.{implied_everywhere}
-use Rattle.sc_simulation.proofs.Sections.{InSection, in_functions, its_section}
+use Rattle.sc_emit_run_laws.proofs.Placing.{implied_everywhere}
+use Rattle.sc_emit_run_laws.proofs.Sections.{InSection, in_functions, its_section}
 use Rattle.sc_compile.proofs.Codes.{codes_are, one_for_each}
 use Rattle.sc_compile.proofs.Fitting.{code_fits, data_fits}
 use Rattle.sc_compile.proofs.Names.{exports_few}

@@ -13,9 +13,9 @@ use Rattle.sc_compile.proofs.Common.{program_nodes, refl, section_or_none, slice
 use Rattle.sc_compile.proofs.Common.{suc, sym, too_large, total, total_upto, true, wrapping, ℕ, ◌*◌, ◌+◌, ◌<◌, ◌∙◌, ◌∷◌}
 use Rattle.sc_compile.proofs.Common.{◌≡◌, ◌≤◌, ◌⊎◌}
 use Rattle.sc_store.specs.Prelude.{Memory, load_of}
-use Rattle.sc_hart.specs.Prelude.{CodeAt, Fetches, word}
+use Rattle.sc_emit_hart.specs.Prelude.{CodeAt, Fetches, word}
 use Rattle.sc_tac.specs.Prelude.{first_blocks as code_blocks}
-use Rattle.sc_relation.specs.Prelude.{InCell}
+use Rattle.sc_emit_relation.specs.Prelude.{InCell}
 use Rattle.sc_core.specs.declared.value.Cell.{Cell}
 use Rattle.sc_core.specs.declared.value.Cell.TheVariants as cell
 use Rattle.sc_linker.proofs.Whole.{linked_images_hold}

@@ -12,8 +12,8 @@ use Rattle.sc_core.specs.declared.ty.Ty.{Ty}
 use Rattle.sc_core.specs.declared.ty.Ty.TheVariants as ty
 use Rattle.sc_core.specs.declared.value.Value.{Value}
 use Rattle.sc_core.specs.declared.value.Value.TheVariants.{Null, Ptr, Word}
-use Rattle.sc_kinds.specs.Kinds.{bodies_of, function_at, returns_kind, section_functions}
-use Rattle.sc_kinds.proofs.Kinded.{results_have_kinds}
+use Rattle.sc_core_kind_laws.specs.Kinds.{bodies_of, function_at, returns_kind, section_functions}
+use Rattle.sc_core_kind_laws.proofs.Kinded.{results_have_kinds}
 
 pub mapped : {A B : Type 0} (g : A → B) (xs : List A) (n : ℕ) (y : B) → slice_get (map g xs) n ≡ Some y →
     (x : A) × ((slice_get xs n ≡ Some x) × (g x ≡ y))

@@ -8,11 +8,11 @@ use Rattle.sc_core.specs.declared.cause.Cause.{Cause}
 use Rattle.sc_core.specs.declared.run.RunEnd.{RunEnd}
 use Rattle.sc_core.specs.declared.run.RunEnd.TheVariants.{Blamed, Ended, EventsOut, TurnsOut}
 use Rattle.sc_core.specs.declared.run.SourceRun.{SourceRun}
-use Rattle.sc_laws.proofs.ProgramLaws.{blamed_are_there, nobody_who_performs_is_blamed}
-use Rattle.sc_laws.proofs.Growing.{prefix_same}
-use Rattle.sc_laws.proofs.Runs.{trace_is}
-use Rattle.sc_simulation.proofs.Along.{take_prefix}
-use Rattle.sc_simulation.proofs.Kept.{keeps_along, keeps_until_blame}
+use Rattle.sc_core_laws.proofs.ProgramLaws.{blamed_are_there, nobody_who_performs_is_blamed}
+use Rattle.sc_core_laws.proofs.Growing.{prefix_same}
+use Rattle.sc_core_laws.proofs.Runs.{trace_is}
+use Rattle.sc_emit_run_laws.proofs.Along.{take_prefix}
+use Rattle.sc_emit_run_laws.proofs.Kept.{keeps_along, keeps_until_blame}
 
 -- a blame with its compartment
 record IsBlame (end : RunEnd) : Type 0 where

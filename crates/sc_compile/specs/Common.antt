@@ -13,7 +13,7 @@ pub use Rattle.sc_lower.specs.Prelude.{branches, lowered_program}
 pub use Rattle.sc_alloc.specs.Prelude.{assigned}
 pub use Rattle.sc_linker.specs.Prelude.{IsWhole, linked_image}
 pub use Rattle.sc_emit.specs.Prelude.{IsEmitted, is_branch, is_ebreak}
-pub use Rattle.sc_simulation.specs.Prelude.{IsBlamed, functions_in}
+pub use Rattle.sc_emit_run_laws.specs.Prelude.{IsBlamed, functions_in}
 pub use Rattle.sc_compile.specs.declared.fault.CompileFault.{CompileFault}
 pub use Rattle.sc_compile.specs.declared.fault.CompileFault.TheVariants.{CodeTooLarge, DataTooLarge, FrameTooLarge}
 pub use Rattle.sc_compile.specs.declared.fault.CompileFault.TheVariants.{OutOfMemory}

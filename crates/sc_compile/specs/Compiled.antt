@@ -3,7 +3,7 @@ use Rattle.sc_compile.specs.Common.{Arith, IsPrefix, ImageParts, IsBlamed, IsWor
 use Rattle.sc_compile.specs.Common.{branches, c_arith, code_of, depth_by, is_branch, is_ebreak, machine, meaning}
 use Rattle.sc_compile.specs.Common.{meaning_by, nodes, scripted_meaning, stack_size, total, wrapping}
 use Rattle.sc_event.specs.Prelude.{legal}
-use Rattle.sc_laws.specs.Prelude.{IsBlamedOutside, Set}
+use Rattle.sc_core_laws.specs.Prelude.{IsBlamedOutside, Set}
 use Rattle.rv_code.specs.Prelude.{decoded}
 use Rattle.std.specs.Prelude.{◌≡◌, ℕ, suc, ◌*◌, ◌<◌, ◌≤◌, ◌⊎◌, Bool, true, false, List, length, map, All, Option, None}
 use Rattle.std.specs.Prelude.{Some, slice_get}

@@ -1,7 +1,7 @@
 -- The image of a program, pass by pass.
 use Rattle.sc_compile.specs.Common.{CompileFault, ImageParts, OutOfMemory, ProgramTree, TacFnTree, TacSection, assigned}
 use Rattle.sc_compile.specs.Common.{frame_of, intervals_of, linked_image, lowered_program}
-use Rattle.sc_select.specs.Prelude.{code_of}
+use Rattle.sc_emit_select.specs.Prelude.{code_of}
 use Rattle.std.specs.Prelude.{◌≡◌, List, map, flat_map, Option, None, Some, Result, Ok, Err}
 use Rattle.sc_tac.specs.declared.machine_code.CodeTree.{CodeTree}
 use Rattle.sc_tac.specs.declared.program.TacTree.{TacTree}

@@ -22,7 +22,7 @@ use Rattle.sc_emit.proofs.Common.{slot_offset, sp, stmt_branches, stmt_induction
 use Rattle.sc_emit.proofs.Common.{straight, straightly, sub_word, subst, suc, sum_by-append, sym, take, take_second}
 use Rattle.sc_emit.proofs.Common.{taken, test_stmt, testing, total, true, turning_by, unary_code, word_of_constant}
 use Rattle.sc_emit.proofs.Common.{zero, ℕ, ◌&&◌, ◌*◌, ◌++◌, ◌+◌, ◌==◌, ◌∙◌, ◌∷◌, ◌≡◌, ◌≤◌}
-use Rattle.sc_select.specs.Prelude.{Piece}
+use Rattle.sc_emit_select.specs.Prelude.{Piece}
 use Rattle.rv_code.specs.declared.instr.OpOp.TheVariants.{Mul}
 use Rattle.sc_base.specs.declared.op.BinaryOp.{BinaryOp}
 use Rattle.sc_base.specs.declared.op.BinaryOp.TheVariants as op

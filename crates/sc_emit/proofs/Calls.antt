@@ -23,8 +23,8 @@ use Rattle.sc_emit.proofs.Common.{◌∙◌, ◌∷◌, ◌≡◌, ◌≢◌, �
 use Rattle.sc_emit.proofs.Needed.{one_of_all}
 use Rattle.sc_tac.specs.declared.machine_code.Target.TheVariants.{Function, Entry}
 use Rattle.sc_tac.specs.declared.stmt.TacStmt.TheOpen as tac
-use Rattle.sc_pieces.proofs.Numbers.{two_parts}
-use Rattle.sc_relation.proofs.Straight.{moves_on}
+use Rattle.sc_emit_hart.proofs.Numbers.{two_parts}
+use Rattle.sc_emit_relation.proofs.Straight.{moves_on}
 use Rattle.sc_emit.proofs.Arguments.{AreRead, read_all_goes, comes_read_all, Passes, passes, read_length}
 use Rattle.sc_emit.proofs.Straight.{ComesStraight, lines_follow}
 use Rattle.sc_emit.proofs.Operands.{IsPlace, ArePlaced, slot_from_sp, world, walks_to}

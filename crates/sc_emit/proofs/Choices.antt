@@ -15,10 +15,10 @@ use Rattle.sc_emit.proofs.Common.{or_right, over, past, plain, plainly, plainly_
 use Rattle.sc_emit.proofs.Common.{row, row_points, seen_from, skipping, sp, subst, suc, sym, take, trail_step, true}
 use Rattle.sc_emit.proofs.Common.{word_at, word_of, zero, ℕ, ℤ, ⊎_elim, ◌%◌, ◌&&◌, ◌*◌, ◌++◌, ◌+◌, ◌==◌, ◌∙◌, ◌∷◌, ◌≡◌}
 use Rattle.sc_emit.proofs.Common.{◌≤◌}
-use Rattle.sc_select.specs.Prelude.{Piece as Code}
-use Rattle.sc_hart.proofs.Steps.{then_go, branch_taken, branch_not_taken}
+use Rattle.sc_emit_select.specs.Prelude.{Piece as Code}
+use Rattle.sc_emit_hart.proofs.Steps.{then_go, branch_taken, branch_not_taken}
 use Rattle.sc_tac.specs.declared.stmt.TacStmt.TheOpen as tac
-use Rattle.sc_relation.proofs.Straight.{moves_on}
+use Rattle.sc_emit_relation.proofs.Straight.{moves_on}
 use Rattle.sc_emit.proofs.Operands.{ArePlaced, AtHand, first_is, brings, world}
 use Rattle.sc_emit.proofs.Straight.{read_goes, with_kind}
 

@@ -12,7 +12,7 @@ use Rattle.sc_emit.proofs.Common.{slice_get, sp, stays, straightly, subst, sym, 
 use Rattle.sc_emit.proofs.Common.{wanted_less, with_temp, word_of_constant, wrapping, ℕ, ◌&&◌, ◌*◌, ◌++◌, ◌+◌, ◌==◌}
 use Rattle.sc_emit.proofs.Common.{◌||◌, ◌∙◌, ◌∷◌, ◌≡◌}
 use Rattle.sc_tac.specs.declared.stmt.TacStmt.TheOpen as tac
-use Rattle.sc_pieces.proofs.ShortForms.{gives_short}
+use Rattle.sc_emit_hart.proofs.ShortForms.{gives_short}
 use Rattle.sc_emit.proofs.Operands.{ArePlaced, AtHand, Gives, brings, first_is, keeps, world}
 use Rattle.sc_emit.proofs.Pairs.{again, fewer_clear}
 use Rattle.sc_emit.proofs.Plain.{IsResult, IsWordConstant, constant_stands, result_is}

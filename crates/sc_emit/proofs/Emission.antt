@@ -13,7 +13,7 @@ use Rattle.sc_emit.proofs.Common.{◌++◌, ◌+◌, ◌<◌, ◌∙◌, ◌∷�
 use Rattle.sc_tac.specs.Prelude.{everywhere}
 use Rattle.sc_emit.proofs.Needed.{all_among}
 use Rattle.std.proofs.lemmas.List.FromFn.{length-range_with_len}
-use Rattle.sc_relation.proofs.Linking.{linked_is}
+use Rattle.sc_emit_relation.proofs.Linking.{linked_is}
 use Rattle.sc_emit.proofs.Branches.{few_branches, known_jumps, no_ebreak}
 use Rattle.sc_emit.proofs.Functions.{in_call, BodyFollows, code_follows}
 use Rattle.sc_emit.proofs.Operands.{ArePlaced}

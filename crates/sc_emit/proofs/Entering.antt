@@ -18,7 +18,7 @@ use Rattle.sc_image.specs.Prelude.{Goes}
 use Rattle.sc_base.specs.declared.stop.TrapReason.TheVariants.{Owner}
 use Rattle.sc_image.proofs.Memory.{few_globals}
 use Rattle.sc_image.proofs.Running.{steps_by_instruction}
-use Rattle.sc_hart.proofs.Words.{word_same, word_apart}
+use Rattle.sc_emit_hart.proofs.Words.{word_same, word_apart}
 
 -- Arguments, each into its variable.
 

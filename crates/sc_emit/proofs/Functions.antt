@@ -18,9 +18,9 @@ use Rattle.sc_emit.proofs.Common.{seen_from, select_all, emits_after, emits_here
 use Rattle.sc_emit.proofs.Common.{subst, suc, sym, then_goes, trail, true, word_at, wrapping, zero, ℕ, ⊎_elim, ◌*◌}
 use Rattle.sc_emit.proofs.Common.{◌++◌, ◌+◌, ◌-◌, ◌<◌, ◌==◌, ◌∙◌, ◌∷◌, ◌≡◌, ◌≤◌, ◌⊎◌}
 use Rattle.sc_tac.specs.Prelude.{nothing}
-use Rattle.sc_select.specs.Prelude.{Piece as Code}
+use Rattle.sc_emit_select.specs.Prelude.{Piece as Code}
 use Rattle.std.proofs.Common.{take}
-use Rattle.sc_laws.proofs.Matching.{denotations_go}
+use Rattle.sc_core_laws.proofs.Matching.{denotations_go}
 use Rattle.sc_tac.specs.declared.program.TacTree.{TacTree}
 use Rattle.sc_tac.proofs.Clear.{places_are_clear}
 use Rattle.sc_tac.proofs.Matching.{code_obeys}

@@ -22,7 +22,7 @@ use Rattle.sc_emit.proofs.Common.{stmt_does, stmt_induction, store, stored, subs
 use Rattle.sc_emit.proofs.Common.{then_from, trail, trail_step, true, turn, with_memory, with_temp, word_at, word_of}
 use Rattle.sc_emit.proofs.Common.{wrapping, zero, ℕ, ℤ, ⊎_elim, ◌*◌, ◌++◌, ◌+◌, ◌<◌, ◌==◌, ◌∙◌, ◌∷◌, ◌≡◌, ◌≤◌}
 use Rattle.sc_core.specs.Prelude.{in_order as one_by_one, take as take_route}
-use Rattle.sc_select.specs.Prelude.{Piece as Code}
+use Rattle.sc_emit_select.specs.Prelude.{Piece as Code}
 use Rattle.sc_tac.specs.declared.stmt.TacStmt.TheOpen as tac
 use Rattle.std.proofs.Math.Path.{fun_ext}
 use Rattle.sc_emit.proofs.Choices.{Branches, branch_goes, branch_moves, branch_passes, held}

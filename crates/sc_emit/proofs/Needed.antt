@@ -8,7 +8,7 @@ use Rattle.sc_emit.proofs.Common.{role_to_next, role_of_store, roll-TacStmt, row
 use Rattle.sc_emit.proofs.Common.{stmt_induction, store_role, subst, sym, test_stmt, true, turning_role, ℕ, ⊎_elim}
 use Rattle.sc_emit.proofs.Common.{◌&&◌, ◌++◌, ◌==◌, ◌||◌, ◌∙◌, ◌∷◌, ◌≡◌, ◌⊎◌}
 use Rattle.sc_tac.specs.declared.stmt.TacStmt.TheOpen as tac
-use Rattle.sc_select.specs.declared.roles.Role.TheVariants.{Returns, Stores}
+use Rattle.sc_emit_select.specs.declared.roles.Role.TheVariants.{Returns, Stores}
 
 -- LISTS
 pub one_of_all : (p : ℕ → Bool) (xs : List ℕ) (t : ℕ) → list_all p xs ≡ true → is_one t xs ≡ true → p t ≡ true

@@ -15,9 +15,9 @@ use Rattle.sc_emit.proofs.Common.{emits_here, slice_get, sp, stays, store, store
 use Rattle.sc_emit.proofs.Common.{sym, take, takes_two, trail_step, true, with_memory, with_temp, word, word_of}
 use Rattle.sc_emit.proofs.Common.{wrapping, ℕ, ⊎_elim, ◌&&◌, ◌*◌, ◌++◌, ◌+◌, ◌==◌, ◌∙◌, ◌∷◌, ◌≡◌}
 use Rattle.rv_code.specs.declared.instr.LoadOp.TheVariants.{Lw}
-use Rattle.sc_pieces.proofs.Rows.{stores as stores_to, loads as loads_from}
+use Rattle.sc_emit_hart.proofs.Rows.{stores as stores_to, loads as loads_from}
 use Rattle.sc_tac.specs.declared.stmt.TacStmt.TheOpen as tac
-use Rattle.sc_pieces.proofs.Operators.{gives_word}
+use Rattle.sc_emit_hart.proofs.Operators.{gives_word}
 use Rattle.sc_emit.proofs.Operands.{ArePlaced, AtHand, Gives, first_is, second_is, brings, keeps, world}
 use Rattle.sc_emit.proofs.Plain.{IsResult, result_is}
 use Rattle.sc_emit.proofs.Straight.{comes_past, read_goes, computed_goes, straight_follows, with_role}

@@ -9,8 +9,8 @@ use Rattle.sc_emit.proofs.Common.{live_at, operated, read, refl, row, same_Some,
 use Rattle.sc_emit.proofs.Common.{subst, sym, then_then, trail_step, true, with_temp, word_of_constant, wrapping, ℕ}
 use Rattle.sc_emit.proofs.Common.{◌+◌, ◌==◌, ◌∙◌, ◌∷◌, ◌≡◌}
 use Rattle.sc_core.specs.Prelude.{in_order as one_by_one, take as taken_by}
-use Rattle.sc_select.specs.Prelude.{Piece as Code}
-use Rattle.sc_laws.proofs.Order.{follow_assoc}
+use Rattle.sc_emit_select.specs.Prelude.{Piece as Code}
+use Rattle.sc_core_laws.proofs.Order.{follow_assoc}
 use Rattle.sc_tac.specs.declared.stmt.TacStmt.TheOpen as tac
 use Rattle.sc_emit.proofs.Constants.{applies, applies_goes, gives, left_is, left_live, right_is, set, short_into}
 use Rattle.sc_emit.proofs.Operands.{ArePlaced, Gives}

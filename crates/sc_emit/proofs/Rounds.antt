@@ -17,7 +17,7 @@ use Rattle.sc_emit.proofs.Common.{select, select_all, select_step, short_form, s
 use Rattle.sc_emit.proofs.Common.{stmt_induction, stmt_loops, stores_it, straight as lines_of, straightly, subst, suc}
 use Rattle.sc_emit.proofs.Common.{sum_by-append, sym, take, test_stmt, true, turning_by, turning_role, which_pair}
 use Rattle.sc_emit.proofs.Common.{word_of_constant, zero, ℕ, ⊎_elim, ◌&&◌, ◌*◌, ◌++◌, ◌+◌, ◌==◌, ◌∙◌, ◌∷◌, ◌≡◌, ◌≤◌}
-use Rattle.sc_select.specs.Prelude.{Piece}
+use Rattle.sc_emit_select.specs.Prelude.{Piece}
 use Rattle.sc_emit.specs.Layout.{GoesAround, HasRounds, HaveCode, LeadOn, LeadsOver, branching, empty, leads_on}
 use Rattle.sc_emit.specs.Layout.{loopless, repeating}
 unfoldable use Rattle.sc_tac.specs.declared.stmt.TacStmt.{roll-TacStmt}

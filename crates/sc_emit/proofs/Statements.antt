@@ -21,7 +21,7 @@ use Rattle.sc_emit.proofs.Common.{test_stmt, third_is_last, trail, trail_step, t
 use Rattle.sc_emit.proofs.Common.{word_of_constant, wrapping, ℕ, ⊎_elim, ◌&&◌, ◌++◌, ◌+◌, ◌<◌, ◌==◌, ◌^◌, ◌||◌, ◌∙◌}
 use Rattle.sc_emit.proofs.Common.{◌∷◌, ◌≡◌, ◌≤◌}
 use Rattle.sc_core.specs.Prelude.{in_order as one_by_one}
-use Rattle.sc_select.specs.Prelude.{Piece as Code}
+use Rattle.sc_emit_select.specs.Prelude.{Piece as Code}
 use Rattle.sc_emit.proofs.Needed.{all_append, gives_to_next, gives_of, head_needs, need_gives, store_unjoined}
 use Rattle.sc_emit.proofs.Stored.{assigns, assigns_follow, both_parts}
 use Rattle.sc_emit.proofs.Constants.{applies, both_steps, short_follows}
@@ -29,9 +29,9 @@ use Rattle.std.specs.Bool.{beq}
 use Rattle.sc_tac.specs.declared.stmt.Constant.TheVariants as constant
 use Rattle.sc_tac.specs.declared.stmt.TacOp.TheVariants as tacop
 use Rattle.sc_tac.specs.declared.stmt.TacStmt.TheOpen as tac
-use Rattle.sc_select.specs.declared.roles.Role.TheVariants.{Returns}
-use Rattle.sc_relation.proofs.Loops.{loop_follows}
-use Rattle.sc_relation.proofs.Rows.{nothing_follows, row_follows}
+use Rattle.sc_emit_select.specs.declared.roles.Role.TheVariants.{Returns}
+use Rattle.sc_emit_relation.proofs.Loops.{loop_follows}
+use Rattle.sc_emit_relation.proofs.Rows.{nothing_follows, row_follows}
 use Rattle.sc_emit.proofs.Calls.{Answers, HasPlace, call_own_follows, call_cross_follows}
 use Rattle.sc_emit.proofs.Choices.{fork_follows}
 use Rattle.sc_emit.proofs.Environment.{input_follows, output_follows}

@@ -5,7 +5,7 @@ use Rattle.sc_emit.proofs.Common.{Ready, Result, Role, Running, Setting, State a
 use Rattle.sc_emit.proofs.Common.{and_then, ap, arith, completed, computed, ends_of, followed, inl, known, length}
 use Rattle.sc_emit.proofs.Common.{length-map, live_at, low_after, low_plainly, nothing as no_lines, plain, plainly}
 use Rattle.sc_emit.proofs.Common.{plainly_at, read, refl, same, straight, straightly, subst, sym, ℕ, ◌*◌, ◌+◌, ◌≡◌, ◌≤◌}
-use Rattle.sc_select.specs.Prelude.{Piece as Code}
+use Rattle.sc_emit_select.specs.Prelude.{Piece as Code}
 
 -- what is computed only goes on
 pub computed_goes : {V W : Type 0} (here : Here) (result : Result V Cause) (go : V → Meant → Piece W) →

@@ -10,7 +10,7 @@ use Rattle.sc_emit.proofs.Common.{return, select, select_all, select_step, short
 use Rattle.sc_emit.proofs.Common.{sp, stmt_induction, store_to, straight, subst, suc, sym, true, turning_by, with_parts}
 use Rattle.sc_emit.proofs.Common.{word_of_constant, ℕ, ◌&&◌, ◌++◌, ◌∙◌, ◌∷◌, ◌≡◌}
 use Rattle.sc_tac.specs.Prelude.{everywhere}
-use Rattle.sc_select.specs.Prelude.{Piece}
+use Rattle.sc_emit_select.specs.Prelude.{Piece}
 use Rattle.sc_tac.specs.declared.machine_code.Relocation.{Relocation}
 use Rattle.sc_tac.specs.declared.machine_code.Target.{Target}
 unfoldable use Rattle.sc_tac.specs.declared.stmt.TacStmt.{roll-TacStmt}

@@ -4,5 +4,5 @@ pub use Rattle.rv_code.specs.declared.instr.Instr.{Instr}
 pub use Rattle.sc_tac.specs.Prelude.{branches, code_function, entry_weight, everywhere, parts, passes_words, weight}
 pub use Rattle.sc_tac.specs.declared.machine_code.CodeTree.{CodeTree}
 pub use Rattle.sc_tac.specs.declared.stmt.TacStmt.{TacStmt, TacStmt-F, fold-TacStmt}
-pub use Rattle.sc_select.specs.Prelude.{frame_taken, linked, ra, refers_only}
-pub use Rattle.sc_relation.specs.Prelude.{FunctionFollows, IsAddress, Setting}
+pub use Rattle.sc_emit_select.specs.Prelude.{frame_taken, linked, ra, refers_only}
+pub use Rattle.sc_emit_relation.specs.Prelude.{FunctionFollows, IsAddress, Setting}

@@ -2,7 +2,7 @@
 use Rattle.sc_emit.specs.Common.{CodeTree, IsPrefix, FunctionFollows, Setting, branches, code_function, entry_weight}
 use Rattle.sc_emit.specs.Common.{everywhere, frame_taken, linked, passes_words, refers_only, weight, wrapping}
 use Rattle.sc_image.specs.Prelude.{IsWellFormed, IsWord}
-use Rattle.sc_hart.specs.Prelude.{CodeAt}
+use Rattle.sc_emit_hart.specs.Prelude.{CodeAt}
 use Rattle.std.specs.Prelude.{ℕ, ◌+◌, ◌*◌, ◌<◌, ◌≤◌, Bool, length, All, IsTrue}
 use Rattle.sc_tac.specs.declared.frame.FrameTree.{FrameTree}
 use Rattle.sc_tac.specs.declared.function.TacFnTree.{TacFnTree}

@@ -3,7 +3,7 @@
 
 ghost use Rattle.sc_emit.specs.Prelude.{IsEmitted};
 ghost use Rattle.sc_tac.specs.Prelude.{FrameFits, IsAssignment, intervals_of};
-ghost use Rattle.sc_select.specs.Prelude.{code_of};
+ghost use Rattle.sc_emit_select.specs.Prelude.{code_of};
 ghost use Rattle.std.specs.Prelude.{◌≡◌, ◌≤◌, ◌*◌, IfOk};
 
 use sc_base::OutOfMemory;
@@ -23,5 +23,5 @@ pub fn emit(alloc: Global, f: &TacFn, places: &Places, frame: &Frame) -> Result<
     let _function = f.tree();
     let _places = places.as_slice();
     let _frame = frame.tree();
-    sc_select::select(alloc, f, places, frame)
+    sc_emit_select::select(alloc, f, places, frame)
 }

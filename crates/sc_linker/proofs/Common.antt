@@ -40,7 +40,7 @@ pub use Rattle.sc_core.specs.Prelude.{words_fit, zeros_of}
 pub use Rattle.sc_core.specs.declared.section.TypedMember.{TypedMember}
 pub use Rattle.sc_core.specs.declared.ty.BaseTy.{BaseTy}
 pub use Rattle.sc_core.specs.declared.ty.Ty.{Ty}
-pub use Rattle.sc_kinds.proofs.Sections.{all_at, any_along, first_of, found_passes, main_so, sections_so}
+pub use Rattle.sc_core_kind_laws.proofs.Sections.{all_at, any_along, first_of, found_passes, main_so, sections_so}
 pub use Rattle.rv_code.proofs.OneEach.{HasWord-own, decoded-word_of, word-below}
 pub use Rattle.rv_code.specs.Prelude.{IsImmediate, IsInstr, IsJumpOffset, IsUpper, word_of}
 pub use Rattle.sc_store.specs.Prelude.{byte_of, load_of}
@@ -55,8 +55,8 @@ pub use Rattle.sc_image.specs.declared.parts.ImportPart.{ImportPart}
 pub use Rattle.sc_tac.specs.declared.machine_code.Relocation.{Relocation}
 pub use Rattle.sc_tac.specs.declared.machine_code.Target.{Target}
 pub use Rattle.sc_tac.specs.declared.machine_code.Target.TheVariants.{Entry, Function, Global}
-pub use Rattle.sc_select.specs.Prelude.{Addresses, is_named, linked, linked_from, low_of_target, lower_part}
-pub use Rattle.sc_select.specs.Prelude.{relocations_after, target_at, upper_part, with_low, with_target}
+pub use Rattle.sc_emit_select.specs.Prelude.{Addresses, is_named, linked, linked_from, low_of_target, lower_part}
+pub use Rattle.sc_emit_select.specs.Prelude.{relocations_after, target_at, upper_part, with_low, with_target}
 pub use Rattle.sc_linker.specs.Common.{Cell, Export, ImageParts, Instr, Interface, Jal, Main, ProgramTree, TypedGlobal}
 pub use Rattle.sc_linker.specs.Common.{TypedSection, TypedStruct, Upper}
 pub use Rattle.sc_linker.specs.Prelude.{GlobalsAreWords, AreKnown, AreNamed, CanBeLinked, CodeTree, EntriesStand}

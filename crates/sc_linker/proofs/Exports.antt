@@ -9,7 +9,7 @@ use Rattle.sc_linker.proofs.Common.{place_named, proto_signature, refl, same_sig
 use Rattle.sc_linker.proofs.Common.{section_fits, signature_of, slice_get, slice_get_within, structs_fit, suc, sym}
 use Rattle.sc_linker.proofs.Common.{true, zero, ℕ, ◌&&◌, ◌++◌, ◌+◌, ◌<◌, ◌∙◌, ◌∷◌, ◌≡◌, ◌≤◌}
 use Rattle.sc_core.specs.declared.section.TypedParam.{TypedParam}
-use Rattle.sc_kinds.proofs.Values.{types_length}
+use Rattle.sc_core_kind_laws.proofs.Values.{types_length}
 
 abbrev pub name_of : Proto → List ℕ
 name_of proto = proto.name

@@ -17,4 +17,4 @@ pub use Rattle.sc_image.specs.Prelude.{IsWellFormed, code_start, has_result, may
 pub use Rattle.sc_image.specs.Prelude.{most_globals, params_of, stack_top, start_memory, stretch, word_at}
 pub use Rattle.sc_image.specs.declared.parts.ImageParts.{ImageParts}
 pub use Rattle.sc_tac.specs.declared.machine_code.CodeTree.{CodeTree}
-pub use Rattle.sc_select.specs.Prelude.{Addresses, is_named, linked, refers_only, upper_part}
+pub use Rattle.sc_emit_select.specs.Prelude.{Addresses, is_named, linked, refers_only, upper_part}

@@ -2,14 +2,14 @@
 
 ghost use Rattle.sc_linker.specs.Prelude.{AreKnown, Fits, IsCodeAddress, IsInstr, IsJumpOffset, IsKnown};
 ghost use Rattle.sc_linker.specs.Prelude.{addresses_of, with_jump, with_upper, word_of};
-ghost use Rattle.sc_select.specs.Prelude.{Addresses, linked, low_of_target, relocations_after, target_at, upper_part};
-ghost use Rattle.sc_select.specs.Prelude.{with_low, with_target};
+ghost use Rattle.sc_emit_select.specs.Prelude.{Addresses, linked, low_of_target, relocations_after, target_at, upper_part};
+ghost use Rattle.sc_emit_select.specs.Prelude.{with_low, with_target};
 ghost use Rattle.std.specs.Prelude.{◌≡◌, ◌≤◌, ◌++◌, drop, pos, ◌-ℤ◌, All, IfSome, Some, OnOk, length, map};
 
 use crate::layout::{SectionLayout, entry_address};
 use rv_code::{Instr, JumpOffset, encode};
 use sc_base::{OutOfMemory, Words};
-use sc_select::{lower_part, upper_part};
+use sc_emit_select::{lower_part, upper_part};
 use sc_tac::{CodeTree, Relocation, Target};
 
 /// How far a jump at an address leads to another.

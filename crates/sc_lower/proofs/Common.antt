@@ -79,17 +79,17 @@ pub use Rattle.sc_core.specs.declared.ty.BaseTy.{BaseTy}
 pub use Rattle.sc_core.specs.declared.value.Value.{Value}
 pub use Rattle.sc_core.specs.declared.value.Value.TheVariants.{Null, Ptr, Word}
 pub use Rattle.sc_core.specs.declared.value.Want.{Want}
-pub use Rattle.sc_laws.proofs.Agreement.{calls_agree, itself, own_agree, performs_agree, run_agree, then_agree}
-pub use Rattle.sc_laws.specs.Prelude.{BodiesAgree, CallsAgree, FunctionsAgree, DenotationsAgree, Meets, PiecesAgree}
-pub use Rattle.sc_laws.specs.Prelude.{RunsAgree, piece_without_line, without_line}
-pub use Rattle.sc_kinds.proofs.Bodies.{Signed, signed}
-pub use Rattle.sc_kinds.proofs.Results.{After, following, function_imported, input_imported, output_imported}
-pub use Rattle.sc_kinds.proofs.Results.{reached_good}
-pub use Rattle.sc_kinds.proofs.Sections.{ForSection, Placed, all_at, any_along, for_interface, for_section}
-pub use Rattle.sc_kinds.proofs.Sections.{found_passes, index_map, main_so, mains_so, name_of, named_so}
-pub use Rattle.sc_kinds.proofs.Sections.{own_names_differ, sections_so}
-pub use Rattle.sc_kinds.proofs.Values.{address_fits, either, int_fits, integer_kind, sound, types_length}
-pub use Rattle.sc_kinds.specs.Kinds.{is_of}
+pub use Rattle.sc_core_laws.proofs.Agreement.{calls_agree, itself, own_agree, performs_agree, run_agree, then_agree}
+pub use Rattle.sc_core_laws.specs.Prelude.{BodiesAgree, CallsAgree, FunctionsAgree, DenotationsAgree, Meets, PiecesAgree}
+pub use Rattle.sc_core_laws.specs.Prelude.{RunsAgree, piece_without_line, without_line}
+pub use Rattle.sc_core_kind_laws.proofs.Bodies.{Signed, signed}
+pub use Rattle.sc_core_kind_laws.proofs.Results.{After, following, function_imported, input_imported, output_imported}
+pub use Rattle.sc_core_kind_laws.proofs.Results.{reached_good}
+pub use Rattle.sc_core_kind_laws.proofs.Sections.{ForSection, Placed, all_at, any_along, for_interface, for_section}
+pub use Rattle.sc_core_kind_laws.proofs.Sections.{found_passes, index_map, main_so, mains_so, name_of, named_so}
+pub use Rattle.sc_core_kind_laws.proofs.Sections.{own_names_differ, sections_so}
+pub use Rattle.sc_core_kind_laws.proofs.Values.{address_fits, either, int_fits, integer_kind, sound, types_length}
+pub use Rattle.sc_core_kind_laws.specs.Kinds.{is_of}
 pub use Rattle.sc_tac.proofs.Runs.{across_interfaces, fetched, give, int_op, output, word}
 pub use Rattle.sc_tac.proofs.Shapes.{Cycle, Done, Fork, Line, rows, rows_are}
 pub use Rattle.sc_tac.specs.Prelude.{Ahead, Codes, IsFunction, IsProgram, Reading, Temps, all_assigned_first}

@@ -7,7 +7,7 @@ use Rattle.sc_lower.proofs.Common.{if◌then◌else◌, in_order, known, leave, 
 use Rattle.sc_lower.proofs.Common.{roll-TacStmt, stmt_does, subst, sym, take, true, with_temp, ℕ, ◌++◌, ◌<◌, ◌∙◌, ◌∷◌}
 use Rattle.sc_lower.proofs.Common.{◌≡◌, ◌≤◌}
 use Rattle.std.proofs.lemmas.Grind.{common_steps}
-use Rattle.sc_laws.proofs.Order.{follow_assoc}
+use Rattle.sc_core_laws.proofs.Order.{follow_assoc}
 
 abbrev pub Keeps : ℕ → Temps → Temps → Type 0
 Keeps n t u = (i : ℕ) → i < n → u i ≡ t i

@@ -28,7 +28,7 @@ use Rattle.sc_event.specs.declared.interface.Scalar.TheVariants as scalar
 use Rattle.sc_core.specs.declared.expr.CallTarget.TheVariants as target
 use Rattle.sc_core.specs.declared.ty.BaseTy.TheVariants as base
 use Rattle.sc_core.specs.declared.ty.Ty.TheVariants as ty
-use Rattle.sc_kinds.proofs.Sections.{first_of}
+use Rattle.sc_core_kind_laws.proofs.Sections.{first_of}
 use Rattle.sc_lower.proofs.Beyond.{function_near, locals_few}
 use Rattle.sc_lower.proofs.Elements.{points_to_elements}
 use Rattle.sc_lower.proofs.Flowing.{all_assigned}

@@ -22,7 +22,7 @@ use Rattle.sc_tac.specs.Prelude.{first_blocks as code_blocks}
 use Rattle.sc_event.specs.declared.event.Event.{Event}
 use Rattle.sc_event.specs.declared.interface.Import.TheVariants as import
 use Rattle.sc_core.specs.declared.ty.Ty.TheVariants as ty
-use Rattle.sc_kinds.proofs.Pieces.{Lasting}
+use Rattle.sc_core_kind_laws.proofs.Pieces.{Lasting}
 use Rattle.sc_lower.proofs.Entries.{first_at, main_is, entered_same}
 use Rattle.sc_lower.proofs.Hollow.{shell, hollow, calls_alike, own_alike, performs_alike}
 use Rattle.sc_lower.proofs.Matching.{answers, some_answers, BackMatches, back_from, back_agrees, back_answers}

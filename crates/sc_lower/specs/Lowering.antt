@@ -3,7 +3,7 @@ use Rattle.sc_lower.specs.Common.{Arith, Entry, IsFunction, IsProgram, IsWellTyp
 use Rattle.sc_lower.specs.Common.{TypedSection, code_depth_by, code_denotations, code_run, depth_by, denotations_of, run_of}
 use Rattle.sc_lower.specs.Common.{run_step, scripted_code_depth_by, scripted_code_run, scripted_depth_by}
 use Rattle.sc_lower.specs.Common.{scripted_run_of, scripted_step, within}
-use Rattle.sc_laws.specs.Prelude.{BodiesAgree, RunsAgree}
+use Rattle.sc_core_laws.specs.Prelude.{BodiesAgree, RunsAgree}
 use Rattle.std.specs.Prelude.{◌≡◌, ℕ, Bool, List, Some, slice_get}
 use Rattle.sc_event.specs.declared.event.Event.{Event}
 use Rattle.sc_lower.specs.Programs.{lowered_function, lowered_program}

@@ -11,9 +11,9 @@ use Rattle.sc_parse.proofs.Common.{type_name, type_name_at, type_of, unsigned, u
 use Rattle.sc_parse.proofs.Common.{◌∙◌, ◌∷◌, ◌≡◌}
 use Rattle.sc_parse.specs.Types.{struct, none}
 use Rattle.sc_ast.specs.declared.types.BaseTree.TheVariants as base
-use Rattle.sc_expr.specs.declared.mark.Keyword.TheVariants as word
-use Rattle.sc_expr.specs.declared.mark.Mark.TheVariants as mark
-use Rattle.sc_expr.specs.declared.lexeme.Symbol.TheVariants as symbol
+use Rattle.sc_parse_expr.specs.declared.mark.Keyword.TheVariants as word
+use Rattle.sc_parse_expr.specs.declared.mark.Mark.TheVariants as mark
+use Rattle.sc_parse_expr.specs.declared.lexeme.Symbol.TheVariants as symbol
 use Rattle.sc_parse.proofs.Exact.{Any, Complete, Exact, Sound, Taken, given, same_pair, took, word_ahead}
 
 is_int_word : (o : Option Keyword) → is_int o ≡ true → o ≡ Some word.Int

@@ -13,14 +13,14 @@ use Rattle.sc_parse.proofs.Common.{signed_int, star, struct, struct_decl_at, sub
 use Rattle.sc_parse.proofs.Common.{unsigned_int, ℕ, ◌++◌, ◌+◌, ◌<◌, ◌∙◌, ◌∷◌, ◌≡◌}
 use Rattle.sc_ast.specs.declared.section.GlobalTree.{GlobalTree}
 use Rattle.sc_parse.proofs.Bases.{base_start, NoInt, stars_no_int, stars_count}
-use Rattle.sc_expr.specs.declared.mark.Mark.TheVariants as mark
+use Rattle.sc_parse_expr.specs.declared.mark.Mark.TheVariants as mark
 use Rattle.sc_parse.specs.Lists as lists
 use Rattle.sc_parse.specs.Types as types
 use Rattle.sc_parse.specs.Declarations.{one}
 use Rattle.sc_parse.proofs.Declared.{declarator_no_int, valued, struct_sound, IsGlobalDecl, globals_exact}
 use Rattle.sc_parse.proofs.Declared.{declares_some, struct_complete}
 use Rattle.sc_ast.specs.declared.section.Decl.TheVariants as decl
-use Rattle.sc_expr.specs.declared.mark.Keyword.TheVariants as word
+use Rattle.sc_parse_expr.specs.declared.mark.Keyword.TheVariants as word
 use Rattle.sc_parse.proofs.Exact.{Adds, Any, Complete, Exact, ExactAdder, Form, Low, Sound, Taken, Then, Turns, adding}
 use Rattle.sc_parse.proofs.Exact.{as_form, both, chosen, fitting, given, grouped_exact, then_exact, took}
 use Rattle.sc_parse.proofs.Prototypes.{head_exact}

@@ -13,7 +13,7 @@ use Rattle.sc_parse.proofs.Exact.{fits_after, formed_exact, from_none, first_tak
 use Rattle.sc_parse.proofs.Exact.{groups_joined, groups_turned, items_apart, items_joined, items_turned, made}
 use Rattle.sc_parse.proofs.Exact.{made_exact, took}
 use Rattle.sc_parse.proofs.Parts.{kind_starts}
-use Rattle.sc_expr.specs.declared.mark.Mark.TheVariants as mark
+use Rattle.sc_parse_expr.specs.declared.mark.Mark.TheVariants as mark
 use Rattle.sc_parse.specs.Statements as statements
 use Rattle.sc_parse.proofs.Declared.{Valued, declaration_exact, valued, valued_exact, valued_no_int, declares_some}
 use Rattle.sc_parse.proofs.Expressions.{Few, IsExpr, NoExtension, expr_exact, few}

@@ -21,16 +21,16 @@ pub use Rattle.sc_ast.specs.Prelude.{exprs_height, has_nameless, head_of, highes
 pub use Rattle.sc_ast.specs.Prelude.{kind_of, local_height, locals_height, non_empty, option_height, param_of}
 pub use Rattle.sc_ast.specs.Prelude.{section_height, simple_kind_height, stmts_height}
 pub use Rattle.sc_ast.specs.declared.section.FunctionParam.{FunctionParam}
-pub use Rattle.sc_expr.proofs.Ahead.{first_mark, bound, cond_is, glued, name_ahead, same_some}
-pub use Rattle.sc_expr.proofs.Balance.{open_along, open_low}
-pub use Rattle.sc_expr.proofs.Sound.{read_sound}
-pub use Rattle.sc_expr.specs.Prelude.{IsIdent, IsMark, Spells, arrow, following, binary_of, extension_at, found, ident_in}
-pub use Rattle.sc_expr.specs.Prelude.{import_of, index, is_mark, joined, lead_by, lexeme_of, literal, look_up, looser}
-pub use Rattle.sc_expr.specs.Prelude.{mark_texts, member, most_open, name_at, number_in, open_after, open_after_mark}
-pub use Rattle.sc_expr.specs.Prelude.{or_unused, parenthesised, prefix, prefix_of, prefixed, read, symbol_of}
-pub use Rattle.sc_expr.specs.Prelude.{third_word, variable, ◌>>=◌}
-unfoldable pub use Rattle.sc_expr.specs.Prelude.{mark_of, says}
-pub use Rattle.sc_expr.specs.declared.operator.Prefix.{Prefix}
+pub use Rattle.sc_parse_expr.proofs.Ahead.{first_mark, bound, cond_is, glued, name_ahead, same_some}
+pub use Rattle.sc_parse_expr.proofs.Balance.{open_along, open_low}
+pub use Rattle.sc_parse_expr.proofs.Sound.{read_sound}
+pub use Rattle.sc_parse_expr.specs.Prelude.{IsIdent, IsMark, Spells, arrow, following, binary_of, extension_at, found, ident_in}
+pub use Rattle.sc_parse_expr.specs.Prelude.{import_of, index, is_mark, joined, lead_by, lexeme_of, literal, look_up, looser}
+pub use Rattle.sc_parse_expr.specs.Prelude.{mark_texts, member, most_open, name_at, number_in, open_after, open_after_mark}
+pub use Rattle.sc_parse_expr.specs.Prelude.{or_unused, parenthesised, prefix, prefix_of, prefixed, read, symbol_of}
+pub use Rattle.sc_parse_expr.specs.Prelude.{third_word, variable, ◌>>=◌}
+unfoldable pub use Rattle.sc_parse_expr.specs.Prelude.{mark_of, says}
+pub use Rattle.sc_parse_expr.specs.declared.operator.Prefix.{Prefix}
 pub use Rattle.sc_parse.specs.Common.{BaseTree, BinaryOp, CallTree, ConstTree, Decl, Declarator, ExportLine, ExprTree}
 pub use Rattle.sc_parse.specs.Common.{FunctionHead, FunctionTree, HeadTree, ImportLine, InitTree, Keyword, Lexeme}
 pub use Rattle.sc_parse.specs.Common.{LocalTree, Mark, MemberTree, ParamTree, SimpleKind, SimpleTree, StmtKind}

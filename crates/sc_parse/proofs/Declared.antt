@@ -18,8 +18,8 @@ use Rattle.sc_parse.proofs.Exact.{adding, any, before, before_exact, both, comma
 use Rattle.sc_parse.proofs.Exact.{AfterWord, Between, IsName, Sound, Taken, a_name, after_mark, after_word, between_exact}
 use Rattle.sc_parse.proofs.Exact.{chosen, from_none, given, grouped_exact, name_exact, same_pair, separated_exact}
 use Rattle.sc_parse.proofs.Exact.{word_taken}
-use Rattle.sc_expr.specs.declared.mark.Mark.TheVariants as mark
-use Rattle.sc_expr.specs.declared.mark.Keyword.TheVariants as word
+use Rattle.sc_parse_expr.specs.declared.mark.Mark.TheVariants as mark
+use Rattle.sc_parse_expr.specs.declared.mark.Keyword.TheVariants as word
 use Rattle.sc_parse.specs.Lists as lists
 use Rattle.sc_parse.specs.Declarations.{plain, one}
 use Rattle.sc_ast.specs.declared.section.InitTree.TheVariants as init

@@ -4,7 +4,7 @@ use Rattle.sc_parse.proofs.Common.{Symbol, [], ap, append-nil, append_assoc, ari
 use Rattle.sc_parse.proofs.Common.{export_line, import_line, length, line_at, line_by, lines_at, none-some, refl}
 use Rattle.sc_parse.proofs.Common.{same_some, subst, suc, sym, with_line, zero, ℕ, ◌++◌, ◌<◌, ◌∙◌, ◌∷◌, ◌≡◌}
 use Rattle.sc_parse.proofs.Exact.{given, same_pair}
-use Rattle.sc_expr.specs.declared.lexeme.Symbol.TheVariants as symbol
+use Rattle.sc_parse_expr.specs.declared.lexeme.Symbol.TheVariants as symbol
 use Rattle.sc_parse.specs.declared.section.Line.TheVariants as line
 use Rattle.sc_parse.specs.Sections.{none}
 use Rattle.sc_parse.specs.Sections as sections

@@ -6,9 +6,9 @@ use Rattle.sc_parse.proofs.Common.{false, glued, grouped, highest, is_mark, keyw
 use Rattle.sc_parse.proofs.Common.{length-append, map, max, more, name_ahead, name_at, next, none, none-some, one}
 use Rattle.sc_parse.proofs.Common.{option_map_or, refl, same_some, separated, subst, suc, sym, true, zero, ℕ, ◌++◌, ◌+◌}
 use Rattle.sc_parse.proofs.Common.{◌<◌, ◌>>=◌, ◌∙◌, ◌∷◌, ◌≡◌, ◌≤◌}
-use Rattle.sc_expr.specs.declared.mark.Mark.TheVariants as mark
-use Rattle.sc_expr.specs.declared.lexeme.Symbol.TheVariants as symbol
-use Rattle.sc_expr.specs.contracts.mark.Mark.{the_type}
+use Rattle.sc_parse_expr.specs.declared.mark.Mark.TheVariants as mark
+use Rattle.sc_parse_expr.specs.declared.lexeme.Symbol.TheVariants as symbol
+use Rattle.sc_parse_expr.specs.contracts.mark.Mark.{the_type}
 use denote.Enum.Bare.{true_same}
 
 -- what is read at the start, as forms that lexemes have and properties of what follows

@@ -12,9 +12,9 @@ use Rattle.sc_parse.proofs.Exact.{Any, Between, Complete, Exact, Form, Hereditar
 use Rattle.sc_parse.proofs.Exact.{Turns, a_name, after_mark, as_form, before, between_exact, both, chosen, commas_exact}
 use Rattle.sc_parse.proofs.Exact.{formed_exact, from_none, items_apart, items_joined, made, made_exact, name_exact}
 use Rattle.sc_parse.proofs.Exact.{then_exact, took}
-use Rattle.sc_expr.specs.declared.mark.Mark.TheVariants as mark
-use Rattle.sc_expr.specs.declared.lexeme.Symbol.TheVariants as symbol
-use Rattle.sc_expr.proofs.Complete.{reads_all}
+use Rattle.sc_parse_expr.specs.declared.mark.Mark.TheVariants as mark
+use Rattle.sc_parse_expr.specs.declared.lexeme.Symbol.TheVariants as symbol
+use Rattle.sc_parse_expr.proofs.Complete.{reads_all}
 
 -- nowhere more brackets are open than may be
 abbrev pub Few : (free : ℕ) → List Lexeme → Type 0

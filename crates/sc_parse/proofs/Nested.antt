@@ -12,8 +12,8 @@ use Rattle.sc_parse.proofs.Common.{tree_height, true, value_height, after_while,
 use Rattle.sc_parse.proofs.Common.{◌++◌, ◌<◌, ◌∙◌, ◌∷◌, ◌≡◌, ◌≤◌}
 use Rattle.sc_parse.specs.Statements.{plain}
 use Rattle.sc_ast.specs.declared.stmt.StmtKind.TheVariants as stmt
-use Rattle.sc_expr.specs.declared.mark.Keyword.TheVariants as word
-use Rattle.sc_expr.specs.declared.mark.Mark.TheVariants as mark
+use Rattle.sc_parse_expr.specs.declared.mark.Keyword.TheVariants as word
+use Rattle.sc_parse_expr.specs.declared.mark.Mark.TheVariants as mark
 use Rattle.sc_parse.specs.Lists as lists
 use Rattle.sc_parse.specs.Statements as statements
 use Rattle.sc_parse.specs.declared.stmts.ForHead.{ForHead}

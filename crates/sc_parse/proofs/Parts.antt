@@ -13,8 +13,8 @@ use Rattle.sc_parse.proofs.Common.{return_call_height, return_height, return_not
 use Rattle.sc_parse.proofs.Common.{simple_or_none, simple_tree, step_before, step_after, step_of, stmt_tree, sym}
 use Rattle.sc_parse.proofs.Common.{test_at, true, value_height, value_returned, while_loop, ℕ, ◌++◌, ◌-◌, ◌<◌, ◌>>=◌}
 use Rattle.sc_parse.proofs.Common.{◌∙◌, ◌∷◌, ◌≡◌, ◌≤◌}
-use Rattle.sc_expr.specs.declared.mark.Mark.TheVariants as mark
-use Rattle.sc_expr.specs.declared.lexeme.Symbol.TheVariants as symbol
+use Rattle.sc_parse_expr.specs.declared.mark.Mark.TheVariants as mark
+use Rattle.sc_parse_expr.specs.declared.lexeme.Symbol.TheVariants as symbol
 use Rattle.sc_parse.specs.Statements as statements
 use Rattle.sc_parse.proofs.Exact.{Any, Between, Complete, Exact, Form, Low, Property, Turns, after_mark, as_form, before}
 use Rattle.sc_parse.proofs.Exact.{between_exact, chosen, formed_exact, took, Sound, Taken, first_taken, made_exact}
@@ -25,7 +25,7 @@ use Rattle.sc_parse.proofs.Expressions.{few, no_mark, starts_expr, call_exact}
 use Rattle.sc_parse.proofs.Simples.{EndsSimple, simple_exact, one_height}
 use Rattle.sc_parse.specs.Statements.{plain}
 use Rattle.sc_ast.specs.declared.stmt.StmtKind.TheVariants as stmt
-use Rattle.sc_expr.specs.declared.mark.Keyword.TheVariants as word
+use Rattle.sc_parse_expr.specs.declared.mark.Keyword.TheVariants as word
 
 -- a condition that is at most `room` high
 abbrev pub IsCondition : ℕ → Form ExprTree

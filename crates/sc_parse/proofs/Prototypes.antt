@@ -11,8 +11,8 @@ use Rattle.sc_parse.proofs.Declared.{separated_prefix}
 use Rattle.sc_parse.proofs.Exact.{Any, Between, Complete, Exact, ExactAdder, Form, IsName, Made, Property, Sound, Then}
 use Rattle.sc_parse.proofs.Exact.{Turns, a_name, after_mark, any, as_form, before, between_exact, both, chosen, commas_exact}
 use Rattle.sc_parse.proofs.Exact.{from_none, given, made, made_exact, name_exact, then_exact, took, word_ahead}
-use Rattle.sc_expr.specs.declared.mark.Keyword.TheVariants as word
-use Rattle.sc_expr.specs.declared.mark.Mark.TheVariants as mark
+use Rattle.sc_parse_expr.specs.declared.mark.Keyword.TheVariants as word
+use Rattle.sc_parse_expr.specs.declared.mark.Mark.TheVariants as mark
 
 abbrev pub NoName : List Lexeme → Type 0
 NoName rest = name_at rest ≡ None

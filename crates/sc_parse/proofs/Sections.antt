@@ -5,7 +5,7 @@ use Rattle.sc_parse.proofs.Common.{decls_at, decls_height, directives, directive
 use Rattle.sc_parse.proofs.Common.{length-append, max, most_open, none-some, refl, same_some, section, section_at}
 use Rattle.sc_parse.proofs.Common.{section_height, section_tree, section_within, subst, sym, true, ℕ, ◌++◌, ◌+◌, ◌>>=◌}
 use Rattle.sc_parse.proofs.Common.{◌∙◌, ◌∷◌, ◌≡◌, ◌≤◌}
-use Rattle.sc_expr.specs.declared.lexeme.Symbol.TheVariants as symbol
+use Rattle.sc_parse_expr.specs.declared.lexeme.Symbol.TheVariants as symbol
 use Rattle.sc_parse.specs.Lists as lists
 use Rattle.sc_parse.proofs.Exact.{Adds, Form, Low, Turns, adding, fits_after, from_none, grouped_sound, groups_apart}
 use Rattle.sc_parse.proofs.Exact.{groups_joined, same_pair}

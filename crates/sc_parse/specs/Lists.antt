@@ -1,8 +1,8 @@
 -- Lists as they are spelled.
 use Rattle.sc_parse.specs.Common.{IsMark, Keyword, Lexeme, Number}
 use Rattle.std.specs.Prelude.{◌≡◌, ℕ, List, [], ◌∷◌, ◌++◌}
-use Rattle.sc_expr.specs.declared.mark.Mark.TheVariants as mark
-use Rattle.sc_expr.specs.declared.lexeme.Symbol.TheVariants as symbol
+use Rattle.sc_parse_expr.specs.declared.mark.Mark.TheVariants as mark
+use Rattle.sc_parse_expr.specs.declared.lexeme.Symbol.TheVariants as symbol
 
 -- the lexeme is this reserved word
 abbrev pub IsKeyword : Keyword → Lexeme → Type 0

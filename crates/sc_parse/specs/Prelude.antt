@@ -1,8 +1,8 @@
 -- What this crate's contracts, its proofs and the crates above cite, passed on from one place. Declares nothing.
 pub use Rattle.sc_lex.specs.Prelude.{IsCut, IsSpan, line_after}
 pub use Rattle.sc_ast.specs.declared.section.SectionTree.{SectionTree}
-pub use Rattle.sc_expr.specs.Prelude.{Agrees, following, most_open, name_at, open_after, open_after_mark, symbol_of}
-unfoldable pub use Rattle.sc_expr.specs.Prelude.{says}
+pub use Rattle.sc_parse_expr.specs.Prelude.{Agrees, following, most_open, name_at, open_after, open_after_mark, symbol_of}
+unfoldable pub use Rattle.sc_parse_expr.specs.Prelude.{says}
 pub use Rattle.sc_parse.specs.Declarations.{Declares, IsGlobal, IsLocal, IsMember, SpellsConst, SpellsDecl}
 pub use Rattle.sc_parse.specs.Declarations.{SpellsFunction, SpellsHead, SpellsInit, SpellsParam, SpellsParams}
 pub use Rattle.sc_parse.specs.Declarations.{SpellsResult, SpellsStruct, SpellsValue, a_function, a_result, a_struct}

@@ -8,8 +8,8 @@ use Rattle.std.specs.Prelude.{Some, None, if◌then◌else◌}
 use Rattle.std.specs.Option.{option_map_or}
 use Rattle.sc_ast.specs.declared.section.FunctionParam.{FunctionParam}
 use Rattle.sc_ast.specs.declared.section.Decl.TheVariants as decl
-use Rattle.sc_expr.specs.declared.mark.Mark.TheVariants as mark
-use Rattle.sc_expr.specs.declared.lexeme.Symbol.TheVariants as symbol
+use Rattle.sc_parse_expr.specs.declared.mark.Mark.TheVariants as mark
+use Rattle.sc_parse_expr.specs.declared.lexeme.Symbol.TheVariants as symbol
 use Rattle.sc_parse.specs.declared.section.Line.{Line}
 use Rattle.sc_parse.specs.declared.section.Line.TheVariants as line
 use Rattle.sc_parse.specs.declared.section.Directives.{Directives}

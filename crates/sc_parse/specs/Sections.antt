@@ -1,7 +1,7 @@
 -- How a section is spelled: its compartment line, its directives, and its declarations.
 use Rattle.sc_parse.specs.Common.{Decl, ExportLine, ImportLine, Lexeme, SectionTree}
 use Rattle.std.specs.Prelude.{◌≡◌, ℕ, List, [], ◌∷◌, ◌++◌}
-use Rattle.sc_expr.specs.declared.lexeme.Symbol.TheVariants as symbol
+use Rattle.sc_parse_expr.specs.declared.lexeme.Symbol.TheVariants as symbol
 use Rattle.sc_parse.specs.Lists.{Grouped}
 use Rattle.sc_parse.specs.Declarations.{SpellsDecl}
 

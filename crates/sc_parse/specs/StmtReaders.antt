@@ -8,9 +8,9 @@ use Rattle.std.specs.Prelude.{Option, Some, None, if◌then◌else◌}
 use Rattle.std.specs.Option.{option_map_or}
 use Rattle.sc_ast.specs.declared.stmt.SimpleKind.TheVariants as simple
 use Rattle.sc_ast.specs.declared.stmt.StmtKind.TheVariants as stmt
-use Rattle.sc_expr.specs.declared.mark.Keyword.TheVariants as word
-use Rattle.sc_expr.specs.declared.mark.Mark.TheVariants as mark
-use Rattle.sc_expr.specs.declared.lexeme.Symbol.TheVariants as symbol
+use Rattle.sc_parse_expr.specs.declared.mark.Keyword.TheVariants as word
+use Rattle.sc_parse_expr.specs.declared.mark.Mark.TheVariants as mark
+use Rattle.sc_parse_expr.specs.declared.lexeme.Symbol.TheVariants as symbol
 use Rattle.sc_parse.specs.declared.simple.Change.{Change}
 use Rattle.sc_parse.specs.declared.simple.Change.TheVariants as change
 use Rattle.sc_parse.specs.declared.simple.Placed.{Placed}

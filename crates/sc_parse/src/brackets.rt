@@ -4,7 +4,7 @@ ghost use Rattle.sc_parse.specs.Prelude.{IsExcess, most_open, open_after, open_a
 ghost use Rattle.std.specs.Prelude.{◌≡◌, ◌<◌, ◌≤◌, IfSome, IfNone, length};
 
 use sc_base::MAX_BRACKETS;
-use sc_expr::{Lexeme, Mark, Symbol};
+use sc_parse_expr::{Lexeme, Mark, Symbol};
 
 fn open_after_mark(mark: Mark, count: u32) -> u32
     requires { count < 4294967295 }

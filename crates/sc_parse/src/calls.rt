@@ -7,7 +7,7 @@ ghost use Rattle.std.specs.Prelude.{◌≡◌, ◌+◌, [], length};
 use crate::lookahead::{begins_with, ended_by, name_at, skip, take};
 use sc_ast::{CallTree, ExprTree, Exprs};
 use sc_base::{LOOSEST, MAX_BRACKETS};
-use sc_expr::{Built, Lexeme, Mark, SyntaxFault, parse_level, refused};
+use sc_parse_expr::{Built, Lexeme, Mark, SyntaxFault, parse_level, refused};
 use sqlite_items::Items;
 use std::alloc::Global;
 

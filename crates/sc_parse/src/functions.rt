@@ -14,7 +14,7 @@ use sc_ast::{
     BaseTree, Decl, ExprTree, FunctionHead, FunctionTree, HeadTree, LocalTree, LocalTrees, TypeTree,
 };
 use sc_base::MAX_HEIGHT;
-use sc_expr::{Lexeme, Mark, SyntaxFault, refused};
+use sc_parse_expr::{Lexeme, Mark, SyntaxFault, refused};
 use sqlite_items::Items;
 use std::alloc::Global;
 

@@ -10,7 +10,7 @@ use crate::lookahead::{
 };
 use crate::types::type_name_at;
 use sc_ast::{HeadTree, Ident, ParamTree, ParamTrees, TypeName};
-use sc_expr::{Keyword, Lexeme, Mark, SyntaxFault, name_by, refused};
+use sc_parse_expr::{Keyword, Lexeme, Mark, SyntaxFault, name_by, refused};
 use sqlite_items::Items;
 use std::alloc::Global;
 

@@ -8,7 +8,7 @@ ghost use Rattle.sc_parse.specs.Prelude.{name_at, past_int, star_count};
 ghost use Rattle.std.specs.Prelude.{◌≡◌, ◌≤◌, length, drop, IsSome, true, false, Some, None};
 
 use sc_ast::{Ident, Literal};
-use sc_expr::{Keyword, Lexeme, Mark, Symbol, SyntaxFault, expect, is_mark, name_by, refused};
+use sc_parse_expr::{Keyword, Lexeme, Mark, Symbol, SyntaxFault, expect, is_mark, name_by, refused};
 
 /// Whether the lexemes begin with a mark.
 pub fn begins_with(mark: Mark, rest: &[Lexeme]) -> bool

@@ -3,12 +3,12 @@
 ghost use Rattle.sc_parse.specs.Prelude.{Agrees, adds, all_separated, begins_with, declaration_at, grouped, member_at};
 ghost use Rattle.sc_parse.specs.Prelude.{members_at, add_member, members_in_braces, struct_at};
 ghost use Rattle.std.specs.Prelude.{◌≡◌, ◌≤◌, ◌+◌, length};
-ghost use Rattle.sc_expr.specs.declared.mark.Mark.TheVariants.{CloseCurly};
+ghost use Rattle.sc_parse_expr.specs.declared.mark.Mark.TheVariants.{CloseCurly};
 
 use crate::lookahead::{begins_with, first_line, name_at, skip, take};
 use crate::types::{Declarator, base_at, declarator_at};
 use sc_ast::{BaseTree, MemberTree, MemberTrees, NonEmpty, StructTree, TypeTree};
-use sc_expr::{Lexeme, Mark, SyntaxFault, refused};
+use sc_parse_expr::{Lexeme, Mark, SyntaxFault, refused};
 use sqlite_items::Items;
 use std::alloc::Global;
 

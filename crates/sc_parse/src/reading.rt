@@ -8,7 +8,7 @@ ghost use Rattle.sc_lex.specs.declared.refusal.Phase.TheVariants.{Syntax};
 use crate::brackets::first_excess;
 use crate::section::section_at;
 use sc_ast::SectionTree;
-use sc_expr::{Lexeme, SyntaxFault, lexemes};
+use sc_parse_expr::{Lexeme, SyntaxFault, lexemes};
 use sc_lex::{Phase, Refusal, Section, TextFault, Token, slices_in_order};
 use std::alloc::Global;
 

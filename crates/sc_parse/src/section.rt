@@ -5,7 +5,7 @@ ghost use Rattle.sc_parse.specs.Prelude.{compartment_by, decl_at, decls_at, dire
 ghost use Rattle.sc_parse.specs.Prelude.{headed_at, is_empty, is_struct_word, keyword_at, line_at, line_by, lines_at};
 ghost use Rattle.sc_parse.specs.Prelude.{names_struct, section_at, struct_decl_at, with_line};
 ghost use Rattle.std.specs.Prelude.{◌≡◌, ◌≤◌, ◌+◌, ◌-◌, ℕ, List, [], length, drop, true, false, IsSome, IfOk};
-ghost use Rattle.sc_expr.specs.declared.lexeme.Lexeme.{Lexeme};
+ghost use Rattle.sc_parse_expr.specs.declared.lexeme.Lexeme.{Lexeme};
 
 use crate::lookahead::{begins_with, keyword_at, past};
 use crate::functions::headed_at;
@@ -14,7 +14,7 @@ use crate::heads::begins_head;
 use crate::members::struct_at;
 use sc_ast::{Decl, Decls, ExportLine, ExportLines, ImportLine, ImportLines, SectionTree};
 use sc_base::Name;
-use sc_expr::{Keyword, Lexeme, Mark, Symbol, SyntaxFault, name_by, refused};
+use sc_parse_expr::{Keyword, Lexeme, Mark, Symbol, SyntaxFault, name_by, refused};
 use sqlite_items::Items;
 use std::alloc::{AllocError, Global};
 

@@ -13,7 +13,7 @@ use crate::copy::copy_expr;
 use crate::lookahead::{begins_call, begins_with, first_line, past};
 use sc_ast::{ExprTree, Literal, PlaceTree, SimpleKind, SimpleTree};
 use sc_base::{BinaryOp, MAX_BRACKETS, UNARY};
-use sc_expr::{Built, Lexeme, Mark, Symbol, SyntaxFault, parse_level, refused, refused_before};
+use sc_parse_expr::{Built, Lexeme, Mark, Symbol, SyntaxFault, parse_level, refused, refused_before};
 use sqlite_items::Boxed;
 use std::alloc::{AllocError, Global};
 

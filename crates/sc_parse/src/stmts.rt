@@ -14,7 +14,7 @@ use crate::lookahead::{
 };
 use crate::simple::{part_at, simple_at, test_at};
 use sc_ast::{ExprTree, SimpleKind, SimpleTree, StmtKind, StmtTree, Stmts};
-use sc_expr::{Keyword, Lexeme, Mark, SyntaxFault, refused};
+use sc_parse_expr::{Keyword, Lexeme, Mark, SyntaxFault, refused};
 use sqlite_items::Items;
 use std::alloc::Global;
 

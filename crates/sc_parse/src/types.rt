@@ -6,7 +6,7 @@ ghost use Rattle.std.specs.Prelude.{◌≡◌, ◌+◌, length};
 
 use crate::lookahead::{integer_by, keyword_at, name_at, past_int, skip, star_count, take};
 use sc_ast::{ArrayLength, BaseTree, Ident, TypeName};
-use sc_expr::{Keyword, Lexeme, Mark, SyntaxFault, refused, refused_before};
+use sc_parse_expr::{Keyword, Lexeme, Mark, SyntaxFault, refused, refused_before};
 
 // The base that a reserved word begins, where these lexemes follow it. A word that begins none is refused itself.
 fn base_by(word: Option<Keyword>, rest: &mut &[Lexeme]) -> Result<BaseTree, SyntaxFault>

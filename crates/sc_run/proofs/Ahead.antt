@@ -11,7 +11,7 @@ use Rattle.sc_run.proofs.Common.{◌+◌, ◌-◌, ◌<◌, ◌==◌, ◌∙◌,
 use Rattle.sc_run.specs.declared.work.Position.{Position}
 use Rattle.sc_core.specs.declared.stmt.TypedStmtKind.TheOpen as layer
 use Rattle.sc_core.specs.declared.value.Want.TheVariants as want
-use Rattle.sc_value.specs.Assigning.{AssignedIf, Holding}
+use Rattle.sc_run_value.specs.Assigning.{AssignedIf, Holding}
 use Rattle.sc_run.proofs.Coming.{computed_comes, stored_ok, then_goes, turn_comes, usual, with_memory}
 use Rattle.sc_run.proofs.Looping.{round_is, steps_as, steps_later, tested, Follows}
 use Rattle.sc_run.proofs.Stating.{followed_by_nothing, first_and_rest, stmt_is}

@@ -49,10 +49,10 @@ pub use Rattle.sc_core.specs.declared.stmt.TypedStmtKind.TheVariants.{rolls-For,
 pub use Rattle.sc_core.specs.declared.stmt.TypedStmtKind.TheVariants.{rolls-ReturnCall, rolls-ReturnValue, rolls-While}
 pub use Rattle.sc_core.specs.declared.value.Cell.{Cell}
 pub use Rattle.sc_core.specs.declared.value.Value.TheVariants.{Ptr, Word}
-pub use Rattle.sc_laws.proofs.Growing.{back_goes, calls_go, done_goes, earlier, follow_goes, prefix_more, stays}
-pub use Rattle.sc_laws.proofs.Growing.{then_goes, then_then, within_goes}
-pub use Rattle.sc_laws.specs.Prelude.{GoFrom, Goes, Gone, Never}
-pub use Rattle.sc_value.specs.Prelude.{here_of}
+pub use Rattle.sc_core_laws.proofs.Growing.{back_goes, calls_go, done_goes, earlier, follow_goes, prefix_more, stays}
+pub use Rattle.sc_core_laws.proofs.Growing.{then_goes, then_then, within_goes}
+pub use Rattle.sc_core_laws.specs.Prelude.{GoFrom, Goes, Gone, Never}
+pub use Rattle.sc_run_value.specs.Prelude.{here_of}
 pub use Rattle.sc_run.specs.Common.{Call, Callee, Event, Frame, Loop, Null, ProgramTree, Ret, RunEnd, TypedStmt, Undef}
 pub use Rattle.sc_run.specs.Common.{Value, cleared, given_back}
 pub use Rattle.sc_run.specs.Prelude.{Begun, CameTo, Comes, Doing, EndsAs, EntryAt, FoundAt, Passes, PassesIf, Seen}

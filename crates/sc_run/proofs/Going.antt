@@ -5,11 +5,11 @@ use Rattle.sc_run.proofs.Common.{Place, ProgramTree, State, To, TypedStmt, Value
 use Rattle.sc_run.proofs.Common.{c_arith, calls_go, calls_in, closes, here_of, denotations, loop, loop_acts, next_acts}
 use Rattle.sc_run.proofs.Common.{option_copied, part_does, result_goes, run_step, stays, store_result, test, way_in}
 use Rattle.sc_run.proofs.Common.{within_goes, ℕ, ◌≡◌}
-use Rattle.sc_laws.proofs.Expressions.{ArithKeeps}
-use Rattle.sc_laws.proofs.InteractionTrees.{MatchWith, match_loop}
-use Rattle.sc_laws.proofs.Matching.{one_round, loop_again, match_goes, run_goes_on}
-use Rattle.sc_laws.proofs.Statements.{itself_keeps, program_obeys, test_matches, store_result_matches, way_matches}
-use Rattle.sc_laws.proofs.Statements.{part_matches, block_matches, closed_matches}
+use Rattle.sc_core_laws.proofs.Expressions.{ArithKeeps}
+use Rattle.sc_core_laws.proofs.InteractionTrees.{MatchWith, match_loop}
+use Rattle.sc_core_laws.proofs.Matching.{one_round, loop_again, match_goes, run_goes_on}
+use Rattle.sc_core_laws.proofs.Statements.{itself_keeps, program_obeys, test_matches, store_result_matches, way_matches}
+use Rattle.sc_core_laws.proofs.Statements.{part_matches, block_matches, closed_matches}
 
 itself : ArithKeeps Never c_arith c_arith
 itself = itself_keeps Never c_arith

@@ -14,7 +14,7 @@ pub use Rattle.sc_core.specs.declared.stmt.TypedStmt.{TypedStmt}
 pub use Rattle.sc_core.specs.declared.value.Cell.TheVariants.{Null, Ptr, Undef, Word}
 pub use Rattle.sc_core.specs.declared.value.Value.{Value}
 pub use Rattle.sc_blocks.specs.Rows.{cleared, given_back, memory_of}
-pub use Rattle.sc_value.specs.Prelude.{here_of}
+pub use Rattle.sc_run_value.specs.Prelude.{here_of}
 pub use Rattle.sc_run.specs.declared.work.Callee.{Callee}
 pub use Rattle.sc_run.specs.declared.work.Frame.{Frame}
 pub use Rattle.sc_run.specs.declared.work.Loop.{Loop}

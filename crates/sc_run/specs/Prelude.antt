@@ -7,7 +7,7 @@ pub use Rattle.sc_core.specs.Prelude.{place_named, repeated, run_in, simple_does
 pub use Rattle.sc_core.specs.Prelude.{stored, struct_zeros, test, turn, values, with_blocks, with_words, word_in}
 pub use Rattle.sc_core.specs.Prelude.{zeros_of}
 pub use Rattle.sc_blocks.specs.Rows.{memory_of}
-pub use Rattle.sc_value.specs.Prelude.{here_of}
+pub use Rattle.sc_run_value.specs.Prelude.{here_of}
 pub use Rattle.sc_run.specs.Ahead.{Doing, Passes, PassesIf, ended_so, in_body, in_round, left_at}
 pub use Rattle.sc_run.specs.Comes.{CameTo, Comes, with_exit}
 pub use Rattle.sc_run.specs.Entering.{Begun, back_from, block_for, body_acts, entry_from, emitted_call, with_variables}

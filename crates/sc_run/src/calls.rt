@@ -13,7 +13,7 @@ use crate::work::{Callee, Frame, Leaving, Now, Run, Step, To, Work};
 use sc_base::OutOfMemory;
 use sc_core::{ProgramTree, Value};
 use sc_event::{Args, Event};
-use sc_value::Scope;
+use sc_run_value::Scope;
 use std::alloc::Global;
 
 // What is done with the result of a call.

@@ -45,7 +45,7 @@ pub fn evaluated(
     ensures { Comes (kept_by machine.now) (kept_by machine.now) result
         (evaluated (here_of frame.now.scope) want (way_in frame.now expr.now) line) }
 {
-    match sc_value::evaluate(&machine.blocks, &frame.scope, want, expr) {
+    match sc_run_value::evaluate(&machine.blocks, &frame.scope, want, expr) {
         Ok(value) => Ok(value),
         Err(cause) => Err(blamed(frame, cause, line)),
     }
@@ -62,7 +62,7 @@ pub fn stored(
     ensures { Comes (kept_by machine.old) (kept_by machine.new) (with_exit Next result)
         (stored (here_of frame.now.scope) place value line tt) }
 {
-    match sc_value::store(&mut machine.blocks, *frame.scope.comp, place, value) {
+    match sc_run_value::store(&mut machine.blocks, *frame.scope.comp, place, value) {
         Ok(()) => Ok(()),
         Err(cause) => Err(blamed(frame, cause, line)),
     }
@@ -126,7 +126,7 @@ fn make_block(
 {
     match arg {
         Some(value) => {
-            let cells = [sc_value::cell_of(value)];
+            let cells = [sc_run_value::cell_of(value)];
             blocks.new_block(comp, &cells)?;
             Ok(())
         }
@@ -179,7 +179,7 @@ fn init(machine: &mut Machine, frame: &Frame, number: u32, local: &TypedLocal) -
         None => Ok(()),
         Some(expr) => match evaluated(machine, frame, Want::Value, expr, local.line) {
             Ok(value) => {
-                let place = sc_value::variable_at(&frame.scope, VarRef::Local(number));
+                let place = sc_run_value::variable_at(&frame.scope, VarRef::Local(number));
                 stored(machine, frame, place, value, local.line)
             }
             Err(end) => Err(end),

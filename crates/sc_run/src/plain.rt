@@ -10,7 +10,7 @@ use crate::work::{Frame, Leaving, Loop, Position};
 use sc_core::{
     ProgramTree, TypedExpr, TypedSimple, TypedSimpleKind, TypedStmt, TypedStmtKind, Want,
 };
-use sc_value::is_true;
+use sc_run_value::is_true;
 
 // An assignment that meets no cause of blame, or nothing.
 #[inline(always)]
@@ -25,7 +25,7 @@ fn is_assigned(
         (λ n. assign (here_of frame.now.scope) (way_in frame.now place.now) (way_in frame.now value.now) line tt)
         ended_so }
 {
-    sc_value::is_assigned(&mut machine.blocks, &frame.scope, place, value)
+    sc_run_value::is_assigned(&mut machine.blocks, &frame.scope, place, value)
 }
 
 // A statement that makes no call and doesn't leave, or nothing.
@@ -78,7 +78,7 @@ fn chosen<'a>(
             cond,
             then_part,
             else_part,
-        } => match sc_value::evaluate(&machine.blocks, &frame.scope, Want::Value, cond) {
+        } => match sc_run_value::evaluate(&machine.blocks, &frame.scope, Want::Value, cond) {
             Ok(value) => {
                 if is_true(value) {
                     return Some(then_part.as_slice());
@@ -157,7 +157,7 @@ fn exit_by(
     match &stmt.kind {
         TypedStmtKind::Return => Some(Leaving::Return(None)),
         TypedStmtKind::ReturnValue(value) => {
-            match sc_value::evaluate(&machine.blocks, &frame.scope, Want::Value, value) {
+            match sc_run_value::evaluate(&machine.blocks, &frame.scope, Want::Value, value) {
                 Ok(value) => Some(Leaving::Return(Some(value))),
                 Err(_) => None,
             }
@@ -229,7 +229,7 @@ fn is_begun(program: &ProgramTree, machine: &mut Machine, frame: &Frame, whole: 
     if machine.turns == 0 {
         return false;
     }
-    if !sc_value::holds(&machine.blocks, &frame.scope, whole.cond) {
+    if !sc_run_value::holds(&machine.blocks, &frame.scope, whole.cond) {
         return false;
     }
     machine.turns -= 1;

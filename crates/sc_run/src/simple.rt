@@ -18,7 +18,7 @@ use sc_core::{
     Value,
 };
 use sc_event::{CompId, Entry, Event, Interfaces};
-use sc_value::Arguments;
+use sc_run_value::Arguments;
 use std::alloc::AllocError;
 
 // The values of arguments from left to right.
@@ -32,7 +32,7 @@ fn evaluate_arguments(
         (λ s. computed (here_of frame.now.scope) line
         (values (map (way_in frame.now) exprs.now) (s.memory frame.now.scope.comp.now)) s)) }
 {
-    match sc_value::evaluate_all(machine.alloc, &machine.blocks, &frame.scope, exprs)? {
+    match sc_run_value::evaluate_all(machine.alloc, &machine.blocks, &frame.scope, exprs)? {
         Ok(found) => Ok(Ok(found)),
         Err(cause) => Ok(Err(blamed(frame, cause, line))),
     }

@@ -12,7 +12,7 @@ use crate::simple::{assigned, call, simple};
 use crate::work::{Leaving, Loop, Now, Position, Run, Step, To, Work};
 use sc_base::OutOfMemory;
 use sc_core::{ProgramTree, TypedExpr, TypedSimple, TypedStmt, TypedStmtKind, Want};
-use sc_value::is_true;
+use sc_run_value::is_true;
 
 // The first statements where the condition holds, else the second.
 fn branch<'a>(

@@ -3,7 +3,7 @@
 use crate::machine::Machine;
 use sc_core::{RunEnd, TypedExpr, TypedFunction, TypedSimple, TypedStmt, TypedStruct, Value};
 use sc_event::CompId;
-use sc_value::Scope;
+use sc_run_value::Scope;
 
 /// A call that has begun: where it stands, and its function.
 #[derive(Clone, Copy)]

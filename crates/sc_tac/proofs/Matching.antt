@@ -7,17 +7,17 @@ use Rattle.sc_tac.proofs.Common.{constant_value, false, fold-roll-TacStmt, funct
 use Rattle.sc_tac.proofs.Common.{leave, load, map, map-TacStmt, no_temps, op_does, operated, read, read_all, received}
 use Rattle.sc_tac.proofs.Common.{refl, return_does, roles_in, roll-TacStmt, same_entry, second, start_of, stmt_does}
 use Rattle.sc_tac.proofs.Common.{store_does, stored, subst, sym, true, with_temp, wrapping, ℕ, ◌+◌, ◌∷◌, ◌≡◌}
-use Rattle.sc_laws.specs.Prelude.{FunctionsMatch, IsArithmetic, DenotationsMatch, Match, Never}
+use Rattle.sc_core_laws.specs.Prelude.{FunctionsMatch, IsArithmetic, DenotationsMatch, Match, Never}
 use Rattle.sc_core.specs.declared.cause.Cause.{Cause}
 use Rattle.sc_core.specs.declared.expr.CallTarget.{CallTarget}
 use Rattle.sc_core.specs.declared.expr.CallTarget.TheVariants.{Own, Cross, Input, Output}
 use Rattle.sc_core.specs.declared.value.Value.{Value}
-use Rattle.sc_laws.proofs.Expressions.{ArithKeeps, Keeps, alike, on_words_keep, one_keeps}
-use Rattle.sc_laws.proofs.InteractionTrees.{MatchWith, match_reached, match_then, match_computed, match_store, match_call}
-use Rattle.sc_laws.proofs.InteractionTrees.{match_if, match_leave, match_all, match_loop}
-use Rattle.sc_laws.proofs.Statements.{Pairs, meets_at, lists_at, itself_keeps, closed_matches}
-use Rattle.sc_laws.proofs.ProgramLaws.{wrapped_agrees, wrapping_agrees}
-use Rattle.sc_laws.proofs.Wrapping.{binary_fits, negated_fits}
+use Rattle.sc_core_laws.proofs.Expressions.{ArithKeeps, Keeps, alike, on_words_keep, one_keeps}
+use Rattle.sc_core_laws.proofs.InteractionTrees.{MatchWith, match_reached, match_then, match_computed, match_store, match_call}
+use Rattle.sc_core_laws.proofs.InteractionTrees.{match_if, match_leave, match_all, match_loop}
+use Rattle.sc_core_laws.proofs.Statements.{Pairs, meets_at, lists_at, itself_keeps, closed_matches}
+use Rattle.sc_core_laws.proofs.ProgramLaws.{wrapped_agrees, wrapping_agrees}
+use Rattle.sc_core_laws.proofs.Wrapping.{binary_fits, negated_fits}
 use Rattle.sc_tac.specs.declared.stmt.TacOp.{TacOp}
 use Rattle.sc_tac.specs.declared.stmt.TacOp.TheVariants as tacop
 use Rattle.sc_tac.specs.declared.stmt.TacStmt.TheOpen as tac

@@ -3,10 +3,10 @@ use Rattle.sc_top.proofs.Common.{Bool, Check, Command, Compile, Exec, Explain, I
 use Rattle.sc_top.proofs.Common.{Meaning, None, Option, Run, RunOptions, Some, arith, codes, false, if◌then◌else◌}
 use Rattle.sc_top.proofs.Common.{leb-true, nat_le, none-some, option_and_then, option_map, refl, subst, true, ℕ, ℤ}
 use Rattle.sc_top.proofs.Common.{◌&&◌, ◌≡◌, ◌≤◌}
-use Rattle.sc_words.specs.Prelude.{has_option, number, number_within, value_of, when_within}
+use Rattle.sc_top_words.specs.Prelude.{has_option, number, number_within, value_of, when_within}
 use Rattle.std.specs.Str.{bytes_eq}
-use Rattle.sc_words.specs.Words as words
-unfoldable use Rattle.sc_words.specs.Words.{command}
+use Rattle.sc_top_words.specs.Words as words
+unfoldable use Rattle.sc_top_words.specs.Words.{command}
 
 same_value : {A : Type 0} (x y : A) → ◌≡◌ {A = Option A} (Some x) (Some y) → x ≡ y
 same_value x y same = cc same

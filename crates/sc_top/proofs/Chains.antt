@@ -12,8 +12,8 @@ use Rattle.sc_chain.specs.declared.composed.Replacement.{Replacement}
 use Rattle.sc_core.specs.declared.run.RunEnd.{RunEnd}
 use Rattle.sc_core.specs.declared.run.RunEnd.TheVariants.{Blamed}
 use Rattle.sc_lex.specs.declared.section.Section.{Section}
-use Rattle.sc_read.specs.Reading.{part_of}
-use Rattle.sc_read.proofs.Splits.{same_parts, same_preamble}
+use Rattle.sc_parse_read.specs.Reading.{part_of}
+use Rattle.sc_parse_read.proofs.Splits.{same_parts, same_preamble}
 use Rattle.sc_chain.proofs.Recomposed.{new_texts_same}
 
 -- THE TEXTS

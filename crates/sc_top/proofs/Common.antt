@@ -30,10 +30,10 @@ pub use Rattle.sc_compile.specs.declared.fault.CompileFault.TheVariants.{OutOfMe
 pub use Rattle.sc_chain.specs.Prelude.{IsChainFrom, IsExplained, IsFault, IsNext, MeansTrace, among, joined, performing}
 pub use Rattle.sc_chain.specs.Prelude.{performing_text, recomposed, text_for}
 pub use Rattle.sc_chain.specs.declared.explanation.Explanation.{Explanation}
-pub use Rattle.sc_made.specs.Laws.{AreSmall, IsAccepted, IsSmall}
-pub use Rattle.sc_words.specs.declared.command.Command.TheVariants.{Make}
-pub use Rattle.sc_words.specs.declared.command.MakeOptions.{MakeOptions}
-pub use Rattle.sc_words.specs.declared.command.RunOptions.{RunOptions}
+pub use Rattle.sc_report_made.specs.Laws.{AreSmall, IsAccepted, IsSmall}
+pub use Rattle.sc_top_words.specs.declared.command.Command.TheVariants.{Make}
+pub use Rattle.sc_top_words.specs.declared.command.MakeOptions.{MakeOptions}
+pub use Rattle.sc_top_words.specs.declared.command.RunOptions.{RunOptions}
 pub use Rattle.sc_report.specs.Report.{meaning_text, run_text}
 pub use Rattle.sc_report.specs.Summary.{summary_text}
 pub use Rattle.sc_top.specs.Common.{Adds, CompileFault, Interfaces, IsAtEnd, Link, ProgramTree, Refusal, Rose, Takes}

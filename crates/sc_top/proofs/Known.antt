@@ -5,12 +5,12 @@ use Rattle.sc_top.proofs.Common.{Result, RunOptions, TracesAreLegal, TypedSectio
 use Rattle.sc_top.proofs.Common.{comp_at, false≢true, image_bytes, interfaces_of, legal as is_legal, length, length-map}
 use Rattle.sc_top.proofs.Common.{machine_run, machine_text, main_fits, map, meant, refl, run_text, sections_fit}
 use Rattle.sc_top.proofs.Common.{slice_get, subst, suc, sym, true, word_of, zero, ℕ, ℤ, ◌<◌, ◌∙◌, ◌∷◌, ◌≡◌}
-use Rattle.sc_laws.specs.Prelude.{TracesAreLegal as SourceTracesAreLegal}
+use Rattle.sc_core_laws.specs.Prelude.{TracesAreLegal as SourceTracesAreLegal}
 use Rattle.sc_event.specs.declared.interface.Interface.{Interface}
 use Rattle.sc_event.proofs.Known.{legal_is_known}
 use Rattle.sc_word.proofs.Words.{word_of-lt}
 use Rattle.sc_base.specs.declared.stop.Stop.{Stop}
-use Rattle.sc_words.specs.declared.command.MeaningOptions.{MeaningOptions}
+use Rattle.sc_top_words.specs.declared.command.MeaningOptions.{MeaningOptions}
 
 pub within : {A : Type 0} (xs : List A) (n : ℕ) → n < length xs → IsSome (slice_get xs n)
 within [] n lt = absurd (omega arith)

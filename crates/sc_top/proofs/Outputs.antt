@@ -3,7 +3,7 @@ use Rattle.sc_top.proofs.Common.{Accepts, Bool, BytesNameOneImage, Command, Fail
 use Rattle.sc_top.proofs.Common.{IsExecuted, IsMadeBy, IsOutput, IsOutputCause, IsTextOutput, IsTrue, List, MakeOptions}
 use Rattle.sc_top.proofs.Common.{ProgramTree, RunOptions, [], ap, compiles, false, interfaces_of, machine_text, output}
 use Rattle.sc_top.proofs.Common.{refl, subst, sym, true, ℕ, ◌∙◌, ◌≡◌}
-use Rattle.sc_words.specs.declared.command.Command.TheVariants as commands
+use Rattle.sc_top_words.specs.declared.command.Command.TheVariants as commands
 use Rattle.sc_top.specs.declared.failure.Failure.TheVariants as failure
 use Rattle.sc_top.proofs.Chains.{one_account, one_summary}
 

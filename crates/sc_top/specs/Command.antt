@@ -1,7 +1,7 @@
 -- What a command reads.
 use Rattle.sc_top.specs.Common.{Command}
 use Rattle.std.specs.Prelude.{ℕ, Option, Some, None}
-use Rattle.sc_words.specs.declared.command.Command.TheVariants.{Check, Meaning, Compile, Run, Exec, Explain, Make}
+use Rattle.sc_top_words.specs.declared.command.Command.TheVariants.{Check, Meaning, Compile, Run, Exec, Explain, Make}
 
 -- a text or an image of at most `limit` bytes, or nothing
 pub data Intake : Type 0 where

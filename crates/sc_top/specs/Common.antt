@@ -10,4 +10,4 @@ pub use Rattle.sc_compile.specs.Prelude.{IsCompiled, image_of, too_large}
 pub use Rattle.sc_compile.specs.declared.fault.CompileFault.{CompileFault}
 pub use Rattle.sc_chain.specs.Prelude.{IsExplained, among, performing_text, recomposed}
 pub use Rattle.sc_chain.specs.declared.explanation.Link.{Link}
-pub use Rattle.sc_words.specs.declared.command.Command.{Command}
+pub use Rattle.sc_top_words.specs.declared.command.Command.{Command}

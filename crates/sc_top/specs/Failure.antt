@@ -5,8 +5,8 @@ use Rattle.sc_image.specs.declared.fault.ImageFault.{ImageFault}
 use Rattle.sc_image.specs.declared.fault.ImageFault.TheVariants as image
 use Rattle.sc_lex.specs.declared.fault.TextFault.{TextFault}
 use Rattle.sc_lex.specs.declared.fault.TextFault.TheVariants as text
-use Rattle.sc_words.specs.declared.fault.WordsFault.{WordsFault}
-use Rattle.sc_words.specs.declared.fault.WordsFault.TheVariants as words
+use Rattle.sc_top_words.specs.declared.fault.WordsFault.{WordsFault}
+use Rattle.sc_top_words.specs.declared.fault.WordsFault.TheVariants as words
 use Rattle.sc_top.specs.declared.input.ReadFault as read
 use Rattle.sc_top.specs.declared.input.ReadFault.TheVariants as faults
 use Rattle.sc_top.specs.declared.failure.Failure.{Failure}

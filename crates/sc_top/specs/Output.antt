@@ -5,17 +5,17 @@ use Rattle.sc_top.specs.Common.{recomposed}
 use Rattle.sc_word.specs.Prelude.{word_of}
 use Rattle.sc_core.specs.Prelude.{meaning}
 use Rattle.sc_image.specs.declared.parts.ImageParts.{ImageParts}
-use Rattle.sc_words.specs.declared.command.RunOptions.{RunOptions}
+use Rattle.sc_top_words.specs.declared.command.RunOptions.{RunOptions}
 use Rattle.std.specs.Prelude.{◌≡◌, ℕ, Bool, true, false, IsTrue, List, [], map, take, Option, Some, None, Ok}
 use Rattle.sc_chain.specs.declared.explanation.Explanation.{Explanation}
 use Rattle.sc_core.specs.declared.run.SourceRun.{SourceRun}
 use Rattle.sc_report.specs.Check.{check_text}
-use Rattle.sc_made.specs.Text.{made_text}
+use Rattle.sc_report_made.specs.Text.{made_text}
 use Rattle.sc_report.specs.Report.{explain_text, meaning_text, run_text}
 use Rattle.sc_report.specs.Summary.{summary_text}
-use Rattle.sc_words.specs.declared.command.Command.TheVariants as commands
-use Rattle.sc_words.specs.declared.command.MakeOptions.{MakeOptions}
-use Rattle.sc_words.specs.declared.command.MeaningOptions.{MeaningOptions}
+use Rattle.sc_top_words.specs.declared.command.Command.TheVariants as commands
+use Rattle.sc_top_words.specs.declared.command.MakeOptions.{MakeOptions}
+use Rattle.sc_top_words.specs.declared.command.MeaningOptions.{MeaningOptions}
 
 -- what a program means, with the turns, events and inputs of the options
 abbrev pub meant : MeaningOptions → ProgramTree → SourceRun

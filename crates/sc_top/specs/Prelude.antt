@@ -3,8 +3,8 @@ pub use Rattle.sc_event.specs.Prelude.{IsKnown, comp_at, comp_name, legal}
 pub use Rattle.sc_types.specs.Prelude.{Accepts, IsSource}
 pub use Rattle.sc_compile.specs.Prelude.{IsCompiled, too_large}
 pub use Rattle.sc_chain.specs.Prelude.{IsExplained, IsFault}
-pub use Rattle.sc_words.specs.declared.command.Command.{Command}
-pub use Rattle.sc_words.specs.declared.command.Command.TheVariants.{Check, Compile, Exec, Explain, Meaning, Run}
+pub use Rattle.sc_top_words.specs.declared.command.Command.{Command}
+pub use Rattle.sc_top_words.specs.declared.command.Command.TheVariants.{Check, Compile, Exec, Explain, Meaning, Run}
 pub use Rattle.sc_top.specs.Answer.{Answers, FindsBad, IsAnswer, IsGood, IsGoodText, IsInput, IsSilent, IsUndisturbed}
 pub use Rattle.sc_top.specs.Answer.{IsUnfit, IsWhole, IsWithin, IsWithinLimit, Refuses, SameAnswer, Says, Prints}
 pub use Rattle.sc_top.specs.Answer.{Traffic, cause_in}

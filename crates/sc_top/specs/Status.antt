@@ -1,6 +1,6 @@
 -- The statuses' numbers and texts.
 use Rattle.sc_top.specs.Common.{Refusal}
-use Rattle.sc_words.specs.Prelude.{usage_text}
+use Rattle.sc_top_words.specs.Prelude.{usage_text}
 use Rattle.std.specs.Prelude.{ℕ, List, [], ◌++◌, codes, decimal}
 use Rattle.sc_lex.specs.declared.refusal.Phase.{Phase}
 use Rattle.sc_lex.specs.declared.refusal.Phase.TheVariants as phase

@@ -5,12 +5,12 @@ use Rattle.std.specs.Prelude.{◌≡◌, ◌≤◌, ℕ, List, All, Option, None
 use Rattle.sc_event.specs.declared.event.Event.{Event}
 use Rattle.sc_chain.specs.declared.composed.Replacement.{Replacement}
 use Rattle.sc_compile.specs.declared.fault.CompileFault.TheVariants as compiling
-use Rattle.sc_made.specs.Laws.{IsAsked}
+use Rattle.sc_report_made.specs.Laws.{IsAsked}
 use Rattle.sc_top.specs.declared.failure.Failure.{Failure}
 use Rattle.sc_top.specs.declared.failure.Failure.TheVariants.{Refused, TooLarge, OutOfMemory}
 use Rattle.sc_top.specs.declared.status.TooLarge as large
 use Rattle.sc_top.specs.Large.{by_name, large_in}
-use Rattle.sc_words.specs.declared.command.Command.TheVariants as commands
+use Rattle.sc_top_words.specs.declared.command.Command.TheVariants as commands
 
 -- why a text isn't read as a program
 abbrev pub IsReading : List ℕ → Failure → Type 0

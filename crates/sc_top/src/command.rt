@@ -1,7 +1,7 @@
 ghost use Rattle.sc_top.specs.Prelude.{limit_of};
 ghost use Rattle.std.specs.Prelude.{◌≡◌};
 
-use sc_words::Command;
+use sc_top_words::Command;
 
 /// How many bytes a command reads at most. `None` where it reads nothing.
 pub(crate) fn limit(command: &Command) -> Option<u32>

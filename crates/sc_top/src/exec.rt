@@ -5,7 +5,7 @@ use crate::failure::Failure;
 use crate::machine::machine_text;
 use sc_base::Text;
 use sc_image::{image_interfaces, read_image, traces_are_legal};
-use sc_words::RunOptions;
+use sc_top_words::RunOptions;
 use std::alloc::Global;
 
 /// The machine's trace on the image that the bytes are.

@@ -12,7 +12,7 @@ use sc_event::{CompId, Interfaces};
 use sc_image::ImageFault;
 use sc_lex::Refusal;
 use sc_types::TextFault;
-use sc_words::WordsFault;
+use sc_top_words::WordsFault;
 
 /// Why a command has no output, or none that was written whole.
 #[derive(Clone, Copy)]

@@ -10,7 +10,7 @@ use crate::command::limit;
 use crate::failure::Failure;
 use sc_base::{OutOfMemory, Text};
 use sc_edge::Source;
-use sc_words::Command;
+use sc_top_words::Command;
 use std::alloc::Global;
 
 // As many bytes as one read asks for at most.

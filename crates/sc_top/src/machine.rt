@@ -7,7 +7,7 @@ use sc_event::Interfaces;
 use sc_image::Image;
 use sc_machine::{LoadFault, Machine};
 use sc_store::PagedStore;
-use sc_words::RunOptions;
+use sc_top_words::RunOptions;
 use std::alloc::Global;
 
 /// The machine's trace on the image, by these names, and why it stops.

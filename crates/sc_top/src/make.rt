@@ -1,16 +1,16 @@
 //! The command that makes programs.
 
 ghost use Rattle.sc_top.specs.Prelude.{IsExplained, IsMade, IsMadeText, IsSource, IsSummary, too_large};
-ghost use Rattle.sc_made.specs.Laws.{IsAccepted, IsAsked};
+ghost use Rattle.sc_report_made.specs.Laws.{IsAccepted, IsAsked};
 ghost use Rattle.std.specs.Prelude.{◌≡◌, [], None, IfOk};
 
 use sc_base::{OutOfMemory, Text};
 use sc_chain::{ExplainFault, Explanation, explain};
 use sc_lex::TextFault;
-use sc_made::made_texts_are_accepted;
+use sc_report_made::made_texts_are_accepted;
 use sc_report::{make_text, summary_text};
 use sc_types::{SourceText, accepted_or_refused, one_program};
-use sc_words::MakeOptions;
+use sc_top_words::MakeOptions;
 use std::alloc::Global;
 
 // How far the machine runs for a summary, without inputs.

@@ -5,7 +5,7 @@ ghost use Rattle.sc_top.specs.Failure.{status_of};
 use crate::failure::Failure;
 use sc_base::Name;
 use sc_lex::{Phase, Refusal};
-use sc_words::usage;
+use sc_top_words::usage;
 
 /// What of a program is too large to be compiled, by the names of its compartment and function, and the bytes that it
 /// takes, or takes at most.

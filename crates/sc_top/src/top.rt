@@ -1,6 +1,6 @@
 ghost use Rattle.sc_top.specs.Prelude.{Answers, Command, IsBounded, IsOutput, IsOutputCause, IsSilent, Says, Prints};
 ghost use Rattle.sc_top.specs.Prelude.{status_by, status_text};
-ghost use Rattle.sc_words.specs.Prelude.{command};
+ghost use Rattle.sc_top_words.specs.Prelude.{command};
 ghost use Rattle.std.specs.Prelude.{◌≡◌, ◌≢◌, ◌⊎◌, None, Some, map, IfOk, IfErr, IsErrOf};
 ghost use Rattle.std.specs.String.{string_bytes};
 ghost use Rattle.sc_top.specs.declared.failure.Failure.{Failure};
@@ -18,7 +18,7 @@ use crate::text::{check, compiled, meaning, run};
 use sc_base::Text;
 use sc_edge::{Sink, Source};
 use sc_types::{accepted_or_refused, one_phase, one_program};
-use sc_words::{Command, read_command};
+use sc_top_words::{Command, read_command};
 use std::alloc::Global;
 
 /// Runs the program on its words, without its own name before them. A status other than `Done` is printed on `err`.

@@ -15,8 +15,8 @@ use Rattle.sc_ast.specs.declared.stmt.StmtKind.TheOpen as tree
 use Rattle.sc_ast.proofs.Induction as tree_induction
 use Rattle.sc_ast.proofs.Layers as tree_layers
 use Rattle.sc_core.specs.declared.stmt.TypedStmtKind.TheOpen as layer
-use Rattle.sc_scope.specs.Names as names
-use Rattle.sc_elab_expr.specs.Expressions as elab
+use Rattle.sc_types_scope.specs.Names as names
+use Rattle.sc_types_elab_expr.specs.Expressions as elab
 use Rattle.sc_types.proofs.Lookups.{rule_holds, no_lines}
 use Rattle.sc_core.proofs.Judged.{judged_ty}
 

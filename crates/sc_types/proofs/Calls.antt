@@ -11,8 +11,8 @@ use Rattle.sc_types.proofs.Common.{same_result, same_type, scalar_of, scalar_ty,
 use Rattle.sc_types.proofs.Common.{slice_get-map, starred, suc, sym, tags, takes_int, takes_nothing, true, type_of_name}
 use Rattle.sc_types.proofs.Common.{typed_function, typed_param, ℕ, ◌++◌, ◌+◌, ◌==◌, ◌||◌, ◌∙◌, ◌∷◌, ◌≡◌}
 use Rattle.sc_event.specs.Prelude.{comp_at}
-use Rattle.sc_interfaces.specs.Prelude.{same_base}
-use Rattle.sc_elab.proofs.Programs.{comp_at as elab_comp_at}
+use Rattle.sc_types_interfaces.specs.Prelude.{same_base}
+use Rattle.sc_types_elab.proofs.Programs.{comp_at as elab_comp_at}
 use Rattle.sc_ast.specs.declared.types.BaseTree.TheVariants as base_tree
 use Rattle.sc_core.specs.declared.ty.Ty.TheVariants as ty
 use Rattle.sc_types.proofs.Lookups.{Each, Text, first_of, any_found, number_is, each_at, same_sym, FoundFunction}

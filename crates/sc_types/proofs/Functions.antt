@@ -15,7 +15,7 @@ use Rattle.sc_types.proofs.Common.{target_signature, true, type_of, type_of_name
 use Rattle.sc_types.proofs.Common.{typed_global, typed_init, typed_local, typed_locals, typed_param, typed_section}
 use Rattle.sc_types.proofs.Common.{typed_stmt, unless, variable_fits, visible_in, visible_of, word_of_const, words_fit}
 use Rattle.sc_types.proofs.Common.{zero, ℕ, ◌&&◌, ◌++◌, ◌+◌, ◌<◌, ◌∙◌, ◌∷◌, ◌≡◌}
-use Rattle.sc_elab.specs.Prelude.{function_lines}
+use Rattle.sc_types_elab.specs.Prelude.{function_lines}
 use Rattle.sc_ast.specs.declared.section.GlobalTree.{GlobalTree}
 use Rattle.sc_ast.specs.declared.types.BaseTree.TheVariants as base_tree
 use Rattle.sc_ast.specs.declared.section.InitTree.{InitTree}
@@ -24,7 +24,7 @@ use Rattle.sc_ast.specs.Height as surface
 use Rattle.sc_core.specs.declared.ty.Ty.TheVariants as ty
 use Rattle.sc_core.specs.declared.ty.BaseTy.TheVariants as base
 use Rattle.sc_core.specs.declared.section.TypedLocal.{TypedLocal}
-use Rattle.sc_scope.specs.Names as names
+use Rattle.sc_types_scope.specs.Names as names
 use Rattle.sc_types.specs.Counts as counts
 use Rattle.sc_types.proofs.Lookups.{rule_holds, prefix_empty, back_empty, no_lines, Text, at_most, numbered_prefix}
 use Rattle.sc_types.proofs.Structs.{Known, AllKnown, AllSmall, structs_length, type_is_within, name_is_within, is_less}

@@ -7,11 +7,11 @@ use Rattle.sc_types.proofs.Common.{map-append, most_compartments, nat_le, nat_te
 use Rattle.sc_types.proofs.Common.{slice_get, struct_in, structs_from, structs_in, suc, sym, type_in, unless}
 use Rattle.sc_types.proofs.Common.{with_lines, ℕ, ◌++◌, ◌+◌, ◌<◌, ◌∙◌, ◌∷◌, ◌≡◌, ◌≤◌}
 use Rattle.sc_types.specs.Prelude.{section_lines}
-use Rattle.sc_scope.specs.declared.broken.BrokenLines.{BrokenLines}
-use Rattle.sc_scope.proofs.Lines.{done, with_lines-append, with_lines-nil, noted_all-append, step}
+use Rattle.sc_types_scope.specs.declared.broken.BrokenLines.{BrokenLines}
+use Rattle.sc_types_scope.proofs.Lines.{done, with_lines-append, with_lines-nil, noted_all-append, step}
 use Rattle.sc_core.specs.declared.ty.Ty.TheVariants as ty
 use Rattle.sc_types.proofs.TypedNodes.{section-nodes}
-use Rattle.sc_scope.proofs.Noted.{noted-none}
+use Rattle.sc_types_scope.proofs.Noted.{noted-none}
 
 -- a number that stops far above passes the same test
 pub same-test : (n : ℕ) → nat_le (limited n) 1048576 ≡ nat_le n 1048576

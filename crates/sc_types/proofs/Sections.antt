@@ -13,14 +13,14 @@ use Rattle.sc_types.proofs.Common.{offering, option_map, or_from, or_left, outpu
 use Rattle.sc_types.proofs.Common.{proto_signature, refl, same_base, same_results, same_signature, same_text, same_type}
 use Rattle.sc_types.proofs.Common.{same_types, signature_of, slice_get, slice_get-map, subst, suc, sym, true}
 use Rattle.sc_types.proofs.Common.{typed_function, typed_section, zero, ℕ, ◌&&◌, ◌++◌, ◌||◌, ◌∙◌, ◌∷◌, ◌≡◌, ◌≤◌}
-use Rattle.sc_elab_expr.proofs.Parts.{same_ty-refl}
+use Rattle.sc_types_elab_expr.proofs.Parts.{same_ty-refl}
 use Rattle.sc_core.specs.declared.section.TypedFunction.{TypedFunction}
 use Rattle.sc_event.specs.declared.interface.Import.TheVariants as import
 use Rattle.sc_event.specs.declared.interface.Proto as event
 use Rattle.sc_ast.specs.declared.types.BaseTree.TheVariants as tree_base
-use Rattle.sc_scope.specs.Declarations as decls
-use Rattle.sc_scope.specs.Names as names
-use Rattle.sc_interfaces.specs.Rules as interface_rules
+use Rattle.sc_types_scope.specs.Declarations as decls
+use Rattle.sc_types_scope.specs.Names as names
+use Rattle.sc_types_interfaces.specs.Rules as interface_rules
 use Rattle.sc_types.specs.Counts as counts
 use Rattle.sc_types.proofs.Lookups.{or_not, back_empty, no_lines, Each, Text, same_refl, each_at, each_function}
 use Rattle.sc_types.proofs.Lookups.{FoundFunction, find_function}

@@ -6,7 +6,7 @@ use Rattle.sc_types.proofs.Common.{slice_get, slice_range, source_of, start_of, 
 use Rattle.sc_types.proofs.Common.{ℕ, ◌++◌, ◌+◌, ◌-◌, ◌<◌, ◌∙◌, ◌∷◌, ◌≡◌, ◌≤◌}
 use Rattle.sc_lex.specs.Prelude.{AreSections, IsSplit, line_at, none, section}
 use Rattle.sc_lex.proofs.Splits.{progress_joined, sections_rise}
-use Rattle.sc_read.proofs.Splits.{split_good, same_parts}
+use Rattle.sc_parse_read.proofs.Splits.{split_good, same_parts}
 
 abbrev bytes_of : Section → List ℕ
 bytes_of s = s.bytes.now

@@ -6,7 +6,7 @@ use Rattle.sc_types.proofs.Common.{names_broken, nat_le, noted_all, program_of, 
 use Rattle.sc_types.proofs.Common.{sym, true, types_broken, ℕ, ◌∙◌, ◌∷◌, ◌≡◌, ◌⊎◌}
 use Rattle.sc_lex.specs.declared.refusal.Phase.{Phase}
 use Rattle.sc_lex.specs.declared.refusal.Phase.TheVariants as phase
-use Rattle.sc_read.specs.Reading as reading
+use Rattle.sc_parse_read.specs.Reading as reading
 use Rattle.sc_types.proofs.Lookups.{none_some, at_most}
 
 -- a line that was noted stays noted

@@ -13,9 +13,9 @@ use Rattle.sc_types.proofs.Common.{signature_of, slice_get, slice_get-map, struc
 use Rattle.sc_types.proofs.Common.{true, truth, typed_function, typed_global, typed_section, types_broken, zero, ℕ}
 use Rattle.sc_types.proofs.Common.{◌&&◌, ◌++◌, ◌+◌, ◌==◌, ◌||◌, ◌∙◌, ◌∷◌, ◌≡◌, ◌≤◌}
 use Rattle.sc_core.specs.declared.ty.Ty.TheVariants as ty
-use Rattle.sc_scope.specs.Names as names
-use Rattle.sc_elab.specs.Sections as elab
-use Rattle.sc_interfaces.specs.Rules as interface_rules
+use Rattle.sc_types_scope.specs.Names as names
+use Rattle.sc_types_elab.specs.Sections as elab
+use Rattle.sc_types_interfaces.specs.Rules as interface_rules
 use Rattle.sc_types.specs.Counts as counts
 use Rattle.sc_types.proofs.Lookups.{rule_holds, prefix_empty, back_empty, map_empty, Each, each_empty, each_passes, find}
 use Rattle.sc_types.proofs.Lookups.{none_some, Text, any_found, each_at, each_function, same_sym, FoundFunction}

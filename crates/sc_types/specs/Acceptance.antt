@@ -1,13 +1,13 @@
 -- Which texts are programs, and which phase refuses the others, at which line.
 use Rattle.sc_types.specs.Common.{ProgramTree, SectionTree, names_broken, program_of, refused_at, types_broken}
 use Rattle.sc_ast.specs.Prelude.{section_height}
-use Rattle.sc_interfaces.specs.Prelude.{interface_broken}
+use Rattle.sc_types_interfaces.specs.Prelude.{interface_broken}
 use Rattle.std.specs.Prelude.{◌≡◌, ℕ, List, [], Some, IsTrue, nat_le}
 use Rattle.std.specs.List.{list_all}
 use Rattle.sc_lex.specs.declared.refusal.Phase.{Phase}
 use Rattle.sc_lex.specs.declared.refusal.Phase.TheVariants as phase
-use Rattle.sc_read.specs.Reading.{Reads}
-use Rattle.sc_read.specs.Reading as reading
+use Rattle.sc_parse_read.specs.Reading.{Reads}
+use Rattle.sc_parse_read.specs.Reading as reading
 use Rattle.sc_types.specs.Counts.{counts_broken}
 
 -- no tree is higher than 256

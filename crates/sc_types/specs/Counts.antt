@@ -3,7 +3,7 @@ use Rattle.sc_types.specs.Common.{FunctionTree, LocalTree, SectionTree, callees_
 use Rattle.sc_types.specs.Common.{heads_in, line_of_text, most_cells, most_compartments, most_exports, most_nodes}
 use Rattle.sc_types.specs.Common.{most_params, nodes, struct_names, structs, structs_in, total, type_of, type_of_name}
 use Rattle.sc_types.specs.Common.{typed_section, unless}
-use Rattle.sc_elab_expr.specs.Prelude.{Callees}
+use Rattle.sc_types_elab_expr.specs.Prelude.{Callees}
 use Rattle.std.specs.Prelude.{ℕ, suc, Bool, ◌&&◌, nat_le, List, [], ◌∷◌, ◌++◌, length, map, slice_get, Option, Some}
 use Rattle.std.specs.Prelude.{None}
 use Rattle.std.specs.List.{concat, list_all}

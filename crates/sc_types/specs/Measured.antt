@@ -2,7 +2,7 @@
 use Rattle.sc_types.specs.Common.{SectionTree, Text, struct_names}
 use Rattle.std.specs.Prelude.{◌≡◌, List}
 use Rattle.sc_core.specs.declared.section.TypedStruct.{TypedStruct}
-use Rattle.sc_elab.specs.Sections as sections
+use Rattle.sc_types_elab.specs.Sections as sections
 
 -- these are the tags of the section's structs, and the structs
 pub record IsMeasured (section : SectionTree) (names : List Text) (structs : List TypedStruct) : Type 0 where

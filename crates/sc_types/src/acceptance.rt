@@ -1,17 +1,17 @@
 ghost use Rattle.sc_types.specs.Prelude.{AreLow, FailsRules, IsTyped, counts_broken, names_broken};
-ghost use Rattle.sc_interfaces.specs.Prelude.{interface_broken};
-ghost use Rattle.sc_elab.specs.Prelude.{program_of, types_broken};
+ghost use Rattle.sc_types_interfaces.specs.Prelude.{interface_broken};
+ghost use Rattle.sc_types_elab.specs.Prelude.{program_of, types_broken};
 ghost use Rattle.std.specs.Prelude.{◌≡◌, [], None, Some, OnOk, IfOk, IsErrOf};
 ghost use Rattle.sc_lex.specs.declared.refusal.Refusal.{Refusal};
 
 use crate::counts::broken_count;
 use sc_ast::SectionTree;
 use sc_core::Program;
-use sc_elab::{broken_type, build_program};
-use sc_interfaces::{broken_interface, interfaces};
+use sc_types_elab::{broken_type, build_program};
+use sc_types_interfaces::{broken_interface, interfaces};
 use sc_lex::{Phase, Refusal};
-use sc_read::{TextFault, Trees};
-use sc_scope::broken_name;
+use sc_parse_read::{TextFault, Trees};
+use sc_types_scope::broken_name;
 use std::alloc::Global;
 
 /// The program of a text's sections, or the first of the phases names, types, interface and count that they fail, and
@@ -144,7 +144,7 @@ fn built_from(alloc: Global, sections: Trees) -> Result<Program, TextFault>
     ensures memory { (refusal : Refusal) → IsErrOf result (TextFault.Refused refusal) → ⊥ }
 {
     let interfaces = interfaces(alloc, sections.as_slice()).map_err(|_| TextFault::OutOfMemory)?;
-    let tree = sc_elab::into_program(alloc, sections, interfaces).map_err(
+    let tree = sc_types_elab::into_program(alloc, sections, interfaces).map_err(
         |_| TextFault::OutOfMemory,
     )?;
     Ok(Program::new(tree))

@@ -2,7 +2,7 @@
 
 ghost use Rattle.sc_types.specs.Prelude.{counts_broken, decls_nodes, line_beyond, line_of_text, most_compartments};
 ghost use Rattle.sc_types.specs.Prelude.{most_nodes, refused_at, section_lines, with_lines};
-ghost use Rattle.sc_elab_expr.specs.Prelude.{Callees};
+ghost use Rattle.sc_types_elab_expr.specs.Prelude.{Callees};
 ghost use Rattle.std.specs.Prelude.{◌≡◌, ◌&&◌, nat_le, length, IfOk, OnOk};
 ghost use Rattle.sc_ast.specs.declared.section.SectionTree.{SectionTree};
 
@@ -13,7 +13,7 @@ use crate::nodes::decls_nodes;
 use crate::sizes::Sizes;
 use sc_ast::{Decls, SectionTree};
 use sc_base::OutOfMemory;
-use sc_scope::{BrokenLines, line_of_text};
+use sc_types_scope::{BrokenLines, line_of_text};
 use sqlite_items::at;
 use std::alloc::Global;
 

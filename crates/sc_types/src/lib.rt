@@ -13,5 +13,5 @@ mod text;
 
 pub use acceptance::type_program;
 pub use laws::{accepted_or_fails, accepted_or_refused, one_phase, one_program};
-pub use sc_read::TextFault;
+pub use sc_parse_read::TextFault;
 pub use text::SourceText;

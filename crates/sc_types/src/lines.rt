@@ -11,7 +11,7 @@ ghost use Rattle.sc_ast.specs.declared.section.ImportLine.{ImportLine};
 use crate::sizes::Sizes;
 use sc_ast::{Decl, Decls, ExportLines, FunctionParam, FunctionTree, ImportLines, LocalTrees};
 use sc_base::OutOfMemory;
-use sc_scope::BrokenLines;
+use sc_types_scope::BrokenLines;
 
 /// The most parameters that a function may have.
 const MOST_PARAMS: usize = 8;

@@ -9,7 +9,7 @@ use crate::acceptance::into_program;
 use sc_core::Program;
 use sc_event::CompId;
 use sc_lex::{Section, Split, sections};
-use sc_read::{TextFault, read_trees};
+use sc_parse_read::{TextFault, read_trees};
 use sqlite_items::Items;
 use std::alloc::{AllocError, Global};
 use std::marker::Model;

@@ -1,6 +1,6 @@
 // Sections as they are printed.
 use sc_ast::print_section;
-use sc_read::read_trees;
+use sc_parse_read::read_trees;
 use std::test::Fail;
 
 // It is printed as it stands.

@@ -3,7 +3,7 @@ use sc_ast::section_height;
 use sc_base::Name;
 use sc_lex::{Phase, Refusal, Section, TextFault, tokens};
 use sc_parse::parse;
-use sc_read::read_trees;
+use sc_parse_read::read_trees;
 use std::alloc::Global;
 use std::test::Fail;
 

@@ -1,5 +1,5 @@
 // Reserved words, none of which is an identifier.
-use sc_read::read_trees;
+use sc_parse_read::read_trees;
 use std::alloc::Global;
 use std::test::Fail;
 

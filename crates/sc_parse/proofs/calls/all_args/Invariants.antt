@@ -1,5 +1,5 @@
 use Rattle.sc_parse.proofs.Common.{[], add_arg, following, length, separated, ◌+◌, ◌-◌, ◌≡◌}
-use Rattle.sc_expr.specs.declared.mark.Mark.TheVariants as mark
+use Rattle.sc_parse_expr.specs.declared.mark.Mark.TheVariants as mark
 use Rattle.sc_parse.proofs.calls.all_args.Given as goal
 
 -- what is read is what the rest of the loop reads

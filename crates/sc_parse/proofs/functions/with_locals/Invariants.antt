@@ -1,5 +1,5 @@
 use Rattle.sc_parse.proofs.Common.{following, length, add_local, separated, ◌+◌, ◌-◌, ◌≡◌}
-use Rattle.sc_expr.specs.declared.mark.Mark.TheVariants as mark
+use Rattle.sc_parse_expr.specs.declared.mark.Mark.TheVariants as mark
 use Rattle.sc_parse.proofs.functions.with_locals.Given as goal
 
 -- what is read is what the rest of the loop reads

@@ -1,5 +1,5 @@
 use Rattle.sc_parse.proofs.Common.{following, add_global, length, separated, ◌+◌, ◌-◌, ◌≡◌}
-use Rattle.sc_expr.specs.declared.mark.Mark.TheVariants as mark
+use Rattle.sc_parse_expr.specs.declared.mark.Mark.TheVariants as mark
 use Rattle.sc_parse.proofs.globals.with_globals.Given as goal
 
 -- what is read is what the rest of the loop reads

@@ -1,5 +1,5 @@
 use Rattle.sc_parse.proofs.Common.{begins_with, declaration_at, grouped, length, add_member, ◌+◌, ◌-◌, ◌≡◌}
-use Rattle.sc_expr.specs.declared.mark.Mark.TheVariants as mark
+use Rattle.sc_parse_expr.specs.declared.mark.Mark.TheVariants as mark
 use Rattle.sc_parse.proofs.members.member_lines.Given as goal
 
 -- what is read is what the rest of the loop reads

@@ -1,5 +1,5 @@
 use Rattle.sc_parse.proofs.Common.{adds, following, length, member_at, separated, ◌+◌, ◌-◌, ◌≡◌}
-use Rattle.sc_expr.specs.declared.mark.Mark.TheVariants as mark
+use Rattle.sc_parse_expr.specs.declared.mark.Mark.TheVariants as mark
 use Rattle.sc_parse.proofs.members.with_members.Given as goal
 
 -- what is read is what the rest of the loop reads

@@ -1,5 +1,5 @@
 use Rattle.sc_parse.proofs.Common.{[], adds, begins_with, grouped, length, stmt_at, ◌*◌, ◌+◌, ◌-◌, ◌≡◌}
-use Rattle.sc_expr.specs.declared.mark.Mark.TheVariants as mark
+use Rattle.sc_parse_expr.specs.declared.mark.Mark.TheVariants as mark
 use Rattle.sc_parse.proofs.stmts.+statements.Given as goal
 
 abbrev pub decreases-stmt_at : goal.decreases-stmt_at

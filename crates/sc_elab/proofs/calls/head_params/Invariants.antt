@@ -1,5 +1,0 @@
-use Rattle.sc_elab.proofs.Common.{drop, map, param_ty, ◌++◌, ◌≡◌}
-use Rattle.sc_elab.proofs.calls.head_params.Given as goal
-
-abbrev pub invariant-loop-param : goal.invariant-loop-param
-invariant-loop-param l = l.types ++ map (param_ty l.tags) (drop l.param-index l.params) ≡ map (param_ty l.tags) l.params

@@ -1,0 +1,17 @@
+pub mod Common
+pub mod Fetching
+pub mod Inside
+pub mod Registers
+pub mod Steady
+pub mod Steps
+pub mod Words
+pub mod Rows
+pub mod Numbers
+pub mod Loading
+pub mod NearSp
+pub mod Frames
+pub mod Tests
+pub mod Operators
+pub mod Below
+pub mod Addresses
+pub mod ShortForms

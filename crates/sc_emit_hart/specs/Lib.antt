@@ -1,0 +1,9 @@
+pub mod Common
+pub mod Prelude
+pub mod Code
+pub mod Hart
+pub mod Laws
+pub mod Words
+pub mod Pieces
+pub mod Frames
+pub mod Operators

@@ -1,0 +1,59 @@
+-- The names that several proofs of this crate cite, passed on from one place. Declares nothing.
+pub use Rattle.std.proofs.Common.{All, AllPairs, Bool, Err, IsSome, List, None, Ok, Option, Result, Some, [], ap, ap₂}
+pub use Rattle.std.proofs.Common.{arith, eq-eqb, eqb-true, false, if◌then◌else◌, inl, inr, int_div, int_rem, is_some}
+pub use Rattle.std.proofs.Common.{le-leb, le-ltb, leb-true, length, length-append, length-set, lt-ltb, ltb-true, map}
+pub use Rattle.std.proofs.Common.{nat_eq, nat_le, nat_lt, ne_eqb, neg_ℤ, negsuc, not, pos, refl, replicate, slice_get}
+pub use Rattle.std.proofs.Common.{slice_set, subst, subst₂, suc, sym, true, true≢false, zero, zip, ℕ, ℤ, ⊎_elim, ◌%◌}
+pub use Rattle.std.proofs.Common.{◌&&◌, ◌*ℤ◌, ◌*◌, ◌++◌, ◌+ℤ◌, ◌+◌, ◌-ℤ◌, ◌-◌, ◌<◌, ◌==◌, ◌^◌, ◌∙◌, ◌∷◌, ◌≡◌, ◌≢◌, ◌≤◌}
+pub use Rattle.std.proofs.Common.{◌⊎◌}
+pub use Rattle.std.proofs.lemmas.Bool.{and_from, cases_eq, cases_lt, cases_order, lt-leb, or_right}
+pub use Rattle.std.proofs.lemmas.List.{length-map}
+pub use Rattle.std.proofs.lemmas.List.Elements.{All-cons, All-head, All-nil, All-tail}
+pub use Rattle.std.proofs.lemmas.Option.{get_or_from_slice_get, same_Some, slice_get-get_or, slice_get_within}
+pub use Rattle.sc_base.proofs.Bools.{and_first, and_rest}
+pub use Rattle.sc_base.proofs.Lists.{all_at, get_prefix, is_there}
+pub use Rattle.sc_word.specs.Prelude.{add_word, div_word, sub_word, word_of}
+pub use Rattle.sc_core.specs.Prelude.{Block, Blocks, Break, Closed, Continue, Does, Exit, FrameChange, Function, Here}
+pub use Rattle.sc_core.specs.Prelude.{Left, Next, Opened, Piece, Reached, Return, State, Stopped, all_do, and_then}
+pub use Rattle.sc_core.specs.Prelude.{apart, applied_one, begun, between, bind, blocks_for, cell_of, cells_at, computed}
+pub use Rattle.sc_core.specs.Prelude.{done, ended, follow, in_elements, in_loop, in_order, is_inside, is_live, is_zero}
+pub use Rattle.sc_core.specs.Prelude.{leave, live_cells, load, loaded, loop, moved, moved_back, moved_on, negated_word}
+pub use Rattle.sc_core.specs.Prelude.{number_of, of_bool, on_all_words, on_words, ordered, place_at, rounds, same_place}
+pub use Rattle.sc_core.specs.Prelude.{store, take, truth, turn, turn_of, with_blocks, with_cell, with_memory, wrapping}
+pub use Rattle.sc_core.specs.declared.cause.Cause.{Cause}
+pub use Rattle.sc_core.specs.declared.cause.Cause.TheVariants.{BadPointer, BadType, Dangling, OutOfBounds}
+pub use Rattle.sc_core.specs.declared.value.Pointer.{Pointer}
+pub use Rattle.sc_core.specs.declared.value.Value.TheVariants.{Null, Ptr, Word}
+pub use Rattle.sc_core_laws.proofs.Growing.{done_goes, follow_goes, more, no_turn, reached, stays, then_from, then_goes}
+pub use Rattle.sc_core_laws.proofs.Growing.{turn_goes}
+pub use Rattle.sc_core_laws.specs.Prelude.{AllBefore, Goes, Grown, last, stack_depth, depth_after}
+pub use Rattle.rv_code.specs.declared.instr.Instr.{Instr}
+pub use Rattle.sc_store.specs.Prelude.{Memory}
+pub use Rattle.sc_image.proofs.Memory.{few_globals}
+pub use Rattle.sc_image.specs.Prelude.{IsWellFormed, IsWord, Traps, Walks, data_start, stack_size, stack_top, step}
+pub use Rattle.sc_image.specs.Prelude.{word_at}
+pub use Rattle.sc_emit_hart.proofs.Inside.{IsInside, code_inside}
+pub use Rattle.sc_emit_hart.proofs.Steady.{walks_steady}
+pub use Rattle.sc_emit_hart.proofs.Steps.{jal, op_imm, stay, then_go}
+pub use Rattle.sc_emit_hart.proofs.Words.{apart_from, word_apart, word_same}
+pub use Rattle.sc_emit_hart.specs.Prelude.{Apart, CodeAt, Fetches, Owned, Registers, data_end, put, put_word, word}
+pub use Rattle.sc_tac.specs.Prelude.{Codes, FrameFits, InSlot, IsClear, IsFrame, Lives, Point, Range, Set, Temps, Trail}
+pub use Rattle.sc_tac.specs.Prelude.{ahead_at, end_of, in_body, in_head, in_next, is_comparison, is_one, is_pointer}
+pub use Rattle.sc_tac.specs.Prelude.{is_unsigned, known, live_across, live_at_start, live_before, loop_points, no_temps}
+pub use Rattle.sc_tac.specs.Prelude.{object_range, one_or_none, operated, part_ahead, plain_points, point, ranges_of}
+pub use Rattle.sc_tac.specs.Prelude.{read, readings, row_first, row_points, takes_two, trail_step, with_temp}
+pub use Rattle.sc_tac.specs.declared.frame.FrameTree.{FrameTree}
+pub use Rattle.sc_tac.specs.declared.place.Place.TheVariants.{Register, Slot}
+pub use Rattle.sc_emit_select.specs.Prelude.{Addresses, Line, Plan, a0, a7, address_scratch, branch_back, branch_reach}
+pub use Rattle.sc_emit_select.specs.Prelude.{breaking, bytes_of, code_of_lines, completed, continuing, cycle, first_scratch}
+pub use Rattle.sc_emit_select.specs.Prelude.{followed, jump_back, linked, linked_from, low_after, low_of_target, nothing, plain}
+pub use Rattle.sc_emit_select.specs.Prelude.{plainly, ra, register_of, relocation_of, relocations_after, relocations_from}
+pub use Rattle.sc_emit_select.specs.Prelude.{rotated, second_scratch, sp, target_at, testing, with_low, with_target}
+pub use Rattle.sc_emit_relation.specs.Common.{CallTarget, Cell, ImageParts, Jal, Place, Value}
+pub use Rattle.sc_emit_relation.specs.Prelude.{Activation, AreInPlace, Arrives, Begins, Beside, BlocksMatch, Came, Comes}
+pub use Rattle.sc_emit_relation.specs.Prelude.{ComesBack, Costs, Effect, Ends, ExitGives, Follows, FrameMatches}
+pub use Rattle.sc_emit_relation.specs.Prelude.{FunctionGives, ReturnsValue, Gives, Guarded, InCell, InPlace, Injection}
+pub use Rattle.sc_emit_relation.specs.Prelude.{IsActivation, IsAddress, IsElement, IsInPlace, IsLeft, IsSound, Joint, Leads}
+pub use Rattle.sc_emit_relation.specs.Prelude.{LiveAt, Means, Overflows, Placed, Protected, Ready, Returns, Running, Setting}
+pub use Rattle.sc_emit_relation.specs.Prelude.{Settled, Emits, Standpoint, StandsAt, StandsFor, Starts, ends_of, machine}
+pub use Rattle.sc_emit_relation.specs.Prelude.{own_words, row, seen_from, wanted}

@@ -1,0 +1,119 @@
+-- A call ends: its blocks no longer live, and the stack depth is less by its frame size.
+use Rattle.sc_emit_relation.proofs.Common.{AllBefore, Block, Blocks, Bool, Cell, Closed, FrameChange, Function, List, LiveAt}
+use Rattle.sc_emit_relation.proofs.Common.{Opened, Option, Some, State as Meant, Value, [], ap, arith, begun, cases_eq, done}
+use Rattle.sc_emit_relation.proofs.Common.{ended, eq-eqb, false, if◌then◌else◌, inl, inr, length, ne_eqb, stack_depth, refl}
+use Rattle.sc_emit_relation.proofs.Common.{depth_after, same_Some, slice_get, suc, sym, true, with_blocks, zero, ℕ, ⊎_elim}
+use Rattle.sc_emit_relation.proofs.Common.{◌++◌, ◌+◌, ◌-◌, ◌<◌, ◌==◌, ◌∙◌, ◌∷◌, ◌≡◌, ◌≢◌, ◌≤◌, ◌⊎◌}
+use Rattle.sc_core.specs.Prelude.{Memory}
+use Rattle.sc_emit_relation.proofs.Access.{LivesIn}
+
+-- a block that lives once some have ended lived before, and is none of these
+pub record StillLives (blocks : Blocks) (first count b : ℕ) (cells : List Cell) : Type 0 where
+  pub live : LivesIn blocks b cells
+  pub other : (b < first) ⊎ (first + count ≤ b)
+
+dead_lives : (block : Block) (cells : List Cell) →
+    ◌≡◌ {A = Option Block} (Some (record block { live = false })) (Some (record { live = true; cells = cells })) → ⊥
+dead_lives block cells h =
+    let e : record block { live = false } ≡ record { live = true; cells = cells } = same_Some _ _ h in
+    let clash : false ≡ true = ap (λ (b : Block). b.live) e in cc clash
+
+pub still_lives : (first count : ℕ) (blocks : Blocks) (b : ℕ) (cells : List Cell) →
+    LivesIn (ended first count blocks) b cells → StillLives blocks first count b cells
+still_lives zero zero blocks b cells h = record { live = h; other = inr (omega arith) }
+still_lives zero (suc count) [] b cells h = cc h
+still_lives zero (suc count) (x ∷ xs) zero cells h = absurd (dead_lives x cells h)
+still_lives zero (suc count) (x ∷ xs) (suc b) cells h =
+    let r : StillLives xs zero count b cells = still_lives zero count xs b cells h in
+    record { live = r.live; other = ⊎_elim (λ l. absurd (omega (arith, l))) (λ l. inr (omega (arith, l))) r.other }
+still_lives (suc first) count [] b cells h = cc h
+still_lives (suc first) count (x ∷ xs) zero cells h = record { live = h; other = inl (omega arith) }
+still_lives (suc first) count (x ∷ xs) (suc b) cells h =
+    let r : StillLives xs first count b cells = still_lives first count xs b cells h in
+    record { live = r.live; other = ⊎_elim (λ l. inl (omega (arith, l))) (λ l. inr (omega (arith, l))) r.other }
+
+pub length_ended : (first count : ℕ) (blocks : Blocks) → length (ended first count blocks) ≡ length blocks
+length_ended zero zero blocks = refl
+length_ended zero (suc count) [] = refl
+length_ended zero (suc count) (x ∷ xs) = ap suc (length_ended zero count xs)
+length_ended (suc first) count [] = refl
+length_ended (suc first) count (x ∷ xs) = ap suc (length_ended first count xs)
+
+-- the blocks of a compartment once a call of it has ended
+abbrev pub memory_closed : (c first count : ℕ) → Memory → Memory
+memory_closed c first count memory = with_blocks c (ended first count (memory c)) memory
+
+module _ (c first count : ℕ) (memory : Memory) where
+  closed_here : (k : ℕ) → k ≡ c → memory_closed c first count memory k ≡ ended first count (memory c)
+  closed_here k e = rw (eq-eqb k c e) refl
+
+  closed_there : (k : ℕ) → k ≢ c → memory_closed c first count memory k ≡ memory k
+  closed_there k n = rw (ne_eqb k c n) refl
+
+  pub record LivesOn (k b : ℕ) (cells : List Cell) : Type 0 where
+    pub live : LiveAt memory k b cells
+    pub other : k ≡ c → (b < first) ⊎ (first + count ≤ b)
+
+  pub lives_on : (k b : ℕ) (cells : List Cell) → LiveAt (memory_closed c first count memory) k b cells →
+      LivesOn k b cells
+  lives_on k b cells h = ⊎_elim
+      (λ e. (let r : StillLives (memory c) first count b cells =
+      still_lives first count (memory c) b cells (sym (ap (λ bs. slice_get bs b) (closed_here k e)) ∙ h) in
+      let back : LivesOn k b cells =
+      record { live = ap (λ k. slice_get (memory k) b) e ∙ r.live; other = λ same. r.other } in back))
+      (λ n. (let back : LivesOn k b cells = record {
+        live = sym (ap (λ bs. slice_get bs b) (closed_there k n)) ∙ h;
+        other = λ same. absurd (n same);
+      } in back)) (cases_eq k c)
+
+  pub length_closed : (k : ℕ) → length (memory_closed c first count memory k) ≡ length (memory k)
+  length_closed k = ⊎_elim
+      (λ e. ap length (closed_here k e) ∙ length_ended first count (memory c) ∙ ap (λ k. length (memory k)) (sym e))
+      (λ n. ap length (closed_there k n)) (cases_eq k c)
+
+-- the last change of frames
+change_by : (k : ℕ) (last : FrameChange) (a b m n : ℕ) (first : Bool) → a ≡ depth_after k m (last ∷ []) →
+    b ≡ depth_after k n (last ∷ []) → (if first then a else b) ≡ depth_after k (if first then m else n) (last ∷ [])
+change_by k last a b m n true h g = h
+change_by k last a b m n false h g = g
+
+last_change : (k depth : ℕ) (xs : List FrameChange) (last : FrameChange) →
+    depth_after k depth (xs ++ last ∷ []) ≡ depth_after k (depth_after k depth xs) (last ∷ [])
+last_change k depth [] last = refl
+last_change k depth (Opened timed c more ∷ xs) last =
+    change_by k last _ _ (depth_after k (depth + more) xs) (depth_after k depth xs) (c == k)
+    (last_change k (depth + more) xs last) (last_change k depth xs last)
+last_change k depth (Closed timed c less ∷ xs) last =
+    change_by k last _ _ (depth_after k (depth - less) xs) (depth_after k depth xs) (c == k)
+    (last_change k (depth - less) xs last) (last_change k depth xs last)
+
+module _ (k comp : ℕ) (f : Function) (s : Meant) where
+  pub depth_begun : (args : List Value) → k ≡ comp → stack_depth k (begun comp f args s) ≡ stack_depth k s + f.frame_size
+  depth_begun args e = last_change k 0 s.frames (Opened (length s.trace) comp f.frame_size) ∙ rw (eq-eqb comp k (sym e)) refl
+
+  pub depth_begun_else : (args : List Value) → k ≢ comp → stack_depth k (begun comp f args s) ≡ stack_depth k s
+  depth_begun_else args n =
+      last_change k 0 s.frames (Opened (length s.trace) comp f.frame_size) ∙ rw (ne_eqb comp k (λ e. n (sym e))) refl
+
+  pub depth_done : (first : ℕ) → k ≡ comp → stack_depth k (done comp f first s) ≡ stack_depth k s - f.frame_size
+  depth_done first e = last_change k 0 s.frames (Closed (length s.trace) comp f.frame_size) ∙ rw (eq-eqb comp k (sym e)) refl
+
+  pub depth_done_else : (first : ℕ) → k ≢ comp → stack_depth k (done comp f first s) ≡ stack_depth k s
+  depth_done_else first n =
+      last_change k 0 s.frames (Closed (length s.trace) comp f.frame_size) ∙ rw (ne_eqb comp k (λ e. n (sym e))) refl
+
+-- the changes of frames that were made within the trace, and one more
+
+next_told : (n : ℕ) (changes : List FrameChange) (change : FrameChange) → AllBefore (suc n) (change ∷ []) →
+    AllBefore (suc n) changes → AllBefore (suc n) (changes ++ change ∷ [])
+next_told n [] change one h = one
+next_told n (Opened timed c size ∷ changes) change one h = (h.0, next_told n changes change one h.1)
+next_told n (Closed timed c size ∷ changes) change one h = (h.0, next_told n changes change one h.1)
+
+pub timed_opened : (n comp depth : ℕ) (changes : List FrameChange) → AllBefore (suc n) changes →
+    AllBefore (suc n) (changes ++ Opened n comp size ∷ [])
+timed_opened n comp depth changes h = next_told n changes (Opened n comp size) (omega arith, tt) h
+
+pub timed_closed : (n comp depth : ℕ) (changes : List FrameChange) → AllBefore (suc n) changes →
+    AllBefore (suc n) (changes ++ Closed n comp size ∷ [])
+timed_closed n comp depth changes h = next_told n changes (Closed n comp size) (omega arith, tt) h

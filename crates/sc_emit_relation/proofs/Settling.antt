@@ -1,0 +1,118 @@
+-- Both sides stay settled while code of the running call changes registers and words of its frame, and across a store
+-- through a pointer; and what such a stretch leaves unchanged.
+use Rattle.sc_emit_relation.proofs.Common.{Activation, All, Apart, Blocks, FrameMatches, IsActivation, IsWellFormed, IsWord}
+use Rattle.sc_emit_relation.proofs.Common.{Joint, Leads, List, Memory as Bytes, Ok, Place, Pointer, Protected, Ptr}
+use Rattle.sc_emit_relation.proofs.Common.{Registers, Setting, Settled, Some, Standpoint, StandsFor, Value, Walks, arith}
+use Rattle.sc_emit_relation.proofs.Common.{cases_eq, false, inr, machine, own_words, put_word, refl, seen_from, slice_get}
+use Rattle.sc_emit_relation.proofs.Common.{store, walks_steady, with_memory, word, word_apart, ℕ, ⊎_elim, ◌*◌, ◌+◌, ◌≡◌, ◌≤◌}
+use Rattle.sc_emit_relation.proofs.Frames.{own_inside}
+use Rattle.sc_emit_relation.proofs.Storing.{CellsKept, other_data, blocks_kept, guarded_cells, was, guarded_kept}
+use Rattle.sc_emit_relation.proofs.Storing.{blocks_after}
+use Rattle.sc_emit_relation.proofs.Coming.{came_by}
+
+-- both sides, where the code has come to a pc, with these registers and bytes
+abbrev pub moved : Joint → (pc : ℕ) → Registers → Bytes → Joint
+moved x pc regs bytes = record x { pc = pc; regs = regs; bytes = bytes }
+
+-- and the compartment has these blocks
+abbrev pub moved_with : Joint → (comp : ℕ) → Blocks → (pc : ℕ) → Registers → Bytes → Joint
+moved_with x comp blocks pc regs bytes =
+    record x { meant = with_memory comp blocks x.meant; pc = pc; regs = regs; bytes = bytes }
+
+module _ (T : Setting) (formed : IsWellFormed T.image) (inputs : All IsWord T.inputs) (P : Standpoint) where
+  pub settled_moved : (x : Joint) (n pc : ℕ) (regs : Registers) (later : Bytes) → Settled T P x →
+      CellsKept T.performs x.inj x.meant.memory x.bytes later →
+      Walks T.image T.inputs n (machine P x) (machine P (moved x pc regs later)) → Settled T P (moved x pc regs later)
+  settled_moved x n pc regs later s kept walks = record {
+    blocks = blocks_kept T.image formed T.performs P.floor x.inj x.meant.memory x.bytes s.blocks later kept;
+    globals = s.globals;
+    saved = s.saved;
+    inputs = s.inputs;
+    steady = walks_steady T.image T.inputs formed inputs n _ _ walks s.steady;
+    came = came_by T n _ _ walks s.came;
+    depth = s.depth;
+    timed = s.timed;
+  }
+
+  -- a stretch that leaves protected words unchanged
+  pub leads_moved : (x : Joint) (n left pc : ℕ) (regs : Registers) (later : Bytes) →
+      ((k q : ℕ) → Protected T P x.inj x.meant.memory k q → word later q ≡ word x.bytes q) →
+      Walks T.image T.inputs n (machine P x) (machine P (moved x pc regs later)) →
+      Leads T P x (moved x pc regs later) (n + left) left
+  leads_moved x n left pc regs later kept walks = record {
+    steps = n;
+    run = walks;
+    costs = record { least = omega arith; most = λ all. omega arith };
+    effect = record {
+      grows = λ k b a e. e;
+      lived = λ k b cells s live. (cells, live, refl);
+      keeps = kept;
+      depths = λ k. refl;
+    };
+  }
+
+  -- A store through a pointer.
+  module _ (x : Joint) (n pc a w : ℕ) (regs : Registers) (p : Pointer) (v : Value) (after : Blocks) (s : Settled T P x)
+      (honest : T.performs P.comp ≡ false) (stores : store (x.meant.memory P.comp) (Ptr p) v ≡ Ok after)
+      (is_at : x.inj P.comp p.block ≡ Some a) where
+    abbrev pub later : Bytes
+    later = put_word x.bytes (a + 4 * p.index) w
+
+    abbrev pub stored_at : Joint
+    stored_at = moved_with x P.comp after pc regs later
+
+    pub settled_stored : StandsFor (x.inj P.comp) w v →
+        Walks T.image T.inputs n (machine P x) (machine P stored_at) → Settled T P stored_at
+    settled_stored stands walks = record {
+      blocks = blocks_after T.image formed T.performs P.floor x.inj x.meant.memory x.bytes s.blocks P.comp a w p v after
+          honest stores is_at stands;
+      globals = s.globals;
+      saved = s.saved;
+      inputs = s.inputs;
+      steady = walks_steady T.image T.inputs formed inputs n _ _ walks s.steady;
+      came = came_by T n _ _ walks s.came;
+      depth = s.depth;
+      timed = s.timed;
+    }
+
+    pub leads_stored : (left : ℕ) → Walks T.image T.inputs n (machine P x) (machine P stored_at) →
+        Leads T P x stored_at (n + left) left
+    leads_stored left walks = record {
+      steps = n;
+      run = walks;
+      costs = record { least = omega arith; most = λ all. omega arith };
+      effect = record {
+        grows = λ k b a e. e;
+        lived = λ k b cells h live.
+            (let old = was T.image formed T.performs P.floor x.inj x.meant.memory x.bytes s.blocks P.comp a w p v after
+            honest stores is_at k b cells live in
+            (old.old, old.live, old.long));
+        keeps = λ k q g. guarded_kept T.image formed T.performs P.floor x.inj x.meant.memory x.bytes s.blocks P.comp a w
+            p v after honest stores is_at k q g.guard;
+        depths = λ k. refl;
+      };
+    }
+
+-- A word of the running call's frame is written.
+module _ (T : Setting) (formed : IsWellFormed T.image) (cells : List ℕ) (places : List Place) (nodes : ℕ)
+    (A : Activation) (is : IsActivation T.performs cells places nodes A) (x : Joint) (i offset w : ℕ)
+    (its : slice_get (own_words A.frame) i ≡ Some offset) where
+  abbrev P : Standpoint
+  P = seen_from A
+
+  pub own_cells : Settled T P x → FrameMatches T.image A x.inj x.meant.memory x.bytes →
+      CellsKept T.performs x.inj x.meant.memory x.bytes (put_word x.bytes (A.sp + offset) w)
+  own_cells s frame =
+      guarded_cells T.image formed T.performs A.floor x.inj x.meant.memory x.bytes s.blocks A.here.comp (A.sp + offset)
+      w (frame.guard i offset its)
+
+  -- what belongs to what lies above the frame is none of its words
+  pub own_keeps : FrameMatches T.image A x.inj x.meant.memory x.bytes → (k q : ℕ) →
+      Protected T P x.inj x.meant.memory k q → word (put_word x.bytes (A.sp + offset) w) q ≡ word x.bytes q
+  own_keeps frame k q p =
+      let inside : offset + 4 ≤ A.frame.bytes = own_inside cells places nodes A.frame is.frame_fits i offset its in
+      let apart : Apart q (A.sp + offset) =
+      ⊎_elim (λ e. inr (omega (arith, p.own e, inside)))
+      (λ n. other_data T.image k A.here.comp q (A.sp + offset) formed n p.guard.owned
+      (frame.guard i offset its).owned) (cases_eq k A.here.comp) in
+      word_apart x.bytes (A.sp + offset) w q apart

@@ -1,0 +1,498 @@
+-- The traces of the machine's runs, by what it does beside a run.
+use Rattle.sc_emit_run_laws.proofs.Common.{AgreesInDepth, AgreesUntilBlame, AllBefore, AllFrom, Blamed, Bool, Closed, End}
+use Rattle.sc_emit_run_laws.proofs.Common.{Ended, Event, EventsOut, Finishes, FrameChange, IsPrefix, Goes, ImageParts}
+use Rattle.sc_emit_run_laws.proofs.Common.{IsBlamed, IsFull, IsStop, IsWellFormed, List, None, Opened, OutcomesSimulate, Owner}
+use Rattle.sc_emit_run_laws.proofs.Common.{Reaches, Run, RunEnd, RunsAgree, RunsUntilBlame, SimulatesRun, SourceRun, Stands}
+use Rattle.sc_emit_run_laws.proofs.Common.{Traps, TrapsFull, TurnsOut, [], ap, arith, before_more, blamed, blamed_run}
+use Rattle.sc_emit_run_laws.proofs.Common.{deepest, deepest_is_reached, depth_in, drop, ended, false, finishes, prefix_more}
+use Rattle.sc_emit_run_laws.proofs.Common.{prefix_same, inl, inr, is_full, leb-false, leb-true, length, length-append}
+use Rattle.sc_emit_run_laws.proofs.Common.{lt-leb, ltb-false, ltb-true, nat_le, nat_lt, not_stopped, reaches, refl, reg}
+use Rattle.sc_emit_run_laws.proofs.Common.{depth_after, run, run_goes, run_stopped, run_traps, same, same_run, stack_size}
+use Rattle.sc_emit_run_laws.proofs.Common.{stands, start, step, steps_emit, stopped, stopped_at, subst, suc, sym, take}
+use Rattle.sc_emit_run_laws.proofs.Common.{take-append-drop, take_prefixes, trace_is, true, without_line, zero, ℕ, ⊎_elim}
+use Rattle.sc_emit_run_laws.proofs.Common.{◌++◌, ◌+◌, ◌-◌, ◌<◌, ◌∙◌, ◌∷◌, ◌≡◌, ◌≤◌, ◌⊎◌}
+use Rattle.sc_image.specs.Prelude.{State, a0, machine}
+use Rattle.sc_emit_run_laws.specs.Prelude.{Outcome}
+use Rattle.std.proofs.Common.{take_all}
+use Rattle.sc_base.specs.declared.stop.Stop.TheVariants.{Ended as EndedStop, Trap}
+use Rattle.sc_emit_run_laws.proofs.Along.{Along, along, prefix_taken, not_over, run_prefix}
+
+-- FRAMES
+
+-- changes that were made before a moment stand before those that were made after it
+earlier_first : (n m : ℕ) → n ≤ m → (xs ys more less : List FrameChange) → xs ++ more ≡ ys ++ less →
+    AllBefore n xs → AllFrom m less → IsPrefix xs ys
+earlier_first n m le [] ys more less is before late = record { more = ys; is = refl }
+earlier_first n m le (x ∷ xs) [] more less is before late = absurd (never x is before) where
+  never : (x : FrameChange) → x ∷ (xs ++ more) ≡ less → AllBefore n (x ∷ xs) → ⊥
+  never (Opened timed c size) is before =
+      let later : AllFrom m (Opened timed c size ∷ (xs ++ more)) = subst (AllFrom m) (sym is) late in
+      omega (arith, le, before.0, later.0)
+  never (Closed timed c size) is before =
+      let later : AllFrom m (Closed timed c size ∷ (xs ++ more)) = subst (AllFrom m) (sym is) late in
+      omega (arith, le, before.0, later.0)
+earlier_first n m le (x ∷ xs) (y ∷ ys) more less is before late =
+    let first : x ≡ y = cc in
+    let rest : xs ++ more ≡ ys ++ less = cc in
+    on first (earlier_first n m le xs ys more less rest (tail x before) late) where
+      tail : (x : FrameChange) → AllBefore n (x ∷ xs) → AllBefore n xs
+      tail (Opened timed c size) before = before.1
+      tail (Closed timed c size) before = before.1
+
+      on : x ≡ y → IsPrefix xs ys → IsPrefix (x ∷ xs) (y ∷ ys)
+      on first prefix = record { more = prefix.more; is = (λ i. sym first i ∷ prefix.is i) }
+
+-- TRACES
+take_within : {A : Type 0} (n : ℕ) (xs more : List A) → n ≤ length xs → take n xs ≡ take n (xs ++ more)
+take_within zero xs more le = refl
+take_within (suc n) [] more le = absurd (omega (arith, le))
+take_within (suc n) (x ∷ xs) more le = ap (λ ys. x ∷ ys) (take_within n xs more (omega (arith, le)))
+
+take_same : {A : Type 0} (n : ℕ) (xs ys : List A) → IsPrefix xs ys → n ≤ length xs → take n xs ≡ take n ys
+take_same n xs ys prefix le = take_within n xs prefix.more le ∙ ap (take n) (sym prefix.is)
+
+-- of two prefixes of a list the one that is no longer is a prefix of the other
+pub shorter_first : {A : Type 0} (xs ys zs : List A) → IsPrefix xs zs → IsPrefix ys zs → length xs ≤ length ys → IsPrefix xs ys
+shorter_first xs ys zs a b le =
+    let begins : take (length xs) ys ≡ xs =
+    take_same (length xs) ys zs b le ∙ sym (take_same (length xs) xs zs a (omega arith)) ∙
+    take_all (length xs) xs (omega arith) in
+    record {
+      more = drop (length xs) ys;
+      is = sym (take-append-drop (length xs) ys) ∙ ap (λ t. t ++ drop (length xs) ys) begins;
+    }
+
+-- STOPPED RUNS
+unstopped_by : (events : ℕ) (run : SourceRun) (end : RunEnd) → IsStop end → length run.trace < events →
+    reaches events run end ≡ false
+unstopped_by events run Ended stop short = absurd stop
+unstopped_by events run (Blamed comp cause line) stop short = lt-leb events (length run.trace) short
+unstopped_by events run TurnsOut stop short = lt-leb events (length run.trace) short
+unstopped_by events run EventsOut stop short = absurd stop
+
+-- one that has fewer events than it may is stopped by nothing
+pub unstopped : (events : ℕ) (run : SourceRun) → IsStop run.end → length run.trace < events →
+    stopped_at events run ≡ run
+unstopped events run stop short = rw (unstopped_by events run run.end stop short) refl
+
+module _ (image : ImageParts) (inputs : List ℕ) (formed : IsWellFormed image) where
+  -- A stretch from the start.
+  module _ (bound : ℕ) (place : Reaches image inputs bound) (events : ℕ) where
+    abbrev reached : State
+    reached = place.reached
+
+    abbrev observed : (steps : ℕ) → List Event
+    observed steps = (machine image inputs steps events).state.trace
+
+    way : Along image inputs formed events reached place.going place.steps (start image)
+    way = along image inputs formed events reached place.going place.steps (start image) place.walks.by (omega arith)
+
+    -- no more steps than the stretch has
+    pub few : (steps : ℕ) → steps ≤ place.steps → IsPrefix (observed steps) (take events reached.trace)
+    few steps le = way.fewer steps le
+
+    -- at least as many steps, where the trace of the stretch has `events` events or more
+    pub full : (steps : ℕ) → place.steps ≤ steps → events ≤ length reached.trace →
+        observed steps ≡ take events reached.trace
+    full steps le long = way.full steps le long
+
+    -- at least as many, where it has fewer
+    room : (more : ℕ) → length reached.trace < events →
+        machine image inputs (place.steps + more) events ≡ run image inputs events more reached
+    room more short = way.room more short
+
+    early : length reached.trace < events → stopped events reached.trace ≡ None
+    early short = not_stopped image inputs formed events reached.trace (not_over reached.trace place.going) short
+
+    -- the steps that are left after the stretch
+    rest_is : (steps : ℕ) → place.steps ≤ steps → place.steps + (steps - place.steps) ≡ steps
+    rest_is steps le = omega (arith, le)
+
+    on_from : (steps : ℕ) → place.steps ≤ steps → length reached.trace < events →
+        machine image inputs steps events ≡ run image inputs events (steps - place.steps) reached
+    on_from steps le short =
+        ap (λ k. machine image inputs k events) (sym (rest_is steps le)) ∙ room (steps - place.steps) short
+
+    -- where one more step ends the run
+    pub ended_is : (steps : ℕ) → place.steps < steps → length reached.trace < events →
+        step image inputs reached ≡ Goes (ended reached) → observed steps ≡ (ended reached).trace
+    ended_is steps less short goes =
+        let one : steps - place.steps ≡ suc (steps - place.steps - 1) = omega (arith, less) in
+        ap (λ r. r.state.trace) (on_from steps (omega (arith, less)) short ∙
+        ap (λ k. run image inputs events k reached) one ∙
+        run_goes image inputs events (steps - place.steps - 1) reached (ended reached) (early short) goes ∙
+        run_stopped image inputs events (steps - place.steps - 1) (ended reached) EndedStop
+        (steps_emit.ended_stops events reached))
+
+    -- where one more step is a trap
+    pub trapped_is : (steps : ℕ) → place.steps < steps → length reached.trace < events →
+        step image inputs reached ≡ Traps Owner →
+        machine image inputs steps events ≡ record { state = reached; stop = Trap Owner reached.pc }
+    trapped_is steps less short traps =
+        let one : steps - place.steps ≡ suc (steps - place.steps - 1) = omega (arith, less) in
+        on_from steps (omega (arith, less)) short ∙ ap (λ k. run image inputs events k reached) one ∙
+        run_traps image inputs events (steps - place.steps - 1) reached Owner (early short) traps
+
+    pub later_prefix : (steps : ℕ) → place.steps ≤ steps → length reached.trace < events →
+        IsPrefix reached.trace (observed steps)
+    later_prefix steps le short =
+        subst (λ r. IsPrefix reached.trace r.state.trace) (sym (on_from steps le short))
+        (run_prefix image inputs formed events (steps - place.steps) reached)
+
+    -- by a longer trace, of which that of the stretch is a prefix
+    covered : (whole : List Event) → IsPrefix reached.trace whole → (steps : ℕ) → place.steps ≤ steps →
+        events ≤ length reached.trace → observed steps ≡ take events whole
+    covered whole prefix steps le long = full steps le long ∙ take_same events reached.trace whole prefix long
+
+    uncovered : (whole : List Event) → IsPrefix reached.trace whole → (steps : ℕ) → steps ≤ place.steps →
+        IsPrefix (observed steps) (take events whole)
+    uncovered whole prefix steps le =
+        prefix_more (observed steps) (take events reached.trace) (take events whole) (few steps le)
+        (take_prefixes events events reached.trace whole (omega arith) prefix)
+
+  -- WHERE `main` RETURNS
+  module _ (bound turns : ℕ) (run : Run) (f : Finishes image inputs bound turns run) (events : ℕ) where
+    abbrev last : State
+    last = f.place.reached
+
+    abbrev whole : List Event
+    whole = run.behaviour.trace
+
+    last_prefix : IsPrefix last.trace whole
+    last_prefix = record { more = End last.active (reg last a0) ∷ []; is = sym f.trace }
+
+    finish_is : (steps : ℕ) → f.place.steps < steps → observed bound f.place events steps ≡ take events whole
+    finish_is steps less = by (nat_le events (length last.trace)) refl where
+      by : (b : Bool) → nat_le events (length last.trace) ≡ b → observed bound f.place events steps ≡ take events whole
+      by true is =
+          covered bound f.place events whole last_prefix steps (omega (arith, less))
+          (leb-true events (length last.trace) is)
+      by false is =
+          let short : length last.trace < events = leb-false events (length last.trace) is in
+          let long : length whole ≡ length last.trace + 1 =
+          ap length (sym f.trace) ∙ length-append last.trace (End last.active (reg last a0) ∷ []) in
+          ended_is bound f.place events steps less short f.ends ∙ f.trace ∙
+          sym (take_all events whole (omega (arith, short, long)))
+
+    finish_back : (steps : ℕ) → IsPrefix (observed bound f.place events steps) (take events whole)
+    finish_back steps = by (nat_lt f.place.steps steps) refl where
+      by : (b : Bool) → nat_lt f.place.steps steps ≡ b → IsPrefix (observed bound f.place events steps) (take events whole)
+      by true is =
+          subst (λ t. IsPrefix t (take events whole)) (sym (finish_is steps (ltb-true f.place.steps steps is)))
+          (prefix_same (take events whole))
+      by false is =
+          uncovered bound f.place events whole last_prefix steps (ltb-false f.place.steps steps is)
+
+  -- WHERE THE RUN STOPS
+  module _ (bound turns : ℕ) (run : Run) (f : Stands image inputs bound turns run) (events : ℕ) where
+    abbrev there : State
+    there = f.place.reached
+
+    abbrev all : List Event
+    all = run.behaviour.trace
+
+    there_prefix : IsPrefix there.trace all
+    there_prefix = subst (IsPrefix there.trace) f.trace (prefix_same there.trace)
+
+    all_is : length there.trace < events → take events all ≡ there.trace
+    all_is short = ap (take events) (sym f.trace) ∙ take_all events there.trace (omega (arith, short))
+
+    -- after the stretch the machine has emitted all of it
+    stand_emits : (steps : ℕ) → f.place.steps ≤ steps → IsPrefix (take events all) (observed bound f.place events steps)
+    stand_emits steps le = by (nat_le events (length there.trace)) refl where
+      by : (b : Bool) → nat_le events (length there.trace) ≡ b →
+          IsPrefix (take events all) (observed bound f.place events steps)
+      by true is =
+          subst (IsPrefix (take events all)) (sym (covered bound f.place events all there_prefix steps le
+          (leb-true events (length there.trace) is))) (prefix_same (take events all))
+      by false is =
+          let short : length there.trace < events = leb-false events (length there.trace) is in
+          subst (λ t. IsPrefix t (observed bound f.place events steps)) (sym (all_is short))
+          (later_prefix bound f.place events steps le short)
+
+    -- it emits nothing else up to there; what comes after a blame may be anything
+    stand_back : (steps : ℕ) → steps ≤ turns →
+        IsPrefix (observed bound f.place events steps) (take events all)
+        ⊎ (IsBlamed (stopped_at events run.behaviour).end ×
+        IsPrefix (take events all) (observed bound f.place events steps))
+    stand_back steps le = by (nat_le steps f.place.steps) refl where
+      following : (end : RunEnd) → run.behaviour.end ≡ end → f.place.steps < steps → length there.trace < events →
+          IsBlamed (stopped_at events run.behaviour).end
+      following Ended is less short = absurd (subst IsStop is f.end)
+      following (Blamed comp cause line) is less short =
+          subst (λ r. IsBlamed r.end) (sym (unstopped events run.behaviour f.end
+          (subst (λ t. length t < events) f.trace short))) (subst IsBlamed (sym is) tt)
+      following TurnsOut is less short = absurd (omega (arith, less, le, f.spent is))
+      following EventsOut is less short = absurd (subst IsStop is f.end)
+
+      past : f.place.steps < steps → (b : Bool) → nat_le events (length there.trace) ≡ b →
+          IsPrefix (observed bound f.place events steps) (take events all)
+          ⊎ (IsBlamed (stopped_at events run.behaviour).end ×
+          IsPrefix (take events all) (observed bound f.place events steps))
+      past less true is =
+          inl (subst (λ t. IsPrefix t (take events all)) (sym (covered bound f.place events all there_prefix steps
+          (omega (arith, less)) (leb-true events (length there.trace) is))) (prefix_same (take events all)))
+      past less false is =
+          inr (
+            following run.behaviour.end refl less (leb-false events (length there.trace) is),
+            stand_emits steps (omega (arith, less)),
+          )
+
+      by : (b : Bool) → nat_le steps f.place.steps ≡ b →
+          IsPrefix (observed bound f.place events steps) (take events all)
+          ⊎ (IsBlamed (stopped_at events run.behaviour).end ×
+          IsPrefix (take events all) (observed bound f.place events steps))
+      by true is = inl (uncovered bound f.place events all there_prefix steps (leb-true steps f.place.steps is))
+      by false is =
+          past (leb-false steps f.place.steps is) (nat_le events (length there.trace)) refl
+
+  -- WHERE A STACK IS FULL
+  module _ (bound turns : ℕ) (run : Run) (f : IsFull image inputs bound turns run) (events : ℕ) where
+    abbrev stuck : State
+    stuck = f.place.reached
+
+    -- all of it, or it stands trapped
+    full_emits : (steps : ℕ) → f.place.steps < steps →
+        (observed bound f.place events steps ≡ take events run.behaviour.trace)
+        ⊎ ((length stuck.trace < events) ×
+        (machine image inputs steps events ≡ record { state = stuck; stop = Trap Owner stuck.pc }))
+    full_emits steps less = by (nat_le events (length stuck.trace)) refl where
+      by : (b : Bool) → nat_le events (length stuck.trace) ≡ b →
+          (observed bound f.place events steps ≡ take events run.behaviour.trace)
+          ⊎ ((length stuck.trace < events) ×
+          (machine image inputs steps events ≡ record { state = stuck; stop = Trap Owner stuck.pc }))
+      by true is =
+          inl (covered bound f.place events run.behaviour.trace f.trace steps (omega (arith, less))
+          (leb-true events (length stuck.trace) is))
+      by false is =
+          let short : length stuck.trace < events = leb-false events (length stuck.trace) is in
+          inr (short, trapped_is bound f.place events steps less short f.traps)
+
+    full_back : (steps : ℕ) → IsPrefix (observed bound f.place events steps) (take events run.behaviour.trace)
+    full_back steps = by (nat_lt f.place.steps steps) refl where
+      past : (observed bound f.place events steps ≡ take events run.behaviour.trace)
+          ⊎ ((length stuck.trace < events) ×
+          (machine image inputs steps events ≡ record { state = stuck; stop = Trap Owner stuck.pc })) →
+          IsPrefix (observed bound f.place events steps) (take events run.behaviour.trace)
+      past (inl is) =
+          subst (λ t. IsPrefix t (take events run.behaviour.trace)) (sym is)
+          (prefix_same (take events run.behaviour.trace))
+      past (inr there) =
+          subst (λ r. IsPrefix r.state.trace (take events run.behaviour.trace)) (sym there.1)
+          (prefix_taken events stuck.trace run.behaviour.trace f.trace (omega (arith, there.0)))
+
+      by : (b : Bool) → nat_lt f.place.steps steps ≡ b →
+          IsPrefix (observed bound f.place events steps) (take events run.behaviour.trace)
+      by true is = past (full_emits steps (ltb-true f.place.steps steps is))
+      by false is =
+          uncovered bound f.place events run.behaviour.trace f.trace steps (ltb-false f.place.steps steps is)
+
+    -- the run's depth at that moment
+    full_deep : (one : Run) → IsPrefix f.frames one.frames → length stuck.trace < events →
+        stack_size < depth_in one events stuck.active
+    full_deep one prefix short =
+        let there : depth_after stuck.active 0 f.frames ≤ deepest events stuck.active 0 (f.frames ++ prefix.more) =
+        deepest_is_reached events stuck.active f.frames prefix.more
+        (before_more (suc (length stuck.trace)) events (omega (arith, short)) f.frames f.before) in
+        subst (λ changes. stack_size < deepest events stuck.active 0 changes) (sym prefix.is)
+        (omega (arith, f.deep, there))
+
+    full_traps : (one : Run) → IsPrefix f.frames one.frames → IsPrefix stuck.trace one.behaviour.trace → (steps : ℕ) →
+        length stuck.trace < events →
+        machine image inputs steps events ≡ record { state = stuck; stop = Trap Owner stuck.pc } →
+        TrapsFull (machine image inputs steps events) one events
+    full_traps one frames trace steps short is =
+        subst (λ r. TrapsFull r one events) (sym is) (record {
+          stop = refl;
+          deep = full_deep one frames short;
+          trace = subst (IsPrefix stuck.trace) (sym (trace_is events one.behaviour))
+              (prefix_taken events stuck.trace one.behaviour.trace trace (omega (arith, short)));
+        })
+
+  -- ALL OUTCOMES
+  module _ (bound turns : ℕ) (run : Run) where
+    abbrev cut : ℕ → List Event
+    cut events = (stopped_at events run.behaviour).trace
+
+    abbrev seen : (steps events : ℕ) → List Event
+    seen steps events = (machine image inputs steps events).state.trace
+
+    as_cut : (events : ℕ) (trace : List Event) → IsPrefix (take events run.behaviour.trace) trace →
+        IsPrefix (cut events) trace
+    as_cut events trace = subst (λ t. IsPrefix t trace) (sym (trace_is events run.behaviour))
+
+    to_cut : (events : ℕ) (trace : List Event) → IsPrefix trace (take events run.behaviour.trace) →
+        IsPrefix trace (cut events)
+    to_cut events trace = subst (IsPrefix trace) (sym (trace_is events run.behaviour))
+
+    equal_cut : (events : ℕ) (trace : List Event) → trace ≡ take events run.behaviour.trace → IsPrefix (cut events) trace
+    equal_cut events trace is =
+        as_cut events trace (subst (IsPrefix (take events run.behaviour.trace)) (sym is)
+        (prefix_same (take events run.behaviour.trace)))
+
+    own_forward : Outcome image inputs bound turns run → (events : ℕ) →
+        IsPrefix (cut events) (seen bound events) ⊎ TrapsFull (machine image inputs bound events) run events
+    own_forward (finishes f) events =
+        inl (equal_cut events (seen bound events) (finish_is bound turns run f events bound f.place.within))
+    own_forward (stands f) events =
+        let within : f.place.steps < bound = f.place.within in
+        inl (as_cut events (seen bound events) (stand_emits bound turns run f events bound (omega (arith, within))))
+    own_forward (is_full f) events =
+        ⊎_elim (λ is. inl (equal_cut events (seen bound events) is))
+        (λ there. inr (full_traps bound turns run f events run f.prefix f.trace bound there.0 there.1))
+        (full_emits bound turns run f events bound f.place.within)
+
+    own_backward : Outcome image inputs bound turns run → (steps events : ℕ) → steps ≤ turns →
+        IsPrefix (seen steps events) (cut events)
+        ⊎ (IsBlamed (stopped_at events run.behaviour).end × IsPrefix (cut events) (seen steps events))
+    own_backward (finishes f) steps events le =
+        inl (to_cut events (seen steps events) (finish_back bound turns run f events steps))
+    own_backward (stands f) steps events le =
+        ⊎_elim (λ h. inl (to_cut events (seen steps events) h))
+        (λ h. inr (h.0, as_cut events (seen steps events) h.1)) (stand_back bound turns run f events steps le)
+    own_backward (is_full f) steps events le =
+        inl (to_cut events (seen steps events) (full_back bound turns run f events steps))
+
+  -- A RUN THAT IS BLAMED FOR ARITHMETIC, BESIDE ONE THAT GOES ON
+  module _ (bound turns : ℕ) (one other : Run) (trace : IsPrefix one.behaviour.trace other.behaviour.trace)
+      (frames : IsPrefix one.frames other.frames)
+      (late : AllFrom (length one.behaviour.trace) frames.more) where
+    cuts : (events : ℕ) (observed : List Event) → IsPrefix (stopped_at events other.behaviour).trace observed →
+        IsPrefix (stopped_at events one.behaviour).trace observed
+    cuts events observed h =
+        prefix_more (stopped_at events one.behaviour).trace (stopped_at events other.behaviour).trace observed
+        (as_cut bound turns one events (stopped_at events other.behaviour).trace (to_cut bound turns other events
+        (take events one.behaviour.trace) (take_prefixes events events one.behaviour.trace other.behaviour.trace
+        (omega arith) trace))) h
+
+    module _ (f : IsFull image inputs bound turns other) (events : ℕ) where
+      abbrev fixed : State
+      fixed = f.place.reached
+
+      blamed_trap : length fixed.trace < events →
+          machine image inputs bound events ≡ record { state = fixed; stop = Trap Owner fixed.pc } →
+          IsPrefix (stopped_at events one.behaviour).trace (machine image inputs bound events).state.trace
+          ⊎ TrapsFull (machine image inputs bound events) one events
+      blamed_trap short is = by (nat_le (length one.behaviour.trace) (length fixed.trace)) refl where
+        by : (b : Bool) → nat_le (length one.behaviour.trace) (length fixed.trace) ≡ b →
+            IsPrefix (stopped_at events one.behaviour).trace (machine image inputs bound events).state.trace
+            ⊎ TrapsFull (machine image inputs bound events) one events
+        by true b =
+            let less : length one.behaviour.trace ≤ length fixed.trace =
+            leb-true (length one.behaviour.trace) (length fixed.trace) b in
+            inl (subst (λ r. IsPrefix (stopped_at events one.behaviour).trace r.state.trace) (sym is)
+            (as_cut bound turns one events fixed.trace (subst (λ t. IsPrefix t fixed.trace)
+            (sym (take_all events one.behaviour.trace (omega (arith, less, short))))
+            (shorter_first one.behaviour.trace fixed.trace other.behaviour.trace trace f.trace less))))
+        by false b =
+            let more : length fixed.trace < length one.behaviour.trace =
+            leb-false (length one.behaviour.trace) (length fixed.trace) b in
+            inr (full_traps bound turns other f events one
+            (earlier_first (suc (length fixed.trace)) (length one.behaviour.trace) (omega (arith, more)) f.frames
+            one.frames f.prefix.more frames.more (sym f.prefix.is ∙ frames.is) f.before late)
+            (shorter_first fixed.trace one.behaviour.trace other.behaviour.trace f.trace trace (omega (arith, more)))
+            bound short is)
+
+    blamed_forward : Outcome image inputs bound turns other → (events : ℕ) →
+        IsPrefix (stopped_at events one.behaviour).trace (machine image inputs bound events).state.trace
+        ⊎ TrapsFull (machine image inputs bound events) one events
+    blamed_forward (finishes f) events =
+        inl (cuts events _ (equal_cut bound turns other events (machine image inputs bound events).state.trace
+        (finish_is bound turns other f events bound f.place.within)))
+    blamed_forward (stands f) events =
+        let within : f.place.steps < bound = f.place.within in
+        inl (cuts events _ (as_cut bound turns other events (machine image inputs bound events).state.trace
+        (stand_emits bound turns other f events bound (omega (arith, within)))))
+    blamed_forward (is_full f) events =
+        ⊎_elim (λ is. inl (cuts events _ (equal_cut bound turns other events
+        (machine image inputs bound events).state.trace is)))
+        (λ there. blamed_trap f events there.0 there.1) (full_emits bound turns other f events bound f.place.within)
+
+  module _ (bound turns : ℕ) (one other : Run) (agrees : AgreesInDepth one other)
+      (outcome : Outcome image inputs bound turns other) where
+    forward : RunsUntilBlame one other → (events : ℕ) →
+        IsPrefix (stopped_at events one.behaviour).trace (machine image inputs bound events).state.trace
+        ⊎ TrapsFull (machine image inputs bound events) one events
+    forward (same_run is) events =
+        own_forward bound turns one (subst (Outcome image inputs bound turns) is outcome) events
+    forward (blamed_run comp cause line ends soft prefix frames late) events =
+        blamed_forward bound turns one other prefix frames late outcome events
+
+    module _ (steps events : ℕ) where
+      abbrev timed : List Event
+      timed = (machine image inputs steps events).state.trace
+
+      -- its trace is a prefix of this run's, or this run is blamed and its trace is a prefix of the machine's
+      abbrev After : SourceRun → Type 0
+      After r = IsPrefix timed r.trace ⊎ (IsBlamed r.end × IsPrefix r.trace timed)
+
+      sorted : (r : SourceRun) → IsBlamed r.end → (whole : List Event) → IsPrefix r.trace whole → IsPrefix timed whole →
+          (b : Bool) → nat_le (length timed) (length r.trace) ≡ b → After r
+      sorted r ends whole a h true is =
+          inl (shorter_first timed r.trace whole h a (leb-true (length timed) (length r.trace) is))
+      sorted r ends whole a h false is =
+          let less : length r.trace < length timed = leb-false (length timed) (length r.trace) is in
+          inr (ends, shorter_first r.trace timed whole a h (omega (arith, less)))
+
+      following : After (stopped_at events other.behaviour) →
+          AgreesUntilBlame (stopped_at events one.behaviour) (stopped_at events other.behaviour) →
+          After (stopped_at events one.behaviour)
+      following h (same is) = subst After is h
+      following h (blamed comp cause line ends soft prefix) =
+          let blame : IsBlamed (stopped_at events one.behaviour).end = subst IsBlamed (sym ends) tt in
+          ⊎_elim (λ h. sorted (stopped_at events one.behaviour) blame (stopped_at events other.behaviour).trace prefix h
+          (nat_le (length timed) (length (stopped_at events one.behaviour).trace)) refl)
+          (λ h. inr (
+            blame,
+            prefix_more (stopped_at events one.behaviour).trace (stopped_at events other.behaviour).trace
+                timed prefix h.1,
+          )) h
+
+    backward : (steps events : ℕ) → steps ≤ turns → After steps events (stopped_at events one.behaviour)
+    backward steps events le =
+        following steps events (own_backward bound turns other outcome steps events le) (agrees.behaviour events)
+
+    pub emits : SimulatesRun image inputs bound turns one
+    emits = record { forward = forward agrees.whole; backward = backward }
+
+-- RUNS THAT AGREE UP TO LINES
+pub blamed_too : (end other : RunEnd) → without_line end ≡ without_line other → IsBlamed other → IsBlamed end
+blamed_too Ended (Blamed comp cause line) is h = cc is
+blamed_too TurnsOut (Blamed comp cause line) is h = cc is
+blamed_too EventsOut (Blamed comp cause line) is h = cc is
+blamed_too (Blamed comp cause line) other is h = tt
+blamed_too end Ended is h = absurd h
+blamed_too end TurnsOut is h = absurd h
+blamed_too end EventsOut is h = absurd h
+
+module _ (image : ImageParts) (inputs : List ℕ) (bound turns : ℕ) (run other : Run) (agree : RunsAgree run other)
+    (observed : SimulatesRun image inputs bound turns other) where
+  pub emits_too : SimulatesRun image inputs bound turns run
+  emits_too = record {
+    forward = λ events. ⊎_elim
+        (λ h. inl (subst (λ t. IsPrefix t (machine image inputs bound events).state.trace)
+        (sym (agree.behaviour events).trace) h))
+        (λ h. inr (record {
+          stop = h.stop;
+          deep = subst
+              (λ changes. stack_size < deepest events (machine image inputs bound events).state.active 0 changes)
+              (sym agree.frames) h.deep;
+          trace = subst (IsPrefix (machine image inputs bound events).state.trace) (sym (agree.behaviour events).trace)
+              h.trace;
+        })) (observed.forward events);
+    backward = λ steps events le. ⊎_elim
+        (λ h. inl (subst (IsPrefix (machine image inputs steps events).state.trace) (sym (agree.behaviour events).trace)
+        h))
+        (λ h. inr (
+          blamed_too (stopped_at events run.behaviour).end (stopped_at events other.behaviour).end
+              (agree.behaviour events).end h.0,
+          subst (λ t. IsPrefix t (machine image inputs steps events).state.trace) (sym (agree.behaviour events).trace) h.1,
+        )) (observed.backward steps events le);
+  }
+
+pub outcomes_simulate : OutcomesSimulate
+outcomes_simulate = record {
+  emits = λ image inputs bound turns one other formed words agrees outcome.
+      emits image inputs formed bound turns one other agrees outcome;
+  along = λ image inputs bound turns run other agree observed. emits_too image inputs bound turns run other agree observed;
+}

@@ -1,0 +1,46 @@
+-- The traces of the machine's runs beside a program's run, wherever either is stopped.
+use Rattle.sc_emit_run_laws.specs.Common.{AgreesInDepth, Blamed, Ended, Event, EventsOut, IsPrefix, ImageParts, IsWellFormed}
+use Rattle.sc_emit_run_laws.specs.Common.{IsWord, Owner, Run, RunsAgree, TurnsOut, depth_in, machine, stack_size}
+use Rattle.sc_emit_run_laws.specs.Common.{stopped_at}
+use Rattle.sc_image.specs.Prelude.{Run as MachineRun}
+use Rattle.std.specs.Prelude.{◌≡◌, ℕ, ◌<◌, ◌≤◌, ◌⊎◌, List, All}
+use Rattle.sc_base.specs.declared.stop.Stop.TheVariants.{Trap}
+use Rattle.sc_core.specs.declared.run.RunEnd.{RunEnd}
+use Rattle.sc_core.specs.declared.run.SourceRun.{SourceRun}
+use Rattle.sc_emit_run_laws.specs.Outcomes.{Outcome}
+
+abbrev pub IsBlamed : RunEnd → Type 0
+IsBlamed (Blamed comp cause line) = Unit {0}
+IsBlamed Ended = ⊥
+IsBlamed TurnsOut = ⊥
+IsBlamed EventsOut = ⊥
+
+-- a run keeps to a trace: it emits all of it, or is blamed before
+abbrev pub KeepsTo : List Event → SourceRun → Type 0
+KeepsTo trace run = IsPrefix trace run.trace ⊎ (IsBlamed run.end × IsPrefix run.trace trace)
+
+-- the machine stands trapped in a compartment whose stack depth in the run, stopped at `events` events, is more than a
+-- stack's size; it has emitted a prefix of the run's trace
+pub record TrapsFull (machine : MachineRun) (run : Run) (events : ℕ) : Type 0 where
+  pub stop : machine.stop ≡ Trap Owner machine.state.pc
+  pub deep : stack_size < depth_in run events machine.state.active
+  pub trace : IsPrefix machine.state.trace (stopped_at events run.behaviour).trace
+
+pub record SimulatesRun (image : ImageParts) (inputs : List ℕ) (bound turns : ℕ) (run : Run) : Type 0 where
+  -- within the bound on steps the machine emits all that the run emits, or it stands trapped since a stack is full
+  pub forward : (events : ℕ) →
+      IsPrefix (stopped_at events run.behaviour).trace (machine image inputs bound events).state.trace
+      ⊎ TrapsFull (machine image inputs bound events) run events
+  -- in no more steps than the run had turns it emits nothing else, unless the run is blamed and it emitted all of that
+  pub backward : (steps events : ℕ) → steps ≤ turns →
+      IsPrefix (machine image inputs steps events).state.trace (stopped_at events run.behaviour).trace
+      ⊎ (IsBlamed (stopped_at events run.behaviour).end ×
+      IsPrefix (stopped_at events run.behaviour).trace (machine image inputs steps events).state.trace)
+
+-- from the outcome beside a run, for each run that agrees with it up to a blame for arithmetic and the lines of blames
+pub record OutcomesSimulate : Type 0 where
+  pub emits : (image : ImageParts) (inputs : List ℕ) (bound turns : ℕ) (one other : Run) → IsWellFormed image →
+      All IsWord inputs → AgreesInDepth one other → Outcome image inputs bound turns other →
+      SimulatesRun image inputs bound turns one
+  pub along : (image : ImageParts) (inputs : List ℕ) (bound turns : ℕ) (run other : Run) → RunsAgree run other →
+      SimulatesRun image inputs bound turns other → SimulatesRun image inputs bound turns run

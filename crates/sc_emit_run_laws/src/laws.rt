@@ -1,0 +1,21 @@
+// The laws, each the contract of a function with nothing to do.
+
+ghost use Rattle.sc_emit_run_laws.specs.Prelude.{OutcomesSimulate, ScriptsSimulate, Simulates};
+
+/// From its start, the machine on an image in which the code of a program stands emits what a run of that code emits,
+/// unless a stack is full; and it takes no more steps than the turns pay for.
+pub fn simulates()
+    ensures { Simulates }
+{}
+
+/// What the machine does beside a run, in steps, gives the traces of its runs wherever they are stopped: all that the
+/// run emits within a bound on steps, or a full stack, and nothing else in as many steps as the run has turns.
+pub fn outcomes_simulate()
+    ensures { OutcomesSimulate }
+{}
+
+/// Where a set of compartments performs its part of the machine's trace, whatever its code does, the run of all other
+/// code emits all of that trace, or is blamed before, with as many turns as the machine may take steps.
+pub fn scripts_simulate()
+    ensures { ScriptsSimulate }
+{}

@@ -1,0 +1,50 @@
+-- The names that several proofs of this crate cite, passed on from one place. Declares nothing.
+pub use Rattle.std.proofs.Common.{All, AllPairs, Bool, IsTrue, List, None, OnOk, Option, Some, [], add-one, ap}
+pub use Rattle.std.proofs.Common.{append-nil, append_assoc, ap₂, arith, drop, drop-cons, eq-eqb, eqb-true, false}
+pub use Rattle.std.proofs.Common.{get_or, if◌then◌else◌, inl, inr, is_some, le-ltb, length, length-append, ltb-true}
+pub use Rattle.std.proofs.Common.{map, nat_lt, ne_eqb, neg_ℤ, negsuc, not, pos, pred, refl, replicate, reverse}
+pub use Rattle.std.proofs.Common.{slice_get, slice_set, subst, suc, sym, true, zero, ℕ, ⊎_elim, ◌&&◌, ◌*◌, ◌++◌, ◌+◌}
+pub use Rattle.std.proofs.Common.{◌-◌, ◌<◌, ◌==◌, ◌^◌, ◌||◌, ◌∙◌, ◌∷◌, ◌≡◌, ◌≤◌, ◌⊎◌}
+pub use Rattle.std.proofs.lemmas.Bool.{and_from}
+pub use Rattle.std.proofs.lemmas.List.{length-map, length-reverse, reverse-append, reverse-reverse}
+pub use Rattle.std.proofs.lemmas.Result.{IfOk-weaker, on_ok_weaker}
+pub use Rattle.std.specs.declared.result.Result.{Result}
+pub use Rattle.sc_base.proofs.Bools.{and_first, and_rest}
+pub use Rattle.sc_word.specs.Prelude.{sub_word}
+pub use Rattle.sc_core.proofs.Induction.{Each}
+pub use Rattle.rv_code.specs.declared.instr.BranchOp.TheVariants.{Bne}
+pub use Rattle.sc_tac.proofs.Induction.{Inside, stmt_induction}
+pub use Rattle.sc_tac.specs.Prelude.{IsCode, IsFunction, all_true, entry_weight, everywhere, frame_of, has_operands}
+pub use Rattle.sc_tac.specs.Prelude.{is_address, is_jal, is_linkable, is_one, is_unsigned, names_own_temps, one_or_none}
+pub use Rattle.sc_tac.specs.Prelude.{op_weight, parts, passes_few, stmt_weight, takes_two, weight, weight_step}
+pub use Rattle.sc_tac.specs.Prelude.{with_parts}
+pub use Rattle.sc_tac.specs.declared.function.TacFnTree.{TacFnTree}
+pub use Rattle.sc_tac.specs.declared.place.Place.TheVariants.{Register, Slot}
+pub use Rattle.sc_tac.specs.declared.stmt.TacStmt.{fold-roll-TacStmt, map-TacStmt}
+unfoldable pub use Rattle.sc_tac.specs.declared.stmt.TacStmt.{roll-TacStmt}
+pub use Rattle.sc_emit_select.specs.Common.{Branch, CodeTree, Div, Entry, Function, Global, Instr, Jalr, Lui, Lw, Mul}
+pub use Rattle.sc_emit_select.specs.Common.{Relocation, Shift, Sub, Sw, TacOp, TacStmt, TacStmt-F, Target, fold-TacStmt}
+pub use Rattle.sc_emit_select.specs.Prelude.{Add, Addi, Breaks, Fits, FitsBetween, FitsLoop, FrameTree, Jal, Kind, Line}
+pub use Rattle.sc_emit_select.specs.Prelude.{Load, Marked, Need, Op, OpImm, Piece, Place, Plain, Plan, Store, Strays, Tests}
+pub use Rattle.sc_emit_select.specs.Prelude.{Upper, all_plain, as_one, at_hand, before_test, between, binary_code}
+pub use Rattle.sc_emit_select.specs.Prelude.{branch_back, branch_reach, breaks, brought, bytes_ahead, bytes_of, call_cross}
+pub use Rattle.sc_emit_select.specs.Prelude.{call_own, choice, choosing, closing, code_of, code_of_lines, copied, cycle}
+pub use Rattle.sc_emit_select.specs.Prelude.{ending_past, ending_test, prologue, environment_call, first_scratch, followed}
+pub use Rattle.sc_emit_select.specs.Prelude.{fork, epilogue, frame_taken, function_lines, has_mark, in_order, in_turn}
+pub use Rattle.sc_emit_select.specs.Prelude.{is_break, is_near, is_plain, is_short, joined, joins, jump_back, jump_over}
+pub use Rattle.sc_emit_select.specs.Prelude.{keep, kept, kind_by, kind_of_fork, lines_of, load_from, load_word, loading}
+pub use Rattle.sc_emit_select.specs.Prelude.{loop_begins, moved_by, need, need_step, needed_in, needs_of, nothing}
+pub use Rattle.sc_emit_select.specs.Prelude.{object_offset, object_read, object_store, op_code, operand, operation, pass}
+pub use Rattle.sc_emit_select.specs.Prelude.{past, place_needed, place_of_global, plain, plainly, plan_by, plan_of}
+pub use Rattle.sc_emit_select.specs.Prelude.{pointer_difference, pointer_move, put, receive, referring, register_of}
+pub use Rattle.sc_emit_select.specs.Prelude.{relocation_of, relocations_from, result_register, return, role_before}
+pub use Rattle.sc_emit_select.specs.Prelude.{role_to_next, role_first, role_of_load, role_of_operation, role_of_return}
+pub use Rattle.sc_emit_select.specs.Prelude.{role_of_store, rotated, row_needs, second_operand, select, select_all}
+pub use Rattle.sc_emit_select.specs.Prelude.{select_step, short_code, short_form, short_operation, short_return, skipping}
+pub use Rattle.sc_emit_select.specs.Prelude.{slot_offset, stepped, store_arguments, store_to, store_word, straight}
+pub use Rattle.sc_emit_select.specs.Prelude.{straightly, take, take_second, taken, test_by, test_of, testing, turning}
+pub use Rattle.sc_emit_select.specs.Prelude.{unary_code, word_of_constant}
+pub use Rattle.sc_emit_select.specs.declared.operators.ShortForm.{ShortForm}
+pub use Rattle.sc_emit_select.specs.declared.roles.Role.{Role}
+pub use Rattle.sc_emit_select.specs.declared.roles.Role.TheVariants.{Applies, Loads, Operates, Other, Places, Returns, Sets}
+pub use Rattle.sc_emit_select.specs.declared.roles.Role.TheVariants.{Stores}

@@ -1,5 +1,0 @@
-use Rattle.sc_hart.proofs.Words.{words_are_kept}
-use Rattle.sc_hart.proofs.laws.words_are_kept.Goals as goal
-
-pub returns : goal.returns
-returns c = words_are_kept

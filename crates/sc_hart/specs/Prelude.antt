@@ -1,6 +1,0 @@
--- What this crate's contracts, its proofs and the crates above cite, passed on from one place. Declares nothing.
-pub use Rattle.sc_hart.specs.Code.{CodeAt, Fetches}
-pub use Rattle.sc_hart.specs.Hart.{Registers, World, at, listed, look, put, set, words_from}
-pub use Rattle.sc_hart.specs.Laws.{CodeIsFetched, WordsAreKept}
-pub use Rattle.sc_hart.specs.Words.{Apart, Owned, data_end}
-unfoldable pub use Rattle.sc_hart.specs.Words.{put_word, word}

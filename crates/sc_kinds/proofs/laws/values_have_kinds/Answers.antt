@@ -1,5 +1,0 @@
-use Rattle.sc_kinds.proofs.Kinded.{values_have_kinds}
-use Rattle.sc_kinds.proofs.laws.values_have_kinds.Goals as goal
-
-pub returns : goal.returns
-returns c = values_have_kinds

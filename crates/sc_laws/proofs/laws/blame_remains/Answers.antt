@@ -1,5 +1,0 @@
-use Rattle.sc_laws.proofs.ProgramLaws.{blame_remains}
-use Rattle.sc_laws.proofs.laws.blame_remains.Goals as goal
-
-pub returns : goal.returns
-returns c = blame_remains

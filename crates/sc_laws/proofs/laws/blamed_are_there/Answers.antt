@@ -1,5 +1,0 @@
-use Rattle.sc_laws.proofs.ProgramLaws.{blamed_are_there}
-use Rattle.sc_laws.proofs.laws.blamed_are_there.Goals as goal
-
-pub returns : goal.returns
-returns c = blamed_are_there

@@ -1,5 +1,0 @@
-use Rattle.sc_laws.proofs.ProgramLaws.{chains_rise}
-use Rattle.sc_laws.proofs.laws.chains_rise.Goals as goal
-
-pub returns : goal.returns
-returns c = chains_rise

@@ -1,5 +1,0 @@
-use Rattle.sc_laws.proofs.ProgramLaws.{meaning_goes_on}
-use Rattle.sc_laws.proofs.laws.meaning_goes_on.Goals as goal
-
-pub returns : goal.returns
-returns c = meaning_goes_on

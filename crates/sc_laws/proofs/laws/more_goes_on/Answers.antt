@@ -1,5 +1,0 @@
-use Rattle.sc_laws.proofs.ProgramLaws.{more_goes_on}
-use Rattle.sc_laws.proofs.laws.more_goes_on.Goals as goal
-
-pub returns : goal.returns
-returns c = more_goes_on

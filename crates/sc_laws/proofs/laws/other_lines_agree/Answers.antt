@@ -1,5 +1,0 @@
-use Rattle.sc_laws.proofs.Lines.{other_lines_agree}
-use Rattle.sc_laws.proofs.laws.other_lines_agree.Goals as goal
-
-pub returns : goal.returns
-returns c = other_lines_agree

@@ -1,5 +1,0 @@
-use Rattle.sc_laws.proofs.ProgramLaws.{programs_obey}
-use Rattle.sc_laws.proofs.laws.programs_obey.Goals as goal
-
-pub returns : goal.returns
-returns c = programs_obey

@@ -1,5 +1,0 @@
-use Rattle.sc_laws.proofs.ProgramLaws.{traces_are_legal}
-use Rattle.sc_laws.proofs.laws.traces_are_legal.Goals as goal
-
-pub returns : goal.returns
-returns c = traces_are_legal

@@ -1,5 +1,0 @@
-use Rattle.sc_laws.proofs.ProgramLaws.{turns_out_means_turns}
-use Rattle.sc_laws.proofs.laws.turns_out_means_turns.Goals as goal
-
-pub returns : goal.returns
-returns c = turns_out_means_turns

@@ -1,5 +1,0 @@
-use Rattle.sc_laws.proofs.ProgramLaws.{wrapped_agrees}
-use Rattle.sc_laws.proofs.laws.wrapped_agrees.Goals as goal
-
-pub returns : goal.returns
-returns c = wrapped_agrees

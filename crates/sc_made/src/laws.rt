@@ -1,8 +1,0 @@
-// The law, the contract of a function with nothing to do.
-
-ghost use Rattle.sc_made.specs.Laws.{MadeTextsAreAccepted};
-
-/// Each text that is made from a size and a seed is accepted, as a small program.
-pub fn made_texts_are_accepted()
-    ensures { MadeTextsAreAccepted }
-{}

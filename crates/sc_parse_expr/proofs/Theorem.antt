@@ -1,0 +1,68 @@
+-- Reading gives exactly the prefixes within the limits, and lexemes spell one expression at most.
+use Rattle.sc_parse_expr.proofs.Common.{Agrees, Bor, Err, ExprTree, Found, IfOk, IsErrOf, IsParse, Lexeme, List, Ok, Refused}
+use Rattle.sc_parse_expr.proofs.Common.{Result, Some, Spells, SyntaxFault, [], ap, arith, expr_height, found, max, most_open}
+use Rattle.sc_parse_expr.proofs.Common.{none-some, read, read_expr, subst, sym, ℕ, ◌-◌, ◌<◌, ◌∙◌, ◌≡◌, ◌≤◌}
+use Rattle.sc_parse_expr.specs.declared.parser.Built.{Built}
+use Rattle.sc_parse_expr.proofs.Ahead.{same_some}
+use Rattle.sc_parse_expr.proofs.Balance.{open_low}
+use Rattle.sc_parse_expr.proofs.Sound.{read_sound}
+use Rattle.sc_parse_expr.proofs.Complete.{reads_all}
+
+-- an expression that a prefix spells is read
+pub parse_complete : (level count : ℕ) (ts : List Lexeme) (e : ExprTree) (rest : List Lexeme) →
+    IsParse level count ts e rest → read_expr level count ts ≡ Some (found e (expr_height e) rest)
+parse_complete level count ts e rest h =
+    let opened = open_low count h.taken in
+    let few = h.few in
+    ap (λ k. read (1024 - count) 256 level k) h.split ∙
+    reads_all h.spelled (1024 - count) 256 level count rest (omega arith) h.low (omega arith)
+    (λ ext at. omega (arith, h.ends ext at))
+
+pub parses_agree : (level count : ℕ) (ts : List Lexeme) (e f : ExprTree) (rest more : List Lexeme) →
+    IsParse level count ts e rest → IsParse level count ts f more → (e ≡ f) × (rest ≡ more)
+parses_agree level count ts e f rest more h k =
+    let same = same_some (sym (parse_complete level count ts e rest h) ∙ parse_complete level count ts f more k) in
+    (ap (λ x. x.tree) same, ap (λ x. x.rest) same)
+
+pub trees_agree : (level : ℕ) (ts : List Lexeme) (e f : ExprTree) → Spells level ts e → Spells level ts f → e ≡ f
+trees_agree level ts e f d g =
+    let room = max (expr_height e) (expr_height f) in
+    let free = most_open 0 ts in
+    let first = reads_all d free room level 0 [] (omega arith) (omega arith) (omega arith)
+    (λ ext at. absurd (none-some ext at)) in
+    let second = reads_all g free room level 0 [] (omega arith) (omega arith) (omega arith)
+    (λ ext at. absurd (none-some ext at)) in
+    ap (λ x. x.tree) (same_some (sym first ∙ second))
+
+abbrev Answer : Type 0
+Answer = Result (Built × Bor (List Lexeme)) SyntaxFault
+
+abbrev seen : Built × Bor (List Lexeme) → Found
+seen x = found x.0.tree x.0.height x.1.now
+
+-- what is read is spelled by a prefix, and its height is that of the tree
+pub found_parse : (level count : ℕ) (ts : List Lexeme) (answer : Answer) → 0 < level → count ≤ 1024 →
+    Agrees seen answer (read_expr level count ts) → IfOk answer (λ x. IsParse level count ts x.0.tree x.1.now)
+found_parse level count ts (Ok x) some opened h =
+    let r = read_sound _ 256 level ts _ some h in
+    record {
+      taken = r.taken;
+      split = r.split;
+      spelled = r.spelled;
+      low = omega (arith, r.low, r.measured);
+      few = omega (arith, r.few count);
+      ends = λ ext at. omega (arith, r.onward ext at);
+    }
+found_parse level count ts (Err fault) some opened h = tt
+
+pub found_height : (level count : ℕ) (ts : List Lexeme) (answer : Answer) → 0 < level →
+    Agrees seen answer (read_expr level count ts) → IfOk answer (λ x. x.0.height ≡ expr_height x.0.tree)
+found_height level count ts (Ok x) some h = (read_sound _ 256 level ts _ some h).measured
+found_height level count ts (Err fault) some h = tt
+
+-- no prefix spells an expression where nothing is read
+pub refused_parse : (level count : ℕ) (ts : List Lexeme) (answer : Answer) →
+    Agrees seen answer (read_expr level count ts) → (left : ℕ) → IsErrOf answer (Refused left) →
+    (e : ExprTree) (rest : List Lexeme) → IsParse level count ts e rest → ⊥
+refused_parse level count ts answer h left is e rest parsed = none-some _
+    (sym (subst (λ k. Agrees seen k (read_expr level count ts)) is h) ∙ parse_complete level count ts e rest parsed)

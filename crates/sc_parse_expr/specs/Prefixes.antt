@@ -1,0 +1,58 @@
+-- What a list of lexemes begins with.
+use Rattle.sc_parse_expr.specs.Common.{ExprTree, expr_height}
+use Rattle.std.specs.Prelude.{◌≡◌, ℕ, Bool, false, List, [], ◌∷◌, ◌++◌, ◌≤◌, ◌<◌, Option, Some, None, Result, Ok, Err}
+use Rattle.std.specs.Prelude.{if◌then◌else◌}
+use Rattle.sc_parse_expr.specs.declared.fault.SyntaxFault.{SyntaxFault}
+use Rattle.sc_parse_expr.specs.declared.fault.SyntaxFault.TheVariants.{Refused, OutOfMemory}
+use Rattle.sc_parse_expr.specs.declared.mark.Mark.{Mark}
+use Rattle.sc_parse_expr.specs.declared.operator.Extension.{Extension}
+use Rattle.sc_parse_expr.specs.declared.lexeme.Symbol.{Symbol}
+use Rattle.sc_parse_expr.specs.declared.lexeme.Symbol.TheVariants as symbol
+use Rattle.sc_parse_expr.specs.declared.lexeme.Lexeme.{Lexeme}
+use Rattle.sc_parse_expr.specs.contracts.mark.MarkPartialEq.TheImpl as marks
+use Rattle.sc_parse_expr.specs.Marks.{extension_of, extension_level}
+use Rattle.sc_parse_expr.specs.Brackets.{most_open}
+use Rattle.sc_parse_expr.specs.Grammar.{Spells}
+
+-- nothing is read where lexemes are refused
+abbrev pub Fails : {Y : Type 0} → SyntaxFault → Option Y → Type 0
+Fails (Refused left) read = read ≡ None
+Fails OutOfMemory read = Unit {0}
+
+-- an answer is what reading gives, unless memory runs out
+abbrev pub Agrees : {X Y : Type 0} → (X → Y) → Result X SyntaxFault → Option Y → Type 0
+Agrees seen (Ok x) read = read ≡ Some (seen x)
+Agrees seen (Err fault) read = Fails fault read
+
+abbrev pub is_mark : Mark → Symbol → Bool
+is_mark m (symbol.Mark other) = marks.eq-value.it other m
+is_mark m _ = false
+
+-- the lexemes after a mark
+abbrev pub following : Mark → List Lexeme → Option (List Lexeme)
+following m [] = None
+following m (t ∷ ts) = if is_mark m t.symbol then Some ts else None
+
+-- the extension that a symbol after an expression begins
+abbrev pub extension_by : Symbol → Option Extension
+extension_by (symbol.Mark m) = extension_of m
+extension_by _ = None
+
+-- what an expression goes on with that stands before these lexemes
+abbrev pub extension_at : List Lexeme → Option Extension
+extension_at [] = None
+extension_at (t ∷ ts) = extension_by t.symbol
+
+-- no extension of this level or a tighter one is at the start
+abbrev pub EndsAt : ℕ → List Lexeme → Type 0
+EndsAt level lexemes = (ext : Extension) → extension_at lexemes ≡ Some ext → level < extension_level ext
+
+-- The prefix of the lexemes up to `rest` spells the expression at this level, and `rest` doesn't go on with it. The
+-- tree is at most 256 high, and nowhere more than 1,024 brackets are open, of which `count` are open before.
+pub record IsParse (level count : ℕ) (lexemes : List Lexeme) (e : ExprTree) (rest : List Lexeme) : Type 0 where
+  pub taken : List Lexeme
+  pub split : lexemes ≡ taken ++ rest
+  pub spelled : Spells level taken e
+  pub low : expr_height e ≤ 256
+  pub few : most_open count taken ≤ 1024
+  pub ends : EndsAt level rest

@@ -1,0 +1,144 @@
+-- Helping: reading an expression from the start of a list, where the brackets and the levels of height are limited.
+use Rattle.sc_parse_expr.specs.Common.{ExprTree, level_of, loosest_level, unary_level}
+use Rattle.std.specs.Prelude.{ℕ, zero, suc, ◌+◌, ◌-◌, max, nat_le, List, [], ◌∷◌, Option, Some, None, if◌then◌else◌}
+use Rattle.std.specs.Option.{option_map}
+use Rattle.sc_ast.specs.declared.expr.ExprTree.TheVariants as expr
+use Rattle.sc_parse_expr.specs.declared.mark.Mark.{Mark}
+use Rattle.sc_parse_expr.specs.declared.mark.Mark.TheVariants as mark
+use Rattle.sc_parse_expr.specs.declared.operator.Prefix.{Prefix}
+use Rattle.sc_parse_expr.specs.declared.operator.Extension.{Extension}
+use Rattle.sc_parse_expr.specs.declared.operator.Extension.TheVariants as extension
+use Rattle.sc_parse_expr.specs.declared.lexeme.Symbol.{Symbol}
+use Rattle.sc_parse_expr.specs.declared.lexeme.Symbol.TheVariants as symbol
+use Rattle.sc_parse_expr.specs.declared.lexeme.Lexeme.{Lexeme}
+use Rattle.sc_parse_expr.specs.declared.parser.Lead.{Lead}
+use Rattle.sc_parse_expr.specs.declared.parser.Lead.TheVariants as lead
+use Rattle.sc_parse_expr.specs.Marks.{prefix_of, prefixed, extension_level}
+use Rattle.sc_parse_expr.specs.Prefixes.{following, extension_at}
+
+-- A tree that is read, its height, and the lexemes after it.
+pub record Found : Type 0 where
+  pub tree : ExprTree
+  pub height : ℕ
+  pub rest : List Lexeme
+
+abbrev pub found : ExprTree → ℕ → List Lexeme → Found
+found tree height rest = record { tree = tree; height = height; rest = rest }
+
+abbrev pub Reader : Type 0
+Reader = List Lexeme → Option Found
+
+infixl 20 ◌>>=◌
+-- what follows where something was read
+abbrev pub ◌>>=◌ : {A B : Type 0} → Option A → (A → Option B) → Option B
+None >>= f = None
+Some x >>= f = f x
+
+-- an expression that is one lexeme
+abbrev pub leaf_of : Symbol → Option ExprTree
+leaf_of (symbol.Integer number) = Some (expr.Literal number)
+leaf_of (symbol.Ident name) = Some (expr.Variable name)
+leaf_of _ = None
+
+-- what a mark begins an expression with
+abbrev pub lead_by : Mark → Option Lead
+lead_by mark.OpenParen = Some lead.Paren
+lead_by m = option_map (λ p. lead.Prefix p) (prefix_of m)
+
+abbrev pub lead_of : Symbol → Option Lead
+lead_of (symbol.Mark m) = lead_by m
+lead_of _ = None
+
+-- the identifier at the start, and the lexemes after it
+abbrev pub name_by : Symbol → Option (List ℕ)
+name_by (symbol.Ident name) = Some name
+name_by _ = None
+
+abbrev pub name_at : List Lexeme → Option (List ℕ × List Lexeme)
+name_at [] = None
+name_at (t ∷ ts) = name_by t.symbol >>= (λ name. Some (name, ts))
+
+abbrev pub within : ℕ → List Lexeme → Option Extension → Option (Extension × List Lexeme)
+within level rest None = None
+within level rest (Some ext) = if nat_le (extension_level ext) level then Some (ext, rest) else None
+
+-- what makes an expression of this level or a tighter one, and the lexemes after its first
+abbrev pub extension_within : ℕ → List Lexeme → Option (Extension × List Lexeme)
+extension_within level [] = None
+extension_within level (t ∷ ts) = within level ts (extension_at (t ∷ ts))
+
+abbrev pub leaf_at : Reader
+leaf_at [] = None
+leaf_at (t ∷ ts) = leaf_of t.symbol >>= (λ e. Some (found e 1 ts))
+
+-- a member of a tree, whose name comes first
+abbrev pub named_with : (List ℕ → ExprTree) → ℕ → Reader
+named_with make height ts = name_at ts >>= (λ x. Some (found (make x.0) (height + 1) x.1))
+
+-- Reading with one level of height less (`below`), and inside a bracket (`nested`), where `room` levels are left below
+-- this one.
+module _ (nested : ℕ → ℕ → Reader) (below : ℕ → Reader) (room : ℕ) where
+  -- inside parentheses
+  abbrev pub paren_with : Reader
+  paren_with ts = nested (room + 1) loosest_level ts >>=
+      (λ x. following mark.CloseParen x.rest >>= (λ rest. Some (found x.tree x.height rest)))
+
+  -- after a unary operator
+  abbrev pub prefix_with : Prefix → Reader
+  prefix_with p ts = below unary_level ts >>= (λ x. Some (found (prefixed p x.tree) (x.height + 1) x.rest))
+
+  abbrev pub lead_with : Option Lead → Lexeme → Reader
+  lead_with (Some lead.Paren) t ts = paren_with ts
+  lead_with (Some (lead.Prefix p)) t ts = prefix_with p ts
+  lead_with None t ts = leaf_at (t ∷ ts)
+
+  -- what stands before all operators between operands
+  unfoldable pub operand_with : Reader
+  operand_with [] = None
+  operand_with (t ∷ ts) = lead_with (lead_of t.symbol) t ts
+
+  abbrev pub joined_with : ExprTree → ℕ → Extension → Reader
+  joined_with e height (extension.Operator op) ts = below (level_of op - 1) ts >>=
+      (λ x. Some (found (expr.Binary op e x.tree) (max height x.height + 1) x.rest))
+  joined_with e height extension.Index ts = nested room loosest_level ts >>=
+      (λ x. following mark.CloseSquare x.rest >>= (λ rest.
+      Some (found (expr.Index e x.tree) (max height x.height + 1) rest)))
+  joined_with e height extension.Member ts = named_with (λ name. expr.Member e name) height ts
+  joined_with e height extension.Arrow ts = named_with (λ name. expr.Arrow e name) height ts
+
+  -- an expression that is made of one, where that leaves a level of height
+  unfoldable pub extended_with : ExprTree → ℕ → Extension → Reader
+  extended_with e height ext ts = if nat_le height room then joined_with e height ext ts else None
+
+  -- where something goes on, one more expression is made, and reading goes on after that
+  abbrev pub turn_with : (Found → Option Found) → Found → Option (Extension × List Lexeme) → Option Found
+  turn_with onward x None = Some x
+  turn_with onward x (Some next) = extended_with x.tree x.height next.0 next.1 >>= onward
+
+  -- Going on after an expression as long as an extension of this level follows, in fewer turns than these.
+  unfoldable pub go_on : ℕ → ℕ → Found → Option Found
+  go_on level zero x = None
+  go_on level (suc turns) x = turn_with (λ y. go_on level turns y) x (extension_within level x.rest)
+
+  -- an operand, and all that extends it
+  abbrev pub level_with : ℕ → Reader
+  level_with level ts = operand_with ts >>= (λ x. go_on level (room + 1) x)
+
+-- reading where this number of levels of height is left
+unfoldable pub read_within : (ℕ → ℕ → Reader) → ℕ → ℕ → Reader
+read_within nested zero level ts = None
+read_within nested (suc room) level ts = level_with nested (read_within nested room) room level ts
+
+-- an expression of a level, where `free` brackets may still open, at most `room` high
+unfoldable pub read : ℕ → ℕ → ℕ → Reader
+read zero = read_within (λ room level ts. None)
+read (suc free) = read_within (read free)
+
+-- reading inside a bracket that opens where `free` brackets may
+abbrev pub read_nested : ℕ → ℕ → ℕ → Reader
+read_nested zero room level ts = None
+read_nested (suc free) room level ts = read free room level ts
+
+-- an expression of a level after `count` open brackets, within the limits
+abbrev pub read_expr : ℕ → ℕ → Reader
+read_expr level count ts = read (1024 - count) 256 level ts

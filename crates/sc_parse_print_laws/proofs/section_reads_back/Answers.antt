@@ -1,0 +1,5 @@
+use Rattle.sc_parse_print_laws.proofs.Whole as theorem
+use Rattle.sc_parse_print_laws.proofs.section_reads_back.Goals as goal
+
+pub returns : goal.returns
+returns c = theorem.section_reads_back c.args.tree.now c.keeps_section.ensures

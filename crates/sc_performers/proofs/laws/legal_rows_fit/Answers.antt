@@ -1,5 +1,0 @@
-use Rattle.sc_performers.proofs.LegalRows.{legal_rows_fit}
-use Rattle.sc_performers.proofs.laws.legal_rows_fit.Goals as goal
-
-pub returns : goal.returns
-returns c = legal_rows_fit

@@ -1,8 +1,0 @@
--- The names from below that several definitions of this crate cite, passed on from one place. Declares nothing.
-pub use Rattle.rv_code.specs.declared.instr.Instr.{Instr}
-pub use Rattle.sc_store.specs.Prelude.{Memory}
-pub use Rattle.sc_image.specs.Prelude.{Traps, Walks, step}
-pub use Rattle.sc_image.specs.declared.parts.ImageParts.{ImageParts}
-pub use Rattle.sc_hart.specs.Prelude.{CodeAt, Owned, Registers, World, at, look, put_word, word}
-pub use Rattle.sc_select.specs.Prelude.{address_scratch, bytes_of, first_scratch, frame_taken, moved_by, ra}
-pub use Rattle.sc_select.specs.Prelude.{second_scratch, sp}

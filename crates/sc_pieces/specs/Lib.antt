@@ -1,4 +1,0 @@
-pub mod Common
-pub mod Pieces
-pub mod Frames
-pub mod Operators

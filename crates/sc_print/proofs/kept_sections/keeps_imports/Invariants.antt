@@ -1,6 +1,0 @@
-use Rattle.sc_print.proofs.Common.{drop, kept_import, list_all, ◌≡◌}
-use Rattle.sc_print.proofs.kept_sections.keeps_imports.Given as goal
-
--- what is left keeps it exactly where all of them do
-abbrev pub invariant-loop-line : goal.invariant-loop-line
-invariant-loop-line l = list_all kept_import (drop l.line-index l.lines) ≡ list_all kept_import (l.lines)

@@ -1,5 +1,0 @@
-use Rattle.sc_print.proofs.Heights.{sections_same}
-use Rattle.sc_print.proofs.lines_add_no_height.Goals as goal
-
-pub returns : goal.returns
-returns c = sections_same

@@ -1,5 +1,0 @@
-use Rattle.sc_print.proofs.Whole.{decls_read_back}
-use Rattle.sc_print.proofs.printed_declarations_read_back.Goals as goal
-
-pub returns : goal.returns
-returns c = decls_read_back

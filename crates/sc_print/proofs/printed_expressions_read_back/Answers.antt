@@ -1,5 +1,0 @@
-use Rattle.sc_print.proofs.Whole.{reads_back}
-use Rattle.sc_print.proofs.printed_expressions_read_back.Goals as goal
-
-pub returns : goal.returns
-returns c = reads_back

@@ -1,5 +1,0 @@
-use Rattle.sc_print.proofs.Whole as theorem
-use Rattle.sc_print.proofs.printed_sections_read_back.Goals as goal
-
-pub returns : goal.returns
-returns c = theorem.section_reads_back

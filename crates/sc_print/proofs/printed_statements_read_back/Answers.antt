@@ -1,5 +1,0 @@
-use Rattle.sc_print.proofs.Whole.{stmts_read_back}
-use Rattle.sc_print.proofs.printed_statements_read_back.Goals as goal
-
-pub returns : goal.returns
-returns c = stmts_read_back

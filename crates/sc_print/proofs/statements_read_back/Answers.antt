@@ -1,5 +1,0 @@
-use Rattle.sc_print.proofs.Whole.{stmts_read_back}
-use Rattle.sc_print.proofs.statements_read_back.Goals as goal
-
-pub returns : goal.returns
-returns c = stmts_read_back c.args.stmts.now c.keep_leaves.ensures

@@ -1,5 +1,0 @@
-use Rattle.sc_print.proofs.Whole.{section_reads}
-use Rattle.sc_print.proofs.words_of_sections_spell_them.Goals as goal
-
-pub returns : goal.returns
-returns c = section_reads

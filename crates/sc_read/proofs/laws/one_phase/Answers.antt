@@ -1,5 +1,0 @@
-use Rattle.sc_read.proofs.Uniqueness.{one_phase}
-use Rattle.sc_read.proofs.laws.one_phase.Goals as goal
-
-pub returns : goal.returns
-returns c = one_phase c.one_refusal.ensures

@@ -1,5 +1,0 @@
-use Rattle.sc_read.proofs.Existence.{read_or_fails}
-use Rattle.sc_read.proofs.laws.read_or_fails.Goals as goal
-
-pub returns : goal.returns
-returns c = read_or_fails

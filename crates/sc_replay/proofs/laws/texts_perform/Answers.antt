@@ -1,6 +1,0 @@
-use Rattle.sc_replay.proofs.Replays.{texts_perform}
-use Rattle.sc_replay.proofs.laws.texts_perform.Goals as goal
-
--- src/laws.rt:7:1
-pub returns : goal.returns
-returns c = texts_perform

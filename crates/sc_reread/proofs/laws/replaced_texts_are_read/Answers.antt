@@ -1,6 +1,0 @@
-use Rattle.sc_reread.proofs.Replaced.{replaced_texts}
-use Rattle.sc_reread.proofs.laws.replaced_texts_are_read.Goals as goal
-
--- src/laws.rt:14:1
-pub returns : goal.returns
-returns c = replaced_texts

@@ -1,6 +1,0 @@
-use Rattle.sc_select.proofs.Common.{Marked}
-use Rattle.std.proofs.Common.{take}
-use Rattle.sc_select.proofs.needs.Needs.all.Given as goal
-
-abbrev pub invariant-loop-temp : goal.invariant-loop-temp
-invariant-loop-temp l = Marked (take l.temp-index l.temps) l.initial.self l.self

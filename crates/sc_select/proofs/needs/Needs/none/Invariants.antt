@@ -1,5 +1,0 @@
-use Rattle.sc_select.proofs.Common.{false, replicate, ◌≡◌}
-use Rattle.sc_select.proofs.needs.Needs.none.Given as goal
-
-abbrev pub invariant-loop : goal.invariant-loop
-invariant-loop l = l.marks ≡ replicate l.counter false

@@ -1,0 +1,147 @@
+-- The command that a parse which succeeds comes to.
+use Rattle.sc_top_words.proofs.Common.{App, Bool, Box, ErrorKind, Form, HasMatchesOf, IsAmong, IsReading, List, None}
+use Rattle.sc_top_words.proofs.Common.{Option, Row, Setting, Some, Says, Text, [], ap, application, bytes_eq, codes}
+use Rattle.sc_top_words.proofs.Common.{command, command_with, commands, events, false, fault_of, first_of, first_value-rows}
+use Rattle.sc_top_words.proofs.Common.{flag_text, form_of, has_option, has_value, inputs, is_among, is_bare, is_simple}
+use Rattle.sc_top_words.proofs.Common.{limit, list_any, make_form, number_within, one_of, one_text-rows, option_and_then}
+use Rattle.sc_top_words.proofs.Common.{option_map, parsed, refl, rows_of, run, same_text, subcommand_of, subcommand_rows}
+use Rattle.sc_top_words.proofs.Common.{subcommand_rows_of, subst, sym, text_to_show, true, value_of, ◌∙◌, ◌≡◌}
+use Rattle.sc_top_words.specs.declared.command.Command.TheVariants.{Exec, Explain, Make, Meaning, Run}
+use Rattle.std.specs.Box.{box_value}
+use Rattle.clap.specs.Matches.{first_value, one_text, subcommand_name_of}
+use Rattle.clap.specs.declared.parser.matches.ArgMatches.{ArgMatches}
+use Rattle.clap.specs.declared.parser.matches.ArgMatches.TheViews.{out-ArgMatches, out-SubCommand}
+use Rattle.clap.specs.declared.parser.matches.Found.{Found}
+use Rattle.clap.specs.declared.parser.matches.SubCommand.{SubCommand}
+use Rattle.sc_top_words.proofs.Bare.{by_command, none_bare}
+use Rattle.sc_top_words.proofs.Top.{Reads, has_matches, words_agree}
+
+-- each command reads only the options of its form
+
+abbrev Same : Text → Form → Type 0
+Same name form = (settings : List Setting) (rows : List Row) (summary : Bool) → Says form settings rows
+    → command_with name (λ n. first_of n rows) summary ≡ command_with name (λ n. value_of n settings) summary
+
+-- a command with the options of `run`
+runs_same : (form : Form) (settings : List Setting) (rows : List Row) → Says form settings rows →
+    has_value form (codes "steps") ≡ true → has_value form (codes "events") ≡ true →
+    has_value form (codes "in") ≡ true → form.flags ≡ [] → run (λ n. first_of n rows) ≡ run (λ n. value_of n settings)
+runs_same form settings rows says has_steps has_events has_inputs none =
+    λ i. option_and_then (λ steps. option_and_then (λ events. option_map (λ inputs.
+    record { steps = steps; events = events; inputs = inputs }) (inputs (given (codes "in") has_inputs i)))
+    (events (given (codes "events") has_events i))) (limit (given (codes "steps") has_steps i)) where
+      given : (name : Text) → has_value form name ≡ true → first_of name rows ≡ value_of name settings
+      given name has = says.values name has (ap (λ flags. is_among flags name) none)
+
+pub values_same : (name : Text) (form : Form) → form_of name ≡ Some form → Same name form
+values_same = by_command Same commands (
+  (λ settings rows summary says. refl),
+  (
+    (λ settings rows summary says i. option_map Meaning (option_and_then (λ turns. option_and_then (λ events.
+        option_map (λ inputs. record { turns = turns; events = events; inputs = inputs })
+        (inputs (says.values (codes "in") refl refl i))) (events (says.values (codes "events") refl refl i)))
+        (limit (says.values (codes "turns") refl refl i)))),
+    (
+      (λ settings rows summary says. refl),
+      (
+        (λ settings rows summary says. ap (option_map Run) (runs_same _ settings rows says refl refl refl refl)),
+        (
+          (λ settings rows summary says. ap (option_map Exec) (runs_same _ settings rows says refl refl refl refl)),
+          (
+            (λ settings rows summary says i. option_and_then (λ options. option_map (λ show. Explain options show)
+                (text_to_show (says.values (codes "show") refl refl i)))
+                (runs_same _ settings rows says refl refl refl refl i)),
+            (
+              (λ settings rows summary says i. option_map Make (option_and_then (λ size.
+                  option_map (λ seed. record { size = size; seed = seed; summary = summary })
+                  (option_and_then (number_within 0 4294967295) (says.values (codes "seed") refl refl i)))
+                  (option_and_then (number_within 1 1000) (says.values (codes "size") refl refl i)))),
+              tt,
+            ),
+          ),
+        ),
+      ),
+    ),
+  ),
+)
+
+pub summary_same : (name : Text) (form : Form) (settings : List Setting) (rows : List Row) → form_of name ≡ Some form →
+    Says form settings rows → bytes_eq name (codes "make") ≡ true →
+    one_of (codes "summary") rows ≡ Some (flag_text (has_option (codes "summary") settings))
+summary_same name form settings rows has says make =
+    let found : Some make_form ≡ Some form = ap form_of (sym (same_text name _ make)) ∙ has in
+    let same : form ≡ make_form = cc in
+    (subst (λ f. Says f settings rows) same says).flags (codes "summary") refl refl
+
+-- ---- what the parse gives
+
+pub reading : (words : List Text) (a : App) (m : ArgMatches) → a ≡ application → list_any is_bare words ≡ false →
+    HasMatchesOf a words m → fault_of a words ≡ [] → IsReading words m
+reading words a m is bare matches passes = go (parsed words) refl (words_agree words (none_bare words bare))
+  where
+    entered : subcommand_rows_of m ≡ subcommand_of application words
+    entered = (matches (ap is_simple is ∙ has_matches)).1 ∙ ap (λ x. subcommand_of x words) is
+
+    go : (o : Option (Text × List Setting)) → parsed words ≡ o →
+        Reads (fault_of application words) (subcommand_of application words) o → IsReading words m
+    go None e fails = absurd (fails (sym (ap (λ x. fault_of x words) is) ∙ passes))
+    go (Some read) e reads = record {
+      read = read;
+      is = e;
+      form = reads.1.0;
+      has = reads.1.1;
+      rows = reads.1.2.0;
+      found = entered ∙ reads.1.2.1;
+      says = reads.1.2.2;
+    }
+
+pub refusal : (words : List Text) (a : App) (k : ErrorKind) → a ≡ application → list_any is_bare words ≡ false →
+    IsAmong k (fault_of a words) → parsed words ≡ None
+refusal words a k is bare among = go (parsed words) refl (words_agree words (none_bare words bare))
+  where
+    go : (o : Option (Text × List Setting)) → parsed words ≡ o →
+        Reads (fault_of application words) (subcommand_of application words) o → parsed words ≡ None
+    go None e fails = e
+    go (Some read) e reads = absurd (subst (IsAmong k) (ap (λ x. fault_of x words) is ∙ reads.0) among)
+
+-- ---- the command of what the parse gives
+
+name_of : {Z : Type 0} (o : Option (Box SubCommand Z)) →
+    option_map (λ p. p.0) (subcommand_rows o) ≡ option_map (λ b. (out-SubCommand (box_value b)).name.now) o
+name_of None = refl
+name_of (Some b) = refl
+
+name_of_rows : (m : ArgMatches) → option_map (λ p. p.0) (subcommand_rows_of m) ≡ subcommand_name_of m
+name_of_rows m = name_of (out-ArgMatches m).subcommand
+
+-- the command by the values that the getters give
+pub record Commands (words : List Text) (name : Text) (f : Found) : Type 0 where
+  pub summary : Bool
+  pub flag : bytes_eq name (codes "make") ≡ true → one_text f (codes "summary") ≡ Some (flag_text summary)
+  pub is : command words ≡ command_with name (first_value f) summary
+
+pub commanded : (words : List Text) (m : ArgMatches) (name : Text) (f : Found) → IsReading words m →
+    Some name ≡ subcommand_name_of m
+    → Some (rows_of f) ≡ option_map (λ p. p.1) (subcommand_rows_of m) → Commands words name f
+unfolding command
+commanded words m name f r named rowed = record {
+  summary = has_option (codes "summary") r.read.1;
+  flag = λ make. one_text-rows f _ ∙ (ap (one_of _) rows_are ∙ summary_same r.read.0 r.form _ r.rows r.has r.says
+      (ap (λ n. bytes_eq n _) (sym name_is) ∙ make));
+  is = ap (option_and_then _) r.is
+      ∙ (sym (values_same r.read.0 r.form r.has _ r.rows (has_option (codes "summary") r.read.1) r.says)
+      ∙ sym (λ i. command_with (name_is i) (λ n. (first_value-rows f n ∙ ap (first_of n) rows_are) i)
+      (has_option (codes "summary") r.read.1)));
+}
+  where
+    both : Some (rows_of f) ≡ Some r.rows
+    both = rowed ∙ ap (option_map _) r.found
+
+    rows_are : rows_of f ≡ r.rows
+    rows_are = cc both
+
+    names : Some name ≡ Some r.read.0
+    names = named ∙ (sym (name_of_rows m) ∙ ap (option_map (λ p. p.0)) r.found)
+
+    name_is : name ≡ r.read.0
+    name_is = cc names

@@ -1,0 +1,108 @@
+-- The command that the words of a command line are.
+use Rattle.std.specs.Prelude.{ℕ, ℤ, Bool, if◌then◌else◌, List, [], ◌∷◌, codes, Option, Some, None, option_and_then}
+use Rattle.std.specs.Prelude.{option_map, find}
+use Rattle.std.specs.Str.{bytes_eq}
+use Rattle.sc_top_words.specs.Numbers.{number_within, integer_list}
+use Rattle.sc_top_words.specs.Options.{Form, Setting, Text, has_option, options, value_of}
+use Rattle.sc_top_words.specs.declared.command.Command.{Command}
+use Rattle.sc_top_words.specs.declared.command.Command.TheVariants.{Check, Meaning, Compile, Run, Exec, Explain, Make}
+use Rattle.sc_top_words.specs.declared.command.MakeOptions.{MakeOptions}
+use Rattle.sc_top_words.specs.declared.command.MeaningOptions.{MeaningOptions}
+use Rattle.sc_top_words.specs.declared.command.RunOptions.{RunOptions}
+
+-- ---- the commands
+
+abbrev pub with_values : List Text → Form
+with_values names = record { needed = []; valued = names; flags = [] }
+
+abbrev pub make_form : Form
+make_form = record { needed = codes "size" ∷ codes "seed" ∷ []; valued = []; flags = codes "summary" ∷ [] }
+
+-- the commands by their names, with the options of each
+abbrev pub commands : List (Text × Form)
+commands =
+    (codes "check", with_values []) ∷
+    (codes "meaning", with_values (codes "turns" ∷ codes "events" ∷ codes "in" ∷ [])) ∷
+    (codes "compile", with_values []) ∷
+    (codes "run", with_values (codes "steps" ∷ codes "events" ∷ codes "in" ∷ [])) ∷
+    (codes "exec", with_values (codes "steps" ∷ codes "events" ∷ codes "in" ∷ [])) ∷
+    (codes "explain", with_values (codes "steps" ∷ codes "events" ∷ codes "in" ∷ codes "show" ∷ [])) ∷
+    (codes "make", make_form) ∷ []
+
+abbrev pub form_of : Text → Option Form
+form_of name = option_map (λ entry. entry.1) (find (λ entry. bytes_eq entry.0 name) commands)
+
+-- the command's name and its options, of words that give them: the first word is the name
+abbrev pub parsed : List Text → Option (Text × List Setting)
+parsed [] = None
+parsed (name ∷ words) = option_map (λ settings. (name, settings))
+    (option_and_then (λ form. options form words) (form_of name))
+
+-- ---- what the options of a command say, by the value of each option that is given
+
+abbrev pub Values : Type 0
+Values = Text → Option Text
+
+-- the number of an option, from `low` to `high`, and `absent` where the option isn't given
+abbrev pub number_or : (absent low high : ℕ) → Option Text → Option ℕ
+number_or absent low high None = Some absent
+number_or absent low high (Some text) = number_within low high text
+
+-- how many steps or turns a run has at most
+abbrev pub limit : Option Text → Option ℕ
+limit value = number_or 1000000 0 16777216 value
+
+-- how many events a run emits at most
+abbrev pub events : Option Text → Option ℕ
+events value = number_or 1024 0 4096 value
+
+abbrev pub inputs : Option Text → Option (List ℤ)
+inputs None = Some []
+inputs (Some text) = integer_list text
+
+abbrev pub meaning : Values → Option MeaningOptions
+meaning value =
+    option_and_then (λ turns. option_and_then (λ events. option_map (λ inputs.
+    record { turns = turns; events = events; inputs = inputs })
+    (inputs (value (codes "in")))) (events (value (codes "events")))) (limit (value (codes "turns")))
+
+abbrev pub run : Values → Option RunOptions
+run value =
+    option_and_then (λ steps. option_and_then (λ events. option_map (λ inputs.
+    record { steps = steps; events = events; inputs = inputs })
+    (inputs (value (codes "in")))) (events (value (codes "events")))) (limit (value (codes "steps")))
+
+-- which text of the chain is printed, if the option is given
+abbrev pub text_to_show : Option Text → Option (Option ℕ)
+text_to_show None = Some None
+text_to_show (Some text) = option_map Some (number_within 0 32 text)
+
+abbrev pub explain : Values → Option Command
+explain value =
+    option_and_then (λ options. option_map (λ show. Explain options show) (text_to_show (value (codes "show"))))
+    (run value)
+
+abbrev pub make : Values → (summary : Bool) → Option MakeOptions
+make value summary =
+    option_and_then (λ size. option_map (λ seed. record { size = size; seed = seed; summary = summary })
+    (option_and_then (number_within 0 4294967295) (value (codes "seed"))))
+    (option_and_then (number_within 1 1000) (value (codes "size")))
+
+-- ---- the command
+
+-- the command with this name, these values of options, and a summary or none
+abbrev pub command_with : Text → Values → (summary : Bool) → Option Command
+command_with name value summary =
+    if bytes_eq name (codes "check") then Some Check
+    else (if bytes_eq name (codes "meaning") then option_map Meaning (meaning value)
+    else (if bytes_eq name (codes "compile") then Some Compile
+    else (if bytes_eq name (codes "run") then option_map Run (run value)
+    else (if bytes_eq name (codes "exec") then option_map Exec (run value)
+    else (if bytes_eq name (codes "explain") then explain value
+    else (if bytes_eq name (codes "make") then option_map Make (make value summary)
+    else None))))))
+
+-- the command that the words are
+unfoldable pub command : List Text → Option Command
+command words = option_and_then (λ read.
+    command_with read.0 (λ name. value_of name read.1) (has_option (codes "summary") read.1)) (parsed words)

@@ -1,0 +1,34 @@
+ghost use Rattle.sc_top_words.specs.Prelude.{usage_text};
+ghost use Rattle.std.specs.Prelude.{◌≡◌};
+
+/// The commands and their options on one screen, for somebody who sees the program for the first time.
+#[tactic(auto, unfolding(crate::specs::Usage::usage_text))]
+pub fn usage() -> &'static [u8]
+    ensures { result.now ≡ usage_text }
+{
+    b"secomp: usage
+  secomp COMMAND [OPTION]... <INPUT
+
+commands
+  check     the compartments of a program, and what they import and export
+  meaning   what the program does by the meaning of its source
+  compile   its machine image
+  run       what the machine does on that image
+  explain   the same, and the sections to replace so that the source does it too
+  exec      what the machine does on an image
+  make      a program made from two numbers
+
+options, as --name value or --name=value, each at most once
+  --turns N    meaning: at most N turns, 0 to 16777216 (1000000)
+  --steps N    run, exec, explain: at most N steps, 0 to 16777216 (1000000)
+  --events M   meaning, run, exec, explain: at most M events, 0 to 4096 (1024)
+  --in LIST    meaning, run, exec, explain: the inputs (none), as --in=-5,3:
+               1 to 65536 numbers from -2147483648 to 2147483647
+  --show K     explain: only the text after K replacements, 0 to 32
+  --size K     make, needed: how many functions, 1 to 1000
+  --seed N     make, needed: which program, 0 to 4294967295
+  --summary    make: a summary of the program in place of its text
+In parentheses stands what holds where the option is not given.
+The input is an image for exec, nothing for make, and else a program's text.
+"
+}

@@ -1,0 +1,149 @@
+ghost use Rattle.sc_top_words.specs.Prelude.{command_with, events, explain, flag_text, found_of, inputs, limit, make};
+ghost use Rattle.sc_top_words.specs.Prelude.{meaning, number_within, run, text_to_show};
+ghost use Rattle.std.specs.Prelude.{◌≡◌, Bool, true, Some, None, IfOk, IsErrOf, codes, option_and_then, option_map};
+ghost use Rattle.std.specs.Str.{bytes_eq};
+ghost use Rattle.clap.specs.Words.{first_value, one_text};
+
+use crate::numbers::{read_list, read_number};
+use crate::{Command, MakeOptions, MeaningOptions, RunOptions, WordsFault};
+use clap::ArgMatches;
+use sqlite_items::Items;
+use std::alloc::Global;
+
+/// The command of this name with these options.
+pub(crate) fn command_with(
+    alloc: Global,
+    name: &str,
+    options: &ArgMatches<'_>,
+) -> Result<Command, WordsFault>
+    ensures ok { (summary : Bool)
+        → (bytes_eq name.now (codes "make") ≡ true → one_text (found_of options.now) (codes "summary") ≡
+        Some (flag_text summary))
+        → IfOk result (λ read. command_with name.now (first_value (found_of options.now)) summary ≡ Some read) }
+    ensures usage { (summary : Bool)
+        → (bytes_eq name.now (codes "make") ≡ true → one_text (found_of options.now) (codes "summary") ≡
+        Some (flag_text summary))
+        → IsErrOf result WordsFault.Usage → command_with name.now (first_value (found_of options.now)) summary ≡ None }
+{
+    if name == "check" {
+        Ok(Command::Check)
+    } else if name == "meaning" {
+        meaning(alloc, options)
+    } else if name == "compile" {
+        Ok(Command::Compile)
+    } else if name == "run" {
+        Ok(Command::Run(run_options(alloc, options)?))
+    } else if name == "exec" {
+        Ok(Command::Exec(run_options(alloc, options)?))
+    } else if name == "explain" {
+        explain(alloc, options)
+    } else if name == "make" {
+        make(options)
+    } else {
+        Err(WordsFault::Usage)
+    }
+}
+
+fn meaning(alloc: Global, options: &ArgMatches<'_>) -> Result<Command, WordsFault>
+    ensures ok { IfOk result (λ read. option_map Command.Meaning (meaning (first_value (found_of options.now))) ≡
+        Some read) }
+    ensures usage { IsErrOf result WordsFault.Usage → meaning (first_value (found_of options.now)) ≡ None }
+{
+    let turns = limit(options, "turns").ok_or(WordsFault::Usage)?;
+    let events = events(options).ok_or(WordsFault::Usage)?;
+    let inputs = inputs(alloc, options)?;
+    Ok(Command::Meaning(MeaningOptions {
+        turns,
+        events,
+        inputs,
+    }))
+}
+
+fn run_options(alloc: Global, options: &ArgMatches<'_>) -> Result<RunOptions, WordsFault>
+    ensures ok { IfOk result (λ read. run (first_value (found_of options.now)) ≡ Some read) }
+    ensures usage { IsErrOf result WordsFault.Usage → run (first_value (found_of options.now)) ≡ None }
+{
+    let steps = limit(options, "steps").ok_or(WordsFault::Usage)?;
+    let events = events(options).ok_or(WordsFault::Usage)?;
+    let inputs = inputs(alloc, options)?;
+    Ok(RunOptions {
+        steps,
+        events,
+        inputs,
+    })
+}
+
+fn explain(alloc: Global, options: &ArgMatches<'_>) -> Result<Command, WordsFault>
+    ensures ok { IfOk result (λ read. explain (first_value (found_of options.now)) ≡ Some read) }
+    ensures usage { IsErrOf result WordsFault.Usage → explain (first_value (found_of options.now)) ≡ None }
+{
+    let run = run_options(alloc, options)?;
+    let show = text_to_show(options).ok_or(WordsFault::Usage)?;
+    Ok(Command::Explain(run, show))
+}
+
+fn make(options: &ArgMatches<'_>) -> Result<Command, WordsFault>
+    ensures ok { (summary : Bool) → one_text (found_of options.now) (codes "summary") ≡ Some (flag_text summary)
+        → IfOk result (λ read. option_map Command.Make (make (first_value (found_of options.now)) summary) ≡
+        Some read) }
+    ensures usage { (summary : Bool) → IsErrOf result WordsFault.Usage
+        → make (first_value (found_of options.now)) summary ≡ None }
+{
+    let size = number_of(options, "size", 1, 1_000).ok_or(WordsFault::Usage)?;
+    let seed = number_of(options, "seed", 0, u32::MAX).ok_or(WordsFault::Usage)?;
+    let summary = options.get_flag("summary");
+    Ok(Command::Make(MakeOptions {
+        size,
+        seed,
+        summary,
+    }))
+}
+
+fn number_of(options: &ArgMatches<'_>, name: &str, low: u32, high: u32) -> Option<u32>
+    ensures { result ≡ option_and_then (number_within low high) (first_value (found_of options.now) name.now) }
+{
+    match options.get_str(name) {
+        None => None,
+        Some(text) => read_number(text, low, high),
+    }
+}
+
+// How many steps or turns a run has at most.
+fn limit(options: &ArgMatches<'_>, name: &str) -> Option<u32>
+    ensures { result ≡ limit (first_value (found_of options.now) name.now) }
+{
+    match options.get_str(name) {
+        None => Some(1_000_000),
+        Some(text) => read_number(text, 0, 16_777_216),
+    }
+}
+
+// How many events a run emits at most.
+fn events(options: &ArgMatches<'_>) -> Option<u32>
+    ensures { result ≡ events (first_value (found_of options.now) (codes "events")) }
+{
+    match options.get_str("events") {
+        None => Some(1_024),
+        Some(text) => read_number(text, 0, 4_096),
+    }
+}
+
+fn inputs(alloc: Global, options: &ArgMatches<'_>) -> Result<Items<i32>, WordsFault>
+    ensures ok { IfOk result (λ list. inputs (first_value (found_of options.now) (codes "in")) ≡ Some list) }
+    ensures usage { IsErrOf result WordsFault.Usage → inputs (first_value (found_of options.now) (codes "in")) ≡ None }
+{
+    match options.get_str("in") {
+        None => Ok(Items::new(alloc)),
+        Some(text) => read_list(alloc, text),
+    }
+}
+
+// Which text of the chain is printed, if the option is given.
+fn text_to_show(options: &ArgMatches<'_>) -> Option<Option<u32>>
+    ensures { result ≡ text_to_show (first_value (found_of options.now) (codes "show")) }
+{
+    match options.get_str("show") {
+        None => Some(None),
+        Some(text) => read_number(text, 0, 32).map(Some),
+    }
+}

@@ -1,0 +1,129 @@
+-- Statements with their types, and the lines of those that break the rules of types (C11 6.8).
+use Rattle.sc_types_elab_stmt.specs.Common.{CallTree, Callees, ExprTree, Judged, Scope, Signature, SimpleKind, SimpleTree}
+use Rattle.sc_types_elab_stmt.specs.Common.{StmtKind-F, StmtTree, StmtTree-F, Ty, TypedCall, TypedExpr, TypedSimple}
+use Rattle.sc_types_elab_stmt.specs.Common.{TypedSimpleKind, TypedStmt, TypedStmtKind, Visible, args_fit, assign_fits}
+use Rattle.sc_types_elab_stmt.specs.Common.{fold-StmtTree, going_to, is_scalar, is_target, judged, result_goes, returned_fits}
+use Rattle.sc_types_elab_stmt.specs.Common.{typed}
+use Rattle.sc_base.specs.Prelude.{all_hold}
+use Rattle.sc_types_scope.specs.Prelude.{unless}
+use Rattle.std.specs.Prelude.{ℕ, Bool, false, ◌&&◌, not, List, [], ◌∷◌, ◌++◌, map, Option, Some, None, is_some}
+use Rattle.std.specs.List.{concat}
+use Rattle.std.specs.Option.{option_map}
+use Rattle.sc_ast.specs.declared.stmt.SimpleKind.TheVariants as simple_tree
+use Rattle.sc_ast.specs.declared.stmt.StmtKind.TheOpen as tree
+use Rattle.sc_core.specs.declared.stmt.TypedStmtKind as typed_kind
+use Rattle.sc_core.specs.declared.stmt.TypedSimpleKind.TheVariants as simple
+
+-- a value on its way to a place that there may not be
+abbrev pub going_to_some : Option Ty → TypedExpr → TypedExpr
+going_to_some None e = e
+going_to_some (Some place) e = going_to place e
+
+-- arguments on their way to parameters
+abbrev pub going_to_all : List Ty → List TypedExpr → List TypedExpr
+going_to_all [] exprs = exprs
+going_to_all types [] = []
+going_to_all (t ∷ types) (e ∷ exprs) = going_to t e ∷ going_to_all types exprs
+
+abbrev pub params_of : Option Signature → List Ty
+params_of None = []
+params_of (Some signature) = signature.params
+
+module _ (visible : Visible) (callees : Callees) where
+  abbrev pub typed_args : CallTree → List TypedExpr
+  typed_args call = going_to_all (params_of (callees.signature call.name)) (map (typed visible) call.args)
+
+  abbrev pub typed_call : CallTree → TypedCall
+  typed_call call = record { target = callees.target call.name; args = typed_args call }
+
+  -- the value of an assignment to a place
+  abbrev pub typed_value : ExprTree → ExprTree → TypedExpr
+  typed_value place value = going_to (typed visible place).ty (typed visible value)
+
+  abbrev pub typed_simple_kind : SimpleKind → TypedSimpleKind
+  typed_simple_kind (simple_tree.Assign place value) = simple.Assign (typed visible place) (typed_value place value)
+  typed_simple_kind (simple_tree.AssignCall place call) = simple.AssignCall (typed visible place) (typed_call call)
+  typed_simple_kind (simple_tree.Call call) = simple.Call (typed_call call)
+
+  abbrev pub typed_simple : SimpleTree → TypedSimple
+  typed_simple s = record { line = s.line; kind = typed_simple_kind s.kind }
+
+  module _ (result : Option Ty) where
+    abbrev pub kind_step : StmtKind-F TypedStmtKind TypedStmt → TypedStmtKind
+    kind_step tree.Empty = typed_kind.Empty
+    kind_step (tree.Assign place value) = typed_kind.Assign (typed visible place) (typed_value place value)
+    kind_step (tree.AssignCall place call) = typed_kind.AssignCall (typed visible place) (typed_call call)
+    kind_step (tree.Call call) = typed_kind.Call (typed_call call)
+    kind_step (tree.If cond first second) = typed_kind.If (typed visible cond) first second
+    kind_step (tree.While cond body) = typed_kind.While (typed visible cond) body
+    kind_step (tree.For first cond next body) =
+        typed_kind.For (option_map typed_simple first) (typed visible cond) (option_map typed_simple next) body
+    kind_step tree.Break = typed_kind.Break
+    kind_step tree.Continue = typed_kind.Continue
+    kind_step tree.Return = typed_kind.Return
+    kind_step (tree.ReturnValue value) = typed_kind.ReturnValue (going_to_some result (typed visible value))
+    kind_step (tree.ReturnCall call) = typed_kind.ReturnCall (typed_call call)
+
+    abbrev pub stmt_step : StmtTree-F TypedStmtKind TypedStmt → TypedStmt
+    stmt_step s = record { line = s.line; kind = s.kind }
+
+    -- a statement with its types
+    abbrev pub typed_stmt : StmtTree → TypedStmt
+    typed_stmt = fold-StmtTree TypedStmtKind TypedStmt kind_step stmt_step
+
+  -- The rules. Each is judged by what the typed expressions are.
+  module _ (scope : Scope) (result : Option Ty) where
+    abbrev pub judge : TypedExpr → Judged
+    judge = judged scope
+
+    abbrev pub call_holds : CallTree → Bool
+    call_holds call = args_fit (callees.signature call.name) (map judge (typed_args call))
+
+    abbrev pub assign_holds : ExprTree → ExprTree → Bool
+    assign_holds place value = assign_fits (judge (typed visible place)) (judge (typed_value place value))
+
+    abbrev pub assign_call_holds : ExprTree → CallTree → Bool
+    assign_call_holds place call =
+        all_hold (
+        is_target (judge (typed visible place)) ∷
+        call_holds call ∷
+        result_goes (callees.signature call.name) (typed visible place).ty ∷ []
+        )
+
+    abbrev pub cond_holds : ExprTree → Bool
+    cond_holds cond = is_scalar (judge (typed visible cond))
+
+    abbrev pub return_call_holds : Option Ty → CallTree → Bool
+    return_call_holds None call = false
+    return_call_holds (Some t) call = call_holds call && result_goes (callees.signature call.name) t
+
+    abbrev pub return_value_holds : ExprTree → Bool
+    return_value_holds value = returned_fits result (judge (going_to_some result (typed visible value)))
+
+    abbrev pub simple_holds : SimpleKind → Bool
+    simple_holds (simple_tree.Assign place value) = assign_holds place value
+    simple_holds (simple_tree.AssignCall place call) = assign_call_holds place call
+    simple_holds (simple_tree.Call call) = call_holds call
+
+    -- the lines of a part of `for`
+    abbrev pub part_lines : Option SimpleTree → List ℕ
+    part_lines None = []
+    part_lines (Some s) = unless (simple_holds s.kind) s.line
+
+    -- the lines of a kind of statement at a line, where those of the statements inside are known
+    abbrev pub kind_lines : StmtKind-F (ℕ → List ℕ) (List ℕ) → ℕ → List ℕ
+    kind_lines (tree.Assign place value) line = unless (assign_holds place value) line
+    kind_lines (tree.AssignCall place call) line = unless (assign_call_holds place call) line
+    kind_lines (tree.Call call) line = unless (call_holds call) line
+    kind_lines (tree.If cond first second) line = unless (cond_holds cond) line ++ (concat first ++ concat second)
+    kind_lines (tree.While cond body) line = unless (cond_holds cond) line ++ concat body
+    kind_lines (tree.For first cond next body) line =
+        part_lines first ++ (unless (cond_holds cond) line ++ (part_lines next ++ concat body))
+    kind_lines tree.Return line = unless (not (is_some result)) line
+    kind_lines (tree.ReturnValue value) line = unless (return_value_holds value) line
+    kind_lines (tree.ReturnCall call) line = unless (return_call_holds result call) line
+    kind_lines _ line = []
+
+    -- the lines of the statements that break rules of types, in a statement
+    abbrev pub stmt_lines : StmtTree → List ℕ
+    stmt_lines = fold-StmtTree (ℕ → List ℕ) (List ℕ) kind_lines (λ s. s.kind s.line)

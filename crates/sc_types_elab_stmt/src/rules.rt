@@ -1,0 +1,208 @@
+//! The rules of types on the parts of statements (C11 6.5.2.2, 6.5.16.1, 6.8), by what is judged of their expressions.
+
+ghost use Rattle.sc_types_elab_stmt.specs.Prelude.{Scope, Suits, all_go, assign_call_holds, assign_holds, call_holds, called};
+ghost use Rattle.sc_types_elab_stmt.specs.Prelude.{cond_holds, goes_in, init_goes, is_target, option_goes, result_goes};
+ghost use Rattle.sc_types_elab_stmt.specs.Prelude.{return_call_holds, return_value_holds, simple_holds, visible};
+ghost use Rattle.std.specs.Prelude.{◌≡◌, ◌&&◌, Some, IfOk};
+
+use crate::stmt::build_value;
+use sc_ast::{CallTree, ExprTree, SimpleKind};
+use sc_base::{Name, OutOfMemory};
+use sc_core::Ty;
+use sc_types_elab_expr::{FunctionScope, Judged, SectionScope, build_expr};
+use std::alloc::Global;
+
+/// What is seen at a place of a function.
+#[derive(Clone, Copy)]
+pub struct Place<'a> {
+    pub section: &'a SectionScope,
+    pub function: &'a FunctionScope,
+}
+
+impl Place<'_> {
+    // Whether a value goes into a place of this type.
+    #[tactic(auto, unfolding(crate::specs::Seen::value_in))]
+    fn goes(&self, alloc: Global, ty: Ty, value: &ExprTree) -> Result<bool, OutOfMemory>
+        ensures { (scope : Scope) → Suits (visible self.now.section.now self.now.function.now) scope →
+            IfOk result (λ goes.
+            goes ≡ goes_in (visible self.now.section.now self.now.function.now) scope ty value.now) }
+    {
+        let value = build_value(alloc, self.section, self.function, ty, value)?;
+        value.judged.goes_into(ty)
+    }
+
+    /// Whether a local of this type may begin with this (C11 6.7.9p11).
+    pub fn may_begin(
+        &self,
+        alloc: Global,
+        ty: Ty,
+        init: &Option<ExprTree>,
+    ) -> Result<bool, OutOfMemory>
+        ensures { (scope : Scope) → Suits (visible self.now.section.now self.now.function.now) scope →
+            IfOk result (λ holds. holds ≡ init_goes (visible self.now.section.now self.now.function.now) scope ty
+            init.now) }
+    {
+        match init {
+            None => Ok(true),
+            Some(init) => self.goes(alloc, ty, init),
+        }
+    }
+
+    // Whether arguments go into parameters of these types (C11 6.5.2.2p2).
+    #[tactic(auto, using(crate::proofs::Ruled::arguments))]
+    fn all_go(&self, alloc: Global, params: &[Ty], args: &[ExprTree]) -> Result<bool, OutOfMemory>
+        ensures { (scope : Scope) → Suits (visible self.now.section.now self.now.function.now) scope →
+            IfOk result (λ holds. holds ≡ all_go (goes_in
+            (visible self.now.section.now self.now.function.now) scope) params.now args.now) }
+    {
+        if params.len() != args.len() {
+            return Ok(false);
+        }
+        for i in 0..params.len() {
+            if !self.goes(alloc, params[i], &args[i])? {
+                return Ok(false);
+            }
+        }
+        Ok(true)
+    }
+
+    pub(crate) fn call_holds(&self, alloc: Global, call: &CallTree) -> Result<bool, OutOfMemory>
+        ensures { (scope : Scope) → Suits (visible self.now.section.now self.now.function.now) scope →
+            IfOk result (λ holds. holds ≡ call_holds (visible self.now.section.now self.now.function.now)
+            (called self.now.section.now.callees) scope self.now.function.now.result call.now) }
+    {
+        match self.section.callees.signature(&call.name.name()) {
+            None => Ok(false),
+            Some(signature) => self.all_go(alloc, signature.params(), call.args.as_slice()),
+        }
+    }
+
+    // Whether what is called by this name has a result that goes into a place of this type.
+    fn result_goes(&self, name: &Name, ty: Ty) -> bool
+        ensures { result ≡ result_goes ((called self.now.section.now.callees).signature name.now) ty }
+    {
+        match self.section.callees.signature(name) {
+            None => false,
+            Some(signature) => option_goes(signature.result(), ty),
+        }
+    }
+
+    // Whether a call fits and its result goes into a place of this type.
+    fn gives(&self, alloc: Global, call: &CallTree, ty: Ty) -> Result<bool, OutOfMemory>
+        ensures { (scope : Scope) → Suits (visible self.now.section.now self.now.function.now) scope →
+            IfOk result (λ holds. holds ≡ (call_holds (visible self.now.section.now self.now.function.now)
+            (called self.now.section.now.callees) scope self.now.function.now.result call.now &&
+            result_goes ((called self.now.section.now.callees).signature call.now.name) ty)) }
+    {
+        let fits = self.call_holds(alloc, call)?;
+        Ok(fits && self.result_goes(&call.name.name(), ty))
+    }
+
+    pub(crate) fn assign_holds(
+        &self,
+        alloc: Global,
+        place: &ExprTree,
+        value: &ExprTree,
+    ) -> Result<bool, OutOfMemory>
+        ensures { (scope : Scope) → Suits (visible self.now.section.now self.now.function.now) scope →
+            IfOk result (λ holds. holds ≡ assign_holds (visible self.now.section.now self.now.function.now)
+            (called self.now.section.now.callees) scope self.now.function.now.result place.now value.now) }
+    {
+        let place = build_expr(alloc, self.section, self.function, place)?;
+        let goes = self.goes(alloc, place.expr.ty, value)?;
+        Ok(takes(place.judged, goes))
+    }
+
+    pub(crate) fn assign_call_holds(
+        &self,
+        alloc: Global,
+        place: &ExprTree,
+        call: &CallTree,
+    ) -> Result<bool, OutOfMemory>
+        ensures { (scope : Scope) → Suits (visible self.now.section.now self.now.function.now) scope →
+            IfOk result (λ holds. holds ≡ assign_call_holds (visible self.now.section.now self.now.function.now)
+            (called self.now.section.now.callees) scope self.now.function.now.result place.now call.now) }
+    {
+        let place = build_expr(alloc, self.section, self.function, place)?;
+        let gives = self.gives(alloc, call, place.expr.ty)?;
+        Ok(takes(place.judged, gives))
+    }
+
+    /// Whether this is a condition.
+    pub(crate) fn cond_holds(&self, alloc: Global, cond: &ExprTree) -> Result<bool, OutOfMemory>
+        ensures { (scope : Scope) → Suits (visible self.now.section.now self.now.function.now) scope →
+            IfOk result (λ holds. holds ≡ cond_holds (visible self.now.section.now self.now.function.now)
+            (called self.now.section.now.callees) scope self.now.function.now.result cond.now) }
+    {
+        let cond = build_expr(alloc, self.section, self.function, cond)?;
+        Ok(cond.judged.is_scalar())
+    }
+
+    /// Whether a value may be returned (C11 6.8.6.4).
+    pub(crate) fn return_value_holds(
+        &self,
+        alloc: Global,
+        value: &ExprTree,
+    ) -> Result<bool, OutOfMemory>
+        ensures { (scope : Scope) → Suits (visible self.now.section.now self.now.function.now) scope →
+            IfOk result (λ holds. holds ≡ return_value_holds (visible self.now.section.now self.now.function.now)
+            (called self.now.section.now.callees) scope self.now.function.now.result value.now) }
+    {
+        match self.function.result {
+            None => Ok(false),
+            Some(ty) => self.goes(alloc, ty, value),
+        }
+    }
+
+    /// Whether a call's result may be returned.
+    pub(crate) fn return_call_holds(
+        &self,
+        alloc: Global,
+        call: &CallTree,
+    ) -> Result<bool, OutOfMemory>
+        ensures { (scope : Scope) → Suits (visible self.now.section.now self.now.function.now) scope →
+            IfOk result (λ holds. holds ≡ return_call_holds (visible self.now.section.now self.now.function.now)
+            (called self.now.section.now.callees) scope self.now.function.now.result self.now.function.now.result
+            call.now) }
+    {
+        match self.function.result {
+            None => Ok(false),
+            Some(ty) => self.gives(alloc, call, ty),
+        }
+    }
+
+    /// Whether an assignment or a call keeps the rules.
+    pub(crate) fn simple_holds(
+        &self,
+        alloc: Global,
+        simple: &SimpleKind,
+    ) -> Result<bool, OutOfMemory>
+        ensures { (scope : Scope) → Suits (visible self.now.section.now self.now.function.now) scope →
+            IfOk result (λ holds. holds ≡ simple_holds (visible self.now.section.now self.now.function.now)
+            (called self.now.section.now.callees) scope self.now.function.now.result simple.now) }
+    {
+        match simple {
+            SimpleKind::Assign { place, value } => self.assign_holds(alloc, place.get(), value),
+            SimpleKind::AssignCall { place, call } => {
+                self.assign_call_holds(alloc, place.get(), call)
+            }
+            SimpleKind::Call(call) => self.call_holds(alloc, call),
+        }
+    }
+}
+
+fn option_goes(value: Option<Ty>, place: Ty) -> bool
+    ensures { result ≡ option_goes value place }
+{
+    match value {
+        None => false,
+        Some(value) => value.goes_into(place),
+    }
+}
+
+// Whether a place can be stored to, and what is stored goes there.
+fn takes(place: Judged, goes: bool) -> bool
+    ensures { result ≡ (is_target place && goes) }
+{
+    place.is_target() && goes
+}

@@ -1,0 +1,16 @@
+-- The names that several proofs of this crate cite, passed on from one place. Declares nothing.
+pub use Rattle.std.proofs.Common.{Bool, List, Option, [], add-one, ap, append-nil, append_assoc, arith, drop, drop-cons}
+pub use Rattle.std.proofs.Common.{false, get_or, length, map, nat_eq, not, refl, rules, suc, sym, take, true, ℕ, ◌&&◌}
+pub use Rattle.std.proofs.Common.{◌++◌, ◌+◌, ◌<◌, ◌||◌, ◌∙◌, ◌∷◌, ◌≡◌, ◌≤◌}
+pub use Rattle.std.proofs.lemmas.List.{drop_all, map-append}
+pub use Rattle.std.specs.List.{filter_map, list_all}
+pub use Rattle.sc_ast.specs.declared.section.LocalTree.{LocalTree}
+pub use Rattle.sc_types_scope.specs.Common.{Decl, Function, FunctionTree, Global, ImportLine, ParamTree, Proto, SectionTree}
+pub use Rattle.sc_types_scope.specs.Common.{Struct}
+pub use Rattle.sc_types_scope.specs.Prelude.{FunctionParam, Known, Text, all_in, among, are_distinct, base_known, body_lines}
+pub use Rattle.sc_types_scope.specs.Prelude.{decl_lines, declared, expr_known, function_lines, function_names, head_of_known}
+pub use Rattle.sc_types_scope.specs.Prelude.{known, line_of_text, lines_from, local_known, local_names, locals_from}
+pub use Rattle.sc_types_scope.specs.Prelude.{member_names, names_broken, noted, param_names, part_lines, refused_at}
+pub use Rattle.sc_types_scope.specs.Prelude.{section_lines, stmt_lines, unless, with_decl, with_lines}
+unfoldable pub use Rattle.sc_types_scope.specs.Prelude.{noted_all}
+pub use Rattle.sc_types_scope.specs.declared.broken.BrokenLines.{BrokenLines}

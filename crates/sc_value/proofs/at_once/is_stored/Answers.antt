@@ -1,4 +1,0 @@
-use Rattle.sc_value.proofs.at_once.is_stored.Goals as goal
-
-pub returns-in-Ok : goal.returns-in-Ok
-returns-in-Ok c = record { is = c.in-Ok.ensures.value; others = c.store.ensures.others }
