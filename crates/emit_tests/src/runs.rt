@@ -40,7 +40,11 @@ fn agrees(alloc: Global, task: &CodeTask, meant: &[Event], choice: Choice) -> Re
 
 /// What a program of code outputs and ends with, if the machine emits all that the code means, wherever the temporaries
 /// lie.
-pub fn agreed_outputs(alloc: Global, task: &CodeTask, choices: &[Choice]) -> Result<Option<Vec<u32>>, Fail> {
+pub fn agreed_outputs(
+    alloc: Global,
+    task: &CodeTask,
+    choices: &[Choice],
+) -> Result<Option<Vec<u32>>, Fail> {
     let meant = run_code(alloc, task)?;
     for choice in choices {
         if !agrees(alloc, task, meant.trace.as_slice(), *choice)? {

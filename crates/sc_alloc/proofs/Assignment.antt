@@ -1,7 +1,7 @@
 -- Places that were given fairly are an assignment, and a sparing one.
 use Rattle.sc_alloc.proofs.Common.{All, All-permutation, AreFair, AreIntervals, AreKnown, AreNumbered, ArePlaced}
-use Rattle.sc_alloc.proofs.Common.{ArePlaces, Contains, Contains-permutation, Placement, Interval, IsAssignment}
-use Rattle.sc_alloc.proofs.Common.{IsPermutation, IsPermutation-sym, IsSparing, IsTrue, List, Place, Slot, Some, [], ap}
+use Rattle.sc_alloc.proofs.Common.{ArePlaces, Contains, Contains-permutation, Interval, IsAssignment, IsPermutation}
+use Rattle.sc_alloc.proofs.Common.{IsPermutation-sym, IsSparing, IsTrue, List, Place, Placement, Slot, Some, [], ap}
 use Rattle.sc_alloc.proofs.Common.{arith, cases_order, count_by, eq-eqb, get_or, get_or_from_slice_get, is_place}
 use Rattle.sc_alloc.proofs.Common.{is_there, length, length_permutation, map, option_map, refl, same_Some, slice_get}
 use Rattle.sc_alloc.proofs.Common.{slice_get-get_or, slice_get-map, slice_get_within, subst, suc, sum_by-IsPermutation}
@@ -50,12 +50,14 @@ module _ (intervals : List Interval) (placements : List Placement) (are : AreInt
   size : length placements ≡ length intervals
   size = sym (as_many placements) ∙ length_permutation intervals (intervals_of placements) moved
 
-  back : (i : ℕ) (g : Placement) → slice_get placements i ≡ Some g → slice_get intervals g.interval.temp ≡ Some g.interval
+  back : (i : ℕ) (g : Placement) → slice_get placements i ≡ Some g →
+      slice_get intervals g.interval.temp ≡ Some g.interval
   back i g at =
       (let mapped : slice_get (intervals_of placements) i ≡ Some g.interval =
       slice_get-map interval_of placements i ∙ ap (option_map interval_of) at in
       let c = Contains-permutation (intervals_of placements) intervals g.interval
-      (IsPermutation-sym intervals (intervals_of placements) moved) (contained (intervals_of placements) i g.interval mapped) in
+      (IsPermutation-sym intervals (intervals_of placements) moved)
+      (contained (intervals_of placements) i g.interval mapped) in
       let its : slice_get intervals c.0 ≡ Some g.interval = container intervals g.interval c in
       subst (λ t. slice_get intervals t ≡ Some g.interval) (sym (are.numbered c.0 g.interval its)) its)
 
@@ -67,7 +69,8 @@ module _ (intervals : List Interval) (placements : List Placement) (are : AreInt
       once_from t 0 intervals (λ i x at. omega (arith, are.numbered i x at)) in
       omega (arith, same, once))
 
-  pub mapped_at : (i : ℕ) (g : Placement) → slice_get placements i ≡ Some g → slice_get (intervals_of placements) i ≡ Some g.interval
+  pub mapped_at : (i : ℕ) (g : Placement) → slice_get placements i ≡ Some g →
+      slice_get (intervals_of placements) i ≡ Some g.interval
   mapped_at i g at = slice_get-map interval_of placements i ∙ ap (option_map interval_of) at
 
   pub numbered : AreNumbered placements
@@ -78,7 +81,8 @@ module _ (intervals : List Interval) (placements : List Placement) (are : AreInt
         (eq-eqb h.interval.temp g.interval.temp (sym same));
   }
 
-  module _ (places : List Place) (fair : AreFair placements) (known : AreKnown placements) (placed : ArePlaced placements places) where
+  module _ (places : List Place) (fair : AreFair placements) (known : AreKnown placements)
+      (placed : ArePlaced placements places) where
     -- what an interval was given
     record Found (t : ℕ) (x : Interval) : Type 0 where
       by : ℕ

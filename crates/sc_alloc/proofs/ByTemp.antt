@@ -1,10 +1,10 @@
 -- The places in the order of the temporaries' numbers.
-use Rattle.sc_alloc.proofs.Common.{All, All-permutation, AreIntervals, ArePlaced, Contains-permutation, Placement, Interval}
+use Rattle.sc_alloc.proofs.Common.{All, All-permutation, AreIntervals, ArePlaced, Contains-permutation, Interval}
 use Rattle.sc_alloc.proofs.Common.{IsPermutation, IsPermutation-map, IsPermutation-sym, IsPermutation-trans, List}
-use Rattle.sc_alloc.proofs.Common.{Place, Some, ap, arith, cases_eq, cases_lt, eq-eqb, get_or, get_or_from_slice_get}
-use Rattle.sc_alloc.proofs.Common.{is_there, length, length_permutation, map, option_map, refl, slice_get}
-use Rattle.sc_alloc.proofs.Common.{slice_get-get_or, slice_get-map, slice_get_past, sorted_by, suc, sym, zero, ℕ}
-use Rattle.sc_alloc.proofs.Common.{⊎_elim, ◌+◌, ◌-◌, ◌<◌, ◌∙◌, ◌≡◌, ◌≢◌, ◌≤◌}
+use Rattle.sc_alloc.proofs.Common.{Place, Placement, Some, ap, arith, cases_eq, cases_lt, eq-eqb, get_or}
+use Rattle.sc_alloc.proofs.Common.{get_or_from_slice_get, is_there, length, length_permutation, map, option_map, refl}
+use Rattle.sc_alloc.proofs.Common.{slice_get, slice_get-get_or, slice_get-map, slice_get_past, sorted_by, suc, sym}
+use Rattle.sc_alloc.proofs.Common.{zero, ℕ, ⊎_elim, ◌+◌, ◌-◌, ◌<◌, ◌∙◌, ◌≡◌, ◌≢◌, ◌≤◌}
 use Rattle.std.proofs.lemmas.List.{length-map}
 use Rattle.sc_alloc.proofs.Assignment.{contained, container, few, intervals_of, mapped_at, numbered}
 use Rattle.sc_alloc.proofs.Counts.{has_temp, only}
@@ -61,8 +61,10 @@ module _ (intervals : List Interval) (placements : List Placement) (are : AreInt
       (cases_eq i (suc j))
 
   all_below : All (λ (g : Placement). temp_of g < length placements) ordered
-  all_below = All-permutation (λ (g : Placement). temp_of g < length placements) placements ordered (sorted_moved temp_of placements)
-      (λ k d less. (numbered intervals placements are moved).below k (get_or placements k d) (slice_get-get_or placements k d less))
+  all_below = All-permutation (λ (g : Placement). temp_of g < length placements) placements ordered
+      (sorted_moved temp_of placements)
+      (λ k d less. (numbered intervals placements are moved).below k (get_or placements k d)
+      (slice_get-get_or placements k d less))
 
   own_temp : (i : ℕ) (d : Placement) → i < length ordered → temp_of (get_or ordered i d) ≡ i
   own_temp i d less =

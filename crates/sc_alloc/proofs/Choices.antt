@@ -1,9 +1,9 @@
 -- What an interval's place keeps, and what all keep with it.
-use Rattle.sc_alloc.proofs.Common.{AllBegun, AllOver, AreFair, Placement, Interval, IsFair, IsInUse, IsInUseWithin}
-use Rattle.sc_alloc.proofs.Common.{IsNonDecreasingBy, List, Place, Register, Slot, Some, [], ap, arith, false, get_or}
-use Rattle.sc_alloc.proofs.Common.{get_or_from_slice_get, length, map, option_map, refl, register_count, slice_get}
-use Rattle.sc_alloc.proofs.Common.{slice_get-map, slice_get_within, subst, suc, sym, take, true, with_place, zero, ℕ}
-use Rattle.sc_alloc.proofs.Common.{⊎_elim, ◌++◌, ◌<◌, ◌∙◌, ◌∷◌, ◌≡◌, ◌≤◌, ◌⊎◌}
+use Rattle.sc_alloc.proofs.Common.{AllBegun, AllOver, AreFair, Interval, IsFair, IsInUse, IsInUseWithin}
+use Rattle.sc_alloc.proofs.Common.{IsNonDecreasingBy, List, Place, Placement, Register, Slot, Some, [], ap, arith}
+use Rattle.sc_alloc.proofs.Common.{false, get_or, get_or_from_slice_get, length, map, option_map, refl, register_count}
+use Rattle.sc_alloc.proofs.Common.{slice_get, slice_get-map, slice_get_within, subst, suc, sym, take, true, with_place}
+use Rattle.sc_alloc.proofs.Common.{zero, ℕ, ⊎_elim, ◌++◌, ◌<◌, ◌∙◌, ◌∷◌, ◌≡◌, ◌≤◌, ◌⊎◌}
 use Rattle.sc_alloc.proofs.Lists.{get_pushed}
 use Rattle.sc_alloc.proofs.FreeRegisters.{in_use_kept}
 
@@ -23,10 +23,12 @@ slot_fair placements x k free in_use = record {
   spared = λ none other same. in_use none;
 }
 
-within_kept : (placements more : List Placement) (r at : ℕ) → IsInUseWithin placements r at → IsInUseWithin (placements ++ more) r at
+within_kept : (placements more : List Placement) (r at : ℕ) → IsInUseWithin placements r at →
+    IsInUseWithin (placements ++ more) r at
 within_kept placements more r at h = (in_use_kept placements more r at h.0, h.1)
 
-module _ (placements : List Placement) (x : Interval) (place : Place) (fair : AreFair placements) (begun : AllBegun placements x.first)
+module _ (placements : List Placement) (x : Interval) (place : Place) (fair : AreFair placements)
+    (begun : AllBegun placements x.first)
     (own : IsFair placements x place) where
   abbrev its : Placement
   its = record { interval = x; place = place }
@@ -39,7 +41,8 @@ module _ (placements : List Placement) (x : Interval) (place : Place) (fair : Ar
   apart_from i j g h less at same later = ⊎_elim
       (λ old. ⊎_elim
       (λ before. fair.apart i j g h less before old same)
-      (λ is. absurd (let le : j < length placements = slice_get_within placements j h old in omega (arith, less, is.0, le)))
+      (λ is. absurd (let le : j < length placements =
+      slice_get_within placements j h old in omega (arith, less, is.0, le)))
       (get_pushed placements its g i at))
       (λ new. ⊎_elim
       (λ before. subst (λ (h : Placement). g.place ≡ h.place → g.interval.last < h.interval.first) new.1
@@ -53,7 +56,8 @@ module _ (placements : List Placement) (x : Interval) (place : Place) (fair : Ar
     apart = λ i j g h less at other same. apart_from i j g h less at same (get_pushed placements its h j other);
     over_calls = λ i g at. ⊎_elim
         (λ old. fair.over_calls i g old)
-        (λ is. subst (λ (g : Placement). g.interval.spans_call ≡ true → (k : ℕ) × (g.place ≡ Slot k)) is.1 own.over_calls)
+        (λ is. subst (λ (g : Placement). g.interval.spans_call ≡ true → (k : ℕ) × (g.place ≡ Slot k)) is.1
+        own.over_calls)
         (get_pushed placements its g i at);
     spared = λ i g at. ⊎_elim
         (λ old none k same r less.
@@ -74,7 +78,8 @@ get_taken (z ∷ xs) (suc n) (suc i) x e = (let h = get_taken xs n i x e in (ome
 
 -- those that got a place come before the next one in the order
 pub begun_before : (placements : List Placement) (order : List Interval) (n : ℕ) (x : Interval) →
-    map (λ (g : Placement). g.interval) placements ≡ take n order → IsNonDecreasingBy (λ (x : Interval). x.first) order →
+    map (λ (g : Placement). g.interval) placements ≡ take n order →
+    IsNonDecreasingBy (λ (x : Interval). x.first) order →
     n < length order → AllBegun placements (get_or order n x).first
 begun_before placements order n x same rising less i g at =
     (let its : slice_get (take n order) i ≡ Some g.interval =

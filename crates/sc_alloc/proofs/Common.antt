@@ -25,6 +25,6 @@ pub use Rattle.sc_tac.specs.Prelude.{AreIntervals, ArePlaces, IsAssignment, IsSp
 pub use Rattle.sc_alloc.specs.Common.{Interval, Place, Register, Slot}
 pub use Rattle.sc_alloc.specs.Places.{insert_by, is_soonest, slot_for, with_place, with_slot}
 pub use Rattle.sc_alloc.specs.Prelude.{AllBegun, AreFair, AreKnown, AreNumbered, ArePlaced, AreRegisters, AreSlots}
-pub use Rattle.sc_alloc.specs.Prelude.{Placement, HasEnds, IsAt, IsOut, IsScan, at_first, is_over, scan_next, sorted_by}
+pub use Rattle.sc_alloc.specs.Prelude.{HasEnds, IsAt, IsOut, IsScan, Placement, at_first, is_over, scan_next, sorted_by}
 pub use Rattle.sc_alloc.specs.Scan.{AllOver, IsFair, IsInUse, IsInUseWithin, LacksOne, is_of, soonest_first}
 pub use Rattle.sc_alloc.specs.declared.slots.SlotEnd.{SlotEnd}

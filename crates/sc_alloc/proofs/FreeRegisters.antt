@@ -1,11 +1,13 @@
 -- A register that is given, and one that isn't.
-use Rattle.sc_alloc.proofs.Common.{AllOver, AreRegisters, Placement, Interval, IsInUse, List, None, Option, Place, Register}
-use Rattle.sc_alloc.proofs.Common.{Slot, Some, [], ap, arith, cases_eq, false, get_after, get_or, is_over, length}
-use Rattle.sc_alloc.proofs.Common.{length-set, position, refl, register_count, slice_get, slice_get-get_or, slice_set}
-use Rattle.sc_alloc.proofs.Common.{subst, suc, sym, true, with_place, zero, ℕ, ⊎_elim, ◌++◌, ◌<◌, ◌∙◌, ◌∷◌, ◌≡◌, ◌≤◌}
+use Rattle.sc_alloc.proofs.Common.{AllOver, AreRegisters, Interval, IsInUse, List, None, Option, Place, Placement}
+use Rattle.sc_alloc.proofs.Common.{Register, Slot, Some, [], ap, arith, cases_eq, false, get_after, get_or, is_over}
+use Rattle.sc_alloc.proofs.Common.{length, length-set, position, refl, register_count, slice_get, slice_get-get_or}
+use Rattle.sc_alloc.proofs.Common.{slice_set, subst, suc, sym, true, with_place, zero, ℕ, ⊎_elim, ◌++◌, ◌<◌, ◌∙◌, ◌∷◌}
+use Rattle.sc_alloc.proofs.Common.{◌≡◌, ◌≤◌}
 use Rattle.sc_alloc.proofs.Lists.{get_pushed, get_kept, get_set_same, get_set_other, all_fail}
 
-pub all_over_pushed : (placements : List Placement) (x : Interval) (place other : Place) (at : ℕ) → AllOver placements other at →
+pub all_over_pushed : (placements : List Placement) (x : Interval) (place other : Place) (at : ℕ) →
+    AllOver placements other at →
     (place ≡ other → x.last < at) → AllOver (with_place placements x place) other at
 all_over_pushed placements x place other at old new i g get same =
     ⊎_elim
@@ -13,7 +15,8 @@ all_over_pushed placements x place other at old new i g get same =
     (λ is. subst (λ (g : Placement). g.place ≡ other → g.interval.last < at) is.1 new same)
     (get_pushed placements (record { interval = x; place = place }) g i get)
 
-abbrev pub in_use_kept : (placements more : List Placement) (r at : ℕ) → IsInUse placements r at → IsInUse (placements ++ more) r at
+abbrev pub in_use_kept : (placements more : List Placement) (r at : ℕ) → IsInUse placements r at →
+    IsInUse (placements ++ more) r at
 in_use_kept placements more r at h = record {
   by = h.by;
   holder = h.holder;
@@ -22,7 +25,8 @@ in_use_kept placements more r at h = record {
   lasts = h.lasts;
 }
 
-in_use_before : (placements : List Placement) (r at last : ℕ) → at ≤ last → IsInUse placements r last → IsInUse placements r at
+in_use_before : (placements : List Placement) (r at last : ℕ) → at ≤ last → IsInUse placements r last →
+    IsInUse placements r at
 in_use_before placements r at last le h = record {
   by = h.by;
   holder = h.holder;
@@ -31,12 +35,15 @@ in_use_before placements r at last le h = record {
   lasts = omega (arith, le, h.lasts);
 }
 
-free_over : (placements : List Placement) (lasts : List (Option ℕ)) (r at : ℕ) (last : Option ℕ) → AreRegisters placements lasts →
+free_over : (placements : List Placement) (lasts : List (Option ℕ)) (r at : ℕ) (last : Option ℕ) →
+    AreRegisters placements lasts →
     slice_get lasts r ≡ Some last → is_over at last ≡ true → AllOver placements (Register r) at
 free_over placements lasts r at None regs get is = regs.unused r get at
-free_over placements lasts r at (Some last) regs get is = λ i g its same. grind (arith, regs.over r last get i g its same)
+free_over placements lasts r at (Some last) regs get is =
+    λ i g its same. grind (arith, regs.over r last get i g its same)
 
-module _ (placements : List Placement) (x : Interval) (lasts : List (Option ℕ)) (r : ℕ) (regs : AreRegisters placements lasts)
+module _ (placements : List Placement) (x : Interval) (lasts : List (Option ℕ)) (r : ℕ)
+    (regs : AreRegisters placements lasts)
     (own : r < register_count) (free : AllOver placements (Register r) x.first) (ordered : x.first ≤ x.last) where
   set_here : slice_get (slice_set lasts r (Some x.last)) r ≡ Some (Some x.last)
   set_here = get_set_same lasts r (Some x.last) (omega (arith, own, regs.count))
@@ -59,7 +66,8 @@ module _ (placements : List Placement) (x : Interval) (lasts : List (Option ℕ)
           place = ap Register e;
           lasts = omega (arith, same);
         }))
-        (λ ne. in_use_kept placements _ q last (regs.in_use q last (sym (get_set_other lasts r q (Some x.last) ne) ∙ get)))
+        (λ ne. in_use_kept placements _ q last
+        (regs.in_use q last (sym (get_set_other lasts r q (Some x.last) ne) ∙ get)))
         (cases_eq r q);
     unused = λ q get at. ⊎_elim
         (λ e. absurd (let s : slice_get (slice_set lasts r (Some x.last)) r ≡ Some None =
@@ -82,7 +90,8 @@ module _ (placements : List Placement) (x : Interval) (lasts : List (Option ℕ)
   }
 
 -- an interval that gets a slot leaves registers as they are
-pub registers_kept : (placements : List Placement) (x : Interval) (lasts : List (Option ℕ)) (k : ℕ) → AreRegisters placements lasts →
+pub registers_kept : (placements : List Placement) (x : Interval) (lasts : List (Option ℕ)) (k : ℕ) →
+    AreRegisters placements lasts →
     AreRegisters (with_place placements x (Slot k)) lasts
 registers_kept placements x lasts k regs = record {
   count = regs.count;
@@ -103,7 +112,8 @@ entry [] r h = absurd (omega arith)
 entry (last ∷ lasts) zero h = (last, refl)
 entry (last ∷ lasts) (suc r) h = entry lasts r (omega (arith, h))
 
-in_use_by : (placements : List Placement) (lasts : List (Option ℕ)) (r at : ℕ) (last : Option ℕ) → AreRegisters placements lasts →
+in_use_by : (placements : List Placement) (lasts : List (Option ℕ)) (r at : ℕ) (last : Option ℕ) →
+    AreRegisters placements lasts →
     slice_get lasts r ≡ Some last → is_over at last ≡ false → IsInUse placements r at
 in_use_by placements lasts r at None regs get is = absurd (cc is)
 in_use_by placements lasts r at (Some last) regs get is =

@@ -1,7 +1,7 @@
 -- A slot that is taken, and one that is given.
-use Rattle.sc_alloc.proofs.Common.{All, All-cons, All-nil, All-permutation, All-tail, AllOver, AreSlots, Placement, IfNone}
-use Rattle.sc_alloc.proofs.Common.{IfSome, Interval, IsOut, IsPermutation, List, None, Option, Register, Reverse, Slot}
-use Rattle.sc_alloc.proofs.Common.{SlotEnd, Some, [], ap, arith, cases_eq, cond, count_by, eq-eqb, get_or, is_of}
+use Rattle.sc_alloc.proofs.Common.{All, All-cons, All-nil, All-permutation, All-tail, AllOver, AreSlots, IfNone, IfSome}
+use Rattle.sc_alloc.proofs.Common.{Interval, IsOut, IsPermutation, List, None, Option, Placement, Register, Reverse}
+use Rattle.sc_alloc.proofs.Common.{Slot, SlotEnd, Some, [], ap, arith, cases_eq, cond, count_by, eq-eqb, get_or, is_of}
 use Rattle.sc_alloc.proofs.Common.{length, length-append, length_permutation, ne_eqb, refl, subst, suc, sum_by-cons}
 use Rattle.sc_alloc.proofs.Common.{sum_by_popped, sum_by_pushed, sym, with_place, ℕ, ⊎_elim, ◌+◌, ◌<◌, ◌∙◌, ◌∷◌, ◌≡◌}
 use Rattle.sc_alloc.proofs.Common.{◌≢◌, ◌≤◌}
@@ -72,7 +72,8 @@ module _ (placements : List Placement) (ends rest : List (Reverse SlotEnd)) (end
   }
 
 -- a new one is taken
-pub fresh : (placements : List Placement) (ends : List (Reverse SlotEnd)) (count at : ℕ) → AreSlots placements ends count →
+pub fresh : (placements : List Placement) (ends : List (Reverse SlotEnd)) (count at : ℕ) →
+    AreSlots placements ends count →
     IsOut placements ends (suc count) at count
 fresh placements ends count at slots = record {
   few = omega (arith, slots.few);

@@ -1,5 +1,5 @@
 -- The places that linear scan gives to temporaries (Poletto and Sarkar, Linear Scan Register Allocation).
-use Rattle.sc_alloc.specs.Common.{Placement, Interval, Place, Register, Slot, register_count}
+use Rattle.sc_alloc.specs.Common.{Interval, Place, Placement, Register, Slot, register_count}
 use Rattle.std.specs.Prelude.{ℕ, suc, Bool, true, ◌&&◌, nat_lt, nat_le, if◌then◌else◌, List, [], ◌∷◌, ◌++◌, map, take}
 use Rattle.std.specs.Prelude.{drop, replicate, Option, None, Some}
 use Rattle.std.specs.List.{fold, list_all, position, position_or_len, slice_set}

@@ -1,5 +1,5 @@
 -- What a linear scan keeps, of the intervals that got a place so far, in the order in which they begin.
-use Rattle.sc_alloc.specs.Common.{Placement, Interval, Place, Register, Slot, is_place, register_count}
+use Rattle.sc_alloc.specs.Common.{Interval, Place, Placement, Register, Slot, is_place, register_count}
 use Rattle.std.specs.Prelude.{◌≡◌, ◌≢◌, ◌≤◌, ◌<◌, ◌==◌, ℕ, suc, max, Bool, true, false, List, length, All, Option, None}
 use Rattle.std.specs.Prelude.{Some, MatchOption, slice_get, IsTrue}
 use Rattle.std.specs.BinaryHeap.{IsHeap, heap_items}
@@ -38,7 +38,8 @@ pub record AreRegisters (placements : List Placement) (lasts : List (Option ℕ)
 abbrev pub GivesRegister : List Placement → Interval → List (Option ℕ) → Option ℕ → Type 0
 GivesRegister placements x lasts register =
     MatchOption register
-    (AreRegisters placements lasts × (x.spans_call ≡ false → (r : ℕ) → r < register_count → IsInUse placements r x.first))
+    (AreRegisters placements lasts ×
+    (x.spans_call ≡ false → (r : ℕ) → r < register_count → IsInUse placements r x.first))
     (λ r. AreRegisters (with_place placements x (Register r)) lasts × AllOver placements (Register r) x.first ×
     (x.spans_call ≡ false))
 
@@ -110,7 +111,8 @@ AllBegun placements at = (i : ℕ) (g : Placement) → slice_get placements i �
 pub record IsFair (placements : List Placement) (x : Interval) (place : Place) : Type 0 where
   pub free : AllOver placements place x.first
   pub over_calls : x.spans_call ≡ true → (k : ℕ) × (place ≡ Slot k)
-  pub spared : x.spans_call ≡ false → (k : ℕ) → place ≡ Slot k → (r : ℕ) → r < register_count → IsInUse placements r x.first
+  pub spared : x.spans_call ≡ false → (k : ℕ) → place ≡ Slot k → (r : ℕ) → r < register_count →
+      IsInUse placements r x.first
 
 -- where an interval begins, one that began no later holds a register
 abbrev pub IsInUseWithin : List Placement → ℕ → ℕ → Type 0
@@ -126,10 +128,11 @@ pub record AreFair (placements : List Placement) : Type 0 where
       (k : ℕ) → g.place ≡ Slot k → (r : ℕ) → r < register_count → IsInUseWithin placements r g.interval.first
 
 -- an interval has its place, and registers and slots know
-pub record IsChosen (placements : List Placement) (x : Interval) (r : Registers) (s : Slots) (place : Place) : Type 0 where
-  pub fair : IsFair placements x place
-  pub registers : AreRegisters (with_place placements x place) r.lasts
-  pub slots : AreSlots (with_place placements x place) (heap_items s.ends) s.count
+pub record IsChosen (placements : List Placement) (x : Interval) (r : Registers) (s : Slots) (place : Place) : Type 0
+  where
+    pub fair : IsFair placements x place
+    pub registers : AreRegisters (with_place placements x place) r.lasts
+    pub slots : AreSlots (with_place placements x place) (heap_items s.ends) s.count
 
 -- registers and slots are as far as the scan has come
 pub record HasCome (s : Scanned) (registers : Registers) (slots : Slots) : Type 0 where

@@ -1,4 +1,4 @@
-ghost use Rattle.sc_alloc.specs.Prelude.{AreFair, AreKnown, AreNumbered, ArePlaced, Placement, IsAssignment, IsSparing};
+ghost use Rattle.sc_alloc.specs.Prelude.{AreFair, AreKnown, AreNumbered, ArePlaced, IsAssignment, IsSparing, Placement};
 ghost use Rattle.sc_alloc.specs.Prelude.{assigned, at_first, scan_next, sorted_by};
 ghost use Rattle.std.specs.Prelude.{◌≡◌, ◌≤◌, map, All, IfOk};
 ghost use Rattle.std.specs.List.{fold};

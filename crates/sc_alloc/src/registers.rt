@@ -1,4 +1,4 @@
-ghost use Rattle.sc_alloc.specs.Prelude.{AreRegisters, Placement, GivesRegister, is_over, register_count, register_for};
+ghost use Rattle.sc_alloc.specs.Prelude.{AreRegisters, GivesRegister, Placement, is_over, register_count, register_for};
 ghost use Rattle.std.specs.Prelude.{◌≡◌, ◌≤◌, [], List, Some, None, MatchOption, replicate};
 ghost use Rattle.std.specs.List.{position, slice_set};
 

@@ -1,5 +1,5 @@
-ghost use Rattle.sc_alloc.specs.Prelude.{AllBegun, AreFair, AreKnown, Placement, HasCome, IsAt, IsChosen, IsNext, IsScan};
-ghost use Rattle.sc_alloc.specs.Prelude.{Scanned, at_first, scan_next};
+ghost use Rattle.sc_alloc.specs.Prelude.{AllBegun, AreFair, AreKnown, HasCome, IsAt, IsChosen, IsNext, IsScan};
+ghost use Rattle.sc_alloc.specs.Prelude.{Placement, Scanned, at_first, scan_next};
 ghost use Rattle.std.specs.Prelude.{◌≡◌, ◌≤◌, [], ◌++◌, ◌∷◌, map, IfOk, OnOk};
 
 use crate::placements::Placement;

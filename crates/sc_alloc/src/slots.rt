@@ -1,4 +1,4 @@
-ghost use Rattle.sc_alloc.specs.Prelude.{AreSlots, Placement, GivesSlot, HasEnds, HasSlot, IsOut, IsTaken, NoneFree};
+ghost use Rattle.sc_alloc.specs.Prelude.{AreSlots, GivesSlot, HasEnds, HasSlot, IsOut, IsTaken, NoneFree, Placement};
 ghost use Rattle.std.specs.Prelude.{◌≡◌, ◌≤◌, ℕ, suc, [], List, IfOk, MatchOption};
 ghost use Rattle.std.specs.BinaryHeap.{heap_items};
 

@@ -22,7 +22,7 @@ pub use Rattle.sc_ast.specs.SectionWords.{params_words, printed, result_words, s
 pub use Rattle.sc_ast.specs.SectionWords.{value_words}
 unfoldable pub use Rattle.sc_ast.specs.SectionWords.{export_words, import_words}
 pub use Rattle.sc_ast.specs.Simple.{kind_of, stmt_of}
-pub use Rattle.sc_ast.specs.StmtWords.{Layout, assign_call_words, assign_words, after_else, block_words, chain_words}
+pub use Rattle.sc_ast.specs.StmtWords.{Layout, after_else, assign_call_words, assign_words, block_words, chain_words}
 pub use Rattle.sc_ast.specs.StmtWords.{condition_words, else_words, ended, equals, first_words, for_words, if_words}
 pub use Rattle.sc_ast.specs.StmtWords.{is_chain, kind_layout, layouts, lines_at, next_words, return_words, simple_words}
 pub use Rattle.sc_ast.specs.StmtWords.{stmt_layout}

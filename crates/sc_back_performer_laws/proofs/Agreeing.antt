@@ -1,14 +1,15 @@
 -- Heads of one name in a section agree, and so does the head that is made for a function that crosses.
-use Rattle.sc_back_performer_laws.proofs.Common.{Bool, Decl, FunctionParam, FunctionTree, HeadTree, Int, List, None, Option}
-use Rattle.sc_back_performer_laws.proofs.Common.{ParamTree, Proto, Scalar, SectionTree, Some, StmtTree, Text, Unsigned, []}
-use Rattle.sc_back_performer_laws.proofs.Common.{agree, agree_symm, agrees, agrees_with, and_first, and_from, and_rest, ap}
-use Rattle.sc_back_performer_laws.proofs.Common.{append-nil, append_assoc, back_empty, base_scalar, base_tree, bytes_eq, crosses}
-use Rattle.sc_back_performer_laws.proofs.Common.{decls_from, false, false≢true, filter_map-append, prefix_empty, function_params}
-use Rattle.sc_back_performer_laws.proofs.Common.{head_crosses, head_holds, head_in, head_of, heads_in, imported_agrees, list_all}
-use Rattle.sc_back_performer_laws.proofs.Common.{main_holds, map, not, option_map, param_of, promised, proto_params, refl}
-use Rattle.sc_back_performer_laws.proofs.Common.{result_crosses, rule_holds, same_base, same_either_way, same_params}
-use Rattle.sc_back_performer_laws.proofs.Common.{same_result, same_type, scalar_of, subst, suc, true, type_name, unless, ℕ, ◌&&◌}
-use Rattle.sc_back_performer_laws.proofs.Common.{◌++◌, ◌||◌, ◌∙◌, ◌∷◌, ◌≡◌}
+use Rattle.sc_back_performer_laws.proofs.Common.{Bool, Decl, FunctionParam, FunctionTree, HeadTree, Int, List, None}
+use Rattle.sc_back_performer_laws.proofs.Common.{Option, ParamTree, Proto, Scalar, SectionTree, Some, StmtTree, Text}
+use Rattle.sc_back_performer_laws.proofs.Common.{Unsigned, [], agree, agree_symm, agrees, agrees_with, and_first}
+use Rattle.sc_back_performer_laws.proofs.Common.{and_from, and_rest, ap, append-nil, append_assoc, back_empty}
+use Rattle.sc_back_performer_laws.proofs.Common.{base_scalar, base_tree, bytes_eq, crosses, decls_from, false}
+use Rattle.sc_back_performer_laws.proofs.Common.{false≢true, filter_map-append, function_params, head_crosses}
+use Rattle.sc_back_performer_laws.proofs.Common.{head_holds, head_in, head_of, heads_in, imported_agrees, list_all}
+use Rattle.sc_back_performer_laws.proofs.Common.{main_holds, map, not, option_map, param_of, prefix_empty, promised}
+use Rattle.sc_back_performer_laws.proofs.Common.{proto_params, refl, result_crosses, rule_holds, same_base}
+use Rattle.sc_back_performer_laws.proofs.Common.{same_either_way, same_params, same_result, same_type, scalar_of, subst}
+use Rattle.sc_back_performer_laws.proofs.Common.{suc, true, type_name, unless, ℕ, ◌&&◌, ◌++◌, ◌||◌, ◌∙◌, ◌∷◌, ◌≡◌}
 use Rattle.sc_ast.specs.declared.section.Decl.TheVariants as decl
 use Rattle.sc_ast.specs.declared.types.BaseTree.{BaseTree}
 use Rattle.sc_ast.specs.declared.types.BaseTree.TheVariants as base

@@ -1,10 +1,11 @@
 -- The tree of a performing section, with lines.
-use Rattle.sc_back_performer_laws.proofs.Common.{Binary, Entry, Equal, Export, FunctionTree, GlobalTree, HeadTree, Import}
-use Rattle.sc_back_performer_laws.proofs.Common.{ImportLine, Interface, Interfaces, List, Main, None, Option, Proto, Row, Scalar}
-use Rattle.sc_back_performer_laws.proofs.Common.{SectionTree, Some, StmtKind, StmtTree, Unsigned, Variable, [], action_kind}
-use Rattle.sc_back_performer_laws.proofs.Common.{counter_name, export_names, filter, function_params, if◌then◌else◌, imported}
-use Rattle.sc_back_performer_laws.proofs.Common.{is_of, literal, main_proto, map, names_of, option_map, owner_name, proto_params}
-use Rattle.sc_back_performer_laws.proofs.Common.{suc, type_name, value_tree, ℕ, ◌++◌, ◌==◌, ◌∷◌, ◌≡◌}
+use Rattle.sc_back_performer_laws.proofs.Common.{Binary, Entry, Equal, Export, FunctionTree, GlobalTree, HeadTree}
+use Rattle.sc_back_performer_laws.proofs.Common.{Import, ImportLine, Interface, Interfaces, List, Main, None, Option}
+use Rattle.sc_back_performer_laws.proofs.Common.{Proto, Row, Scalar, SectionTree, Some, StmtKind, StmtTree, Unsigned}
+use Rattle.sc_back_performer_laws.proofs.Common.{Variable, [], action_kind, counter_name, export_names, filter}
+use Rattle.sc_back_performer_laws.proofs.Common.{function_params, if◌then◌else◌, imported, is_of, literal, main_proto}
+use Rattle.sc_back_performer_laws.proofs.Common.{map, names_of, option_map, owner_name, proto_params, suc, type_name}
+use Rattle.sc_back_performer_laws.proofs.Common.{value_tree, ℕ, ◌++◌, ◌==◌, ◌∷◌, ◌≡◌}
 use Rattle.sc_back.specs.Prelude.{counter}
 use Rattle.sc_ast.specs.declared.stmt.StmtKind.TheVariants.{Assign, If, While}
 use Rattle.sc_ast.specs.declared.section.Decl.TheVariants as decl

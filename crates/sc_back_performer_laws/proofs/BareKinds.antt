@@ -1,8 +1,8 @@
 -- A kind of statement that is one of those of a performing section, lines aside.
-use Rattle.sc_back_performer_laws.proofs.Common.{ExprTree, List, Option, StmtKind, StmtKind-F, StmtTree, ap, fold-roll-StmtKind}
-use Rattle.sc_back_performer_laws.proofs.Common.{kind_step, lineless_kind, lineless_option, lineless_stmts, out-StmtKind}
-use Rattle.sc_back_performer_laws.proofs.Common.{out-roll-StmtKind, refl, roll-StmtKind, roll-out-StmtKind, stmt_step, subst}
-use Rattle.sc_back_performer_laws.proofs.Common.{sym, ◌∙◌, ◌≡◌}
+use Rattle.sc_back_performer_laws.proofs.Common.{ExprTree, List, Option, StmtKind, StmtKind-F, StmtTree, ap}
+use Rattle.sc_back_performer_laws.proofs.Common.{fold-roll-StmtKind, kind_step, lineless_kind, lineless_option}
+use Rattle.sc_back_performer_laws.proofs.Common.{lineless_stmts, out-StmtKind, out-roll-StmtKind, refl, roll-StmtKind}
+use Rattle.sc_back_performer_laws.proofs.Common.{roll-out-StmtKind, stmt_step, subst, sym, ◌∙◌, ◌≡◌}
 use Rattle.sc_ast.specs.declared.stmt.SimpleTree.{SimpleTree}
 use Rattle.sc_ast.specs.declared.stmt.StmtKind.TheOpen as layer
 use Rattle.sc_ast.specs.declared.stmt.StmtKind.TheVariants as stmt

@@ -52,19 +52,20 @@ pub use Rattle.sc_ast.specs.declared.stmt.StmtKind.{out-roll-StmtKind, roll-Stmt
 pub use Rattle.sc_ast.specs.declared.stmt.StmtTree.{StmtTree}
 pub use Rattle.sc_types_scope.specs.Prelude.{Known, Text, among, are_distinct, base_known, base_scalar, body_lines}
 pub use Rattle.sc_types_scope.specs.Prelude.{call_known, declared, defines_main, environment, export_names, expr_known}
-pub use Rattle.sc_types_scope.specs.Prelude.{function_named, function_names, functions_in, global_known, globals_in, head_in}
-pub use Rattle.sc_types_scope.specs.Prelude.{head_of_known, heads_in, import_names, import_of, interface_of, interfaces_from}
-pub use Rattle.sc_types_scope.specs.Prelude.{interfaces_of, is_callable, is_environment, is_new, line_of_text, main_from}
-pub use Rattle.sc_types_scope.specs.Prelude.{main_name, number_or_zero, offered, offering, offers, promised, proto_known}
-pub use Rattle.sc_types_scope.specs.Prelude.{proto_names, protos_in, result_known, scalar_of, stmt_lines, struct_names}
-pub use Rattle.sc_types_scope.specs.Prelude.{structs_in, unless}
+pub use Rattle.sc_types_scope.specs.Prelude.{function_named, function_names, functions_in, global_known, globals_in}
+pub use Rattle.sc_types_scope.specs.Prelude.{head_in, head_of_known, heads_in, import_names, import_of, interface_of}
+pub use Rattle.sc_types_scope.specs.Prelude.{interfaces_from, interfaces_of, is_callable, is_environment, is_new}
+pub use Rattle.sc_types_scope.specs.Prelude.{line_of_text, main_from, main_name, number_or_zero, offered, offering}
+pub use Rattle.sc_types_scope.specs.Prelude.{offers, promised, proto_known, proto_names, protos_in, result_known}
+pub use Rattle.sc_types_scope.specs.Prelude.{scalar_of, stmt_lines, struct_names, structs_in, unless}
 pub use Rattle.sc_types_interfaces.proofs.Allowing.{agree_left, agree_symm}
 pub use Rattle.sc_types_interfaces.specs.Prelude.{agree, agrees_as, agrees_there, agrees_with, crosses, decls_from}
-pub use Rattle.sc_types_interfaces.specs.Prelude.{environment_offers, export_holds, exports_from, head_crosses, head_holds}
-pub use Rattle.sc_types_interfaces.specs.Prelude.{import_fits, import_holds, imported_agrees, imports_from, input_name}
-pub use Rattle.sc_types_interfaces.specs.Prelude.{interface_broken, is_input, is_main, is_offered, is_output, is_plain}
-pub use Rattle.sc_types_interfaces.specs.Prelude.{lines_from, main_holds, name_fits, name_holds, output_name, result_crosses}
-pub use Rattle.sc_types_interfaces.specs.Prelude.{same_base, same_params, same_result, same_type, section_lines}
+pub use Rattle.sc_types_interfaces.specs.Prelude.{environment_offers, export_holds, exports_from, head_crosses}
+pub use Rattle.sc_types_interfaces.specs.Prelude.{head_holds, import_fits, import_holds, imported_agrees, imports_from}
+pub use Rattle.sc_types_interfaces.specs.Prelude.{input_name, interface_broken, is_input, is_main, is_offered}
+pub use Rattle.sc_types_interfaces.specs.Prelude.{is_output, is_plain, lines_from, main_holds, name_fits, name_holds}
+pub use Rattle.sc_types_interfaces.specs.Prelude.{output_name, result_crosses, same_base, same_params, same_result}
+pub use Rattle.sc_types_interfaces.specs.Prelude.{same_type, section_lines}
 pub use Rattle.sc_core.specs.Prelude.{Scope, all_go_into, args_fit, assign_fits, expr_nodes, goes_into, is_scalar}
 pub use Rattle.sc_core.specs.Prelude.{judged, local_nodes, most_compartments, most_exports, most_nodes, most_params}
 pub use Rattle.sc_core.specs.Prelude.{nodes, place_judged, proto_signature, result_ty, scalar_ty, stmt_nodes, total}
@@ -79,17 +80,17 @@ pub use Rattle.sc_core.specs.declared.ty.Ty.{Ty}
 pub use Rattle.sc_types_elab_expr.specs.Prelude.{Callees, Visible, found, found_in, going_to, or_else, target_or, typed}
 pub use Rattle.sc_types_elab_stmt.specs.Prelude.{assign_holds, call_holds, cond_holds, going_to_all, params_of}
 pub use Rattle.sc_types_elab_stmt.specs.Prelude.{return_value_holds, typed_call, typed_stmt}
-pub use Rattle.sc_types_elab.specs.Prelude.{callees_of, decl_lines, function_lines, global_variable, head_named, import_named}
+pub use Rattle.sc_types_elab.specs.Prelude.{callees_of, decl_lines, global_variable, head_named, import_named}
 pub use Rattle.sc_types_elab.specs.Prelude.{import_target, imported_target, or_first, param_ty, program_of, result_of}
 pub use Rattle.sc_types_elab.specs.Prelude.{scope_in, sections_from, signature_by, structs, type_of, type_of_name}
 pub use Rattle.sc_types_elab.specs.Prelude.{typed_function, typed_global, typed_param, typed_section, visible_of}
 pub use Rattle.sc_types.proofs.Calls.{FoundBy, Offering, comp_is, export_is, find_offering, found_by}
-pub use Rattle.sc_types.proofs.Facts.{DeclFacts, ExportFacts, InterfaceFacts, Fresh, ImportFacts, fresh_distinct}
-pub use Rattle.sc_types.proofs.Lookups.{Each, FoundFunction, back_empty, each_at, each_empty, prefix_empty, is_at_most}
-pub use Rattle.sc_types.proofs.Lookups.{map_empty, none_some, rule_holds, some_item}
+pub use Rattle.sc_types.proofs.Facts.{DeclFacts, ExportFacts, Fresh, ImportFacts, InterfaceFacts, fresh_distinct}
+pub use Rattle.sc_types.proofs.Lookups.{Each, FoundFunction, back_empty, each_at, each_empty, is_at_most, map_empty}
+pub use Rattle.sc_types.proofs.Lookups.{none_some, prefix_empty, rule_holds, some_item}
 pub use Rattle.sc_types.proofs.Sections.{agrees, both_distinct, crossing, g, none_beyond, promised_name}
-pub use Rattle.sc_types.specs.Prelude.{IsTyped, counts_broken, global_lines, head_lines, line_beyond, line_of_some}
-pub use Rattle.sc_types.specs.Prelude.{param_small, section_nodes, structs_from}
+pub use Rattle.sc_types.specs.Prelude.{IsTyped, counts_broken, function_lines, global_lines, head_lines, line_beyond}
+pub use Rattle.sc_types.specs.Prelude.{line_of_some, param_small, section_nodes, structs_from}
 pub use Rattle.sc_back.specs.Prelude.{AllBecome, AreNumbered, Becomes, IsCalled, IsImported, IsSpoken, action_kind}
 pub use Rattle.sc_back.specs.Prelude.{all_functions, back_tree, base_tree, body_tree, call_kind, counter_name}
 pub use Rattle.sc_back.specs.Prelude.{export_line, function_params, function_tree, function_trees, imported}
@@ -97,10 +98,10 @@ pub use Rattle.sc_back.specs.Prelude.{input_proto, is_of, kept, literal, main_pr
 pub use Rattle.sc_back.specs.Prelude.{param_name, proto_head, proto_params, replaced, return_kind, row_kind, type_name}
 pub use Rattle.sc_back.specs.Prelude.{unlined, value_tree, value_trees}
 pub use Rattle.sc_back_replay_laws.specs.Replay.{HasReplaced, Performs}
-pub use Rattle.sc_back_replay_laws.specs.Texts.{IsPerforming, calls_out, counter, counter_is, ends, int_expr, least_int, minus}
-pub use Rattle.sc_back_replay_laws.specs.Texts.{or_int, performs, skips, stmt_at, waits, word_expr, word_exprs}
-pub use Rattle.sc_back_performer_laws.specs.Common.{Event, HasWords, Interface, Interfaces, IsRecomposed, IsReplaced, IsWord}
-pub use Rattle.sc_back_performer_laws.specs.Common.{Row, SectionTree, proto_of}
+pub use Rattle.sc_back_replay_laws.specs.Texts.{IsPerforming, calls_out, counter, counter_is, ends, int_expr, least_int}
+pub use Rattle.sc_back_replay_laws.specs.Texts.{minus, or_int, performs, skips, stmt_at, waits, word_expr, word_exprs}
+pub use Rattle.sc_back_performer_laws.specs.Common.{Event, HasWords, Interface, Interfaces, IsRecomposed, IsReplaced}
+pub use Rattle.sc_back_performer_laws.specs.Common.{IsWord, Row, SectionTree, proto_of}
 pub use Rattle.sc_back_performer_laws.specs.Laws.{CountsHold, LegalRowsFit, NamesHold, RowsPerform, TypesHold}
-pub use Rattle.sc_back_performer_laws.specs.Performer.{FitsRow, IsImportedAs, IsPerformer, IsUsable, IsWordOrNone, MayDo, all_of}
-pub use Rattle.sc_back_performer_laws.specs.Performer.{defined, names_of, used}
+pub use Rattle.sc_back_performer_laws.specs.Performer.{FitsRow, IsImportedAs, IsPerformer, IsUsable, IsWordOrNone}
+pub use Rattle.sc_back_performer_laws.specs.Performer.{MayDo, all_of, defined, names_of, used}

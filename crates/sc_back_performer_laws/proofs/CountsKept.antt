@@ -1,26 +1,28 @@
 -- A performing section holds no more than a program may.
-use Rattle.sc_back_performer_laws.proofs.Common.{AllByRecursion, Bool, Callees, CountsHold, Entry, ExportLine, FunctionTree}
-use Rattle.sc_back_performer_laws.proofs.Common.{HeadTree, Import, ImportLine, Int, Interface, Interfaces, IsPerformer, IsUsable}
-use Rattle.sc_back_performer_laws.proofs.Common.{List, Main, None, Option, Proto, Row, Scalar, SectionTree, Some, StmtTree}
-use Rattle.sc_back_performer_laws.proofs.Common.{TypedFunction, Unsigned, [], and_from, ap, ap₂, arith, callees_of, concat}
-use Rattle.sc_back_performer_laws.proofs.Common.{false, filter, function_params, global_lines, head_lines, if◌then◌else◌}
-use Rattle.sc_back_performer_laws.proofs.Common.{imported, is_of, le-leb, length, length-append, length-map, line_beyond}
-use Rattle.sc_back_performer_laws.proofs.Common.{line_of_some, list_all, local_nodes, main_proto, map, most_nodes, most_params}
-use Rattle.sc_back_performer_laws.proofs.Common.{nat_le, nodes, param_of, param_small, proto_of, proto_params, refl}
-use Rattle.sc_back_performer_laws.proofs.Common.{section_nodes, slice_get, stmt_nodes, struct_names, structs_from, suc, total}
-use Rattle.sc_back_performer_laws.proofs.Common.{true, typed_function, typed_param, unless, zero, ℕ, ◌*◌, ◌++◌, ◌+◌, ◌==◌, ◌∙◌}
-use Rattle.sc_back_performer_laws.proofs.Common.{◌∷◌, ◌≡◌, ◌≤◌}
-use Rattle.sc_types.specs.Prelude.{function_lines, section_lines}
+use Rattle.sc_back_performer_laws.proofs.Common.{AllByRecursion, Bool, Callees, CountsHold, Entry, ExportLine}
+use Rattle.sc_back_performer_laws.proofs.Common.{FunctionTree, HeadTree, Import, ImportLine, Int, Interface, Interfaces}
+use Rattle.sc_back_performer_laws.proofs.Common.{IsPerformer, IsUsable, List, Main, None, Option, Proto, Row, Scalar}
+use Rattle.sc_back_performer_laws.proofs.Common.{SectionTree, Some, StmtTree, TypedFunction, Unsigned, [], and_from, ap}
+use Rattle.sc_back_performer_laws.proofs.Common.{ap₂, arith, callees_of, concat, false, filter, function_lines}
+use Rattle.sc_back_performer_laws.proofs.Common.{function_params, global_lines, head_lines, if◌then◌else◌, imported}
+use Rattle.sc_back_performer_laws.proofs.Common.{is_of, le-leb, length, length-append, length-map, line_beyond}
+use Rattle.sc_back_performer_laws.proofs.Common.{line_of_some, list_all, local_nodes, main_proto, map, most_nodes}
+use Rattle.sc_back_performer_laws.proofs.Common.{most_params, nat_le, nodes, param_of, param_small, proto_of}
+use Rattle.sc_back_performer_laws.proofs.Common.{proto_params, refl, section_nodes, slice_get, stmt_nodes, struct_names}
+use Rattle.sc_back_performer_laws.proofs.Common.{structs_from, suc, total, true, typed_function, typed_param, unless}
+use Rattle.sc_back_performer_laws.proofs.Common.{zero, ℕ, ◌*◌, ◌++◌, ◌+◌, ◌==◌, ◌∙◌, ◌∷◌, ◌≡◌, ◌≤◌}
+use Rattle.sc_types.specs.Prelude.{section_lines}
 use Rattle.sc_ast.specs.declared.section.Decl.TheVariants as decl
-use Rattle.sc_back_performer_laws.proofs.BackTree.{AreFunctions, AreHeads, AreImports, IsBackBody, IsBackTree, and_function}
-use Rattle.sc_back_performer_laws.proofs.BackTree.{and_head, and_import, counter_at, entries_from, function_at, main_entries}
-use Rattle.sc_back_performer_laws.proofs.BackTree.{no_functions, no_heads, no_imports, use_of, uses}
+use Rattle.sc_back_performer_laws.proofs.BackTree.{AreFunctions, AreHeads, AreImports, IsBackBody, IsBackTree}
+use Rattle.sc_back_performer_laws.proofs.BackTree.{and_function, and_head, and_import, counter_at, entries_from}
+use Rattle.sc_back_performer_laws.proofs.BackTree.{function_at, main_entries, no_functions, no_heads, no_imports}
+use Rattle.sc_back_performer_laws.proofs.BackTree.{use_of, uses}
 use Rattle.sc_back_performer_laws.proofs.Undone.{back_tree_is}
 use Rattle.sc_back_performer_laws.proofs.Declared.{heads_of}
 use Rattle.sc_back_performer_laws.proofs.Nodes.{body_nodes}
 use Rattle.sc_back_performer_laws.proofs.SectionFacts.{entries, entries_usable, uses_usable}
-use Rattle.sc_back_performer_laws.proofs.SectionTypes.{body_is, functions_are, heads_are, no_counter, no_locals, no_structs}
-use Rattle.sc_back_performer_laws.proofs.SectionTypes.{one_global, signatures, typed_params}
+use Rattle.sc_back_performer_laws.proofs.SectionTypes.{body_is, functions_are, heads_are, no_counter, no_locals}
+use Rattle.sc_back_performer_laws.proofs.SectionTypes.{no_structs, one_global, signatures, typed_params}
 use Rattle.sc_back_performer_laws.proofs.Shares.{shares, shares_within}
 use Rattle.sc_back_performer_laws.proofs.TypedRows.{typed_body}
 use Rattle.sc_back_performer_laws.proofs.Uses.{AreEntries, are_entries, rows_fit}

@@ -1,7 +1,7 @@
 -- What is found among the declarations of a performing section: prototypes, the counter and functions.
-use Rattle.sc_back_performer_laws.proofs.Common.{Decl, Function, FunctionTree, Global, GlobalTree, HeadTree, List, [], ap}
-use Rattle.sc_back_performer_laws.proofs.Common.{functions_in, globals_in, head_of, heads_in, map, protos_in, refl, structs_in}
-use Rattle.sc_back_performer_laws.proofs.Common.{◌++◌, ◌∷◌, ◌≡◌}
+use Rattle.sc_back_performer_laws.proofs.Common.{Decl, Function, FunctionTree, Global, GlobalTree, HeadTree, List, []}
+use Rattle.sc_back_performer_laws.proofs.Common.{ap, functions_in, globals_in, head_of, heads_in, map, protos_in, refl}
+use Rattle.sc_back_performer_laws.proofs.Common.{structs_in, ◌++◌, ◌∷◌, ◌≡◌}
 use Rattle.sc_ast.specs.declared.section.Decl.TheVariants.{Proto}
 
 -- prototypes, a global and functions

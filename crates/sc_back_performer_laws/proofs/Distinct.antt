@@ -1,9 +1,10 @@
 -- Names that are distinct, and names that aren't those of a section's own variables.
-use Rattle.sc_back_performer_laws.proofs.Common.{Bool, FunctionParam, List, Scalar, Text, [], among, and_first, and_from}
-use Rattle.sc_back_performer_laws.proofs.Common.{and_rest, ap, are_distinct, arith, bytes_eq, codes, counter_name, decimal}
-use Rattle.sc_back_performer_laws.proofs.Common.{decimal_injective, drop, false, false≢true, function_params, is_new, is_plain}
-use Rattle.sc_back_performer_laws.proofs.Common.{length, map, not, or_left, or_parts, or_right, param_name, refl, same_text}
-use Rattle.sc_back_performer_laws.proofs.Common.{subst, suc, sym, true, ℕ, ◌++◌, ◌+◌, ◌<◌, ◌^◌, ◌||◌, ◌∙◌, ◌∷◌, ◌≡◌}
+use Rattle.sc_back_performer_laws.proofs.Common.{Bool, FunctionParam, List, Scalar, Text, [], among, and_first}
+use Rattle.sc_back_performer_laws.proofs.Common.{and_from, and_rest, ap, are_distinct, arith, bytes_eq, codes}
+use Rattle.sc_back_performer_laws.proofs.Common.{counter_name, decimal, decimal_injective, drop, false, false≢true}
+use Rattle.sc_back_performer_laws.proofs.Common.{function_params, is_new, is_plain, length, map, not, or_left, or_parts}
+use Rattle.sc_back_performer_laws.proofs.Common.{or_right, param_name, refl, same_text, subst, suc, sym, true, ℕ, ◌++◌}
+use Rattle.sc_back_performer_laws.proofs.Common.{◌+◌, ◌<◌, ◌^◌, ◌||◌, ◌∙◌, ◌∷◌, ◌≡◌}
 use Rattle.sc_types_scope.proofs.Lines.{among-append}
 
 -- Tests that fail.

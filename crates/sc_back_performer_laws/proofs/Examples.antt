@@ -1,7 +1,8 @@
 -- A compartment whose section can perform: it is entered again while a call of it waits.
-use Rattle.sc_back_performer_laws.proofs.Common.{Action, All-from_recursion, AllByRecursion, Export, FitsRow, Int, Interface}
-use Rattle.sc_back_performer_laws.proofs.Common.{Interfaces, IsPerformer, IsUsable, IsWord, List, Main, MayDo, None, Proto, Row}
-use Rattle.sc_back_performer_laws.proofs.Common.{Some, [], all_of, arith, back_tree, codes, main_proto, refl, subst, ◌∷◌, ◌≡◌}
+use Rattle.sc_back_performer_laws.proofs.Common.{Action, All-from_recursion, AllByRecursion, Export, FitsRow, Int}
+use Rattle.sc_back_performer_laws.proofs.Common.{Interface, Interfaces, IsPerformer, IsUsable, IsWord, List, Main}
+use Rattle.sc_back_performer_laws.proofs.Common.{MayDo, None, Proto, Row, Some, [], all_of, arith, back_tree, codes}
+use Rattle.sc_back_performer_laws.proofs.Common.{main_proto, refl, subst, ◌∷◌, ◌≡◌}
 use Rattle.sc_types_scope.specs.Prelude.{section_lines}
 use Rattle.sc_event.specs.declared.interface.Import.TheVariants as import
 use Rattle.sc_event.specs.declared.row.Action.TheVariants.{Call, Ret, Out, End}

@@ -1,20 +1,21 @@
 -- A compartment of a text that keeps the rules can perform its part of a legal trace.
-use Rattle.sc_back_performer_laws.proofs.Common.{All, All-from_recursion, AllByRecursion, Bool, Each, Event, ExportFacts}
-use Rattle.sc_back_performer_laws.proofs.Common.{ExportLine, InterfaceFacts, HasWords, ImportFacts, ImportLine, Interface, Interfaces}
-use Rattle.sc_back_performer_laws.proofs.Common.{IsPerformer, IsUsable, List, Proto, SectionTree, Some, Text, [], all_of, among}
-use Rattle.sc_back_performer_laws.proofs.Common.{ap, ap₂, are_distinct, arith, back_empty, both_distinct, bytes_eq, comp_is}
-use Rattle.sc_back_performer_laws.proofs.Common.{cons_option, counts_broken, defined, defines_main, eqb-true, export_names}
-use Rattle.sc_back_performer_laws.proofs.Common.{false, false≢true, filter_map, fresh_distinct, function_named, function_names}
+use Rattle.sc_back_performer_laws.proofs.Common.{All, All-from_recursion, AllByRecursion, Bool, Each, Event}
+use Rattle.sc_back_performer_laws.proofs.Common.{ExportFacts, ExportLine, HasWords, ImportFacts, ImportLine, Interface}
+use Rattle.sc_back_performer_laws.proofs.Common.{InterfaceFacts, Interfaces, IsPerformer, IsUsable, List, Proto}
+use Rattle.sc_back_performer_laws.proofs.Common.{SectionTree, Some, Text, [], all_of, among, ap, ap₂, are_distinct}
+use Rattle.sc_back_performer_laws.proofs.Common.{arith, back_empty, both_distinct, bytes_eq, comp_is, cons_option}
+use Rattle.sc_back_performer_laws.proofs.Common.{counts_broken, defined, defines_main, eqb-true, export_names, false}
+use Rattle.sc_back_performer_laws.proofs.Common.{false≢true, filter_map, fresh_distinct, function_named, function_names}
 use Rattle.sc_back_performer_laws.proofs.Common.{functions_in, if◌then◌else◌, import_names, import_of, imported}
 use Rattle.sc_back_performer_laws.proofs.Common.{interface_broken, interface_of, interfaces_of, is_plain, legal, length}
-use Rattle.sc_back_performer_laws.proofs.Common.{length-map, lines_from, list_any, main_from, main_name, main_proto, map}
-use Rattle.sc_back_performer_laws.proofs.Common.{map-append, names_of, none_some, part, promised_name, refl, rule_holds}
-use Rattle.sc_back_performer_laws.proofs.Common.{same_Some, same_text, slice_get, subst, suc, sym, true, used, zero, ℕ, ◌++◌}
-use Rattle.sc_back_performer_laws.proofs.Common.{◌+◌, ◌==◌, ◌||◌, ◌∙◌, ◌∷◌, ◌≡◌, ◌≤◌}
+use Rattle.sc_back_performer_laws.proofs.Common.{length-map, lines_from, list_any, main_from, main_name, main_proto}
+use Rattle.sc_back_performer_laws.proofs.Common.{map, map-append, names_of, none_some, part, promised_name, refl}
+use Rattle.sc_back_performer_laws.proofs.Common.{rule_holds, same_Some, same_text, slice_get, subst, suc, sym, true}
+use Rattle.sc_back_performer_laws.proofs.Common.{used, zero, ℕ, ◌++◌, ◌+◌, ◌==◌, ◌||◌, ◌∙◌, ◌∷◌, ◌≡◌, ◌≤◌}
 use Rattle.sc_types_scope.specs.Prelude.{proto_of}
 use Rattle.sc_back_performer_laws.proofs.LegalRows.{legal_rows_fit}
-use Rattle.sc_back_performer_laws.proofs.Resolved.{IsPromised, IsResolved, facts_at, few_exports, few_imports, promised_at}
-use Rattle.sc_back_performer_laws.proofs.Resolved.{resolved}
+use Rattle.sc_back_performer_laws.proofs.Resolved.{IsPromised, IsResolved, facts_at, few_exports, few_imports}
+use Rattle.sc_back_performer_laws.proofs.Resolved.{promised_at, resolved}
 
 pub each_from_places : {A : Type 0} (P : A → Type 0) (xs : List A) →
     ((i : ℕ) (x : A) → slice_get xs i ≡ Some x → P x) → Each P xs

@@ -1,10 +1,11 @@
 -- How the expressions of a performing section are judged.
-use Rattle.sc_back_performer_laws.proofs.Common.{AllByRecursion, Bool, Int, IsWord, List, Scalar, Scope, Ty, TypedExpr, Unsigned}
-use Rattle.sc_back_performer_laws.proofs.Common.{[], all_go_into, and_from, ap, ap₂, arith, assign_fits, counter, counter_is}
-use Rattle.sc_back_performer_laws.proofs.Common.{eqb-false, false, goes_into, if◌then◌else◌, is_scalar, judged, le-leb}
-use Rattle.sc_back_performer_laws.proofs.Common.{least_int, leb-false, length, lt-ltb, map, minus, nat_le, nat_lt, place_judged}
-use Rattle.sc_back_performer_laws.proofs.Common.{refl, rules, scalar_ty, true, value_judged, word_expr, word_exprs, ℕ, ◌-◌, ◌<◌}
-use Rattle.sc_back_performer_laws.proofs.Common.{◌==◌, ◌^◌, ◌∙◌, ◌∷◌, ◌≡◌}
+use Rattle.sc_back_performer_laws.proofs.Common.{AllByRecursion, Bool, Int, IsWord, List, Scalar, Scope, Ty, TypedExpr}
+use Rattle.sc_back_performer_laws.proofs.Common.{Unsigned, [], all_go_into, and_from, ap, ap₂, arith, assign_fits}
+use Rattle.sc_back_performer_laws.proofs.Common.{counter, counter_is, eqb-false, false, goes_into, if◌then◌else◌}
+use Rattle.sc_back_performer_laws.proofs.Common.{is_scalar, judged, le-leb, least_int, leb-false, length, lt-ltb, map}
+use Rattle.sc_back_performer_laws.proofs.Common.{minus, nat_le, nat_lt, place_judged, refl, rules, scalar_ty, true}
+use Rattle.sc_back_performer_laws.proofs.Common.{value_judged, word_expr, word_exprs, ℕ, ◌-◌, ◌<◌, ◌==◌, ◌^◌, ◌∙◌, ◌∷◌}
+use Rattle.sc_back_performer_laws.proofs.Common.{◌≡◌}
 use Rattle.sc_core.specs.declared.expr.TypedExpr as typed_exprs
 use Rattle.sc_core.specs.declared.expr.TypedKind as typed_kinds
 use Rattle.sc_core.specs.declared.ty.Ty.TheVariants as ty

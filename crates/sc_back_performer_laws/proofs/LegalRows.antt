@@ -1,12 +1,13 @@
 -- The rows of a part of a legal trace are such as a section can perform.
-use Rattle.sc_back_performer_laws.proofs.Common.{Activation, All-from_recursion, AllByRecursion, Bool, Call, End, Entry, Event}
-use Rattle.sc_back_performer_laws.proofs.Common.{Export, FitsRow, HasWords, In, Int, Interfaces, IsWordOrNone, LegalRowsFit}
-use Rattle.sc_back_performer_laws.proofs.Common.{List, Main, MayDo, None, Option, Out, Proto, Ret, Some, Standing, [], action_of}
-use Rattle.sc_back_performer_laws.proofs.Common.{and_parts, ap, arith, at_start, awaits, eqb-true, false, false≢true}
-use Rattle.sc_back_performer_laws.proofs.Common.{fits_result, if◌then◌else◌, imports, is_allowed, is_function, is_legal_from}
-use Rattle.sc_back_performer_laws.proofs.Common.{is_outermost, length, may_perform, may_return, none-some, option_map_or}
-use Rattle.sc_back_performer_laws.proofs.Common.{performer, proto_of, recursion_from_All, refl, resumed, rows_from, stands_after}
-use Rattle.sc_back_performer_laws.proofs.Common.{subst, suc, sym, takes, true, ℕ, ◌+◌, ◌==◌, ◌∙◌, ◌∷◌, ◌≡◌, ◌≤◌}
+use Rattle.sc_back_performer_laws.proofs.Common.{Activation, All-from_recursion, AllByRecursion, Bool, Call, End, Entry}
+use Rattle.sc_back_performer_laws.proofs.Common.{Event, Export, FitsRow, HasWords, In, Int, Interfaces, IsWordOrNone}
+use Rattle.sc_back_performer_laws.proofs.Common.{LegalRowsFit, List, Main, MayDo, None, Option, Out, Proto, Ret, Some}
+use Rattle.sc_back_performer_laws.proofs.Common.{Standing, [], action_of, and_parts, ap, arith, at_start, awaits}
+use Rattle.sc_back_performer_laws.proofs.Common.{eqb-true, false, false≢true, fits_result, if◌then◌else◌, imports}
+use Rattle.sc_back_performer_laws.proofs.Common.{is_allowed, is_function, is_legal_from, is_outermost, length}
+use Rattle.sc_back_performer_laws.proofs.Common.{may_perform, may_return, none-some, option_map_or, performer, proto_of}
+use Rattle.sc_back_performer_laws.proofs.Common.{recursion_from_All, refl, resumed, rows_from, stands_after, subst, suc}
+use Rattle.sc_back_performer_laws.proofs.Common.{sym, takes, true, ℕ, ◌+◌, ◌==◌, ◌∙◌, ◌∷◌, ◌≡◌, ◌≤◌}
 use Rattle.sc_back_replay_laws.specs.Replay.{main_proto}
 
 -- The first of the functions that wait is `main`.

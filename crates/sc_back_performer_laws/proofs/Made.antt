@@ -1,13 +1,14 @@
 -- The functions, imports and heads that a performing section is made of.
-use Rattle.sc_back_performer_laws.proofs.Common.{Bool, Each, Entry, Export, FunctionParam, FunctionTree, HeadTree, Import}
-use Rattle.sc_back_performer_laws.proofs.Common.{ImportLine, Int, Interfaces, List, Main, None, Option, Proto, Row, Scalar, Some}
-use Rattle.sc_back_performer_laws.proofs.Common.{StmtTree, Text, Unsigned, [], agree, agrees_with, among, and_from, ap}
-use Rattle.sc_back_performer_laws.proofs.Common.{are_distinct, bytes_eq, bytes_eq_self, false, false≢true, function_named}
-use Rattle.sc_back_performer_laws.proofs.Common.{function_params, head_of, if◌then◌else◌, implies, inl, inr, main_proto, map}
-use Rattle.sc_back_performer_laws.proofs.Common.{names_of, not, option_map, promised, refl, same_either_way, same_text}
-use Rattle.sc_back_performer_laws.proofs.Common.{scalar_of, subst, suc, sym, true, type_name, ℕ, ◌++◌, ◌||◌, ◌∙◌, ◌∷◌, ◌≡◌, ◌⊎◌}
-use Rattle.sc_back_performer_laws.proofs.BackTree.{AreFunctions, AreImports, and_function, and_import, entries_from, function_at}
-use Rattle.sc_back_performer_laws.proofs.BackTree.{import_at, no_functions, no_imports}
+use Rattle.sc_back_performer_laws.proofs.Common.{Bool, Each, Entry, Export, FunctionParam, FunctionTree, HeadTree}
+use Rattle.sc_back_performer_laws.proofs.Common.{Import, ImportLine, Int, Interfaces, List, Main, None, Option, Proto}
+use Rattle.sc_back_performer_laws.proofs.Common.{Row, Scalar, Some, StmtTree, Text, Unsigned, [], agree, agrees_with}
+use Rattle.sc_back_performer_laws.proofs.Common.{among, and_from, ap, are_distinct, bytes_eq, bytes_eq_self, false}
+use Rattle.sc_back_performer_laws.proofs.Common.{false≢true, function_named, function_params, head_of, if◌then◌else◌}
+use Rattle.sc_back_performer_laws.proofs.Common.{implies, inl, inr, main_proto, map, names_of, not, option_map}
+use Rattle.sc_back_performer_laws.proofs.Common.{promised, refl, same_either_way, same_text, scalar_of, subst, suc, sym}
+use Rattle.sc_back_performer_laws.proofs.Common.{true, type_name, ℕ, ◌++◌, ◌||◌, ◌∙◌, ◌∷◌, ◌≡◌, ◌⊎◌}
+use Rattle.sc_back_performer_laws.proofs.BackTree.{AreFunctions, AreImports, and_function, and_import, entries_from}
+use Rattle.sc_back_performer_laws.proofs.BackTree.{function_at, import_at, no_functions, no_imports}
 use Rattle.sc_back_performer_laws.proofs.Declared.{heads_of}
 use Rattle.sc_back_performer_laws.proofs.Distinct.{first_new, rest_distinct}
 use Rattle.sc_back_performer_laws.proofs.SectionFacts.{entry_names}

@@ -1,35 +1,38 @@
 -- A performing section breaks no rule of names.
-use Rattle.sc_back_performer_laws.proofs.Common.{Action, AllByRecursion, Decl, Entry, FunctionTree, GlobalTree, HeadTree, Import}
-use Rattle.sc_back_performer_laws.proofs.Common.{Int, Interface, Interfaces, IsPerformer, IsUsable, List, MayDo, NamesHold, None}
-use Rattle.sc_back_performer_laws.proofs.Common.{Option, ParamTree, Proto, Row, Scalar, SectionTree, Some, StmtTree, StructTree}
-use Rattle.sc_back_performer_laws.proofs.Common.{Text, Unsigned, [], action_kind, among, and_from, ap, append-nil, append_assoc}
-use Rattle.sc_back_performer_laws.proofs.Common.{ap₂, are_distinct, arith, base_known, base_tree, body_lines, bytes_eq}
-use Rattle.sc_back_performer_laws.proofs.Common.{bytes_eq_self, call_kind, counter_name, declared, export_at, false, false≢true}
-use Rattle.sc_back_performer_laws.proofs.Common.{filter, function_names, function_params, global_known, head_of_known}
-use Rattle.sc_back_performer_laws.proofs.Common.{import_names, imports, input_proto, is_callable, is_function, is_new, is_of}
-use Rattle.sc_back_performer_laws.proofs.Common.{length, list_all, map, map-append, not, option_map, option_map_or, or_from}
-use Rattle.sc_back_performer_laws.proofs.Common.{or_left, output_proto, param_of, proto_known, proto_of, proto_params, refl}
-use Rattle.sc_back_performer_laws.proofs.Common.{result_known, same_either_way, stmt_lines, subst, suc, sym, true, type_name}
-use Rattle.sc_back_performer_laws.proofs.Common.{unless, ℕ, ◌++◌, ◌==◌, ◌||◌, ◌∙◌, ◌∷◌, ◌≡◌}
+use Rattle.sc_back_performer_laws.proofs.Common.{Action, AllByRecursion, Decl, Entry, FunctionTree, GlobalTree}
+use Rattle.sc_back_performer_laws.proofs.Common.{HeadTree, Import, Int, Interface, Interfaces, IsPerformer, IsUsable}
+use Rattle.sc_back_performer_laws.proofs.Common.{List, MayDo, NamesHold, None, Option, ParamTree, Proto, Row, Scalar}
+use Rattle.sc_back_performer_laws.proofs.Common.{SectionTree, Some, StmtTree, StructTree, Text, Unsigned, []}
+use Rattle.sc_back_performer_laws.proofs.Common.{action_kind, among, and_from, ap, append-nil, append_assoc, ap₂}
+use Rattle.sc_back_performer_laws.proofs.Common.{are_distinct, arith, base_known, base_tree, body_lines, bytes_eq}
+use Rattle.sc_back_performer_laws.proofs.Common.{bytes_eq_self, call_kind, counter_name, declared, export_at, false}
+use Rattle.sc_back_performer_laws.proofs.Common.{false≢true, filter, function_names, function_params, global_known}
+use Rattle.sc_back_performer_laws.proofs.Common.{head_of_known, import_names, imports, input_proto, is_callable}
+use Rattle.sc_back_performer_laws.proofs.Common.{is_function, is_new, is_of, length, list_all, map, map-append, not}
+use Rattle.sc_back_performer_laws.proofs.Common.{option_map, option_map_or, or_from, or_left, output_proto, param_of}
+use Rattle.sc_back_performer_laws.proofs.Common.{proto_known, proto_of, proto_params, refl, result_known}
+use Rattle.sc_back_performer_laws.proofs.Common.{same_either_way, stmt_lines, subst, suc, sym, true, type_name, unless}
+use Rattle.sc_back_performer_laws.proofs.Common.{ℕ, ◌++◌, ◌==◌, ◌||◌, ◌∙◌, ◌∷◌, ◌≡◌}
 use Rattle.sc_types_scope.specs.Prelude.{decl_lines, function_lines, lines_from}
 use Rattle.sc_event.specs.declared.interface.Import.TheVariants as import
 use Rattle.sc_event.specs.declared.row.Action.TheVariants as action
 use Rattle.sc_ast.specs.declared.section.Decl.TheVariants as decl
 use Rattle.sc_ast.specs.declared.stmt.StmtKind.TheVariants as stmt
 use Rattle.sc_types_scope.specs.declared.section_names.SectionNames.{SectionNames}
-use Rattle.sc_back_performer_laws.proofs.BackTree.{AreFunctions, AreHeads, IsBackBody, IsBackTree, and_function, and_head}
-use Rattle.sc_back_performer_laws.proofs.BackTree.{counter_at, does, ends, function_at, head_at, no_functions, no_heads, stmt_at}
+use Rattle.sc_back_performer_laws.proofs.BackTree.{AreFunctions, AreHeads, IsBackBody, IsBackTree, and_function}
+use Rattle.sc_back_performer_laws.proofs.BackTree.{and_head, counter_at, does, ends, function_at, head_at, no_functions}
+use Rattle.sc_back_performer_laws.proofs.BackTree.{no_heads, stmt_at}
 use Rattle.sc_back_performer_laws.proofs.Undone.{back_tree_is}
 use Rattle.sc_back_performer_laws.proofs.Declared.{all_functions, all_globals, all_protos, all_structs, decls_of}
 use Rattle.sc_back_performer_laws.proofs.Declared.{protos_functions, protos_globals, protos_protos, protos_structs}
-use Rattle.sc_back_performer_laws.proofs.Distinct.{among_back, prefix_distinct, not_counter, not_from, not_param, params_distinct}
-use Rattle.sc_back_performer_laws.proofs.Distinct.{params_named, apart}
-use Rattle.sc_back_performer_laws.proofs.Uses.{AllFit, AreEntries, IsAmong, are_entries, calls_use, input_use, output_use}
-use Rattle.sc_back_performer_laws.proofs.Uses.{rows_fit}
+use Rattle.sc_back_performer_laws.proofs.Distinct.{among_back, prefix_distinct, not_counter, not_from, not_param}
+use Rattle.sc_back_performer_laws.proofs.Distinct.{params_distinct, params_named, apart}
+use Rattle.sc_back_performer_laws.proofs.Uses.{AllFit, AreEntries, IsAmong, are_entries, calls_use, input_use}
+use Rattle.sc_back_performer_laws.proofs.Uses.{output_use, rows_fit}
 use Rattle.sc_back_performer_laws.proofs.RowNames.{calls_known, known, returns_known, row_known, while_known}
-use Rattle.sc_back_performer_laws.proofs.SectionFacts.{distinct_names, entries, entries_usable, entry_names, functions_named}
-use Rattle.sc_back_performer_laws.proofs.SectionFacts.{imported_uses, imports_named, names_declared, tree_names, use_holds}
-use Rattle.sc_back_performer_laws.proofs.SectionFacts.{use_named, use_names, uses_usable}
+use Rattle.sc_back_performer_laws.proofs.SectionFacts.{distinct_names, entries, entries_usable, entry_names}
+use Rattle.sc_back_performer_laws.proofs.SectionFacts.{functions_named, imported_uses, imports_named, names_declared}
+use Rattle.sc_back_performer_laws.proofs.SectionFacts.{tree_names, use_holds, use_named, use_names, uses_usable}
 
 -- Heads.
 

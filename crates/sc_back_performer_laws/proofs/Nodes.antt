@@ -1,11 +1,12 @@
 -- How many nodes the statements of a performing section have.
-use Rattle.sc_back_performer_laws.proofs.Common.{Action, Bool, Callees, Int, Interface, Interfaces, IsPerformer, IsUsable, List}
-use Rattle.sc_back_performer_laws.proofs.Common.{MayDo, None, Option, Proto, Row, Scalar, Some, Ty, TypedExpr, TypedStmt}
-use Rattle.sc_back_performer_laws.proofs.Common.{Unsigned, [], arith, calls_out, counter, counter_is, export_at, expr_nodes}
-use Rattle.sc_back_performer_laws.proofs.Common.{false, false≢true, if◌then◌else◌, imports, input_proto, int_expr, is_function}
-use Rattle.sc_back_performer_laws.proofs.Common.{least_int, length, map, minus, nat_le, option_map_or, or_int, output_proto}
-use Rattle.sc_back_performer_laws.proofs.Common.{refl, rules, stmt_at, stmt_nodes, suc, total, true, waits, word_expr}
-use Rattle.sc_back_performer_laws.proofs.Common.{word_exprs, ℕ, ◌*◌, ◌+◌, ◌-◌, ◌==◌, ◌^◌, ◌∷◌, ◌≡◌, ◌≤◌}
+use Rattle.sc_back_performer_laws.proofs.Common.{Action, Bool, Callees, Int, Interface, Interfaces, IsPerformer}
+use Rattle.sc_back_performer_laws.proofs.Common.{IsUsable, List, MayDo, None, Option, Proto, Row, Scalar, Some, Ty}
+use Rattle.sc_back_performer_laws.proofs.Common.{TypedExpr, TypedStmt, Unsigned, [], arith, calls_out, counter}
+use Rattle.sc_back_performer_laws.proofs.Common.{counter_is, export_at, expr_nodes, false, false≢true, if◌then◌else◌}
+use Rattle.sc_back_performer_laws.proofs.Common.{imports, input_proto, int_expr, is_function, least_int, length, map}
+use Rattle.sc_back_performer_laws.proofs.Common.{minus, nat_le, option_map_or, or_int, output_proto, refl, rules}
+use Rattle.sc_back_performer_laws.proofs.Common.{stmt_at, stmt_nodes, suc, total, true, waits, word_expr, word_exprs, ℕ}
+use Rattle.sc_back_performer_laws.proofs.Common.{◌*◌, ◌+◌, ◌-◌, ◌==◌, ◌^◌, ◌∷◌, ◌≡◌, ◌≤◌}
 use Rattle.sc_event.specs.declared.interface.Import.TheVariants as import
 use Rattle.sc_event.specs.declared.row.Action.TheVariants as action
 use Rattle.sc_core.specs.declared.expr.CallTarget.{CallTarget}

@@ -1,12 +1,13 @@
 -- One section of a text that keeps the rules defines `main`.
-use Rattle.sc_back_performer_laws.proofs.Common.{Bool, Decl, Each, Function, Global, List, SectionTree, Some, Struct, [], among}
-use Rattle.sc_back_performer_laws.proofs.Common.{and_rest, ap, arith, back_empty, bytes_eq, decls_from, defines_main, each_at}
-use Rattle.sc_back_performer_laws.proofs.Common.{eq-eqb, exports_from, false, false≢true, prefix_empty, function_names}
-use Rattle.sc_back_performer_laws.proofs.Common.{head_holds, head_of, if◌then◌else◌, imported_agrees, imports_from, is_main}
-use Rattle.sc_back_performer_laws.proofs.Common.{line_of_text, lines_from, list_any, main_from, main_holds, main_name, map}
-use Rattle.sc_back_performer_laws.proofs.Common.{map_empty, name_holds, none_some, not, refl, rule_holds, same_Some}
-use Rattle.sc_back_performer_laws.proofs.Common.{same_either_way, section_lines, slice_get, subst, suc, sym, true, unless, zero}
-use Rattle.sc_back_performer_laws.proofs.Common.{ℕ, ◌&&◌, ◌++◌, ◌+◌, ◌==◌, ◌||◌, ◌∙◌, ◌∷◌, ◌≡◌}
+use Rattle.sc_back_performer_laws.proofs.Common.{Bool, Decl, Each, Function, Global, List, SectionTree, Some, Struct}
+use Rattle.sc_back_performer_laws.proofs.Common.{[], among, and_rest, ap, arith, back_empty, bytes_eq, decls_from}
+use Rattle.sc_back_performer_laws.proofs.Common.{defines_main, each_at, eq-eqb, exports_from, false, false≢true}
+use Rattle.sc_back_performer_laws.proofs.Common.{function_names, head_holds, head_of, if◌then◌else◌, imported_agrees}
+use Rattle.sc_back_performer_laws.proofs.Common.{imports_from, is_main, line_of_text, lines_from, list_any, main_from}
+use Rattle.sc_back_performer_laws.proofs.Common.{main_holds, main_name, map, map_empty, name_holds, none_some, not}
+use Rattle.sc_back_performer_laws.proofs.Common.{prefix_empty, refl, rule_holds, same_Some, same_either_way}
+use Rattle.sc_back_performer_laws.proofs.Common.{section_lines, slice_get, subst, suc, sym, true, unless, zero, ℕ, ◌&&◌}
+use Rattle.sc_back_performer_laws.proofs.Common.{◌++◌, ◌+◌, ◌==◌, ◌||◌, ◌∙◌, ◌∷◌, ◌≡◌}
 use Rattle.sc_ast.specs.declared.section.Decl.TheVariants.{Proto}
 
 or_false : (a b : Bool) → a ≡ false → b ≡ false → (a || b) ≡ false

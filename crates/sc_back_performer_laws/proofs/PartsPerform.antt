@@ -1,16 +1,18 @@
 -- Each compartment of a program can perform its part of a legal trace in a text.
-use Rattle.sc_back_performer_laws.proofs.Common.{All, All-from_recursion, AllByRecursion, AreNumbered, Bool, Call, Decl, Each}
-use Rattle.sc_back_performer_laws.proofs.Common.{End, Event, ExportFacts, ExportLine, InterfaceFacts, HasWords, ImportFacts}
-use Rattle.sc_back_performer_laws.proofs.Common.{ImportLine, In, Interfaces, IsCalled, IsImported, IsSpoken, IsTrue, List, None}
-use Rattle.sc_back_performer_laws.proofs.Common.{Option, Out, Proto, Ret, SectionTree, Some, Standing, Text, [], action_of}
-use Rattle.sc_back_performer_laws.proofs.Common.{among, and_parts, ap, arith, at_start, bytes_eq, comp_is, counts_broken}
-use Rattle.sc_back_performer_laws.proofs.Common.{export_at, false, false≢true, function_names, heads_in, if◌then◌else◌}
-use Rattle.sc_back_performer_laws.proofs.Common.{import_of, imports, interface_broken, interface_of, interfaces_from}
-use Rattle.sc_back_performer_laws.proofs.Common.{interfaces_of, is_allowed, is_function, is_ident, is_legal_from, is_name, legal}
-use Rattle.sc_back_performer_laws.proofs.Common.{length, map, may_perform, none_some, option_and_then, option_map_or, part}
-use Rattle.sc_back_performer_laws.proofs.Common.{performer, program_of, proto_names, recursion_from_All, refl, rows_from}
-use Rattle.sc_back_performer_laws.proofs.Common.{same_Some, same_text, slice_get, stands_after, subst, suc, sym, takes, true}
-use Rattle.sc_back_performer_laws.proofs.Common.{zero, ℕ, ◌+◌, ◌<◌, ◌==◌, ◌||◌, ◌∙◌, ◌∷◌, ◌≡◌, ◌≤◌}
+use Rattle.sc_back_performer_laws.proofs.Common.{All, All-from_recursion, AllByRecursion, AreNumbered, Bool, Call, Decl}
+use Rattle.sc_back_performer_laws.proofs.Common.{Each, End, Event, ExportFacts, ExportLine, HasWords, ImportFacts}
+use Rattle.sc_back_performer_laws.proofs.Common.{ImportLine, In, InterfaceFacts, Interfaces, IsCalled, IsImported}
+use Rattle.sc_back_performer_laws.proofs.Common.{IsSpoken, IsTrue, List, None, Option, Out, Proto, Ret, SectionTree}
+use Rattle.sc_back_performer_laws.proofs.Common.{Some, Standing, Text, [], action_of, among, and_parts, ap, arith}
+use Rattle.sc_back_performer_laws.proofs.Common.{at_start, bytes_eq, comp_is, counts_broken, export_at, false}
+use Rattle.sc_back_performer_laws.proofs.Common.{false≢true, function_names, heads_in, if◌then◌else◌, import_of}
+use Rattle.sc_back_performer_laws.proofs.Common.{imports, interface_broken, interface_of, interfaces_from}
+use Rattle.sc_back_performer_laws.proofs.Common.{interfaces_of, is_allowed, is_function, is_ident, is_legal_from}
+use Rattle.sc_back_performer_laws.proofs.Common.{is_name, legal, length, map, may_perform, none_some, option_and_then}
+use Rattle.sc_back_performer_laws.proofs.Common.{option_map_or, part, performer, program_of, proto_names}
+use Rattle.sc_back_performer_laws.proofs.Common.{recursion_from_All, refl, rows_from, same_Some, same_text, slice_get}
+use Rattle.sc_back_performer_laws.proofs.Common.{stands_after, subst, suc, sym, takes, true, zero, ℕ, ◌+◌, ◌<◌, ◌==◌}
+use Rattle.sc_back_performer_laws.proofs.Common.{◌||◌, ◌∙◌, ◌∷◌, ◌≡◌, ◌≤◌}
 use Rattle.sc_types_scope.specs.Prelude.{proto_of}
 use Rattle.sc_ast.specs.declared.section.Decl.TheVariants as decl
 use Rattle.sc_back_performer_laws.specs.Performing.{IsCalledSo, IsFromSo, IsNamed, PartsPerform, PerformsPart}
@@ -161,20 +163,24 @@ module _ (olds : List SectionTree) (in_interfaces : interface_broken olds ≡ []
   spoken at (In comp value) may words = tt
   spoken at (End comp value) may words = words
 
-  rows_spoken : (c number : ℕ) (at : Option Standing) (trace : List Event) → is_legal_from interface_rules at trace ≡ true →
+  rows_spoken : (c number : ℕ) (at : Option Standing) (trace : List Event) →
+      is_legal_from interface_rules at trace ≡ true →
       AllByRecursion HasWords trace →
       AllByRecursion (λ row. IsSpoken interface_rules row.action) (rows_from c number at trace)
   rows_spoken c number at [] is words = tt
   rows_spoken c number None (event ∷ later) is words = tt
   rows_spoken c number (Some at) (event ∷ later) is words =
-      let parts = and_parts (is_allowed interface_rules at event) (is_legal_from interface_rules (stands_after at event) later) is in
+      let parts = and_parts (is_allowed interface_rules at event)
+      (is_legal_from interface_rules (stands_after at event) later) is in
       let allowed = and_parts (performer event == at.active.comp) (may_perform interface_rules at event) parts.0 in
       by (performer event == c) (spoken at event allowed.1 words.0)
       (rows_spoken c (suc number) (stands_after at event) later parts.1 words.1)
       (rows_spoken c number (stands_after at event) later parts.1 words.1) where
         by : (mine : Bool) → IsSpoken interface_rules (action_of event) →
-            AllByRecursion (λ row. IsSpoken interface_rules row.action) (rows_from c (suc number) (stands_after at event) later) →
-            AllByRecursion (λ row. IsSpoken interface_rules row.action) (rows_from c number (stands_after at event) later) →
+            AllByRecursion (λ row. IsSpoken interface_rules row.action)
+            (rows_from c (suc number) (stands_after at event) later) →
+            AllByRecursion (λ row. IsSpoken interface_rules row.action)
+            (rows_from c number (stands_after at event) later) →
             AllByRecursion (λ row. IsSpoken interface_rules row.action) (if mine then record {
               entry = at.active.entry;
               number = number;
@@ -204,8 +210,10 @@ module _ (olds : List SectionTree) (in_interfaces : interface_broken olds ≡ []
               (imported_from comp at.0 at.1 at.0.imports (facts olds in_interfaces in_counts comp at.0 at.1).imports
               (all_resolved olds in_interfaces in_counts comp at.0 at.1)
               (recursion_from_All IsFromSo at.0.imports names.comps));
-          actions = All-from_recursion (λ row. IsSpoken interface_rules row.action) (part interface_rules.main comp trace)
-              (rows_spoken comp 0 (at_start interface_rules.main) trace is_legal (recursion_from_All HasWords trace words));
+          actions = All-from_recursion (λ row. IsSpoken interface_rules row.action)
+              (part interface_rules.main comp trace)
+              (rows_spoken comp 0 (at_start interface_rules.main) trace is_legal
+              (recursion_from_All HasWords trace words));
           numbered = rows_numbered comp 0 (at_start interface_rules.main) trace (omega (arith, few));
         };
       }

@@ -1,11 +1,11 @@
 -- Typed statements that do the rows of an entry perform all rows of a compartment that are of it.
 use Rattle.sc_back_performer_laws.proofs.Common.{Action, Bool, Callees, Entry, Export, Import, Interface, Interfaces}
-use Rattle.sc_back_performer_laws.proofs.Common.{IsPerformer, IsPerforming, List, Main, MayDo, None, Option, Proto, Row, Scalar}
-use Rattle.sc_back_performer_laws.proofs.Common.{Some, TypedStmt, [], ap, calls_out, counter, counter_is, ends, eq-eqb}
-use Rattle.sc_back_performer_laws.proofs.Common.{export_at, false, false≢true, filter, if◌then◌else◌, import_target, imports}
-use Rattle.sc_back_performer_laws.proofs.Common.{input_proto, int_expr, is_function, is_of, length, option_map_or, output_proto}
-use Rattle.sc_back_performer_laws.proofs.Common.{performs, refl, skips, stmt_at, subst, suc, sym, true, word_exprs, ℕ, ◌==◌, ◌∙◌}
-use Rattle.sc_back_performer_laws.proofs.Common.{◌∷◌, ◌≡◌}
+use Rattle.sc_back_performer_laws.proofs.Common.{IsPerformer, IsPerforming, List, Main, MayDo, None, Option, Proto, Row}
+use Rattle.sc_back_performer_laws.proofs.Common.{Scalar, Some, TypedStmt, [], ap, calls_out, counter, counter_is, ends}
+use Rattle.sc_back_performer_laws.proofs.Common.{eq-eqb, export_at, false, false≢true, filter, if◌then◌else◌}
+use Rattle.sc_back_performer_laws.proofs.Common.{import_target, imports, input_proto, int_expr, is_function, is_of}
+use Rattle.sc_back_performer_laws.proofs.Common.{length, option_map_or, output_proto, performs, refl, skips, stmt_at}
+use Rattle.sc_back_performer_laws.proofs.Common.{subst, suc, sym, true, word_exprs, ℕ, ◌==◌, ◌∙◌, ◌∷◌, ◌≡◌}
 use Rattle.sc_event.specs.declared.interface.Import.TheVariants as import
 use Rattle.sc_event.specs.declared.row.Action.TheVariants as action
 use Rattle.sc_core.specs.declared.stmt.TypedStmtKind as kind

@@ -1,12 +1,13 @@
 -- The sections of a text in which some perform their parts of a trace keep the rules, and are the program recomposed.
-use Rattle.sc_back_performer_laws.proofs.Common.{AllBecome, Bool, Callees, Event, ImportFacts, IsRecomposed, IsTyped, List, None}
-use Rattle.sc_back_performer_laws.proofs.Common.{Option, SectionTree, Some, [], among, ap, append_assoc, arith, back_empty}
-use Rattle.sc_back_performer_laws.proofs.Common.{callees_of, concat, decls_from, defines_main, each_at, each_empty, eqb-true}
-use Rattle.sc_back_performer_laws.proofs.Common.{exports_from, false, false≢true, prefix_empty, imports_from, interface_broken}
-use Rattle.sc_back_performer_laws.proofs.Common.{interface_of, interfaces_of, legal, length, line_of_text, list_any, main_from}
-use Rattle.sc_back_performer_laws.proofs.Common.{map, map_empty, most_compartments, name_fits, name_holds, part, program_of}
-use Rattle.sc_back_performer_laws.proofs.Common.{proto_names, refl, slice_get, some_item, subst, suc, sym, true, unless, zero, ℕ}
-use Rattle.sc_back_performer_laws.proofs.Common.{◌++◌, ◌+◌, ◌<◌, ◌==◌, ◌||◌, ◌∙◌, ◌∷◌, ◌≡◌}
+use Rattle.sc_back_performer_laws.proofs.Common.{AllBecome, Bool, Callees, Event, ImportFacts, IsRecomposed, IsTyped}
+use Rattle.sc_back_performer_laws.proofs.Common.{List, None, Option, SectionTree, Some, [], among, ap, append_assoc}
+use Rattle.sc_back_performer_laws.proofs.Common.{arith, back_empty, callees_of, concat, decls_from, defines_main}
+use Rattle.sc_back_performer_laws.proofs.Common.{each_at, each_empty, eqb-true, exports_from, false, false≢true}
+use Rattle.sc_back_performer_laws.proofs.Common.{imports_from, interface_broken, interface_of, interfaces_of, legal}
+use Rattle.sc_back_performer_laws.proofs.Common.{length, line_of_text, list_any, main_from, map, map_empty}
+use Rattle.sc_back_performer_laws.proofs.Common.{most_compartments, name_fits, name_holds, part, prefix_empty}
+use Rattle.sc_back_performer_laws.proofs.Common.{program_of, proto_names, refl, slice_get, some_item, subst, suc, sym}
+use Rattle.sc_back_performer_laws.proofs.Common.{true, unless, zero, ℕ, ◌++◌, ◌+◌, ◌<◌, ◌==◌, ◌||◌, ◌∙◌, ◌∷◌, ◌≡◌}
 use Rattle.sc_back_performer_laws.specs.Recomposed.{RecomposedHold}
 use Rattle.sc_types_scope.specs.Names as names
 use Rattle.sc_types_interfaces.specs.Rules as interface_rules
@@ -18,9 +19,10 @@ use Rattle.sc_back_performer_laws.proofs.NamesKept.{names_hold}
 use Rattle.sc_back_performer_laws.proofs.ReplacedHolds.{decls_new, exports_hold, imports_new}
 use Rattle.sc_back_performer_laws.proofs.Resolved.{counted_at}
 use Rattle.sc_back_performer_laws.proofs.Seen.{AreSeenAs, IsSeenAs, alike_self, interfaces_same}
-use Rattle.sc_back_performer_laws.proofs.SeenKept.{both_empty, callees_same, decls_kept, exports_kept, imports_hold, moved}
-use Rattle.sc_back_performer_laws.proofs.SeenKept.{types_same}
-use Rattle.sc_back_performer_laws.proofs.Turned.{AllTurn, IsRightTrace, Turns, all_turn, recomposed, seen_from, stays, turns}
+use Rattle.sc_back_performer_laws.proofs.SeenKept.{both_empty, callees_same, decls_kept, exports_kept, imports_hold}
+use Rattle.sc_back_performer_laws.proofs.SeenKept.{moved, types_same}
+use Rattle.sc_back_performer_laws.proofs.Turned.{AllTurn, IsRightTrace, Turns, all_turn, recomposed, seen_from, stays}
+use Rattle.sc_back_performer_laws.proofs.Turned.{turns}
 use Rattle.sc_back_performer_laws.proofs.TypesKept.{types_hold}
 use Rattle.sc_back_performer_laws.proofs.Undone.{back_tree_is}
 
@@ -141,7 +143,8 @@ module _ (olds news : List SectionTree) (typed : IsTyped olds (program_of olds))
     interface_holds : (k : ℕ) (old new : SectionTree) → OneTurns k old new → (mains : Bool)
         (before others : List SectionTree) → AreSeenAs before others → IsSeenAs old new →
         ((k == (interfaces_of olds).main) ≡ true → mains ≡ false) →
-        interface_rules.section_lines olds k old mains before ≡ [] → interface_rules.section_lines news k new mains others ≡ []
+        interface_rules.section_lines olds k old mains before ≡ [] →
+        interface_rules.section_lines news k new mains others ≡ []
     interface_holds k old new t mains before others around seen first_main h =
         both_empty (unless (name_holds news k new mains others) 1) _
         (ap (λ b. unless b 1) (λ i. name_fits (names_same before others around i) (seen.name i)) ∙
@@ -188,17 +191,21 @@ module _ (olds news : List SectionTree) (typed : IsTyped olds (program_of olds))
     length_snoc (x ∷ before) s = ap suc (length_snoc before s)
 
     interfaces_hold_from : (k : ℕ) (before others xs ys : List SectionTree) → k ≡ length others → others ++ ys ≡ news →
-        AreSeenAs before others → AllOnesTurn k xs ys → AreSeenAs xs ys → interface_rules.lines_from olds k before xs ≡ [] →
+        AreSeenAs before others → AllOnesTurn k xs ys → AreSeenAs xs ys →
+        interface_rules.lines_from olds k before xs ≡ [] →
         interface_rules.lines_from news k others ys ≡ []
     interfaces_hold_from k before others [] [] at whole around t seen h = refl
     interfaces_hold_from k before others [] (y ∷ ys) at whole around t seen h = absurd t
     interfaces_hold_from k before others (x ∷ xs) [] at whole around t seen h = absurd t
     interfaces_hold_from k before others (x ∷ xs) (y ∷ ys) at whole around t seen h =
-        both_empty (map (line_of_text y.line) (interface_rules.section_lines news k y (list_any defines_main others) others)) _
-        (mapped_empty (line_of_text y.line) _ (interface_holds k x y t.0 (list_any defines_main others) before others around
+        both_empty (map (line_of_text y.line)
+        (interface_rules.section_lines news k y (list_any defines_main others) others)) _
+        (mapped_empty (line_of_text y.line) _
+        (interface_holds k x y t.0 (list_any defines_main others) before others around
         seen.0 first_main (subst (λ mains. interface_rules.section_lines olds k x mains before ≡ [])
         (sym (mains_same before others around)) (map_empty _ _ (prefix_empty _ _ h)))))
-        (interfaces_hold_from (suc k) (before ++ x ∷ []) (others ++ y ∷ []) xs ys (ap suc at ∙ sym (length_snoc others y))
+        (interfaces_hold_from (suc k) (before ++ x ∷ []) (others ++ y ∷ []) xs ys
+        (ap suc at ∙ sym (length_snoc others y))
         (append_assoc others (y ∷ []) ys ∙ whole) (seen_snoc before others x y around seen.0) t.1 seen.1
         (back_empty (map (line_of_text x.line)
         (interface_rules.section_lines olds k x (list_any defines_main before) before)) _ h)) where

@@ -1,21 +1,24 @@
 -- A performing section with its types performs its rows.
-use Rattle.sc_back_performer_laws.proofs.Common.{AllByRecursion, Bool, Callees, Entry, Export, FunctionTree, Import, Interface}
-use Rattle.sc_back_performer_laws.proofs.Common.{Interfaces, IsImportedAs, IsPerformer, IsPerforming, IsReplaced, IsUsable, List}
-use Rattle.sc_back_performer_laws.proofs.Common.{Main, None, Option, Performs, Proto, Row, RowsPerform, SectionTree, Some}
-use Rattle.sc_back_performer_laws.proofs.Common.{StmtTree, TypedFunction, [], among, ap, ap₂, are_distinct, arith, bytes_eq}
-use Rattle.sc_back_performer_laws.proofs.Common.{bytes_eq_self, callees_of, cond, false, filter, if◌then◌else◌, import_of}
-use Rattle.sc_back_performer_laws.proofs.Common.{imported, inl, inr, is_of, main_proto, map, none-some, option_and_then}
-use Rattle.sc_back_performer_laws.proofs.Common.{option_map, or_right, position, position-cons, proto_of, recursion_from_All}
-use Rattle.sc_back_performer_laws.proofs.Common.{refl, same_Some, same_text, slice_get, subst, suc, sym, true, typed_function}
-use Rattle.sc_back_performer_laws.proofs.Common.{typed_global, typed_section, zero, ℕ, ◌++◌, ◌+◌, ◌==◌, ◌||◌, ◌∙◌, ◌∷◌, ◌≡◌, ◌⊎◌}
-use Rattle.sc_back_performer_laws.proofs.BackTree.{AreFunctions, IsBackBody, IsBackTree, and_function, counter_at, entries_from}
-use Rattle.sc_back_performer_laws.proofs.BackTree.{entries_of, function_at, import_at, main_entries, no_functions, use_of, uses}
+use Rattle.sc_back_performer_laws.proofs.Common.{AllByRecursion, Bool, Callees, Entry, Export, FunctionTree, Import}
+use Rattle.sc_back_performer_laws.proofs.Common.{Interface, Interfaces, IsImportedAs, IsPerformer, IsPerforming}
+use Rattle.sc_back_performer_laws.proofs.Common.{IsReplaced, IsUsable, List, Main, None, Option, Performs, Proto, Row}
+use Rattle.sc_back_performer_laws.proofs.Common.{RowsPerform, SectionTree, Some, StmtTree, TypedFunction, [], among, ap}
+use Rattle.sc_back_performer_laws.proofs.Common.{ap₂, are_distinct, arith, bytes_eq, bytes_eq_self, callees_of, cond}
+use Rattle.sc_back_performer_laws.proofs.Common.{false, filter, if◌then◌else◌, import_of, imported, inl, inr, is_of}
+use Rattle.sc_back_performer_laws.proofs.Common.{main_proto, map, none-some, option_and_then, option_map, or_right}
+use Rattle.sc_back_performer_laws.proofs.Common.{position, position-cons, proto_of, recursion_from_All, refl, same_Some}
+use Rattle.sc_back_performer_laws.proofs.Common.{same_text, slice_get, subst, suc, sym, true, typed_function}
+use Rattle.sc_back_performer_laws.proofs.Common.{typed_global, typed_section, zero, ℕ, ◌++◌, ◌+◌, ◌==◌, ◌||◌, ◌∙◌, ◌∷◌}
+use Rattle.sc_back_performer_laws.proofs.Common.{◌≡◌, ◌⊎◌}
+use Rattle.sc_back_performer_laws.proofs.BackTree.{AreFunctions, IsBackBody, IsBackTree, and_function, counter_at}
+use Rattle.sc_back_performer_laws.proofs.BackTree.{entries_from, entries_of, function_at, import_at, main_entries}
+use Rattle.sc_back_performer_laws.proofs.BackTree.{no_functions, use_of, uses}
 use Rattle.sc_back_performer_laws.proofs.Undone.{back_tree_is}
 use Rattle.sc_back_performer_laws.proofs.Distinct.{first_new, prefix_distinct, is_false, not_both, rest_distinct}
 use Rattle.sc_back_performer_laws.proofs.Performing.{HasTargets, performing}
 use Rattle.sc_back_performer_laws.proofs.SectionFacts.{distinct_names, entries, entries_usable, entry_names}
-use Rattle.sc_back_performer_laws.proofs.SectionTypes.{body_is, functions_are, no_counter, no_locals, no_tags, one_global}
-use Rattle.sc_back_performer_laws.proofs.SectionTypes.{signatures, targets, typed_params}
+use Rattle.sc_back_performer_laws.proofs.SectionTypes.{body_is, functions_are, no_counter, no_locals, no_tags}
+use Rattle.sc_back_performer_laws.proofs.SectionTypes.{one_global, signatures, targets, typed_params}
 use Rattle.sc_back_performer_laws.proofs.TypedRows.{typed_body}
 use Rattle.sc_back_performer_laws.proofs.Uses.{IsAmong, first, later, is_first_or_later, none_among, rows_fit}
 

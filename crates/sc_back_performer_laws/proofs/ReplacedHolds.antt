@@ -1,27 +1,28 @@
 -- A section that performs breaks no rule of interfaces in a text of which it sees the same.
-use Rattle.sc_back_performer_laws.proofs.Common.{Bool, DeclFacts, Each, Entry, ExportFacts, ExportLine, InterfaceFacts, Fresh}
-use Rattle.sc_back_performer_laws.proofs.Common.{FunctionTree, HeadTree, Import, ImportLine, Interfaces, IsPerformer, List, Main}
-use Rattle.sc_back_performer_laws.proofs.Common.{Proto, Row, SectionTree, Some, StmtTree, Text, [], agrees_as, among, and_from}
-use Rattle.sc_back_performer_laws.proofs.Common.{ap, ap₂, are_distinct, both_distinct, bytes_eq, counts_broken, decls_from}
-use Rattle.sc_back_performer_laws.proofs.Common.{export_names, exports_from, false, fresh_distinct, function_names, head_crosses}
-use Rattle.sc_back_performer_laws.proofs.Common.{head_of, heads_in, if◌then◌else◌, implies, import_names, import_of}
-use Rattle.sc_back_performer_laws.proofs.Common.{imports_from, interface_broken, interface_of, interfaces_of, is_plain, list_all}
-use Rattle.sc_back_performer_laws.proofs.Common.{main_holds, main_name, main_proto, map, map-append, map_twice, not, or_left}
-use Rattle.sc_back_performer_laws.proofs.Common.{proto_names, protos_in, refl, same_text, slice_get, subst, suc, sym, true, ℕ}
-use Rattle.sc_back_performer_laws.proofs.Common.{◌++◌, ◌==◌, ◌||◌, ◌∙◌, ◌∷◌, ◌≡◌}
+use Rattle.sc_back_performer_laws.proofs.Common.{Bool, DeclFacts, Each, Entry, ExportFacts, ExportLine, Fresh}
+use Rattle.sc_back_performer_laws.proofs.Common.{FunctionTree, HeadTree, Import, ImportLine, InterfaceFacts, Interfaces}
+use Rattle.sc_back_performer_laws.proofs.Common.{IsPerformer, List, Main, Proto, Row, SectionTree, Some, StmtTree, Text}
+use Rattle.sc_back_performer_laws.proofs.Common.{[], agrees_as, among, and_from, ap, ap₂, are_distinct, both_distinct}
+use Rattle.sc_back_performer_laws.proofs.Common.{bytes_eq, counts_broken, decls_from, export_names, exports_from, false}
+use Rattle.sc_back_performer_laws.proofs.Common.{fresh_distinct, function_names, head_crosses, head_of, heads_in}
+use Rattle.sc_back_performer_laws.proofs.Common.{if◌then◌else◌, implies, import_names, import_of, imports_from}
+use Rattle.sc_back_performer_laws.proofs.Common.{interface_broken, interface_of, interfaces_of, is_plain, list_all}
+use Rattle.sc_back_performer_laws.proofs.Common.{main_holds, main_name, main_proto, map, map-append, map_twice, not}
+use Rattle.sc_back_performer_laws.proofs.Common.{or_left, proto_names, protos_in, refl, same_text, slice_get, subst}
+use Rattle.sc_back_performer_laws.proofs.Common.{suc, sym, true, ℕ, ◌++◌, ◌==◌, ◌||◌, ◌∙◌, ◌∷◌, ◌≡◌}
 use Rattle.sc_types_scope.specs.Prelude.{proto_of}
 use Rattle.sc_ast.specs.declared.section.Decl.TheVariants as decl
 use Rattle.sc_back_performer_laws.proofs.Agreeing.{declared_crosses, defined_crosses}
-use Rattle.sc_back_performer_laws.proofs.BackTree.{AreFunctions, AreHeads, IsBackTree, and_function, and_head, counter_at}
-use Rattle.sc_back_performer_laws.proofs.BackTree.{entries_from, entries_of, function_at, head_at, no_functions, no_heads}
-use Rattle.sc_back_performer_laws.proofs.BackTree.{use_of, uses}
+use Rattle.sc_back_performer_laws.proofs.BackTree.{AreFunctions, AreHeads, IsBackTree, and_function, and_head}
+use Rattle.sc_back_performer_laws.proofs.BackTree.{counter_at, entries_from, entries_of, function_at, head_at}
+use Rattle.sc_back_performer_laws.proofs.BackTree.{no_functions, no_heads, use_of, uses}
 use Rattle.sc_back_performer_laws.proofs.Declared.{all_heads, all_protos, heads_of}
 use Rattle.sc_back_performer_laws.proofs.Distinct.{among_prefix, apart, back_distinct, prefix_distinct}
 use Rattle.sc_back_performer_laws.proofs.Fitting.{all_resolved, each_map, facts, own_defined, proto_named}
 use Rattle.sc_back_performer_laws.proofs.ReplacedSeen.{exports_same, imports_alike, own_names}
 use Rattle.sc_back_performer_laws.proofs.Resolved.{IsResolved}
-use Rattle.sc_back_performer_laws.proofs.SectionFacts.{distinct_names, entry_names, imports_named, names_declared, names_defined}
-use Rattle.sc_back_performer_laws.proofs.SectionFacts.{use_names}
+use Rattle.sc_back_performer_laws.proofs.SectionFacts.{distinct_names, entry_names, imports_named, names_declared}
+use Rattle.sc_back_performer_laws.proofs.SectionFacts.{names_defined, use_names}
 use Rattle.sc_back_performer_laws.proofs.Seen.{AreAlike, AreSeenAs, IsAlike}
 use Rattle.sc_back_performer_laws.proofs.SeenKept.{agrees_as_too, imports_hold}
 use Rattle.sc_back_performer_laws.proofs.Uses.{IsAmong, first, later}
@@ -190,7 +191,8 @@ module _ (olds : List SectionTree) (in_interfaces : interface_broken olds ≡ []
       head_next a lines rs.0 (there a (first lines))
       (heads_hold lines rs.1 (λ c in_lines. there c (later a lines in_lines))) heads
       (heads_by ((import_of olds number a, rs.0.f) ∷ uses interface_rules (map (import_of olds number) lines)) heads
-      (subst (λ o. AreHeads (use_of (import_of olds number a) o (uses interface_rules (map (import_of olds number) lines))) heads)
+      (subst (λ o. AreHeads (use_of (import_of olds number a) o
+      (uses interface_rules (map (import_of olds number) lines))) heads)
       rs.0.is h))
 
   -- Functions.
@@ -200,7 +202,8 @@ module _ (olds : List SectionTree) (in_interfaces : interface_broken olds ≡ []
       main_holds mains (head_of (function_at f line close body).head) ≡
       true
 
-  functions_hold : (es : List (Entry × Proto)) (trees : List FunctionTree) → AreFunctions interface_rules rows es trees →
+  functions_hold : (es : List (Entry × Proto)) (trees : List FunctionTree) →
+      AreFunctions interface_rules rows es trees →
       Each (λ e. HoldsMain e.1) es → Each (DeclFacts news number new mains) (map decl.Function trees)
   functions_hold es trees no_functions h = tt
   functions_hold es trees (and_function entry f others more line close body done rest) h = (

@@ -1,10 +1,11 @@
 -- Declarations of distinct names agree, and what holds of lists of names.
-use Rattle.sc_back_performer_laws.proofs.Common.{Bool, Decl, DeclFacts, Each, ExportLine, Fresh, HeadTree, ImportLine, List}
-use Rattle.sc_back_performer_laws.proofs.Common.{SectionTree, Text, [], agrees_with, among, and_from, ap, append_assoc}
-use Rattle.sc_back_performer_laws.proofs.Common.{are_distinct, bytes_eq, bytes_eq_self, decls_from, export_holds, exports_from}
-use Rattle.sc_back_performer_laws.proofs.Common.{false, false≢true, filter_map-append, function_names, head_holds, head_in}
-use Rattle.sc_back_performer_laws.proofs.Common.{head_of, heads_in, imported_agrees, inl, inr, is_new, is_plain, main_holds}
-use Rattle.sc_back_performer_laws.proofs.Common.{main_name, map, map-append, not, or_left, or_right, refl, same_text, subst, sym}
+use Rattle.sc_back_performer_laws.proofs.Common.{Bool, Decl, DeclFacts, Each, ExportLine, Fresh, HeadTree, ImportLine}
+use Rattle.sc_back_performer_laws.proofs.Common.{List, SectionTree, Text, [], agrees_with, among, and_from, ap}
+use Rattle.sc_back_performer_laws.proofs.Common.{append_assoc, are_distinct, bytes_eq, bytes_eq_self, decls_from}
+use Rattle.sc_back_performer_laws.proofs.Common.{export_holds, exports_from, false, false≢true, filter_map-append}
+use Rattle.sc_back_performer_laws.proofs.Common.{function_names, head_holds, head_in, head_of, heads_in}
+use Rattle.sc_back_performer_laws.proofs.Common.{imported_agrees, inl, inr, is_new, is_plain, main_holds, main_name}
+use Rattle.sc_back_performer_laws.proofs.Common.{map, map-append, not, or_left, or_right, refl, same_text, subst, sym}
 use Rattle.sc_back_performer_laws.proofs.Common.{true, unless, ℕ, ◌&&◌, ◌++◌, ◌||◌, ◌∙◌, ◌∷◌, ◌≡◌, ◌⊎◌}
 use Rattle.sc_ast.specs.declared.section.Decl.TheVariants as decl
 use Rattle.sc_back_performer_laws.proofs.Distinct.{apart, first_new, rest_distinct}

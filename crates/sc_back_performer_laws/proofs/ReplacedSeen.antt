@@ -1,28 +1,31 @@
 -- A section that performs is seen by others as the section is that it replaces.
-use Rattle.sc_back_performer_laws.proofs.Common.{Bool, Each, Entry, ExportFacts, ExportLine, InterfaceFacts, HeadTree, Import}
-use Rattle.sc_back_performer_laws.proofs.Common.{ImportLine, Interfaces, IsPerformer, List, Main, Proto, Row, SectionTree, Some}
-use Rattle.sc_back_performer_laws.proofs.Common.{StmtTree, Text, [], agree, agree_left, agrees_with, among, ap, append-nil}
-use Rattle.sc_back_performer_laws.proofs.Common.{are_distinct, bytes_eq, bytes_eq_self, counts_broken, defines_main}
-use Rattle.sc_back_performer_laws.proofs.Common.{export_names, false, false≢true, prefix_empty, function_named, function_names}
-use Rattle.sc_back_performer_laws.proofs.Common.{functions_in, head_of, heads_in, if◌then◌else◌, import_of, inl, inr}
-use Rattle.sc_back_performer_laws.proofs.Common.{interface_broken, interface_of, interfaces_of, main_name, main_proto, map}
-use Rattle.sc_back_performer_laws.proofs.Common.{map_twice, names_of, not, promised, refl, same_either_way, slice_get, subst}
-use Rattle.sc_back_performer_laws.proofs.Common.{suc, sym, true, ℕ, ◌++◌, ◌==◌, ◌||◌, ◌∙◌, ◌∷◌, ◌≡◌}
+use Rattle.sc_back_performer_laws.proofs.Common.{Bool, Each, Entry, ExportFacts, ExportLine, HeadTree, Import}
+use Rattle.sc_back_performer_laws.proofs.Common.{ImportLine, InterfaceFacts, Interfaces, IsPerformer, List, Main, Proto}
+use Rattle.sc_back_performer_laws.proofs.Common.{Row, SectionTree, Some, StmtTree, Text, [], agree, agree_left}
+use Rattle.sc_back_performer_laws.proofs.Common.{agrees_with, among, ap, append-nil, are_distinct, bytes_eq}
+use Rattle.sc_back_performer_laws.proofs.Common.{bytes_eq_self, counts_broken, defines_main, export_names, false}
+use Rattle.sc_back_performer_laws.proofs.Common.{false≢true, function_named, function_names, functions_in, head_of}
+use Rattle.sc_back_performer_laws.proofs.Common.{heads_in, if◌then◌else◌, import_of, inl, inr, interface_broken}
+use Rattle.sc_back_performer_laws.proofs.Common.{interface_of, interfaces_of, main_name, main_proto, map, map_twice}
+use Rattle.sc_back_performer_laws.proofs.Common.{names_of, not, prefix_empty, promised, refl, same_either_way}
+use Rattle.sc_back_performer_laws.proofs.Common.{slice_get, subst, suc, sym, true, ℕ, ◌++◌, ◌==◌, ◌||◌, ◌∙◌, ◌∷◌, ◌≡◌}
 use Rattle.sc_types_scope.specs.Prelude.{proto_of}
 use Rattle.sc_back_performer_laws.proofs.Agreeing.{all_prefix, promise_defined}
-use Rattle.sc_back_performer_laws.proofs.BackTree.{AreImports, IsBackTree, counter_at, entries_from, entries_of, function_at}
-use Rattle.sc_back_performer_laws.proofs.BackTree.{main_entries, use_of, uses}
+use Rattle.sc_back_performer_laws.proofs.BackTree.{AreImports, IsBackTree, counter_at, entries_from, entries_of}
+use Rattle.sc_back_performer_laws.proofs.BackTree.{function_at, main_entries, use_of, uses}
 use Rattle.sc_back_performer_laws.proofs.Declared.{all_functions, all_heads, heads_of}
 use Rattle.sc_back_performer_laws.proofs.Distinct.{among_prefix, apart, prefix_distinct, is_false}
 use Rattle.sc_back_performer_laws.proofs.Fitting.{all_promised, all_resolved, each_map, exports_named, facts, main_here}
 use Rattle.sc_back_performer_laws.proofs.Fitting.{proto_named}
 use Rattle.sc_back_performer_laws.proofs.OneMain.{main_only}
 use Rattle.sc_back_performer_laws.proofs.Resolved.{IsPromised, IsResolved}
-use Rattle.sc_back_performer_laws.proofs.SectionFacts.{distinct_names, entry_names, functions_named, names_declared, use_names}
+use Rattle.sc_back_performer_laws.proofs.SectionFacts.{distinct_names, entry_names, functions_named, names_declared}
+use Rattle.sc_back_performer_laws.proofs.SectionFacts.{use_names}
 use Rattle.sc_back_performer_laws.proofs.Seen.{AreAlike, IsSeenAs}
 use Rattle.sc_back_performer_laws.proofs.Uses.{IsAmong}
-use Rattle.sc_back_performer_laws.proofs.Made.{ImportsBy, IsExportOrMain, IsMade, each_export, each_in, each_mapped, entry_is}
-use Rattle.sc_back_performer_laws.proofs.Made.{functions_agree, imports_by, made, made_promised, none_named, promised_same}
+use Rattle.sc_back_performer_laws.proofs.Made.{ImportsBy, IsExportOrMain, IsMade, each_export, each_in, each_mapped}
+use Rattle.sc_back_performer_laws.proofs.Made.{entry_is, functions_agree, imports_by, made, made_promised, none_named}
+use Rattle.sc_back_performer_laws.proofs.Made.{promised_same}
 
 module _ (olds : List SectionTree) (in_interfaces : interface_broken olds ≡ []) (in_counts : counts_broken olds ≡ [])
     (number : ℕ) (old : SectionTree) (got : slice_get olds number ≡ Some old) (rows : List Row)
@@ -62,7 +65,8 @@ module _ (olds : List SectionTree) (in_interfaces : interface_broken olds ≡ []
   entry_promised : (e : Entry × Proto) → IsAmong e entries →
       promised e.1.name (function_named e.1.name t.functions) ≡ e.1
   entry_promised e there =
-      let m : IsMade e.1 t.functions = made interface_rules rows entries t.functions t.are_functions own_distinct e there in
+      let m : IsMade e.1 t.functions =
+      made interface_rules rows entries t.functions t.are_functions own_distinct e there in
       ap (promised e.1.name) m.found ∙ made_promised e.1 m.line m.close m.body
 
   protos_same : map (proto_of new) new.exports ≡ map (proto_of old) old.exports
@@ -77,9 +81,11 @@ module _ (olds : List SectionTree) (in_interfaces : interface_broken olds ≡ []
   -- imports
 
   alike_next : (line : ImportLine) (lines : List ImportLine) (r : IsResolved olds number old line) →
-      ((others : List ImportLine) → AreImports interface_rules (uses interface_rules (map (import_of olds number) lines)) others →
+      ((others : List ImportLine) → AreImports interface_rules
+      (uses interface_rules (map (import_of olds number) lines)) others →
       AreAlike lines others) → (others : List ImportLine) →
-      ImportsBy interface_rules ((import_of olds number line, r.f) ∷ uses interface_rules (map (import_of olds number) lines)) others →
+      ImportsBy interface_rules ((import_of olds number line, r.f) ∷ uses interface_rules
+      (map (import_of olds number) lines)) others →
       AreAlike (line ∷ lines) others
   alike_next line lines r rest [] h = absurd h
   alike_next line lines r rest (b ∷ others) h = (
@@ -95,11 +101,13 @@ module _ (olds : List SectionTree) (in_interfaces : interface_broken olds ≡ []
   alike_none (b ∷ others) h = absurd h
 
   alike_from : (lines : List ImportLine) → Each (IsResolved olds number old) lines → (others : List ImportLine) →
-      AreImports interface_rules (uses interface_rules (map (import_of olds number) lines)) others → AreAlike lines others
+      AreImports interface_rules (uses interface_rules (map (import_of olds number) lines)) others →
+      AreAlike lines others
   alike_from [] rs others h = alike_none others (imports_by interface_rules [] others h)
   alike_from (line ∷ lines) rs others h =
       alike_next line lines rs.0 (alike_from lines rs.1) others
-      (imports_by interface_rules ((import_of olds number line, rs.0.f) ∷ uses interface_rules (map (import_of olds number) lines)) others
+      (imports_by interface_rules ((import_of olds number line, rs.0.f) ∷ uses interface_rules
+      (map (import_of olds number) lines)) others
       (subst (λ o. AreImports interface_rules (use_of (import_of olds number line) o
       (uses interface_rules (map (import_of olds number) lines))) others) rs.0.is h))
 
@@ -176,7 +184,8 @@ module _ (olds : List SectionTree) (in_interfaces : interface_broken olds ≡ []
         own_there : among (entry_names entries) head.name ≡ true
         own_there =
             ap (λ ns. among ns head.name) (sym new_names ∙ own_names) ∙
-            among_prefix (export_names old) (if number == interface_rules.main then main_name ∷ [] else []) head.name there
+            among_prefix (export_names old) (if number == interface_rules.main then main_name ∷ [] else []) head.name
+            there
 
         all_exports : Each (Agrees head) exports
         all_exports =

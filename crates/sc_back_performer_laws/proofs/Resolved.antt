@@ -1,20 +1,22 @@
 -- What the import lines of a text that keeps the rules lead to.
-use Rattle.sc_back_performer_laws.proofs.Common.{Bool, Decl, Each, ExportFacts, ExportLine, InterfaceFacts, FoundBy, FoundFunction}
-use Rattle.sc_back_performer_laws.proofs.Common.{FunctionTree, HeadTree, Import, ImportLine, Interface, Interfaces, List}
-use Rattle.sc_back_performer_laws.proofs.Common.{Offering, Proto, SectionTree, Some, [], agree, agree_left, agree_symm}
-use Rattle.sc_back_performer_laws.proofs.Common.{agrees_as, agrees_there, agrees_with, and_first, and_rest, ap, arith}
-use Rattle.sc_back_performer_laws.proofs.Common.{back_empty, bytes_eq, bytes_eq_self, callees_of, comp_is, concat, counts_broken}
-use Rattle.sc_back_performer_laws.proofs.Common.{crossing, defines_main, each_at, each_empty, environment, export_is, false}
-use Rattle.sc_back_performer_laws.proofs.Common.{false≢true, find_offering, found_by, prefix_empty, functions_in, g, globals_in}
-use Rattle.sc_back_performer_laws.proofs.Common.{head_crosses, head_of, heads_in, if◌then◌else◌, implied, import_of, imported}
+use Rattle.sc_back_performer_laws.proofs.Common.{Bool, Decl, Each, ExportFacts, ExportLine, FoundBy, FoundFunction}
+use Rattle.sc_back_performer_laws.proofs.Common.{FunctionTree, HeadTree, Import, ImportLine, Interface, InterfaceFacts}
+use Rattle.sc_back_performer_laws.proofs.Common.{Interfaces, List, Offering, Proto, SectionTree, Some, [], agree}
+use Rattle.sc_back_performer_laws.proofs.Common.{agree_left, agree_symm, agrees_as, agrees_there, agrees_with}
+use Rattle.sc_back_performer_laws.proofs.Common.{and_first, and_rest, ap, arith, back_empty, bytes_eq, bytes_eq_self}
+use Rattle.sc_back_performer_laws.proofs.Common.{callees_of, comp_is, concat, counts_broken, crossing, defines_main}
+use Rattle.sc_back_performer_laws.proofs.Common.{each_at, each_empty, environment, export_is, false, false≢true}
+use Rattle.sc_back_performer_laws.proofs.Common.{find_offering, found_by, functions_in, g, globals_in, head_crosses}
+use Rattle.sc_back_performer_laws.proofs.Common.{head_of, heads_in, if◌then◌else◌, implied, import_of, imported}
 use Rattle.sc_back_performer_laws.proofs.Common.{input_name, input_proto, interface_broken, interfaces_of, is_at_most}
-use Rattle.sc_back_performer_laws.proofs.Common.{is_environment, is_input, is_offered, is_output, is_plain, is_some, length}
-use Rattle.sc_back_performer_laws.proofs.Common.{length-map, line_of_text, lines_from, list_any, map, map_empty}
-use Rattle.sc_back_performer_laws.proofs.Common.{most_compartments, most_exports, most_nodes, most_params, nat_le, none_beyond}
-use Rattle.sc_back_performer_laws.proofs.Common.{none_some, not, number_or_zero, offered, offering, option_map_or, output_name}
-use Rattle.sc_back_performer_laws.proofs.Common.{output_proto, owner_name, param_of, promised, promised_name, refl, rule_holds}
-use Rattle.sc_back_performer_laws.proofs.Common.{same_Some, same_text, scalar_of, section_lines, slice_get, structs_in, subst}
-use Rattle.sc_back_performer_laws.proofs.Common.{suc, sym, true, unless, zero, ℕ, ◌&&◌, ◌++◌, ◌+◌, ◌==◌, ◌||◌, ◌∙◌, ◌∷◌, ◌≡◌}
+use Rattle.sc_back_performer_laws.proofs.Common.{is_environment, is_input, is_offered, is_output, is_plain, is_some}
+use Rattle.sc_back_performer_laws.proofs.Common.{length, length-map, line_of_text, lines_from, list_any, map, map_empty}
+use Rattle.sc_back_performer_laws.proofs.Common.{most_compartments, most_exports, most_nodes, most_params, nat_le}
+use Rattle.sc_back_performer_laws.proofs.Common.{none_beyond, none_some, not, number_or_zero, offered, offering}
+use Rattle.sc_back_performer_laws.proofs.Common.{option_map_or, output_name, output_proto, owner_name, param_of}
+use Rattle.sc_back_performer_laws.proofs.Common.{prefix_empty, promised, promised_name, refl, rule_holds, same_Some}
+use Rattle.sc_back_performer_laws.proofs.Common.{same_text, scalar_of, section_lines, slice_get, structs_in, subst, suc}
+use Rattle.sc_back_performer_laws.proofs.Common.{sym, true, unless, zero, ℕ, ◌&&◌, ◌++◌, ◌+◌, ◌==◌, ◌||◌, ◌∙◌, ◌∷◌, ◌≡◌}
 use Rattle.sc_back_performer_laws.proofs.Common.{◌≤◌}
 use Rattle.sc_types_scope.specs.Prelude.{proto_of}
 use Rattle.sc_event.specs.declared.interface.Import.TheVariants as import
@@ -125,7 +127,8 @@ module _ (olds : List SectionTree) where
         subst (λ n. AreRules olds n section) (plus_none j)
         (rules_from 0 [] olds j section (prefix_empty _ _ in_interfaces) got)
 
-    abbrev pub facts_at : (j : ℕ) (section : SectionTree) → slice_get olds j ≡ Some section → InterfaceFacts olds j section
+    abbrev pub facts_at : (j : ℕ) (section : SectionTree) → slice_get olds j ≡ Some section →
+        InterfaceFacts olds j section
     facts_at = hold olds in_interfaces
 
     pub counted_at : (j : ℕ) (section : SectionTree) → slice_get olds j ≡ Some section →

@@ -1,10 +1,11 @@
 -- The statements of a performing section break no rule of names.
-use Rattle.sc_back_performer_laws.proofs.Common.{Binary, Bool, CallTree, Equal, ExprTree, Int, Interfaces, Known, List, Minus}
-use Rattle.sc_back_performer_laws.proofs.Common.{None, Option, Proto, Row, Scalar, Some, StmtTree, Sub, Text, Unary, Unsigned}
-use Rattle.sc_back_performer_laws.proofs.Common.{Variable, [], action_kind, and_from, ap, ap₂, call_kind, call_known}
-use Rattle.sc_back_performer_laws.proofs.Common.{counter_name, expr_known, false, if◌then◌else◌, is_callable, list_all, literal}
-use Rattle.sc_back_performer_laws.proofs.Common.{nat_le, refl, return_kind, rules, stmt_lines, suc, true, unless, value_tree}
-use Rattle.sc_back_performer_laws.proofs.Common.{value_trees, ℕ, ◌++◌, ◌-◌, ◌==◌, ◌^◌, ◌∙◌, ◌∷◌, ◌≡◌}
+use Rattle.sc_back_performer_laws.proofs.Common.{Binary, Bool, CallTree, Equal, ExprTree, Int, Interfaces, Known, List}
+use Rattle.sc_back_performer_laws.proofs.Common.{Minus, None, Option, Proto, Row, Scalar, Some, StmtTree, Sub, Text}
+use Rattle.sc_back_performer_laws.proofs.Common.{Unary, Unsigned, Variable, [], action_kind, and_from, ap, ap₂}
+use Rattle.sc_back_performer_laws.proofs.Common.{call_kind, call_known, counter_name, expr_known, false, if◌then◌else◌}
+use Rattle.sc_back_performer_laws.proofs.Common.{is_callable, list_all, literal, nat_le, refl, return_kind, rules}
+use Rattle.sc_back_performer_laws.proofs.Common.{stmt_lines, suc, true, unless, value_tree, value_trees, ℕ, ◌++◌, ◌-◌}
+use Rattle.sc_back_performer_laws.proofs.Common.{◌==◌, ◌^◌, ◌∙◌, ◌∷◌, ◌≡◌}
 use Rattle.sc_ast.specs.declared.expr.ExprTree as exprs
 use Rattle.sc_ast.specs.declared.stmt.StmtKind as kinds
 use Rattle.sc_ast.specs.declared.stmt.StmtTree as stmts

@@ -1,11 +1,13 @@
 -- The names of a performing section: they are distinct, and none is one of its own variables.
-use Rattle.sc_back_performer_laws.proofs.Common.{AllByRecursion, Entry, FunctionTree, HeadTree, Import, ImportLine, Interface}
-use Rattle.sc_back_performer_laws.proofs.Common.{Interfaces, IsPerformer, IsUsable, List, Proto, Row, SectionTree, Text, []}
-use Rattle.sc_back_performer_laws.proofs.Common.{all_of, among, ap, ap₂, are_distinct, bytes_eq, bytes_eq_self, function_names}
-use Rattle.sc_back_performer_laws.proofs.Common.{import_names, map, map-append, map_twice, names_of, or_left, or_right}
-use Rattle.sc_back_performer_laws.proofs.Common.{recursion_from_All, refl, subst, sym, true, used, ℕ, ◌++◌, ◌∙◌, ◌∷◌, ◌≡◌}
-use Rattle.sc_back_performer_laws.proofs.BackTree.{AreFunctions, AreHeads, AreImports, IsBackTree, and_function, and_head}
-use Rattle.sc_back_performer_laws.proofs.BackTree.{and_import, counter_at, entries_of, no_functions, no_heads, no_imports, uses}
+use Rattle.sc_back_performer_laws.proofs.Common.{AllByRecursion, Entry, FunctionTree, HeadTree, Import, ImportLine}
+use Rattle.sc_back_performer_laws.proofs.Common.{Interface, Interfaces, IsPerformer, IsUsable, List, Proto, Row}
+use Rattle.sc_back_performer_laws.proofs.Common.{SectionTree, Text, [], all_of, among, ap, ap₂, are_distinct, bytes_eq}
+use Rattle.sc_back_performer_laws.proofs.Common.{bytes_eq_self, function_names, import_names, map, map-append}
+use Rattle.sc_back_performer_laws.proofs.Common.{map_twice, names_of, or_left, or_right, recursion_from_All, refl}
+use Rattle.sc_back_performer_laws.proofs.Common.{subst, sym, true, used, ℕ, ◌++◌, ◌∙◌, ◌∷◌, ◌≡◌}
+use Rattle.sc_back_performer_laws.proofs.BackTree.{AreFunctions, AreHeads, AreImports, IsBackTree, and_function}
+use Rattle.sc_back_performer_laws.proofs.BackTree.{and_head, and_import, counter_at, entries_of, no_functions, no_heads}
+use Rattle.sc_back_performer_laws.proofs.BackTree.{no_imports, uses}
 use Rattle.sc_back_performer_laws.proofs.Declared.{all_functions}
 use Rattle.sc_back_performer_laws.proofs.Uses.{IsAmong, entries_protos, first, later, protos_of, used_protos}
 

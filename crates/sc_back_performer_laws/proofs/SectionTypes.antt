@@ -1,18 +1,20 @@
 -- What names stand for in a performing section.
-use Rattle.sc_back_performer_laws.proofs.Common.{Callees, FunctionTree, GlobalTree, HeadTree, Import, ImportLine, Int, Interface}
-use Rattle.sc_back_performer_laws.proofs.Common.{Interfaces, IsPerformer, List, None, Option, Param, Proto, Row, Scalar}
-use Rattle.sc_back_performer_laws.proofs.Common.{SectionTree, Some, StmtTree, StructTree, Text, TypedParam, Unsigned, [], among}
-use Rattle.sc_back_performer_laws.proofs.Common.{ap, ap₂, are_distinct, arith, bytes_eq, bytes_eq_self, callees_of, codes, cond}
-use Rattle.sc_back_performer_laws.proofs.Common.{counter_name, decimal, digits_decimal, drop, false, false≢true, found_in}
-use Rattle.sc_back_performer_laws.proofs.Common.{function_named, function_names, function_params, functions_in, global_variable}
-use Rattle.sc_back_performer_laws.proofs.Common.{globals_in, head_named, heads_in, if◌then◌else◌, import_named, import_of}
-use Rattle.sc_back_performer_laws.proofs.Common.{import_target, imported_target, inl, inr, is_some, length, map, number_of}
-use Rattle.sc_back_performer_laws.proofs.Common.{option_and_then, option_map, or_first, or_parts, param_name, param_ty, position}
-use Rattle.sc_back_performer_laws.proofs.Common.{position-cons, proto_params, proto_signature, refl, result_of, result_ty}
-use Rattle.sc_back_performer_laws.proofs.Common.{same_either_way, same_text, scalar_ty, scope_in, signature_by, struct_names}
-use Rattle.sc_back_performer_laws.proofs.Common.{structs, structs_in, subst, suc, sym, target_or, true, type_name, type_of}
-use Rattle.sc_back_performer_laws.proofs.Common.{type_of_name, typed_function, typed_param, typed_stmt, visible_of, ℕ, ◌++◌, ◌+◌}
-use Rattle.sc_back_performer_laws.proofs.Common.{◌<◌, ◌^◌, ◌∙◌, ◌∷◌, ◌≡◌, ◌≤◌, ◌⊎◌}
+use Rattle.sc_back_performer_laws.proofs.Common.{Callees, FunctionTree, GlobalTree, HeadTree, Import, ImportLine, Int}
+use Rattle.sc_back_performer_laws.proofs.Common.{Interface, Interfaces, IsPerformer, List, None, Option, Param, Proto}
+use Rattle.sc_back_performer_laws.proofs.Common.{Row, Scalar, SectionTree, Some, StmtTree, StructTree, Text, TypedParam}
+use Rattle.sc_back_performer_laws.proofs.Common.{Unsigned, [], among, ap, ap₂, are_distinct, arith, bytes_eq}
+use Rattle.sc_back_performer_laws.proofs.Common.{bytes_eq_self, callees_of, codes, cond, counter_name, decimal}
+use Rattle.sc_back_performer_laws.proofs.Common.{digits_decimal, drop, false, false≢true, found_in, function_named}
+use Rattle.sc_back_performer_laws.proofs.Common.{function_names, function_params, functions_in, global_variable}
+use Rattle.sc_back_performer_laws.proofs.Common.{globals_in, head_named, heads_in, if◌then◌else◌, import_named}
+use Rattle.sc_back_performer_laws.proofs.Common.{import_of, import_target, imported_target, inl, inr, is_some, length}
+use Rattle.sc_back_performer_laws.proofs.Common.{map, number_of, option_and_then, option_map, or_first, or_parts}
+use Rattle.sc_back_performer_laws.proofs.Common.{param_name, param_ty, position, position-cons, proto_params}
+use Rattle.sc_back_performer_laws.proofs.Common.{proto_signature, refl, result_of, result_ty, same_either_way}
+use Rattle.sc_back_performer_laws.proofs.Common.{same_text, scalar_ty, scope_in, signature_by, struct_names, structs}
+use Rattle.sc_back_performer_laws.proofs.Common.{structs_in, subst, suc, sym, target_or, true, type_name, type_of}
+use Rattle.sc_back_performer_laws.proofs.Common.{type_of_name, typed_function, typed_param, typed_stmt, visible_of, ℕ}
+use Rattle.sc_back_performer_laws.proofs.Common.{◌++◌, ◌+◌, ◌<◌, ◌^◌, ◌∙◌, ◌∷◌, ◌≡◌, ◌≤◌, ◌⊎◌}
 use Rattle.std.proofs.lemmas.Str.Parse.{IsNumeralModel, numerals_by_value, tells_all_ascii_digits}
 use Rattle.std.specs.Str.{all_ascii_digits}
 use Rattle.std.specs.Str.Parse.{digits_value}
@@ -23,8 +25,8 @@ use Rattle.sc_back_performer_laws.proofs.BackTree.{function_at, head_at, import_
 use Rattle.sc_back_performer_laws.proofs.Declared.{all_functions, all_globals, all_heads, all_structs, heads_of}
 use Rattle.sc_back_performer_laws.proofs.Distinct.{apart, back_distinct, first_new, is_false, not_both, rest_distinct}
 use Rattle.sc_back_performer_laws.proofs.Judging.{scope}
-use Rattle.sc_back_performer_laws.proofs.SectionFacts.{distinct_names, entries, entry_names, functions_named, imported_uses}
-use Rattle.sc_back_performer_laws.proofs.SectionFacts.{names_defined, tree_names, use_named, use_names}
+use Rattle.sc_back_performer_laws.proofs.SectionFacts.{distinct_names, entries, entry_names, functions_named}
+use Rattle.sc_back_performer_laws.proofs.SectionFacts.{imported_uses, names_defined, tree_names, use_named, use_names}
 use Rattle.sc_back_performer_laws.proofs.TypedRows.{HasSignatures}
 use Rattle.sc_back_performer_laws.proofs.TypedTrees.{visible}
 use Rattle.sc_back_performer_laws.proofs.Uses.{IsAmong, is_first_or_later, none_among}

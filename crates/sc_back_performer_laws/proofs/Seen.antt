@@ -1,10 +1,10 @@
 -- Sections of two texts of which other sections see the same: names, exports and imports.
 use Rattle.sc_back_performer_laws.proofs.Common.{Bool, HeadTree, ImportLine, List, SectionTree, Some, [], agrees_there}
-use Rattle.sc_back_performer_laws.proofs.Common.{agrees_with, all_hold, among, and_rest, ap, bytes_eq, codes, defines_main}
-use Rattle.sc_back_performer_laws.proofs.Common.{environment, export_names, false, heads_in, if◌then◌else◌, import_of}
-use Rattle.sc_back_performer_laws.proofs.Common.{interface_of, interfaces_from, interfaces_of, is_some, main_from, map, not}
-use Rattle.sc_back_performer_laws.proofs.Common.{number_of, number_or_zero, offered, offering, offers, refl, subst, suc, true, ℕ}
-use Rattle.sc_back_performer_laws.proofs.Common.{◌==◌, ◌∙◌, ◌∷◌, ◌≡◌}
+use Rattle.sc_back_performer_laws.proofs.Common.{agrees_with, all_hold, among, and_rest, ap, bytes_eq, codes}
+use Rattle.sc_back_performer_laws.proofs.Common.{defines_main, environment, export_names, false, heads_in}
+use Rattle.sc_back_performer_laws.proofs.Common.{if◌then◌else◌, import_of, interface_of, interfaces_from, interfaces_of}
+use Rattle.sc_back_performer_laws.proofs.Common.{is_some, main_from, map, not, number_of, number_or_zero, offered}
+use Rattle.sc_back_performer_laws.proofs.Common.{offering, offers, refl, subst, suc, true, ℕ, ◌==◌, ◌∙◌, ◌∷◌, ◌≡◌}
 use Rattle.sc_types_scope.specs.Prelude.{proto_of}
 use Rattle.sc_event.specs.declared.interface.Import.TheVariants as import
 

@@ -1,18 +1,20 @@
 -- A section that is kept among sections of which it sees the same is typed as before, and breaks no more rules.
-use Rattle.sc_back_performer_laws.proofs.Common.{Bool, Decl, Each, ExportLine, Function, Global, HeadTree, ImportLine, List}
-use Rattle.sc_back_performer_laws.proofs.Common.{None, Option, SectionTree, Some, Struct, Text, [], agrees_as, agrees_there}
-use Rattle.sc_back_performer_laws.proofs.Common.{among, and_first, and_from, and_rest, ap, back_empty, bytes_eq, callees_of}
-use Rattle.sc_back_performer_laws.proofs.Common.{decls_from, environment, environment_offers, export_holds, exports_from, false}
-use Rattle.sc_back_performer_laws.proofs.Common.{prefix_empty, function_names, head_holds, head_of, if◌then◌else◌, import_fits}
-use Rattle.sc_back_performer_laws.proofs.Common.{import_holds, import_named, import_target, imported_agrees, imported_target}
-use Rattle.sc_back_performer_laws.proofs.Common.{imports_from, input_name, is_environment, is_input, is_new, is_offered}
-use Rattle.sc_back_performer_laws.proofs.Common.{is_output, is_plain, list_all, main_holds, not, number_of, offering}
-use Rattle.sc_back_performer_laws.proofs.Common.{output_name, proto_names, refl, rule_holds, same_text, subst, sym, target_or}
-use Rattle.sc_back_performer_laws.proofs.Common.{true, typed_section, unless, ℕ, ◌&&◌, ◌++◌, ◌||◌, ◌∙◌, ◌∷◌, ◌≡◌}
+use Rattle.sc_back_performer_laws.proofs.Common.{Bool, Decl, Each, ExportLine, Function, Global, HeadTree, ImportLine}
+use Rattle.sc_back_performer_laws.proofs.Common.{List, None, Option, SectionTree, Some, Struct, Text, [], agrees_as}
+use Rattle.sc_back_performer_laws.proofs.Common.{agrees_there, among, and_first, and_from, and_rest, ap, back_empty}
+use Rattle.sc_back_performer_laws.proofs.Common.{bytes_eq, callees_of, decls_from, environment, environment_offers}
+use Rattle.sc_back_performer_laws.proofs.Common.{export_holds, exports_from, false, function_names, head_holds, head_of}
+use Rattle.sc_back_performer_laws.proofs.Common.{if◌then◌else◌, import_fits, import_holds, import_named, import_target}
+use Rattle.sc_back_performer_laws.proofs.Common.{imported_agrees, imported_target, imports_from, input_name}
+use Rattle.sc_back_performer_laws.proofs.Common.{is_environment, is_input, is_new, is_offered, is_output, is_plain}
+use Rattle.sc_back_performer_laws.proofs.Common.{list_all, main_holds, not, number_of, offering, output_name}
+use Rattle.sc_back_performer_laws.proofs.Common.{prefix_empty, proto_names, refl, rule_holds, same_text, subst, sym}
+use Rattle.sc_back_performer_laws.proofs.Common.{target_or, true, typed_section, unless, ℕ, ◌&&◌, ◌++◌, ◌||◌, ◌∙◌, ◌∷◌}
+use Rattle.sc_back_performer_laws.proofs.Common.{◌≡◌}
 use Rattle.sc_ast.specs.declared.section.Decl.TheVariants.{Proto}
 use Rattle.sc_types_elab.specs.Sections as elab
-use Rattle.sc_back_performer_laws.proofs.Seen.{AreAlike, AreSeenAs, IsAlike, IsSeenAs, agrees_there_too, alike_self, import_same}
-use Rattle.sc_back_performer_laws.proofs.Seen.{some_same}
+use Rattle.sc_back_performer_laws.proofs.Seen.{AreAlike, AreSeenAs, IsAlike, IsSeenAs, agrees_there_too, alike_self}
+use Rattle.sc_back_performer_laws.proofs.Seen.{import_same, some_same}
 
 -- a section at another line of the text
 abbrev pub moved : ℕ → SectionTree → SectionTree

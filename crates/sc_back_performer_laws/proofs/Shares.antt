@@ -1,7 +1,8 @@
 -- The rows of all entries are no more than the rows.
-use Rattle.sc_back_performer_laws.proofs.Common.{Action, Bool, Entry, Export, Interface, Interfaces, List, Main, Proto, Row, []}
-use Rattle.sc_back_performer_laws.proofs.Common.{ap₂, arith, eqb-true, false, filter, if◌then◌else◌, is_of, length, main_proto}
-use Rattle.sc_back_performer_laws.proofs.Common.{map, refl, suc, total, true, ℕ, ◌++◌, ◌+◌, ◌<◌, ◌==◌, ◌∙◌, ◌∷◌, ◌≡◌, ◌≤◌}
+use Rattle.sc_back_performer_laws.proofs.Common.{Action, Bool, Entry, Export, Interface, Interfaces, List, Main, Proto}
+use Rattle.sc_back_performer_laws.proofs.Common.{Row, [], ap₂, arith, eqb-true, false, filter, if◌then◌else◌, is_of}
+use Rattle.sc_back_performer_laws.proofs.Common.{length, main_proto, map, refl, suc, total, true, ℕ, ◌++◌, ◌+◌, ◌<◌}
+use Rattle.sc_back_performer_laws.proofs.Common.{◌==◌, ◌∙◌, ◌∷◌, ◌≡◌, ◌≤◌}
 use Rattle.sc_back_performer_laws.proofs.BackTree.{entries_from, entries_of, main_entries}
 
 abbrev one_if : Bool → ℕ

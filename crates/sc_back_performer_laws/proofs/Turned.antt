@@ -1,12 +1,13 @@
 -- What becomes of sections whose compartments perform their parts of a trace.
-use Rattle.sc_back_performer_laws.proofs.Common.{All, All-from_recursion, AllBecome, AllByRecursion, Becomes, Bool, Each, Event}
-use Rattle.sc_back_performer_laws.proofs.Common.{HasReplaced, HasWords, ImportLine, Interfaces, IsImportedAs, IsPerformer}
-use Rattle.sc_back_performer_laws.proofs.Common.{IsRecomposed, List, Row, SameButLines, SectionTree, Some, [], ap, arith}
-use Rattle.sc_back_performer_laws.proofs.Common.{back_tree, callees_of, comp_is, counts_broken, false, false≢true, import_of}
-use Rattle.sc_back_performer_laws.proofs.Common.{interface_broken, interface_of, interfaces_of, kept, legal, length, map}
-use Rattle.sc_back_performer_laws.proofs.Common.{owner_name, part, program_of, refl, replaced, same_Some, sections_from}
-use Rattle.sc_back_performer_laws.proofs.Common.{slice_get, subst, suc, sym, true, typed_section, zero, ℕ, ◌+◌, ◌<◌, ◌∙◌, ◌∷◌}
-use Rattle.sc_back_performer_laws.proofs.Common.{◌≡◌, ◌≤◌}
+use Rattle.sc_back_performer_laws.proofs.Common.{All, All-from_recursion, AllBecome, AllByRecursion, Becomes, Bool}
+use Rattle.sc_back_performer_laws.proofs.Common.{Each, Event, HasReplaced, HasWords, ImportLine, Interfaces}
+use Rattle.sc_back_performer_laws.proofs.Common.{IsImportedAs, IsPerformer, IsRecomposed, List, Row, SameButLines}
+use Rattle.sc_back_performer_laws.proofs.Common.{SectionTree, Some, [], ap, arith, back_tree, callees_of, comp_is}
+use Rattle.sc_back_performer_laws.proofs.Common.{counts_broken, false, false≢true, import_of, interface_broken}
+use Rattle.sc_back_performer_laws.proofs.Common.{interface_of, interfaces_of, kept, legal, length, map, owner_name}
+use Rattle.sc_back_performer_laws.proofs.Common.{part, program_of, refl, replaced, same_Some, sections_from, slice_get}
+use Rattle.sc_back_performer_laws.proofs.Common.{subst, suc, sym, true, typed_section, zero, ℕ, ◌+◌, ◌<◌, ◌∙◌, ◌∷◌, ◌≡◌}
+use Rattle.sc_back_performer_laws.proofs.Common.{◌≤◌}
 use Rattle.sc_back_performer_laws.proofs.Fitting.{all_resolved, can_perform}
 use Rattle.sc_back_performer_laws.proofs.Replaced.{rows_perform}
 use Rattle.sc_back_performer_laws.proofs.ReplacedSeen.{seen}

@@ -1,12 +1,14 @@
 -- The rows of a performing section with their types.
-use Rattle.sc_back_performer_laws.proofs.Common.{Action, Binary, Callees, Equal, Import, Int, Interface, Interfaces, IsPerformer}
-use Rattle.sc_back_performer_laws.proofs.Common.{List, MayDo, None, Option, Param, Proto, Row, Scalar, Some, StmtTree}
-use Rattle.sc_back_performer_laws.proofs.Common.{TypedParam, TypedStmt, TypedStmtKind, Unsigned, Variable, [], action_kind, ap}
-use Rattle.sc_back_performer_laws.proofs.Common.{call_kind, calls_out, counter, counter_is, counter_name, export_at, false}
-use Rattle.sc_back_performer_laws.proofs.Common.{false≢true, found_in, going_to_all, imports, input_proto, int_expr, is_function}
-use Rattle.sc_back_performer_laws.proofs.Common.{length, map, option_map_or, or_int, output_proto, params_of, proto_signature}
-use Rattle.sc_back_performer_laws.proofs.Common.{refl, result_ty, scalar_ty, stmt_at, subst, suc, sym, true, typed, typed_stmt}
-use Rattle.sc_back_performer_laws.proofs.Common.{value_tree, value_trees, waits, word_expr, word_exprs, ℕ, ◌==◌, ◌∙◌, ◌∷◌, ◌≡◌}
+use Rattle.sc_back_performer_laws.proofs.Common.{Action, Binary, Callees, Equal, Import, Int, Interface, Interfaces}
+use Rattle.sc_back_performer_laws.proofs.Common.{IsPerformer, List, MayDo, None, Option, Param, Proto, Row, Scalar}
+use Rattle.sc_back_performer_laws.proofs.Common.{Some, StmtTree, TypedParam, TypedStmt, TypedStmtKind, Unsigned}
+use Rattle.sc_back_performer_laws.proofs.Common.{Variable, [], action_kind, ap, call_kind, calls_out, counter}
+use Rattle.sc_back_performer_laws.proofs.Common.{counter_is, counter_name, export_at, false, false≢true, found_in}
+use Rattle.sc_back_performer_laws.proofs.Common.{going_to_all, imports, input_proto, int_expr, is_function, length, map}
+use Rattle.sc_back_performer_laws.proofs.Common.{option_map_or, or_int, output_proto, params_of, proto_signature, refl}
+use Rattle.sc_back_performer_laws.proofs.Common.{result_ty, scalar_ty, stmt_at, subst, suc, sym, true, typed}
+use Rattle.sc_back_performer_laws.proofs.Common.{typed_stmt, value_tree, value_trees, waits, word_expr, word_exprs, ℕ}
+use Rattle.sc_back_performer_laws.proofs.Common.{◌==◌, ◌∙◌, ◌∷◌, ◌≡◌}
 use Rattle.sc_event.specs.declared.interface.Import.TheVariants as import
 use Rattle.sc_event.specs.declared.row.Action.TheVariants as action
 use Rattle.sc_ast.specs.declared.stmt.StmtKind.TheVariants as stmt
@@ -15,8 +17,8 @@ use Rattle.sc_core.specs.declared.ty.Ty.TheVariants as ty
 use Rattle.sc_back_replay_laws.specs.Texts.{literal}
 use Rattle.sc_back_performer_laws.proofs.BackTree.{IsBackBody, does, ends, row_at, uses}
 use Rattle.sc_back_performer_laws.proofs.BackTree as back
-use Rattle.sc_back_performer_laws.proofs.TypedTrees.{assign_at, call_at, goes, if_at, return_at, typed_test, typed_value}
-use Rattle.sc_back_performer_laws.proofs.TypedTrees.{typed_values, value_at, visible, while_at}
+use Rattle.sc_back_performer_laws.proofs.TypedTrees.{assign_at, call_at, goes, if_at, return_at, typed_test}
+use Rattle.sc_back_performer_laws.proofs.TypedTrees.{typed_value, typed_values, value_at, visible, while_at}
 use Rattle.sc_back_performer_laws.proofs.Uses.{AllFit, IsAmong, calls_use, input_use, output_use}
 
 -- what a statement does that performs an action, where calls lead where their names do

@@ -1,12 +1,13 @@
 -- The expressions and statements of a performing section with their types.
-use Rattle.sc_back_performer_laws.proofs.Common.{Binary, Bool, CallTree, Callees, Equal, ExprTree, Int, List, Minus, None}
-use Rattle.sc_back_performer_laws.proofs.Common.{Option, Param, Scalar, Some, StmtTree, Sub, Ty, TypedExpr, TypedParam}
-use Rattle.sc_back_performer_laws.proofs.Common.{TypedStmtKind, Unary, Unsigned, Variable, Visible, [], ap, ap₂, arith}
-use Rattle.sc_back_performer_laws.proofs.Common.{calls_out, counter, counter_is, counter_name, eqb-true, false, found, found_in}
-use Rattle.sc_back_performer_laws.proofs.Common.{going_to, going_to_all, if◌then◌else◌, int_expr, least_int, leb-true, literal}
-use Rattle.sc_back_performer_laws.proofs.Common.{map, minus, nat_le, or_else, refl, rules, scalar_ty, stmt_at, true, typed}
-use Rattle.sc_back_performer_laws.proofs.Common.{typed_call, typed_stmt, value_tree, value_trees, waits, word_expr, word_exprs}
-use Rattle.sc_back_performer_laws.proofs.Common.{ℕ, ◌-◌, ◌==◌, ◌^◌, ◌∙◌, ◌∷◌, ◌≡◌}
+use Rattle.sc_back_performer_laws.proofs.Common.{Binary, Bool, CallTree, Callees, Equal, ExprTree, Int, List, Minus}
+use Rattle.sc_back_performer_laws.proofs.Common.{None, Option, Param, Scalar, Some, StmtTree, Sub, Ty, TypedExpr}
+use Rattle.sc_back_performer_laws.proofs.Common.{TypedParam, TypedStmtKind, Unary, Unsigned, Variable, Visible, [], ap}
+use Rattle.sc_back_performer_laws.proofs.Common.{ap₂, arith, calls_out, counter, counter_is, counter_name, eqb-true}
+use Rattle.sc_back_performer_laws.proofs.Common.{false, found, found_in, going_to, going_to_all, if◌then◌else◌}
+use Rattle.sc_back_performer_laws.proofs.Common.{int_expr, least_int, leb-true, literal, map, minus, nat_le, or_else}
+use Rattle.sc_back_performer_laws.proofs.Common.{refl, rules, scalar_ty, stmt_at, true, typed, typed_call, typed_stmt}
+use Rattle.sc_back_performer_laws.proofs.Common.{value_tree, value_trees, waits, word_expr, word_exprs, ℕ, ◌-◌, ◌==◌}
+use Rattle.sc_back_performer_laws.proofs.Common.{◌^◌, ◌∙◌, ◌∷◌, ◌≡◌}
 use Rattle.sc_ast.specs.declared.expr.ExprTree as exprs
 use Rattle.sc_ast.specs.declared.stmt.StmtKind as kinds
 use Rattle.sc_ast.specs.declared.stmt.StmtTree as stmts

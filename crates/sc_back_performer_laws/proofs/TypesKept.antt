@@ -1,18 +1,19 @@
 -- A performing section breaks no rule of types.
-use Rattle.sc_back_performer_laws.proofs.Common.{Action, AllByRecursion, Binary, CallTree, Callees, Decides-eqb, Entry, Equal}
-use Rattle.sc_back_performer_laws.proofs.Common.{ExprTree, FunctionTree, HeadTree, Int, Interface, Interfaces, IsPerformer}
-use Rattle.sc_back_performer_laws.proofs.Common.{IsUsable, IsWord, List, MayDo, None, Option, Param, Proto, Row, Scalar}
-use Rattle.sc_back_performer_laws.proofs.Common.{SectionTree, Some, StmtTree, Ty, TypedParam, TypesHold, Unsigned, Variable, []}
-use Rattle.sc_back_performer_laws.proofs.Common.{action_kind, ap, ap₂, args_fit, arith, assign_fits, assign_holds, call_holds}
-use Rattle.sc_back_performer_laws.proofs.Common.{call_kind, callees_of, concat, cond_holds, counter_name, decl_lines, export_at}
-use Rattle.sc_back_performer_laws.proofs.Common.{false, false≢true, filter, found_in, function_lines, goes_into, going_to}
-use Rattle.sc_back_performer_laws.proofs.Common.{going_to_all, imports, input_proto, is_function, is_of, is_scalar, is_some}
-use Rattle.sc_back_performer_laws.proofs.Common.{judged, length, literal, map, not, option_map_or, output_proto, params_of}
-use Rattle.sc_back_performer_laws.proofs.Common.{proto_of, proto_signature, recursion_from_All, refl, result_ty}
-use Rattle.sc_back_performer_laws.proofs.Common.{return_value_holds, rules, scalar_ty, suc, true, typed, unless, value_tree}
-use Rattle.sc_back_performer_laws.proofs.Common.{value_trees, ℕ, ◌++◌, ◌<◌, ◌==◌, ◌^◌, ◌∙◌, ◌∷◌, ◌≡◌}
+use Rattle.sc_back_performer_laws.proofs.Common.{Action, AllByRecursion, Binary, CallTree, Callees, Decides-eqb, Entry}
+use Rattle.sc_back_performer_laws.proofs.Common.{Equal, ExprTree, FunctionTree, HeadTree, Int, Interface, Interfaces}
+use Rattle.sc_back_performer_laws.proofs.Common.{IsPerformer, IsUsable, IsWord, List, MayDo, None, Option, Param, Proto}
+use Rattle.sc_back_performer_laws.proofs.Common.{Row, Scalar, SectionTree, Some, StmtTree, Ty, TypedParam, TypesHold}
+use Rattle.sc_back_performer_laws.proofs.Common.{Unsigned, Variable, [], action_kind, ap, ap₂, args_fit, arith}
+use Rattle.sc_back_performer_laws.proofs.Common.{assign_fits, assign_holds, call_holds, call_kind, callees_of, concat}
+use Rattle.sc_back_performer_laws.proofs.Common.{cond_holds, counter_name, decl_lines, export_at, false, false≢true}
+use Rattle.sc_back_performer_laws.proofs.Common.{filter, found_in, goes_into, going_to, going_to_all, imports}
+use Rattle.sc_back_performer_laws.proofs.Common.{input_proto, is_function, is_of, is_scalar, is_some, judged, length}
+use Rattle.sc_back_performer_laws.proofs.Common.{literal, map, not, option_map_or, output_proto, params_of, proto_of}
+use Rattle.sc_back_performer_laws.proofs.Common.{proto_signature, recursion_from_All, refl, result_ty}
+use Rattle.sc_back_performer_laws.proofs.Common.{return_value_holds, rules, scalar_ty, suc, true, typed, unless}
+use Rattle.sc_back_performer_laws.proofs.Common.{value_tree, value_trees, ℕ, ◌++◌, ◌<◌, ◌==◌, ◌^◌, ◌∙◌, ◌∷◌, ◌≡◌}
 use Rattle.sc_types_elab_stmt.specs.Prelude.{stmt_lines}
-use Rattle.sc_types_elab.specs.Prelude.{section_lines}
+use Rattle.sc_types_elab.specs.Prelude.{function_lines, section_lines}
 use Rattle.sc_event.specs.declared.interface.Import.TheVariants as import
 use Rattle.sc_event.specs.declared.row.Action.TheVariants as action
 use Rattle.sc_ast.specs.declared.expr.ExprTree as exprs
@@ -20,16 +21,18 @@ use Rattle.sc_ast.specs.declared.stmt.StmtKind as kinds
 use Rattle.sc_ast.specs.declared.stmt.StmtKind.TheVariants as stmt
 use Rattle.sc_ast.specs.declared.stmt.StmtTree as stmts
 use Rattle.sc_ast.specs.declared.section.Decl.TheVariants as decl
-use Rattle.sc_back_performer_laws.proofs.BackTree.{AreFunctions, IsBackBody, IsBackTree, and_function, counter_at, does, ends}
-use Rattle.sc_back_performer_laws.proofs.BackTree.{function_at, no_functions, row_at, stmt_at, uses, while_at}
+use Rattle.sc_back_performer_laws.proofs.BackTree.{AreFunctions, IsBackBody, IsBackTree, and_function, counter_at, does}
+use Rattle.sc_back_performer_laws.proofs.BackTree.{ends, function_at, no_functions, row_at, stmt_at, uses, while_at}
 use Rattle.sc_back_performer_laws.proofs.Undone.{back_tree_is}
 use Rattle.sc_back_performer_laws.proofs.Judging.{scope, set_holds, test_holds, wait_holds, word_goes, words_go}
 use Rattle.sc_back_performer_laws.proofs.SectionFacts.{entries, entries_usable}
-use Rattle.sc_back_performer_laws.proofs.SectionTypes.{no_counter, result_is, scope_is, signatures, typed_params, visible_is}
+use Rattle.sc_back_performer_laws.proofs.SectionTypes.{no_counter, result_is, scope_is, signatures, typed_params}
+use Rattle.sc_back_performer_laws.proofs.SectionTypes.{visible_is}
 use Rattle.sc_back_performer_laws.proofs.TypedRows.{HasSignatures}
-use Rattle.sc_back_performer_laws.proofs.TypedTrees.{goes, typed_counter, typed_literal, typed_test, typed_value, typed_values}
-use Rattle.sc_back_performer_laws.proofs.TypedTrees.{typed_word, visible}
-use Rattle.sc_back_performer_laws.proofs.Uses.{AllFit, AreEntries, are_entries, calls_use, input_use, output_use, rows_fit}
+use Rattle.sc_back_performer_laws.proofs.TypedTrees.{goes, typed_counter, typed_literal, typed_test, typed_value}
+use Rattle.sc_back_performer_laws.proofs.TypedTrees.{typed_values, typed_word, visible}
+use Rattle.sc_back_performer_laws.proofs.Uses.{AllFit, AreEntries, are_entries, calls_use, input_use, output_use}
+use Rattle.sc_back_performer_laws.proofs.Uses.{rows_fit}
 
 module _ (params : List TypedParam) (absent : found_in Param params counter_name ≡ None) (types : List Ty)
     (callees : Callees) where

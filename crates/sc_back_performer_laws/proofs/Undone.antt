@@ -1,16 +1,17 @@
 -- A tree that is that of a performing section, lines aside, is that tree with lines.
 use Rattle.sc_back_performer_laws.proofs.Common.{Action, Binary, Bool, Decl, Entry, Equal, Export, ExportLine, ExprTree}
-use Rattle.sc_back_performer_laws.proofs.Common.{FunctionTree, HeadTree, Import, ImportLine, Int, Interface, Interfaces, List}
-use Rattle.sc_back_performer_laws.proofs.Common.{Main, None, Option, Proto, Row, SameButLines, Scalar, SectionTree, Some}
-use Rattle.sc_back_performer_laws.proofs.Common.{StmtKind, StmtTree, Unsigned, Variable, [], action_kind, all_functions, ap, ap₂}
-use Rattle.sc_back_performer_laws.proofs.Common.{back_tree, body_tree, call_kind, cons_option, counter_name, export_at}
-use Rattle.sc_back_performer_laws.proofs.Common.{export_line, false, filter, filter_map, function_tree, function_trees}
-use Rattle.sc_back_performer_laws.proofs.Common.{if◌then◌else◌, imported, input_proto, is_of, lineless_decl, lineless_export}
-use Rattle.sc_back_performer_laws.proofs.Common.{lineless_function, lineless_head, lineless_import, lineless_kind}
-use Rattle.sc_back_performer_laws.proofs.Common.{lineless_local, lineless_stmt, lineless_stmts, literal, main_proto, map}
-use Rattle.sc_back_performer_laws.proofs.Common.{map-append, map_twice, names_of, option_map, option_map_or, out-StmtKind}
-use Rattle.sc_back_performer_laws.proofs.Common.{output_proto, proto_head, refl, return_kind, row_kind, subst, suc, sym, true}
-use Rattle.sc_back_performer_laws.proofs.Common.{unlined, value_tree, ℕ, ◌++◌, ◌==◌, ◌∙◌, ◌∷◌, ◌≡◌}
+use Rattle.sc_back_performer_laws.proofs.Common.{FunctionTree, HeadTree, Import, ImportLine, Int, Interface, Interfaces}
+use Rattle.sc_back_performer_laws.proofs.Common.{List, Main, None, Option, Proto, Row, SameButLines, Scalar}
+use Rattle.sc_back_performer_laws.proofs.Common.{SectionTree, Some, StmtKind, StmtTree, Unsigned, Variable, []}
+use Rattle.sc_back_performer_laws.proofs.Common.{action_kind, all_functions, ap, ap₂, back_tree, body_tree, call_kind}
+use Rattle.sc_back_performer_laws.proofs.Common.{cons_option, counter_name, export_at, export_line, false, filter}
+use Rattle.sc_back_performer_laws.proofs.Common.{filter_map, function_tree, function_trees, if◌then◌else◌, imported}
+use Rattle.sc_back_performer_laws.proofs.Common.{input_proto, is_of, lineless_decl, lineless_export, lineless_function}
+use Rattle.sc_back_performer_laws.proofs.Common.{lineless_head, lineless_import, lineless_kind, lineless_local}
+use Rattle.sc_back_performer_laws.proofs.Common.{lineless_stmt, lineless_stmts, literal, main_proto, map, map-append}
+use Rattle.sc_back_performer_laws.proofs.Common.{map_twice, names_of, option_map, option_map_or, out-StmtKind}
+use Rattle.sc_back_performer_laws.proofs.Common.{output_proto, proto_head, refl, return_kind, row_kind, subst, suc, sym}
+use Rattle.sc_back_performer_laws.proofs.Common.{true, unlined, value_tree, ℕ, ◌++◌, ◌==◌, ◌∙◌, ◌∷◌, ◌≡◌}
 use Rattle.sc_back.specs.Prelude.{counter}
 use Rattle.sc_event.specs.declared.row.Action.TheVariants as action
 use Rattle.sc_ast.proofs.Statements.{bare_stmt}
@@ -18,11 +19,13 @@ use Rattle.sc_ast.specs.declared.stmt.StmtKind.TheOpen as layer
 use Rattle.sc_ast.specs.declared.stmt.StmtKind.TheVariants as stmt
 use Rattle.sc_ast.specs.declared.section.Decl.TheVariants as decl
 use Rattle.sc_ast.specs.declared.section.LocalTree.{LocalTree}
-use Rattle.sc_back_performer_laws.proofs.BareKinds.{IsIf, IsLeaf, IsWhile, if_kind, kind_of_layer, leaf_kind, while_kind}
-use Rattle.sc_back_performer_laws.proofs.BackTree.{AreFunctions, AreHeads, AreImports, IsBackBody, IsBackTree, and_function}
-use Rattle.sc_back_performer_laws.proofs.BackTree.{and_head, and_import, counter_at, does, ends, entries_from, entries_of}
-use Rattle.sc_back_performer_laws.proofs.BackTree.{function_at, head_at, import_at, main_entries, no_functions, no_heads}
-use Rattle.sc_back_performer_laws.proofs.BackTree.{no_imports, row_at, stmt_at, use_of, uses, while_at}
+use Rattle.sc_back_performer_laws.proofs.BareKinds.{IsIf, IsLeaf, IsWhile, if_kind, kind_of_layer, leaf_kind}
+use Rattle.sc_back_performer_laws.proofs.BareKinds.{while_kind}
+use Rattle.sc_back_performer_laws.proofs.BackTree.{AreFunctions, AreHeads, AreImports, IsBackBody, IsBackTree}
+use Rattle.sc_back_performer_laws.proofs.BackTree.{and_function, and_head, and_import, counter_at, does, ends}
+use Rattle.sc_back_performer_laws.proofs.BackTree.{entries_from, entries_of, function_at, head_at, import_at}
+use Rattle.sc_back_performer_laws.proofs.BackTree.{main_entries, no_functions, no_heads, no_imports, row_at, stmt_at}
+use Rattle.sc_back_performer_laws.proofs.BackTree.{use_of, uses, while_at}
 
 -- Lists that begin alike.
 abbrev head_or : {A : Type 0} → A → List A → A

@@ -1,12 +1,13 @@
 -- What the premises say of a section's functions, of what it imports and of its rows.
-use Rattle.sc_back_performer_laws.proofs.Common.{Action, AllByRecursion, Bool, Decides-eqb, Entry, Export, FitsRow, Import}
-use Rattle.sc_back_performer_laws.proofs.Common.{Interface, Interfaces, IsPerformer, IsWord, List, Main, MayDo, None, Option}
-use Rattle.sc_back_performer_laws.proofs.Common.{Proto, Row, Scalar, Some, [], and_first, and_rest, ap, append_assoc, ap₂, arith}
-use Rattle.sc_back_performer_laws.proofs.Common.{cons_option, defined, export_at, false, false≢true, filter, filter_map}
-use Rattle.sc_back_performer_laws.proofs.Common.{get_after, if◌then◌else◌, imported, imports, inl, inr, is_function, is_of}
-use Rattle.sc_back_performer_laws.proofs.Common.{length, length-append, list_any, main_proto, map, map-append, option_and_then}
-use Rattle.sc_back_performer_laws.proofs.Common.{option_map_or, proto_of, recursion_from_All, refl, slice_get, subst, suc, sym}
-use Rattle.sc_back_performer_laws.proofs.Common.{true, used, ℕ, ◌++◌, ◌==◌, ◌||◌, ◌∙◌, ◌∷◌, ◌≡◌, ◌⊎◌}
+use Rattle.sc_back_performer_laws.proofs.Common.{Action, AllByRecursion, Bool, Decides-eqb, Entry, Export, FitsRow}
+use Rattle.sc_back_performer_laws.proofs.Common.{Import, Interface, Interfaces, IsPerformer, IsWord, List, Main, MayDo}
+use Rattle.sc_back_performer_laws.proofs.Common.{None, Option, Proto, Row, Scalar, Some, [], and_first, and_rest, ap}
+use Rattle.sc_back_performer_laws.proofs.Common.{append_assoc, ap₂, arith, cons_option, defined, export_at, false}
+use Rattle.sc_back_performer_laws.proofs.Common.{false≢true, filter, filter_map, get_after, if◌then◌else◌, imported}
+use Rattle.sc_back_performer_laws.proofs.Common.{imports, inl, inr, is_function, is_of, length, length-append, list_any}
+use Rattle.sc_back_performer_laws.proofs.Common.{main_proto, map, map-append, option_and_then, option_map_or, proto_of}
+use Rattle.sc_back_performer_laws.proofs.Common.{recursion_from_All, refl, slice_get, subst, suc, sym, true, used, ℕ}
+use Rattle.sc_back_performer_laws.proofs.Common.{◌++◌, ◌==◌, ◌||◌, ◌∙◌, ◌∷◌, ◌≡◌, ◌⊎◌}
 use Rattle.sc_event.specs.Prelude.{is_input, is_output}
 use Rattle.sc_event.specs.declared.interface.Import.TheVariants.{Function, Input, Output}
 use Rattle.sc_back_performer_laws.proofs.BackTree.{entries_from, entries_of, main_entries, use_of, uses}

@@ -1,7 +1,7 @@
 -- What the section that performs a compartment's part of a trace needs, so that it keeps the rules of its language.
-use Rattle.sc_back_performer_laws.specs.Common.{Interface, Interfaces, IsWord, Row, SectionTree, Text, are_distinct, comp_at}
-use Rattle.sc_back_performer_laws.specs.Common.{fits_result, import_of, imported, imports, is_function, is_input, is_output}
-use Rattle.sc_back_performer_laws.specs.Common.{main_proto, owner_name, proto_of, takes}
+use Rattle.sc_back_performer_laws.specs.Common.{Interface, Interfaces, IsWord, Row, SectionTree, Text, are_distinct}
+use Rattle.sc_back_performer_laws.specs.Common.{comp_at, fits_result, import_of, imported, imports, is_function}
+use Rattle.sc_back_performer_laws.specs.Common.{is_input, is_output, main_proto, owner_name, proto_of, takes}
 use Rattle.sc_types_interfaces.specs.Prelude.{is_plain}
 use Rattle.std.specs.Prelude.{◌≡◌, ℕ, suc, ◌≤◌, ◌==◌, true, if◌then◌else◌, List, [], ◌∷◌, ◌++◌, length, map, All}
 use Rattle.std.specs.Prelude.{Option, Some, None}

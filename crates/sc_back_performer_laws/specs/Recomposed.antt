@@ -1,6 +1,6 @@
 -- The sections of a text in which those of some compartments are replaced by ones that perform their parts of a trace.
-use Rattle.sc_back_performer_laws.specs.Common.{AllBecome, Event, HasWords, IsRecomposed, IsTyped, ProgramTree, SectionTree}
-use Rattle.sc_back_performer_laws.specs.Common.{legal, part, program_of}
+use Rattle.sc_back_performer_laws.specs.Common.{AllBecome, Event, HasWords, IsRecomposed, IsTyped, ProgramTree}
+use Rattle.sc_back_performer_laws.specs.Common.{SectionTree, legal, part, program_of}
 use Rattle.std.specs.Prelude.{◌≡◌, ℕ, ◌<◌, ◌≤◌, Bool, true, List, length, All}
 
 -- a trace that is not too long, which the interfaces allow, with values of 32 bits

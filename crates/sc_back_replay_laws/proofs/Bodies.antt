@@ -1,17 +1,20 @@
 -- Bodies of functions in both runs, from what bodies do with one call less open.
-use Rattle.sc_back_replay_laws.proofs.Common.{Blamed, Body, BodyGoes, Bool, Call, CallTarget, RelatedCalls, Cross, Entry, Event}
-use Rattle.sc_back_replay_laws.proofs.Common.{Export, Function, RelatedFunctions, Here, In, Input, IsFixed, IsSome, Denotations, List}
-use Rattle.sc_back_replay_laws.proofs.Common.{Meets, None, Obedient, Option, Out, Output, Own, Piece, Reached, Roles, Some, State}
-use Rattle.sc_back_replay_laws.proofs.Common.{Step, Stopped, TurnsOut, Value, Word, [], and_first, and_rest, and_then, ap, arith}
-use Rattle.sc_back_replay_laws.proofs.Common.{back_cross, back_own, begun, block_does, c_arith, call_cross, call_own, called}
-use Rattle.sc_back_replay_laws.proofs.Common.{calls, calls_go, count_of, counts_its_own, crossed, done, drop, false, first_word}
-use Rattle.sc_back_replay_laws.proofs.Common.{found, function, related_functions, if◌then◌else◌, imports, inl, inr, is_function}
-use Rattle.sc_back_replay_laws.proofs.Common.{is_word, leads, length, list_all, map, may_call, next_input, now, performer}
-use Rattle.sc_back_replay_laws.proofs.Common.{proto_of, read_input, refl, run_in, run_step, scripted_step, slice_get, subst, suc}
-use Rattle.sc_back_replay_laws.proofs.Common.{sym, takes, emit_event, true, word_in, ℕ, ◌&&◌, ◌++◌, ◌<◌, ◌∙◌, ◌∷◌, ◌≡◌, ◌≤◌}
+use Rattle.sc_back_replay_laws.proofs.Common.{Blamed, Body, BodyGoes, Bool, Call, CallTarget, Cross, Denotations, Entry}
+use Rattle.sc_back_replay_laws.proofs.Common.{Event, Export, Function, Here, In, Input, IsFixed, IsSome, List, Meets}
+use Rattle.sc_back_replay_laws.proofs.Common.{None, Obedient, Option, Out, Output, Own, Piece, Reached, RelatedCalls}
+use Rattle.sc_back_replay_laws.proofs.Common.{RelatedFunctions, Roles, Some, State, Step, Stopped, TurnsOut, Value}
+use Rattle.sc_back_replay_laws.proofs.Common.{Word, [], and_first, and_rest, and_then, ap, arith, back_cross, back_own}
+use Rattle.sc_back_replay_laws.proofs.Common.{begun, block_does, c_arith, call_cross, call_own, called, calls, calls_go}
+use Rattle.sc_back_replay_laws.proofs.Common.{count_of, counts_its_own, crossed, done, drop, emit_event, false}
+use Rattle.sc_back_replay_laws.proofs.Common.{first_word, found, function, if◌then◌else◌, imports, inl, inr}
+use Rattle.sc_back_replay_laws.proofs.Common.{is_function, is_word, leads, length, list_all, map, may_call, next_input}
+use Rattle.sc_back_replay_laws.proofs.Common.{now, performer, proto_of, read_input, refl, related_functions, run_in}
+use Rattle.sc_back_replay_laws.proofs.Common.{run_step, scripted_step, slice_get, subst, suc, sym, takes, true, word_in}
+use Rattle.sc_back_replay_laws.proofs.Common.{ℕ, ◌&&◌, ◌++◌, ◌<◌, ◌∙◌, ◌∷◌, ◌≡◌, ◌≤◌}
 use Rattle.sc_core.specs.declared.cause.Cause.TheVariants.{BadType}
-use Rattle.sc_back_replay_laws.proofs.Near.{Both, Near, NearBy, Reaches, Returns, Emitted, ahead, both_so, both_then, counts, firsts}
-use Rattle.sc_back_replay_laws.proofs.Near.{near_begun, near_done, near_emitted, reached, stopped, emitted_ahead, emitted_other}
+use Rattle.sc_back_replay_laws.proofs.Near.{Both, Near, NearBy, Reaches, Returns, Emitted, ahead, both_so, both_then}
+use Rattle.sc_back_replay_laws.proofs.Near.{counts, firsts, near_begun, near_done, near_emitted, reached, stopped}
+use Rattle.sc_back_replay_laws.proofs.Near.{emitted_ahead, emitted_other}
 use Rattle.sc_back_replay_laws.proofs.Step.{Back, IsOut, function_alike}
 use Rattle.sc_back_replay_laws.proofs.Kept.{Alike, IsKept, kept_related, turn_both}
 use Rattle.sc_back_replay_laws.proofs.Crossing.{at, both_and, came_back, came_kept, cross_counts, inside, inside_cross}
@@ -57,7 +60,8 @@ module _ (roles : Roles) (L M : Denotations) (r : Recomposed roles L M) (obedien
           subst (λ x. Both R (and_then (found x (emit_event e s)) (inside a to (crossed args) back k))
           (and_then (found (function L to k) (emit_event e s')) (inside scripts to (crossed args) back k)))
           (sym (ap (λ fs. slice_get fs k) (r.kept to clear))) (by (function L to k)) where
-            by : (o : Option Function) → Both R (and_then (found o (emit_event e s)) (inside a to (crossed args) back k))
+            by : (o : Option Function) → Both R
+                (and_then (found o (emit_event e s)) (inside a to (crossed args) back k))
                 (and_then (found o (emit_event e s')) (inside scripts to (crossed args) back k))
             by None = stopped TurnsOut near.trace
             by (Some f) =
@@ -133,7 +137,8 @@ module _ (roles : Roles) (L M : Denotations) (r : Recomposed roles L M) (obedien
         Emitted roles most counters (In c (next_input s.inputs)) s.trace →
         Near roles most (read_input c s) (read_input c s')
     read_both counters c s s' near emitted =
-        near_emitted roles most counters (record s { inputs = drop 1 s.inputs }) (record s' { inputs = drop 1 s'.inputs })
+        near_emitted roles most counters (record s { inputs = drop 1 s.inputs })
+        (record s' { inputs = drop 1 s'.inputs })
         (In c (next_input s.inputs)) (In c (next_input s'.inputs)) (ap (λ i. In c (next_input i)) near.inputs) emitted
         (record {
           trace = near.trace;
@@ -242,7 +247,8 @@ module _ (roles : Roles) (L M : Denotations) (r : Recomposed roles L M) (obedien
           counter = near.counter;
         }) (ap (λ i. Some (Word (next_input i))) near.inputs)
     row_calls goes c Output args s s' out may near =
-        emitted_both Output c None None (Out c (first_word args)) (Out c (first_word args)) s s s' refl refl refl near refl
+        emitted_both Output c None None (Out c (first_word args)) (Out c (first_word args)) s s s' refl refl refl near
+        refl
 
     pub rows_alike : (goes : BodyGoes a) (c : ℕ) (target : CallTarget) (args : List Value) (s s' : State) →
         IsOut target → may_call L c target args ≡ true → NearBy roles most (ahead c s.trace) s s' →
@@ -263,7 +269,8 @@ module _ (roles : Roles) (L M : Denotations) (r : Recomposed roles L M) (obedien
     kept_step goes goes' number here s s' clear near =
         subst (λ x. Both R (and_then (found x s) (λ f s. f.does (calls M a) here s))
         (run_step L scripts number here s')) (sym (ap (λ fs. slice_get fs number) (r.kept here.comp clear)))
-        (by (function L here.comp number) (related_functions (Near roles most) (Alike roles most) (IsKept roles most) L L
+        (by (function L here.comp number)
+        (related_functions (Near roles most) (Alike roles most) (IsKept roles most) L L
         (kept_related roles most L obedient) here.comp number)) where
           made : RelatedCalls (Near roles most) (Alike roles most) (IsKept roles most) here.comp (calls M a)
               (calls L scripts)

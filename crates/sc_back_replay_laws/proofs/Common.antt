@@ -23,20 +23,20 @@ pub use Rattle.sc_event.specs.declared.row.Row.{Row}
 pub use Rattle.sc_core.proofs.Shapes.{AssignLine, CallLine, IfLine, Lines, Lit, NoLine, One, ReturnLine}
 pub use Rattle.sc_core.proofs.Shapes.{ReturnValueLine, Shape, Two, Var, WhileLine, expr, lines_are, lines_do, stmts}
 pub use Rattle.sc_core.proofs.Shapes.{way}
-pub use Rattle.sc_core.specs.Prelude.{Acts, Arith, Block, Blocks, Body, Calls, FrameChange, IsPrefix, Function, Here}
-pub use Rattle.sc_core.specs.Prelude.{IsWellTyped, Left, Denotations, Memory, Next, Piece, Reached, Return, Roles, State}
-pub use Rattle.sc_core.specs.Prelude.{Step, Stopped, Ways, acts, all_do, and_then, are_distinct, as_word, assign}
-pub use Rattle.sc_core.specs.Prelude.{back_cross, back_own, begun, block_does, blocks_for, c_arith, call_statement}
-pub use Rattle.sc_core.specs.Prelude.{call_cross, call_own, called, calls, choose, closed, computed, crossed, crossing}
-pub use Rattle.sc_core.specs.Prelude.{done, ended, entry_in, evaluated, exit_word, first_blocks, first_state}
-pub use Rattle.sc_core.specs.Prelude.{first_word, follow, found, function, function_of, functions_in, functions_of}
-pub use Rattle.sc_core.specs.Prelude.{global_block, globals_of, in_order, inits_do, is_main, is_number, is_plain_name}
-pub use Rattle.sc_core.specs.Prelude.{is_word, leads, leave, denotations_of, main_fits, main_name, main_signature, may_call}
-pub use Rattle.sc_core.specs.Prelude.{next_input, of_bool, option_value, or_cause, performs, place_named}
-pub use Rattle.sc_core.specs.Prelude.{place_of_export, proto_signature, read_input, roles_in, rounds, rows_left, run_by}
-pub use Rattle.sc_core.specs.Prelude.{run_in, run_step, run_to, same_signature, scripted_meaning, scripted_step}
-pub use Rattle.sc_core.specs.Prelude.{signature_of, stmt_does, stopped_at, store, struct_zeros, emit_event, test, turn}
-pub use Rattle.sc_core.specs.Prelude.{turn_of, values, variable_at, with_blocks, with_memory, within, word_in}
+pub use Rattle.sc_core.specs.Prelude.{Acts, Arith, Block, Blocks, Body, Calls, Denotations, FrameChange, Function, Here}
+pub use Rattle.sc_core.specs.Prelude.{IsWellTyped, Left, Memory, Next, Piece, Reached, Return, Roles, State, Step}
+pub use Rattle.sc_core.specs.Prelude.{Stopped, Ways, acts, all_do, and_then, are_distinct, as_word, assign, back_cross}
+pub use Rattle.sc_core.specs.Prelude.{back_own, begun, block_does, blocks_for, c_arith, call_cross, call_own}
+pub use Rattle.sc_core.specs.Prelude.{call_statement, called, calls, choose, closed, computed, crossed, crossing}
+pub use Rattle.sc_core.specs.Prelude.{denotations_of, done, emit_event, ended, entry_in, evaluated, exit_word}
+pub use Rattle.sc_core.specs.Prelude.{first_blocks, first_state, first_word, follow, found, function, function_of}
+pub use Rattle.sc_core.specs.Prelude.{functions_in, functions_of, global_block, globals_of, in_order, inits_do, is_main}
+pub use Rattle.sc_core.specs.Prelude.{is_number, is_plain_name, is_word, leads, leave, main_fits, main_name}
+pub use Rattle.sc_core.specs.Prelude.{main_signature, may_call, next_input, of_bool, option_value, or_cause, performs}
+pub use Rattle.sc_core.specs.Prelude.{place_named, place_of_export, proto_signature, read_input, roles_in, rounds}
+pub use Rattle.sc_core.specs.Prelude.{rows_left, run_by, run_in, run_step, run_to, same_signature, scripted_meaning}
+pub use Rattle.sc_core.specs.Prelude.{scripted_step, signature_of, stmt_does, stopped_at, store, struct_zeros, test}
+pub use Rattle.sc_core.specs.Prelude.{turn, turn_of, values, variable_at, with_blocks, with_memory, within, word_in}
 pub use Rattle.sc_core.specs.declared.cause.Cause.{Cause}
 pub use Rattle.sc_core.specs.declared.expr.CallTarget.{CallTarget}
 pub use Rattle.sc_core.specs.declared.expr.CallTarget.TheVariants.{Cross, Input, Output, Own}
@@ -52,11 +52,12 @@ pub use Rattle.sc_core.specs.declared.value.Value.{Value}
 pub use Rattle.sc_core.specs.declared.value.Value.TheVariants.{Word}
 pub use Rattle.sc_core_laws.proofs.Growing.{BodyGoes, back_goes, calls_go, run_goes, within_goes}
 pub use Rattle.sc_core_laws.proofs.Matching.{related_denotations, run_goes_on, scripted_goes_on}
+pub use Rattle.sc_core_laws.proofs.Related.{Kept, KeptAt, RelatedCalls, RelatedDenotations, RelatedFunctions}
+pub use Rattle.sc_core_laws.proofs.Related.{related_functions}
 pub use Rattle.sc_core_laws.proofs.Rows.{counts_its_own}
-pub use Rattle.sc_core_laws.proofs.Related.{RelatedCalls, RelatedFunctions, Kept, KeptAt, RelatedDenotations, related_functions}
 pub use Rattle.sc_core_laws.specs.Prelude.{Goes, Gone, Grown, IsFixed, Meets, Never, Obedient, now}
-pub use Rattle.sc_back_replay_laws.specs.Replay.{HasReplaced, HasWords, IsCounter, IsRecomposed, IsReplaced, IsReplay, IsWord}
-pub use Rattle.sc_back_replay_laws.specs.Replay.{Performs, TextsPerform, main_proto, proto_of}
-pub use Rattle.sc_back_replay_laws.specs.Texts.{IsPerforming, action_kind, calls_out, counter, counter_is, ends, int_expr}
-pub use Rattle.sc_back_replay_laws.specs.Texts.{least_int, literal, minus, or_int, params_at, row_kind, skips, stmt_at, waits}
-pub use Rattle.sc_back_replay_laws.specs.Texts.{word_expr, word_exprs}
+pub use Rattle.sc_back_replay_laws.specs.Replay.{HasReplaced, HasWords, IsCounter, IsRecomposed, IsReplaced, IsReplay}
+pub use Rattle.sc_back_replay_laws.specs.Replay.{IsWord, Performs, TextsPerform, main_proto, proto_of}
+pub use Rattle.sc_back_replay_laws.specs.Texts.{IsPerforming, action_kind, calls_out, counter, counter_is, ends}
+pub use Rattle.sc_back_replay_laws.specs.Texts.{int_expr, least_int, literal, minus, or_int, params_at, row_kind, skips}
+pub use Rattle.sc_back_replay_laws.specs.Texts.{stmt_at, waits, word_expr, word_exprs}

@@ -1,13 +1,14 @@
 -- Entries of a well-typed program lead to functions, and different ones to different functions.
-use Rattle.sc_back_replay_laws.proofs.Common.{Arith, Bool, Entry, Export, Interfaces, IsSome, IsWellTyped, List, Main, None}
-use Rattle.sc_back_replay_laws.proofs.Common.{Option, ProgramTree, Proto, Some, TypedFunction, TypedSection, [], and_first}
-use Rattle.sc_back_replay_laws.proofs.Common.{and_rest, ap, are_distinct, bytes_eq, entry_in, eqb-true, export_at, false}
-use Rattle.sc_back_replay_laws.proofs.Common.{false≢true, function, function_of, functions_in, functions_of, if◌then◌else◌}
-use Rattle.sc_back_replay_laws.proofs.Common.{is_main, is_number, is_plain_name, denotations_of, list_any, main_fits, main_name}
-use Rattle.sc_back_replay_laws.proofs.Common.{main_proto, main_signature, map, ne_eqb, not, option_map, option_map_or, or_right}
-use Rattle.sc_back_replay_laws.proofs.Common.{place_named, place_of_export, proto_of, proto_signature, refl, same_signature}
-use Rattle.sc_back_replay_laws.proofs.Common.{signature_of, slice_get, slice_index_or, subst, suc, sym, true, zero, ℕ, ◌&&◌, ◌==◌}
-use Rattle.sc_back_replay_laws.proofs.Common.{◌||◌, ◌∙◌, ◌∷◌, ◌≡◌}
+use Rattle.sc_back_replay_laws.proofs.Common.{Arith, Bool, Entry, Export, Interfaces, IsSome, IsWellTyped, List, Main}
+use Rattle.sc_back_replay_laws.proofs.Common.{None, Option, ProgramTree, Proto, Some, TypedFunction, TypedSection, []}
+use Rattle.sc_back_replay_laws.proofs.Common.{and_first, and_rest, ap, are_distinct, bytes_eq, denotations_of, entry_in}
+use Rattle.sc_back_replay_laws.proofs.Common.{eqb-true, export_at, false, false≢true, function, function_of}
+use Rattle.sc_back_replay_laws.proofs.Common.{functions_in, functions_of, if◌then◌else◌, is_main, is_number}
+use Rattle.sc_back_replay_laws.proofs.Common.{is_plain_name, list_any, main_fits, main_name, main_proto, main_signature}
+use Rattle.sc_back_replay_laws.proofs.Common.{map, ne_eqb, not, option_map, option_map_or, or_right, place_named}
+use Rattle.sc_back_replay_laws.proofs.Common.{place_of_export, proto_of, proto_signature, refl, same_signature}
+use Rattle.sc_back_replay_laws.proofs.Common.{signature_of, slice_get, slice_index_or, subst, suc, sym, true, zero, ℕ}
+use Rattle.sc_back_replay_laws.proofs.Common.{◌&&◌, ◌==◌, ◌||◌, ◌∙◌, ◌∷◌, ◌≡◌}
 use Rattle.std.proofs.lemmas.Option.{slice_get-map}
 use Rattle.sc_base.proofs.Texts.{bytes_eq_self, same_text}
 use Rattle.sc_event.specs.declared.interface.Interface.{Interface}
@@ -111,7 +112,8 @@ module _ (program : ProgramTree) (typed : IsWellTyped program) where
       }
 
   -- a known entry leads to a function
-  pub leads : (c : ℕ) (entry : Entry) (proto : Proto) → proto_of interface_fitting c entry ≡ Some proto → Leads c entry proto
+  pub leads : (c : ℕ) (entry : Entry) (proto : Proto) → proto_of interface_fitting c entry ≡ Some proto →
+      Leads c entry proto
   leads c Main proto known = by (c == interface_fitting.main) refl known where
     at_main : (o : Option TypedSection) → slice_get program.sections c ≡ o → main_fits o ≡ true →
         main_name ≡ proto.name → Leads c Main proto
@@ -145,7 +147,8 @@ module _ (program : ProgramTree) (typed : IsWellTyped program) where
     by true h = let same : main_proto ≡ proto = cc in sym (ap named same)
     by false h = absurd (cc)
 
-  no_main : (c index : ℕ) (proto : Proto) → export_at interface_fitting c index ≡ Some proto → proto.name ≡ main_name → ⊥
+  no_main : (c index : ℕ) (proto : Proto) → export_at interface_fitting c index ≡ Some proto → proto.name ≡ main_name →
+      ⊥
   no_main c index proto known same =
       let e = exported program typed c index proto known in
       false≢true (sym (ap not (subst (λ name. bytes_eq proto.name name ≡ true) same (bytes_eq_self proto.name))) ∙
@@ -195,7 +198,8 @@ module _ (program : ProgramTree) (typed : IsWellTyped program) where
       is_number number (entry_in program c other) ≡ false
   apart c entry other number is known known' ne =
       by_protos (proto_of interface_fitting c entry) refl known (proto_of interface_fitting c other) refl known' where
-        by_number : (p q : Proto) → proto_of interface_fitting c entry ≡ Some p → proto_of interface_fitting c other ≡ Some q →
+        by_number : (p q : Proto) → proto_of interface_fitting c entry ≡ Some p →
+            proto_of interface_fitting c other ≡ Some q →
             (o : Option ℕ) → entry_in program c other ≡ o → is_number number o ≡ false
         by_number p q ps qs None js = refl
         by_number p q ps qs (Some n) js =

@@ -1,8 +1,9 @@
 -- Functions of the compartments that keep their sections do the same in both runs.
-use Rattle.sc_back_replay_laws.proofs.Common.{Blamed, Cause, Err, Goes, Gone, Grown, Here, Kept, KeptAt, Denotations, RelatedDenotations}
-use Rattle.sc_back_replay_laws.proofs.Common.{Never, Obedient, Ok, Piece, Result, Roles, State, TurnsOut, and_then, ap, arith}
-use Rattle.sc_back_replay_laws.proofs.Common.{both_ways, computed, false, if◌then◌else◌, related_denotations, ne_eqb, refl, subst, suc}
-use Rattle.sc_back_replay_laws.proofs.Common.{sym, turn, turn_of, zero, ℕ, ◌<◌, ◌==◌, ◌∙◌, ◌≡◌}
+use Rattle.sc_back_replay_laws.proofs.Common.{Blamed, Cause, Denotations, Err, Goes, Gone, Grown, Here, Kept, KeptAt}
+use Rattle.sc_back_replay_laws.proofs.Common.{Never, Obedient, Ok, Piece, RelatedDenotations, Result, Roles, State}
+use Rattle.sc_back_replay_laws.proofs.Common.{TurnsOut, and_then, ap, arith, both_ways, computed, false, if◌then◌else◌}
+use Rattle.sc_back_replay_laws.proofs.Common.{ne_eqb, refl, related_denotations, subst, suc, sym, turn, turn_of, zero}
+use Rattle.sc_back_replay_laws.proofs.Common.{ℕ, ◌<◌, ◌==◌, ◌∙◌, ◌≡◌}
 use Rattle.sc_core_laws.proofs.Expressions.{Keeps, alike, blamed}
 use Rattle.sc_back_replay_laws.proofs.Near.{Both, Near, NearBy, Reaches, counts, near_turns, reached, stopped}
 

@@ -1,9 +1,10 @@
 -- States of the run of the texts beside states of the run in which compartments perform, and pieces of both runs.
-use Rattle.sc_back_replay_laws.proofs.Common.{Blocks, Bool, Event, FrameChange, Function, List, Option, Piece, Reached, Roles}
-use Rattle.sc_back_replay_laws.proofs.Common.{State, Stopped, Value, [], and_then, ap, ap₂, arith, begun, blocks_for, both_ways}
-use Rattle.sc_back_replay_laws.proofs.Common.{cases_eq, count_of, counts_its_own, done, ended, eq-eqb, false, filter}
-use Rattle.sc_back_replay_laws.proofs.Common.{if◌then◌else◌, length, ne_eqb, performer, refl, suc, sym, emit_event, true, with_blocks}
-use Rattle.sc_back_replay_laws.proofs.Common.{ℕ, ⊎_elim, ◌++◌, ◌==◌, ◌∙◌, ◌∷◌, ◌≡◌, ◌≤◌}
+use Rattle.sc_back_replay_laws.proofs.Common.{Blocks, Bool, Event, FrameChange, Function, List, Option, Piece, Reached}
+use Rattle.sc_back_replay_laws.proofs.Common.{Roles, State, Stopped, Value, [], and_then, ap, ap₂, arith, begun}
+use Rattle.sc_back_replay_laws.proofs.Common.{blocks_for, both_ways, cases_eq, count_of, counts_its_own, done}
+use Rattle.sc_back_replay_laws.proofs.Common.{emit_event, ended, eq-eqb, false, filter, if◌then◌else◌, length, ne_eqb}
+use Rattle.sc_back_replay_laws.proofs.Common.{performer, refl, suc, sym, true, with_blocks, ℕ, ⊎_elim, ◌++◌, ◌==◌, ◌∙◌}
+use Rattle.sc_back_replay_laws.proofs.Common.{◌∷◌, ◌≡◌, ◌≤◌}
 use Rattle.sc_core.specs.declared.run.RunEnd.{RunEnd}
 use Rattle.sc_back_replay_laws.proofs.Text.{counted, counting}
 

@@ -1,12 +1,13 @@
 -- The denotations L and M of two programs, where M has functions that perform rows by their texts: the same calls may
 -- be made in both.
-use Rattle.sc_back_replay_laws.proofs.Common.{Bool, CallTarget, Calls, Cross, Entry, Export, Function, Input, IsPerforming}
-use Rattle.sc_back_replay_laws.proofs.Common.{IsSome, Left, Denotations, List, None, Option, Output, Own, Piece, Proto, Reached}
-use Rattle.sc_back_replay_laws.proofs.Common.{Return, Roles, Scalar, Some, State, TypedStmt, TypedStruct, Value, and_then, ap}
-use Rattle.sc_back_replay_laws.proofs.Common.{block_does, c_arith, export_at, false, false≢true, function, functions_of, imports}
-use Rattle.sc_back_replay_laws.proofs.Common.{inl, inr, is_function, is_input, is_number, is_output, is_some, is_word, leads}
-use Rattle.sc_back_replay_laws.proofs.Common.{length, list_all, may_call, option_map_or, proto_of, refl, slice_get, sym, takes}
-use Rattle.sc_back_replay_laws.proofs.Common.{true, ℕ, ◌&&◌, ◌==◌, ◌∙◌, ◌≡◌, ◌⊎◌}
+use Rattle.sc_back_replay_laws.proofs.Common.{Bool, CallTarget, Calls, Cross, Denotations, Entry, Export, Function}
+use Rattle.sc_back_replay_laws.proofs.Common.{Input, IsPerforming, IsSome, Left, List, None, Option, Output, Own, Piece}
+use Rattle.sc_back_replay_laws.proofs.Common.{Proto, Reached, Return, Roles, Scalar, Some, State, TypedStmt}
+use Rattle.sc_back_replay_laws.proofs.Common.{TypedStruct, Value, and_then, ap, block_does, c_arith, export_at, false}
+use Rattle.sc_back_replay_laws.proofs.Common.{false≢true, function, functions_of, imports, inl, inr, is_function}
+use Rattle.sc_back_replay_laws.proofs.Common.{is_input, is_number, is_output, is_some, is_word, leads, length, list_all}
+use Rattle.sc_back_replay_laws.proofs.Common.{may_call, option_map_or, proto_of, refl, slice_get, sym, takes, true, ℕ}
+use Rattle.sc_back_replay_laws.proofs.Common.{◌&&◌, ◌==◌, ◌∙◌, ◌≡◌, ◌⊎◌}
 use Rattle.sc_back_replay_laws.proofs.Crossing.{at}
 use Rattle.sc_back_replay_laws.proofs.Step.{Fair, IsOut}
 

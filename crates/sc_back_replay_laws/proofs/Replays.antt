@@ -1,13 +1,15 @@
 -- Programs whose other form performs parts of a trace by texts mean what the scripted meaning says.
-use Rattle.sc_back_replay_laws.proofs.Common.{Blamed, Blocks, Bool, Calls, Cause, Entry, Event, Export, HasReplaced, Interfaces}
-use Rattle.sc_back_replay_laws.proofs.Common.{IsCounter, IsRecomposed, IsReplaced, IsReplay, IsSome, Denotations, List, Main, None}
-use Rattle.sc_back_replay_laws.proofs.Common.{Option, Performs, ProgramTree, Proto, Roles, Row, Some, State, TextsPerform}
-use Rattle.sc_back_replay_laws.proofs.Common.{TypedFunction, TypedSection, TypedStruct, [], all_do, and_then, ap, block_does}
-use Rattle.sc_back_replay_laws.proofs.Common.{bytes_eq, c_arith, closed, export_at, false, false≢true, first_blocks, follow}
-use Rattle.sc_back_replay_laws.proofs.Common.{function_of, functions_in, functions_of, global_block, globals_of, in_order}
-use Rattle.sc_back_replay_laws.proofs.Common.{inits_do, is_some, leads, length, denotations_of, main_name, map, option_map_or, part}
-use Rattle.sc_back_replay_laws.proofs.Common.{place_named, place_of_export, proto_of, refl, roles_in, scripted_meaning, slice_get}
-use Rattle.sc_back_replay_laws.proofs.Common.{stopped_at, struct_zeros, subst, sym, true, ℕ, ◌&&◌, ◌==◌, ◌∙◌, ◌∷◌, ◌≡◌}
+use Rattle.sc_back_replay_laws.proofs.Common.{Blamed, Blocks, Bool, Calls, Cause, Denotations, Entry, Event, Export}
+use Rattle.sc_back_replay_laws.proofs.Common.{HasReplaced, Interfaces, IsCounter, IsRecomposed, IsReplaced, IsReplay}
+use Rattle.sc_back_replay_laws.proofs.Common.{IsSome, List, Main, None, Option, Performs, ProgramTree, Proto, Roles}
+use Rattle.sc_back_replay_laws.proofs.Common.{Row, Some, State, TextsPerform, TypedFunction, TypedSection, TypedStruct}
+use Rattle.sc_back_replay_laws.proofs.Common.{[], all_do, and_then, ap, block_does, bytes_eq, c_arith, closed}
+use Rattle.sc_back_replay_laws.proofs.Common.{denotations_of, export_at, false, false≢true, first_blocks, follow}
+use Rattle.sc_back_replay_laws.proofs.Common.{function_of, functions_in, functions_of, global_block, globals_of}
+use Rattle.sc_back_replay_laws.proofs.Common.{in_order, inits_do, is_some, leads, length, main_name, map, option_map_or}
+use Rattle.sc_back_replay_laws.proofs.Common.{part, place_named, place_of_export, proto_of, refl, roles_in}
+use Rattle.sc_back_replay_laws.proofs.Common.{scripted_meaning, slice_get, stopped_at, struct_zeros, subst, sym, true}
+use Rattle.sc_back_replay_laws.proofs.Common.{ℕ, ◌&&◌, ◌==◌, ◌∙◌, ◌∷◌, ◌≡◌}
 use Rattle.sc_core.specs.declared.section.TypedGlobal.{TypedGlobal}
 use Rattle.sc_core.specs.declared.ty.Ty.TheVariants as ty
 use Rattle.sc_core.specs.Meaning as core
@@ -69,13 +71,15 @@ module _ (program other : ProgramTree) (set : ℕ → Bool) (trace : List Event)
       (s : State) →
       (function_of c_arith interface_fitting.main structs f).does by (at c first) s ≡
       and_then (block_does c_arith structs (at c first) (length f.params) by f.body tt s)
-      (λ left s. closed left.exit (is_some f.result) (c == interface_fitting.main && bytes_eq f.name main_name) f.close_line
+      (λ left s. closed left.exit (is_some f.result) (c == interface_fitting.main && bytes_eq f.name main_name)
+      f.close_line
       (at c first) s)
   does_text structs f locals c by first s =
       ap (λ ls. and_then (follow in_order
       (all_do (inits_do c_arith structs (at c first) (length f.params) 0 ls) tt s)
       (block_does c_arith structs (at c first) (length f.params) by f.body))
-      (λ left s. closed left.exit (is_some f.result) (c == interface_fitting.main && bytes_eq f.name main_name) f.close_line
+      (λ left s. closed left.exit (is_some f.result) (c == interface_fitting.main && bytes_eq f.name main_name)
+      f.close_line
       (at c first) s)) locals
 
   performed_by : (c : ℕ) (entry : Entry) (proto : Proto) → proto_of interface_fitting c entry ≡ Some proto →
@@ -108,7 +112,8 @@ module _ (program other : ProgramTree) (set : ℕ → Bool) (trace : List Event)
         };
       }
 
-  performed : (c : ℕ) (entry : Entry) → set c ≡ true → IsSome (proto_of interface_fitting c entry) → Performed roles L M c entry
+  performed : (c : ℕ) (entry : Entry) → set c ≡ true → IsSome (proto_of interface_fitting c entry) →
+      Performed roles L M c entry
   performed c entry performs known = by (proto_of interface_fitting c entry) refl known where
     replaced : HasReplaced interface_fitting c (part interface_fitting.main c trace) (slice_get other.sections c)
     replaced = r.replaced c performs
@@ -119,7 +124,8 @@ module _ (program other : ProgramTree) (set : ℕ → Bool) (trace : List Event)
         performed_by c entry proto is replaced.section replaced.is (replaced.replaced.functions entry proto is)
 
   -- exports lead to functions
-  leads_so : (to index : ℕ) → IsSome (export_at interface_fitting to index) → leads L to (L.entered to (Export index)) ≡ true
+  leads_so : (to index : ℕ) → IsSome (export_at interface_fitting to index) →
+      leads L to (L.entered to (Export index)) ≡ true
   leads_so to index known = by (export_at interface_fitting to index) refl known where
     by : (o : Option Proto) → export_at interface_fitting to index ≡ o → IsSome o →
         leads L to (L.entered to (Export index)) ≡ true
@@ -150,7 +156,8 @@ module _ (program other : ProgramTree) (set : ℕ → Bool) (trace : List Event)
       let replaced = r.replaced c performs in (
         [],
         ap first_blocks replaced.is ∙
-            first_blocks_are interface_fitting c (part interface_fitting.main c trace) replaced.section replaced.replaced,
+            first_blocks_are interface_fitting c (part interface_fitting.main c trace) replaced.section
+            replaced.replaced,
       )
 
   pub replays : (inputs : List ℕ) (turns events : ℕ) →

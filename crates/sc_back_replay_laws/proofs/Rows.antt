@@ -1,12 +1,13 @@
 -- The rows of a part of a legal trace: they are numbered, of entries that there are, and may be done.
-use Rattle.sc_back_replay_laws.proofs.Common.{Activation, All, AllByRecursion, Bool, Call, Cross, End, Event, Export, HasWords}
-use Rattle.sc_back_replay_laws.proofs.Common.{In, Interfaces, IsSome, IsWord, Denotations, List, None, Option, Out, Proto, Ret}
-use Rattle.sc_back_replay_laws.proofs.Common.{Scalar, Some, Standing, Word, [], action_of, and_from, and_parts, ap, arith}
-use Rattle.sc_back_replay_laws.proofs.Common.{at_start, eq-eqb, eqb-true, export_at, false, false≢true, if◌then◌else◌, imports}
-use Rattle.sc_back_replay_laws.proofs.Common.{is_allowed, is_function, is_legal_from, is_output, is_some, is_word, leads, legal}
-use Rattle.sc_back_replay_laws.proofs.Common.{length, list_all, main_proto, map, may_call, may_perform, option_map_or, params_at}
-use Rattle.sc_back_replay_laws.proofs.Common.{part, performer, proto_of, refl, resumed, rows_from, stands_after, subst, suc, sym}
-use Rattle.sc_back_replay_laws.proofs.Common.{takes, true, ℕ, ◌&&◌, ◌==◌, ◌∙◌, ◌∷◌, ◌≡◌}
+use Rattle.sc_back_replay_laws.proofs.Common.{Activation, All, AllByRecursion, Bool, Call, Cross, Denotations, End}
+use Rattle.sc_back_replay_laws.proofs.Common.{Event, Export, HasWords, In, Interfaces, IsSome, IsWord, List, None}
+use Rattle.sc_back_replay_laws.proofs.Common.{Option, Out, Proto, Ret, Scalar, Some, Standing, Word, [], action_of}
+use Rattle.sc_back_replay_laws.proofs.Common.{and_from, and_parts, ap, arith, at_start, eq-eqb, eqb-true, export_at}
+use Rattle.sc_back_replay_laws.proofs.Common.{false, false≢true, if◌then◌else◌, imports, is_allowed, is_function}
+use Rattle.sc_back_replay_laws.proofs.Common.{is_legal_from, is_output, is_some, is_word, leads, legal, length}
+use Rattle.sc_back_replay_laws.proofs.Common.{list_all, main_proto, map, may_call, may_perform, option_map_or}
+use Rattle.sc_back_replay_laws.proofs.Common.{params_at, part, performer, proto_of, refl, resumed, rows_from}
+use Rattle.sc_back_replay_laws.proofs.Common.{stands_after, subst, suc, sym, takes, true, ℕ, ◌&&◌, ◌==◌, ◌∙◌, ◌∷◌, ◌≡◌}
 use Rattle.std.proofs.lemmas.List.Elements.{recursion_from_All}
 use Rattle.std.proofs.lemmas.List.{length-map}
 use Rattle.sc_back_replay_laws.proofs.Step.{Fair, MayAct, Suit}
@@ -38,10 +39,13 @@ module _ (L : Denotations)
     by (Some proto) h = (refl, suits proto.params words (eqb-true (length proto.params) (length words) h) small)
 
   call_may : (from to index : ℕ) (words : List ℕ) → AllByRecursion IsWord words →
-      (imports interface_fitting from (is_function to index) && takes interface_fitting to index (length words)) ≡ true →
-      (may_call L from (Cross to index) (map (λ w. Word w) words) ≡ true) × Suit (params_at interface_fitting to index) words
+      (imports interface_fitting from (is_function to index) && takes interface_fitting to index (length words)) ≡
+      true →
+      (may_call L from (Cross to index) (map (λ w. Word w) words) ≡ true) × Suit (params_at interface_fitting to index)
+      words
   call_may from to index words small h =
-      let parts = and_parts (imports interface_fitting from (is_function to index)) (takes interface_fitting to index (length words)) h in
+      let parts = and_parts (imports interface_fitting from (is_function to index))
+      (takes interface_fitting to index (length words)) h in
       let suit = taken_suits to index words small parts.1 in (
         and_from (imports interface_fitting from (is_function to index)) _ parts.0
             (and_from (takes interface_fitting to index (length (map (λ w. Word w) words))) _
@@ -77,7 +81,8 @@ module _ (L : Denotations)
   entered_after at (Call from to index args) may words known =
       record {
         active = (taken_suits to index args (recursion_from_All IsWord args words) (and_parts
-            (imports interface_fitting from (is_function to index)) (takes interface_fitting to index (length args)) may).1).0;
+            (imports interface_fitting from (is_function to index)) (takes interface_fitting to index (length args))
+            may).1).0;
         waiting = (known.active, known.waiting);
       }
   entered_after at (Ret from to value) may words known = resume at.waiting known.waiting where
@@ -95,7 +100,8 @@ module _ (L : Denotations)
   fair_from c number at [] known is words = tt
   fair_from c number None (event ∷ later) known is words = tt
   fair_from c number (Some at) (event ∷ later) known is words =
-      let parts = and_parts (is_allowed interface_fitting at event) (is_legal_from interface_fitting (stands_after at event) later) is in
+      let parts = and_parts (is_allowed interface_fitting at event)
+      (is_legal_from interface_fitting (stands_after at event) later) is in
       let allowed = and_parts (performer event == at.active.comp) (may_perform interface_fitting at event) parts.0 in
       let next = entered_after at event allowed.1 words.0 known in
       by (eqb-true (performer event) at.active.comp allowed.0) (may_act at event allowed.1 words.0)
@@ -116,7 +122,8 @@ module _ (L : Denotations)
             let same : performer event ≡ c = eqb-true (performer event) c is in (
               record {
                 numbered = refl;
-                known = subst (λ n. IsSome (proto_of interface_fitting n at.active.entry)) (sym own ∙ same) known.active;
+                known = subst (λ n. IsSome (proto_of interface_fitting n at.active.entry)) (sym own ∙ same)
+                    known.active;
                 may = subst (λ n. MayAct L n (action_of event)) same may;
               },
               more,
@@ -127,6 +134,7 @@ module _ (L : Denotations)
       Fair L c 0 (part interface_fitting.main c trace)
   part_fair c trace is words =
       fair_from c 0 (at_start interface_fitting.main) trace (record {
-        active = ap (λ b. is_some (if b then Some main_proto else None)) (eq-eqb interface_fitting.main interface_fitting.main refl);
+        active = ap (λ b. is_some (if b then Some main_proto else None))
+            (eq-eqb interface_fitting.main interface_fitting.main refl);
         waiting = tt;
       }) is (recursion_from_All HasWords trace words)

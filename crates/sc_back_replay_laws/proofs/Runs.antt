@@ -1,10 +1,11 @@
 -- Whole runs: the run of the second program's denotations is the one in which the compartments of a set perform.
-use Rattle.sc_back_replay_laws.proofs.Common.{Blocks, Body, BodyGoes, Bool, End, Ended, Function, Here, IsFixed, IsSome, Denotations}
-use Rattle.sc_back_replay_laws.proofs.Common.{List, Main, Memory, None, Obedient, Option, Piece, Roles, Some, State, Step}
-use Rattle.sc_back_replay_laws.proofs.Common.{TurnsOut, Value, [], and_then, ap, ap₂, arith, back_own, begun, call_own, done}
-use Rattle.sc_back_replay_laws.proofs.Common.{eq-eqb, exit_word, false, first_state, found, function, if◌then◌else◌, is_some}
-use Rattle.sc_back_replay_laws.proofs.Common.{length, main_proto, now, performs, proto_of, refl, rows_left, run_by, run_goes_on}
-use Rattle.sc_back_replay_laws.proofs.Common.{run_step, run_to, scripted_goes_on, scripted_step, subst, suc, sym, true, within}
+use Rattle.sc_back_replay_laws.proofs.Common.{Blocks, Body, BodyGoes, Bool, Denotations, End, Ended, Function, Here}
+use Rattle.sc_back_replay_laws.proofs.Common.{IsFixed, IsSome, List, Main, Memory, None, Obedient, Option, Piece, Roles}
+use Rattle.sc_back_replay_laws.proofs.Common.{Some, State, Step, TurnsOut, Value, [], and_then, ap, ap₂, arith}
+use Rattle.sc_back_replay_laws.proofs.Common.{back_own, begun, call_own, done, eq-eqb, exit_word, false, first_state}
+use Rattle.sc_back_replay_laws.proofs.Common.{found, function, if◌then◌else◌, is_some, length, main_proto, now}
+use Rattle.sc_back_replay_laws.proofs.Common.{performs, proto_of, refl, rows_left, run_by, run_goes_on, run_step}
+use Rattle.sc_back_replay_laws.proofs.Common.{run_to, scripted_goes_on, scripted_step, subst, suc, sym, true, within}
 use Rattle.sc_back_replay_laws.proofs.Common.{within_goes, zero, ℕ, ◌++◌, ◌∙◌, ◌∷◌, ◌≡◌, ◌≤◌}
 use Rattle.sc_core_laws.proofs.Runs.{scripted_fixed}
 use Rattle.sc_back_replay_laws.proofs.Text.{counting}

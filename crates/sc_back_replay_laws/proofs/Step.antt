@@ -1,18 +1,20 @@
 -- A function that performs its part by its text, beside the one that performs its rows.
-use Rattle.sc_back_replay_laws.proofs.Common.{Action, Blocks, Body, Bool, CallTarget, Calls, Cross, Entry, Here, Input, IsFixed}
-use Rattle.sc_back_replay_laws.proofs.Common.{IsPerforming, IsSome, IsWord, Left, Denotations, List, None, Option, Output, Own, Piece}
-use Rattle.sc_back_replay_laws.proofs.Common.{Reached, Return, Roles, Row, Scalar, Some, State, Step, Stopped, TurnsOut}
-use Rattle.sc_back_replay_laws.proofs.Common.{TypedStmt, TypedStruct, Value, Word, [], acts, all_do, and_then, ap, arith, calls}
-use Rattle.sc_back_replay_laws.proofs.Common.{cases_eq, count_of, drop, drop-drop, ends, eq-eqb, false, follow, if◌then◌else◌}
-use Rattle.sc_back_replay_laws.proofs.Common.{in_order, is_number, map, may_call, now, or_int, params_at, performs, proto_of}
-use Rattle.sc_back_replay_laws.proofs.Common.{refl, row_kind, rows_left, scripted_step, skips, stmt_at, subst, suc, sym, true}
-use Rattle.sc_back_replay_laws.proofs.Common.{waits, zero, ℕ, ⊎_elim, ◌+◌, ◌-◌, ◌<◌, ◌∙◌, ◌∷◌, ◌≡◌, ◌≤◌}
+use Rattle.sc_back_replay_laws.proofs.Common.{Action, Blocks, Body, Bool, CallTarget, Calls, Cross, Denotations, Entry}
+use Rattle.sc_back_replay_laws.proofs.Common.{Here, Input, IsFixed, IsPerforming, IsSome, IsWord, Left, List, None}
+use Rattle.sc_back_replay_laws.proofs.Common.{Option, Output, Own, Piece, Reached, Return, Roles, Row, Scalar, Some}
+use Rattle.sc_back_replay_laws.proofs.Common.{State, Step, Stopped, TurnsOut, TypedStmt, TypedStruct, Value, Word, []}
+use Rattle.sc_back_replay_laws.proofs.Common.{acts, all_do, and_then, ap, arith, calls, cases_eq, count_of, drop}
+use Rattle.sc_back_replay_laws.proofs.Common.{drop-drop, ends, eq-eqb, false, follow, if◌then◌else◌, in_order}
+use Rattle.sc_back_replay_laws.proofs.Common.{is_number, map, may_call, now, or_int, params_at, performs, proto_of}
+use Rattle.sc_back_replay_laws.proofs.Common.{refl, row_kind, rows_left, scripted_step, skips, stmt_at, subst, suc, sym}
+use Rattle.sc_back_replay_laws.proofs.Common.{true, waits, zero, ℕ, ⊎_elim, ◌+◌, ◌-◌, ◌<◌, ◌∙◌, ◌∷◌, ◌≡◌, ◌≤◌}
 use Rattle.sc_event.specs.declared.row.Action.TheVariants as act
 use Rattle.sc_back_replay_laws.specs.Texts.{performs as performs_row}
 use Rattle.sc_back_replay_laws.proofs.Values.{int_gives, int_shape, word_gives, word_shape, word_shapes}
-use Rattle.sc_back_replay_laws.proofs.Text.{Give, Halts, acts_there, action_does, call_does, counted, counting, does, none, one}
-use Rattle.sc_back_replay_laws.proofs.Text.{passes, return_does, row_does_is, waits_halts}
-use Rattle.sc_back_replay_laws.proofs.Near.{Both, Near, NearBy, Returns, ahead, counts, both_then, near_counted, reached, stopped}
+use Rattle.sc_back_replay_laws.proofs.Text.{Give, Halts, acts_there, action_does, call_does, counted, counting, does}
+use Rattle.sc_back_replay_laws.proofs.Text.{none, one, passes, return_does, row_does_is, waits_halts}
+use Rattle.sc_back_replay_laws.proofs.Near.{Both, Near, NearBy, Returns, ahead, counts, both_then, near_counted}
+use Rattle.sc_back_replay_laws.proofs.Near.{reached, stopped}
 
 -- a call that leaves its compartment, and one of the environment
 abbrev pub IsOut : CallTarget → Type 0

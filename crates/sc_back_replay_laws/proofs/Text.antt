@@ -1,14 +1,16 @@
 -- What the statements of a text that performs a part do, one by one.
-use Rattle.sc_back_replay_laws.proofs.Common.{Action, Acts, AssignLine, Block, Blocks, CallLine, CallTarget, Calls, Cross, Here}
-use Rattle.sc_back_replay_laws.proofs.Common.{IfLine, Input, Interfaces, Left, Lines, List, Lit, Next, NoLine, None, Ok, Option}
-use Rattle.sc_back_replay_laws.proofs.Common.{Output, Piece, Reached, Return, ReturnLine, ReturnValueLine, Row, Scalar, Shape}
-use Rattle.sc_back_replay_laws.proofs.Common.{Some, State, Stopped, TurnsOut, Two, TypedStmt, TypedStruct, Value, Var, Ways}
-use Rattle.sc_back_replay_laws.proofs.Common.{WhileLine, Word, [], action_kind, all_do, and_then, ap, assign, block_does, c_arith}
-use Rattle.sc_back_replay_laws.proofs.Common.{call_statement, calls_out, choose, computed, counter, counter_is, eq-eqb, evaluated}
-use Rattle.sc_back_replay_laws.proofs.Common.{expr, follow, in_order, leave, lines_are, lines_do, map, ne_eqb, of_bool, or_int}
-use Rattle.sc_back_replay_laws.proofs.Common.{params_at, refl, rolls-Binary, rolls-Variable, rounds, row_kind, stmt_at, stmt_does}
-use Rattle.sc_back_replay_laws.proofs.Common.{stmts, store, suc, sym, test, true, turn_of, values, variable_at, waits, way}
-use Rattle.sc_back_replay_laws.proofs.Common.{with_memory, zero, ℕ, ◌++◌, ◌==◌, ◌∙◌, ◌∷◌, ◌≡◌}
+use Rattle.sc_back_replay_laws.proofs.Common.{Action, Acts, AssignLine, Block, Blocks, CallLine, CallTarget, Calls}
+use Rattle.sc_back_replay_laws.proofs.Common.{Cross, Here, IfLine, Input, Interfaces, Left, Lines, List, Lit, Next}
+use Rattle.sc_back_replay_laws.proofs.Common.{NoLine, None, Ok, Option, Output, Piece, Reached, Return, ReturnLine}
+use Rattle.sc_back_replay_laws.proofs.Common.{ReturnValueLine, Row, Scalar, Shape, Some, State, Stopped, TurnsOut, Two}
+use Rattle.sc_back_replay_laws.proofs.Common.{TypedStmt, TypedStruct, Value, Var, Ways, WhileLine, Word, []}
+use Rattle.sc_back_replay_laws.proofs.Common.{action_kind, all_do, and_then, ap, assign, block_does, c_arith}
+use Rattle.sc_back_replay_laws.proofs.Common.{call_statement, calls_out, choose, computed, counter, counter_is, eq-eqb}
+use Rattle.sc_back_replay_laws.proofs.Common.{evaluated, expr, follow, in_order, leave, lines_are, lines_do, map}
+use Rattle.sc_back_replay_laws.proofs.Common.{ne_eqb, of_bool, or_int, params_at, refl, rolls-Binary, rolls-Variable}
+use Rattle.sc_back_replay_laws.proofs.Common.{rounds, row_kind, stmt_at, stmt_does, stmts, store, suc, sym, test, true}
+use Rattle.sc_back_replay_laws.proofs.Common.{turn_of, values, variable_at, waits, way, with_memory, zero, ℕ, ◌++◌}
+use Rattle.sc_back_replay_laws.proofs.Common.{◌==◌, ◌∙◌, ◌∷◌, ◌≡◌}
 use Rattle.sc_base.specs.declared.op.BinaryOp.TheVariants as op
 use Rattle.sc_event.specs.declared.row.Action.TheVariants as act
 use Rattle.sc_core.specs.declared.expr.TypedKind
@@ -19,7 +21,8 @@ use Rattle.sc_core.specs.declared.stmt.TypedStmtKind.TheVariants.{rolls-ReturnVa
 use Rattle.sc_core.specs.declared.ty.Ty.TheVariants as ty
 use Rattle.sc_core.specs.declared.value.Cell.TheVariants as cell
 use Rattle.sc_core.specs.declared.value.Want.TheVariants as want
-use Rattle.sc_back_replay_laws.proofs.Values.{Gives, int_is, int_shape, literal_is, word_is, word_shape, word_shapes, words_are}
+use Rattle.sc_back_replay_laws.proofs.Values.{Gives, int_is, int_shape, literal_is, word_is, word_shape, word_shapes}
+use Rattle.sc_back_replay_laws.proofs.Values.{words_are}
 
 -- STATEMENTS BY SHAPES
 abbrev pub bt_n : Shape

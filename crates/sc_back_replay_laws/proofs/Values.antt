@@ -1,9 +1,10 @@
 -- How a word is written as an expression, and that this gives the word.
 use Rattle.sc_back_replay_laws.proofs.Common.{Blocks, Bool, Err, Here, IsWord, List, Lit, Ok, One, Scalar, Shape, Two}
-use Rattle.sc_back_replay_laws.proofs.Common.{TypedStruct, Word, [], ap, ap₂, arith, as_word, c_arith, eq-eqb, eqb-true, expr}
-use Rattle.sc_back_replay_laws.proofs.Common.{false, if◌then◌else◌, int_expr, least_int, leb-false, literal, map, minus, nat_le}
-use Rattle.sc_back_replay_laws.proofs.Common.{neg_ℤ, negsuc, or_cause, pos, refl, rolls-Binary, rolls-Literal, rolls-Unary, suc}
-use Rattle.sc_back_replay_laws.proofs.Common.{sym, true, way, word_expr, word_exprs, zero, ℕ, ◌-◌, ◌<◌, ◌==◌, ◌^◌, ◌∙◌, ◌∷◌, ◌≡◌}
+use Rattle.sc_back_replay_laws.proofs.Common.{TypedStruct, Word, [], ap, ap₂, arith, as_word, c_arith, eq-eqb, eqb-true}
+use Rattle.sc_back_replay_laws.proofs.Common.{expr, false, if◌then◌else◌, int_expr, least_int, leb-false, literal, map}
+use Rattle.sc_back_replay_laws.proofs.Common.{minus, nat_le, neg_ℤ, negsuc, or_cause, pos, refl, rolls-Binary}
+use Rattle.sc_back_replay_laws.proofs.Common.{rolls-Literal, rolls-Unary, suc, sym, true, way, word_expr, word_exprs}
+use Rattle.sc_back_replay_laws.proofs.Common.{zero, ℕ, ◌-◌, ◌<◌, ◌==◌, ◌^◌, ◌∙◌, ◌∷◌, ◌≡◌}
 use Rattle.sc_word.specs.Prelude.{fits_signed, neg_signed, signed_of, word_of}
 use Rattle.sc_base.specs.declared.op.BinaryOp.TheVariants as op
 use Rattle.sc_base.specs.declared.op.UnaryOp.TheVariants as unary

@@ -1,13 +1,14 @@
 -- Actions as statements: their words, and what these come to.
-use Rattle.sc_back_reread_laws.proofs.Common.{AllByRecursion, ExprTree, Interfaces, IsSpoken, IsTrue, IsWord, IsWordOrNone, List}
-use Rattle.sc_back_reread_laws.proofs.Common.{None, Option, Piece, Proto, Scalar, Some, [], action_kind, action_text, and_from}
-use Rattle.sc_back_reread_laws.proofs.Common.{ap, append_assoc, ap₂, arith, blank, call_kind, call_text, call_words, codes, comma}
-use Rattle.sc_back_reread_laws.proofs.Common.{ended, expr_height, expr_words, exprs_height, flat_map, flat_map-append}
-use Rattle.sc_back_reread_laws.proofs.Common.{input_proto, is_ident, is_kept, is_kept_stmt, is_name, is_reserved, join_by, joined}
+use Rattle.sc_back_reread_laws.proofs.Common.{AllByRecursion, ExprTree, Interfaces, IsSpoken, IsTrue, IsWord}
+use Rattle.sc_back_reread_laws.proofs.Common.{IsWordOrNone, List, None, Option, Piece, Proto, Scalar, Some, []}
+use Rattle.sc_back_reread_laws.proofs.Common.{action_kind, action_text, and_from, ap, append_assoc, ap₂, arith, blank}
+use Rattle.sc_back_reread_laws.proofs.Common.{call_kind, call_text, call_words, codes, comma, ended, expr_height}
+use Rattle.sc_back_reread_laws.proofs.Common.{expr_words, exprs_height, flat_map, flat_map-append, input_proto}
+use Rattle.sc_back_reread_laws.proofs.Common.{is_ident, is_kept, is_kept_stmt, is_name, is_reserved, join_by, joined}
 use Rattle.sc_back_reread_laws.proofs.Common.{list_all, output_proto, piece_text, recursion_from_All, refl, return_kind}
-use Rattle.sc_back_reread_laws.proofs.Common.{return_text, return_words, rules, stmt_height, stmt_layout, suc, text_of, true}
-use Rattle.sc_back_reread_laws.proofs.Common.{unlined, value_texts, value_tree, value_trees, word, ℕ, ◌&&◌, ◌++◌, ◌∙◌, ◌∷◌, ◌≡◌}
-use Rattle.sc_back_reread_laws.proofs.Common.{◌≤◌}
+use Rattle.sc_back_reread_laws.proofs.Common.{return_text, return_words, rules, stmt_height, stmt_layout, suc, text_of}
+use Rattle.sc_back_reread_laws.proofs.Common.{true, unlined, value_texts, value_tree, value_trees, word, ℕ, ◌&&◌, ◌++◌}
+use Rattle.sc_back_reread_laws.proofs.Common.{◌∙◌, ◌∷◌, ◌≡◌, ◌≤◌}
 use Rattle.sc_event.specs.Prelude.{export_at}
 use Rattle.sc_ast.specs.declared.stmt.StmtKind.{StmtKind}
 use Rattle.sc_event.specs.declared.interface.Scalar.TheVariants as scalar
@@ -19,8 +20,9 @@ use Rattle.sc_ast.specs.declared.stmt.StmtTree as stmts
 use Rattle.sc_ast.specs.declared.stmt.StmtKind as kinds
 use Rattle.sc_ast.specs.declared.stmt.StmtKind.TheVariants as stmt
 use Rattle.sc_parse_expr.specs.declared.mark.Keyword.TheVariants as keyword
-use Rattle.sc_back_reread_laws.proofs.Nesting.{Nested, even_comma, even_ident, even_keyword, even_semicolon, nested_append}
-use Rattle.sc_back_reread_laws.proofs.Nesting.{nested_blank, nested_even, nested_more, nested_none, nested_parens}
+use Rattle.sc_back_reread_laws.proofs.Nesting.{Nested, even_comma, even_ident, even_keyword, even_semicolon}
+use Rattle.sc_back_reread_laws.proofs.Nesting.{nested_append, nested_blank, nested_even, nested_more, nested_none}
+use Rattle.sc_back_reread_laws.proofs.Nesting.{nested_parens}
 use Rattle.sc_back_reread_laws.proofs.Values.{value_is}
 
 -- Arguments.

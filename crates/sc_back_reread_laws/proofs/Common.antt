@@ -46,18 +46,18 @@ pub use Rattle.sc_parse_expr.specs.declared.lexeme.Lexeme.{Lexeme}
 pub use Rattle.sc_parse_expr.specs.declared.lexeme.Symbol.{Symbol}
 pub use Rattle.sc_parse.specs.Prelude.{Grouped, IsParsed, SpellsDecl, SpellsDirectives, SpellsFunction, SpellsHead}
 pub use Rattle.sc_parse.specs.Prelude.{SpellsSection, lexemes_of}
-pub use Rattle.sc_parse_print_laws.proofs.DirectiveWords.{export_says, heading_begins, heading_is, heading_line_is, heading_says}
-pub use Rattle.sc_parse_print_laws.proofs.DirectiveWords.{import_says}
+pub use Rattle.sc_parse_print_laws.proofs.DirectiveWords.{export_says, heading_begins, heading_is, heading_line_is}
+pub use Rattle.sc_parse_print_laws.proofs.DirectiveWords.{heading_says, import_says}
 pub use Rattle.sc_parse_print_laws.proofs.Lined.{Found, Lined, found_lines, line, tidy}
-pub use Rattle.sc_parse_print_laws.proofs.Literals.{literal_kind, literal_says, literal_some, name_kind, name_says, name_some}
-pub use Rattle.sc_parse_print_laws.proofs.Literals.{no_table}
+pub use Rattle.sc_parse_print_laws.proofs.Literals.{literal_kind, literal_says, literal_some, name_kind, name_says}
+pub use Rattle.sc_parse_print_laws.proofs.Literals.{name_some, no_table}
 pub use Rattle.sc_parse_print_laws.proofs.Reading.{Reading, Say, joined_symbols}
 pub use Rattle.sc_parse_print_laws.proofs.Spacing.{Tidy, at_level, gap, line_end, lone, next, run_is, tidy_append}
 pub use Rattle.sc_parse_print_laws.proofs.TreeSpacing.{Free, decl_tidy, head_tidy, stmt_holds}
 pub use Rattle.sc_parse_print_laws.proofs.Whole.{exports_lined, imports_lined, section_reads}
-pub use Rattle.sc_parse_print_laws.specs.Prelude.{are_kept, is_kept, is_kept_decl, is_kept_stmt, kept_export, kept_function}
-pub use Rattle.sc_parse_print_laws.specs.Prelude.{kept_head, kept_import, kept_param, kept_section, piece_symbols, symbols}
-pub use Rattle.sc_parse_print_laws.specs.Prelude.{word_symbol}
+pub use Rattle.sc_parse_print_laws.specs.Prelude.{are_kept, is_kept, is_kept_decl, is_kept_stmt, kept_export}
+pub use Rattle.sc_parse_print_laws.specs.Prelude.{kept_function, kept_head, kept_import, kept_param, kept_section}
+pub use Rattle.sc_parse_print_laws.specs.Prelude.{piece_symbols, symbols, word_symbol}
 pub use Rattle.sc_parse_read.specs.Reading.{IsRead, Part, part_of}
 pub use Rattle.sc_back.specs.Prelude.{AllBecome, AreNumbered, Becomes, CanPerform, IsCalled, IsImported, IsSpoken}
 pub use Rattle.sc_back.specs.Prelude.{IsWord, IsWordOrNone, action_kind, action_text, all_functions, back_text}

@@ -1,7 +1,7 @@
 -- A compartment that can perform, and the text by which it does.
-use Rattle.sc_back_reread_laws.proofs.Common.{All-from_recursion, CanPerform, Interface, Interfaces, IsCalled, IsImported}
-use Rattle.sc_back_reread_laws.proofs.Common.{IsReadAs, IsSpoken, IsWord, List, None, Proto, Row, Some, [], arith, back_text}
-use Rattle.sc_back_reread_laws.proofs.Common.{back_tree, codes, is_name, is_reserved, refl, ◌∷◌}
+use Rattle.sc_back_reread_laws.proofs.Common.{All-from_recursion, CanPerform, Interface, Interfaces, IsCalled}
+use Rattle.sc_back_reread_laws.proofs.Common.{IsImported, IsReadAs, IsSpoken, IsWord, List, None, Proto, Row, Some, []}
+use Rattle.sc_back_reread_laws.proofs.Common.{arith, back_text, back_tree, codes, is_name, is_reserved, refl, ◌∷◌}
 use Rattle.sc_event.specs.declared.interface.Import.TheVariants as import
 use Rattle.sc_event.specs.declared.interface.Scalar.TheVariants.{Int}
 use Rattle.sc_event.specs.declared.row.Action.TheVariants.{Call, End}

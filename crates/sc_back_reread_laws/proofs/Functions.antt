@@ -1,13 +1,15 @@
 -- Functions that perform: their words, and what these come to.
-use Rattle.sc_back_reread_laws.proofs.Common.{Bool, Entry, FunctionTree, Interfaces, IsCalled, List, Option, Piece, Proto, Row}
-use Rattle.sc_back_reread_laws.proofs.Common.{Scalar, StmtTree, [], and_from, ap, append_assoc, ap₂, are_kept, arith, at_level}
-use Rattle.sc_back_reread_laws.proofs.Common.{blank, body_tree, codes, digits, false, filter, flat_map, flat_map-append}
-use Rattle.sc_back_reread_laws.proofs.Common.{function_head, function_height, function_text, function_tree, function_words, gap}
-use Rattle.sc_back_reread_laws.proofs.Common.{head_of, head_tidy, head_words, if◌then◌else◌, indent, is_kept_stmt, is_of}
-use Rattle.sc_back_reread_laws.proofs.Common.{joined_symbols, kept_function, kept_head, layouts, line_end, line_of, lines_at}
-use Rattle.sc_back_reread_laws.proofs.Common.{literal, literal_text, lone, newline, next, piece_text, proto_head, refl, row_kind}
-use Rattle.sc_back_reread_laws.proofs.Common.{row_text, rules, stmt_height, stmt_layout, stmts_height, subst, sym, symbols}
-use Rattle.sc_back_reread_laws.proofs.Common.{text_of, tidy_append, true, unlined, word, word_symbol, ℕ, ◌++◌, ◌∙◌, ◌∷◌, ◌≡◌, ◌≤◌}
+use Rattle.sc_back_reread_laws.proofs.Common.{Bool, Entry, FunctionTree, Interfaces, IsCalled, List, Option, Piece}
+use Rattle.sc_back_reread_laws.proofs.Common.{Proto, Row, Scalar, StmtTree, [], and_from, ap, append_assoc, ap₂}
+use Rattle.sc_back_reread_laws.proofs.Common.{are_kept, arith, at_level, blank, body_tree, codes, digits, false, filter}
+use Rattle.sc_back_reread_laws.proofs.Common.{flat_map, flat_map-append, function_head, function_height, function_text}
+use Rattle.sc_back_reread_laws.proofs.Common.{function_tree, function_words, gap, head_of, head_tidy, head_words}
+use Rattle.sc_back_reread_laws.proofs.Common.{if◌then◌else◌, indent, is_kept_stmt, is_of, joined_symbols, kept_function}
+use Rattle.sc_back_reread_laws.proofs.Common.{kept_head, layouts, line_end, line_of, lines_at, literal, literal_text}
+use Rattle.sc_back_reread_laws.proofs.Common.{lone, newline, next, piece_text, proto_head, refl, row_kind, row_text}
+use Rattle.sc_back_reread_laws.proofs.Common.{rules, stmt_height, stmt_layout, stmts_height, subst, sym, symbols}
+use Rattle.sc_back_reread_laws.proofs.Common.{text_of, tidy_append, true, unlined, word, word_symbol, ℕ, ◌++◌, ◌∙◌, ◌∷◌}
+use Rattle.sc_back_reread_laws.proofs.Common.{◌≡◌, ◌≤◌}
 use Rattle.sc_ast.specs.declared.expr.ExprTree as exprs
 use Rattle.sc_ast.specs.declared.stmt.StmtTree as stmts
 use Rattle.sc_ast.specs.declared.stmt.StmtKind as kinds
@@ -16,8 +18,9 @@ use Rattle.sc_parse_expr.specs.declared.mark.Keyword.TheVariants as keyword
 use Rattle.sc_parse_print_laws.proofs.Spacing as apart
 use Rattle.sc_parse_print_laws.proofs.Tables as tables
 use Rattle.sc_parse_print_laws.proofs.Spacing.{none}
-use Rattle.sc_back_reread_laws.proofs.Nesting.{Nested, even_keyword, even_literal, nested_append, nested_blank, nested_curly}
-use Rattle.sc_back_reread_laws.proofs.Nesting.{nested_even, nested_level, nested_line, nested_more, nested_none, nested_parens}
+use Rattle.sc_back_reread_laws.proofs.Nesting.{Nested, even_keyword, even_literal, nested_append, nested_blank}
+use Rattle.sc_back_reread_laws.proofs.Nesting.{nested_curly, nested_even, nested_level, nested_line, nested_more}
+use Rattle.sc_back_reread_laws.proofs.Nesting.{nested_none, nested_parens}
 use Rattle.sc_back_reread_laws.proofs.Rows.{AreSpoken, Same, literal_word, row_is}
 use Rattle.sc_back_reread_laws.proofs.Heads.{head_is, heads_same}
 use Rattle.sc_back_reread_laws.proofs.Values.{literal_number}

@@ -1,11 +1,12 @@
 -- Where compartment lines stand in joined texts.
-use Rattle.sc_back_reread_laws.proofs.Common.{Bool, List, [], and_from, and_parts, ap, append-nil, append_assoc, ap₂, arith}
-use Rattle.sc_back_reread_laws.proofs.Common.{begins_heading, begins_line, codes, cond, drop, drop-append-le, drop-append_seam}
-use Rattle.sc_back_reread_laws.proofs.Common.{drop-drop, eq-eqb, eqb-true, false, false≢true, first_line, get_or-drop}
-use Rattle.sc_back_reread_laws.proofs.Common.{get_or_append_left, heading_begins, inl, inr, is_heading, is_inside_line, length}
-use Rattle.sc_back_reread_laws.proofs.Common.{length-drop, line_len, list_all, ne_eqb, not, refl, slice_index, subst, suc, sym}
-use Rattle.sc_back_reread_laws.proofs.Common.{take, take-append-drop, take-append-le, true, zero, ℕ, ◌&&◌, ◌++◌, ◌+◌, ◌-◌, ◌<◌}
-use Rattle.sc_back_reread_laws.proofs.Common.{◌==◌, ◌||◌, ◌∙◌, ◌∷◌, ◌≡◌, ◌≤◌, ◌⊎◌}
+use Rattle.sc_back_reread_laws.proofs.Common.{Bool, List, [], and_from, and_parts, ap, append-nil, append_assoc, ap₂}
+use Rattle.sc_back_reread_laws.proofs.Common.{arith, begins_heading, begins_line, codes, cond, drop, drop-append-le}
+use Rattle.sc_back_reread_laws.proofs.Common.{drop-append_seam, drop-drop, eq-eqb, eqb-true, false, false≢true}
+use Rattle.sc_back_reread_laws.proofs.Common.{first_line, get_or-drop, get_or_append_left, heading_begins, inl, inr}
+use Rattle.sc_back_reread_laws.proofs.Common.{is_heading, is_inside_line, length, length-drop, line_len, list_all}
+use Rattle.sc_back_reread_laws.proofs.Common.{ne_eqb, not, refl, slice_index, subst, suc, sym, take, take-append-drop}
+use Rattle.sc_back_reread_laws.proofs.Common.{take-append-le, true, zero, ℕ, ◌&&◌, ◌++◌, ◌+◌, ◌-◌, ◌<◌, ◌==◌, ◌||◌, ◌∙◌}
+use Rattle.sc_back_reread_laws.proofs.Common.{◌∷◌, ◌≡◌, ◌≤◌, ◌⊎◌}
 use Rattle.std.proofs.lemmas.Bool.Decides.{Decides-eqb}
 use Rattle.std.proofs.lemmas.Slice.Eq.{slice_eq-Decides}
 
@@ -71,7 +72,8 @@ cross (b ∷ m) (c ∷ []) following rest inside e d l some =
 cross (b ∷ m) (c ∷ x ∷ text) following rest inside e d l some =
     let same : c ≡ b = cc in
     let tails : (x ∷ text) ++ following ≡ m ++ rest = cc in
-    let more = cross m (x ∷ text) following rest (and_parts (is_inside_line b) (list_all is_inside_line m) inside).1 tails
+    let more = cross m (x ∷ text) following rest (and_parts (is_inside_line b) (list_all is_inside_line m) inside).1
+    tails
     c l (omega arith) in
     (more.0, ap₂ (λ y ys. y ∷ ys) same more.1)
 
@@ -86,10 +88,12 @@ begins_inside text following some ends h = elim ends [
 pub begins_outside : (text following : List ℕ) → begins_heading text ≡ true → begins_heading (text ++ following) ≡ true
 begins_outside text following h =
     let b = to_begins text h in
-    from_begins (text ++ following) (b.rest ++ following) (ap (λ x. x ++ following) b.is ∙ append_assoc mark b.rest following)
+    from_begins (text ++ following) (b.rest ++ following)
+    (ap (λ x. x ++ following) b.is ∙ append_assoc mark b.rest following)
 
 -- a place inside the text
-line_inside : (text following : List ℕ) (k : ℕ) → k < length text → begins_line (text ++ following) k ≡ begins_line text k
+line_inside : (text following : List ℕ) (k : ℕ) → k < length text →
+    begins_line (text ++ following) k ≡ begins_line text k
 line_inside text following k low = ap (λ b. (k == 0) || (b == 10))
     (get_or_append_left text following 0 (k - 1) (omega (arith, low)))
 
@@ -103,7 +107,8 @@ pub heading_inside : (text following : List ℕ) (k : ℕ) → k < length text �
     is_heading (text ++ following) k ≡ true → is_heading text k ≡ true
 heading_inside text following k low ends h =
     let parts = and_parts (begins_line (text ++ following) k) (begins_heading (drop k (text ++ following))) h in
-    let cut : drop k (text ++ following) ≡ drop k text ++ following = drop-append-le k text following (omega (arith, low)) in
+    let cut : drop k (text ++ following) ≡ drop k text ++ following =
+    drop-append-le k text following (omega (arith, low)) in
     let long = length-drop k text in
     and_from (begins_line text k) (begins_heading (drop k text)) (sym (line_inside text following k low) ∙ parts.0)
     (begins_inside (drop k text) following (omega (arith, long, low)) (ends_drop text following k low ends)
@@ -113,7 +118,8 @@ pub heading_outside : (text following : List ℕ) (k : ℕ) → k < length text 
     is_heading (text ++ following) k ≡ true
 heading_outside text following k low h =
     let parts = and_parts (begins_line text k) (begins_heading (drop k text)) h in
-    let cut : drop k (text ++ following) ≡ drop k text ++ following = drop-append-le k text following (omega (arith, low)) in
+    let cut : drop k (text ++ following) ≡ drop k text ++ following =
+    drop-append-le k text following (omega (arith, low)) in
     and_from (begins_line (text ++ following) k) (begins_heading (drop k (text ++ following)))
     (line_inside text following k low ∙ parts.0)
     (subst (λ b. begins_heading b ≡ true) (sym cut) (begins_outside (drop k text) following parts.1))
@@ -167,7 +173,8 @@ prefix_ends (x ∷ prefix) text h =
 pub heading_begins_after : (prefix text : List ℕ) → is_heading (prefix ++ text) (length prefix) ≡ true →
     begins_heading text ≡ true
 heading_begins_after prefix text h = subst (λ b. begins_heading b ≡ true) (drop-append_seam prefix text)
-    (and_parts (begins_line (prefix ++ text) (length prefix)) (begins_heading (drop (length prefix) (prefix ++ text))) h).1
+    (and_parts (begins_line (prefix ++ text) (length prefix)) (begins_heading (drop (length prefix) (prefix ++ text)))
+    h).1
 
 -- the first line of a text that ends with a newline, or that nothing follows
 line_len_kept : (text following : List ℕ) (d : ℕ) → last d text ≡ 10 → 0 < length text →
@@ -180,7 +187,8 @@ line_len_kept (x ∷ y ∷ text) following d l some =
     let rest = line_len_kept (y ∷ text) following x l (omega arith) in
     by (is_inside_line x) rest.0 rest.1
   where
-    by : (b : Bool) → line_len ((y ∷ text) ++ following) ≡ line_len (y ∷ text) → line_len (y ∷ text) < length (y ∷ text) →
+    by : (b : Bool) → line_len ((y ∷ text) ++ following) ≡ line_len (y ∷ text) →
+        line_len (y ∷ text) < length (y ∷ text) →
         (cond b (1 + line_len ((y ∷ text) ++ following)) 0 ≡ cond b (1 + line_len (y ∷ text)) 0) ×
         (cond b (1 + line_len (y ∷ text)) 0 < length (x ∷ y ∷ text))
     by true e low = (ap (λ n. 1 + n) e, omega (arith, low))

@@ -1,16 +1,18 @@
 -- In the text of a performing section stands no other compartment line.
-use Rattle.sc_back_reread_laws.proofs.Common.{AllByRecursion, Bool, CanPerform, Entry, Import, Interface, Interfaces, IsCalled}
-use Rattle.sc_back_reread_laws.proofs.Common.{IsImported, IsTrue, List, None, Option, Piece, Proto, Row, Some, TokenKind, []}
-use Rattle.sc_back_reread_laws.proofs.Common.{and_from, and_parts, ap, append-nil, append_assoc, arith, begins_heading}
-use Rattle.sc_back_reread_laws.proofs.Common.{begins_line, codes, directive_kind, drop, drop_all, export_text, false, false≢true}
-use Rattle.sc_back_reread_laws.proofs.Common.{filter, first_line, flat_map, function_text, functions_text, head_text}
-use Rattle.sc_back_reread_laws.proofs.Common.{heading_begins, heading_is, heading_line_is, if◌then◌else◌, import_text, is_digit}
-use Rattle.sc_back_reread_laws.proofs.Common.{is_directive, is_export, is_heading, is_import, is_inside_line, is_name}
-use Rattle.sc_back_reread_laws.proofs.Common.{is_name_byte, is_nondigit, is_of, is_pragma, is_some, length, list_all, main_proto}
-use Rattle.sc_back_reread_laws.proofs.Common.{main_text, mark_kind, marks, nat_lt, no_table, not, option_or, or_left, owner_name}
-use Rattle.sc_back_reread_laws.proofs.Common.{proto_text, recursion_from_All, refl, replicate, row_text, run_is, section_text}
-use Rattle.sc_back_reread_laws.proofs.Common.{slice_index, subst, suc, sym, take, take-append_seam, text_of, true, zero, ℕ, ◌&&◌}
-use Rattle.sc_back_reread_laws.proofs.Common.{◌*◌, ◌++◌, ◌==◌, ◌∙◌, ◌∷◌, ◌≡◌, ◌≤◌}
+use Rattle.sc_back_reread_laws.proofs.Common.{AllByRecursion, Bool, CanPerform, Entry, Import, Interface, Interfaces}
+use Rattle.sc_back_reread_laws.proofs.Common.{IsCalled, IsImported, IsTrue, List, None, Option, Piece, Proto, Row, Some}
+use Rattle.sc_back_reread_laws.proofs.Common.{TokenKind, [], and_from, and_parts, ap, append-nil, append_assoc, arith}
+use Rattle.sc_back_reread_laws.proofs.Common.{begins_heading, begins_line, codes, directive_kind, drop, drop_all}
+use Rattle.sc_back_reread_laws.proofs.Common.{export_text, false, false≢true, filter, first_line, flat_map}
+use Rattle.sc_back_reread_laws.proofs.Common.{function_text, functions_text, head_text, heading_begins, heading_is}
+use Rattle.sc_back_reread_laws.proofs.Common.{heading_line_is, if◌then◌else◌, import_text, is_digit, is_directive}
+use Rattle.sc_back_reread_laws.proofs.Common.{is_export, is_heading, is_import, is_inside_line, is_name, is_name_byte}
+use Rattle.sc_back_reread_laws.proofs.Common.{is_nondigit, is_of, is_pragma, is_some, length, list_all, main_proto}
+use Rattle.sc_back_reread_laws.proofs.Common.{main_text, mark_kind, marks, nat_lt, no_table, not, option_or, or_left}
+use Rattle.sc_back_reread_laws.proofs.Common.{owner_name, proto_text, recursion_from_All, refl, replicate, row_text}
+use Rattle.sc_back_reread_laws.proofs.Common.{run_is, section_text, slice_index, subst, suc, sym, take}
+use Rattle.sc_back_reread_laws.proofs.Common.{take-append_seam, text_of, true, zero, ℕ, ◌&&◌, ◌*◌, ◌++◌, ◌==◌, ◌∙◌, ◌∷◌}
+use Rattle.sc_back_reread_laws.proofs.Common.{◌≡◌, ◌≤◌}
 use Rattle.sc_base.proofs.Lists.{list_all_along}
 use Rattle.sc_event.specs.declared.row.Entry.TheVariants as entry
 unfoldable use Rattle.sc_lex.specs.Prelude.{heading_name, is_mark, kind_of, line_kind, word_kind, words}
@@ -138,7 +140,8 @@ import_headless text h zero is =
     absurd (omega (arith, e))
 import_headless text h (suc at) is = plain_then (codes "pragma import ") text refl h at is
 
-exports_headless : (exports : List Proto) → AllByRecursion IsCalled exports → (following : List ℕ) → Headless following →
+exports_headless : (exports : List Proto) → AllByRecursion IsCalled exports → (following : List ℕ) →
+    Headless following →
     Headless (flat_map export_text exports ++ following)
 exports_headless [] h following k = k
 exports_headless (f ∷ exports) h following k =

@@ -1,18 +1,19 @@
 -- Heads of functions: their words, and what these come to.
-use Rattle.sc_back_reread_laws.proofs.Common.{Bool, IsCalled, List, None, Option, Piece, Proto, Scalar, Some, [], and_from}
-use Rattle.sc_back_reread_laws.proofs.Common.{and_parts, ap, append-nil, append_assoc, ap₂, arith, cases_lt, codes, comma}
-use Rattle.sc_back_reread_laws.proofs.Common.{decimal, flat_map, flat_map-append, function_head, function_params, head_of}
-use Rattle.sc_back_reread_laws.proofs.Common.{head_text, head_words, is_ident, is_name, is_reserved, kept_head, kept_param}
-use Rattle.sc_back_reread_laws.proofs.Common.{length, list_all, map, option_map, param_name, param_of, param_text, param_texts}
-use Rattle.sc_back_reread_laws.proofs.Common.{param_words, params_text, params_words, piece_text, proto_head, proto_params, refl}
-use Rattle.sc_back_reread_laws.proofs.Common.{result_text, result_words, subst, suc, text_of, true, type_name, word, zero, ℕ}
-use Rattle.sc_back_reread_laws.proofs.Common.{⊎_elim, ◌&&◌, ◌++◌, ◌+◌, ◌<◌, ◌∙◌, ◌∷◌, ◌≡◌, ◌≤◌}
+use Rattle.sc_back_reread_laws.proofs.Common.{Bool, IsCalled, List, None, Option, Piece, Proto, Scalar, Some, []}
+use Rattle.sc_back_reread_laws.proofs.Common.{and_from, and_parts, ap, append-nil, append_assoc, ap₂, arith, cases_lt}
+use Rattle.sc_back_reread_laws.proofs.Common.{codes, comma, decimal, flat_map, flat_map-append, function_head}
+use Rattle.sc_back_reread_laws.proofs.Common.{function_params, head_of, head_text, head_words, is_ident, is_name}
+use Rattle.sc_back_reread_laws.proofs.Common.{is_reserved, kept_head, kept_param, length, list_all, map, option_map}
+use Rattle.sc_back_reread_laws.proofs.Common.{param_name, param_of, param_text, param_texts, param_words, params_text}
+use Rattle.sc_back_reread_laws.proofs.Common.{params_words, piece_text, proto_head, proto_params, refl, result_text}
+use Rattle.sc_back_reread_laws.proofs.Common.{result_words, subst, suc, text_of, true, type_name, word, zero, ℕ, ⊎_elim}
+use Rattle.sc_back_reread_laws.proofs.Common.{◌&&◌, ◌++◌, ◌+◌, ◌<◌, ◌∙◌, ◌∷◌, ◌≡◌, ◌≤◌}
 use Rattle.std.proofs.lemmas.Fmt.{decimal_digit}
 use Rattle.sc_event.specs.declared.interface.Scalar.TheVariants as scalar
 use Rattle.sc_ast.specs.declared.section.ParamTree.{ParamTree}
 use Rattle.sc_parse_expr.specs.declared.mark.Keyword.TheVariants as keyword
-use Rattle.sc_back_reread_laws.proofs.Nesting.{Nested, even_comma, even_ident, even_keyword, nested_append, nested_blank}
-use Rattle.sc_back_reread_laws.proofs.Nesting.{nested_even, nested_none, nested_parens}
+use Rattle.sc_back_reread_laws.proofs.Nesting.{Nested, even_comma, even_ident, even_keyword, nested_append}
+use Rattle.sc_back_reread_laws.proofs.Nesting.{nested_blank, nested_even, nested_none, nested_parens}
 
 -- names of parameters
 abbrev digit_ident : ℕ → Bool

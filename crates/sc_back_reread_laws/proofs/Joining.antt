@@ -1,11 +1,13 @@
 -- Joined texts of sections are split into them.
-use Rattle.sc_back_reread_laws.proofs.Common.{AreSections, IsSection, IsSplit, List, Section, [], ap, append-nil, append_assoc}
-use Rattle.sc_back_reread_laws.proofs.Common.{ap₂, arith, concat, drop, drop-append_seam, first_line, inl, inr, is_heading}
-use Rattle.sc_back_reread_laws.proofs.Common.{length, length-append, line_at, map, none, refl, section, subst, sym, take}
-use Rattle.sc_back_reread_laws.proofs.Common.{take-append-drop, take-append_seam, true, ℕ, ◌++◌, ◌+◌, ◌-◌, ◌∙◌, ◌∷◌, ◌≡◌, ◌⊎◌}
+use Rattle.sc_back_reread_laws.proofs.Common.{AreSections, IsSection, IsSplit, List, Section, [], ap, append-nil}
+use Rattle.sc_back_reread_laws.proofs.Common.{append_assoc, ap₂, arith, concat, drop, drop-append_seam, first_line, inl}
+use Rattle.sc_back_reread_laws.proofs.Common.{inr, is_heading, length, length-append, line_at, map, none, refl, section}
+use Rattle.sc_back_reread_laws.proofs.Common.{subst, sym, take, take-append-drop, take-append_seam, true, ℕ, ◌++◌, ◌+◌}
+use Rattle.sc_back_reread_laws.proofs.Common.{◌-◌, ◌∙◌, ◌∷◌, ◌≡◌, ◌⊎◌}
 unfoldable use Rattle.sc_lex.specs.Prelude.{heading_name}
-use Rattle.sc_back_reread_laws.proofs.Headings.{Ends, begins_outside, first_line_kept, prefix_ends, heading_after, heading_first}
-use Rattle.sc_back_reread_laws.proofs.Headings.{heading_inside, heading_outside, last, last_any, last_append}
+use Rattle.sc_back_reread_laws.proofs.Headings.{Ends, begins_outside, first_line_kept, prefix_ends, heading_after}
+use Rattle.sc_back_reread_laws.proofs.Headings.{heading_first, heading_inside, heading_outside, last, last_any}
+use Rattle.sc_back_reread_laws.proofs.Headings.{last_append}
 use Rattle.sc_back_reread_laws.proofs.Splitting.{IsText, Joined, bytes_of, more, nothing, some_bytes}
 
 -- a text is joined to others

@@ -1,12 +1,14 @@
 -- Names in trees that were read are identifiers: they come from symbols, which tokens say.
-use Rattle.sc_back_reread_laws.proofs.Common.{All-from_recursion, AllByRecursion, AllZip, Bool, Decl, FunctionTree, Grouped}
-use Rattle.sc_back_reread_laws.proofs.Common.{ImportLine, IsRead, IsTrue, Lexeme, List, None, Option, Part, SectionTree, Some}
-use Rattle.sc_back_reread_laws.proofs.Common.{SpellsDecl, SpellsDirectives, SpellsFunction, SpellsHead, SpellsSection, Symbol}
-use Rattle.sc_back_reread_laws.proofs.Common.{Token, TokenKind, [], and_from, ap, begins_heading, drop, false, fourth_word}
-use Rattle.sc_back_reread_laws.proofs.Common.{get_or, head_of, ident_in, ident_of, if◌then◌else◌, import_of, is_blank, is_ident}
-use Rattle.sc_back_reread_laws.proofs.Common.{is_name, is_reserved, keyword_of, lexemes_of, map, mark_of, name_of, not, number_in}
-use Rattle.sc_back_reread_laws.proofs.Common.{only_name, option_and_then, option_map, or_unused, refl, slice_index, slice_range}
-use Rattle.sc_back_reread_laws.proofs.Common.{subst, third_word, true, ℕ, ◌&&◌, ◌++◌, ◌∷◌, ◌≡◌}
+use Rattle.sc_back_reread_laws.proofs.Common.{All-from_recursion, AllByRecursion, AllZip, Bool, Decl, FunctionTree}
+use Rattle.sc_back_reread_laws.proofs.Common.{Grouped, ImportLine, IsRead, IsTrue, Lexeme, List, None, Option, Part}
+use Rattle.sc_back_reread_laws.proofs.Common.{SectionTree, Some, SpellsDecl, SpellsDirectives, SpellsFunction}
+use Rattle.sc_back_reread_laws.proofs.Common.{SpellsHead, SpellsSection, Symbol, Token, TokenKind, [], and_from, ap}
+use Rattle.sc_back_reread_laws.proofs.Common.{begins_heading, drop, false, fourth_word, get_or, head_of, ident_in}
+use Rattle.sc_back_reread_laws.proofs.Common.{ident_of, if◌then◌else◌, import_of, is_blank, is_ident, is_name}
+use Rattle.sc_back_reread_laws.proofs.Common.{is_reserved, keyword_of, lexemes_of, map, mark_of, name_of, not}
+use Rattle.sc_back_reread_laws.proofs.Common.{number_in, only_name, option_and_then, option_map, or_unused, refl}
+use Rattle.sc_back_reread_laws.proofs.Common.{slice_index, slice_range, subst, third_word, true, ℕ, ◌&&◌, ◌++◌, ◌∷◌}
+use Rattle.sc_back_reread_laws.proofs.Common.{◌≡◌}
 use Rattle.sc_types_scope.specs.Prelude.{function_names, heads_in}
 unfoldable use Rattle.sc_lex.specs.Prelude.{heading_name, words}
 use Rattle.sc_lex.specs.declared.token.TokenKind.TheVariants as kind

@@ -1,19 +1,21 @@
 -- Sections that perform: their words, and what these come to.
-use Rattle.sc_back_reread_laws.proofs.Common.{AllByRecursion, AreNumbered, Bool, CanPerform, Decl, Entry, FunctionTree, Import}
-use Rattle.sc_back_reread_laws.proofs.Common.{ImportLine, Interface, Interfaces, IsCalled, IsImported, IsSpoken, Lined, List}
-use Rattle.sc_back_reread_laws.proofs.Common.{Piece, Proto, Row, SectionTree, Some, [], all_functions, and_from, and_parts, ap}
-use Rattle.sc_back_reread_laws.proofs.Common.{append-nil, append_assoc, ap₂, arith, back_tree, codes, counter, decl_height}
-use Rattle.sc_back_reread_laws.proofs.Common.{decl_tidy, decl_words, decls_height, ended, export_line, export_says, export_text}
-use Rattle.sc_back_reread_laws.proofs.Common.{export_words, exports_lined, false, filter_map, flat_map, flat_map-append}
-use Rattle.sc_back_reread_laws.proofs.Common.{function_text, function_tree, function_trees, functions_text, head_text, head_words}
-use Rattle.sc_back_reread_laws.proofs.Common.{heading_line_is, heading_says, heading_words, if◌then◌else◌, import_head}
-use Rattle.sc_back_reread_laws.proofs.Common.{import_says, import_text, import_words, imported, imports_lined, is_ident}
-use Rattle.sc_back_reread_laws.proofs.Common.{is_kept_decl, is_name, is_reserved, joined_symbols, kept_export, kept_import}
-use Rattle.sc_back_reread_laws.proofs.Common.{kept_section, line, list_all, main_proto, main_text, main_trees, map, newline, not}
-use Rattle.sc_back_reread_laws.proofs.Common.{open_after, option_map, owner_name, piece_text, proto_head, proto_text}
-use Rattle.sc_back_reread_laws.proofs.Common.{recursion_from_All, refl, section_height, section_text, section_words, subst, suc}
-use Rattle.sc_back_reread_laws.proofs.Common.{sym, symbols, text_of, tidy, true, word, word_symbol, ℕ, ◌++◌, ◌<◌, ◌==◌, ◌^◌, ◌∙◌}
-use Rattle.sc_back_reread_laws.proofs.Common.{◌∷◌, ◌≡◌, ◌≤◌}
+use Rattle.sc_back_reread_laws.proofs.Common.{AllByRecursion, AreNumbered, Bool, CanPerform, Decl, Entry, FunctionTree}
+use Rattle.sc_back_reread_laws.proofs.Common.{Import, ImportLine, Interface, Interfaces, IsCalled, IsImported, IsSpoken}
+use Rattle.sc_back_reread_laws.proofs.Common.{Lined, List, Piece, Proto, Row, SectionTree, Some, [], all_functions}
+use Rattle.sc_back_reread_laws.proofs.Common.{and_from, and_parts, ap, append-nil, append_assoc, ap₂, arith, back_tree}
+use Rattle.sc_back_reread_laws.proofs.Common.{codes, counter, decl_height, decl_tidy, decl_words, decls_height, ended}
+use Rattle.sc_back_reread_laws.proofs.Common.{export_line, export_says, export_text, export_words, exports_lined, false}
+use Rattle.sc_back_reread_laws.proofs.Common.{filter_map, flat_map, flat_map-append, function_text, function_tree}
+use Rattle.sc_back_reread_laws.proofs.Common.{function_trees, functions_text, head_text, head_words, heading_line_is}
+use Rattle.sc_back_reread_laws.proofs.Common.{heading_says, heading_words, if◌then◌else◌, import_head, import_says}
+use Rattle.sc_back_reread_laws.proofs.Common.{import_text, import_words, imported, imports_lined, is_ident}
+use Rattle.sc_back_reread_laws.proofs.Common.{is_kept_decl, is_name, is_reserved, joined_symbols, kept_export}
+use Rattle.sc_back_reread_laws.proofs.Common.{kept_import, kept_section, line, list_all, main_proto, main_text}
+use Rattle.sc_back_reread_laws.proofs.Common.{main_trees, map, newline, not, open_after, option_map, owner_name}
+use Rattle.sc_back_reread_laws.proofs.Common.{piece_text, proto_head, proto_text, recursion_from_All, refl}
+use Rattle.sc_back_reread_laws.proofs.Common.{section_height, section_text, section_words, subst, suc, sym, symbols}
+use Rattle.sc_back_reread_laws.proofs.Common.{text_of, tidy, true, word, word_symbol, ℕ, ◌++◌, ◌<◌, ◌==◌, ◌^◌, ◌∙◌, ◌∷◌}
+use Rattle.sc_back_reread_laws.proofs.Common.{◌≡◌, ◌≤◌}
 use Rattle.sc_event.specs.declared.row.Entry.TheVariants as entry
 use Rattle.sc_ast.specs.declared.section.Decl.TheVariants as decl
 use Rattle.sc_parse_expr.specs.declared.mark.Keyword.TheVariants as keyword

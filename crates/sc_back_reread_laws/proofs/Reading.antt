@@ -1,10 +1,11 @@
 -- A text of words that spell a section is read as its tree, and so is the text of one that performs.
-use Rattle.sc_back_reread_laws.proofs.Common.{Found, IsParsedAs, IsReadAs, Lexeme, Lined, List, PerformingTextsAreRead, Piece}
-use Rattle.sc_back_reread_laws.proofs.Common.{Reading, SameButLines, Say, SectionTree, SpellsSection, Token, [], ap, append-nil}
-use Rattle.sc_back_reread_laws.proofs.Common.{arith, back_text, back_tree, begins_heading, codes, export_text, flat_map}
-use Rattle.sc_back_reread_laws.proofs.Common.{found_lines, functions_text, heading_begins, import_text, lexemes_of, main_text}
-use Rattle.sc_back_reread_laws.proofs.Common.{map, most_open, proto_text, refl, section_height, section_reads, section_text}
-use Rattle.sc_back_reread_laws.proofs.Common.{subst, sym, symbol_of, symbols, text_of, true, ℕ, ◌++◌, ◌∙◌, ◌∷◌, ◌≡◌, ◌≤◌}
+use Rattle.sc_back_reread_laws.proofs.Common.{Found, IsParsedAs, IsReadAs, Lexeme, Lined, List, PerformingTextsAreRead}
+use Rattle.sc_back_reread_laws.proofs.Common.{Piece, Reading, SameButLines, Say, SectionTree, SpellsSection, Token, []}
+use Rattle.sc_back_reread_laws.proofs.Common.{ap, append-nil, arith, back_text, back_tree, begins_heading, codes}
+use Rattle.sc_back_reread_laws.proofs.Common.{export_text, flat_map, found_lines, functions_text, heading_begins}
+use Rattle.sc_back_reread_laws.proofs.Common.{import_text, lexemes_of, main_text, map, most_open, proto_text, refl}
+use Rattle.sc_back_reread_laws.proofs.Common.{section_height, section_reads, section_text, subst, sym, symbol_of}
+use Rattle.sc_back_reread_laws.proofs.Common.{symbols, text_of, true, ℕ, ◌++◌, ◌∙◌, ◌∷◌, ◌≡◌, ◌≤◌}
 use Rattle.sc_parse.specs.Sections as spell
 use Rattle.sc_parse_print_laws.proofs.Heights.{sections_same}
 use Rattle.sc_back_reread_laws.proofs.Nesting.{AtMost, Nested, nested_more, none_more, opens, opens_lexemes}

@@ -1,10 +1,10 @@
 -- Texts with replaced sections are split and read.
-use Rattle.sc_back_reread_laws.proofs.Common.{AllBecome, AllZip, Becomes, Bool, Interfaces, IsCut, IsParsed, IsRead, IsReadAs}
-use Rattle.sc_back_reread_laws.proofs.Common.{Lexeme, List, None, Option, Part, Row, Section, SectionTree, Some, SpellsSection}
-use Rattle.sc_back_reread_laws.proofs.Common.{Token, [], ap, arith, back_text, back_tree, concat, false, if◌then◌else◌, inl, inr}
-use Rattle.sc_back_reread_laws.proofs.Common.{kept, length, lexemes_of, line_at, map, new_text, new_texts, part_of, refl}
-use Rattle.sc_back_reread_laws.proofs.Common.{replaced, section_text, subst, suc, sym, true, ℕ, ◌++◌, ◌+◌, ◌<◌, ◌∙◌, ◌∷◌, ◌≡◌}
-use Rattle.sc_back_reread_laws.proofs.Common.{◌≤◌, ◌⊎◌}
+use Rattle.sc_back_reread_laws.proofs.Common.{AllBecome, AllZip, Becomes, Bool, Interfaces, IsCut, IsParsed, IsRead}
+use Rattle.sc_back_reread_laws.proofs.Common.{IsReadAs, Lexeme, List, None, Option, Part, Row, Section, SectionTree}
+use Rattle.sc_back_reread_laws.proofs.Common.{Some, SpellsSection, Token, [], ap, arith, back_text, back_tree, concat}
+use Rattle.sc_back_reread_laws.proofs.Common.{false, if◌then◌else◌, inl, inr, kept, length, lexemes_of, line_at, map}
+use Rattle.sc_back_reread_laws.proofs.Common.{new_text, new_texts, part_of, refl, replaced, section_text, subst, suc}
+use Rattle.sc_back_reread_laws.proofs.Common.{sym, true, ℕ, ◌++◌, ◌+◌, ◌<◌, ◌∙◌, ◌∷◌, ◌≡◌, ◌≤◌, ◌⊎◌}
 use Rattle.sc_parse.specs.Sections as spell
 use Rattle.sc_parse_read.proofs.Splits.{same_parts, same_preamble}
 use Rattle.sc_back_reread_laws.specs.Replaced.{IsPerformer, IsReplacement, ReplacedTextsAreRead, texts_of}

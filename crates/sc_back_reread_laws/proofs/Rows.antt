@@ -1,13 +1,14 @@
 -- Rows as lines of a text: the same words as those of the tree, on one line.
-use Rattle.sc_back_reread_laws.proofs.Common.{AllByRecursion, ExprTree, Free, Interfaces, IsSpoken, IsTrue, List, Number, Option}
-use Rattle.sc_back_reread_laws.proofs.Common.{Piece, Row, Scalar, StmtTree, Tidy, [], action_kind, action_text, ap, append_assoc}
-use Rattle.sc_back_reread_laws.proofs.Common.{ap₂, arith, at_level, blank, block_words, codes, condition_words, counter_name}
-use Rattle.sc_back_reread_laws.proofs.Common.{expr_height, expr_words, fits, flat_map-append, gap, indent, is_ident, is_kept}
-use Rattle.sc_back_reread_laws.proofs.Common.{is_kept_stmt, is_name, is_reserved, line_end, line_of, literal_kind, literal_some}
-use Rattle.sc_back_reread_laws.proofs.Common.{literal_text, lone, max, name_kind, name_some, newline, next, piece_symbols}
-use Rattle.sc_back_reread_laws.proofs.Common.{piece_text, refl, row_kind, row_text, rules, stmt_height, stmt_holds, stmt_layout}
-use Rattle.sc_back_reread_laws.proofs.Common.{subst, suc, sym, symbols, text_of, tidy_append, true, unlined, word, word_symbol, ℕ}
-use Rattle.sc_back_reread_laws.proofs.Common.{◌++◌, ◌+◌, ◌<◌, ◌^◌, ◌∙◌, ◌∷◌, ◌≡◌, ◌≤◌}
+use Rattle.sc_back_reread_laws.proofs.Common.{AllByRecursion, ExprTree, Free, Interfaces, IsSpoken, IsTrue, List}
+use Rattle.sc_back_reread_laws.proofs.Common.{Number, Option, Piece, Row, Scalar, StmtTree, Tidy, [], action_kind}
+use Rattle.sc_back_reread_laws.proofs.Common.{action_text, ap, append_assoc, ap₂, arith, at_level, blank, block_words}
+use Rattle.sc_back_reread_laws.proofs.Common.{codes, condition_words, counter_name, expr_height, expr_words, fits}
+use Rattle.sc_back_reread_laws.proofs.Common.{flat_map-append, gap, indent, is_ident, is_kept, is_kept_stmt, is_name}
+use Rattle.sc_back_reread_laws.proofs.Common.{is_reserved, line_end, line_of, literal_kind, literal_some, literal_text}
+use Rattle.sc_back_reread_laws.proofs.Common.{lone, max, name_kind, name_some, newline, next, piece_symbols, piece_text}
+use Rattle.sc_back_reread_laws.proofs.Common.{refl, row_kind, row_text, rules, stmt_height, stmt_holds, stmt_layout}
+use Rattle.sc_back_reread_laws.proofs.Common.{subst, suc, sym, symbols, text_of, tidy_append, true, unlined, word}
+use Rattle.sc_back_reread_laws.proofs.Common.{word_symbol, ℕ, ◌++◌, ◌+◌, ◌<◌, ◌^◌, ◌∙◌, ◌∷◌, ◌≡◌, ◌≤◌}
 use Rattle.sc_base.specs.declared.op.BinaryOp.TheVariants as binary
 use Rattle.sc_ast.specs.declared.expr.ExprTree as exprs
 use Rattle.sc_ast.specs.declared.expr.ExprTree.TheVariants as expr

@@ -1,13 +1,14 @@
 -- Texts of sections, joined and split.
 use Rattle.sc_back_reread_laws.proofs.Common.{AreSections, IsSection, IsTrue, List, NoHeading, Section, Some, [], ap}
-use Rattle.sc_back_reread_laws.proofs.Common.{append_assoc, ap₂, arith, begins_heading, drop, drop-append_seam, drop-drop}
-use Rattle.sc_back_reread_laws.proofs.Common.{drop_all, first_line, inl, inr, is_heading, length, length-append, length-drop}
-use Rattle.sc_back_reread_laws.proofs.Common.{length-take-le, map, name_at, none, refl, section, slice_range, sym, take}
-use Rattle.sc_back_reread_laws.proofs.Common.{take-append-drop, true, ℕ, ◌++◌, ◌+◌, ◌-◌, ◌<◌, ◌∙◌, ◌∷◌, ◌≡◌, ◌≤◌, ◌⊎◌}
+use Rattle.sc_back_reread_laws.proofs.Common.{append_assoc, ap₂, arith, begins_heading, drop, drop-append_seam}
+use Rattle.sc_back_reread_laws.proofs.Common.{drop-drop, drop_all, first_line, inl, inr, is_heading, length}
+use Rattle.sc_back_reread_laws.proofs.Common.{length-append, length-drop, length-take-le, map, name_at, none, refl}
+use Rattle.sc_back_reread_laws.proofs.Common.{section, slice_range, sym, take, take-append-drop, true, ℕ, ◌++◌, ◌+◌}
+use Rattle.sc_back_reread_laws.proofs.Common.{◌-◌, ◌<◌, ◌∙◌, ◌∷◌, ◌≡◌, ◌≤◌, ◌⊎◌}
 unfoldable use Rattle.sc_lex.specs.Prelude.{heading_name}
 use Rattle.sc_back_reread_laws.proofs.Headings.{Ends, begins_inside, first_line_kept, prefix_ends, heading_after}
-use Rattle.sc_back_reread_laws.proofs.Headings.{heading_begins_after, heading_outside, last, last_any, last_append, mark}
-use Rattle.sc_back_reread_laws.proofs.Headings.{to_begins}
+use Rattle.sc_back_reread_laws.proofs.Headings.{heading_begins_after, heading_outside, last, last_any, last_append}
+use Rattle.sc_back_reread_laws.proofs.Headings.{mark, to_begins}
 
 -- the bytes of a section, wherever it stands
 pub record IsText (text : List ℕ) : Type 0 where
@@ -85,7 +86,8 @@ section_text text at next s g follows =
     let p = parts_of text at next s.bytes.now g.bytes g.within.0 g.within.1 in
     let u : List ℕ = s.bytes.now in
     let some : 0 < length u = let size = p.size in let within = g.within.0 in omega arith in
-    let whole : p.prefix ++ (u ++ p.following) ≡ (p.prefix ++ u) ++ p.following = sym (append_assoc p.prefix u p.following) in
+    let whole : p.prefix ++ (u ++ p.following) ≡ (p.prefix ++ u) ++ p.following =
+    sym (append_assoc p.prefix u p.following) in
     let place : length (p.prefix ++ u) ≡ next =
     let long = p.long in let size = p.size in let within = g.within.0 in omega (arith, length-append p.prefix u) in
     let newline : IsTrue (is_heading text next) → last 10 u ≡ 10 = λ h.

@@ -1,10 +1,11 @@
 -- Values of a type as expressions: their words, and what these come to.
-use Rattle.sc_back_reread_laws.proofs.Common.{Bool, ExprTree, IsWord, List, Number, Scalar, [], and_from, ap, append-nil, arith}
-use Rattle.sc_back_reread_laws.proofs.Common.{blank, codes, decimal, digits, eq-eqb, expr_height, expr_words, false, false≢true}
-use Rattle.sc_back_reread_laws.proofs.Common.{fits, if◌then◌else◌, is_kept, le-leb, leb-false, leb-true, literal, literal_text}
-use Rattle.sc_back_reread_laws.proofs.Common.{nat_le, open_after, refl, rules, signed_decimal, signed_text, subst, suc, sym}
-use Rattle.sc_back_reread_laws.proofs.Common.{text_of, true, value_text, value_tree, word, word_symbol, ℕ, ◌-◌, ◌<◌, ◌==◌, ◌^◌}
-use Rattle.sc_back_reread_laws.proofs.Common.{◌∙◌, ◌∷◌, ◌≡◌, ◌≤◌}
+use Rattle.sc_back_reread_laws.proofs.Common.{Bool, ExprTree, IsWord, List, Number, Scalar, [], and_from, ap}
+use Rattle.sc_back_reread_laws.proofs.Common.{append-nil, arith, blank, codes, decimal, digits, eq-eqb, expr_height}
+use Rattle.sc_back_reread_laws.proofs.Common.{expr_words, false, false≢true, fits, if◌then◌else◌, is_kept, le-leb}
+use Rattle.sc_back_reread_laws.proofs.Common.{leb-false, leb-true, literal, literal_text, nat_le, open_after, refl}
+use Rattle.sc_back_reread_laws.proofs.Common.{rules, signed_decimal, signed_text, subst, suc, sym, text_of, true}
+use Rattle.sc_back_reread_laws.proofs.Common.{value_text, value_tree, word, word_symbol, ℕ, ◌-◌, ◌<◌, ◌==◌, ◌^◌, ◌∙◌}
+use Rattle.sc_back_reread_laws.proofs.Common.{◌∷◌, ◌≡◌, ◌≤◌}
 use Rattle.std.specs.Int.{w32, cast_signed}
 use mir.ValLaws.{to_z_pos, to_z-neg}
 use Rattle.sc_base.specs.declared.op.BinaryOp.TheVariants as binary

@@ -1,6 +1,6 @@
 -- The text of a section that performs is read as its tree.
-use Rattle.sc_back_reread_laws.specs.Common.{CanPerform, Interface, Interfaces, IsCut, Row, SameButLines, SectionTree, back_text}
-use Rattle.sc_back_reread_laws.specs.Common.{back_tree, comp_at}
+use Rattle.sc_back_reread_laws.specs.Common.{CanPerform, Interface, Interfaces, IsCut, Row, SameButLines, SectionTree}
+use Rattle.sc_back_reread_laws.specs.Common.{back_text, back_tree, comp_at}
 use Rattle.sc_parse.specs.Prelude.{IsParsed, lexemes_of}
 use Rattle.std.specs.Prelude.{◌≡◌, ℕ, List, Some}
 use Rattle.sc_lex.specs.declared.token.Token.{Token}

@@ -1,6 +1,6 @@
 -- Texts in which sections are replaced by ones that perform are split and read as before, the replaced sections aside.
-use Rattle.sc_back_reread_laws.specs.Common.{AllBecome, CanPerform, Interface, Interfaces, IsSplit, Reads, Row, SectionTree}
-use Rattle.sc_back_reread_laws.specs.Common.{back_text, comp_at, new_texts}
+use Rattle.sc_back_reread_laws.specs.Common.{AllBecome, CanPerform, Interface, Interfaces, IsSplit, Reads, Row}
+use Rattle.sc_back_reread_laws.specs.Common.{SectionTree, back_text, comp_at, new_texts}
 use Rattle.std.specs.Prelude.{◌≡◌, ◌<◌, ℕ, Bool, true, List, ◌++◌, length, map, Option, None, Some, if◌then◌else◌}
 use Rattle.std.specs.List.{concat}
 use Rattle.sc_lex.specs.declared.section.Section.{Section}

@@ -5,6 +5,7 @@ pub mod Identifier
 pub mod Levels
 pub mod Numbering
 pub mod Places
+pub mod Prefix
 pub mod Reserved
 pub mod Rules
 pub mod Word

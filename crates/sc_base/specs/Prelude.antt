@@ -6,6 +6,7 @@ unfoldable pub use Rattle.sc_base.specs.Identifier.{is_name}
 pub use Rattle.sc_base.specs.Levels.{level_of, loosest_level, postfix_level, unary_level}
 pub use Rattle.sc_base.specs.Numbering.{HasOneNumberEach, is_numbered, next_number, number_of, numbered}
 pub use Rattle.sc_base.specs.Places.{HasPlaces}
+pub use Rattle.sc_base.specs.Prefix.{IsPrefix}
 pub use Rattle.sc_base.specs.Reserved.{reserved_words}
 unfoldable pub use Rattle.sc_base.specs.Reserved.{is_reserved}
 pub use Rattle.sc_base.specs.Rules.{all_hold}

@@ -1,7 +1,7 @@
 -- The loop that follows the chain of a trace: how it begins, goes on and ends.
-use Rattle.sc_chain.proofs.Common.{Accepts, All, Event, HasWords, Interfaces, IsChain, IsNextOf, IsReplaced, IsSource}
-use Rattle.sc_chain.proofs.Common.{IsWellTyped, Link, List, None, Option, ProgramTree, Set, Some, SourceParts}
-use Rattle.sc_chain.proofs.Common.{SourceRun, EmitsOrIsBlamed, [], among, ap, inl, inr, legal, length, meaning, refl}
+use Rattle.sc_chain.proofs.Common.{Accepts, All, EmitsOrIsBlamed, Event, HasWords, Interfaces, IsChain, IsNextOf}
+use Rattle.sc_chain.proofs.Common.{IsReplaced, IsSource, IsWellTyped, Link, List, None, Option, ProgramTree, Set, Some}
+use Rattle.sc_chain.proofs.Common.{SourceParts, SourceRun, [], among, ap, inl, inr, legal, length, meaning, refl}
 use Rattle.sc_chain.proofs.Common.{scripted_meaning, subst, sym, true, ℕ, ⊎_elim, ◌++◌, ◌-◌, ◌<◌, ◌∙◌, ◌∷◌, ◌≡◌, ◌≤◌}
 use Rattle.sc_chain.proofs.Common.{◌⊎◌}
 use Rattle.sc_linker.proofs.Comps.{same_count}

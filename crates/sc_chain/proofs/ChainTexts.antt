@@ -1,11 +1,12 @@
 -- The chain of a trace as a chain of texts: each set's text is accepted, and means what the set's scripts say.
-use Rattle.sc_chain.proofs.Common.{Accepts, All, All-append, All-push, AreFresh, Bool, Event, IsPrefix, HasProgram}
-use Rattle.sc_chain.proofs.Common.{Includes, IsChain, IsChainFrom, IsRising, IsSource, Link, List, ProgramTree, Set}
-use Rattle.sc_chain.proofs.Common.{SourceParts, SourceRun, MeansTrace, [], among, ap, arith, blamed_are_there, c_arith}
+use Rattle.sc_chain.proofs.Common.{Accepts, All, All-append, All-push, AreFresh, Bool, Event, HasProgram, Includes}
+use Rattle.sc_chain.proofs.Common.{IsChain, IsChainFrom, IsRising, IsSource, Link, List, MeansTrace, ProgramTree, Set}
+use Rattle.sc_chain.proofs.Common.{SourceParts, SourceRun, [], among, ap, arith, blamed_are_there, c_arith}
 use Rattle.sc_chain.proofs.Common.{chain_is_least, chains_rise, concat, empty_set, eqb-true, false, length, map}
 use Rattle.sc_chain.proofs.Common.{meaning, new_texts, nobody, performing, recomposed, refl, scripted_meaning, subst}
 use Rattle.sc_chain.proofs.Common.{suc, sym, take, take-append-le, take_all, true, ℕ, ◌++◌, ◌<◌, ◌==◌, ◌||◌, ◌∙◌, ◌∷◌}
 use Rattle.sc_chain.proofs.Common.{◌≡◌}
+use Rattle.sc_base.specs.Prelude.{IsPrefix}
 use Rattle.sc_core_laws.specs.Chains as laws
 use Rattle.sc_chain.proofs.ChainFollowing.{IsFound, Performs, among_also, blame_of, runs}
 

@@ -1,6 +1,6 @@
 -- The machine's trace on the image of a program, as the chain of texts needs it.
-use Rattle.sc_chain.proofs.Common.{All, All-map, Event, ImageParts, IsChain, IsCompiled, IsExplained, IsWord, Link}
-use Rattle.sc_chain.proofs.Common.{List, Ok, ProgramTree, Run, Set, SourceParts, Stop, EmitsOrIsBlamed, get_or, image_of}
+use Rattle.sc_chain.proofs.Common.{All, All-map, EmitsOrIsBlamed, Event, ImageParts, IsChain, IsCompiled, IsExplained}
+use Rattle.sc_chain.proofs.Common.{IsWord, Link, List, Ok, ProgramTree, Run, Set, SourceParts, Stop, get_or, image_of}
 use Rattle.sc_chain.proofs.Common.{legal, length, machine, map, scripted_meaning, subst, sym, true, word_of, ℕ, ℤ, ◌≡◌}
 use Rattle.sc_word.proofs.Words.{word_of-lt}
 

@@ -12,7 +12,7 @@ pub use Rattle.sc_event.specs.Prelude.{Standing, action_of, at_start, legal, par
 pub use Rattle.sc_event.specs.declared.row.Row.{Row}
 pub use Rattle.sc_parse_read.specs.Reading.{Part, Reads, part_of}
 pub use Rattle.sc_word.specs.Prelude.{word_of}
-pub use Rattle.sc_core.specs.Prelude.{IsPrefix, IsWellTyped, c_arith, meaning, scripted_meaning}
+pub use Rattle.sc_core.specs.Prelude.{IsWellTyped, c_arith, meaning, scripted_meaning}
 pub use Rattle.sc_core.specs.declared.run.SourceRun.{SourceRun}
 pub use Rattle.sc_types.specs.Prelude.{Accepts, IsSource, IsSplitInto, IsTyped, SourceParts}
 pub use Rattle.sc_core_laws.proofs.ProgramLaws.{blamed_are_there, chain_exists, chain_is_least, chains_rise, empty_set}
@@ -20,7 +20,7 @@ pub use Rattle.sc_core_laws.specs.Prelude.{AreFresh, IsBlamedOutside, IsLink, Is
 pub use Rattle.sc_image.specs.Prelude.{Goes, IsWellFormed, IsWord, Outcome, Run, State, Traps, machine, run, start}
 pub use Rattle.sc_image.specs.Prelude.{step, stopped}
 pub use Rattle.sc_image.specs.declared.parts.ImageParts.{ImageParts}
-pub use Rattle.sc_compile.specs.Prelude.{IsCompiled, EmitsOrIsBlamed, image_of}
+pub use Rattle.sc_compile.specs.Prelude.{EmitsOrIsBlamed, IsCompiled, image_of}
 pub use Rattle.sc_back.specs.Prelude.{HasNext, new_text, new_texts}
 pub use Rattle.sc_back_replay_laws.specs.Replay.{HasWords, IsRecomposed, IsReplay}
 pub use Rattle.sc_chain.specs.Common.{Blamed, Cause, Event, Interfaces, Link, ProgramTree, Replacement}

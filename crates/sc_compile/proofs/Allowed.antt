@@ -118,7 +118,8 @@ module _ (program : ProgramTree) (codes : List CodeTree) where
             any_import (is_function to index) (option_map (part_interface comp) o) ≡ any_import (is_function to index) o
         by None = refl
         by (Some interface) =
-            same_function_import to index (imports wanted comp is_input) (imports wanted comp is_output) interface.imports
+            same_function_import to index (imports wanted comp is_input) (imports wanted comp is_output)
+            interface.imports
 
   -- exports
 

@@ -1,5 +1,5 @@
 -- What the passes give together.
-use Rattle.sc_compile.proofs.Common.{All, GlobalsAreWords, AreNamed, CodeTree, EmitsAll, ImageParts, IsCompiled}
+use Rattle.sc_compile.proofs.Common.{All, AreNamed, CodeTree, EmitsAll, GlobalsAreWords, ImageParts, IsCompiled}
 use Rattle.sc_compile.proofs.Common.{IsLinkable, IsWellTyped, IsWhole, List, None, ProgramTree, TacSection, all_codes}
 use Rattle.sc_compile.proofs.Common.{ap, built_image, flat_map, linked_image, lowered_program, section_codes, subst}
 use Rattle.sc_compile.proofs.Common.{sym, too_large, ◌∙◌, ◌≡◌}

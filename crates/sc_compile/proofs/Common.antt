@@ -20,7 +20,7 @@ pub use Rattle.sc_event.specs.declared.interface.Interfaces.{Interfaces}
 pub use Rattle.sc_event.specs.declared.interface.Proto.{Proto}
 pub use Rattle.sc_event.specs.declared.row.Entry.{Entry}
 pub use Rattle.sc_event.specs.declared.row.Entry.TheVariants.{Export, Main}
-pub use Rattle.sc_core.specs.Prelude.{Arith, Block, IsPrefix, Here, IsStop, IsWellTyped, Piece, Reached, Roles, Run, State}
+pub use Rattle.sc_core.specs.Prelude.{Arith, Block, Here, IsStop, IsWellTyped, Piece, Reached, Roles, Run, State}
 pub use Rattle.sc_core.specs.Prelude.{Stopped, are_distinct, c_arith, callable_in, cells_of, crossing, decl_count}
 pub use Rattle.sc_core.specs.Prelude.{entry_in, first_blocks, frame_bound, function_fits, global_block, global_fits}
 pub use Rattle.sc_core.specs.Prelude.{globals_of, import_name, interface_fits, local_fits, local_nodes, main_fits}
@@ -34,7 +34,7 @@ pub use Rattle.sc_core.specs.declared.section.TypedStruct.{TypedStruct}
 pub use Rattle.sc_core_laws.specs.Prelude.{AgreesInDepth, Set, piece_without_line, same, same_run}
 pub use Rattle.sc_core_kind_laws.proofs.Sections.{found_passes, main_so, named_so, own_names_differ}
 pub use Rattle.rv_code.specs.declared.instr.Instr.{Instr}
-pub use Rattle.sc_image.specs.Prelude.{IsWellFormed, IsWord, code_of, import_of, interface_of, interfaces_of, machine}
+pub use Rattle.sc_image.specs.Prelude.{IsWellFormed, IsWord, import_of, interface_of, interfaces_of, machine}
 pub use Rattle.sc_image.specs.Prelude.{most_globals, proto_of, start_memory, stretch}
 pub use Rattle.sc_tac.proofs.Matching.{wrapped_code_agrees}
 pub use Rattle.sc_tac.specs.Prelude.{IsAssignment, IsFunction, IsProgram, branch_step, calls_exports, calls_own}
@@ -50,27 +50,28 @@ pub use Rattle.sc_lower.proofs.Whole.{keeps_meaning}
 pub use Rattle.sc_lower.specs.Prelude.{body_code, branches, ifs, ifs_step, lowered_function, lowered_program}
 pub use Rattle.sc_lower.specs.Prelude.{lowered_section, lowered_sections}
 pub use Rattle.sc_alloc.specs.Prelude.{assigned}
-pub use Rattle.sc_emit_select.specs.Prelude.{Addresses, linked, linked_from, low_of_target, lower_part, refers_only}
-pub use Rattle.sc_emit_select.specs.Prelude.{relocations_after, target_at, upper_part, with_low, with_target}
+pub use Rattle.sc_emit_select.specs.Prelude.{Addresses, code_of, linked, linked_from, low_of_target, lower_part}
+pub use Rattle.sc_emit_select.specs.Prelude.{refers_only, relocations_after, target_at, upper_part, with_low}
+pub use Rattle.sc_emit_select.specs.Prelude.{with_target}
 pub use Rattle.sc_linker.proofs.Beginnings.{all_done, all_more}
 pub use Rattle.sc_linker.proofs.Comps.{Fits, comps_length, exports_are, few_so, fits_or_none, number_below, of_section}
 pub use Rattle.sc_linker.proofs.Comps.{part_at, part_is}
 pub use Rattle.sc_linker.proofs.Exports.{Named, export_named, export_part, name_of, names_apart, part_first}
 pub use Rattle.sc_linker.proofs.Places.{all_from, distinct_at, total_upto}
-pub use Rattle.sc_linker.specs.Prelude.{GlobalsAreWords, AreNamed, EntriesStand, FunctionsStand, GlobalsStand}
+pub use Rattle.sc_linker.specs.Prelude.{AreNamed, EntriesStand, FunctionsStand, GlobalsAreWords, GlobalsStand}
 pub use Rattle.sc_linker.specs.Prelude.{ImportsStand, IsLinkable, IsStart, IsWhole, RefersInside, StandFrom, StandsAt}
 pub use Rattle.sc_linker.specs.Prelude.{addresses_at, cell_word, cells, codes_at, codes_in, comp_code, comp_part}
 pub use Rattle.sc_linker.specs.Prelude.{entry_address, entry_jump, entry_jumps, exports_at, exports_in, import_part}
 pub use Rattle.sc_linker.specs.Prelude.{instructions, linked_codes, linked_image, section_at, section_or_none}
 pub use Rattle.sc_emit.specs.Prelude.{IsCodeAddress, IsEmitted, is_branch, is_ebreak, names_only}
 pub use Rattle.sc_emit_run_laws.proofs.Emits.{outcomes_simulate, shorter_first, unstopped}
-pub use Rattle.sc_emit_run_laws.specs.Prelude.{EntersBy, GivesResults, GlobalStands, HasCode, IsBlamed, IsBuilt, IsLinked}
-pub use Rattle.sc_emit_run_laws.specs.Prelude.{KeepsTo, SimulatesRun, bodies, functions_in, functions_or_none}
+pub use Rattle.sc_emit_run_laws.specs.Prelude.{EntersBy, GivesResults, GlobalStands, HasCode, IsBlamed, IsBuilt}
+pub use Rattle.sc_emit_run_laws.specs.Prelude.{IsLinked, KeepsTo, SimulatesRun, bodies, functions_in, functions_or_none}
 pub use Rattle.sc_compile.specs.Common.{CodeTooLarge, CompileFault, ImageParts, ProgramTree, TacFnTree, TacSection}
 pub use Rattle.sc_compile.specs.Common.{TypedGlobal, TypedSection}
-pub use Rattle.sc_compile.specs.Prelude.{AreEmitted, BeginAsWords, BeginsAsWords, EachEmits, EmitsAll, EmitsSo, FitAll}
-pub use Rattle.sc_compile.specs.Prelude.{HasNoTests, IsCompiled, IsCounted, ForwardSimulation, EmitsOrIsBlamed, above, all_codes}
-pub use Rattle.sc_compile.specs.Prelude.{built_image, cells_in, code_bytes, counted_all, counted_code, counted_data}
-pub use Rattle.sc_compile.specs.Prelude.{counted_frame, counted_frames, data_bytes, first, found_in, function_code}
-pub use Rattle.sc_compile.specs.Prelude.{large_code, large_data, large_frame, large_frames, most_frame, program_nodes}
-pub use Rattle.sc_compile.specs.Prelude.{section_codes, test_word, too_large}
+pub use Rattle.sc_compile.specs.Prelude.{AreEmitted, BeginAsWords, BeginsAsWords, EachEmits, EmitsAll, EmitsOrIsBlamed}
+pub use Rattle.sc_compile.specs.Prelude.{EmitsSo, FitAll, ForwardSimulation, HasNoTests, IsCompiled, IsCounted, above}
+pub use Rattle.sc_compile.specs.Prelude.{all_codes, built_image, cells_in, code_bytes, counted_all, counted_code}
+pub use Rattle.sc_compile.specs.Prelude.{counted_data, counted_frame, counted_frames, data_bytes, first, found_in}
+pub use Rattle.sc_compile.specs.Prelude.{function_code, large_code, large_data, large_frame, large_frames, most_frame}
+pub use Rattle.sc_compile.specs.Prelude.{program_nodes, section_codes, test_word, too_large}

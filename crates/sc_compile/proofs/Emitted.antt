@@ -1,11 +1,11 @@
 -- What is compiled does what its program means.
-use Rattle.sc_compile.proofs.Common.{AgreesInDepth, All, AreEmitted, GlobalsAreWords, AreNamed, Arith, EachEmits, Event}
-use Rattle.sc_compile.proofs.Common.{ImageParts, IsBuilt, IsCompiled, IsFunction, IsLinkable, IsLinked, IsWellTyped}
-use Rattle.sc_compile.proofs.Common.{IsWhole, IsWord, List, None, ProgramTree, Run, ForwardSimulation, SimulatesRun, addresses_at}
-use Rattle.sc_compile.proofs.Common.{all_codes, arith, built_image, c_arith, code_run, inl, inr, keeps_meaning}
-use Rattle.sc_compile.proofs.Common.{keeps_rules, lowered_program, machine, outcomes_simulate, program_nodes, refl, run_of}
-use Rattle.sc_compile.proofs.Common.{same, same_run, subst, suc, too_large, wrapped_code_agrees, wrapping, ℕ, ⊎_elim}
-use Rattle.sc_compile.proofs.Common.{◌*◌, ◌≡◌}
+use Rattle.sc_compile.proofs.Common.{AgreesInDepth, All, AreEmitted, AreNamed, Arith, EachEmits, Event}
+use Rattle.sc_compile.proofs.Common.{ForwardSimulation, GlobalsAreWords, ImageParts, IsBuilt, IsCompiled, IsFunction}
+use Rattle.sc_compile.proofs.Common.{IsLinkable, IsLinked, IsWellTyped, IsWhole, IsWord, List, None, ProgramTree, Run}
+use Rattle.sc_compile.proofs.Common.{SimulatesRun, addresses_at, all_codes, arith, built_image, c_arith, code_run, inl}
+use Rattle.sc_compile.proofs.Common.{inr, keeps_meaning, keeps_rules, lowered_program, machine, outcomes_simulate}
+use Rattle.sc_compile.proofs.Common.{program_nodes, refl, run_of, same, same_run, subst, suc, too_large}
+use Rattle.sc_compile.proofs.Common.{wrapped_code_agrees, wrapping, ℕ, ⊎_elim, ◌*◌, ◌≡◌}
 use Rattle.sc_emit_run_laws.proofs.Whole.{scripts_simulate, simulates}
 use Rattle.sc_compile.proofs.Allowed.{allowed}
 use Rattle.sc_compile.proofs.Linkable.{is_linkable}

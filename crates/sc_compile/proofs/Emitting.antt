@@ -1,9 +1,8 @@
 -- The passes on one function.
 use Rattle.sc_compile.proofs.Common.{CodeTree, EmitsSo, IsAssignment, IsEmitted, List, TacFnTree, TacSection, [], ap}
-use Rattle.sc_compile.proofs.Common.{append-nil, append_assoc, assigned, flat_map, frame_of, function_code}
+use Rattle.sc_compile.proofs.Common.{append-nil, append_assoc, assigned, code_of, flat_map, frame_of, function_code}
 use Rattle.sc_compile.proofs.Common.{function_points, get_or, interval_of, intervals_of, length, map, map-append}
 use Rattle.sc_compile.proofs.Common.{section_codes, subst, sym, take, take-step, ℕ, ◌++◌, ◌+◌, ◌<◌, ◌∙◌, ◌∷◌, ◌≡◌}
-use Rattle.sc_emit_select.specs.Prelude.{code_of}
 use Rattle.std.proofs.lemmas.List.FromFn.{length-map-range_with_len}
 use Rattle.sc_tac.specs.declared.frame.FrameTree.{FrameTree}
 use Rattle.sc_tac.specs.declared.interval.Interval.{Interval}

@@ -1,20 +1,19 @@
 -- The code of a program stands in its image.
-use Rattle.sc_compile.proofs.Common.{Addresses, AreEmitted, GlobalsAreWords, AreNamed, Block, CodeTree, EntersBy}
-use Rattle.sc_compile.proofs.Common.{EntriesStand, Entry, Export, Fits, FunctionsStand, GlobalStands, GlobalsStand}
-use Rattle.sc_compile.proofs.Common.{HasCode, ImageParts, ImportsStand, Instr, IsCodeAddress, IsLinkable, IsLinked}
-use Rattle.sc_compile.proofs.Common.{IsStart, IsWellTyped, List, Main, None, Option, ProgramTree, Some, StandFrom}
-use Rattle.sc_compile.proofs.Common.{StandsAt, TacFnTree, TacTree, TypedGlobal, TypedSection, [], addresses_at}
-use Rattle.sc_compile.proofs.Common.{all_codes, ap, arith, assigned, built_image, cell_word, code_globals, comp_at}
-use Rattle.sc_compile.proofs.Common.{comps_length, entry_in, first_at, first_blocks, fits_or_none, frame_of}
-use Rattle.sc_compile.proofs.Common.{function_code, function_entered, functions_in, functions_or_none, global_block}
-use Rattle.sc_compile.proofs.Common.{globals_of, inl, inr, intervals_of, keeps_meaning, length, linked_image}
-use Rattle.sc_compile.proofs.Common.{lowered_program, lowered_section, map, nodes, number_below, option_map}
-use Rattle.sc_compile.proofs.Common.{program_nodes, refl, section_or_none, slice_get, start_memory, struct_zeros, subst}
-use Rattle.sc_compile.proofs.Common.{suc, sym, too_large, total, total_upto, true, wrapping, ℕ, ◌*◌, ◌+◌, ◌<◌, ◌∙◌, ◌∷◌}
-use Rattle.sc_compile.proofs.Common.{◌≡◌, ◌≤◌, ◌⊎◌}
+use Rattle.sc_compile.proofs.Common.{Addresses, AreEmitted, AreNamed, Block, CodeTree, EntersBy, EntriesStand, Entry}
+use Rattle.sc_compile.proofs.Common.{Export, Fits, FunctionsStand, GlobalStands, GlobalsAreWords, GlobalsStand, HasCode}
+use Rattle.sc_compile.proofs.Common.{ImageParts, ImportsStand, Instr, IsCodeAddress, IsLinkable, IsLinked, IsStart}
+use Rattle.sc_compile.proofs.Common.{IsWellTyped, List, Main, None, Option, ProgramTree, Some, StandFrom, StandsAt}
+use Rattle.sc_compile.proofs.Common.{TacFnTree, TacTree, TypedGlobal, TypedSection, [], addresses_at, all_codes, ap}
+use Rattle.sc_compile.proofs.Common.{arith, assigned, built_image, cell_word, code_globals, comp_at, comps_length}
+use Rattle.sc_compile.proofs.Common.{entry_in, first_at, first_blocks, fits_or_none, frame_of, function_code}
+use Rattle.sc_compile.proofs.Common.{function_entered, functions_in, functions_or_none, global_block, globals_of, inl}
+use Rattle.sc_compile.proofs.Common.{inr, intervals_of, keeps_meaning, length, linked_image, lowered_program}
+use Rattle.sc_compile.proofs.Common.{lowered_section, map, nodes, number_below, option_map, program_nodes, refl}
+use Rattle.sc_compile.proofs.Common.{section_or_none, slice_get, start_memory, struct_zeros, subst, suc, sym, too_large}
+use Rattle.sc_compile.proofs.Common.{total, total_upto, true, wrapping, ℕ, ◌*◌, ◌+◌, ◌<◌, ◌∙◌, ◌∷◌, ◌≡◌, ◌≤◌, ◌⊎◌}
 use Rattle.sc_store.specs.Prelude.{Memory, load_of}
-use Rattle.sc_emit_hart.specs.Prelude.{CodeAt, Fetches, word}
 use Rattle.sc_tac.specs.Prelude.{first_blocks as code_blocks}
+use Rattle.sc_emit_hart.specs.Prelude.{CodeAt, Fetches, word}
 use Rattle.sc_emit_relation.specs.Prelude.{InCell}
 use Rattle.sc_core.specs.declared.value.Cell.{Cell}
 use Rattle.sc_core.specs.declared.value.Cell.TheVariants as cell

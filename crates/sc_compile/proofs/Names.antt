@@ -67,7 +67,8 @@ module _ (interfaces : Interfaces) (c : ℕ) (interface : Interface) (section : 
         omega (
           arith,
           no_more (map name_of interface.exports) (map called section.functions)
-              (distinct_at (map name_of interface.exports) (names_apart interfaces c interface section interface_fitting)) defined,
+              (distinct_at (map name_of interface.exports)
+              (names_apart interfaces c interface section interface_fitting)) defined,
           length-map interface.exports name_of,
           length-map section.functions called,
         )

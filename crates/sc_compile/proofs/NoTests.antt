@@ -3,8 +3,8 @@ use Rattle.sc_compile.proofs.Common.{Addresses, All, AreEmitted, Bool, CodeTree,
 use Rattle.sc_compile.proofs.Common.{IsLinkable, IsWellTyped, List, None, Option, ProgramTree, Proto, Some, TacFnTree}
 use Rattle.sc_compile.proofs.Common.{TacStmt, TacStmt-F, TypedFunction, TypedSection, TypedStruct, [], addresses_at}
 use Rattle.sc_compile.proofs.Common.{all_codes, and_first, and_rest, ap, arith, body_code, branch_step, branches}
-use Rattle.sc_compile.proofs.Common.{built_image, code_of, codes_at, comp_code, cond, count_by, entry_address}
-use Rattle.sc_compile.proofs.Common.{entry_jump, entry_jumps, exports_at, false, first_at, fold-TacStmt, function_code}
+use Rattle.sc_compile.proofs.Common.{built_image, codes_at, comp_code, cond, count_by, entry_address, entry_jump}
+use Rattle.sc_compile.proofs.Common.{entry_jumps, exports_at, false, first_at, fold-TacStmt, function_code}
 use Rattle.sc_compile.proofs.Common.{functions_in, functions_or_none, ifs, ifs_step, is_branch, is_ebreak, length}
 use Rattle.sc_compile.proofs.Common.{linked, linked_codes, linked_from, list_all, low_of_target, lower_part}
 use Rattle.sc_compile.proofs.Common.{lowered_function, lowered_program, lowered_section, map, not, of_section}
@@ -12,6 +12,7 @@ use Rattle.sc_compile.proofs.Common.{option_map, option_map_or, part_is, pos, re
 use Rattle.sc_compile.proofs.Common.{slice_get, subst, suc, sym, target_at, test_word, total, true, upper_part}
 use Rattle.sc_compile.proofs.Common.{with_low, with_target, ℕ, ℤ, ◌*◌, ◌++◌, ◌+◌, ◌-ℤ◌, ◌∙◌, ◌∷◌, ◌≡◌, ◌≤◌}
 use Rattle.rv_code.specs.Prelude.{IsInstr, word_of}
+use Rattle.sc_image.specs.Prelude.{code_of}
 use Rattle.sc_tac.specs.Prelude.{branches as code_ifs}
 use Rattle.std.proofs.lemmas.List.Elements.{All-cons, All-head, All-map, All-nil, All-tail, All-weaker}
 use Rattle.std.proofs.lemmas.List.Sums.{sum_by-append, sum_by-cons}

@@ -1,9 +1,10 @@
 -- The program in which a set performs its part of the machine's trace, by the run of its code.
-use Rattle.sc_compile.proofs.Common.{Bool, Event, IsPrefix, IsBlamed, IsStop, IsWellTyped, KeepsTo, List, ProgramTree, Run}
-use Rattle.sc_compile.proofs.Common.{Set, EmitsOrIsBlamed, ap, c_arith, false, inl, inr, keeps_meaning, length}
+use Rattle.sc_compile.proofs.Common.{Bool, EmitsOrIsBlamed, Event, IsBlamed, IsStop, IsWellTyped, KeepsTo, List}
+use Rattle.sc_compile.proofs.Common.{ProgramTree, Run, Set, ap, c_arith, false, inl, inr, keeps_meaning, length}
 use Rattle.sc_compile.proofs.Common.{lowered_program, ltb-false, ltb-true, nat_lt, refl, scripted_by, scripted_code_run}
 use Rattle.sc_compile.proofs.Common.{scripted_run_of, shorter_first, subst, sym, true, unstopped, wrapped_code_agrees}
 use Rattle.sc_compile.proofs.Common.{wrapping, ℕ, ⊎_elim, ◌<◌, ◌∙◌, ◌≡◌}
+use Rattle.sc_base.specs.Prelude.{IsPrefix}
 use Rattle.sc_core.specs.declared.cause.Cause.{Cause}
 use Rattle.sc_core.specs.declared.run.RunEnd.{RunEnd}
 use Rattle.sc_core.specs.declared.run.RunEnd.TheVariants.{Blamed, Ended, EventsOut, TurnsOut}

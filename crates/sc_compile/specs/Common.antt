@@ -1,10 +1,10 @@
 -- The names from below that several definitions of this crate cite, passed on from one place. Declares nothing.
-pub use Rattle.sc_core.specs.Prelude.{Arith, IsPrefix, c_arith, cells_of, code_bound, depth_by, frame_bound, meaning}
-pub use Rattle.sc_core.specs.Prelude.{meaning_by, nodes, scripted_meaning, total, variables, wrapping}
+pub use Rattle.sc_core.specs.Prelude.{Arith, c_arith, cells_of, code_bound, depth_by, frame_bound, meaning, meaning_by}
+pub use Rattle.sc_core.specs.Prelude.{nodes, scripted_meaning, total, variables, wrapping}
 pub use Rattle.sc_core.specs.declared.program.ProgramTree.{ProgramTree}
 pub use Rattle.sc_core.specs.declared.section.TypedGlobal.{TypedGlobal}
 pub use Rattle.sc_core.specs.declared.section.TypedSection.{TypedSection}
-pub use Rattle.sc_image.specs.Prelude.{IsWord, Run, code_of, machine, most_globals, stack_size, stretch}
+pub use Rattle.sc_image.specs.Prelude.{IsWord, Run, machine, most_globals, stack_size, stretch}
 pub use Rattle.sc_image.specs.declared.parts.ImageParts.{ImageParts}
 pub use Rattle.sc_tac.specs.Prelude.{frame_of, intervals_of}
 pub use Rattle.sc_tac.specs.declared.function.TacFnTree.{TacFnTree}

@@ -1,10 +1,12 @@
 -- What an image does, and what its program means.
-use Rattle.sc_compile.specs.Common.{Arith, IsPrefix, ImageParts, IsBlamed, IsWord, ProgramTree, Run, TypedSection}
-use Rattle.sc_compile.specs.Common.{branches, c_arith, code_of, depth_by, is_branch, is_ebreak, machine, meaning}
-use Rattle.sc_compile.specs.Common.{meaning_by, nodes, scripted_meaning, stack_size, total, wrapping}
+use Rattle.sc_compile.specs.Common.{Arith, ImageParts, IsBlamed, IsWord, ProgramTree, Run, TypedSection, branches}
+use Rattle.sc_compile.specs.Common.{c_arith, depth_by, is_branch, is_ebreak, machine, meaning, meaning_by, nodes}
+use Rattle.sc_compile.specs.Common.{scripted_meaning, stack_size, total, wrapping}
+use Rattle.sc_base.specs.Prelude.{IsPrefix}
 use Rattle.sc_event.specs.Prelude.{legal}
 use Rattle.sc_core_laws.specs.Prelude.{IsBlamedOutside, Set}
 use Rattle.rv_code.specs.Prelude.{decoded}
+use Rattle.sc_image.specs.Prelude.{code_of}
 use Rattle.std.specs.Prelude.{◌≡◌, ℕ, suc, ◌*◌, ◌<◌, ◌≤◌, ◌⊎◌, Bool, true, false, List, length, map, All, Option, None}
 use Rattle.std.specs.Prelude.{Some, slice_get}
 use Rattle.std.specs.List.{count_by}

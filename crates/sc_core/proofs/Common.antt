@@ -2,12 +2,12 @@
 pub use Rattle.std.proofs.Common.{Bool, List, None, Ok, Option, Some, [], ap, bytes_eq, codes, false, is_some, length}
 pub use Rattle.std.proofs.Common.{map, not, refl, subst, suc, ℕ, ◌&&◌, ◌+◌, ◌==◌, ◌∙◌, ◌∷◌, ◌≡◌}
 pub use Rattle.sc_core.specs.Common.{BinaryOp, Call, End, Event, Import, Interfaces, Out, Proto, Ret, Scalar, UnaryOp}
-pub use Rattle.sc_core.specs.Prelude.{Acts, Arith, Break, Calls, Continue, Function, Here, Judged, Denotations, Meant, Next}
-pub use Rattle.sc_core.specs.Prelude.{Piece, Reached, Return, Run, Scope, State, Stopped, Ways, all_do, and_then}
+pub use Rattle.sc_core.specs.Prelude.{Acts, Arith, Break, Calls, Continue, Denotations, Function, Here, Judged, Meant}
+pub use Rattle.sc_core.specs.Prelude.{Next, Piece, Reached, Return, Run, Scope, State, Stopped, Ways, all_do, and_then}
 pub use Rattle.sc_core.specs.Prelude.{assign, assign_call, at_place, c_arith, call, call_statement, choose, closed}
-pub use Rattle.sc_core.specs.Prelude.{code_bound, deepest, depth, entry_in, evaluated, expr_nodes, follow, frame_bound}
-pub use Rattle.sc_core.specs.Prelude.{function_of, functions_in, globals_of, in_order, init_nodes, inits_do, judged}
-pub use Rattle.sc_core.specs.Prelude.{leave, denotations_of, local_nodes, loop, main_name, meaning, meant, meant_step}
+pub use Rattle.sc_core.specs.Prelude.{code_bound, deepest, denotations_of, depth, entry_in, evaluated, expr_nodes}
+pub use Rattle.sc_core.specs.Prelude.{follow, frame_bound, function_of, functions_in, globals_of, in_order, init_nodes}
+pub use Rattle.sc_core.specs.Prelude.{inits_do, judged, leave, local_nodes, loop, main_name, meaning, meant, meant_step}
 pub use Rattle.sc_core.specs.Prelude.{negated_word, nodes, on_all_words, roles_in, run_by, run_of, run_step}
 pub use Rattle.sc_core.specs.Prelude.{scripted_depth_by, scripted_meaning, scripted_run_of, scripted_step, stmt_does}
 pub use Rattle.sc_core.specs.Prelude.{stmt_nodes, stopped_at, term_judged, term_nodes, term_step, test, total}

@@ -1,10 +1,10 @@
 -- Programs by plans, whose functions compute: the meaning of a program is the run of its plan's denotations.
-use Rattle.sc_core.proofs.Common.{Acts, Arith, Bool, Calls, Event, Function, Here, Interfaces, Denotations, List, Local}
+use Rattle.sc_core.proofs.Common.{Acts, Arith, Bool, Calls, Denotations, Event, Function, Here, Interfaces, List, Local}
 use Rattle.sc_core.proofs.Common.{Next, None, Ok, Option, Run, Some, Ty, TypedExpr, TypedGlobal, TypedStruct, []}
-use Rattle.sc_core.proofs.Common.{all_do, and_then, ap, assign, at_place, bytes_eq, closed, codes, entry_in, follow}
-use Rattle.sc_core.proofs.Common.{frame_bound, function_of, functions_in, globals_of, in_order, init_nodes, inits_do}
-use Rattle.sc_core.proofs.Common.{is_some, leave, length, denotations_of, local_nodes, main_name, map, nodes, refl}
-use Rattle.sc_core.proofs.Common.{roles_in, run_by, run_of, run_step, scripted_run_of, scripted_step, suc, total}
+use Rattle.sc_core.proofs.Common.{all_do, and_then, ap, assign, at_place, bytes_eq, closed, codes, denotations_of}
+use Rattle.sc_core.proofs.Common.{entry_in, follow, frame_bound, function_of, functions_in, globals_of, in_order}
+use Rattle.sc_core.proofs.Common.{init_nodes, inits_do, is_some, leave, length, local_nodes, main_name, map, nodes}
+use Rattle.sc_core.proofs.Common.{refl, roles_in, run_by, run_of, run_step, scripted_run_of, scripted_step, suc, total}
 use Rattle.sc_core.proofs.Common.{variable_at, variables, ℕ, ◌&&◌, ◌+◌, ◌==◌, ◌∷◌, ◌≡◌}
 use Rattle.sc_core.specs.declared.section.TypedSection.{TypedSection}
 use Rattle.sc_core.specs.declared.section.TypedParam.{TypedParam}
@@ -160,15 +160,18 @@ module _ (arith : Arith) (interfaces : Interfaces) (sheets : List Sheet) where
     quick_run = run_by quick_denotations (run_step quick_denotations) (globals_of (map section sheets)) inputs turns
 
     pub run_is : run_of arith (program interfaces sheets) inputs turns ≡ quick_run
-    run_is = ap (λ denotations. run_by denotations (run_step denotations) (globals_of (map section sheets)) inputs turns) denotations_are
+    run_is = ap (λ denotations. run_by denotations (run_step denotations) (globals_of (map section sheets)) inputs
+        turns) denotations_are
 
     abbrev pub quick_scripted : (ℕ → Bool) → List Event → Run
     quick_scripted set trace =
-        run_by quick_denotations (scripted_step quick_denotations (roles_in interfaces.main set trace) (run_step quick_denotations))
+        run_by quick_denotations (scripted_step quick_denotations (roles_in interfaces.main set trace)
+        (run_step quick_denotations))
         (globals_of (map section sheets)) inputs turns
 
     pub scripted_run_is : (set : ℕ → Bool) (trace : List Event) →
         scripted_run_of arith (program interfaces sheets) inputs turns set trace ≡ quick_scripted set trace
     scripted_run_is set trace =
-        ap (λ denotations. run_by denotations (scripted_step denotations (roles_in interfaces.main set trace) (run_step denotations))
+        ap (λ denotations. run_by denotations
+        (scripted_step denotations (roles_in interfaces.main set trace) (run_step denotations))
         (globals_of (map section sheets)) inputs turns) denotations_are

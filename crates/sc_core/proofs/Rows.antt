@@ -30,10 +30,12 @@ pub scripted_by_plan : (interfaces : Interfaces) (sheets : List Sheet) (set : �
 scripted_by_plan interfaces sheets set trace inputs turns events =
     ap (λ run. stopped_at events run.behaviour) (scripted_run_is c_arith interfaces sheets inputs turns set trace)
 
-pub seven_means : meaning (program one_compartment seven) [] 0 10 ≡ record { trace = Out 0 7 ∷ End 0 0 ∷ []; end = Ended }
+pub seven_means : meaning (program one_compartment seven) [] 0 10 ≡ record
+    { trace = Out 0 7 ∷ End 0 0 ∷ []; end = Ended }
 seven_means = by_plan one_compartment seven [] 0 10
 
-pub seven_within_2 : meaning (program one_compartment seven) [] 0 2 ≡ record { trace = Out 0 7 ∷ End 0 0 ∷ []; end = Ended }
+pub seven_within_2 : meaning (program one_compartment seven) [] 0 2 ≡ record
+    { trace = Out 0 7 ∷ End 0 0 ∷ []; end = Ended }
 seven_within_2 = by_plan one_compartment seven [] 0 2
 
 pub seven_within_1 : meaning (program one_compartment seven) [] 0 1 ≡ record { trace = Out 0 7 ∷ []; end = EventsOut }
@@ -58,7 +60,8 @@ pub missing_return_is_blamed : meaning (program one_compartment missing_return) 
     record { trace = []; end = Blamed 0 NoReturn 3 }
 missing_return_is_blamed = by_plan one_compartment missing_return [] 5 10
 
-pub missing_return_wants_a_turn : meaning (program one_compartment missing_return) [] 0 10 ≡ record { trace = []; end = TurnsOut }
+pub missing_return_wants_a_turn : meaning (program one_compartment missing_return) [] 0 10 ≡ record
+    { trace = []; end = TurnsOut }
 missing_return_wants_a_turn = by_plan one_compartment missing_return [] 0 10
 
 pub leak_is_blamed : meaning (program one_compartment leak) [] 5 10 ≡ record { trace = []; end = Blamed 0 Dangling 11 }

@@ -13,7 +13,8 @@ use Rattle.sc_core.specs.declared.value.Cell.TheVariants.{Undef}
 use Rattle.sc_core.specs.declared.value.Value.{Value}
 use Rattle.sc_core.specs.declared.value.Value.TheVariants.{Word, Null, Ptr}
 use Rattle.sc_core.specs.Memory.{Blocks, with_blocks, cell_of, ended}
-use Rattle.sc_core.specs.Combinators.{Opened, Closed, State, Here, Piece, Reached, Stopped, and_then, turn, emit_event, Calls}
+use Rattle.sc_core.specs.Combinators.{Opened, Closed, State, Here, Piece, Reached, Stopped, and_then, turn, emit_event}
+use Rattle.sc_core.specs.Combinators.{Calls}
 
 -- a function as a call sees it, whatever it is written in: the cells of its variables, parameters first, the bytes of
 -- its frame at most, and what it does by what its calls do

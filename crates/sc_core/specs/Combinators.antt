@@ -11,7 +11,8 @@ use Rattle.sc_core.specs.declared.value.Value.{Value}
 use Rattle.sc_core.specs.Memory.{Blocks, Memory, with_blocks, store}
 use Rattle.sc_core.specs.Value.{is_true}
 
--- a frame of a function of this compartment begins or ends, when the trace has `emitted` events; its frame size is `room`
+-- a frame of a function of this compartment begins or ends, when the trace has `emitted` events; its frame size is
+-- `size`
 -- bytes
 pub data FrameChange : Type 0 where
   Opened : (emitted comp size : ℕ) → FrameChange

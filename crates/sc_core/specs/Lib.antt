@@ -1,7 +1,6 @@
 pub mod Common
 pub mod Prelude
 pub mod Calls
-pub mod Growth
 pub mod Height
 pub mod Meaning
 pub mod Memory

@@ -29,8 +29,8 @@ use Rattle.sc_core.specs.Value.{Arith, c_arith, wrapping}
 use Rattle.sc_core.specs.Types.{variables}
 use Rattle.sc_core.specs.Sizes.{nodes, frame_bound}
 use Rattle.sc_core.specs.Run.{stopped_at}
-use Rattle.sc_core.specs.Combinators.{FrameChange, Opened, Closed, State, Here, Piece, Reached, Stopped, and_then, Exit, Next}
-use Rattle.sc_core.specs.Combinators.{Break, Continue, Return, leave, follow, in_order, all_do, Calls}
+use Rattle.sc_core.specs.Combinators.{FrameChange, Opened, Closed, State, Here, Piece, Reached, Stopped, and_then, Exit}
+use Rattle.sc_core.specs.Combinators.{Next, Break, Continue, Return, leave, follow, in_order, all_do, Calls}
 use Rattle.sc_core.specs.Tree.{Acts, at_place, variable_at, ways, assign, block_does}
 use Rattle.sc_core.specs.Calls.{Function, Denotations, Step, found, word_in, call_own, run_step, within}
 use Rattle.sc_core.specs.Scripts.{roles_in, scripted_step}
@@ -185,7 +185,7 @@ run_by denotations step globals inputs turns =
     call_own denotations (within step (suc turns)) denotations.interfaces.main number [] s))
 
 -- the greatest stack depth of a compartment, by the changes made while the trace has fewer than `events` events, where
--- its depth before them is `room`
+-- its depth before them is `depth`
 abbrev pub deepest : ℕ → ℕ → ℕ → List FrameChange → ℕ
 deepest events comp depth [] = depth
 deepest events comp depth (Opened emitted c more ∷ changes) =
@@ -202,7 +202,8 @@ depth_in run events comp = deepest events comp 0 run.frames
 module _ (arith : Arith) (program : ProgramTree) (inputs : List ℕ) (turns : ℕ) where
   abbrev pub run_of : Run
   run_of =
-      run_by (denotations_of arith program) (run_step (denotations_of arith program)) (globals_of program.sections) inputs turns
+      run_by (denotations_of arith program) (run_step (denotations_of arith program)) (globals_of program.sections)
+      inputs turns
 
   -- the run in which the compartments of a set perform their parts of a trace
   abbrev pub scripted_run_of : (ℕ → Bool) → List Event → Run

@@ -1,14 +1,17 @@
 -- What this crate's contracts, its proofs and the crates above cite, passed on from one place. Declares nothing.
-pub use Rattle.sc_core.specs.Calls.{Body, Function, Denotations, Step, back_cross, back_own, begun, blocks_for, call_cross}
-pub use Rattle.sc_core.specs.Calls.{call_own, called, calls, crossed, crossing, done, first_word, found, function}
-pub use Rattle.sc_core.specs.Calls.{functions_of, is_word, leads, may_call, next_input, option_value, read_input}
-pub use Rattle.sc_core.specs.Calls.{run_in, run_step, within, word_back, word_in}
-pub use Rattle.sc_core.specs.Growth.{IsPrefix}
+pub use Rattle.sc_core.specs.Calls.{Body, Denotations, Function, Step, back_cross, back_own, begun, blocks_for}
+pub use Rattle.sc_core.specs.Calls.{call_cross, call_own, called, calls, crossed, crossing, done, first_word, found}
+pub use Rattle.sc_core.specs.Calls.{function, functions_of, is_word, leads, may_call, next_input, option_value}
+pub use Rattle.sc_core.specs.Calls.{read_input, run_in, run_step, within, word_back, word_in}
+pub use Rattle.sc_core.specs.Combinators.{Break, Calls, Closed, Continue, Does, Exit, FrameChange, Here, IsStop, Left}
+pub use Rattle.sc_core.specs.Combinators.{Next, On, Opened, Out, Piece, Reached, Return, Route, State, Stopped, all_do}
+pub use Rattle.sc_core.specs.Combinators.{and_then, choose, computed, emit_event, follow, in_loop, in_order, leave}
+pub use Rattle.sc_core.specs.Combinators.{loop, rounds, stored, take, turn, turn_of, with_memory}
 pub use Rattle.sc_core.specs.Height.{call_height, expr_height, highest, kind_height, part_height, simple_height}
 pub use Rattle.sc_core.specs.Height.{stmt_height, term_height}
-pub use Rattle.sc_core.specs.Meaning.{Run, at_brace, base_zeros, body_does, closed, deepest, depth, depth_by, depth_in}
-pub use Rattle.sc_core.specs.Meaning.{entry_in, exit_word, first_blocks, first_state, function_of, functions_in}
-pub use Rattle.sc_core.specs.Meaning.{global_block, globals_of, init_does, inits_do, denotations_of, main_name, meaning}
+pub use Rattle.sc_core.specs.Meaning.{Run, at_brace, base_zeros, body_does, closed, deepest, denotations_of, depth}
+pub use Rattle.sc_core.specs.Meaning.{depth_by, depth_in, entry_in, exit_word, first_blocks, first_state, function_of}
+pub use Rattle.sc_core.specs.Meaning.{functions_in, global_block, globals_of, init_does, inits_do, main_name, meaning}
 pub use Rattle.sc_core.specs.Meaning.{meaning_by, member_zeros, place_named, place_of_export, repeated, run_by, run_of}
 pub use Rattle.sc_core.specs.Meaning.{run_to, scripted_by, scripted_depth_by, scripted_meaning, scripted_run_of}
 pub use Rattle.sc_core.specs.Meaning.{scripted_wrapped, starred_zeros, struct_zeros, with_words, wrapped, wrapped_depth}
@@ -20,9 +23,9 @@ pub use Rattle.sc_core.specs.Scripts.{Roles, acts, asks, is_number, performs, ro
 pub use Rattle.sc_core.specs.Sizes.{call_nodes, code_bound, expr_nodes, frame_bound, init_nodes, kind_nodes}
 pub use Rattle.sc_core.specs.Sizes.{local_nodes, nodes, part_nodes, simple_nodes, stmt_nodes, term_nodes, total}
 pub use Rattle.sc_core.specs.Tree.{Acts, Meant, Ways, applied, assign, assign_call, at_place, at_pointer, binary}
-pub use Rattle.sc_core.specs.Tree.{block_does, call, call_statement, evaluated, is_unsigned_op, kind_step, literal, meant}
-pub use Rattle.sc_core.specs.Tree.{meant_step, part_does, simple_does, stmt_does, stmt_step, store_at, store_result}
-pub use Rattle.sc_core.specs.Tree.{term_step, test, values, variable_at, wanted, ways}
+pub use Rattle.sc_core.specs.Tree.{block_does, call, call_statement, evaluated, is_unsigned_op, kind_step, literal}
+pub use Rattle.sc_core.specs.Tree.{meant, meant_step, part_does, simple_does, stmt_does, stmt_step, store_at}
+pub use Rattle.sc_core.specs.Tree.{store_result, term_step, test, values, variable_at, wanted, ways}
 pub use Rattle.sc_core.specs.Types.{base_cells, cells_of, is_array, is_pointer, is_unsigned, starred_cells}
 pub use Rattle.sc_core.specs.Types.{struct_cells, target_cells, variables}
 pub use Rattle.sc_core.specs.Typing.{Callable, Judged, Scope, Signature, all_go_into, allowed, are_equatable}
@@ -47,7 +50,3 @@ pub use Rattle.sc_core.specs.WellTyped.{most_cells, most_compartments, most_expo
 pub use Rattle.sc_core.specs.WellTyped.{most_params, params_fit, passed_fits, result_fits, same_results, same_signature}
 pub use Rattle.sc_core.specs.WellTyped.{same_types, scope_of, section_fits, sections_fit, starred_within, struct_fits}
 pub use Rattle.sc_core.specs.WellTyped.{structs_fit, type_within, variable_fits, words_fit}
-pub use Rattle.sc_core.specs.Combinators.{Break, Calls, Closed, Continue, Does, Exit, FrameChange, Here, IsStop, Left, Next}
-pub use Rattle.sc_core.specs.Combinators.{On, Opened, Out, Piece, Reached, Return, Route, State, Stopped, all_do, and_then}
-pub use Rattle.sc_core.specs.Combinators.{choose, computed, follow, in_loop, in_order, leave, loop, rounds, stored, take}
-pub use Rattle.sc_core.specs.Combinators.{emit_event, turn, turn_of, with_memory}

@@ -25,8 +25,8 @@ use Rattle.sc_core.specs.declared.value.Want.TheVariants as want
 use Rattle.sc_core.specs.Memory.{Blocks, bind, load, store, with_blocks}
 use Rattle.sc_core.specs.Value.{Arith, is_true, of_bool, moved, moved_on, moved_back, between, on_words, applied_one}
 use Rattle.sc_core.specs.Types.{is_unsigned, is_array, is_pointer, target_cells}
-use Rattle.sc_core.specs.Combinators.{State, Here, Piece, and_then, computed, Next, Break, Continue, Return, Does, leave}
-use Rattle.sc_core.specs.Combinators.{stored, follow, in_order, all_do, loop, choose, Calls}
+use Rattle.sc_core.specs.Combinators.{State, Here, Piece, and_then, computed, Next, Break, Continue, Return, Does}
+use Rattle.sc_core.specs.Combinators.{leave, stored, follow, in_order, all_do, loop, choose, Calls}
 
 -- an expression's place or value, as it is wanted, in the blocks of its compartment
 abbrev pub Ways : Type 0

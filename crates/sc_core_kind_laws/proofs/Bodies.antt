@@ -1,18 +1,20 @@
 -- What statements that fit do: they ask only for calls that fit, and leave a function with a value of its result's
 -- kind.
-use Rattle.sc_core_kind_laws.proofs.Common.{Acts, Arith, Blocks, Bool, Break, CallTarget, Callable, Calls, Cause, Continue, Each}
-use Rattle.sc_core_kind_laws.proofs.Common.{Exit, Here, Inside, Judged, List, Next, None, Ok, Option, Result, Return, Scope}
-use Rattle.sc_core_kind_laws.proofs.Common.{Signature, Some, State, Ty, TypedExpr, TypedFunction, TypedStruct, Value, Ways, Word}
-use Rattle.sc_core_kind_laws.proofs.Common.{[], all_do, all_go_into, and_first, and_from, and_rest, and_then, ap, args_fit}
-use Rattle.sc_core_kind_laws.proofs.Common.{assign, assign_call, assign_call_fits, at_brace, at_place, bind, block_does}
-use Rattle.sc_core_kind_laws.proofs.Common.{body_does, body_fits, call, call_statement, call_fits, choose, closed, computed, decayed}
-use Rattle.sc_core_kind_laws.proofs.Common.{evaluated, false, false≢true, goes_into, has_kind, have_kinds, in_order, init_does}
-use Rattle.sc_core_kind_laws.proofs.Common.{inits_do, is_integer, is_of, is_pointer, is_scalar, is_some, is_target, judged}
-use Rattle.sc_core_kind_laws.proofs.Common.{judged_ty, kind_fits, kind_step, layer_of, leave, list_all, loop, map, not, on_line}
-use Rattle.sc_core_kind_laws.proofs.Common.{option_goes, part_does, part_fits, refl, result_goes, returned_call_fits}
-use Rattle.sc_core_kind_laws.proofs.Common.{returned_fits, returns_kind, same_ty, simple_does, simple_fits, stmt_at, stmt_does}
-use Rattle.sc_core_kind_laws.proofs.Common.{stmt_fits, stmt_induction, stmt_step, store, store_at, store_result, stored, subst}
-use Rattle.sc_core_kind_laws.proofs.Common.{suc, sym, target_signature, test, true, type_goes, values, variable_at, ways}
+use Rattle.sc_core_kind_laws.proofs.Common.{Acts, Arith, Blocks, Bool, Break, CallTarget, Callable, Calls, Cause}
+use Rattle.sc_core_kind_laws.proofs.Common.{Continue, Each, Exit, Here, Inside, Judged, List, Next, None, Ok, Option}
+use Rattle.sc_core_kind_laws.proofs.Common.{Result, Return, Scope, Signature, Some, State, Ty, TypedExpr, TypedFunction}
+use Rattle.sc_core_kind_laws.proofs.Common.{TypedStruct, Value, Ways, Word, [], all_do, all_go_into, and_first}
+use Rattle.sc_core_kind_laws.proofs.Common.{and_from, and_rest, and_then, ap, args_fit, assign, assign_call}
+use Rattle.sc_core_kind_laws.proofs.Common.{assign_call_fits, at_brace, at_place, bind, block_does, body_does}
+use Rattle.sc_core_kind_laws.proofs.Common.{body_fits, call, call_fits, call_statement, choose, closed, computed}
+use Rattle.sc_core_kind_laws.proofs.Common.{decayed, evaluated, false, false≢true, goes_into, has_kind, have_kinds}
+use Rattle.sc_core_kind_laws.proofs.Common.{in_order, init_does, inits_do, is_integer, is_of, is_pointer, is_scalar}
+use Rattle.sc_core_kind_laws.proofs.Common.{is_some, is_target, judged, judged_ty, kind_fits, kind_step, layer_of}
+use Rattle.sc_core_kind_laws.proofs.Common.{leave, list_all, loop, map, not, on_line, option_goes, part_does, part_fits}
+use Rattle.sc_core_kind_laws.proofs.Common.{refl, result_goes, returned_call_fits, returned_fits, returns_kind, same_ty}
+use Rattle.sc_core_kind_laws.proofs.Common.{simple_does, simple_fits, stmt_at, stmt_does, stmt_fits, stmt_induction}
+use Rattle.sc_core_kind_laws.proofs.Common.{stmt_step, store, store_at, store_result, stored, subst, suc, sym}
+use Rattle.sc_core_kind_laws.proofs.Common.{target_signature, test, true, type_goes, values, variable_at, ways}
 use Rattle.sc_core_kind_laws.proofs.Common.{with_memory, ℕ, ◌&&◌, ◌∙◌, ◌∷◌, ◌≡◌}
 use Rattle.sc_core.specs.declared.expr.TypedCall.{TypedCall}
 use Rattle.sc_core.specs.declared.expr.VarRef.TheVariants.{Local}
@@ -26,8 +28,9 @@ use Rattle.sc_core.specs.declared.section.TypedLocal.{TypedLocal}
 use Rattle.sc_core.specs.declared.value.Want.{Want}
 use Rattle.sc_core.specs.declared.value.Want.TheVariants as want
 use Rattle.sc_core_kind_laws.proofs.Values.{either, bind_made, same_kind, integer_kind, decayed_kind, value_kind}
-use Rattle.sc_core_kind_laws.proofs.Pieces.{Same, Any, itself, then_same, weaken, computed_same, choose_same, exit_kind, ExitOk}
-use Rattle.sc_core_kind_laws.proofs.Pieces.{DoSame, leave_same, in_order_ok, follow_same, EachSame, all_same, loop_same}
+use Rattle.sc_core_kind_laws.proofs.Pieces.{Same, Any, itself, then_same, weaken, computed_same, choose_same, exit_kind}
+use Rattle.sc_core_kind_laws.proofs.Pieces.{ExitOk, DoSame, leave_same, in_order_ok, follow_same, EachSame, all_same}
+use Rattle.sc_core_kind_laws.proofs.Pieces.{loop_same}
 
 -- a value goes into places of its own kind
 pub goes_kind : (place value : Ty) → type_goes place value ≡ true → is_pointer place ≡ is_pointer value
@@ -164,8 +167,10 @@ module _ (arith : Arith) (structs : List TypedStruct) (here : Here) (params : �
         weaken (λ v. returns_kind call.signature.result v ≡ true) Any _ _ (λ v k. tt)
         (call_same c call.signature call.is call.fit line s)
 
-    call_statement_same : (c : TypedCall) → call_fits callable c.target (map (judged scope) c.args) ≡ true → (line : ℕ) →
-        DoesSame (call_statement here C c.target (map way c.args) line) (call_statement here D c.target (map way c.args) line)
+    call_statement_same : (c : TypedCall) → call_fits callable c.target (map (judged scope) c.args) ≡ true →
+        (line : ℕ) →
+        DoesSame (call_statement here C c.target (map way c.args) line)
+        (call_statement here D c.target (map way c.args) line)
     call_statement_same c h line a s =
         then_same Any (ExitOk result) (call here C c.target (map way c.args) line s)
         (call here D c.target (map way c.args) line s) (λ v s. leave Next a s) (λ v s. leave Next a s)

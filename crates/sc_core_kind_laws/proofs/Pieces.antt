@@ -1,9 +1,9 @@
 -- Two pieces of a run that are the same, and what is reached is good: what the combinators make of such pieces.
-use Rattle.sc_core_kind_laws.proofs.Common.{Acts, Bool, Break, Cause, Continue, Err, Exit, Here, Left, List, Next, Ok, On}
-use Rattle.sc_core_kind_laws.proofs.Common.{Option, Out, Piece, Reached, Result, Return, Route, State, Stopped, Ty, Value, []}
-use Rattle.sc_core_kind_laws.proofs.Common.{all_do, and_then, ap, choose, computed, false, follow, if◌then◌else◌, in_loop}
-use Rattle.sc_core_kind_laws.proofs.Common.{in_order, is_true, leave, loop, refl, returns_kind, rounds, suc, take, true, turn}
-use Rattle.sc_core_kind_laws.proofs.Common.{zero, ℕ, ◌∙◌, ◌∷◌, ◌≡◌}
+use Rattle.sc_core_kind_laws.proofs.Common.{Acts, Bool, Break, Cause, Continue, Err, Exit, Here, Left, List, Next, Ok}
+use Rattle.sc_core_kind_laws.proofs.Common.{On, Option, Out, Piece, Reached, Result, Return, Route, State, Stopped, Ty}
+use Rattle.sc_core_kind_laws.proofs.Common.{Value, [], all_do, and_then, ap, choose, computed, false, follow}
+use Rattle.sc_core_kind_laws.proofs.Common.{if◌then◌else◌, in_loop, in_order, is_true, leave, loop, refl, returns_kind}
+use Rattle.sc_core_kind_laws.proofs.Common.{rounds, suc, take, true, turn, zero, ℕ, ◌∙◌, ◌∷◌, ◌≡◌}
 
 -- what is reached, if anything is, is good
 abbrev pub Lasting : {V : Type 0} → (V → Type 0) → Piece V → Type 0

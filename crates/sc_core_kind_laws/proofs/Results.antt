@@ -1,20 +1,22 @@
 -- What functions of a well-typed program return, and which calls they ask for.
-use Rattle.sc_core_kind_laws.proofs.Common.{Arith, BadType, Body, Bool, CallTarget, Callable, Function, Here, Interface}
-use Rattle.sc_core_kind_laws.proofs.Common.{Interfaces, Denotations, List, None, Null, Option, Piece, ProgramTree, Ptr, Reached}
-use Rattle.sc_core_kind_laws.proofs.Common.{Roles, Signature, Some, State, Stopped, Ty, TypedFunction, TypedSection, Value, Word}
-use Rattle.sc_core_kind_laws.proofs.Common.{[], allowed, and_first, and_from, and_rest, and_then, ap, are_distinct, back_own}
-use Rattle.sc_core_kind_laws.proofs.Common.{begun, bodies_of, body_does, body_fits, bytes_eq, call_cross, call_own, callable_in}
-use Rattle.sc_core_kind_laws.proofs.Common.{called, calls, closed, crossing, done, entry_in, eq-eqb, eqb-true, export_fits}
-use Rattle.sc_core_kind_laws.proofs.Common.{false, false≢true, found, function, function_at, function_fits, function_of}
-use Rattle.sc_core_kind_laws.proofs.Common.{functions_in, global_fits, has_kind, have_kinds, if◌then◌else◌, import_name}
-use Rattle.sc_core_kind_laws.proofs.Common.{is_plain_name, is_pointer, is_some, is_well_typed, is_word, leads, length}
-use Rattle.sc_core_kind_laws.proofs.Common.{denotations_of, list_all, list_any, local_fits, main_fits, main_name, map, may_call}
-use Rattle.sc_core_kind_laws.proofs.Common.{most_params, nat_le, not, option_and_then, option_map, option_map_or}
-use Rattle.sc_core_kind_laws.proofs.Common.{option_signature, option_value, passed_fits, performs, place_of_export, position}
-use Rattle.sc_core_kind_laws.proofs.Common.{proto_signature, refl, result_fits, result_ty, returns_kind, rows_left, run_step}
-use Rattle.sc_core_kind_laws.proofs.Common.{same_import, same_results, same_signature, same_types, scalar_ty, scope_of}
-use Rattle.sc_core_kind_laws.proofs.Common.{scripted_step, section_functions, signature_of, slice_get, slice_index_or}
-use Rattle.sc_core_kind_laws.proofs.Common.{structs_fit, subst, suc, sym, target_signature, true, turn, word_back, zero, ℕ, ◌&&◌}
+use Rattle.sc_core_kind_laws.proofs.Common.{Arith, BadType, Body, Bool, CallTarget, Callable, Denotations, Function}
+use Rattle.sc_core_kind_laws.proofs.Common.{Here, Interface, Interfaces, List, None, Null, Option, Piece, ProgramTree}
+use Rattle.sc_core_kind_laws.proofs.Common.{Ptr, Reached, Roles, Signature, Some, State, Stopped, Ty, TypedFunction}
+use Rattle.sc_core_kind_laws.proofs.Common.{TypedSection, Value, Word, [], allowed, and_first, and_from, and_rest}
+use Rattle.sc_core_kind_laws.proofs.Common.{and_then, ap, are_distinct, back_own, begun, bodies_of, body_does}
+use Rattle.sc_core_kind_laws.proofs.Common.{body_fits, bytes_eq, call_cross, call_own, callable_in, called, calls}
+use Rattle.sc_core_kind_laws.proofs.Common.{closed, crossing, denotations_of, done, entry_in, eq-eqb, eqb-true}
+use Rattle.sc_core_kind_laws.proofs.Common.{export_fits, false, false≢true, found, function, function_at, function_fits}
+use Rattle.sc_core_kind_laws.proofs.Common.{function_of, functions_in, global_fits, has_kind, have_kinds, if◌then◌else◌}
+use Rattle.sc_core_kind_laws.proofs.Common.{import_name, is_plain_name, is_pointer, is_some, is_well_typed, is_word}
+use Rattle.sc_core_kind_laws.proofs.Common.{leads, length, list_all, list_any, local_fits, main_fits, main_name, map}
+use Rattle.sc_core_kind_laws.proofs.Common.{may_call, most_params, nat_le, not, option_and_then, option_map}
+use Rattle.sc_core_kind_laws.proofs.Common.{option_map_or, option_signature, option_value, passed_fits, performs}
+use Rattle.sc_core_kind_laws.proofs.Common.{place_of_export, position, proto_signature, refl, result_fits, result_ty}
+use Rattle.sc_core_kind_laws.proofs.Common.{returns_kind, rows_left, run_step, same_import, same_results}
+use Rattle.sc_core_kind_laws.proofs.Common.{same_signature, same_types, scalar_ty, scope_of, scripted_step}
+use Rattle.sc_core_kind_laws.proofs.Common.{section_functions, signature_of, slice_get, slice_index_or, structs_fit}
+use Rattle.sc_core_kind_laws.proofs.Common.{subst, suc, sym, target_signature, true, turn, word_back, zero, ℕ, ◌&&◌}
 use Rattle.sc_core_kind_laws.proofs.Common.{◌++◌, ◌==◌, ◌∙◌, ◌∷◌, ◌≡◌}
 use Rattle.sc_event.specs.Prelude.{comp_at, export_at, imports, is_function, is_input, is_output, takes}
 use Rattle.std.proofs.lemmas.Option.{slice_get-map}
@@ -31,8 +33,8 @@ use Rattle.sc_core.specs.declared.run.RunEnd.TheVariants.{Blamed}
 use Rattle.sc_core_kind_laws.proofs.Values.{same_kind}
 use Rattle.sc_core_kind_laws.proofs.Pieces.{Lasting, Same, Any, then_same, ExitOk}
 use Rattle.sc_core_kind_laws.proofs.Bodies.{CallsFit, body_same, closed_same}
-use Rattle.sc_core_kind_laws.proofs.Sections.{ForSection, for_section, for_interface, index_map, all_at, first_of, found_passes}
-use Rattle.sc_core_kind_laws.proofs.Sections.{main_so, sections_so, any_along, named_so, own_names_differ}
+use Rattle.sc_core_kind_laws.proofs.Sections.{ForSection, for_section, for_interface, index_map, all_at, first_of}
+use Rattle.sc_core_kind_laws.proofs.Sections.{found_passes, main_so, sections_so, any_along, named_so, own_names_differ}
 
 -- OPTIONS
 record Of {A B : Type 0} (f : A → B) (o : Option A) (y : B) : Type 0 where
@@ -213,7 +215,8 @@ module _ (arith : Arith) (program : ProgramTree) (typed : is_well_typed program 
 
   -- DENOTED FUNCTIONS
   denoted_function : (comp : ℕ) (section : TypedSection) → slice_get program.sections comp ≡ Some section → (n : ℕ) →
-      function L comp n ≡ option_map (function_of arith interface_fitting.main section.structs) (slice_get section.functions n)
+      function L comp n ≡ option_map (function_of arith interface_fitting.main section.structs)
+      (slice_get section.functions n)
   denoted_function comp section is n =
       ap (λ fs. slice_get fs n) (index_map (functions_in arith interface_fitting.main) program.sections comp section is)
       ∙ slice_get-map (function_of arith interface_fitting.main section.structs) section.functions n
@@ -261,7 +264,8 @@ module _ (arith : Arith) (program : ProgramTree) (typed : is_well_typed program 
   module _ (body : Body) (good : BodyGood body) (comp : ℕ) (plain : roles.scripted comp ≡ false)
       (section : TypedSection) (is : slice_get program.sections comp ≡ Some section) where
     place : ForSection interface_fitting interface_fitting.comps comp section
-    place = for_section interface_fitting 0 interface_fitting.comps program.sections (sections_so program typed) comp section is
+    place = for_section interface_fitting 0 interface_fitting.comps program.sections (sections_so program typed) comp
+        section is
 
     abbrev callable : Callable
     callable = callable_in interface_fitting place.interface section
@@ -285,7 +289,8 @@ module _ (arith : Arith) (program : ProgramTree) (typed : is_well_typed program 
         (sym (slice_get-map signature_of section.functions n) ∙ h) in
         let at : function_at program comp n ≡ Some f.item = ap (λ o. slice_get (section_functions o) n) is ∙ f.is in
         let there : function L comp n ≡ Some (function_of arith interface_fitting.main section.structs f.item) =
-        denoted_function comp section is n ∙ ap (option_map (function_of arith interface_fitting.main section.structs)) f.is in
+        denoted_function comp section is n ∙
+        ap (option_map (function_of arith interface_fitting.main section.structs)) f.is in
         record {
           may = ap is_some there;
           comes = lasting_then Any (λ v. returns_kind signature.result v ≡ true) (turn s)
@@ -380,9 +385,11 @@ module _ (arith : Arith) (program : ProgramTree) (typed : is_well_typed program 
 
     -- `main` of the main compartment is of type `int`
     main_int : (n : ℕ) (f : TypedFunction) → slice_get section.functions n ≡ Some f →
-        (comp == interface_fitting.main && bytes_eq f.name main_name) ≡ true → returns_kind f.result (Some (Word 0)) ≡ true
+        (comp == interface_fitting.main && bytes_eq f.name main_name) ≡ true →
+        returns_kind f.result (Some (Word 0)) ≡ true
     main_int n f item h =
-        let here : comp ≡ interface_fitting.main = eqb-true comp interface_fitting.main (and_first (comp == interface_fitting.main) _ h) in
+        let here : comp ≡ interface_fitting.main =
+        eqb-true comp interface_fitting.main (and_first (comp == interface_fitting.main) _ h) in
         let own : slice_get program.sections interface_fitting.main ≡ Some section =
         subst (λ c. slice_get program.sections c ≡ Some section) here is in
         let any : main_fits (Some section) ≡ true = subst (λ o. main_fits o ≡ true) own (main_so program typed) in
@@ -425,7 +432,8 @@ module _ (arith : Arith) (program : ProgramTree) (typed : is_well_typed program 
         (body_same arith section.structs here (length f.params) (scope_of section f) callable f.result
         (calls L body) (called L body) calls_fit f (function_body n f item) tt s) (λ left ok t.
         closed_same arith section.structs here (length f.params) (scope_of section f) callable f.result (calls L body)
-        (called L body) calls_fit left.exit (comp == interface_fitting.main && bytes_eq f.name main_name) f.close_line t ok
+        (called L body) calls_fit left.exit (comp == interface_fitting.main && bytes_eq f.name main_name) f.close_line t
+        ok
         (main_int n f item))
 
   run_good : (body : Body) → BodyGood body → BodyGood (run_step L body)
@@ -496,7 +504,8 @@ module _ (arith : Arith) (program : ProgramTree) (typed : is_well_typed program 
       (within_good n number here f plain h s)
 
   pub crosses_itself : (n index number : ℕ) (here : Here) (proto : Proto) → roles.scripted here.comp ≡ false →
-      export_at interface_fitting here.comp index ≡ Some proto → entry_in program here.comp (Export index) ≡ Some number →
+      export_at interface_fitting here.comp index ≡ Some proto →
+      entry_in program here.comp (Export index) ≡ Some number →
       (s t : State) (v : Option Value) → its_bodies n number here s ≡ Reached v t →
       option_value (crossing (Some proto) v) ≡ v
   crosses_itself n index number here proto plain h entry s t v is =

@@ -1,10 +1,11 @@
 -- What the sections of a well-typed program keep, by their numbers.
-use Rattle.sc_core_kind_laws.proofs.Common.{Bool, Interface, Interfaces, List, None, Option, ProgramTree, Some, TypedFunction}
-use Rattle.sc_core_kind_laws.proofs.Common.{TypedSection, [], and_first, and_rest, ap, are_distinct, bytes_eq, codes, cond}
-use Rattle.sc_core_kind_laws.proofs.Common.{false, false≢true, interface_fits, is_well_typed, length, list_all, list_any}
-use Rattle.sc_core_kind_laws.proofs.Common.{main_fits, mains_in, map, most_compartments, nat_le, not, option_map, or_right}
-use Rattle.sc_core_kind_laws.proofs.Common.{position, refl, section_fits, sections_fit, slice_get, slice_index_or, subst, suc}
-use Rattle.sc_core_kind_laws.proofs.Common.{sym, true, zero, ℕ, ◌&&◌, ◌++◌, ◌==◌, ◌||◌, ◌∙◌, ◌∷◌, ◌≡◌}
+use Rattle.sc_core_kind_laws.proofs.Common.{Bool, Interface, Interfaces, List, None, Option, ProgramTree, Some}
+use Rattle.sc_core_kind_laws.proofs.Common.{TypedFunction, TypedSection, [], and_first, and_rest, ap, are_distinct}
+use Rattle.sc_core_kind_laws.proofs.Common.{bytes_eq, codes, cond, false, false≢true, interface_fits, is_well_typed}
+use Rattle.sc_core_kind_laws.proofs.Common.{length, list_all, list_any, main_fits, mains_in, map, most_compartments}
+use Rattle.sc_core_kind_laws.proofs.Common.{nat_le, not, option_map, or_right, position, refl, section_fits}
+use Rattle.sc_core_kind_laws.proofs.Common.{sections_fit, slice_get, slice_index_or, subst, suc, sym, true, zero, ℕ}
+use Rattle.sc_core_kind_laws.proofs.Common.{◌&&◌, ◌++◌, ◌==◌, ◌||◌, ◌∙◌, ◌∷◌, ◌≡◌}
 use Rattle.sc_base.proofs.Lists.{position-cons}
 use Rattle.sc_base.proofs.Texts.{same_text, bytes_eq_self}
 use Rattle.sc_core_kind_laws.proofs.Values.{either}

@@ -1,17 +1,19 @@
 -- Values have the kinds of their types: expressions.
-use Rattle.sc_core_kind_laws.proofs.Common.{Arith, BadPointer, Blocks, Bool, Cause, Err, Here, Judged, List, Meant, None, Null}
-use Rattle.sc_core_kind_laws.proofs.Common.{Ok, Option, Ptr, Result, Scope, Some, Ty, TypedExpr, TypedStruct, Under, Value, Word}
-use Rattle.sc_core_kind_laws.proofs.Common.{[], and_first, and_rest, ap, apart, applied, applied_one, are_equatable, are_ordered}
-use Rattle.sc_core_kind_laws.proofs.Common.{as_word, at_place, at_pointer, between, binary, binary_fits, bind, both_ints}
-use Rattle.sc_core_kind_laws.proofs.Common.{cells_at, choose, common, decayed, difference_fits, expr_at, expr_induction, false}
-use Rattle.sc_core_kind_laws.proofs.Common.{false≢true, if◌then◌else◌, in_elements, int_div, int_rem, is_address, is_array}
-use Rattle.sc_core_kind_laws.proofs.Common.{is_int, is_integer, is_live, is_of, is_pointer, is_scalar, is_true, is_type}
-use Rattle.sc_core_kind_laws.proofs.Common.{is_unsigned, is_unsigned_op, is_zero, judged, judged_ty, length, literal, load}
-use Rattle.sc_core_kind_laws.proofs.Common.{loaded, meant, meant_step, moved, moved_back, moved_on, nat_le, negsuc, not, of_bool}
-use Rattle.sc_core_kind_laws.proofs.Common.{on_word, on_words, ordered, place_at, pointer_to, points, pos, refl, same_place}
-use Rattle.sc_core_kind_laws.proofs.Common.{same_pointers, same_ty, same_types, slice_get, subst, suc, sum_fits, sym}
-use Rattle.sc_core_kind_laws.proofs.Common.{target_cells, term_judged, term_of, term_step, true, typed, unary_fits, variable_at}
-use Rattle.sc_core_kind_laws.proofs.Common.{wanted, ways, ℕ, ℤ, ◌&&◌, ◌-◌, ◌^◌, ◌||◌, ◌∙◌, ◌∷◌, ◌≡◌}
+use Rattle.sc_core_kind_laws.proofs.Common.{Arith, BadPointer, Blocks, Bool, Cause, Err, Here, Judged, List, Meant}
+use Rattle.sc_core_kind_laws.proofs.Common.{None, Null, Ok, Option, Ptr, Result, Scope, Some, Ty, TypedExpr}
+use Rattle.sc_core_kind_laws.proofs.Common.{TypedStruct, Under, Value, Word, [], and_first, and_rest, ap, apart}
+use Rattle.sc_core_kind_laws.proofs.Common.{applied, applied_one, are_equatable, are_ordered, as_word, at_place}
+use Rattle.sc_core_kind_laws.proofs.Common.{at_pointer, between, binary, binary_fits, bind, both_ints, cells_at, choose}
+use Rattle.sc_core_kind_laws.proofs.Common.{common, decayed, difference_fits, expr_at, expr_induction, false}
+use Rattle.sc_core_kind_laws.proofs.Common.{false≢true, if◌then◌else◌, in_elements, int_div, int_rem, is_address}
+use Rattle.sc_core_kind_laws.proofs.Common.{is_array, is_int, is_integer, is_live, is_of, is_pointer, is_scalar}
+use Rattle.sc_core_kind_laws.proofs.Common.{is_true, is_type, is_unsigned, is_unsigned_op, is_zero, judged, judged_ty}
+use Rattle.sc_core_kind_laws.proofs.Common.{length, literal, load, loaded, meant, meant_step, moved, moved_back}
+use Rattle.sc_core_kind_laws.proofs.Common.{moved_on, nat_le, negsuc, not, of_bool, on_word, on_words, ordered}
+use Rattle.sc_core_kind_laws.proofs.Common.{place_at, pointer_to, points, pos, refl, same_place, same_pointers, same_ty}
+use Rattle.sc_core_kind_laws.proofs.Common.{same_types, slice_get, subst, suc, sum_fits, sym, target_cells, term_judged}
+use Rattle.sc_core_kind_laws.proofs.Common.{term_of, term_step, true, typed, unary_fits, variable_at, wanted, ways, ℕ}
+use Rattle.sc_core_kind_laws.proofs.Common.{ℤ, ◌&&◌, ◌-◌, ◌^◌, ◌||◌, ◌∙◌, ◌∷◌, ◌≡◌}
 use Rattle.sc_word.specs.Prelude.{word_of}
 use Rattle.sc_base.specs.declared.op.UnaryOp.{UnaryOp}
 use Rattle.sc_base.specs.declared.op.UnaryOp.TheVariants as unary

@@ -2,7 +2,7 @@
 -- meets an operand that it has no meaning for, and only numbers cross between compartments.
 use Rattle.sc_event.specs.Prelude.{export_at}
 use Rattle.sc_core.specs.Prelude.{Arith, Blocks, Body, Function, Here, IsWellTyped, Reached, Roles, Scope, State}
-use Rattle.sc_core.specs.Prelude.{called, calls, crossing, entry_in, function, is_pointer, judged, denotations_of}
+use Rattle.sc_core.specs.Prelude.{called, calls, crossing, denotations_of, entry_in, function, is_pointer, judged}
 use Rattle.sc_core.specs.Prelude.{option_value, run_step, scripted_step, ways, within}
 use Rattle.std.specs.Prelude.{◌≡◌, ℕ, Bool, true, false, not, ◌&&◌, List, [], ◌∷◌, Option, None, Some, Ok, slice_get}
 use Rattle.sc_core.specs.declared.ty.Ty.{Ty}

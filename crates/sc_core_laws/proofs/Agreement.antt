@@ -1,11 +1,11 @@
 -- Denotations that agree function by function run the same, also where compartments perform scripts.
 use Rattle.sc_core_laws.proofs.Common.{Action, AgreeingRunAlike, BodiesAgree, Body, Bool, CallTarget, CallsAgree, Cross}
-use Rattle.sc_core_laws.proofs.Common.{Function, FunctionsAgree, Here, Input, DenotationsAgree, Denotations, List, Main, Meets}
-use Rattle.sc_core_laws.proofs.Common.{Memory, None, Option, Output, Piece, PiecesAgree, Roles, Row, RunsAgree, Some, State}
-use Rattle.sc_core_laws.proofs.Common.{Step, Value, Word, [], acts, and_then, ap, arith, asks, back_own, call_own, calls}
-use Rattle.sc_core_laws.proofs.Common.{first_state, found, function, if◌then◌else◌, is_number, map, performs}
-use Rattle.sc_core_laws.proofs.Common.{piece_without_line, refl, run_by, run_in, run_step, run_to, scripted_step, subst, suc}
-use Rattle.sc_core_laws.proofs.Common.{within, zero, ℕ, ◌∷◌, ◌≡◌}
+use Rattle.sc_core_laws.proofs.Common.{Denotations, DenotationsAgree, Function, FunctionsAgree, Here, Input, List, Main}
+use Rattle.sc_core_laws.proofs.Common.{Meets, Memory, None, Option, Output, Piece, PiecesAgree, Roles, Row, RunsAgree}
+use Rattle.sc_core_laws.proofs.Common.{Some, State, Step, Value, Word, [], acts, and_then, ap, arith, asks, back_own}
+use Rattle.sc_core_laws.proofs.Common.{call_own, calls, first_state, found, function, if◌then◌else◌, is_number, map}
+use Rattle.sc_core_laws.proofs.Common.{performs, piece_without_line, refl, run_by, run_in, run_step, run_to}
+use Rattle.sc_core_laws.proofs.Common.{scripted_step, subst, suc, within, zero, ℕ, ◌∷◌, ◌≡◌}
 use Rattle.sc_event.specs.declared.row.Action.TheVariants as act
 
 pub itself : {V : Type 0} (o : Piece V) → PiecesAgree o o

@@ -1,18 +1,19 @@
 -- Two runs that do the same, where the second may have more turns, and may go on where the first has to stop.
-use Rattle.sc_core_laws.proofs.Common.{Action, AllFrom, BadType, Blamed, Body, Bool, Call, CallTarget, Cause, Cross, Ended}
-use Rattle.sc_core_laws.proofs.Common.{EventsOut, Export, IsPrefix, Function, Goes, Gone, Grown, Here, Input, Interfaces}
-use Rattle.sc_core_laws.proofs.Common.{Denotations, List, Meets, None, Ok, Option, Output, Own, Piece, Reached, Result, Roles}
-use Rattle.sc_core_laws.proofs.Common.{Row, RunEnd, Some, State, Step, Stopped, TurnsOut, Value, Word, [], acts, and_then}
-use Rattle.sc_core_laws.proofs.Common.{ap, ap₂, arith, asks, back_cross, back_own, begun, call_cross, call_own, called}
-use Rattle.sc_core_laws.proofs.Common.{calls, computed, crossed, done, false, found, function, if◌then◌else◌, inl, inr}
-use Rattle.sc_core_laws.proofs.Common.{is_number, last, length, map, may_call, option_value, performs, refl, rows_left}
-use Rattle.sc_core_laws.proofs.Common.{run_in, run_step, scripted_step, subst, suc, sym, emit_event, true, turn, turn_of}
-use Rattle.sc_core_laws.proofs.Common.{with_blocks, within, word_in, zero, ℕ, ◌+◌, ◌<◌, ◌∙◌, ◌∷◌, ◌≡◌, ◌≤◌, ◌⊎◌}
+use Rattle.sc_core_laws.proofs.Common.{Action, AllFrom, BadType, Blamed, Body, Bool, Call, CallTarget, Cause, Cross}
+use Rattle.sc_core_laws.proofs.Common.{Denotations, Ended, EventsOut, Export, Function, Goes, Gone, Grown, Here, Input}
+use Rattle.sc_core_laws.proofs.Common.{Interfaces, IsPrefix, List, Meets, None, Ok, Option, Output, Own, Piece, Reached}
+use Rattle.sc_core_laws.proofs.Common.{Result, Roles, Row, RunEnd, Some, State, Step, Stopped, TurnsOut, Value, Word}
+use Rattle.sc_core_laws.proofs.Common.{[], acts, and_then, ap, ap₂, arith, asks, back_cross, back_own, begun}
+use Rattle.sc_core_laws.proofs.Common.{call_cross, call_own, called, calls, computed, crossed, done, emit_event, false}
+use Rattle.sc_core_laws.proofs.Common.{found, function, if◌then◌else◌, inl, inr, is_number, last, length, map, may_call}
+use Rattle.sc_core_laws.proofs.Common.{option_value, performs, refl, rows_left, run_in, run_step, scripted_step, subst}
+use Rattle.sc_core_laws.proofs.Common.{suc, sym, true, turn, turn_of, with_blocks, within, word_in, zero, ℕ, ◌+◌, ◌<◌}
+use Rattle.sc_core_laws.proofs.Common.{◌∙◌, ◌∷◌, ◌≡◌, ◌≤◌, ◌⊎◌}
 use Rattle.sc_core_laws.proofs.Growing.{prefix_same, prefix_more, then_from, late_more, same, no_turn, stays, earlier}
 use Rattle.sc_core_laws.proofs.Growing.{back_goes, then_goes, turn_goes, BodyGoes, StepGoes, done_goes, frame_goes}
 use Rattle.sc_core_laws.proofs.Growing.{cross_goes, called_go, performs_go, within_goes, then_then}
-use Rattle.sc_core_laws.proofs.Related.{Related, Kept, then_related, if_related, KeptAt, Anywhere, RelatedCalls, RelatedFunctions}
-use Rattle.sc_core_laws.proofs.Related.{RelatedDenotations, may_same}
+use Rattle.sc_core_laws.proofs.Related.{Related, Kept, then_related, if_related, KeptAt, Anywhere, RelatedCalls}
+use Rattle.sc_core_laws.proofs.Related.{RelatedFunctions, RelatedDenotations, may_same}
 use Rattle.sc_core_laws.proofs.Expressions.{Keeps, alike, blamed}
 use Rattle.sc_event.specs.declared.row.Action.TheVariants as act
 
@@ -205,7 +206,8 @@ module _ (d : ℕ) (Soft : Cause → Type 0) (Turns : Type 0) (spent : (d ≡ 0)
     goes' number here = (bodies number here).second
 
     -- a function that was found in both
-    entered_below : (f g : Function) → g.cells ≡ f.cells → g.frame_size ≡ f.frame_size → (comp number : ℕ) (args : List Value)
+    entered_below : (f g : Function) → g.cells ≡ f.cells → g.frame_size ≡ f.frame_size →
+        (comp number : ℕ) (args : List Value)
         (back : Option Value → State → Piece (Option Value)) → ((v : Option Value) → Goes (back v)) →
         ((v : Option Value) (s : State) → back v (richer d s) ≡ richer_piece d (back v s)) → (s : State) →
         Ahead d Soft Turns n n' s (richer d s) → Beneath
@@ -218,11 +220,13 @@ module _ (d : ℕ) (Soft : Cause → Type 0) (Turns : Type 0) (spent : (d ≡ 0)
         let here : Here = record { comp = comp; first = first } in
         let start : State = begun comp f args s in
         let alike_start : begun comp g args (richer d s) ≡ richer d start =
-        ap₂ (λ cells frame_size. begun comp (record g { cells = cells; frame_size = frame_size }) args (richer d s)) cells frame_size in
+        ap₂ (λ cells frame_size. begun comp (record g { cells = cells; frame_size = frame_size }) args (richer d s))
+        cells frame_size in
         let out : Option Value → State → Piece (Option Value) = λ v t. back v (done comp f first t) in
         let out' : Option Value → State → Piece (Option Value) = λ v t. back v (done comp g first t) in
         let alike_out : (v : Option Value) (t : State) → out' v (richer d t) ≡ richer_piece d (out v t) = λ v t.
-        ap₂ (λ cells frame_size. back v (done comp (record g { cells = cells; frame_size = frame_size }) first (richer d t))) cells frame_size
+        ap₂ (λ cells frame_size. back v
+        (done comp (record g { cells = cells; frame_size = frame_size }) first (richer d t))) cells frame_size
         ∙ k' v (done comp f first t) in
         let leaves : (f : Function) (v : Option Value) → Goes (λ t. back v (done comp f first t)) =
         λ f v t. earlier t (done comp f first t) (back v _) (done_goes comp f first t) (k v (done comp f first t)) in
@@ -260,14 +264,16 @@ module _ (d : ℕ) (Soft : Cause → Type 0) (Turns : Type 0) (spent : (d ≡ 0)
           (and_then (found number (richer d s)) (crosses M b L.interfaces from to index args))
       cross_to from to index args None s ahead = along refl
       cross_to from to index args (Some number) s ahead = (run_below to number (crossed args)
-          (back_cross L.interfaces from to index) (back_goes L.interfaces from to index) (λ v s. refl)).both (emit_event _ s)
+          (back_cross L.interfaces from to index) (back_goes L.interfaces from to index) (λ v s. refl)).both
+          (emit_event _ s)
           (emit_event _ (richer d s)) (record { state = refl; few = ahead.few; few' = ahead.few' })
 
       cross_below : (from to index : ℕ) (args : List Value) →
           Under n n' (call_cross L a from to index args) (call_cross M b from to index args)
       cross_below from to index args = from_richer n n' _ _ (cross_goes L a goes from to index args) (cross_goes M b
           goes' from to index args) (λ s ahead. subst (λ x. Beneath (call_cross L a from to index args s) (and_then
-          (found x (richer d s)) (crosses M b M.interfaces from to index args))) (sym (related.entered to (Export index)))
+          (found x (richer d s)) (crosses M b M.interfaces from to index args)))
+          (sym (related.entered to (Export index)))
           (subst (λ i. Beneath (call_cross L a from to index args s) (and_then (found (L.entered to (Export index))
           (richer d s)) (crosses M b i from to index args))) (sym related.interfaces) (cross_to from to index args
           (L.entered to _) s ahead)))
@@ -305,7 +311,8 @@ module _ (d : ℕ) (Soft : Cause → Type 0) (Turns : Type 0) (spent : (d ≡ 0)
       tested from target args f g h =
           subst (λ may. Within f (g may)) (sym (may_same _ _ Anywhere L M related from target args)) h
 
-      pub calls_below : (from : ℕ) → RelatedCalls (Ahead d Soft Turns (suc n) (suc n')) (Below d Soft Turns) Anywhere from
+      pub calls_below : (from : ℕ) → RelatedCalls (Ahead d Soft Turns (suc n) (suc n')) (Below d Soft Turns) Anywhere
+          from
           (calls L a) (calls M b)
       calls_below from target args = tested from target args _ (λ may s. if may then called M b from target args s else
           Stopped (Blamed from BadType 0) s) (if_related _ _ (may_call L from target args) _ _ _ _

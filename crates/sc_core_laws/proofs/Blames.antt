@@ -1,12 +1,13 @@
 -- No compartment that performs is blamed, whatever the trace is, and only compartments that there are.
-use Rattle.sc_core_laws.proofs.Common.{AreFresh, Blamed, Bool, Cause, ChainRises, Ended, Event, EventsOut, Function}
-use Rattle.sc_core_laws.proofs.Common.{HasChain, IsBlamedOutside, IsChain, IsRising, IsWithin, Kept, Denotations, Link, List}
-use Rattle.sc_core_laws.proofs.Common.{Memory, Obedient, Option, PassesBlame, Piece, Roles, RunEnd, Set, SourceRun, TurnsOut}
-use Rattle.sc_core_laws.proofs.Common.{Value, [], ap, arith, cases_eq, eq-eqb, false, first_state, function, if◌then◌else◌}
-use Rattle.sc_core_laws.proofs.Common.{is_some, leb-false, length, length-append, longer, nat_le, ne_eqb, nobody}
-use Rattle.sc_core_laws.proofs.Common.{performed_by, reaches, refl, roles_in, roles_run, run_step, run_to, scripted_step}
-use Rattle.sc_core_laws.proofs.Common.{slice_get, slice_index_or, stopped_at, subst, suc, sym, true, turnless, with, within}
-use Rattle.sc_core_laws.proofs.Common.{zero, ℕ, ⊎_elim, ◌++◌, ◌+◌, ◌<◌, ◌||◌, ◌∙◌, ◌∷◌, ◌≡◌, ◌≤◌, ◌⊎◌}
+use Rattle.sc_core_laws.proofs.Common.{AreFresh, Blamed, Bool, Cause, ChainRises, Denotations, Ended, Event, EventsOut}
+use Rattle.sc_core_laws.proofs.Common.{Function, HasChain, IsBlamedOutside, IsChain, IsRising, IsWithin, Kept, Link}
+use Rattle.sc_core_laws.proofs.Common.{List, Memory, Obedient, Option, PassesBlame, Piece, Roles, RunEnd, Set}
+use Rattle.sc_core_laws.proofs.Common.{SourceRun, TurnsOut, Value, [], ap, arith, cases_eq, eq-eqb, false, first_state}
+use Rattle.sc_core_laws.proofs.Common.{function, if◌then◌else◌, is_some, leb-false, length, length-append, longer}
+use Rattle.sc_core_laws.proofs.Common.{nat_le, ne_eqb, nobody, performed_by, reaches, refl, roles_in, roles_run}
+use Rattle.sc_core_laws.proofs.Common.{run_step, run_to, scripted_step, slice_get, slice_index_or, stopped_at, subst}
+use Rattle.sc_core_laws.proofs.Common.{suc, sym, true, turnless, with, within, zero, ℕ, ⊎_elim, ◌++◌, ◌+◌, ◌<◌, ◌||◌}
+use Rattle.sc_core_laws.proofs.Common.{◌∙◌, ◌∷◌, ◌≡◌, ◌≤◌, ◌⊎◌}
 use Rattle.sc_core_laws.proofs.Keeping.{Walk, place, main_walks, scripted_walks}
 use Rattle.sc_core_laws.proofs.FollowingRuns.{passes_blames}
 use Rattle.sc_core_laws.proofs.Runs.{cut_if}
@@ -52,8 +53,10 @@ module _ (Fair : ℕ → Type 0) where
 
     run_by_spares : (globals : Memory) (inputs : List ℕ) (turns : ℕ) →
         Spares (roles_run denotations globals inputs turns roles).behaviour.end
-    run_by_spares globals inputs turns = run_to_spares (suc turns) denotations.interfaces.main _ (main_walks denotations walk
-        (suc turns) (within (scripted_step denotations roles (run_step denotations)) (suc turns)) (scripted_walks denotations walk
+    run_by_spares globals inputs turns =
+        run_to_spares (suc turns) denotations.interfaces.main _ (main_walks denotations walk
+        (suc turns) (within (scripted_step denotations roles (run_step denotations)) (suc turns))
+        (scripted_walks denotations walk
         (λ n i s at. tt) (λ i comp number runs. tt) (λ i comp number f here. tt) obedient roles (λ comp number plain is
         n i cause line s at. fair comp number plain is) (suc turns)) tt (first_state globals inputs turns) (λ none. tt)
         (λ number is none. tt) (λ number f is. tt) tt)
@@ -63,14 +66,17 @@ module _ (Fair : ℕ → Type 0) where
     by : (b : Bool) → Spares (cut_if events b run).end
     by b = grind arith
 
-module _ (denotations : Denotations) (obedient : Obedient denotations) (globals : Memory) (inputs : List ℕ) (turns events : ℕ)
+module _ (denotations : Denotations) (obedient : Obedient denotations) (globals : Memory) (inputs : List ℕ)
+    (turns events : ℕ)
     (roles : Roles) (comp : ℕ) (cause : Cause) (line : ℕ)
-    (ends : (stopped_at events (roles_run denotations globals inputs turns roles).behaviour).end ≡ Blamed comp cause line)
+    (ends : (stopped_at events (roles_run denotations globals inputs turns roles).behaviour).end ≡ Blamed comp cause
+    line)
   where
     fair_blame : (Fair : ℕ → Type 0) → ((comp number : ℕ) → roles.scripted comp ≡ false →
         is_some (function denotations comp number) ≡ true → Fair comp) → Fair comp
     fair_blame Fair fair =
-        subst (Spares Fair) ends (stopped_spares Fair events (roles_run denotations globals inputs turns roles).behaviour
+        subst (Spares Fair) ends (stopped_spares Fair events
+        (roles_run denotations globals inputs turns roles).behaviour
         (run_by_spares Fair denotations obedient roles fair globals inputs turns))
 
     pub nobody_is_blamed : roles.scripted comp ≡ false
@@ -94,56 +100,59 @@ early n x comp cause line ends = by _ refl ends where
   few : (end : RunEnd) → end ≡ Blamed comp cause line → reaches n x end ≡ false → length x.trace < n
   few end is stays = let test : nat_le n _ ≡ false = ap (reaches n x) (sym is) ∙ stays in leb-false n _ test
 
-  by : (b : Bool) → reaches n x x.end ≡ b → (cut_if n b x).end ≡ Blamed comp cause line → length (cut_if n b x).trace < n
+  by : (b : Bool) → reaches n x x.end ≡ b → (cut_if n b x).end ≡ Blamed comp cause line →
+      length (cut_if n b x).trace < n
   by b is ends = grind (arith, is, ends)
 
 within_with : (set : Set) (comp : ℕ) → IsWithin set (with comp set)
 within_with set comp c is = grind (arith, is)
 
-module _ (L : Denotations) (obedient : Obedient L) (globals : Memory) (inputs : List ℕ) (turns : ℕ) (t : List Event) where
-  abbrev behaviour : Set → SourceRun
-  behaviour set = performed_by L globals inputs turns t set
+module _ (L : Denotations) (obedient : Obedient L) (globals : Memory) (inputs : List ℕ) (turns : ℕ) (t : List Event)
+  where
+    abbrev behaviour : Set → SourceRun
+    behaviour set = performed_by L globals inputs turns t set
 
-  -- where the next run is blamed it has emitted more
-  emitted_more : (run other : SourceRun) (comp : ℕ) (cause : Cause) (line : ℕ) → other.end ≡ Blamed comp cause line →
-      PassesBlame run other → length run.trace < length other.trace
-  emitted_more run other comp cause line ends (turnless is) = let wants : other.end ≡ TurnsOut = ap (λ r. r.end) is in cc
-  emitted_more run other comp cause line ends (longer event prefix) =
-      let long = length-append (run.trace ++ event ∷ []) prefix.more in
-      omega (arith, ap length prefix.is, long, length-append run.trace (event ∷ []))
+    -- where the next run is blamed it has emitted more
+    emitted_more : (run other : SourceRun) (comp : ℕ) (cause : Cause) (line : ℕ) → other.end ≡ Blamed comp cause line →
+        PassesBlame run other → length run.trace < length other.trace
+    emitted_more run other comp cause line ends (turnless is) = let wants : other.end ≡ TurnsOut =
+        ap (λ r. r.end) is in cc
+    emitted_more run other comp cause line ends (longer event prefix) =
+        let long = length-append (run.trace ++ event ∷ []) prefix.more in
+        omega (arith, ap length prefix.is, long, length-append run.trace (event ∷ []))
 
-  rises : (set : Set) (least : ℕ) (links : List Link) → ((comp : ℕ) (cause : Cause) (line : ℕ) →
-      (behaviour set).end ≡ Blamed comp cause line → least ≤ length (behaviour set).trace) →
-      IsChain (performed_by L globals inputs turns t) t set links → IsRising least (length t) links
-  rises set least [] h chain = tt
-  rises set least (link ∷ links) h chain =
-      let here = chain.0 in
-      let low : least ≤ length (behaviour set).trace = h link.comp link.cause link.line here.blamed in
-      let high : length (behaviour set).trace < length t =
-      early _ (roles_run L globals inputs turns (roles_in L.interfaces.main set t)).behaviour _ _ _ here.blamed in
-      let same : length (behaviour set).trace ≡ link.after = here.after in (
-        omega (arith, low, same),
-        omega (arith, high, same),
-        rises (with link.comp set) (suc link.after) links (λ comp cause line ends.
-            let more : length (behaviour set).trace < length (behaviour (with _ set)).trace =
-            emitted_more (behaviour set) (behaviour (with link.comp set)) comp cause line ends
-            (passes_blames L obedient globals inputs turns t set (with link.comp set) (within_with set link.comp)
-            link.comp link.cause link.line here.blamed here.prefix (ap (λ b. b || set link.comp) (eq-eqb link.comp _
-            refl))) in
-            omega (arith, more, same)) chain.1,
-      )
+    rises : (set : Set) (least : ℕ) (links : List Link) → ((comp : ℕ) (cause : Cause) (line : ℕ) →
+        (behaviour set).end ≡ Blamed comp cause line → least ≤ length (behaviour set).trace) →
+        IsChain (performed_by L globals inputs turns t) t set links → IsRising least (length t) links
+    rises set least [] h chain = tt
+    rises set least (link ∷ links) h chain =
+        let here = chain.0 in
+        let low : least ≤ length (behaviour set).trace = h link.comp link.cause link.line here.blamed in
+        let high : length (behaviour set).trace < length t =
+        early _ (roles_run L globals inputs turns (roles_in L.interfaces.main set t)).behaviour _ _ _ here.blamed in
+        let same : length (behaviour set).trace ≡ link.after = here.after in (
+          omega (arith, low, same),
+          omega (arith, high, same),
+          rises (with link.comp set) (suc link.after) links (λ comp cause line ends.
+              let more : length (behaviour set).trace < length (behaviour (with _ set)).trace =
+              emitted_more (behaviour set) (behaviour (with link.comp set)) comp cause line ends
+              (passes_blames L obedient globals inputs turns t set (with link.comp set) (within_with set link.comp)
+              link.comp link.cause link.line here.blamed here.prefix (ap (λ b. b || set link.comp) (eq-eqb link.comp _
+              refl))) in
+              omega (arith, more, same)) chain.1,
+        )
 
-  are_fresh : (set : Set) (links : List Link) → IsChain (performed_by L globals inputs turns t) t set links →
-      AreFresh set links
-  are_fresh set [] chain = tt
-  are_fresh set (link ∷ links) chain =
-      let fresh = nobody_is_blamed L obedient globals inputs turns (length t) (roles_in L.interfaces.main set t)
-      link.comp
-      link.cause link.line chain.0.blamed in (fresh, are_fresh (with link.comp set) links chain.1)
+    are_fresh : (set : Set) (links : List Link) → IsChain (performed_by L globals inputs turns t) t set links →
+        AreFresh set links
+    are_fresh set [] chain = tt
+    are_fresh set (link ∷ links) chain =
+        let fresh = nobody_is_blamed L obedient globals inputs turns (length t) (roles_in L.interfaces.main set t)
+        link.comp
+        link.cause link.line chain.0.blamed in (fresh, are_fresh (with link.comp set) links chain.1)
 
-  pub chain_rises : ChainRises t behaviour
-  chain_rises links chain =
-      (rises nobody 0 links (λ comp cause line ends. omega arith) chain, are_fresh nobody links chain)
+    pub chain_rises : ChainRises t behaviour
+    chain_rises links chain =
+        (rises nobody 0 links (λ comp cause line ends. omega arith) chain, are_fresh nobody links chain)
 
 -- how many compartments below a number are not of a set
 missing : Set → ℕ → ℕ

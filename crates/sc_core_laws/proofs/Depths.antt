@@ -1,11 +1,12 @@
 -- Frames: each change is of a moment within the trace, and a call that returns leaves the stack depths as they were.
-use Rattle.sc_core_laws.proofs.Common.{AllBefore, ChangesAreWithin, Body, Closed, DeepestIsReached, End, Event, FrameChange, Function}
-use Rattle.sc_core_laws.proofs.Common.{In, KeepsDepths, Kept, LeavesDepths, Denotations, List, Main, Memory, Obedient, Opened}
-use Rattle.sc_core_laws.proofs.Common.{Option, Piece, Property, Reached, Roles, State, Step, Stopped, EmitsNoEnd, Value, []}
-use Rattle.sc_core_laws.proofs.Common.{and_then, ap, arith, begun, call_own, deepest, done, exit_word, false, first_state}
+use Rattle.sc_core_laws.proofs.Common.{AllBefore, Body, ChangesAreWithin, Closed, DeepestIsReached, Denotations}
+use Rattle.sc_core_laws.proofs.Common.{EmitsNoEnd, End, Event, FrameChange, Function, In, KeepsDepths, Kept}
+use Rattle.sc_core_laws.proofs.Common.{LeavesDepths, List, Main, Memory, Obedient, Opened, Option, Piece, Property}
+use Rattle.sc_core_laws.proofs.Common.{Reached, Roles, State, Step, Stopped, Value, [], and_then, ap, arith, begun}
+use Rattle.sc_core_laws.proofs.Common.{call_own, deepest, depth_after, done, emit_event, exit_word, false, first_state}
 use Rattle.sc_core_laws.proofs.Common.{found, has_no_end, if◌then◌else◌, is_end, last, length, length-append, lt-ltb}
-use Rattle.sc_core_laws.proofs.Common.{stack_depth, refl, depth_after, run_by, run_step, run_to, scripted_step, subst, suc}
-use Rattle.sc_core_laws.proofs.Common.{emit_event, true, within, ℕ, ◌++◌, ◌+◌, ◌-◌, ◌==◌, ◌∙◌, ◌∷◌, ◌≡◌, ◌≤◌}
+use Rattle.sc_core_laws.proofs.Common.{refl, run_by, run_step, run_to, scripted_step, stack_depth, subst, suc, true}
+use Rattle.sc_core_laws.proofs.Common.{within, ℕ, ◌++◌, ◌+◌, ◌-◌, ◌==◌, ◌∙◌, ◌∷◌, ◌≡◌, ◌≤◌}
 use Rattle.sc_core_laws.proofs.Matching.{idle}
 use Rattle.sc_core_laws.proofs.Keeping.{Walk, place, BodyWalks, own_walks, main_walks, scripted_walks}
 
@@ -187,7 +188,8 @@ module _ (denotations : Denotations) (obedient : Obedient denotations) (roles : 
   abbrev step : Step
   step = scripted_step denotations roles (run_step denotations)
 
-  last_emitted : (base : State) (depths : Depths) (piece : Piece (Option Value)) → Kept (kept base denotations obedient roles
+  last_emitted : (base : State) (depths : Depths) (piece : Piece (Option Value)) →
+      Kept (kept base denotations obedient roles
       depths) piece → Emitted base (last piece).trace (last piece).frames
   last_emitted base depths piece h = grind (arith, h)
 
@@ -198,10 +200,12 @@ module _ (denotations : Denotations) (obedient : Obedient denotations) (roles : 
       (omega (arith, length-append s.trace (End main (exit_word v) ∷ []))) _ (h.after.emitted.moments first)
   run_to_notes base depths main (Stopped end s) first h = h.after.moments first
 
-  run_by_notes : (globals : Memory) (inputs : List ℕ) (turns : ℕ) → ChangesAreWithin (run_by denotations step globals inputs turns)
+  run_by_notes : (globals : Memory) (inputs : List ℕ) (turns : ℕ) →
+      ChangesAreWithin (run_by denotations step globals inputs turns)
   run_by_notes globals inputs turns =
       let base = first_state globals inputs turns in
-      run_to_notes base (λ c. 0) denotations.interfaces.main _ tt (main_kept base denotations obedient roles (suc turns))
+      run_to_notes base (λ c. 0) denotations.interfaces.main _ tt
+      (main_kept base denotations obedient roles (suc turns))
 
   leaves_depths : LeavesDepths denotations step
   leaves_depths n comp number args v s t emitted is =
@@ -210,7 +214,8 @@ module _ (denotations : Denotations) (obedient : Obedient denotations) (roles : 
 
   emits_no_end : EmitsNoEnd denotations step
   emits_no_end n comp number args s h = (last_emitted s (λ c. stack_depth c s)
-      (call_own denotations (within step n) comp number args s) (own_kept s denotations obedient roles n comp number args)
+      (call_own denotations (within step n) comp number args s)
+      (own_kept s denotations obedient roles n comp number args)
       ).endless h
 
 pub keeps_depths : (denotations : Denotations) → Obedient denotations → KeepsDepths denotations

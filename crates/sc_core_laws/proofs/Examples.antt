@@ -1,7 +1,7 @@
 -- Chains of worked programs, computed, and the least sets that they give.
-use Rattle.sc_core_laws.proofs.Common.{Blamed, Call, End, Ended, Event, IsPrefix, Includes, IsChain, Link, List, Out}
-use Rattle.sc_core_laws.proofs.Common.{OutOfBounds, ProgramTree, Ret, Set, Some, SourceRun, [], ap, c_arith, length, nobody}
-use Rattle.sc_core_laws.proofs.Common.{performed, sym, true, with, ◌++◌, ◌∷◌, ◌≡◌}
+use Rattle.sc_core_laws.proofs.Common.{Blamed, Call, End, Ended, Event, Includes, IsChain, IsPrefix, Link, List, Out}
+use Rattle.sc_core_laws.proofs.Common.{OutOfBounds, ProgramTree, Ret, Set, Some, SourceRun, [], ap, c_arith, length}
+use Rattle.sc_core_laws.proofs.Common.{nobody, performed, sym, true, with, ◌++◌, ◌∷◌, ◌≡◌}
 use Rattle.sc_core.proofs.Plans.{program}
 use Rattle.sc_core.proofs.Programs.{two_stores_interfaces, two_stores, reentry_interfaces, reentry}
 use Rattle.sc_core.proofs.Rows.{scripted_by_plan, two_stores_trace, reentry_trace}

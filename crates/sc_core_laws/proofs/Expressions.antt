@@ -1,9 +1,10 @@
 -- What expressions give in two arithmetics, of which one may blame where the other goes on.
-use Rattle.sc_core_laws.proofs.Common.{Arith, BinaryOp, Blocks, Bool, Cause, Err, Here, List, Meant, Ok, Result, TypedExpr}
-use Rattle.sc_core_laws.proofs.Common.{TypedStruct, Under, Value, Want, Ways, Word, [], ap, applied, applied_one, as_word}
-use Rattle.sc_core_laws.proofs.Common.{at_place, at_pointer, binary, bind, choose, expr_at, expr_induction, false}
-use Rattle.sc_core_laws.proofs.Common.{if◌then◌else◌, is_pointer, is_unsigned, map, meant, meant_step, moved, on_words, pos}
-use Rattle.sc_core_laws.proofs.Common.{refl, subst, sym, term_of, term_step, true, typed, values, ways, ℕ, ◌∙◌, ◌∷◌, ◌≡◌}
+use Rattle.sc_core_laws.proofs.Common.{Arith, BinaryOp, Blocks, Bool, Cause, Err, Here, List, Meant, Ok, Result}
+use Rattle.sc_core_laws.proofs.Common.{TypedExpr, TypedStruct, Under, Value, Want, Ways, Word, [], ap, applied}
+use Rattle.sc_core_laws.proofs.Common.{applied_one, as_word, at_place, at_pointer, binary, bind, choose, expr_at}
+use Rattle.sc_core_laws.proofs.Common.{expr_induction, false, if◌then◌else◌, is_pointer, is_unsigned, map, meant}
+use Rattle.sc_core_laws.proofs.Common.{meant_step, moved, on_words, pos, refl, subst, sym, term_of, term_step, true}
+use Rattle.sc_core_laws.proofs.Common.{typed, values, ways, ℕ, ◌∙◌, ◌∷◌, ◌≡◌}
 use Rattle.sc_base.specs.declared.op.UnaryOp.{UnaryOp}
 use Rattle.sc_base.specs.declared.op.UnaryOp.TheVariants as unary
 use Rattle.sc_base.specs.declared.op.BinaryOp.TheVariants as op

@@ -1,10 +1,11 @@
 -- Two runs along one trace, of which the second has more compartments that perform their parts of it: the relation of
 -- their pieces.
-use Rattle.sc_core_laws.proofs.Common.{Blamed, Blocks, Bool, Cause, Err, Event, FrameChange, IsPrefix, Goes, Gone, Grown, Here}
-use Rattle.sc_core_laws.proofs.Common.{List, Never, Ok, Option, Piece, Reached, Result, RunEnd, Some, Standing, State}
-use Rattle.sc_core_laws.proofs.Common.{Stopped, TurnsOut, Value, [], and_then, ap, append_assoc, arith, at_start, both_ways}
-use Rattle.sc_core_laws.proofs.Common.{computed, false, last, refl, stands_after, stands_after_all, subst, suc, sym, emit_event, true}
-use Rattle.sc_core_laws.proofs.Common.{turn_of, with_blocks, zero, ℕ, ◌++◌, ◌<◌, ◌∙◌, ◌∷◌, ◌≡◌, ◌≤◌}
+use Rattle.sc_core_laws.proofs.Common.{Blamed, Blocks, Bool, Cause, Err, Event, FrameChange, Goes, Gone, Grown, Here}
+use Rattle.sc_core_laws.proofs.Common.{IsPrefix, List, Never, Ok, Option, Piece, Reached, Result, RunEnd, Some}
+use Rattle.sc_core_laws.proofs.Common.{Standing, State, Stopped, TurnsOut, Value, [], and_then, ap, append_assoc, arith}
+use Rattle.sc_core_laws.proofs.Common.{at_start, both_ways, computed, emit_event, false, last, refl, stands_after}
+use Rattle.sc_core_laws.proofs.Common.{stands_after_all, subst, suc, sym, true, turn_of, with_blocks, zero, ℕ, ◌++◌}
+use Rattle.sc_core_laws.proofs.Common.{◌<◌, ◌∙◌, ◌∷◌, ◌≡◌, ◌≤◌}
 use Rattle.sc_core_laws.proofs.Growing.{prefix_same, then_prefix, then_goes, turn_of_goes}
 use Rattle.sc_core_laws.proofs.Related.{Kept, KeptAt}
 use Rattle.sc_core_laws.proofs.Expressions.{Keeps, alike, blamed}
@@ -89,7 +90,8 @@ module _ (main : ℕ) (t : List Event) (S' : ℕ → Bool) where
   near_with st s s' turns turns' inputs inputs' few is n = grind (arith, is)
 
   pub near_emit : (st after : Standing) (s s' : State) (e : Event) (more : List Event) →
-      stands_after st e ≡ Some after → t ≡ s.trace ++ e ∷ more → Abreast st s s' → Abreast after (emit_event e s) (emit_event e s')
+      stands_after st e ≡ Some after → t ≡ s.trace ++ e ∷ more → Abreast st s s' →
+      Abreast after (emit_event e s) (emit_event e s')
   near_emit st after s s' e more moves is n =
       record {
         trace = ap (λ u. u ++ e ∷ []) n.trace;
@@ -130,13 +132,16 @@ module _ (main : ℕ) (t : List Event) (S' : ℕ → Bool) where
       MovesOrReturns u p → MovesOn W u (and_then p l)
   passed_back W u p l goes emits_trace (passes h) = passed_then _ W u p l goes h
   passed_back W u p l goes emits_trace (hands_back v s' is same) =
-      (let e : Event = (emits_trace v s').0 in longer e (subst (λ y. IsPrefix (u ++ e ∷ []) (last (and_then y l)).trace) (sym is)
+      (let e : Event = (emits_trace v s').0 in longer e
+      (subst (λ y. IsPrefix (u ++ e ∷ []) (last (and_then y l)).trace) (sym is)
       (subst (λ x. IsPrefix (x ++ e ∷ []) (last (l v s')).trace) same (emits_trace v s').1)))
 
   pub beyond_back : (W : Type 0) (end : RunEnd) (s : State) (p : Piece (Option Value)) (l : Option Value → State →
       Piece W) → ((v : Option Value) → Goes (l v)) → ((v : Option Value) (x : State) →
-      (e : Event) × IsPrefix (x.trace ++ e ∷ []) (last (l v x)).trace) → BeyondIn end s p → Beyond W end s (and_then p l)
-  beyond_back W end s p l goes emits_trace = past_then _ W _ _ end s p l goes (passed_back W s.trace p l goes emits_trace)
+      (e : Event) × IsPrefix (x.trace ++ e ∷ []) (last (l v x)).trace) → BeyondIn end s p →
+      Beyond W end s (and_then p l)
+  beyond_back W end s p l goes emits_trace =
+      past_then _ W _ _ end s p l goes (passed_back W s.trace p l goes emits_trace)
 
   module _ (st : Standing) where
     -- the first stops without a turn

@@ -1,24 +1,26 @@
 -- Whole runs along one trace, of which the second has more compartments that perform their parts of it; the least set.
-use Rattle.sc_core_laws.proofs.Common.{Blamed, Bool, Cause, Ended, Event, IsPrefix, Function, Includes, IsChain, IsFixed}
-use Rattle.sc_core_laws.proofs.Common.{IsStop, IsWithin, KeepsBlames, LeastIsChain, Denotations, Link, List, Main, Memory, Never}
-use Rattle.sc_core_laws.proofs.Common.{None, Obedient, Option, PassesBlame, PassesBlames, Piece, Reached, RunEnd, Set, Some}
-use Rattle.sc_core_laws.proofs.Common.{SourceRun, Standing, State, Step, Stopped, StopsSo, EmitsWithMore, TurnsOut, Value}
-use Rattle.sc_core_laws.proofs.Common.{[], and_then, ap, append-nil, arith, begun, done, drop, eqb-true, exit_word, false}
-use Rattle.sc_core_laws.proofs.Common.{first_state, found, function, inl, inr, last, leb-false, length, length-append}
-use Rattle.sc_core_laws.proofs.Common.{longer, lt-leb, nobody, now, performed_by, reaches, refl, roles_in, roles_run, run_by}
-use Rattle.sc_core_laws.proofs.Common.{run_to, stopped_at, subst, suc, sym, take-append-drop, take_all, take_prefix, true}
-use Rattle.sc_core_laws.proofs.Common.{turnless, with, within, ℕ, ◌++◌, ◌+◌, ◌<◌, ◌∙◌, ◌∷◌, ◌≡◌}
+use Rattle.sc_core_laws.proofs.Common.{Blamed, Bool, Cause, Denotations, EmitsWithMore, Ended, Event, Function}
+use Rattle.sc_core_laws.proofs.Common.{Includes, IsChain, IsFixed, IsPrefix, IsStop, IsWithin, KeepsBlames}
+use Rattle.sc_core_laws.proofs.Common.{LeastIsChain, Link, List, Main, Memory, Never, None, Obedient, Option}
+use Rattle.sc_core_laws.proofs.Common.{PassesBlame, PassesBlames, Piece, Reached, RunEnd, Set, Some, SourceRun}
+use Rattle.sc_core_laws.proofs.Common.{Standing, State, Step, Stopped, StopsSo, TurnsOut, Value, [], and_then, ap}
+use Rattle.sc_core_laws.proofs.Common.{append-nil, arith, begun, done, drop, eqb-true, exit_word, false, first_state}
+use Rattle.sc_core_laws.proofs.Common.{found, function, inl, inr, last, leb-false, length, length-append, longer}
+use Rattle.sc_core_laws.proofs.Common.{lt-leb, nobody, now, performed_by, reaches, refl, roles_in, roles_run, run_by}
+use Rattle.sc_core_laws.proofs.Common.{run_to, stopped_at, subst, suc, sym, take-append-drop, take_all, take_prefix}
+use Rattle.sc_core_laws.proofs.Common.{true, turnless, with, within, ℕ, ◌++◌, ◌+◌, ◌<◌, ◌∙◌, ◌∷◌, ◌≡◌}
 use Rattle.std.proofs.Common.{take}
 use Rattle.sc_event.specs.declared.event.Event.TheVariants as event
 use Rattle.sc_core_laws.proofs.Growing.{prefix_same, prefix_more, prefix_no_longer, BodyGoes, within_goes}
-use Rattle.sc_core_laws.proofs.Following.{GoesOn, KeepsUp, whole, follow_kept, follow_at, Performs, left_goes, perform_kept}
-use Rattle.sc_core_laws.proofs.Following.{perform_at, MovesOrReturns, MovesOn, IfBlamed, KeepsUp as follows}
-use Rattle.sc_core_laws.proofs.Following.{Performs as performing, MovesOn as passed, MovesOrReturns as passing}
+use Rattle.sc_core_laws.proofs.Following.{GoesOn, KeepsUp, whole, follow_kept, follow_at, Performs, left_goes}
+use Rattle.sc_core_laws.proofs.Following.{perform_kept, perform_at, MovesOrReturns, MovesOn, IfBlamed}
+use Rattle.sc_core_laws.proofs.Following.{KeepsUp as follows, Performs as performing, MovesOn as passed}
+use Rattle.sc_core_laws.proofs.Following.{MovesOrReturns as passing}
 use Rattle.sc_core_laws.proofs.Matching.{related_denotations, scripted_goes_on, denotations_go}
 use Rattle.sc_core_laws.proofs.Runs.{scripted_fixed, cut_if, trace_is, take_prefixes}
 use Rattle.sc_core_laws.proofs.Rows.{InLine, in_line_before}
-use Rattle.sc_core_laws.proofs.FollowingCalls.{at, first_step, second_step, N, Bodies, Emits, all_emitted, emits_it, emits_next}
-use Rattle.sc_core_laws.proofs.FollowingCalls.{all_bodies}
+use Rattle.sc_core_laws.proofs.FollowingCalls.{at, first_step, second_step, N, Bodies, Emits, all_emitted, emits_it}
+use Rattle.sc_core_laws.proofs.FollowingCalls.{emits_next, all_bodies}
 
 -- the trace of a whole run begins with that of its piece
 behaviour_prefix : (main : ℕ) (o : Piece (Option Value)) → IsPrefix (last o).trace (run_to main o).behaviour.trace
@@ -46,7 +48,8 @@ module _ (t : List Event) (S' : Set) where
         turnless (ap (λ y. (run_to main y).behaviour) is ∙
         ap (λ z. record { trace = z; end = TurnsOut }) (emitted ∙ sym same))
     passes_on x u p same (passed.longer e prefix) = longer e
-        (subst (λ z. IsPrefix (z ++ e ∷ []) (run_to main p).behaviour.trace) (sym same) (emitted_on (u ++ e ∷ []) p prefix))
+        (subst (λ z. IsPrefix (z ++ e ∷ []) (run_to main p).behaviour.trace) (sym same)
+        (emitted_on (u ++ e ∷ []) p prefix))
 
     passes_in : (x : SourceRun) (u : List Event) (p : Piece (Option Value)) → x.trace ≡ u →
         MovesOrReturns main t S' u p → PassesBlame x (run_to main p).behaviour
@@ -260,7 +263,8 @@ module _ (t : List Event) (x y : SourceRun) where
           let one : length (x.trace ++ e ∷ []) ≡ length x.trace + 1 = length-append x.trace (e ∷ []) in
           longer e (subst (λ u. IsPrefix (x.trace ++ e ∷ []) u) (sym (trace_is (length t) y))
           (subst (λ u. IsPrefix u (take (length t) y.trace)) (take_all (length t) (x.trace ++ e ∷ [])
-          (omega (arith, one, few))) (take_prefixes (length t) (length t) (x.trace ++ e ∷ []) y.trace (omega arith) on)))
+          (omega (arith, one, few))) (take_prefixes (length t) (length t) (x.trace ++ e ∷ []) y.trace (omega arith)
+          on)))
 
       by_run : RunsFollow t S' x y → PassesBlame x (stopped_at (length t) y)
       by_run (emits_all a b) = absurd (not_all ends is a)
@@ -275,44 +279,45 @@ module _ (t : List Event) (x y : SourceRun) where
 with_link : (set small : Set) (comp : ℕ) → IsWithin small set → set comp ≡ true → IsWithin (with comp small) set
 with_link set small comp larger has c is = grind (arith, larger c, eqb-true c comp, has, is)
 
-module _ (L : Denotations) (obedient : Obedient L) (globals : Memory) (inputs : List ℕ) (turns : ℕ) (t : List Event) where
-  abbrev behaviour : Set → SourceRun
-  behaviour = performed_by L globals inputs turns t
+module _ (L : Denotations) (obedient : Obedient L) (globals : Memory) (inputs : List ℕ) (turns : ℕ) (t : List Event)
+  where
+    abbrev behaviour : Set → SourceRun
+    behaviour = performed_by L globals inputs turns t
 
-  pub emits_with_more : EmitsWithMore t behaviour
-  emits_with_more small large larger emits_trace =
-      emits_too t _ _ large (run_follows L obedient t small large larger globals inputs turns) emits_trace
+    pub emits_with_more : EmitsWithMore t behaviour
+    emits_with_more small large larger emits_trace =
+        emits_too t _ _ large (run_follows L obedient t small large larger globals inputs turns) emits_trace
 
-  pub keeps_blames : KeepsBlames t behaviour
-  keeps_blames small large larger comp cause line ends prefix clear = stays_so t _ _ large
-      (run_follows L obedient t small large larger globals inputs turns) comp cause line clear _ refl ends prefix
+    pub keeps_blames : KeepsBlames t behaviour
+    keeps_blames small large larger comp cause line ends prefix clear = stays_so t _ _ large
+        (run_follows L obedient t small large larger globals inputs turns) comp cause line clear _ refl ends prefix
 
-  pub passes_blames : PassesBlames t behaviour
-  passes_blames small large larger comp cause line ends prefix set = passes_so t _ _ large
-      (run_follows L obedient t small large larger globals inputs turns) comp cause line set _ refl ends prefix
+    pub passes_blames : PassesBlames t behaviour
+    passes_blames small large larger comp cause line ends prefix set = passes_so t _ _ large
+        (run_follows L obedient t small large larger globals inputs turns) comp cause line set _ refl ends prefix
 
-  module _ (set : Set) where
-    is_needed : (links : List Link) (small : Set) → IsWithin small set → IsChain behaviour t small links →
-        (behaviour set).trace ≡ t → Includes set links
-    is_needed [] small larger chain emits_trace = tt
-    is_needed (link ∷ links) small larger chain emits_trace = by_test (set link.comp) refl
-        (λ has. is_needed links (with _ small) (with_link set small _ larger has) chain.1 emits_trace) where
-          by_test : (b : Bool) → set link.comp ≡ b → (set link.comp ≡ true → Includes set links) →
-              (set link.comp ≡ true) × Includes set links
-          by_test true has rest = (has, rest has)
-          by_test false clear rest =
-              let equal : behaviour set ≡ behaviour small =
-              keeps_blames small set larger link.comp link.cause link.line chain.0.blamed chain.0.prefix clear in
-              absurd (blamed_below t (roles_run L globals inputs turns (roles_in L.interfaces.main small t)).behaviour
-              (behaviour small) link.comp link.cause link.line _ refl chain.0.blamed (ap (λ r. r.trace) (sym equal) ∙
-              emits_trace))
+    module _ (set : Set) where
+      is_needed : (links : List Link) (small : Set) → IsWithin small set → IsChain behaviour t small links →
+          (behaviour set).trace ≡ t → Includes set links
+      is_needed [] small larger chain emits_trace = tt
+      is_needed (link ∷ links) small larger chain emits_trace = by_test (set link.comp) refl
+          (λ has. is_needed links (with _ small) (with_link set small _ larger has) chain.1 emits_trace) where
+            by_test : (b : Bool) → set link.comp ≡ b → (set link.comp ≡ true → Includes set links) →
+                (set link.comp ≡ true) × Includes set links
+            by_test true has rest = (has, rest has)
+            by_test false clear rest =
+                let equal : behaviour set ≡ behaviour small =
+                keeps_blames small set larger link.comp link.cause link.line chain.0.blamed chain.0.prefix clear in
+                absurd (blamed_below t (roles_run L globals inputs turns (roles_in L.interfaces.main small t)).behaviour
+                (behaviour small) link.comp link.cause link.line _ refl chain.0.blamed (ap (λ r. r.trace) (sym equal) ∙
+                emits_trace))
 
-    is_enough : (links : List Link) (small : Set) → IsWithin small set → IsChain behaviour t small links →
-        Includes set links → (behaviour set).trace ≡ t
-    is_enough [] small larger chain all = emits_with_more small set larger chain
-    is_enough (link ∷ links) small larger chain all =
-        is_enough links _ (with_link set small _ larger all.0) chain.1 all.1
+      is_enough : (links : List Link) (small : Set) → IsWithin small set → IsChain behaviour t small links →
+          Includes set links → (behaviour set).trace ≡ t
+      is_enough [] small larger chain all = emits_with_more small set larger chain
+      is_enough (link ∷ links) small larger chain all =
+          is_enough links _ (with_link set small _ larger all.0) chain.1 all.1
 
-  pub least_is_chain : LeastIsChain t behaviour
-  least_is_chain links set chain =
-      (is_needed set links nobody (λ c is. absurd (cc)) chain, is_enough set links nobody (λ c is. absurd (cc)) chain)
+    pub least_is_chain : LeastIsChain t behaviour
+    least_is_chain links set chain =
+        (is_needed set links nobody (λ c is. absurd (cc)) chain, is_enough set links nobody (λ c is. absurd (cc)) chain)

@@ -1,13 +1,14 @@
 -- Each combinator only goes on: events are appended, and no turns come back.
-use Rattle.sc_core_laws.proofs.Common.{Action, AllFrom, Body, Bool, Call, CallTarget, Calls, Closed, Cross, Does, Event}
-use Rattle.sc_core_laws.proofs.Common.{Exit, FrameChange, IsPrefix, Function, Goes, Gone, Grown, Here, In, Input, Interfaces}
-use Rattle.sc_core_laws.proofs.Common.{Left, Denotations, List, None, On, Opened, Option, Output, Own, Piece, Reached, Roles}
-use Rattle.sc_core_laws.proofs.Common.{Route, Row, Some, State, Step, Stopped, TurnsOut, Value, Word, [], acts, and_then, ap}
-use Rattle.sc_core_laws.proofs.Common.{append-nil, append_assoc, arith, asks, back_cross, back_own, begun, call_cross}
-use Rattle.sc_core_laws.proofs.Common.{call_own, called, calls, done, false, follow, found, function, if◌then◌else◌}
-use Rattle.sc_core_laws.proofs.Common.{is_number, last, length, length-append, map, may_call, performs, read_input, refl}
-use Rattle.sc_core_laws.proofs.Common.{rows_left, run_in, run_step, scripted_step, suc, sym, take, emit_event, true, turn, turn_of}
-use Rattle.sc_core_laws.proofs.Common.{within, word_in, zero, ℕ, ◌++◌, ◌∙◌, ◌∷◌, ◌≡◌, ◌≤◌}
+use Rattle.sc_core_laws.proofs.Common.{Action, AllFrom, Body, Bool, Call, CallTarget, Calls, Closed, Cross, Denotations}
+use Rattle.sc_core_laws.proofs.Common.{Does, Event, Exit, FrameChange, Function, Goes, Gone, Grown, Here, In, Input}
+use Rattle.sc_core_laws.proofs.Common.{Interfaces, IsPrefix, Left, List, None, On, Opened, Option, Output, Own, Piece}
+use Rattle.sc_core_laws.proofs.Common.{Reached, Roles, Route, Row, Some, State, Step, Stopped, TurnsOut, Value, Word}
+use Rattle.sc_core_laws.proofs.Common.{[], acts, and_then, ap, append-nil, append_assoc, arith, asks, back_cross}
+use Rattle.sc_core_laws.proofs.Common.{back_own, begun, call_cross, call_own, called, calls, done, emit_event, false}
+use Rattle.sc_core_laws.proofs.Common.{follow, found, function, if◌then◌else◌, is_number, last, length, length-append}
+use Rattle.sc_core_laws.proofs.Common.{map, may_call, performs, read_input, refl, rows_left, run_in, run_step}
+use Rattle.sc_core_laws.proofs.Common.{scripted_step, suc, sym, take, true, turn, turn_of, within, word_in, zero, ℕ}
+use Rattle.sc_core_laws.proofs.Common.{◌++◌, ◌∙◌, ◌∷◌, ◌≡◌, ◌≤◌}
 use Rattle.sc_core.specs.Prelude.{Out}
 use Rattle.sc_event.specs.declared.row.Action.TheVariants as act
 
@@ -26,8 +27,10 @@ same s = record { events = prefix_same s.trace; frames = prefix_same _; late = t
 pub from_less : (events more : ℕ) → events ≤ more → (changes : List FrameChange) → AllFrom more changes →
     AllFrom events changes
 from_less events more le [] h = tt
-from_less events more le (Opened emitted c size ∷ changes) h = grind (arith, from_less events more le changes h.1, h.0, le)
-from_less events more le (Closed emitted c size ∷ changes) h = grind (arith, from_less events more le changes h.1, h.0, le)
+from_less events more le (Opened emitted c size ∷ changes) h =
+    grind (arith, from_less events more le changes h.1, h.0, le)
+from_less events more le (Closed emitted c size ∷ changes) h =
+    grind (arith, from_less events more le changes h.1, h.0, le)
 
 pub from_append : (events : ℕ) (first second : List FrameChange) → AllFrom events first → AllFrom events second →
     AllFrom events (first ++ second)
@@ -96,7 +99,13 @@ follow_goes route s o go g h = then_goes s o _ g (λ left. take_goes _ go h _)
 pub turn_of_goes : (n : ℕ) (s : State) → n ≡ s.turns → Gone s (turn_of n s)
 turn_of_goes zero s is = no_turn s
 turn_of_goes (suc n) s is =
-    reached tt s _ (record { events = prefix_same s.trace; frames = prefix_same _; late = tt; turns = omega (arith, is) })
+    reached tt s _ (record {
+      events = prefix_same s.trace;
+      frames = prefix_same _;
+      late = tt;
+      turns =
+          omega (arith, is);
+    })
 
 pub turn_goes : (s : State) → Gone s (turn s)
 turn_goes s = turn_of_goes s.turns s refl
@@ -121,7 +130,8 @@ abbrev pub FunctionGoes : Function → Type 0
 FunctionGoes f = (calls : Calls) → CallsGo calls → (here : Here) → Goes (f.does calls here)
 
 abbrev pub DenotationsGo : Denotations → Type 0
-DenotationsGo denotations = (comp number : ℕ) (f : Function) → function denotations comp number ≡ Some f → FunctionGoes f
+DenotationsGo denotations = (comp number : ℕ) (f : Function) → function denotations comp number ≡ Some f →
+    FunctionGoes f
 
 pub found_goes : {V : Type 0} (v : Option V) (s : State) → Gone s (found v s)
 found_goes None s = no_turn s
@@ -202,12 +212,15 @@ module _ (denotations : Denotations) (body : Body) (goes : BodyGoes body) where
       (Stopped _ s) (called_go from target args s) (record { grown = same s; stop = tt })
 
   -- a call that a script asks for is made where it may be
-  pub asks_is : (comp : ℕ) (target : CallTarget) (args : List Value) (s : State) → asks denotations body comp target args s
-      ≡ (if may_call denotations comp target args then called denotations body comp target args s else Stopped TurnsOut s)
+  pub asks_is : (comp : ℕ) (target : CallTarget) (args : List Value) (s : State) →
+      asks denotations body comp target args s
+      ≡ (if may_call denotations comp target args then called denotations body comp target args s else Stopped TurnsOut
+      s)
   asks_is comp target args s = grind arith
 
   pub asks_go : (comp : ℕ) (target : CallTarget) (args : List Value) → Goes (asks denotations body comp target args)
-  asks_go comp target args s = if_goes s (may_call denotations comp target args) (calls denotations body comp target args s)
+  asks_go comp target args s = if_goes s (may_call denotations comp target args)
+      (calls denotations body comp target args s)
       (Stopped TurnsOut s) (calls_go comp target args s) (no_turn s)
 
   pub run_step_goes : DenotationsGo denotations → BodyGoes (run_step denotations body)
@@ -220,7 +233,8 @@ module _ (denotations : Denotations) (body : Body) (goes : BodyGoes body) where
   pub acts_go : (action : Action) (next again : State → Piece (Option Value)) → Goes next → Goes again → (comp : ℕ) →
       Goes (acts denotations body action next again comp)
   acts_go (act.Call to index args) next again h k comp s = then_goes s
-      (asks denotations body comp (Cross to index) (map _ args) s) _ (asks_go comp (Cross to index) (map _ args) s) (λ v. k)
+      (asks denotations body comp (Cross to index) (map _ args) s) _ (asks_go comp (Cross to index) (map _ args) s)
+      (λ v. k)
   acts_go (act.Ret v) next again h k comp s = stays _ s
   acts_go (act.Out w) next again h k comp s =
       then_goes s (asks denotations body comp Output (Word w ∷ []) s) _ (asks_go comp Output (Word w ∷ []) s) (λ v. h)

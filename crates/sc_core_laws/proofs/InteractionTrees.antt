@@ -1,12 +1,12 @@
 -- Combinators make interaction trees of interaction trees, in every language whose denotations are built of them: each
 -- lemma `match_` is of one combinator, and together they prove that denotations obey.
-use Rattle.sc_core_laws.proofs.Common.{Alike, Asks, Blames, Blocks, Bool, CallTarget, Calls, Cause, Does, Doing, Each, Err}
-use Rattle.sc_core_laws.proofs.Common.{Exit, Gives, GoFrom, Goes, Gone, Grown, Halts, Here, InteractionTree, Lasts, Left, List}
-use Rattle.sc_core_laws.proofs.Common.{Match, Next, Ok, On, Piece, Plays, Reached, Reads, Result, Route, Spends, State}
-use Rattle.sc_core_laws.proofs.Common.{Stores, Value, [], all_do, and_then, ap, arith, computed, false, follow}
-use Rattle.sc_core_laws.proofs.Common.{if◌then◌else◌, in_loop, in_order, inl, inr, leave, loop, map, played, refl, rounds}
-use Rattle.sc_core_laws.proofs.Common.{store, stored, subst, suc, sym, take, true, turn, turn_of, with_memory, zero, ℕ, ◌<◌}
-use Rattle.sc_core_laws.proofs.Common.{◌∙◌, ◌∷◌, ◌≡◌, ◌≤◌}
+use Rattle.sc_core_laws.proofs.Common.{Alike, Asks, Blames, Blocks, Bool, CallTarget, Calls, Cause, Does, Doing, Each}
+use Rattle.sc_core_laws.proofs.Common.{Err, Exit, Gives, GoFrom, Goes, Gone, Grown, Halts, Here, InteractionTree, Lasts}
+use Rattle.sc_core_laws.proofs.Common.{Left, List, Match, Next, Ok, On, Piece, Plays, Reached, Reads, Result, Route}
+use Rattle.sc_core_laws.proofs.Common.{Spends, State, Stores, Value, [], all_do, and_then, ap, arith, computed, false}
+use Rattle.sc_core_laws.proofs.Common.{follow, if◌then◌else◌, in_loop, in_order, inl, inr, leave, loop, map, played}
+use Rattle.sc_core_laws.proofs.Common.{refl, rounds, store, stored, subst, suc, sym, take, true, turn, turn_of}
+use Rattle.sc_core_laws.proofs.Common.{with_memory, zero, ℕ, ◌<◌, ◌∙◌, ◌∷◌, ◌≡◌, ◌≤◌}
 use Rattle.sc_core.specs.Prelude.{Out}
 use Rattle.sc_core_laws.proofs.Growing.{same, stays, no_turn, earlier, then_goes, turn_goes, then_then}
 use Rattle.sc_core_laws.proofs.Expressions.{Keeps, alike, blamed}
@@ -139,7 +139,8 @@ from_one P none some (suc n) = some n
 pub plays_reached : {V : Type 0} (here : Here) (v : V) → Plays here (λ by. Reached v) (λ n. Gives v)
 plays_reached here v = record { lasts = from_one (λ n. Lasts n (Gives v)) tt (λ n. tt); is = λ n by goes s few. refl }
 
-pub plays_then : {V W : Type 0} (here : Here) (f : Doing V) (k : V → Doing W) (tree : ℕ → InteractionTree V) (next : V → ℕ →
+pub plays_then : {V W : Type 0} (here : Here) (f : Doing V) (k : V → Doing W) (tree : ℕ → InteractionTree V)
+    (next : V → ℕ →
     InteractionTree W) → Plays here f tree → ((v : V) → Plays here (k v) (next v)) →
     Plays here (λ by s. and_then (f by s) (λ v t. k v by t)) (λ n. bind (tree n) (λ v. next v n))
 plays_then here f k tree next h x = record {
@@ -222,7 +223,8 @@ module _ {A : Type 0} (here : Here) where
 
 -- TREES THAT ARE ALIKE
 module _ (Soft : Cause → Type 0) where
-  pub alike_bind : {V W : Type 0} (tree other_tree : InteractionTree V) (next next' : V → InteractionTree W) → Alike Soft tree other_tree →
+  pub alike_bind : {V W : Type 0} (tree other_tree : InteractionTree V) (next next' : V → InteractionTree W) →
+      Alike Soft tree other_tree →
       ((v : V) → Alike Soft (next v) (next' v)) → Alike Soft (bind tree next) (bind other_tree next')
   alike_bind (Gives v) other_tree next next' is k = subst (λ x. Alike Soft (next v) (bind x next')) (sym is) (k v)
   alike_bind (Blames cause line) other_tree next next' (inl soft) k = inl soft
@@ -254,7 +256,8 @@ module _ (Soft : Cause → Type 0) where
         (a : A) → Alike Soft (on_route route go a) (on_route route go' a)
     alike_route route go go' h a = grind (arith, h)
 
-    alike_trail : (route : Exit → Route) (tree other_tree : InteractionTree (Left A)) (go go' : A → InteractionTree (Left A)) →
+    alike_trail : (route : Exit → Route) (tree other_tree : InteractionTree (Left A))
+        (go go' : A → InteractionTree (Left A)) →
         Alike Soft tree other_tree → ((a : A) → Alike Soft (go a) (go' a)) →
         Alike Soft (trail route tree go) (trail route other_tree go')
     alike_trail route tree other_tree go go' h k = alike_bind tree other_tree _ _ h (λ left. alike_route _ go go' k _)

@@ -1,13 +1,13 @@
 -- To prove that denoted functions keep a property of states, prove it of what changes memory, of turns and of calls.
-use Rattle.sc_core_laws.proofs.Common.{Action, BadType, Blamed, Blocks, Body, Bool, Call, CallTarget, Calls, Cause, Cross}
-use Rattle.sc_core_laws.proofs.Common.{Export, Function, Gone, Grown, Here, Input, Kept, Denotations, List, Main, Meets, Memory}
-use Rattle.sc_core_laws.proofs.Common.{Never, None, Obedient, Option, Out, Output, Own, Piece, Property, Ret, Roles, Row}
-use Rattle.sc_core_laws.proofs.Common.{RunEnd, Some, State, TurnsOut, Value, Word, [], acts, and_then, ap, arith, asks}
-use Rattle.sc_core_laws.proofs.Common.{back_cross, back_own, begun, call_own, called, calls, crossing, done, export_at}
-use Rattle.sc_core_laws.proofs.Common.{false, first_word, found, function, if◌then◌else◌, is_some, leads, length, map}
-use Rattle.sc_core_laws.proofs.Common.{may_call, performs, read_input, refl, rows_left, run_in, run_step, scripted_step}
-use Rattle.sc_core_laws.proofs.Common.{subst, suc, sym, emit_event, then_kept, true, turn, turn_of, with_blocks, within, word_in}
-use Rattle.sc_core_laws.proofs.Common.{zero, ℕ, ◌<◌, ◌∙◌, ◌∷◌, ◌≡◌}
+use Rattle.sc_core_laws.proofs.Common.{Action, BadType, Blamed, Blocks, Body, Bool, Call, CallTarget, Calls, Cause}
+use Rattle.sc_core_laws.proofs.Common.{Cross, Denotations, Export, Function, Gone, Grown, Here, Input, Kept, List, Main}
+use Rattle.sc_core_laws.proofs.Common.{Meets, Memory, Never, None, Obedient, Option, Out, Output, Own, Piece, Property}
+use Rattle.sc_core_laws.proofs.Common.{Ret, Roles, Row, RunEnd, Some, State, TurnsOut, Value, Word, [], acts, and_then}
+use Rattle.sc_core_laws.proofs.Common.{ap, arith, asks, back_cross, back_own, begun, call_own, called, calls, crossing}
+use Rattle.sc_core_laws.proofs.Common.{done, emit_event, export_at, false, first_word, found, function, if◌then◌else◌}
+use Rattle.sc_core_laws.proofs.Common.{is_some, leads, length, map, may_call, performs, read_input, refl, rows_left}
+use Rattle.sc_core_laws.proofs.Common.{run_in, run_step, scripted_step, subst, suc, sym, then_kept, true, turn, turn_of}
+use Rattle.sc_core_laws.proofs.Common.{with_blocks, within, word_in, zero, ℕ, ◌<◌, ◌∙◌, ◌∷◌, ◌≡◌}
 use Rattle.sc_event.specs.declared.row.Action.TheVariants as act
 use Rattle.sc_core_laws.proofs.Growing.{BodyGoes, CallsGo, calls_go, within_goes}
 use Rattle.sc_core_laws.proofs.Related.{Kept as RelationKept, KeptAt, RelatedFunctions}
@@ -73,10 +73,12 @@ module _ (K : Property) where
 
 -- a denoted function keeps what its calls keep
 pub function_keeps : (denotations : Denotations) → Obedient denotations → (comp number : ℕ) (f : Function) →
-    function denotations comp number ≡ Some f → (K : Property) (here : Here) → IsKept K here → (by : Calls) → CallsGo by →
+    function denotations comp number ≡ Some f → (K : Property) (here : Here) → IsKept K here → (by : Calls) →
+    CallsGo by →
     CallsKeep K here.comp by → (s : State) → K.Goes s → Kept K (f.does by here s)
 function_keeps denotations obedient comp number f is K here kept by goes keeps s at =
-    let related = related_denotations Never (One K) (Pieces K) (IsKept K) (one_kept K here kept) (one_at K here kept) denotations
+    let related = related_denotations Never (One K) (Pieces K) (IsKept K) (one_kept K here kept) (one_at K here kept)
+    denotations
     denotations obedient in
     keeps_here K here kept _ (function denotations comp number) (related.functions comp number) f is by goes keeps s at
 
@@ -95,13 +97,15 @@ pub led_somewhere : (denotations : Denotations) (comp : ℕ) (number : Option �
 led_somewhere denotations comp None is = is
 led_somewhere denotations comp (Some number) is = refl
 
-pub led_there : (denotations : Denotations) (comp number : ℕ) (o : Option ℕ) → leads denotations comp o ≡ true → o ≡ Some number →
+pub led_there : (denotations : Denotations) (comp number : ℕ) (o : Option ℕ) → leads denotations comp o ≡ true →
+    o ≡ Some number →
     is_some (function denotations comp number) ≡ true
 led_there denotations comp number o is same = sym (ap (leads denotations comp) same) ∙ is
 
 -- a call across that may be made leads somewhere
 pub led : (denotations : Denotations) (from to index : ℕ) (args : List Value) →
-    may_call denotations from (Cross to index) args ≡ true → leads denotations to (denotations.entered to (Export index)) ≡ true
+    may_call denotations from (Cross to index) args ≡ true →
+    leads denotations to (denotations.entered to (Export index)) ≡ true
 led denotations from to index args may = grind arith
 
 -- a piece that keeps another property, and what follows it
@@ -254,7 +258,8 @@ module _ (denotations : Denotations) (walk : Walk denotations) where
         own_walks i _ number [] (λ f. runs number f is) s (none number is) at)
 
     -- a function of a compartment that may be blamed runs
-    pub run_step_walks : Obedient denotations → BodyGoes body → (number : ℕ) (here : Here) (s : State) (i : walk.Place) →
+    pub run_step_walks : Obedient denotations → BodyGoes body →
+        (number : ℕ) (here : Here) (s : State) (i : walk.Place) →
         is_some (function denotations here.comp number) ≡ true → walk.In i here.comp →
         ((k : ℕ) (f : Function) → walk.Runs (walk.inner i here.comp f) here.comp k) → ((cause : Cause) (line : ℕ)
         (s : State) → walk.At (suc n) i s → walk.Ends (Blamed here.comp cause line) s) → walk.At (suc n) i s →
@@ -265,7 +270,8 @@ module _ (denotations : Denotations) (walk : Walk denotations) where
           turned = λ s at. turned n s.turns i s refl at;
           blamed = λ s cause line at. blamed cause line s at;
         } in
-        there (place (suc n) i) (function denotations here.comp number) s (λ f s. f.does (calls denotations body) here s) is
+        there (place (suc n) i) (function denotations here.comp number) s
+        (λ f s. f.does (calls denotations body) here s) is
         (λ f found_f. function_keeps denotations obedient here.comp number f found_f (place (suc n) i) here kept
         (calls denotations body) (calls_go denotations body goes) (calls_keep (place (suc n) i) denotations body here
         (λ target args s may at. called_walks i here.comp target args s at_place runs may at) kept) s at)

@@ -1,11 +1,12 @@
 -- Every trace that a run emits is legal.
-use Rattle.sc_core_laws.proofs.Common.{Call, Cross, Event, Export, Interfaces, IsStop, Kept, Denotations, List, Main, Memory}
-use Rattle.sc_core_laws.proofs.Common.{None, Obedient, Option, Piece, Reached, Ret, Roles, Some, Standing, State, Stopped}
-use Rattle.sc_core_laws.proofs.Common.{Value, [], and_from, and_parts, ap, arith, at_start, crossing, eq-eqb, export_at}
-use Rattle.sc_core_laws.proofs.Common.{first_state, imports, is_allowed, is_function, is_legal_from, legal, length}
-use Rattle.sc_core_laws.proofs.Common.{length-map, denotations_run, map, may_call, may_perform, performer, refl, roles_run}
-use Rattle.sc_core_laws.proofs.Common.{run_step, run_to, scripted_step, stands_after, stands_after_all, stopped_at, suc, takes}
-use Rattle.sc_core_laws.proofs.Common.{true, within, word_in, zero, ℕ, ◌&&◌, ◌++◌, ◌==◌, ◌∙◌, ◌∷◌, ◌≡◌}
+use Rattle.sc_core_laws.proofs.Common.{Call, Cross, Denotations, Event, Export, Interfaces, IsStop, Kept, List, Main}
+use Rattle.sc_core_laws.proofs.Common.{Memory, None, Obedient, Option, Piece, Reached, Ret, Roles, Some, Standing}
+use Rattle.sc_core_laws.proofs.Common.{State, Stopped, Value, [], and_from, and_parts, ap, arith, at_start, crossing}
+use Rattle.sc_core_laws.proofs.Common.{denotations_run, eq-eqb, export_at, first_state, imports, is_allowed}
+use Rattle.sc_core_laws.proofs.Common.{is_function, is_legal_from, legal, length, length-map, map, may_call}
+use Rattle.sc_core_laws.proofs.Common.{may_perform, performer, refl, roles_run, run_step, run_to, scripted_step}
+use Rattle.sc_core_laws.proofs.Common.{stands_after, stands_after_all, stopped_at, suc, takes, true, within, word_in}
+use Rattle.sc_core_laws.proofs.Common.{zero, ℕ, ◌&&◌, ◌++◌, ◌==◌, ◌∙◌, ◌∷◌, ◌≡◌}
 use Rattle.std.proofs.Common.{take}
 use Rattle.sc_core_laws.proofs.Matching.{idle}
 use Rattle.sc_core_laws.proofs.Keeping.{Walk, place, main_walks, scripted_walks}
@@ -87,7 +88,8 @@ module _ (denotations : Denotations) where
     stored = λ n st s memory h. h;
     begins = λ n st comp f args s h. h;
     ends = λ n st comp f first s h. h;
-    enters = λ n st from to index args s is may h. emitted_at s.trace st (entered_at st to index) (Call from to index _) h
+    enters = λ n st from to index args s is may h. emitted_at s.trace st (entered_at st to index) (Call from to index _)
+        h
         (call_is_allowed st from to index args is may) refl;
     leaves = λ n st from to index args v s is may h. emitted_at s.trace (entered_at st to index) st (Ret to from _) h
         (back_is_allowed st from to index args v is may) refl;
@@ -109,14 +111,17 @@ module _ (denotations : Denotations) where
     run_legal : (roles : Roles) (globals : Memory) (inputs : List ℕ) (turns : ℕ) →
         legal interfaces (roles_run denotations globals inputs turns roles).behaviour.trace ≡ true
     run_legal roles globals inputs turns = piece_legal (suc turns) _ (main_walks denotations walk (suc turns) (within
-        (scripted_step denotations roles (run_step denotations)) (suc turns)) (scripted_walks denotations walk (λ n st s h. h) (λ st
+        (scripted_step denotations roles (run_step denotations)) (suc turns))
+        (scripted_walks denotations walk (λ n st s h. h) (λ st
         comp number is. is) (λ st comp number f is. is) obedient roles (λ comp number plain is n st cause line s h.
         (h.is_legal, tt)) (suc turns)) begins (first_state globals inputs turns) (λ none. (refl, tt)) (λ number is none.
         (refl, tt)) (λ number f is. refl) (record { stands = refl; is_legal = refl }))
 
-module _ (denotations : Denotations) (obedient : Obedient denotations) (globals : Memory) (inputs : List ℕ) (turns events : ℕ) where
+module _ (denotations : Denotations) (obedient : Obedient denotations) (globals : Memory) (inputs : List ℕ)
+    (turns events : ℕ) where
   pub scripts_legal : (roles : Roles) →
-      legal denotations.interfaces (stopped_at events (roles_run denotations globals inputs turns roles).behaviour).trace ≡ true
+      legal denotations.interfaces (stopped_at events
+      (roles_run denotations globals inputs turns roles).behaviour).trace ≡ true
   scripts_legal roles = ap (legal _) (trace_is events _)
       ∙ legal_take denotations events _ _ (run_legal denotations obedient roles globals inputs turns)
 

@@ -1,20 +1,21 @@
 -- A program whose trees stand on other lines does the same up to the lines of blames.
-use Rattle.sc_core_laws.proofs.Common.{Acts, Arith, Bool, CallTarget, Calls, CallsAgree, Cause, Does, Each, Entry, Exit}
-use Rattle.sc_core_laws.proofs.Common.{Export, FunctionsAgree, Here, Inside, Left, DenotationsAgree, List, Local, Main, Next}
-use Rattle.sc_core_laws.proofs.Common.{None, Ok, Option, OtherLinesAgree, Piece, PiecesAgree, ProgramTree, Proto, Result}
-use Rattle.sc_core_laws.proofs.Common.{Route, RunsAgree, Some, State, TypedExpr, TypedFunction, TypedLocal, TypedSection}
-use Rattle.sc_core_laws.proofs.Common.{TypedSimple, TypedSimpleKind, TypedStmt, TypedStmt-F, TypedStmtKind, TypedStmtKind-F}
-use Rattle.sc_core_laws.proofs.Common.{TypedStruct, Value, Want, Ways, [], all_do, ap, ap₂, arith, assign, at_place}
-use Rattle.sc_core_laws.proofs.Common.{block_does, body_does, bytes_eq, call, cells_of, choose, closed, computed, cond}
-use Rattle.sc_core_laws.proofs.Common.{entry_in, evaluated, everywhere, export_at, expr_nodes, first_blocks, fold-TypedStmt}
-use Rattle.sc_core_laws.proofs.Common.{fold-TypedStmtKind, follow, frame_bound, function_of, functions_in, globals_of}
-use Rattle.sc_core_laws.proofs.Common.{if◌then◌else◌, in_order, init_does, inits_do, kind_nodes, kind_step, layer_of, leave}
-use Rattle.sc_core_laws.proofs.Common.{length, length-map, denotations_of, local_nodes, loop, main_name, map, map-TypedStmtKind}
-use Rattle.sc_core_laws.proofs.Common.{nat_lt, nodes, not, on_line, part_does, part_nodes, place_named, place_of_export}
-use Rattle.sc_core_laws.proofs.Common.{position_or_len, refl, roll-TypedStmtKind, rounds, run_by, run_of, run_step}
-use Rattle.sc_core_laws.proofs.Common.{simple_does, slice_get, stmt_at, stmt_does, stmt_induction, stmt_nodes, stmt_step}
-use Rattle.sc_core_laws.proofs.Common.{store_at, store_result, subst, suc, sym, take, test, total, variable_at, variables}
-use Rattle.sc_core_laws.proofs.Common.{ways, zero, ℕ, ◌++◌, ◌+◌, ◌∙◌, ◌∷◌, ◌≡◌}
+use Rattle.sc_core_laws.proofs.Common.{Acts, Arith, Bool, CallTarget, Calls, CallsAgree, Cause, DenotationsAgree, Does}
+use Rattle.sc_core_laws.proofs.Common.{Each, Entry, Exit, Export, FunctionsAgree, Here, Inside, Left, List, Local, Main}
+use Rattle.sc_core_laws.proofs.Common.{Next, None, Ok, Option, OtherLinesAgree, Piece, PiecesAgree, ProgramTree, Proto}
+use Rattle.sc_core_laws.proofs.Common.{Result, Route, RunsAgree, Some, State, TypedExpr, TypedFunction, TypedLocal}
+use Rattle.sc_core_laws.proofs.Common.{TypedSection, TypedSimple, TypedSimpleKind, TypedStmt, TypedStmt-F}
+use Rattle.sc_core_laws.proofs.Common.{TypedStmtKind, TypedStmtKind-F, TypedStruct, Value, Want, Ways, [], all_do, ap}
+use Rattle.sc_core_laws.proofs.Common.{ap₂, arith, assign, at_place, block_does, body_does, bytes_eq, call, cells_of}
+use Rattle.sc_core_laws.proofs.Common.{choose, closed, computed, cond, denotations_of, entry_in, evaluated, everywhere}
+use Rattle.sc_core_laws.proofs.Common.{export_at, expr_nodes, first_blocks, fold-TypedStmt, fold-TypedStmtKind, follow}
+use Rattle.sc_core_laws.proofs.Common.{frame_bound, function_of, functions_in, globals_of, if◌then◌else◌, in_order}
+use Rattle.sc_core_laws.proofs.Common.{init_does, inits_do, kind_nodes, kind_step, layer_of, leave, length, length-map}
+use Rattle.sc_core_laws.proofs.Common.{local_nodes, loop, main_name, map, map-TypedStmtKind, nat_lt, nodes, not}
+use Rattle.sc_core_laws.proofs.Common.{on_line, part_does, part_nodes, place_named, place_of_export, position_or_len}
+use Rattle.sc_core_laws.proofs.Common.{refl, roll-TypedStmtKind, rounds, run_by, run_of, run_step, simple_does}
+use Rattle.sc_core_laws.proofs.Common.{slice_get, stmt_at, stmt_does, stmt_induction, stmt_nodes, stmt_step, store_at}
+use Rattle.sc_core_laws.proofs.Common.{store_result, subst, suc, sym, take, test, total, variable_at, variables, ways}
+use Rattle.sc_core_laws.proofs.Common.{zero, ℕ, ◌++◌, ◌+◌, ◌∙◌, ◌∷◌, ◌≡◌}
 use Rattle.std.specs.Option.{option_map}
 use Rattle.std.proofs.lemmas.Option.{slice_get-map}
 use Rattle.sc_core.specs.declared.stmt.TypedSimpleKind.TheVariants as simple
@@ -299,8 +300,10 @@ pub other_lines_agree : OtherLinesAgree
 other_lines_agree = record {
   any_denotations = denotations_agree;
   runs = λ arith line_of program inputs turns. subst (λ globals. RunsAgree (run_of arith program inputs turns) (run_by
-      (denotations_of arith (program_lined line_of program)) (run_step (denotations_of arith (program_lined line_of program)))
+      (denotations_of arith (program_lined line_of program))
+      (run_step (denotations_of arith (program_lined line_of program)))
       globals inputs turns)) (λ i comp. same_globals line_of program.sections comp i) (agreeing_run_alike.meaning
-      (denotations_of arith program) (denotations_of arith _) (denotations_agree arith line_of program) (globals_of _) inputs
+      (denotations_of arith program) (denotations_of arith _) (denotations_agree arith line_of program) (globals_of _)
+      inputs
       turns);
 }

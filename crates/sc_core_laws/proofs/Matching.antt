@@ -1,15 +1,16 @@
 -- Functions that match are related in every relation that the combinators keep.
-use Rattle.sc_core_laws.proofs.Common.{Alike, Asks, Blamed, Blames, Blocks, Calls, Cause, Does, Doing, Err, Function}
-use Rattle.sc_core_laws.proofs.Common.{FunctionsMatch, Gives, GoFrom, Goes, Gone, Halts, Here, InteractionTree, Lasts}
-use Rattle.sc_core_laws.proofs.Common.{DenotationsMatch, Denotations, Match, Meets, Never, None, Obedient, Ok, Option, Piece}
-use Rattle.sc_core_laws.proofs.Common.{Plays, Reached, Reads, Roles, Some, Spends, State, Stopped, Stores, Value, []}
-use Rattle.sc_core_laws.proofs.Common.{and_then, arith, follow, function, in_loop, inl, inr, loop, nobody, played, refl}
-use Rattle.sc_core_laws.proofs.Common.{rounds, run_step, scripted_step, subst, suc, sym, turn, with_memory, zero, ℕ, ◌+◌}
-use Rattle.sc_core_laws.proofs.Common.{◌<◌, ◌∙◌, ◌≡◌}
+use Rattle.sc_core_laws.proofs.Common.{Alike, Asks, Blamed, Blames, Blocks, Calls, Cause, Denotations, DenotationsMatch}
+use Rattle.sc_core_laws.proofs.Common.{Does, Doing, Err, Function, FunctionsMatch, Gives, GoFrom, Goes, Gone, Halts}
+use Rattle.sc_core_laws.proofs.Common.{Here, InteractionTree, Lasts, Match, Meets, Never, None, Obedient, Ok, Option}
+use Rattle.sc_core_laws.proofs.Common.{Piece, Plays, Reached, Reads, Roles, Some, Spends, State, Stopped, Stores, Value}
+use Rattle.sc_core_laws.proofs.Common.{[], and_then, arith, follow, function, in_loop, inl, inr, loop, nobody, played}
+use Rattle.sc_core_laws.proofs.Common.{refl, rounds, run_step, scripted_step, subst, suc, sym, turn, with_memory, zero}
+use Rattle.sc_core_laws.proofs.Common.{ℕ, ◌+◌, ◌<◌, ◌∙◌, ◌≡◌}
 use Rattle.sc_core_laws.proofs.Growing.{stays, FunctionGoes, DenotationsGo, StepGoes, run_step_goes, scripted_goes}
 use Rattle.sc_core_laws.proofs.Related.{Related, Kept, KeptAt, RelatedCalls, RelatedFunctions, RelatedDenotations}
 use Rattle.sc_core_laws.proofs.Expressions.{alike}
-use Rattle.sc_core_laws.proofs.InteractionTrees.{played_goes, DoingWith, MatchWith, follow_grown, turn_same, trees, rounds_are}
+use Rattle.sc_core_laws.proofs.InteractionTrees.{played_goes, DoingWith, MatchWith, follow_grown, turn_same, trees}
+use Rattle.sc_core_laws.proofs.InteractionTrees.{rounds_are}
 
 module _ (Soft : Cause → Type 0) (P : State → State → Type 0) (R : (V : Type 0) → Piece V → Piece V → Type 0)
     (Good : Here → Type 0) (kept : Kept P R) (at : (here : Here) → Good here → KeptAt P R Soft here) where
@@ -21,13 +22,15 @@ module _ (Soft : Cause → Type 0) (P : State → State → Type 0) (R : (V : Ty
     second_go target args = (made target args).second
 
     -- trees that are alike come to related pieces
-    played_related : {V : Type 0} (n : ℕ) (tree other_tree : InteractionTree V) → Lasts n tree → Alike Soft tree other_tree →
+    played_related : {V : Type 0} (n : ℕ) (tree other_tree : InteractionTree V) → Lasts n tree →
+        Alike Soft tree other_tree →
         (s s' : State) → s.turns < n → P s s' → R V (played tree C here s) (played other_tree D here s')
     played_related zero tree other_tree lasts like s s' few p = absurd (omega (arith, few))
     played_related {V} (suc n) (Gives v) other_tree lasts is s s' few p =
         subst (λ x. R V (Reached v s) (played x D here s')) (sym is) (kept.reached V v s s' p)
     played_related {V} (suc n) (Blames cause line) other_tree lasts (inl soft) s s' few p =
-        (at here good).passed V cause line soft s s' p (played other_tree D here s') (played_goes other_tree D here second_go s')
+        (at here good).passed V cause line soft s s' p (played other_tree D here s')
+        (played_goes other_tree D here second_go s')
     played_related {V} (suc n) (Blames cause line) other_tree lasts (inr is) s s' few p =
         subst (λ x. R V (Stopped (Blamed here.comp cause line) s) (played x D here s')) (sym is)
         ((at here good).computing V line (λ blocks. Err cause) (λ blocks. Err cause) (λ blocks. alike refl) s s' p)

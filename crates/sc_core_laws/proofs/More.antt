@@ -1,11 +1,12 @@
 -- The laws on more turns, more events, and the arithmetic that wraps.
-use Rattle.sc_core_laws.proofs.Common.{AgreesInDepth, AgreesUntilBlame, Blamed, Bool, Cause, Ended, EventsOut, ExtendedByMore}
-use Rattle.sc_core_laws.proofs.Common.{Extends, IsPrefix, IsArithmetic, IsFinal, DenotationsMatch, Denotations, List, Memory, Never}
-use Rattle.sc_core_laws.proofs.Common.{Obedient, ProgramTree, Roles, Run, RunEnd, RunsUntilBlame, SourceRun, ap, arith}
-use Rattle.sc_core_laws.proofs.Common.{blamed, blamed_run, c_arith, deepest, depth_in, false, inl, inr, le-leb, leb-true}
-use Rattle.sc_core_laws.proofs.Common.{length, denotations_of, denotations_run, lt-ltb, nat_le, reaches, refl, roles_run, same}
-use Rattle.sc_core_laws.proofs.Common.{same_run, stopped_at, subst, sym, take-append-le, take_all, true, wrapping, ℕ, ◌+◌}
-use Rattle.sc_core_laws.proofs.Common.{◌-◌, ◌<◌, ◌∙◌, ◌≡◌, ◌≤◌}
+use Rattle.sc_core_laws.proofs.Common.{AgreesInDepth, AgreesUntilBlame, Blamed, Bool, Cause, Denotations}
+use Rattle.sc_core_laws.proofs.Common.{DenotationsMatch, Ended, EventsOut, ExtendedByMore, Extends, IsArithmetic}
+use Rattle.sc_core_laws.proofs.Common.{IsFinal, IsPrefix, List, Memory, Never, Obedient, ProgramTree, Roles, Run}
+use Rattle.sc_core_laws.proofs.Common.{RunEnd, RunsUntilBlame, SourceRun, ap, arith, blamed, blamed_run, c_arith}
+use Rattle.sc_core_laws.proofs.Common.{deepest, denotations_of, denotations_run, depth_in, false, inl, inr, le-leb}
+use Rattle.sc_core_laws.proofs.Common.{leb-true, length, lt-ltb, nat_le, reaches, refl, roles_run, same, same_run}
+use Rattle.sc_core_laws.proofs.Common.{stopped_at, subst, sym, take-append-le, take_all, true, wrapping, ℕ, ◌+◌, ◌-◌}
+use Rattle.sc_core_laws.proofs.Common.{◌<◌, ◌∙◌, ◌≡◌, ◌≤◌}
 use Rattle.std.proofs.Common.{take}
 use Rattle.sc_core_laws.proofs.Wrapping.{binary_fits, negated_fits}
 use Rattle.sc_core_laws.proofs.Growing.{prefix_same, prefix_no_longer}
@@ -43,7 +44,8 @@ module _ (d : ℕ) (one other : Run) (events more_events : ℕ) (le : events ≤
   extends below =
       record {
         trace = subst (λ t. IsPrefix t (stopped_at more_events longer).trace) (sym (trace_is events shorter))
-            (subst (IsPrefix _) (sym (trace_is _ longer)) (take_prefixes events _ _ longer.trace le (prefix_events below)));
+            (subst (IsPrefix _) (sym (trace_is _ longer))
+            (take_prefixes events _ _ longer.trace le (prefix_events below)));
         final = λ final. final_at _ refl final below;
       }
 

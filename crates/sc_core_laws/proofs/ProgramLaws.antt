@@ -1,11 +1,11 @@
 -- The laws: of all denotations that obey, and so of every program.
-use Rattle.sc_core_laws.proofs.Common.{BlameIsPassed, BlameRemains, BlamedAreThere, ChainExists, ChainIsLeast, ChainsRise}
-use Rattle.sc_core_laws.proofs.Common.{EmptySetIsMeaning, Event, FixedPoint, HoldsOfSets, Denotations, List, MeaningGoesOn}
-use Rattle.sc_core_laws.proofs.Common.{Memory, MoreGoesOn, MoreMayPerform, NobodyWhoPerformsIsBlamed, Obedient, OnlyGoesOn}
-use Rattle.sc_core_laws.proofs.Common.{ProgramsObey, DepthsAreKept, Set, SourceRun, TracesAreLegal, TurnsOutMeansTurns}
-use Rattle.sc_core_laws.proofs.Common.{WrappedAgrees, WrappingAgrees, c_arith, functions_in, globals_of, length-map}
-use Rattle.sc_core_laws.proofs.Common.{denotations_of, performed_by, refl, roles_in, run_step, scripted_step, subst, wrapping, ℕ}
-use Rattle.sc_core_laws.proofs.Common.{◌<◌}
+use Rattle.sc_core_laws.proofs.Common.{BlameIsPassed, BlameRemains, BlamedAreThere, ChainExists, ChainIsLeast}
+use Rattle.sc_core_laws.proofs.Common.{ChainsRise, Denotations, DepthsAreKept, EmptySetIsMeaning, Event, FixedPoint}
+use Rattle.sc_core_laws.proofs.Common.{HoldsOfSets, List, MeaningGoesOn, Memory, MoreGoesOn, MoreMayPerform}
+use Rattle.sc_core_laws.proofs.Common.{NobodyWhoPerformsIsBlamed, Obedient, OnlyGoesOn, ProgramsObey, Set, SourceRun}
+use Rattle.sc_core_laws.proofs.Common.{TracesAreLegal, TurnsOutMeansTurns, WrappedAgrees, WrappingAgrees, c_arith}
+use Rattle.sc_core_laws.proofs.Common.{denotations_of, functions_in, globals_of, length-map, performed_by, refl}
+use Rattle.sc_core_laws.proofs.Common.{roles_in, run_step, scripted_step, subst, wrapping, ℕ, ◌<◌}
 use Rattle.sc_core_laws.proofs.Growing.{within_goes}
 use Rattle.sc_core_laws.proofs.Matching.{run_goes_on, scripted_goes_on}
 use Rattle.sc_core_laws.proofs.Statements.{program_obeys}
@@ -23,7 +23,8 @@ programs_obey = record { itself = program_obeys; wraps = wrapping_matches }
 
 pub only_goes_on : OnlyGoesOn
 only_goes_on = record {
-  any_denotations = λ denotations obedient n number here. within_goes (run_step denotations) (run_goes_on denotations obedient) n number
+  any_denotations = λ denotations obedient n number here. within_goes (run_step denotations)
+      (run_goes_on denotations obedient) n number
       here;
   scripts = λ denotations obedient roles n number here. within_goes (scripted_step denotations roles _)
       (scripted_goes_on denotations obedient roles) n number here;
@@ -47,7 +48,8 @@ empty_set = record {
 pub more_goes_on : MoreGoesOn
 more_goes_on = record {
   any_denotations = more_scripted;
-  programs = λ arith program set trace inputs. more_scripted (denotations_of arith program) (program_obeys arith program)
+  programs = λ arith program set trace inputs. more_scripted (denotations_of arith program)
+      (program_obeys arith program)
       (globals_of _) inputs (roles_in _ set trace);
 }
 
@@ -61,7 +63,8 @@ meaning_goes_on = record {
 pub wrapping_agrees : WrappingAgrees
 wrapping_agrees = record {
   any_denotations = scripts_agree;
-  programs = λ program set trace inputs turns. scripts_agree (denotations_of c_arith program) (denotations_of wrapping program)
+  programs = λ program set trace inputs turns. scripts_agree (denotations_of c_arith program)
+      (denotations_of wrapping program)
       (wrapping_matches program) (globals_of _) inputs turns (roles_in _ set trace);
 }
 
@@ -93,13 +96,15 @@ pub blamed_are_there : BlamedAreThere
 blamed_are_there = record {
   any_denotations = blamed_is_there;
   programs = λ arith program set trace inputs turns events comp cause line ends. subst (λ n. comp < n)
-      (length-map _ (functions_in arith _)) (blamed_is_there (denotations_of arith program) (program_obeys arith program)
+      (length-map _ (functions_in arith _))
+      (blamed_is_there (denotations_of arith program) (program_obeys arith program)
       (globals_of _) inputs turns events (roles_in _ set trace) comp cause line ends);
 }
 
 -- what holds of denotations that obey holds of programs
 of_sets : (law : List Event → (Set → SourceRun) → Type 0) →
-    ((denotations : Denotations) → Obedient denotations → (globals : Memory) (inputs : List ℕ) (turns : ℕ) (trace : List Event) →
+    ((denotations : Denotations) → Obedient denotations →
+    (globals : Memory) (inputs : List ℕ) (turns : ℕ) (trace : List Event) →
     law trace (performed_by denotations globals inputs turns trace)) → HoldsOfSets law
 of_sets law holds = record {
   any_denotations = holds;

@@ -1,8 +1,8 @@
 -- Related runs: which relations of two runs the combinators keep.
-use Rattle.sc_core_laws.proofs.Common.{Blamed, Blocks, Bool, CallTarget, Calls, Cause, Entry, Function, Goes, Gone, Grown}
-use Rattle.sc_core_laws.proofs.Common.{Here, Denotations, List, Meets, Option, Piece, Reached, Result, State, Stopped, Value}
-use Rattle.sc_core_laws.proofs.Common.{and_then, arith, computed, false, function, if◌then◌else◌, may_call, true, turn}
-use Rattle.sc_core_laws.proofs.Common.{with_blocks, ℕ, ◌<◌, ◌≡◌}
+use Rattle.sc_core_laws.proofs.Common.{Blamed, Blocks, Bool, CallTarget, Calls, Cause, Denotations, Entry, Function}
+use Rattle.sc_core_laws.proofs.Common.{Goes, Gone, Grown, Here, List, Meets, Option, Piece, Reached, Result, State}
+use Rattle.sc_core_laws.proofs.Common.{Stopped, Value, and_then, arith, computed, false, function, if◌then◌else◌}
+use Rattle.sc_core_laws.proofs.Common.{may_call, true, turn, with_blocks, ℕ, ◌<◌, ◌≡◌}
 use Rattle.sc_core_laws.proofs.Growing.{then_goes}
 use Rattle.sc_core_laws.proofs.Expressions.{Keeps}
 

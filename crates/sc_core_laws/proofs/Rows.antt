@@ -1,15 +1,16 @@
 -- Where a compartment stands in its rows, and how traces go on along another.
-use Rattle.sc_core_laws.proofs.Common.{Event, IsPrefix, Goes, List, None, Option, Piece, Row, Some, Standing, State, []}
-use Rattle.sc_core_laws.proofs.Common.{action_of, and_then, ap, append_assoc, arith, at_start, count_of, drop, drop_next}
-use Rattle.sc_core_laws.proofs.Common.{eq-eqb, filter, if◌then◌else◌, inl, inr, last, length, length-append, part, performer}
-use Rattle.sc_core_laws.proofs.Common.{refl, rows_from, stands_after, stands_after_all, subst, suc, sym, ℕ, ◌++◌, ◌==◌, ◌∙◌}
-use Rattle.sc_core_laws.proofs.Common.{◌∷◌, ◌≡◌, ◌⊎◌}
+use Rattle.sc_core_laws.proofs.Common.{Event, Goes, IsPrefix, List, None, Option, Piece, Row, Some, Standing, State, []}
+use Rattle.sc_core_laws.proofs.Common.{action_of, and_then, ap, append_assoc, arith, at_start, count_of, drop}
+use Rattle.sc_core_laws.proofs.Common.{drop_next, eq-eqb, filter, if◌then◌else◌, inl, inr, last, length, length-append}
+use Rattle.sc_core_laws.proofs.Common.{part, performer, refl, rows_from, stands_after, stands_after_all, subst, suc}
+use Rattle.sc_core_laws.proofs.Common.{sym, ℕ, ◌++◌, ◌==◌, ◌∙◌, ◌∷◌, ◌≡◌, ◌⊎◌}
 use Rattle.std.proofs.lemmas.List.Elements.{filter-append}
 use Rattle.sc_event.proofs.Rows.{next_row}
 use Rattle.sc_core_laws.proofs.Growing.{prefix_more, then_from}
 
 -- STANDING
-pub stands_last : (at : Option Standing) (u : List Event) (e : Event) (st : Standing) → stands_after_all at u ≡ Some st →
+pub stands_last : (at : Option Standing) (u : List Event) (e : Event) (st : Standing) →
+    stands_after_all at u ≡ Some st →
     stands_after_all at (u ++ e ∷ []) ≡ stands_after st e
 stands_last None [] e st is = absurd (cc)
 stands_last None (f ∷ u) e st is = absurd (cc)

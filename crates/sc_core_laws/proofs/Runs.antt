@@ -1,15 +1,15 @@
 -- Whole runs: steps of the denotations of two programs, and what they come to when stopped at a number of events.
-use Rattle.sc_core_laws.proofs.Common.{AllFrom, Blamed, Bool, Cause, End, Ended, Event, EventsOut, FrameChange, IsPrefix}
-use Rattle.sc_core_laws.proofs.Common.{HasFixedPoint, Here, IsFixed, IsSteady, IsStop, DenotationsMatch, Denotations, List, Main}
-use Rattle.sc_core_laws.proofs.Common.{Memory, Never, None, Obedient, Option, Piece, Reached, Roles, Run, RunEnd, Some}
-use Rattle.sc_core_laws.proofs.Common.{SourceRun, State, Step, Stopped, StopsSo, TurnsOut, Value, [], and_then, ap, arith}
-use Rattle.sc_core_laws.proofs.Common.{call_own, exit_word, false, first_state, found, if◌then◌else◌, inl, last, length}
-use Rattle.sc_core_laws.proofs.Common.{length-append, now, reaches, refl, roles_run, run_step, run_to, scripted_step}
-use Rattle.sc_core_laws.proofs.Common.{stopped_at, subst, suc, sym, take_all, true, within, zero, ℕ, ◌++◌, ◌+◌, ◌<◌, ◌∙◌}
-use Rattle.sc_core_laws.proofs.Common.{◌∷◌, ◌≡◌, ◌≤◌, ◌⊎◌}
+use Rattle.sc_core_laws.proofs.Common.{AllFrom, Blamed, Bool, Cause, Denotations, DenotationsMatch, End, Ended, Event}
+use Rattle.sc_core_laws.proofs.Common.{EventsOut, FrameChange, HasFixedPoint, Here, IsFixed, IsPrefix, IsSteady, IsStop}
+use Rattle.sc_core_laws.proofs.Common.{List, Main, Memory, Never, None, Obedient, Option, Piece, Reached, Roles, Run}
+use Rattle.sc_core_laws.proofs.Common.{RunEnd, Some, SourceRun, State, Step, Stopped, StopsSo, TurnsOut, Value, []}
+use Rattle.sc_core_laws.proofs.Common.{and_then, ap, arith, call_own, exit_word, false, first_state, found}
+use Rattle.sc_core_laws.proofs.Common.{if◌then◌else◌, inl, last, length, length-append, now, reaches, refl, roles_run}
+use Rattle.sc_core_laws.proofs.Common.{run_step, run_to, scripted_step, stopped_at, subst, suc, sym, take_all, true}
+use Rattle.sc_core_laws.proofs.Common.{within, zero, ℕ, ◌++◌, ◌+◌, ◌<◌, ◌∙◌, ◌∷◌, ◌≡◌, ◌≤◌, ◌⊎◌}
 use Rattle.std.proofs.Common.{take}
-use Rattle.sc_core_laws.proofs.Growing.{prefix_more, prefix_no_longer, StepGoes, within_goes, run_step_goes, scripted_goes}
-use Rattle.sc_core_laws.proofs.Growing.{BodyGoes}
+use Rattle.sc_core_laws.proofs.Growing.{prefix_more, prefix_no_longer, StepGoes, within_goes, run_step_goes}
+use Rattle.sc_core_laws.proofs.Growing.{scripted_goes, BodyGoes}
 pub use Rattle.sc_core_laws.proofs.Growing.{prefix_no_longer as prefix_long}
 use Rattle.sc_core_laws.proofs.Related.{Anywhere}
 use Rattle.sc_core_laws.proofs.Matching.{related_denotations, first_goes, second_goes, idle, scripted_goes_on}
@@ -199,7 +199,8 @@ module _ (step : Step) (goes : StepGoes step) (steps : StepsBelow 0 Never ⊥ (i
       ∙ ap (step _ number here) (no_richer s)
 
 module _ (denotations : Denotations) (obedient : Obedient denotations) where
-  steady_steps : (roles : Roles) → StepsBelow 0 Never ⊥ (inl refl) (scripted_step denotations roles (run_step denotations))
+  steady_steps : (roles : Roles) →
+      StepsBelow 0 Never ⊥ (inl refl) (scripted_step denotations roles (run_step denotations))
       (scripted_step denotations roles (run_step denotations))
   steady_steps = scripted_steps 0 Never ⊥ (inl refl) denotations denotations obedient
 

@@ -1,16 +1,16 @@
 -- A run in which a set performs its part of a legal trace: where it is out of turns while it keeps to the trace and
 -- hasn't emitted all of it, it has none left. For there the next row of the active compartment is its next event.
-use Rattle.sc_core_laws.proofs.Common.{Action, BadType, Blamed, Body, Bool, Call, CallTarget, Cross, End, Ended, Event}
-use Rattle.sc_core_laws.proofs.Common.{EventsOut, Export, ExportsLead, Here, In, Input, Interfaces, Kept, Denotations, List}
-use Rattle.sc_core_laws.proofs.Common.{Main, Memory, None, Obedient, Option, Out, Output, Piece, Property, Ret, Roles, Row}
-use Rattle.sc_core_laws.proofs.Common.{RunEnd, Set, Some, SpendsAlong, Standing, State, Stopped, TurnsOut, Value, Word, []}
-use Rattle.sc_core_laws.proofs.Common.{action_of, acts, and_from, and_parts, and_then, ap, arith, asks, at_start, called}
-use Rattle.sc_core_laws.proofs.Common.{count_of, drop, drop_next, eq-eqb, eqb-true, false, false≢true, first_state, function}
-use Rattle.sc_core_laws.proofs.Common.{if◌then◌else◌, imports, is_allowed, is_legal_from, is_number, is_some, is_word, leads}
-use Rattle.sc_core_laws.proofs.Common.{legal, length-map, list_all, map, may_call, may_perform, part, performer, performs}
-use Rattle.sc_core_laws.proofs.Common.{refl, roles_in, rows_left, run_step, scripted_call, scripted_step, stands_after}
-use Rattle.sc_core_laws.proofs.Common.{stands_after_all, subst, suc, sym, takes, emit_event, then_kept, true, within, zero, ℕ, ◌++◌}
-use Rattle.sc_core_laws.proofs.Common.{◌<◌, ◌∙◌, ◌∷◌, ◌≡◌}
+use Rattle.sc_core_laws.proofs.Common.{Action, BadType, Blamed, Body, Bool, Call, CallTarget, Cross, Denotations, End}
+use Rattle.sc_core_laws.proofs.Common.{Ended, Event, EventsOut, Export, ExportsLead, Here, In, Input, Interfaces, Kept}
+use Rattle.sc_core_laws.proofs.Common.{List, Main, Memory, None, Obedient, Option, Out, Output, Piece, Property, Ret}
+use Rattle.sc_core_laws.proofs.Common.{Roles, Row, RunEnd, Set, Some, SpendsAlong, Standing, State, Stopped, TurnsOut}
+use Rattle.sc_core_laws.proofs.Common.{Value, Word, [], action_of, acts, and_from, and_parts, and_then, ap, arith, asks}
+use Rattle.sc_core_laws.proofs.Common.{at_start, called, count_of, drop, drop_next, emit_event, eq-eqb, eqb-true, false}
+use Rattle.sc_core_laws.proofs.Common.{false≢true, first_state, function, if◌then◌else◌, imports, is_allowed}
+use Rattle.sc_core_laws.proofs.Common.{is_legal_from, is_number, is_some, is_word, leads, legal, length-map, list_all}
+use Rattle.sc_core_laws.proofs.Common.{map, may_call, may_perform, part, performer, performs, refl, roles_in, rows_left}
+use Rattle.sc_core_laws.proofs.Common.{run_step, scripted_call, scripted_step, stands_after, stands_after_all, subst}
+use Rattle.sc_core_laws.proofs.Common.{suc, sym, takes, then_kept, true, within, zero, ℕ, ◌++◌, ◌<◌, ◌∙◌, ◌∷◌, ◌≡◌}
 use Rattle.sc_event.specs.declared.row.Action.TheVariants as act
 use Rattle.sc_core_laws.proofs.Growing.{BodyGoes, within_goes}
 use Rattle.sc_core_laws.proofs.Keeping.{Walk, place, BodyWalks, raise, cross_walks, main_walks, run_step_walks}
@@ -189,8 +189,10 @@ module _ (denotations : Denotations) (leads_on : ExportsLead denotations) (trace
       acts_along : (action : Action) → row.action ≡ action → Kept (Kind (suc n) st)
           (acts denotations body action (performs denotations body rest number here) (body number here) here.comp s)
       acts_along (act.Call to index args) its = asks_along (Cross to index) (map (λ w. Word w) args) _ _ its (λ h. h)
-          (λ may. raise denotations walk n st _ (then_kept (Kind n st) (called denotations body here.comp (Cross to index) (map
-          _ args) s) _ (cross_walks denotations walk n body along st here.comp to index (map _ args) s active may at) (λ v t
+          (λ may. raise denotations walk n st _
+          (then_kept (Kind n st) (called denotations body here.comp (Cross to index) (map
+          _ args) s) _ (cross_walks denotations walk n body along st here.comp to index (map _ args) s active may at)
+          (λ v t
           at. along number here t st is (record { active = active; entered = λ performing. entered }) at)))
       acts_along (act.Ret v) its = record { after = at }
       acts_along (act.Out w) its = asks_along Output (Word w ∷ []) _ _ its (λ h. h)
@@ -204,7 +206,8 @@ module _ (denotations : Denotations) (leads_on : ExportsLead denotations) (trace
 
     performs_along : (rows : List Row) (number : ℕ) (here : Here) (s : State) (st : Standing) →
         rows ≡ rows_left roles here.comp s.trace → here.comp ≡ st.active.comp →
-        is_some (function denotations here.comp number) ≡ true → denotations.entered here.comp st.active.entry ≡ Some number →
+        is_some (function denotations here.comp number) ≡ true →
+        denotations.entered here.comp st.active.entry ≡ Some number →
         Now (suc n) st s → Kept (Kind (suc n) st) (performs denotations body rows number here s)
     performs_along [] number here s st rows active is entered at = record {
       after = λ e more along_trace.
@@ -232,7 +235,8 @@ module _ (denotations : Denotations) (leads_on : ExportsLead denotations) (trace
     within_along : (n : ℕ) → BodyAlong n (its_bodies n)
     within_along zero number here s st is runs at = let few = at.few in absurd (omega (arith, few))
     within_along (suc n) number here s st is runs at = step_along n (its_bodies n)
-        (within_goes (scripted_step denotations roles _) (scripted_goes_on denotations obedient roles) n) (within_along n)
+        (within_goes (scripted_step denotations roles _) (scripted_goes_on denotations obedient roles) n)
+        (within_along n)
         number here s st is runs at
 
     abbrev first : Standing

@@ -1,21 +1,21 @@
 -- What statements do is a tree, and under two arithmetics the trees are alike.
-use Rattle.sc_core_laws.proofs.Common.{Acts, Arith, Blocks, Bool, Break, Calls, Cause, Continue, Doing, Each, Err, Exit}
-use Rattle.sc_core_laws.proofs.Common.{FunctionsMatch, Here, Inside, DenotationsMatch, List, Local, Match, Meets, Never, Next}
-use Rattle.sc_core_laws.proofs.Common.{NoReturn, None, Obedient, Ok, Option, ProgramTree, Return, Some, TypedExpr}
-use Rattle.sc_core_laws.proofs.Common.{TypedFunction, TypedLocal, TypedSection, TypedSimple, TypedSimpleKind, TypedStmt}
-use Rattle.sc_core_laws.proofs.Common.{TypedStmtKind, TypedStmtKind-F, TypedStruct, Value, Want, Ways, [], all_do, assign}
-use Rattle.sc_core_laws.proofs.Common.{at_brace, at_place, block_does, body_does, call, choose, closed, evaluated}
-use Rattle.sc_core_laws.proofs.Common.{everywhere, false, function_of, functions_in, in_order, init_does, inits_do}
-use Rattle.sc_core_laws.proofs.Common.{kind_step, layer_of, leave, denotations_of, loop, map, on_line, part_does, refl}
-use Rattle.sc_core_laws.proofs.Common.{simple_does, slice_get, slice_index_or, stmt_at, stmt_does, stmt_induction, stmt_step}
-use Rattle.sc_core_laws.proofs.Common.{store_at, store_result, stored, subst, suc, sym, test, true, variable_at, ways, zero}
-use Rattle.sc_core_laws.proofs.Common.{ℕ, ◌∷◌, ◌≡◌}
+use Rattle.sc_core_laws.proofs.Common.{Acts, Arith, Blocks, Bool, Break, Calls, Cause, Continue, DenotationsMatch}
+use Rattle.sc_core_laws.proofs.Common.{Doing, Each, Err, Exit, FunctionsMatch, Here, Inside, List, Local, Match, Meets}
+use Rattle.sc_core_laws.proofs.Common.{Never, Next, NoReturn, None, Obedient, Ok, Option, ProgramTree, Return, Some}
+use Rattle.sc_core_laws.proofs.Common.{TypedExpr, TypedFunction, TypedLocal, TypedSection, TypedSimple, TypedSimpleKind}
+use Rattle.sc_core_laws.proofs.Common.{TypedStmt, TypedStmtKind, TypedStmtKind-F, TypedStruct, Value, Want, Ways, []}
+use Rattle.sc_core_laws.proofs.Common.{all_do, assign, at_brace, at_place, block_does, body_does, call, choose, closed}
+use Rattle.sc_core_laws.proofs.Common.{denotations_of, evaluated, everywhere, false, function_of, functions_in}
+use Rattle.sc_core_laws.proofs.Common.{in_order, init_does, inits_do, kind_step, layer_of, leave, loop, map, on_line}
+use Rattle.sc_core_laws.proofs.Common.{part_does, refl, simple_does, slice_get, slice_index_or, stmt_at, stmt_does}
+use Rattle.sc_core_laws.proofs.Common.{stmt_induction, stmt_step, store_at, store_result, stored, subst, suc, sym, test}
+use Rattle.sc_core_laws.proofs.Common.{true, variable_at, ways, zero, ℕ, ◌∷◌, ◌≡◌}
 use Rattle.sc_core.specs.declared.expr.TypedCall.{TypedCall}
 use Rattle.sc_core.specs.declared.stmt.TypedStmtKind.TheOpen as layer
 use Rattle.sc_core.specs.declared.stmt.TypedSimpleKind.TheVariants as simple
 use Rattle.sc_core.specs.declared.value.Want.TheVariants as want
-use Rattle.sc_core_laws.proofs.InteractionTrees.{MatchWith, match_reached, match_then, match_computed, match_store, match_call}
-use Rattle.sc_core_laws.proofs.InteractionTrees.{match_if, match_leave, match_follow, match_all, match_loop}
+use Rattle.sc_core_laws.proofs.InteractionTrees.{MatchWith, match_reached, match_then, match_computed, match_store}
+use Rattle.sc_core_laws.proofs.InteractionTrees.{match_call, match_if, match_leave, match_follow, match_all, match_loop}
 use Rattle.sc_core_laws.proofs.Expressions.{Keeps, alike, ArithKeeps, ways_keep, values_keep}
 
 module _ (Soft : Cause → Type 0) (here : Here) where
@@ -226,7 +226,8 @@ module _ (Soft : Cause → Type 0) (ar br : Arith) (arith : ArithKeeps Soft ar b
   of_sections main [] = tt
   of_sections main (section ∷ sections) = (of_functions main _ section.functions, of_sections main sections)
 
-  pub program_matches : (program : ProgramTree) → DenotationsMatch Soft (denotations_of ar program) (denotations_of br program)
+  pub program_matches : (program : ProgramTree) →
+      DenotationsMatch Soft (denotations_of ar program) (denotations_of br program)
   program_matches program = record {
     interfaces = refl;
     functions = λ comp number. meets_at _ _ _ number

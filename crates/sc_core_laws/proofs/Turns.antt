@@ -1,7 +1,8 @@
 -- A run that is out of turns has none left, where all functions that are called are there.
-use Rattle.sc_core_laws.proofs.Common.{Blamed, Ended, EventsOut, Kept, Denotations, List, Main, Memory, Obedient, Option, Piece}
-use Rattle.sc_core_laws.proofs.Common.{Property, RunEnd, SpendsTurns, State, StopsSpent, TurnsOut, Value, arith, first_state}
-use Rattle.sc_core_laws.proofs.Common.{leads, main_call, refl, run_step, run_to, subst, suc, true, within, zero, ℕ, ◌<◌, ◌≡◌}
+use Rattle.sc_core_laws.proofs.Common.{Blamed, Denotations, Ended, EventsOut, Kept, List, Main, Memory, Obedient}
+use Rattle.sc_core_laws.proofs.Common.{Option, Piece, Property, RunEnd, SpendsTurns, State, StopsSpent, TurnsOut, Value}
+use Rattle.sc_core_laws.proofs.Common.{arith, first_state, leads, main_call, refl, run_step, run_to, subst, suc, true}
+use Rattle.sc_core_laws.proofs.Common.{within, zero, ℕ, ◌<◌, ◌≡◌}
 use Rattle.sc_core_laws.proofs.Growing.{within_goes}
 use Rattle.sc_core_laws.proofs.Matching.{run_goes_on}
 use Rattle.sc_core_laws.proofs.Keeping.{Walk, place, BodyWalks, main_walks, run_step_walks, led_somewhere, led_there}
@@ -44,14 +45,17 @@ module _ (denotations : Denotations) where
   module _ (obedient : Obedient denotations) where
     within_spends : (n : ℕ) → BodyWalks denotations walk n (within (run_step denotations) n)
     within_spends zero number here s i is runs few = absurd (omega (arith, few))
-    within_spends (suc n) number here s i is runs few = run_step_walks denotations walk n (within (run_step denotations) n)
-        (within_spends n) obedient (within_goes (run_step denotations) (run_goes_on denotations obedient) n) number here s i is
+    within_spends (suc n) number here s i is runs few =
+        run_step_walks denotations walk n (within (run_step denotations) n)
+        (within_spends n) obedient (within_goes (run_step denotations) (run_goes_on denotations obedient) n) number here
+        s i is
         tt (λ k f. tt) (λ cause line s few. tt) few
 
     abbrev main : ℕ
     main = denotations.interfaces.main
 
-    main_spends : (globals : Memory) (inputs : List ℕ) (turns : ℕ) → leads denotations main (denotations.entered main Main)
+    main_spends : (globals : Memory) (inputs : List ℕ) (turns : ℕ) →
+        leads denotations main (denotations.entered main Main)
         ≡ true → Kept (spending (suc turns)) (main_call denotations globals inputs turns)
     main_spends globals inputs turns is = main_walks denotations walk (suc turns)
         (within (run_step denotations) (suc turns)) (within_spends (suc turns)) tt (first_state globals inputs turns)

@@ -1,7 +1,8 @@
 -- The arithmetic that blames and the one that wraps give the same, or the first blames.
-use Rattle.sc_core_laws.proofs.Common.{BinaryOp, Bool, Err, IsArithmetic, Ok, Result, arith, c_binary, c_negated, cause_of}
-use Rattle.sc_core_laws.proofs.Common.{false, if◌then◌else◌, int_lt, leb-false, nat_le, negated_word, on_all_words, or_cause}
-use Rattle.sc_core_laws.proofs.Common.{pos, refl, subst, true, ℕ, ℤ, ◌%◌, ◌*ℤ◌, ◌*◌, ◌/◌, ◌<◌, ◌==◌, ◌^◌, ◌≡◌}
+use Rattle.sc_core_laws.proofs.Common.{BinaryOp, Bool, Err, IsArithmetic, Ok, Result, arith, c_binary, c_negated}
+use Rattle.sc_core_laws.proofs.Common.{cause_of, false, if◌then◌else◌, int_lt, leb-false, nat_le, negated_word}
+use Rattle.sc_core_laws.proofs.Common.{on_all_words, or_cause, pos, refl, subst, true, ℕ, ℤ, ◌%◌, ◌*ℤ◌, ◌*◌, ◌/◌, ◌<◌}
+use Rattle.sc_core_laws.proofs.Common.{◌==◌, ◌^◌, ◌≡◌}
 use Rattle.sc_word.specs.Prelude.{checked, signed_of, word_of}
 use Rattle.std.specs.Int.{int_shr}
 use Rattle.sc_word.specs.declared.fault.WordFault.{WordFault}

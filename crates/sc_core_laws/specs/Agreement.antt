@@ -1,8 +1,8 @@
 -- Denotations of two programs that do the same, whatever their functions carry, up to the lines of blames.
-use Rattle.sc_core_laws.specs.Common.{Arith, Blamed, Body, CallTarget, Calls, Ended, Entry, EventsOut, Function, Here}
-use Rattle.sc_core_laws.specs.Common.{Denotations, Memory, Piece, ProgramTree, Reached, Roles, Run, RunEnd, SourceRun, State}
-use Rattle.sc_core_laws.specs.Common.{Stopped, TurnsOut, Value, function, denotations_of, run_by, run_of, run_step}
-use Rattle.sc_core_laws.specs.Common.{scripted_step, stopped_at}
+use Rattle.sc_core_laws.specs.Common.{Arith, Blamed, Body, CallTarget, Calls, Denotations, Ended, Entry, EventsOut}
+use Rattle.sc_core_laws.specs.Common.{Function, Here, Memory, Piece, ProgramTree, Reached, Roles, Run, RunEnd}
+use Rattle.sc_core_laws.specs.Common.{SourceRun, State, Stopped, TurnsOut, Value, denotations_of, function, run_by}
+use Rattle.sc_core_laws.specs.Common.{run_of, run_step, scripted_step, stopped_at}
 use Rattle.std.specs.Prelude.{◌≡◌, ℕ, List, Option, None, Some}
 use Rattle.sc_core_laws.specs.Lines.{program_lined}
 

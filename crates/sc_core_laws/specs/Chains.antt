@@ -1,5 +1,6 @@
 -- Runs in which the compartments of a set perform their parts of a trace, and the chain of sets that leads to it.
-use Rattle.sc_core_laws.specs.Common.{Arith, Blamed, Cause, Event, IsPrefix, ProgramTree, SourceRun, TurnsOut, scripted_by}
+use Rattle.sc_core_laws.specs.Common.{Arith, Blamed, Cause, Event, IsPrefix, ProgramTree, SourceRun, TurnsOut}
+use Rattle.sc_core_laws.specs.Common.{scripted_by}
 use Rattle.std.specs.Prelude.{◌≡◌, ℕ, suc, ◌<◌, ◌≤◌, Bool, true, false, ◌||◌, ◌==◌, List, [], ◌∷◌, ◌++◌, length}
 
 -- the second run emits an event more than the first, or ends right there for want of a turn or of a row

@@ -3,7 +3,7 @@ use Rattle.sc_core_laws.specs.Common.{Closed, Event, FrameChange, Opened, State,
 use Rattle.std.specs.List.{list_any}
 use Rattle.std.specs.Prelude.{Bool, not, ℕ, ◌+◌, ◌-◌, ◌<◌, ◌≤◌, ◌==◌, if◌then◌else◌, List, [], ◌∷◌}
 
--- the compartment's stack depth after these changes, where it is `room` before them
+-- the compartment's stack depth after these changes, where it is `depth` before them
 abbrev pub depth_after : ℕ → ℕ → List FrameChange → ℕ
 depth_after comp depth [] = depth
 depth_after comp depth (Opened emitted c more ∷ changes) =

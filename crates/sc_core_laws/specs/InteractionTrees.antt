@@ -1,8 +1,9 @@
 -- Interaction trees: what functions may do, whatever they are written in, so that the laws hold of them. A tree says
 -- what is given or blamed, what the blocks of the compartment decide, and what comes after new blocks, after a turn and
 -- after a call.
-use Rattle.sc_core_laws.specs.Common.{Blamed, Blocks, CallTarget, Calls, Cause, Entry, Function, Here, Denotations, Piece}
-use Rattle.sc_core_laws.specs.Common.{Reached, State, Stopped, TurnsOut, Value, and_then, function, turn, with_memory}
+use Rattle.sc_core_laws.specs.Common.{Blamed, Blocks, CallTarget, Calls, Cause, Denotations, Entry, Function, Here}
+use Rattle.sc_core_laws.specs.Common.{Piece, Reached, State, Stopped, TurnsOut, Value, and_then, function, turn}
+use Rattle.sc_core_laws.specs.Common.{with_memory}
 use Rattle.std.specs.Prelude.{◌≡◌, ◌⊎◌, ℕ, zero, suc, ◌<◌, List, Option}
 use Rattle.sc_core_laws.specs.Agreement.{Meets}
 use Rattle.sc_core_laws.specs.Growth.{Goes}

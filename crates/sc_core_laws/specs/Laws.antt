@@ -1,12 +1,12 @@
 -- Laws of the meaning: of all denotations whose functions are interaction trees, and so of every program.
-use Rattle.sc_core_laws.specs.Common.{Arith, Blamed, Cause, Event, FrameChange, IsPrefix, Here, Denotations, Memory, ProgramTree}
-use Rattle.sc_core_laws.specs.Common.{Reached, Roles, Run, SourceRun, State, Step, Value, c_arith, call_own, deepest, legal}
-use Rattle.sc_core_laws.specs.Common.{denotations_of, meaning, meaning_by, roles_in, run_of, run_step, scripted_by}
-use Rattle.sc_core_laws.specs.Common.{scripted_meaning, scripted_run_of, scripted_step, scripted_wrapped, stopped_at, within}
-use Rattle.sc_core_laws.specs.Common.{wrapped, wrapping}
+use Rattle.sc_core_laws.specs.Common.{Arith, Blamed, Cause, Denotations, Event, FrameChange, Here, IsPrefix, Memory}
+use Rattle.sc_core_laws.specs.Common.{ProgramTree, Reached, Roles, Run, SourceRun, State, Step, Value, c_arith}
+use Rattle.sc_core_laws.specs.Common.{call_own, deepest, denotations_of, legal, meaning, meaning_by, roles_in, run_of}
+use Rattle.sc_core_laws.specs.Common.{run_step, scripted_by, scripted_meaning, scripted_run_of, scripted_step}
+use Rattle.sc_core_laws.specs.Common.{scripted_wrapped, stopped_at, within, wrapped, wrapping}
 use Rattle.std.specs.Prelude.{◌≡◌, ◌⊎◌, ℕ, suc, ◌<◌, ◌≤◌, ◌++◌, true, false, List, length, Option}
-use Rattle.sc_core_laws.specs.Chains.{Set, IsWithin, nobody, Link, IsBlamedOutside, performed, IsChain, IsRising, AreFresh}
-use Rattle.sc_core_laws.specs.Chains.{Includes, PassesBlame}
+use Rattle.sc_core_laws.specs.Chains.{Set, IsWithin, nobody, Link, IsBlamedOutside, performed, IsChain, IsRising}
+use Rattle.sc_core_laws.specs.Chains.{AreFresh, Includes, PassesBlame}
 use Rattle.sc_core_laws.specs.Ends.{IsArithmetic}
 use Rattle.sc_core_laws.specs.Growth.{Gone, last}
 use Rattle.sc_core_laws.specs.InteractionTrees.{DenotationsMatch, Obedient}
@@ -54,7 +54,8 @@ pub record FixedPoint : Type 0 where
 -- WHOLE RUNS
 -- where no compartment performs, the scripted meaning is the meaning
 pub record EmptySetIsMeaning : Type 0 where
-  pub any_denotations : (denotations : Denotations) (globals : Memory) (trace : List Event) (inputs : List ℕ) (turns : ℕ) →
+  pub any_denotations : (denotations : Denotations) (globals : Memory) (trace : List Event) (inputs : List ℕ)
+      (turns : ℕ) →
       roles_run denotations globals inputs turns (roles_in denotations.interfaces.main nobody trace)
       ≡ denotations_run denotations globals inputs turns
   pub meaning : (program : ProgramTree) (trace : List Event) (inputs : List ℕ) (turns events : ℕ) →
@@ -64,7 +65,8 @@ pub record EmptySetIsMeaning : Type 0 where
 
 -- more turns and more events extend a run in which some compartments perform a script
 pub record MoreGoesOn : Type 0 where
-  pub any_denotations : (denotations : Denotations) → Obedient denotations → (globals : Memory) (inputs : List ℕ) (roles : Roles) →
+  pub any_denotations : (denotations : Denotations) → Obedient denotations →
+      (globals : Memory) (inputs : List ℕ) (roles : Roles) →
       ExtendedByMore (λ turns events. stopped_at events (roles_run denotations globals inputs turns roles).behaviour)
   pub programs : (arith : Arith) (program : ProgramTree) (set : Set) (trace : List Event) (inputs : List ℕ) →
       ExtendedByMore (scripted_by arith program set trace inputs)
@@ -96,11 +98,14 @@ pub record WrappedAgrees : Type 0 where
 
 -- what a run emits is allowed by the interfaces, also where compartments perform, whatever their scripts are
 pub record TracesAreLegal : Type 0 where
-  pub any_denotations : (denotations : Denotations) → Obedient denotations → (globals : Memory) (inputs : List ℕ) (turns events : ℕ) →
-      legal denotations.interfaces (stopped_at events (denotations_run denotations globals inputs turns).behaviour).trace ≡ true
+  pub any_denotations : (denotations : Denotations) → Obedient denotations →
+      (globals : Memory) (inputs : List ℕ) (turns events : ℕ) →
+      legal denotations.interfaces (stopped_at events
+      (denotations_run denotations globals inputs turns).behaviour).trace ≡ true
   pub scripts : (denotations : Denotations) → Obedient denotations →
       (globals : Memory) (inputs : List ℕ) (turns events : ℕ) (roles : Roles) →
-      legal denotations.interfaces (stopped_at events (roles_run denotations globals inputs turns roles).behaviour).trace ≡ true
+      legal denotations.interfaces (stopped_at events
+      (roles_run denotations globals inputs turns roles).behaviour).trace ≡ true
   pub meaning : (arith : Arith) (program : ProgramTree) (inputs : List ℕ) (turns events : ℕ) →
       legal program.interfaces (meaning_by arith program inputs turns events).trace ≡ true
   pub scripted : (arith : Arith) (program : ProgramTree) (set : Set) (trace : List Event) (inputs : List ℕ)
@@ -218,13 +223,16 @@ EmitsNoEnd denotations step = (open_calls comp number : ℕ) (args : List Value)
 
 -- so it is of these denotations, and where some compartments perform
 pub record KeepsDepths (denotations : Denotations) : Type 0 where
-  pub emitted : (globals : Memory) (inputs : List ℕ) (turns : ℕ) → ChangesAreWithin (denotations_run denotations globals inputs turns)
+  pub emitted : (globals : Memory) (inputs : List ℕ) (turns : ℕ) →
+      ChangesAreWithin (denotations_run denotations globals inputs turns)
   pub scripted_emitted : (globals : Memory) (inputs : List ℕ) (turns : ℕ) (roles : Roles) →
       ChangesAreWithin (roles_run denotations globals inputs turns roles)
   pub returns : LeavesDepths denotations (run_step denotations)
-  pub scripted_returns : (roles : Roles) → LeavesDepths denotations (scripted_step denotations roles (run_step denotations))
+  pub scripted_returns : (roles : Roles) →
+      LeavesDepths denotations (scripted_step denotations roles (run_step denotations))
   pub no_end : EmitsNoEnd denotations (run_step denotations)
-  pub scripted_no_end : (roles : Roles) → EmitsNoEnd denotations (scripted_step denotations roles (run_step denotations))
+  pub scripted_no_end : (roles : Roles) →
+      EmitsNoEnd denotations (scripted_step denotations roles (run_step denotations))
 
 pub record DepthsAreKept : Type 0 where
   pub any_denotations : (denotations : Denotations) → Obedient denotations → KeepsDepths denotations

@@ -1,5 +1,5 @@
 -- Runs of denotations, whatever their functions are written in.
-use Rattle.sc_core_laws.specs.Common.{Event, Denotations, Memory, Roles, Run, SourceRun, roles_in, run_by, run_step}
+use Rattle.sc_core_laws.specs.Common.{Denotations, Event, Memory, Roles, Run, SourceRun, roles_in, run_by, run_step}
 use Rattle.sc_core_laws.specs.Common.{scripted_step, stopped_at}
 use Rattle.std.specs.Prelude.{ℕ, Bool, List, length}
 
@@ -14,4 +14,5 @@ module _ (denotations : Denotations) (globals : Memory) (inputs : List ℕ) (tur
 
   -- the run in which a set performs its part of a trace, stopped where it has as many events as the trace
   abbrev pub performed_by : List Event → (ℕ → Bool) → SourceRun
-  performed_by trace set = stopped_at (length trace) (roles_run (roles_in denotations.interfaces.main set trace)).behaviour
+  performed_by trace set = stopped_at (length trace)
+      (roles_run (roles_in denotations.interfaces.main set trace)).behaviour

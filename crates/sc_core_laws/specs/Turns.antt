@@ -1,7 +1,7 @@
 -- Runs that are out of turns, and the turns that they had left.
-use Rattle.sc_core_laws.specs.Common.{Arith, Event, Here, Denotations, Memory, Piece, ProgramTree, Roles, State, Stopped}
-use Rattle.sc_core_laws.specs.Common.{TurnsOut, Value, and_then, call_own, first_state, found, function, leads, legal}
-use Rattle.sc_core_laws.specs.Common.{denotations_of, roles_in, run_step, scripted_step, takes, within}
+use Rattle.sc_core_laws.specs.Common.{Arith, Denotations, Event, Here, Memory, Piece, ProgramTree, Roles, State}
+use Rattle.sc_core_laws.specs.Common.{Stopped, TurnsOut, Value, and_then, call_own, denotations_of, first_state, found}
+use Rattle.sc_core_laws.specs.Common.{function, leads, legal, roles_in, run_step, scripted_step, takes, within}
 use Rattle.std.specs.Prelude.{◌≡◌, ℕ, suc, ◌++◌, true, List, [], ◌∷◌, Option, is_some}
 use Rattle.sc_event.specs.declared.row.Entry.TheVariants.{Export, Main}
 use Rattle.sc_core_laws.specs.Chains.{Set}
@@ -17,7 +17,8 @@ IsSpent piece = (s : State) → piece ≡ Stopped TurnsOut s → s.turns ≡ 0
 abbrev pub main_call : Denotations → Memory → List ℕ → ℕ → Piece (Option Value)
 main_call denotations globals inputs turns =
     and_then (found (denotations.entered denotations.interfaces.main Main) (first_state globals inputs turns))
-    (λ number s. call_own denotations (within (run_step denotations) (suc turns)) denotations.interfaces.main number [] s)
+    (λ number s. call_own denotations (within (run_step denotations) (suc turns)) denotations.interfaces.main number []
+    s)
 
 -- where some compartments perform
 abbrev pub scripted_call : Denotations → Roles → Memory → List ℕ → ℕ → Piece (Option Value)
@@ -38,7 +39,8 @@ pub record SpendsTurns (denotations : Denotations) : Type 0 where
       IsSpent (now (run_step denotations) number here s)
   pub runs : (globals : Memory) (inputs : List ℕ) (turns : ℕ) →
       leads denotations denotations.interfaces.main (denotations.entered denotations.interfaces.main Main) ≡ true →
-      (denotations_run denotations globals inputs turns).behaviour.end ≡ TurnsOut → StopsSpent denotations globals inputs turns
+      (denotations_run denotations globals inputs turns).behaviour.end ≡ TurnsOut →
+      StopsSpent denotations globals inputs turns
 
 -- each export leads to a function
 abbrev pub ExportsLead : Denotations → Type 0
@@ -49,7 +51,8 @@ ExportsLead denotations = (to index count : ℕ) → takes denotations.interface
 -- all of it, has no turn left
 abbrev pub SpendsAlong : Denotations → List Event → Type 0
 SpendsAlong denotations trace = (set : Set) (globals : Memory) (inputs : List ℕ) (turns : ℕ) (s : State) →
-    scripted_call denotations (roles_in denotations.interfaces.main set trace) globals inputs turns ≡ Stopped TurnsOut s →
+    scripted_call denotations (roles_in denotations.interfaces.main set trace) globals inputs turns ≡ Stopped TurnsOut
+    s →
     (event : Event) (more : List Event) → trace ≡ s.trace ++ event ∷ more → s.turns ≡ 0
 
 pub record TurnsOutMeansTurns : Type 0 where

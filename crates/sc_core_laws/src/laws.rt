@@ -1,10 +1,10 @@
 // Laws of the meaning, each the contract of a function with nothing to do.
 
-ghost use Rattle.sc_core_laws.specs.Prelude.{AgreeingRunAlike, BlameIsPassed, BlameRemains, BlamedAreThere, ChainExists};
-ghost use Rattle.sc_core_laws.specs.Prelude.{ChainIsLeast, ChainsRise, DeepestIsReached, EmptySetIsMeaning, FixedPoint};
-ghost use Rattle.sc_core_laws.specs.Prelude.{MeaningGoesOn, MoreGoesOn, MoreMayPerform, NobodyWhoPerformsIsBlamed};
-ghost use Rattle.sc_core_laws.specs.Prelude.{OnlyGoesOn, OtherLinesAgree, ProgramsObey, DepthsAreKept, TracesAreLegal};
-ghost use Rattle.sc_core_laws.specs.Prelude.{TurnsOutMeansTurns, WrappedAgrees, WrappingAgrees};
+ghost use Rattle.sc_core_laws.specs.Prelude.{AgreeingRunAlike, BlameIsPassed, BlameRemains, BlamedAreThere};
+ghost use Rattle.sc_core_laws.specs.Prelude.{ChainExists, ChainIsLeast, ChainsRise, DeepestIsReached, DepthsAreKept};
+ghost use Rattle.sc_core_laws.specs.Prelude.{EmptySetIsMeaning, FixedPoint, MeaningGoesOn, MoreGoesOn, MoreMayPerform};
+ghost use Rattle.sc_core_laws.specs.Prelude.{NobodyWhoPerformsIsBlamed, OnlyGoesOn, OtherLinesAgree, ProgramsObey};
+ghost use Rattle.sc_core_laws.specs.Prelude.{TracesAreLegal, TurnsOutMeansTurns, WrappedAgrees, WrappingAgrees};
 
 /// The functions of a program denote interaction trees: what is given or blamed, what the blocks of the compartment
 /// decide, and what comes after new blocks, after a turn and after a call. All laws hold of such denotations.

@@ -6,17 +6,17 @@ use Rattle.sc_emit.proofs.Common.{Sets, ShortForm, Slot, Some, Store, Sw, TacFnT
 use Rattle.sc_emit.proofs.Common.{address_scratch, and_first, and_from, and_rest, arith, at_hand, between}
 use Rattle.sc_emit.proofs.Common.{between_keeps, binary_code, branch_back, branch_reach, branch_step, branches, brought}
 use Rattle.sc_emit.proofs.Common.{bytes_ahead, bytes_of, call_cross, call_own, choice, choosing, closing, code_branches}
-use Rattle.sc_emit.proofs.Common.{code_of, cond, copied, count_by, cycle, each_before, ending_past, prologue}
-use Rattle.sc_emit.proofs.Common.{environment_call, everywhere, false, first_scratch, fold-roll-TacStmt, followed, fork}
-use Rattle.sc_emit.proofs.Common.{fork_keeps, epilogue, frame_taken, function_lines, has_known_jumps, has_no_ebreak}
+use Rattle.sc_emit.proofs.Common.{code_of, cond, copied, count_by, cycle, each_before, ending_past, environment_call}
+use Rattle.sc_emit.proofs.Common.{epilogue, everywhere, false, first_scratch, fold-roll-TacStmt, followed, fork}
+use Rattle.sc_emit.proofs.Common.{fork_keeps, frame_taken, function_lines, has_known_jumps, has_no_ebreak}
 use Rattle.sc_emit.proofs.Common.{if◌then◌else◌, in_order, in_turn, is_branch, is_ebreak, is_known_jump, is_near}
 use Rattle.sc_emit.proofs.Common.{is_short, joined, jump_back, jump_over, keep, kept, length, list_all, list_all-append}
 use Rattle.sc_emit.proofs.Common.{list_all-map, list_all_along, load_from, load_word, loading, loop_begins, map}
 use Rattle.sc_emit.proofs.Common.{map-TacStmt, moved_by, nat_lt, neg_ℤ, not, object_offset, object_read, object_store}
 use Rattle.sc_emit.proofs.Common.{op_code, operand, operation, pass, past, place_of, place_of_global, plain, plainly}
-use Rattle.sc_emit.proofs.Common.{plan_of, pos, put, ra, receive, refl, register_of, result_register, return}
-use Rattle.sc_emit.proofs.Common.{role_to_next, role_first, role_of_load, role_of_operation, role_of_return}
-use Rattle.sc_emit.proofs.Common.{role_of_store, rotated, second_operand, second_scratch, select, select_all}
+use Rattle.sc_emit.proofs.Common.{plan_of, pos, prologue, put, ra, receive, refl, register_of, result_register, return}
+use Rattle.sc_emit.proofs.Common.{role_first, role_of_load, role_of_operation, role_of_return, role_of_store}
+use Rattle.sc_emit.proofs.Common.{role_to_next, rotated, second_operand, second_scratch, select, select_all}
 use Rattle.sc_emit.proofs.Common.{select_step, short_code, short_form, short_operation, short_return, skipping}
 use Rattle.sc_emit.proofs.Common.{slot_offset, sp, stmt_branches, stmt_induction, store_arguments, store_to, store_word}
 use Rattle.sc_emit.proofs.Common.{straight, straightly, sub_word, subst, suc, sum_by-append, sym, take, take_second}

@@ -1,21 +1,21 @@
 -- Calls of functions, of the own compartment and of others.
 use Rattle.sc_emit.proofs.Common.{Activation, Addresses, All, ArePassed, Arrives, CallGives, CallStands, CallTarget}
 use Rattle.sc_emit.proofs.Common.{Calls, CallsFollow, CodeAt, Codes, Comes, ComesBack, Computes, Cross, Does, Ends}
-use Rattle.sc_emit.proofs.Common.{Follows, FrameMatches, FrameTree, ReturnsValue, Goes, HasNoGap, HasNoOtherUse, Instr}
-use Rattle.sc_emit.proofs.Common.{IsActivation, IsBack, IsClear, IsInside, IsSome, IsWellFormed, IsWord, Jal, Jalr}
-use Rattle.sc_emit.proofs.Common.{Joint, Left, Line, List, Lives, Lui, MovesOn, Next, None, Option, Overflows, Own}
-use Rattle.sc_emit.proofs.Common.{Piece, Place, Point, Reached, Ready, Register, Registers, Running, Setting, Slot}
-use Rattle.sc_emit.proofs.Common.{Some, Standpoint, StandsFor, State as Meant, Stopped, Stores, Temps, Trail, Upper}
-use Rattle.sc_emit.proofs.Common.{Value, [], a0, add_word, all_at, and_from, and_then, ap, append_assoc, arith}
-use Rattle.sc_emit.proofs.Common.{arrives_with, assigned_at, assigns_register, assigns_slot, back_at, call_cross}
-use Rattle.sc_emit.proofs.Common.{call_does, call_from, call_own, code_inside, code_step, comes_after, completed}
-use Rattle.sc_emit.proofs.Common.{completed_length, completed_plainly, false, first_scratch, prefix_at, in_row, inl, inr}
+use Rattle.sc_emit.proofs.Common.{Follows, FrameMatches, FrameTree, Goes, HasNoGap, HasNoOtherUse, Instr, IsActivation}
+use Rattle.sc_emit.proofs.Common.{IsBack, IsClear, IsInside, IsSome, IsWellFormed, IsWord, Jal, Jalr, Joint, Left, Line}
+use Rattle.sc_emit.proofs.Common.{List, Lives, Lui, MovesOn, Next, None, Option, Overflows, Own, Piece, Place, Point}
+use Rattle.sc_emit.proofs.Common.{Reached, Ready, Register, Registers, ReturnsValue, Running, Setting, Slot, Some}
+use Rattle.sc_emit.proofs.Common.{Standpoint, StandsFor, State as Meant, Stopped, Stores, Temps, Trail, Upper, Value}
+use Rattle.sc_emit.proofs.Common.{[], a0, add_word, all_at, and_from, and_then, ap, append_assoc, arith, arrives_with}
+use Rattle.sc_emit.proofs.Common.{assigned_at, assigns_register, assigns_slot, back_at, call_cross, call_does}
+use Rattle.sc_emit.proofs.Common.{call_from, call_own, code_inside, code_step, comes_after, completed, completed_length}
+use Rattle.sc_emit.proofs.Common.{completed_plainly, emits_from, emits_less, false, first_scratch, in_row, inl, inr}
 use Rattle.sc_emit.proofs.Common.{is_back, is_one, is_some, jalr_target, leads_none, leave, length, length-append}
 use Rattle.sc_emit.proofs.Common.{list_all, live_across, live_at, live_plain, look_at, low_after, low_append}
 use Rattle.sc_emit.proofs.Common.{low_plainly, lower_part, move, moved, moves, ne_eqb, no_other_use, or_left}
-use Rattle.sc_emit.proofs.Common.{overflows_from, overflows_with, pass, plain_points, plainly, pos, put, put_word, ra}
-use Rattle.sc_emit.proofs.Common.{read_all, receive, received, referring, refl, register_of, register_there, seen_from}
-use Rattle.sc_emit.proofs.Common.{select_step, settled_to, emits_from, emits_less, slice_get, slice_get_within, sp}
+use Rattle.sc_emit.proofs.Common.{overflows_from, overflows_with, pass, plain_points, plainly, pos, prefix_at, put}
+use Rattle.sc_emit.proofs.Common.{put_word, ra, read_all, receive, received, referring, refl, register_of}
+use Rattle.sc_emit.proofs.Common.{register_there, seen_from, select_step, settled_to, slice_get, slice_get_within, sp}
 use Rattle.sc_emit.proofs.Common.{stays, store_word, stores_word, straight, subst, suc, sym, then_from, then_goes}
 use Rattle.sc_emit.proofs.Common.{trail_step, true, unwrap_or, upper, upper_part, wanted, with_temp, word_at, word_of}
 use Rattle.sc_emit.proofs.Common.{word_of-unsigned_sub, wrapping, ℕ, ⊎_elim, ◌%◌, ◌*◌, ◌++◌, ◌+◌, ◌-ℤ◌, ◌/◌, ◌<◌, ◌^◌}
@@ -230,7 +230,8 @@ module _ (T : Setting) (R : Running) (formed : IsWellFormed T.image) (inputs : A
             let at : CodeAt T.image A.here.comp k.y.pc to_place =
             subst (λ pc. CodeAt T.image A.here.comp pc to_place) (sym k.pc) code in
             comes_after T R lives y k.y budget (length to_place + left) ends (onwards v s) ready.settled k.leads
-            (inl (subst (λ s. Arrives T R lives.following k.y (length to_place + left) ends.left (received dest v temps) s
+            (inl (subst (λ s. Arrives T R lives.following k.y (length to_place + left) ends.left (received dest v temps)
+            s
             ends.following) k.meant_is
             (arrives_with T R lives.following k.y (length to_place + left) (length to_place + left) left ends.left
             (received dest v temps) k.y.meant (k.y.pc + 4 * length to_place) ends.following (omega arith)

@@ -7,11 +7,11 @@ use Rattle.sc_emit.proofs.Common.{Return, Running, Set, Setting, Settled, Some, 
 use Rattle.sc_emit.proofs.Common.{State as Meant, Stopped, Temps, Trail, Value, Walks, Word, [], add_word, all_back}
 use Rattle.sc_emit.proofs.Common.{all_prefix, and_first, and_from, and_rest, and_then, ap, arith, arrives_with, at}
 use Rattle.sc_emit.proofs.Common.{back_at, choice, choose, choosing, code_inside, comes_after, comes_read, completed}
-use Rattle.sc_emit.proofs.Common.{ends_of, eq-eqb, eqb-true, false, first_scratch, fork, prefix_at, if◌then◌else◌}
-use Rattle.sc_emit.proofs.Common.{in_order, in_parts, inl, inr, is_empty, is_some, is_true, jump_over, kind_of_fork}
-use Rattle.sc_emit.proofs.Common.{leads_less, leads_none, length, length-append, length-map, live_at, live_before, look}
-use Rattle.sc_emit.proofs.Common.{low_after, low_append, low_plainly, machine, moved, ne_eqb, not, operand, or_left}
-use Rattle.sc_emit.proofs.Common.{or_right, over, past, plain, plainly, plainly_at, point, pos, read, ready_less, refl}
+use Rattle.sc_emit.proofs.Common.{ends_of, eq-eqb, eqb-true, false, first_scratch, fork, if◌then◌else◌, in_order}
+use Rattle.sc_emit.proofs.Common.{in_parts, inl, inr, is_empty, is_some, is_true, jump_over, kind_of_fork, leads_less}
+use Rattle.sc_emit.proofs.Common.{leads_none, length, length-append, length-map, live_at, live_before, look, low_after}
+use Rattle.sc_emit.proofs.Common.{low_append, low_plainly, machine, moved, ne_eqb, not, operand, or_left, or_right}
+use Rattle.sc_emit.proofs.Common.{over, past, plain, plainly, plainly_at, point, pos, prefix_at, read, ready_less, refl}
 use Rattle.sc_emit.proofs.Common.{row, row_points, seen_from, skipping, sp, subst, suc, sym, take, trail_step, true}
 use Rattle.sc_emit.proofs.Common.{word_at, word_of, zero, ℕ, ℤ, ⊎_elim, ◌%◌, ◌&&◌, ◌*◌, ◌++◌, ◌+◌, ◌==◌, ◌∙◌, ◌∷◌, ◌≡◌}
 use Rattle.sc_emit.proofs.Common.{◌≤◌}

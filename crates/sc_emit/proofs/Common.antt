@@ -20,10 +20,10 @@ pub use Rattle.sc_event.specs.declared.row.Entry.TheVariants.{Export, Main}
 pub use Rattle.sc_word.proofs.Words.{word_of-lt, word_of-unsigned_sub}
 pub use Rattle.sc_word.specs.Prelude.{add_word, sub_word, word_of}
 pub use Rattle.sc_core.proofs.Induction.{Each, everywhere}
-pub use Rattle.sc_core.specs.Prelude.{Blocks, Break, Calls, Continue, Exit, IsPrefix, Function, Here, Left, Next, Piece}
-pub use Rattle.sc_core.specs.Prelude.{Reached, Return, State, Stopped, all_do, and_then, at_brace, begun, choose}
-pub use Rattle.sc_core.specs.Prelude.{closed, computed, done, follow, in_loop, is_true, leave, load, rounds, store}
-pub use Rattle.sc_core.specs.Prelude.{stored, total, turn, with_memory, wrapping}
+pub use Rattle.sc_core.specs.Prelude.{Blocks, Break, Calls, Continue, Exit, Function, Here, Left, Next, Piece, Reached}
+pub use Rattle.sc_core.specs.Prelude.{Return, State, Stopped, all_do, and_then, at_brace, begun, choose, closed}
+pub use Rattle.sc_core.specs.Prelude.{computed, done, follow, in_loop, is_true, leave, load, rounds, store, stored}
+pub use Rattle.sc_core.specs.Prelude.{total, turn, with_memory, wrapping}
 pub use Rattle.sc_core.specs.declared.cause.Cause.{Cause}
 pub use Rattle.sc_core.specs.declared.expr.CallTarget.{CallTarget}
 pub use Rattle.sc_core.specs.declared.expr.CallTarget.TheVariants.{Cross, Input, Output, Own}
@@ -43,13 +43,10 @@ pub use Rattle.sc_image.specs.Prelude.{IsWellFormed, IsWord, Traps, Walks, code_
 pub use Rattle.sc_image.specs.Prelude.{jalr_target, refused, stack_size, stack_top, start, start_memory, step, unless}
 unfoldable pub use Rattle.sc_image.specs.Prelude.{are_data, word_at}
 pub use Rattle.sc_image.specs.declared.parts.ImageParts.{ImageParts}
-pub use Rattle.sc_emit_hart.proofs.Fetching.{back_at, prefix_at}
-pub use Rattle.sc_emit_hart.proofs.Inside.{IsInside, code_inside}
-pub use Rattle.sc_emit_hart.specs.Prelude.{Apart, CodeAt, Fetches, Owned, Registers, World, at, look, put_word, word}
 pub use Rattle.sc_tac.proofs.Induction.{Inside, stmt_induction}
 pub use Rattle.sc_tac.specs.Prelude.{Ahead, ArePlaces, Codes, FrameFits, IsAssignment, IsClear, IsFrame, IsFunction}
 pub use Rattle.sc_tac.specs.Prelude.{Lives, Point, Set, Temps, Trail, ahead_at, all_true, branch_step, branches}
-pub use Rattle.sc_tac.specs.Prelude.{call_does, code_does, code_function, code_denotations, code_step, constant_value}
+pub use Rattle.sc_tac.specs.Prelude.{call_does, code_denotations, code_does, code_function, code_step, constant_value}
 pub use Rattle.sc_tac.specs.Prelude.{counts_elements, entry_weight, function_points, gets, has_elements, has_operands}
 pub use Rattle.sc_tac.specs.Prelude.{has_words, interval_of, intervals_of, is_one, is_place, known, live_across}
 pub use Rattle.sc_tac.specs.Prelude.{live_before, names_own_object, names_own_temps, no_temps, nothing_live}
@@ -64,41 +61,46 @@ pub use Rattle.sc_tac.specs.declared.place.Place.TheVariants.{Register, Slot}
 pub use Rattle.sc_tac.specs.declared.stmt.Constant.{Constant}
 pub use Rattle.sc_tac.specs.declared.stmt.TacOp.{TacOp}
 pub use Rattle.sc_tac.specs.declared.stmt.TacStmt.{fold-roll-TacStmt, map-TacStmt, roll-TacStmt}
-pub use Rattle.sc_emit_select.proofs.Joining.{IsRead, IsReturned, IsShort, IsStored, between_keeps, fork_keeps, fork_role}
-pub use Rattle.sc_emit_select.proofs.Joining.{gives_place, is_empty, loads_it, never_applies, none_after, operates_it}
-pub use Rattle.sc_emit_select.proofs.Joining.{operation_role, order_keeps, parts_least, read_is_last, return_is_last}
-pub use Rattle.sc_emit_select.proofs.Joining.{return_of, returns_it, role_unjoined, sets_it, store_is_last, store_role}
-pub use Rattle.sc_emit_select.proofs.Joining.{stores_it, third_is_last, turning_role, which_pair}
+pub use Rattle.sc_emit_select.proofs.Joining.{IsRead, IsReturned, IsShort, IsStored, between_keeps, fork_keeps}
+pub use Rattle.sc_emit_select.proofs.Joining.{fork_role, gives_place, is_empty, loads_it, never_applies, none_after}
+pub use Rattle.sc_emit_select.proofs.Joining.{operates_it, operation_role, order_keeps, parts_least, read_is_last}
+pub use Rattle.sc_emit_select.proofs.Joining.{return_is_last, return_of, returns_it, role_unjoined, sets_it}
+pub use Rattle.sc_emit_select.proofs.Joining.{store_is_last, store_role, stores_it, third_is_last, turning_role}
+pub use Rattle.sc_emit_select.proofs.Joining.{which_pair}
 pub use Rattle.sc_emit_select.proofs.Sizes.{row_is_sized}
-pub use Rattle.sc_emit_select.proofs.Turning.{IsTested, break_stmt, each_before, each_plain, fork_kind, kind_is, kind_of}
-pub use Rattle.sc_emit_select.proofs.Turning.{layer_kind, loop_kind, plain_fork, test_stmt, turning_by}
-pub use Rattle.sc_emit_select.specs.Prelude.{Addresses, Kind, Line, Need, Plan, Strays, a0, a7, address_scratch, all_plain}
-pub use Rattle.sc_emit_select.specs.Prelude.{as_one, at_hand, between, binary_code, branch_back, branch_reach, brought}
-pub use Rattle.sc_emit_select.specs.Prelude.{bytes_ahead, bytes_of, call_cross, call_own, choice, choosing, closing, code_of}
-pub use Rattle.sc_emit_select.specs.Prelude.{completed, copied, cycle, ending_past, ending_test, prologue, environment_call}
-pub use Rattle.sc_emit_select.specs.Prelude.{first_scratch, followed, fork, epilogue, frame_taken, function_lines}
-pub use Rattle.sc_emit_select.specs.Prelude.{in_order, in_turn, is_named, is_near, is_plain, is_short, joined, joins}
-pub use Rattle.sc_emit_select.specs.Prelude.{jump_back, jump_over, keep, kept, kind_of_fork, linked, load_from, load_word}
-pub use Rattle.sc_emit_select.specs.Prelude.{loading, loop_begins, low_after, lower_part, move, moved_by, need, need_step}
-pub use Rattle.sc_emit_select.specs.Prelude.{needs_of, nothing, object_offset, object_read, object_store, op_code, operand}
-pub use Rattle.sc_emit_select.specs.Prelude.{operation, pass, past, place_needed, place_of, place_of_global, plain, plainly}
-pub use Rattle.sc_emit_select.specs.Prelude.{plan_of, put, ra, receive, referring, refers_only, register_of, relocation_of}
-pub use Rattle.sc_emit_select.specs.Prelude.{relocations_from, result_register, return, role_to_next, role_first}
-pub use Rattle.sc_emit_select.specs.Prelude.{role_of_load, role_of_operation, role_of_return, role_of_store, rotated}
-pub use Rattle.sc_emit_select.specs.Prelude.{row_needs, second_operand, second_scratch, select, select_all, select_step}
-pub use Rattle.sc_emit_select.specs.Prelude.{short_code, short_form, short_operation, short_return, skipping, slot_offset}
-pub use Rattle.sc_emit_select.specs.Prelude.{sp, store_arguments, store_to, store_word, straight, straightly, take}
-pub use Rattle.sc_emit_select.specs.Prelude.{take_second, taken, testing, unary_code, upper_part, word_of_constant}
+pub use Rattle.sc_emit_select.proofs.Turning.{IsTested, break_stmt, each_before, each_plain, fork_kind, kind_is}
+pub use Rattle.sc_emit_select.proofs.Turning.{kind_of, layer_kind, loop_kind, plain_fork, test_stmt, turning_by}
+pub use Rattle.sc_emit_select.specs.Prelude.{Addresses, Kind, Line, Need, Plan, Strays, a0, a7, address_scratch}
+pub use Rattle.sc_emit_select.specs.Prelude.{all_plain, as_one, at_hand, between, binary_code, branch_back}
+pub use Rattle.sc_emit_select.specs.Prelude.{branch_reach, brought, bytes_ahead, bytes_of, call_cross, call_own, choice}
+pub use Rattle.sc_emit_select.specs.Prelude.{choosing, closing, code_of, completed, copied, cycle, ending_past}
+pub use Rattle.sc_emit_select.specs.Prelude.{ending_test, environment_call, epilogue, first_scratch, followed, fork}
+pub use Rattle.sc_emit_select.specs.Prelude.{frame_taken, function_lines, in_order, in_turn, is_named, is_near}
+pub use Rattle.sc_emit_select.specs.Prelude.{is_plain, is_short, joined, joins, jump_back, jump_over, keep, kept}
+pub use Rattle.sc_emit_select.specs.Prelude.{kind_of_fork, linked, load_from, load_word, loading, loop_begins}
+pub use Rattle.sc_emit_select.specs.Prelude.{low_after, lower_part, move, moved_by, need, need_step, needs_of, nothing}
+pub use Rattle.sc_emit_select.specs.Prelude.{object_offset, object_read, object_store, op_code, operand, operation}
+pub use Rattle.sc_emit_select.specs.Prelude.{pass, past, place_needed, place_of, place_of_global, plain, plainly}
+pub use Rattle.sc_emit_select.specs.Prelude.{plan_of, prologue, put, ra, receive, referring, refers_only, register_of}
+pub use Rattle.sc_emit_select.specs.Prelude.{relocation_of, relocations_from, result_register, return, role_first}
+pub use Rattle.sc_emit_select.specs.Prelude.{role_of_load, role_of_operation, role_of_return, role_of_store}
+pub use Rattle.sc_emit_select.specs.Prelude.{role_to_next, rotated, row_needs, second_operand, second_scratch, select}
+pub use Rattle.sc_emit_select.specs.Prelude.{select_all, select_step, short_code, short_form, short_operation}
+pub use Rattle.sc_emit_select.specs.Prelude.{short_return, skipping, slot_offset, sp, store_arguments, store_to}
+pub use Rattle.sc_emit_select.specs.Prelude.{store_word, straight, straightly, take, take_second, taken, testing}
+pub use Rattle.sc_emit_select.specs.Prelude.{unary_code, upper_part, word_of_constant}
 pub use Rattle.sc_emit_select.specs.declared.operators.ShortForm.{ShortForm}
 pub use Rattle.sc_emit_select.specs.declared.roles.Role.{Role}
 pub use Rattle.sc_emit_select.specs.declared.roles.Role.TheVariants.{Applies, Loads, Operates, Other, Places, Sets}
+pub use Rattle.sc_emit_hart.proofs.Fetching.{back_at, prefix_at}
 pub use Rattle.sc_emit_hart.proofs.Frames.{leaves_frame, overflows, takes_frame}
+pub use Rattle.sc_emit_hart.proofs.Inside.{IsInside, code_inside}
 pub use Rattle.sc_emit_hart.proofs.Loading.{loads_long, loads_number, moves, moves_on}
 pub use Rattle.sc_emit_hart.proofs.NearSp.{loads_word, stores_word}
 pub use Rattle.sc_emit_hart.proofs.Rows.{computes, in_row, look_at, looked, upper, with_number}
-pub use Rattle.sc_emit_hart.specs.Frames.{FrameOverflows, LeavesFrame, TakesFrame, epilogue_to_jump}
-pub use Rattle.sc_emit_hart.specs.Operators.{AreOperands, op_word}
-pub use Rattle.sc_emit_hart.specs.Pieces.{Besides, Computes, Does, IsFromSp, IsWritable, Stores}
+pub use Rattle.sc_emit_hart.specs.Prelude.{Apart, AreOperands, Besides, CodeAt, Computes, Does, Fetches, FrameOverflows}
+pub use Rattle.sc_emit_hart.specs.Prelude.{IsFromSp, IsWritable, LeavesFrame, Owned, Registers, Stores, TakesFrame}
+pub use Rattle.sc_emit_hart.specs.Prelude.{World, at, epilogue_to_jump, look, op_word, put_word, word}
 pub use Rattle.sc_emit_relation.proofs.Calling.{Enters, activated, entered, is_activation, ready_entered}
 pub use Rattle.sc_emit_relation.proofs.Clear.{all_back, all_prefix}
 pub use Rattle.sc_emit_relation.proofs.Following.{IsBack, back_with, comes_computed, comes_read, is_back}
@@ -113,19 +115,19 @@ pub use Rattle.sc_emit_relation.proofs.Rotated.{ArrivesLate, HeadComes, HeadFoll
 pub use Rattle.sc_emit_relation.proofs.Rounds.{ready_less}
 pub use Rattle.sc_emit_relation.proofs.Settling.{leads_moved, moved, settled_moved}
 pub use Rattle.sc_emit_relation.proofs.Straight.{IsLoaded, MovesOn, across_live, asked, assigned, assigned_at}
-pub use Rattle.sc_emit_relation.proofs.Straight.{assigns_register, assigns_slot, call_from, live_plain, loads, may_store}
-pub use Rattle.sc_emit_relation.proofs.Straight.{overflows_from, settled_to, emits_from, stores}
-pub use Rattle.sc_emit_relation.proofs.Stretches.{arrives_with, comes_after, effect_still, leads_less, leads_none}
-pub use Rattle.sc_emit_relation.proofs.Stretches.{leads_then, leads_then_steps, overflows_then, overflows_with, returns_with}
-pub use Rattle.sc_emit_relation.proofs.Stretches.{emits_after, emits_here, emits_less}
+pub use Rattle.sc_emit_relation.proofs.Straight.{assigns_register, assigns_slot, call_from, emits_from, live_plain}
+pub use Rattle.sc_emit_relation.proofs.Straight.{loads, may_store, overflows_from, settled_to, stores}
+pub use Rattle.sc_emit_relation.proofs.Stretches.{arrives_with, comes_after, effect_still, emits_after, emits_here}
+pub use Rattle.sc_emit_relation.proofs.Stretches.{emits_less, leads_less, leads_none, leads_then, leads_then_steps}
+pub use Rattle.sc_emit_relation.proofs.Stretches.{overflows_then, overflows_with, returns_with}
 pub use Rattle.sc_emit_relation.proofs.Wanted.{wanted_less}
-pub use Rattle.sc_emit_relation.specs.Prelude.{Activation, AreInPlace, ArePassed, Arrives, Begins, CallGives, CallStands}
-pub use Rattle.sc_emit_relation.specs.Prelude.{CallsFollow, Comes, ComesBack, Ends, ExitGives, Follows, FrameMatches}
-pub use Rattle.sc_emit_relation.specs.Prelude.{FunctionFollows, FunctionGives, ReturnsValue, Gives, GivesValue, InPlace}
-pub use Rattle.sc_emit_relation.specs.Prelude.{IsActivation, IsAddress, IsInPlace, IsSound, Joint, Leads, Overflows, Ready}
-pub use Rattle.sc_emit_relation.specs.Prelude.{Returns, Running, Setting, Settled, Emits, Standpoint, StandsAt, StandsFor}
-pub use Rattle.sc_emit_relation.specs.Prelude.{Starts, ends_of, live_at, machine, of_environment, row, runs_with, seen_from}
-pub use Rattle.sc_emit_relation.specs.Prelude.{wanted}
+pub use Rattle.sc_emit_relation.specs.Prelude.{Activation, AreInPlace, ArePassed, Arrives, Begins, CallGives}
+pub use Rattle.sc_emit_relation.specs.Prelude.{CallStands, CallsFollow, Comes, ComesBack, Emits, Ends, ExitGives}
+pub use Rattle.sc_emit_relation.specs.Prelude.{Follows, FrameMatches, FunctionFollows, FunctionGives, Gives, GivesValue}
+pub use Rattle.sc_emit_relation.specs.Prelude.{InPlace, IsActivation, IsAddress, IsInPlace, IsSound, Joint, Leads}
+pub use Rattle.sc_emit_relation.specs.Prelude.{Overflows, Ready, Returns, ReturnsValue, Running, Setting, Settled}
+pub use Rattle.sc_emit_relation.specs.Prelude.{Standpoint, StandsAt, StandsFor, Starts, ends_of, live_at, machine}
+pub use Rattle.sc_emit_relation.specs.Prelude.{of_environment, row, runs_with, seen_from, wanted}
 pub use Rattle.sc_emit.specs.Common.{CodeTree, Instr, TacStmt, TacStmt-F, fold-TacStmt}
 pub use Rattle.sc_emit.specs.Prelude.{AreReached, IsEmitted, IsPlaced, calls_only, code_back_edges, code_branches}
 pub use Rattle.sc_emit.specs.Prelude.{has_known_jumps, has_no_ebreak, is_backward, is_branch, is_call, is_ebreak}

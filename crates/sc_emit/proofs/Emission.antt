@@ -1,15 +1,16 @@
 -- The code that is selected keeps what code keeps.
-use Rattle.sc_emit.proofs.Common.{Activation, ArePlaces, AreReached, Bool, CodeAt, CodeTree, Err, Follows, FrameTree}
-use Rattle.sc_emit.proofs.Common.{IsPrefix, FunctionFollows, FrameFits, IfOk, Instr, IsAssignment, IsEmitted, IsFrame}
-use Rattle.sc_emit.proofs.Common.{IsFunction, IsPlaced, Line, List, Ok, Place, Register, Result, Running, Setting, Slot}
-use Rattle.sc_emit.proofs.Common.{Some, TacFnTree, [], and_parts, ap, append_assoc, arith, branch_reach, calls_only}
-use Rattle.sc_emit.proofs.Common.{closing, code_does, code_function, code_of, prologue, entry_weight, frame_taken}
-use Rattle.sc_emit.proofs.Common.{function_lines, function_points, interval_of, intervals_of, is_near, is_place, length}
-use Rattle.sc_emit.proofs.Common.{length-append, length-map, list_all, ltb-true, map, map-append, max, names_own_temps}
-use Rattle.sc_emit.proofs.Common.{nat_lt, needs_of, plainly, plan_of, range_with_len, refl, register_count, row}
+use Rattle.sc_emit.proofs.Common.{Activation, ArePlaces, AreReached, Bool, CodeAt, CodeTree, Err, Follows, FrameFits}
+use Rattle.sc_emit.proofs.Common.{FrameTree, FunctionFollows, IfOk, Instr, IsAssignment, IsEmitted, IsFrame, IsFunction}
+use Rattle.sc_emit.proofs.Common.{IsPlaced, Line, List, Ok, Place, Register, Result, Running, Setting, Slot, Some}
+use Rattle.sc_emit.proofs.Common.{TacFnTree, [], and_parts, ap, append_assoc, arith, branch_reach, calls_only, closing}
+use Rattle.sc_emit.proofs.Common.{code_does, code_function, code_of, entry_weight, frame_taken, function_lines}
+use Rattle.sc_emit.proofs.Common.{function_points, interval_of, intervals_of, is_near, is_place, length, length-append}
+use Rattle.sc_emit.proofs.Common.{length-map, list_all, ltb-true, map, map-append, max, names_own_temps, nat_lt}
+use Rattle.sc_emit.proofs.Common.{needs_of, plainly, plan_of, prologue, range_with_len, refl, register_count, row}
 use Rattle.sc_emit.proofs.Common.{row_is_sized, same_Some, select_all, slice_get, slice_get-get_or, slots_of}
 use Rattle.sc_emit.proofs.Common.{slots_up_to, store_arguments, subst, suc, sym, trail, true, weight, wrapping, zero, ℕ}
 use Rattle.sc_emit.proofs.Common.{◌++◌, ◌+◌, ◌<◌, ◌∙◌, ◌∷◌, ◌≡◌, ◌≤◌}
+use Rattle.sc_base.specs.Prelude.{IsPrefix}
 use Rattle.sc_tac.specs.Prelude.{everywhere}
 use Rattle.sc_emit.proofs.Needed.{all_among}
 use Rattle.std.proofs.lemmas.List.FromFn.{length-range_with_len}
@@ -125,7 +126,8 @@ module _ (f : TacFnTree) (places : List Place) (frame : FrameTree) (rules : IsFu
 
     follows : FunctionFollows T comp address (length code.instrs) f.params (code_function wrapping f)
     follows =
-        code_follows T f frame places near is.image is.inputs rules whole frame_fits small assigned is.words comp address
+        code_follows T f frame places near is.image is.inputs rules whole frame_fits small assigned is.words comp
+        address
         (length code.instrs)
         (subst (CodeAt T.image comp address) (linked_is (T.addresses comp) address lines) is.stands) (omega (
           arith,

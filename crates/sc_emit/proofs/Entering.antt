@@ -1,18 +1,18 @@
 -- The code of the prologue: the frame is taken and arguments go into their variables, or the machine stands trapped
 -- where the frame goes below the data.
-use Rattle.sc_emit.proofs.Common.{All, Apart, Begins, CodeAt, Computes, Does, Enters, Fetches, FrameOverflows}
-use Rattle.sc_emit.proofs.Common.{FrameTree, Function, Grown, FrameFits, ImageParts, Instr, IsFrame, IsFromSp}
+use Rattle.sc_emit.proofs.Common.{All, Apart, Begins, CodeAt, Computes, Does, Enters, Fetches, FrameFits}
+use Rattle.sc_emit.proofs.Common.{FrameOverflows, FrameTree, Function, Grown, ImageParts, Instr, IsFrame, IsFromSp}
 use Rattle.sc_emit.proofs.Common.{IsWellFormed, IsWord, Joint, List, Memory as Bytes, Option, Overflows, Piece, Place}
 use Rattle.sc_emit.proofs.Common.{Registers, Setting, Some, Standpoint, Store, Stores, Sw, TakesFrame, Traps, Value}
 use Rattle.sc_emit.proofs.Common.{Walks, World, [], a0, add_word, all_at, ap, are_data, arith, at, back_at, begun}
-use Rattle.sc_emit.proofs.Common.{cases_eq, cases_lt, computes, data_start, prologue, eq-eqb, false, frame_taken}
-use Rattle.sc_emit.proofs.Common.{prefix_at, globals_of, in_row, inl, inr, is_there, last, le-leb, le-ltb, length}
-use Rattle.sc_emit.proofs.Common.{length-append, look_at, moved_by, moves_on, nat_le, nat_lt, object_inside}
-use Rattle.sc_emit.proofs.Common.{object_there, objects_apart, overflows, overflows_entering, own_beside, own_inside}
-use Rattle.sc_emit.proofs.Common.{pos, put_word, ra, refl, refused, same_Some, slice_get, sp, stack_size, stack_top}
-use Rattle.sc_emit.proofs.Common.{step, store_arguments, store_word, stores_word, sub_word, subst, suc, sym}
-use Rattle.sc_emit.proofs.Common.{takes_frame, true, unless, unwrap_or, word, word_of-lt, word_of-unsigned_sub, zero, ℕ}
-use Rattle.sc_emit.proofs.Common.{⊎_elim, ◌%◌, ◌*◌, ◌++◌, ◌+◌, ◌-◌, ◌<◌, ◌^◌, ◌∙◌, ◌∷◌, ◌≡◌, ◌≢◌, ◌≤◌, ◌⊎◌}
+use Rattle.sc_emit.proofs.Common.{cases_eq, cases_lt, computes, data_start, eq-eqb, false, frame_taken, globals_of}
+use Rattle.sc_emit.proofs.Common.{in_row, inl, inr, is_there, last, le-leb, le-ltb, length, length-append, look_at}
+use Rattle.sc_emit.proofs.Common.{moved_by, moves_on, nat_le, nat_lt, object_inside, object_there, objects_apart}
+use Rattle.sc_emit.proofs.Common.{overflows, overflows_entering, own_beside, own_inside, pos, prefix_at, prologue}
+use Rattle.sc_emit.proofs.Common.{put_word, ra, refl, refused, same_Some, slice_get, sp, stack_size, stack_top, step}
+use Rattle.sc_emit.proofs.Common.{store_arguments, store_word, stores_word, sub_word, subst, suc, sym, takes_frame}
+use Rattle.sc_emit.proofs.Common.{true, unless, unwrap_or, word, word_of-lt, word_of-unsigned_sub, zero, ℕ, ⊎_elim, ◌%◌}
+use Rattle.sc_emit.proofs.Common.{◌*◌, ◌++◌, ◌+◌, ◌-◌, ◌<◌, ◌^◌, ◌∙◌, ◌∷◌, ◌≡◌, ◌≢◌, ◌≤◌, ◌⊎◌}
 use Rattle.sc_store.specs.Prelude.{stored}
 use Rattle.sc_image.specs.Prelude.{Goes}
 use Rattle.sc_base.specs.declared.stop.TrapReason.TheVariants.{Owner}
@@ -23,7 +23,8 @@ use Rattle.sc_emit_hart.proofs.Words.{word_same, word_apart}
 -- Arguments, each into its variable.
 
 module _ (image : ImageParts) (inputs : List ℕ) (world : World) (cells : List ℕ) (places : List Place) (nodes low : ℕ)
-    (frame : FrameTree) (whole : IsFrame frame) (frame_fits : FrameFits cells places nodes frame) (aligned : low % 4 ≡ 0)
+    (frame : FrameTree) (whole : IsFrame frame) (frame_fits : FrameFits cells places nodes frame)
+    (aligned : low % 4 ≡ 0)
     (start : data_start world.active ≤ low) (high : low + frame.bytes ≤ stack_top world.active)
     (known : world.active < 32) where
   -- a word meets none of `count` variables from `from` on
@@ -130,7 +131,8 @@ module _ (image : ImageParts) (inputs : List ℕ) (world : World) (cells : List 
             (omega (arith, below, within)) v.object f) ∙
             word_same bytes (low + v.offset) (regs (a0 + from)) small ∙ ap (λ o. regs (a0 + o)) (sym same))
 
-        following : (o offset : ℕ) → o ≢ from → from ≤ o → o < from + suc count → slice_get frame.objects o ≡ Some offset →
+        following : (o offset : ℕ) → o ≢ from → from ≤ o → o < from + suc count →
+            slice_get frame.objects o ≡ Some offset →
             word rest.later (low + offset) ≡ regs (a0 + o)
         following o offset other above below e =
             rest.stored o offset (omega (arith, above, other)) (omega (arith, below)) e ∙
@@ -248,7 +250,8 @@ module _ (T : Setting) (formed : IsWellFormed T.image) (inputs : All IsWord T.in
       (prefix_at T.image P.comp x.pc (frame_taken frame.bytes) (store_arguments frame places params 0) code)
       (omega (arith, begins.sp, low)) in
       overflows_entering T formed inputs P f args address ra_is x begins frame o.steps budget
-      (at o.following o.after x.bytes world) piece roomy low o.walks o.traps refl refl (omega (arith, o.few, enough)) grown
+      (at o.following o.after x.bytes world) piece roomy low o.walks o.traps refl refl (omega (arith, o.few, enough))
+      grown
 
   module _ (low : ℕ) (bound_is : P.bound ≡ low + frame.bytes) (start : data_start P.comp ≤ low)
       (long : length args ≡ params) (few : params ≤ 8) (there : params ≤ length f.cells)

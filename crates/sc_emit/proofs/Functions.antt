@@ -1,22 +1,22 @@
 -- The code of a function follows the function, where the code of its body follows what its statements do.
 use Rattle.sc_emit.proofs.Common.{Activation, All, Arrives, Begins, Bool, Break, Calls, CallsFollow, CodeAt, Comes}
-use Rattle.sc_emit.proofs.Common.{Continue, Ends, Entry, Exit, ExitGives, Export, Follows, FrameTree, Function}
-use Rattle.sc_emit.proofs.Common.{FunctionFollows, FunctionGives, FunctionGoes, Gives, Goes, Grown, HasNoGap, FrameFits}
+use Rattle.sc_emit.proofs.Common.{Continue, Emits, Ends, Entry, Exit, ExitGives, Export, Follows, FrameFits, FrameTree}
+use Rattle.sc_emit.proofs.Common.{Function, FunctionFollows, FunctionGives, FunctionGoes, Gives, Goes, Grown, HasNoGap}
 use Rattle.sc_emit.proofs.Common.{Here, InParts, Instr, IsActivation, IsAssignment, IsFrame, IsFunction, IsTrue}
 use Rattle.sc_emit.proofs.Common.{IsWellFormed, IsWord, Joint, Left, Line, List, Main, Next, None, Option, Overflows}
-use Rattle.sc_emit.proofs.Common.{Piece, Place, Reached, Ready, Return, Returns, Running, Setting, Settled, Emits, Some}
+use Rattle.sc_emit.proofs.Common.{Piece, Place, Reached, Ready, Return, Returns, Running, Setting, Settled, Some}
 use Rattle.sc_emit.proofs.Common.{Standpoint, Starts, State as Meant, Stopped, TacFnTree, Temps, Value, Word, []}
 use Rattle.sc_emit.proofs.Common.{activated, and_parts, and_then, ap, append_assoc, arith, arrives_with, at_brace}
-use Rattle.sc_emit.proofs.Common.{begun, cases_lt, closed, closing, code_does, code_function, code_denotations, completed}
-use Rattle.sc_emit.proofs.Common.{completed_length, data_start, done, done_goes, ends_of, entered, prologue, eqb-true}
-use Rattle.sc_emit.proofs.Common.{false, frame_taken, function_follows, function_lines, in_parts, inl, inr}
-use Rattle.sc_emit.proofs.Common.{intervals_of, is_activation, last as final, leads_then, length, length-append}
-use Rattle.sc_emit.proofs.Common.{length-map, list_all, live_at, low_plainly, map, no_temps, nothing_live}
-use Rattle.sc_emit.proofs.Common.{overflows_then, passes_words, plain, plainly, plainly_at, plan_of, reached}
-use Rattle.sc_emit.proofs.Common.{ready_entered, refl, returns_with, row, runs_with, same, same_Some, same_entry}
-use Rattle.sc_emit.proofs.Common.{seen_from, select_all, emits_after, emits_here, slice_get, stays, store_arguments}
-use Rattle.sc_emit.proofs.Common.{subst, suc, sym, then_goes, trail, true, word_at, wrapping, zero, ℕ, ⊎_elim, ◌*◌}
-use Rattle.sc_emit.proofs.Common.{◌++◌, ◌+◌, ◌-◌, ◌<◌, ◌==◌, ◌∙◌, ◌∷◌, ◌≡◌, ◌≤◌, ◌⊎◌}
+use Rattle.sc_emit.proofs.Common.{begun, cases_lt, closed, closing, code_denotations, code_does, code_function}
+use Rattle.sc_emit.proofs.Common.{completed, completed_length, data_start, done, done_goes, emits_after, emits_here}
+use Rattle.sc_emit.proofs.Common.{ends_of, entered, eqb-true, false, frame_taken, function_follows, function_lines}
+use Rattle.sc_emit.proofs.Common.{in_parts, inl, inr, intervals_of, is_activation, last as final, leads_then, length}
+use Rattle.sc_emit.proofs.Common.{length-append, length-map, list_all, live_at, low_plainly, map, no_temps}
+use Rattle.sc_emit.proofs.Common.{nothing_live, overflows_then, passes_words, plain, plainly, plainly_at, plan_of}
+use Rattle.sc_emit.proofs.Common.{prologue, reached, ready_entered, refl, returns_with, row, runs_with, same, same_Some}
+use Rattle.sc_emit.proofs.Common.{same_entry, seen_from, select_all, slice_get, stays, store_arguments, subst, suc, sym}
+use Rattle.sc_emit.proofs.Common.{then_goes, trail, true, word_at, wrapping, zero, ℕ, ⊎_elim, ◌*◌, ◌++◌, ◌+◌, ◌-◌, ◌<◌}
+use Rattle.sc_emit.proofs.Common.{◌==◌, ◌∙◌, ◌∷◌, ◌≡◌, ◌≤◌, ◌⊎◌}
 use Rattle.sc_tac.specs.Prelude.{nothing}
 use Rattle.sc_emit_select.specs.Prelude.{Piece as Code}
 use Rattle.std.proofs.Common.{take}
@@ -141,7 +141,8 @@ function_goes f =
       interfaces = record { comps = []; main = 0 };
       sections = record { structs = []; globals = []; functions = f ∷ [] } ∷ [];
     } in
-    denotations_go (code_denotations wrapping alone) (code_obeys.itself wrapping alone) 0 0 (code_function wrapping f) refl
+    denotations_go (code_denotations wrapping alone) (code_obeys.itself wrapping alone) 0 0 (code_function wrapping f)
+    refl
 
 module _ (T : Setting) (f : TacFnTree) (frame : FrameTree) (places : List Place) (near : Bool) where
   abbrev pub in_call : Activation → (last : ℕ) → Running
@@ -228,9 +229,11 @@ module _ (T : Setting) (f : TacFnTree) (frame : FrameTree) (places : List Place)
       abbrev timed : Piece (Option Value)
       timed = runs_with T calls P.comp function args x.meant
 
-      at_start : InParts (T.addresses P.comp) T.image P.comp x.pc (plainly prologue_code) (body.lines 0 0 ++ plainly epilogue_code)
+      at_start : InParts (T.addresses P.comp) T.image P.comp x.pc (plainly prologue_code)
+          (body.lines 0 0 ++ plainly epilogue_code)
       at_start =
-          in_parts (T.addresses P.comp) T.image P.comp x.pc (plainly prologue_code) (body.lines 0 0 ++ plainly epilogue_code)
+          in_parts (T.addresses P.comp) T.image P.comp x.pc (plainly prologue_code)
+          (body.lines 0 0 ++ plainly epilogue_code)
           (low_plainly (T.addresses P.comp) prologue_code)
           (subst (λ ls. CodeAt T.image P.comp x.pc (completed (T.addresses P.comp) x.pc None ls)) in_order code)
 
@@ -272,11 +275,13 @@ module _ (T : Setting) (f : TacFnTree) (frame : FrameTree) (places : List Place)
       module _ (runs : BodyFollows P.comp) (way : BraceReturns P.comp) (low : ℕ)
           (bound_is : P.bound ≡ low + frame.bytes) (start : data_start P.comp ≤ low) where
         entering : HasEntered T formed inputs P function args address ra_is x begins frame places f.nodes f.params whole
-            frame_fits frame_fits.bounded entrance_at low bound_is start long (omega (arith, rules.few_params)) rules.params_stored
+            frame_fits frame_fits.bounded entrance_at low bound_is start long (omega (arith, rules.few_params))
+            rules.params_stored
             (λ o n less e. variables_some f.params o n refl less e)
         entering =
             has_entered T formed inputs P function args address ra_is x begins frame places f.nodes f.params whole
-            frame_fits frame_fits.bounded entrance_at low bound_is start long (omega (arith, rules.few_params)) rules.params_stored
+            frame_fits frame_fits.bounded entrance_at low bound_is start long (omega (arith, rules.few_params))
+            rules.params_stored
             (λ o n less e. variables_some f.params o n refl less e)
 
         abbrev A : Activation
@@ -293,7 +298,8 @@ module _ (T : Setting) (f : TacFnTree) (frame : FrameTree) (places : List Place)
 
         run : IsRun P.comp A
         run = record {
-          is = is_activation T formed inputs P function args address ra_is x begins frame places f.nodes low whole frame_fits
+          is = is_activation T formed inputs P function args address ra_is x begins frame places f.nodes low whole
+              frame_fits
               frame_fits.bounded bound_is start;
           frame_is = refl;
           comp_is = refl;
@@ -302,7 +308,8 @@ module _ (T : Setting) (f : TacFnTree) (frame : FrameTree) (places : List Place)
         F : Follows T R (code_does wrapping here calls f.body) body (row (map trail f.body))
         F = runs calls follow A end run (no_gap T R end_word.0 end_word.1)
 
-        in_back : InParts (T.addresses P.comp) T.image P.comp (x.pc + 4 * steps) (body.lines 0 0) (plainly epilogue_code)
+        in_back : InParts (T.addresses P.comp) T.image P.comp (x.pc + 4 * steps) (body.lines 0 0)
+            (plainly epilogue_code)
         in_back =
             in_parts (T.addresses P.comp) T.image P.comp (x.pc + 4 * steps) (body.lines 0 0) (plainly epilogue_code)
             (F.closed 0 0) after_at
@@ -319,7 +326,8 @@ module _ (T : Setting) (f : TacFnTree) (frame : FrameTree) (places : List Place)
         starts : Starts T R body (row (map trail f.body)) nothing_live no_temps y 0 0
         starts = record {
           ready = ready_entered T formed inputs P function args address ra_is x begins frame places f.nodes low whole
-              frame_fits frame_fits.bounded bound_is start steps (x.pc + 4 * steps) entering.regs entering.bytes entering.enters
+              frame_fits frame_fits.bounded bound_is start steps (x.pc + 4 * steps) entering.regs entering.bytes
+              entering.enters
               (λ o n less e. variables_some (length args) o n long less e) (plan_of f near) end
               (live_at (row (map trail f.body)) nothing_live);
           clear = places_are_clear f places rules assigned;
@@ -357,7 +365,8 @@ module _ (T : Setting) (f : TacFnTree) (frame : FrameTree) (places : List Place)
         high_enough =
             let all : steps + (body.size + left) ≡ budget = omega (arith, all_lines, F.sized 0 0, enough) in
             subst (λ n. FunctionGives T P x n ra_is timed ⊎ Overflows T P x n timed) all
-            (function_follows T formed inputs P function args address ra_is x begins frame places f.nodes low whole frame_fits
+            (function_follows T formed inputs P function args address ra_is x begins frame places f.nodes low whole
+            frame_fits
             frame_fits.bounded bound_is start steps (x.pc + 4 * steps) entering.regs entering.bytes entering.enters
             (λ o n less e. variables_some (length args) o n long less e) end (plan_of f near) (body.size + left) value
             closes)

@@ -7,17 +7,17 @@ use Rattle.sc_emit.proofs.Common.{Inside, Instr, IsActivation, IsClear, IsInside
 use Rattle.sc_emit.proofs.Common.{Leads, Left, Line, List, Lives, Next, None, Ok, Option, Output, Overflows, Own, Piece}
 use Rattle.sc_emit.proofs.Common.{Place, Plan, Reached, Ready, Registers, Result, Return, Running, Set, Setting, Some}
 use Rattle.sc_emit.proofs.Common.{Standpoint, Starts, State as Meant, Stopped, TacStmt, TacStmt-F, Temps, Trail, Value}
-use Rattle.sc_emit.proofs.Common.{Walks, [], add_word, ahead_at, all_do, all_prefix, all_plain, and_parts, and_then, ap}
+use Rattle.sc_emit.proofs.Common.{Walks, [], add_word, ahead_at, all_do, all_plain, all_prefix, and_parts, and_then, ap}
 use Rattle.sc_emit.proofs.Common.{append_assoc, ap₂, arith, back_to, branch_back, branch_reach, call_does, choose}
-use Rattle.sc_emit.proofs.Common.{code_inside, code_step, completed, computed, each_plain, effect_still, ends_of}
-use Rattle.sc_emit.proofs.Common.{eq-eqb, false, first_scratch, fold-roll-TacStmt, follow as then_follow, follow_goes}
-use Rattle.sc_emit.proofs.Common.{fork_kind, gets, if◌then◌else◌, in_loop, in_parts, inl, inr, is_plain, is_true}
-use Rattle.sc_emit.proofs.Common.{jump_back, kind_is, kind_of, known as is_known, layer_kind, leads_then}
-use Rattle.sc_emit.proofs.Common.{leads_then_steps, leave, length, length-map, live_before, load, loop_kind}
-use Rattle.sc_emit.proofs.Common.{low_plainly, lt-ltb, machine, map, map-TacStmt, map-append, moved, neg_ℤ, operand}
-use Rattle.sc_emit.proofs.Common.{operated, or_left, or_right, overflows_with, plain, plain_fork, plainly, plainly_at}
-use Rattle.sc_emit.proofs.Common.{pos, read, read_all, readings, ready_less, received, refl, roll-TacStmt, rounds, row}
-use Rattle.sc_emit.proofs.Common.{row_first, row_points, second, seen_from, select, emits_after, emits_here, stays}
+use Rattle.sc_emit.proofs.Common.{code_inside, code_step, completed, computed, each_plain, effect_still, emits_after}
+use Rattle.sc_emit.proofs.Common.{emits_here, ends_of, eq-eqb, false, first_scratch, fold-roll-TacStmt}
+use Rattle.sc_emit.proofs.Common.{follow as then_follow, follow_goes, fork_kind, gets, if◌then◌else◌, in_loop, in_parts}
+use Rattle.sc_emit.proofs.Common.{inl, inr, is_plain, is_true, jump_back, kind_is, kind_of, known as is_known}
+use Rattle.sc_emit.proofs.Common.{layer_kind, leads_then, leads_then_steps, leave, length, length-map, live_before}
+use Rattle.sc_emit.proofs.Common.{load, loop_kind, low_plainly, lt-ltb, machine, map, map-TacStmt, map-append, moved}
+use Rattle.sc_emit.proofs.Common.{neg_ℤ, operand, operated, or_left, or_right, overflows_with, plain, plain_fork}
+use Rattle.sc_emit.proofs.Common.{plainly, plainly_at, pos, read, read_all, readings, ready_less, received, refl}
+use Rattle.sc_emit.proofs.Common.{roll-TacStmt, rounds, row, row_first, row_points, second, seen_from, select, stays}
 use Rattle.sc_emit.proofs.Common.{stmt_does, stmt_induction, store, stored, subst, suc, sym, take, test_stmt, testing}
 use Rattle.sc_emit.proofs.Common.{then_from, trail, trail_step, true, turn, with_memory, with_temp, word_at, word_of}
 use Rattle.sc_emit.proofs.Common.{wrapping, zero, ℕ, ℤ, ⊎_elim, ◌*◌, ◌++◌, ◌+◌, ◌<◌, ◌==◌, ◌∙◌, ◌∷◌, ◌≡◌, ◌≤◌}

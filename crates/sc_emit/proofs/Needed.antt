@@ -4,7 +4,7 @@ use Rattle.sc_emit.proofs.Common.{Places, Plan, Role, Sets, Some, TacStmt, TacSt
 use Rattle.sc_emit.proofs.Common.{and_parts, ap, break_stmt, ending_test, eq-eqb, eqb-true, false, fold-roll-TacStmt}
 use Rattle.sc_emit.proofs.Common.{fork_role, if◌then◌else◌, in_order, is_one, is_some, joins, list_all, map}
 use Rattle.sc_emit.proofs.Common.{map-TacStmt, need, need_step, operation_role, or_left, or_right, place_needed, refl}
-use Rattle.sc_emit.proofs.Common.{role_to_next, role_of_store, roll-TacStmt, row_needs, select, select_step, short_form}
+use Rattle.sc_emit.proofs.Common.{role_of_store, role_to_next, roll-TacStmt, row_needs, select, select_step, short_form}
 use Rattle.sc_emit.proofs.Common.{stmt_induction, store_role, subst, sym, test_stmt, true, turning_role, ℕ, ⊎_elim}
 use Rattle.sc_emit.proofs.Common.{◌&&◌, ◌++◌, ◌==◌, ◌||◌, ◌∙◌, ◌∷◌, ◌≡◌, ◌⊎◌}
 use Rattle.sc_tac.specs.declared.stmt.TacStmt.TheOpen as tac

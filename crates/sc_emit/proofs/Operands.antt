@@ -1,15 +1,15 @@
 -- Operands at hand, and results in their places.
 use Rattle.sc_emit.proofs.Common.{Activation, All, Arrives, Besides, CodeAt, Computes, Does, FrameMatches}
-use Rattle.sc_emit.proofs.Common.{HasNoOtherUse, InPlace, Instr, IsActivation, IsClear, IsFromSp, IsInPlace, IsWellFormed}
-use Rattle.sc_emit.proofs.Common.{IsWord, IsWritable, Joint, List, Lives, Memory as Bytes, Place, Ready, Register}
-use Rattle.sc_emit.proofs.Common.{Registers, Running, Setting, Slot, Some, Standpoint, StandsFor, Stores, Temps, Value}
-use Rattle.sc_emit.proofs.Common.{Walks, World, [], address_scratch, ap, append-nil, arith, assigned, assigns_register}
-use Rattle.sc_emit.proofs.Common.{assigns_slot, at, at_hand, false, first_scratch, in_row, inl, inr, keep, kept, length}
-use Rattle.sc_emit.proofs.Common.{live_plain, load_word, loads_word, look, look_at, machine, moved, no_other_use}
-use Rattle.sc_emit.proofs.Common.{operand, own_inside, plain_points, put_word, refl, register_count, register_of}
-use Rattle.sc_emit.proofs.Common.{register_there, result_register, same_Some, second_scratch, seen_from, slice_get}
-use Rattle.sc_emit.proofs.Common.{slot_offset, sp, store_word, stores_word, subst, suc, sym, take, taken, unwrap_or}
-use Rattle.sc_emit.proofs.Common.{with_temp, word, zero, ℕ, ◌*◌, ◌++◌, ◌+◌, ◌<◌, ◌∙◌, ◌∷◌, ◌≡◌, ◌≢◌, ◌⊎◌}
+use Rattle.sc_emit.proofs.Common.{HasNoOtherUse, InPlace, Instr, IsActivation, IsClear, IsFromSp, IsInPlace}
+use Rattle.sc_emit.proofs.Common.{IsWellFormed, IsWord, IsWritable, Joint, List, Lives, Memory as Bytes, Place, Ready}
+use Rattle.sc_emit.proofs.Common.{Register, Registers, Running, Setting, Slot, Some, Standpoint, StandsFor, Stores}
+use Rattle.sc_emit.proofs.Common.{Temps, Value, Walks, World, [], address_scratch, ap, append-nil, arith, assigned}
+use Rattle.sc_emit.proofs.Common.{assigns_register, assigns_slot, at, at_hand, false, first_scratch, in_row, inl, inr}
+use Rattle.sc_emit.proofs.Common.{keep, kept, length, live_plain, load_word, loads_word, look, look_at, machine, moved}
+use Rattle.sc_emit.proofs.Common.{no_other_use, operand, own_inside, plain_points, put_word, refl, register_count}
+use Rattle.sc_emit.proofs.Common.{register_of, register_there, result_register, same_Some, second_scratch, seen_from}
+use Rattle.sc_emit.proofs.Common.{slice_get, slot_offset, sp, store_word, stores_word, subst, suc, sym, take, taken}
+use Rattle.sc_emit.proofs.Common.{unwrap_or, with_temp, word, zero, ℕ, ◌*◌, ◌++◌, ◌+◌, ◌<◌, ◌∙◌, ◌∷◌, ◌≡◌, ◌≢◌, ◌⊎◌}
 
 -- what a place is that temporaries have: a register that there is, or a slot of the frame
 abbrev pub IsPlace : Activation → Place → Type 0
@@ -166,7 +166,8 @@ module _ (T : Setting) (R : Running) (x : Joint) where
         (clear : All (IsClear R.places) (plain_points reads false (Some dest) lives)) (v : Value) where
       abbrev End : List Instr → Type 0
       End code =
-          Arrives T R lives.following x (length code + left) left (with_temp dest v temps) x.meant (x.pc + 4 * length code)
+          Arrives T R lives.following x (length code + left) left (with_temp dest v temps) x.meant
+          (x.pc + 4 * length code)
 
       -- into the register of a temporary
       pub keeps_register : (code : List Instr) (r : ℕ) → slice_get R.places dest ≡ Some (Register r) →

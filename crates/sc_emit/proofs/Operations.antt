@@ -5,13 +5,13 @@ use Rattle.sc_emit.proofs.Common.{IsClear, IsLoaded, IsSound, IsWellFormed, IsWo
 use Rattle.sc_emit.proofs.Common.{None, Ok, Option, Other, Place, Reached, Ready, Registers, Result, Running, Set}
 use Rattle.sc_emit.proofs.Common.{Setting, Settled, Some, StandsFor, State as Meant, Store, Stores, Sw, TacOp, Temps}
 use Rattle.sc_emit.proofs.Common.{Value, [], add_word, and_first, and_from, and_rest, and_then, ap, append-nil}
-use Rattle.sc_emit.proofs.Common.{append_assoc, arith, code_step, comes_computed, comes_read, computed, eq-eqb, false}
-use Rattle.sc_emit.proofs.Common.{first_scratch, prefix_same, gets, in_row, inl, is_one, is_some, keep, leave, length}
+use Rattle.sc_emit.proofs.Common.{append_assoc, arith, code_step, comes_computed, comes_read, computed, emits_here}
+use Rattle.sc_emit.proofs.Common.{eq-eqb, false, first_scratch, gets, in_row, inl, is_one, is_some, keep, leave, length}
 use Rattle.sc_emit.proofs.Common.{list_all, live_plain, load, load_from, loads, look, looked, may_store, one_or_none}
 use Rattle.sc_emit.proofs.Common.{op_code, op_word, operand, operated, operation, operator_stands, or_left, or_right}
-use Rattle.sc_emit.proofs.Common.{plain_points, pos, read, refl, result_register, role_of_load, role_of_operation}
-use Rattle.sc_emit.proofs.Common.{role_of_store, same, second_operand, second_scratch, seen_from, select_step}
-use Rattle.sc_emit.proofs.Common.{emits_here, slice_get, sp, stays, store, store_to, stored, stores, straightly, subst}
+use Rattle.sc_emit.proofs.Common.{plain_points, pos, prefix_same, read, refl, result_register, role_of_load}
+use Rattle.sc_emit.proofs.Common.{role_of_operation, role_of_store, same, second_operand, second_scratch, seen_from}
+use Rattle.sc_emit.proofs.Common.{select_step, slice_get, sp, stays, store, store_to, stored, stores, straightly, subst}
 use Rattle.sc_emit.proofs.Common.{sym, take, takes_two, trail_step, true, with_memory, with_temp, word, word_of}
 use Rattle.sc_emit.proofs.Common.{wrapping, ℕ, ⊎_elim, ◌&&◌, ◌*◌, ◌++◌, ◌+◌, ◌==◌, ◌∙◌, ◌∷◌, ◌≡◌}
 use Rattle.rv_code.specs.declared.instr.LoadOp.TheVariants.{Lw}

@@ -127,7 +127,8 @@ module _ (T : Setting) (R : Running) (formed : IsWellFormed T.image) (inputs : A
         (clear : All (IsClear R.places) (plain_points (from ∷ []) false (Some dest) lives)) where
       abbrev End : List Instr → Type 0
       End code =
-          Arrives T R lives.following x (length code + left) left (with_temp dest v temps) x.meant (x.pc + 4 * length code)
+          Arrives T R lives.following x (length code + left) left (with_temp dest v temps) x.meant
+          (x.pc + 4 * length code)
 
       -- the value at a place, in a register that may be written
       brought_gives : (rd : ℕ) (place : Place) → IsWritable rd → sp ≢ rd → rd ≢ 7 → IsPlace R.activation place →

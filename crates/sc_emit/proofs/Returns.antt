@@ -1,15 +1,15 @@
 -- The epilogue of a function: a return, and the closing brace.
 use Rattle.sc_emit.proofs.Common.{Activation, Addi, All, Bool, Calls, CodeAt, Computes, Does, Entry, Export, Follows}
-use Rattle.sc_emit.proofs.Common.{FrameTree, ReturnsValue, Goes, Instr, IsActivation, IsWellFormed, IsWord, Jalr, Joint}
-use Rattle.sc_emit.proofs.Common.{LeavesFrame, List, Lives, Main, None, OpImm, Option, Owned, Place, Ready, Registers}
-use Rattle.sc_emit.proofs.Common.{Return, Returns, Running, Set, Setting, Some, Standpoint, StandsFor, TacFnTree, Temps}
-use Rattle.sc_emit.proofs.Common.{Value, Walks, Word, [], a0, and_first, and_from, ap, append_assoc, arith, at, back_at}
-use Rattle.sc_emit.proofs.Common.{brought, closing, code_step, comes_read, eq-eqb, epilogue, epilogue_to_jump, prefix_at}
+use Rattle.sc_emit.proofs.Common.{FrameTree, Goes, Instr, IsActivation, IsWellFormed, IsWord, Jalr, Joint, LeavesFrame}
+use Rattle.sc_emit.proofs.Common.{List, Lives, Main, None, OpImm, Option, Owned, Place, Ready, Registers, Return}
+use Rattle.sc_emit.proofs.Common.{Returns, ReturnsValue, Running, Set, Setting, Some, Standpoint, StandsFor, TacFnTree}
+use Rattle.sc_emit.proofs.Common.{Temps, Value, Walks, Word, [], a0, and_first, and_from, ap, append_assoc, arith, at}
+use Rattle.sc_emit.proofs.Common.{back_at, brought, closing, code_step, comes_read, epilogue, epilogue_to_jump, eq-eqb}
 use Rattle.sc_emit.proofs.Common.{in_row, inl, is_one, leads_less, leads_moved, leave, leaves_frame, length}
-use Rattle.sc_emit.proofs.Common.{length-append, list_all, machine, moved, one_or_none, place_of, pos, ra, refl, return}
-use Rattle.sc_emit.proofs.Common.{return_does, role_of_return, same_entry, seen_from, select_step, settled_moved, sp}
-use Rattle.sc_emit.proofs.Common.{stays, straightly, subst, sym, trail_step, true, with_number, word, wrapping, ℕ, ◌*◌}
-use Rattle.sc_emit.proofs.Common.{◌++◌, ◌+◌, ◌∙◌, ◌∷◌, ◌≡◌, ◌≤◌}
+use Rattle.sc_emit.proofs.Common.{length-append, list_all, machine, moved, one_or_none, place_of, pos, prefix_at, ra}
+use Rattle.sc_emit.proofs.Common.{refl, return, return_does, role_of_return, same_entry, seen_from, select_step}
+use Rattle.sc_emit.proofs.Common.{settled_moved, sp, stays, straightly, subst, sym, trail_step, true, with_number, word}
+use Rattle.sc_emit.proofs.Common.{wrapping, ℕ, ◌*◌, ◌++◌, ◌+◌, ◌∙◌, ◌∷◌, ◌≡◌, ◌≤◌}
 use Rattle.sc_tac.specs.Prelude.{nothing}
 use Rattle.sc_tac.specs.declared.stmt.TacStmt.TheOpen as tac
 use Rattle.sc_emit.proofs.Arguments.{Brings, brings}

@@ -4,19 +4,20 @@ use Rattle.sc_emit.proofs.Common.{IsReturned, IsShort, IsStored, IsTested, Jal, 
 use Rattle.sc_emit.proofs.Common.{Place, Places, Plan, Role, Sets, ShortForm, Some, TacFnTree, TacStmt, TacStmt-F, []}
 use Rattle.sc_emit.proofs.Common.{and_first, and_rest, ap, append-nil, append_assoc, arith, as_one, between}
 use Rattle.sc_emit.proofs.Common.{branch_back, branch_reach, call_cross, call_own, choice, choosing, closing}
-use Rattle.sc_emit.proofs.Common.{code_back_edges, code_of, cond, count_by, cycle, each_before, ending_past, prologue}
+use Rattle.sc_emit.proofs.Common.{code_back_edges, code_of, cond, count_by, cycle, each_before, ending_past}
 use Rattle.sc_emit.proofs.Common.{environment_call, everywhere, false, first_scratch, fold-roll-TacStmt, fork}
 use Rattle.sc_emit.proofs.Common.{fork_role, if◌then◌else◌, in_turn, inl, inr, is_backward, is_empty, is_known_jump}
 use Rattle.sc_emit.proofs.Common.{is_near, joined, joins, jump_back, jump_over, kind_of_fork, leads_back, length}
 use Rattle.sc_emit.proofs.Common.{length-append, length-map, list_all, list_all-map, list_all_along, loads_it}
 use Rattle.sc_emit.proofs.Common.{loop_begins, loop_step, loops, lt-leb, map, map-TacStmt, map-append, nat_lt, neg_ℤ}
 use Rattle.sc_emit.proofs.Common.{not, object_read, object_store, operand, operates_it, past, place_of, place_of_global}
-use Rattle.sc_emit.proofs.Common.{plain, plainly, plan_of, pos, receive, refl, returns_it, role_to_next, role_first}
-use Rattle.sc_emit.proofs.Common.{role_of_load, role_of_operation, role_of_return, role_of_store, rotated, row_is_sized}
-use Rattle.sc_emit.proofs.Common.{select, select_all, select_step, short_form, short_operation, short_return, skipping}
-use Rattle.sc_emit.proofs.Common.{stmt_induction, stmt_loops, stores_it, straight as lines_of, straightly, subst, suc}
-use Rattle.sc_emit.proofs.Common.{sum_by-append, sym, take, test_stmt, true, turning_by, turning_role, which_pair}
-use Rattle.sc_emit.proofs.Common.{word_of_constant, zero, ℕ, ⊎_elim, ◌&&◌, ◌*◌, ◌++◌, ◌+◌, ◌==◌, ◌∙◌, ◌∷◌, ◌≡◌, ◌≤◌}
+use Rattle.sc_emit.proofs.Common.{plain, plainly, plan_of, pos, prologue, receive, refl, returns_it, role_first}
+use Rattle.sc_emit.proofs.Common.{role_of_load, role_of_operation, role_of_return, role_of_store, role_to_next, rotated}
+use Rattle.sc_emit.proofs.Common.{row_is_sized, select, select_all, select_step, short_form, short_operation}
+use Rattle.sc_emit.proofs.Common.{short_return, skipping, stmt_induction, stmt_loops, stores_it, straight as lines_of}
+use Rattle.sc_emit.proofs.Common.{straightly, subst, suc, sum_by-append, sym, take, test_stmt, true, turning_by}
+use Rattle.sc_emit.proofs.Common.{turning_role, which_pair, word_of_constant, zero, ℕ, ⊎_elim, ◌&&◌, ◌*◌, ◌++◌, ◌+◌}
+use Rattle.sc_emit.proofs.Common.{◌==◌, ◌∙◌, ◌∷◌, ◌≡◌, ◌≤◌}
 use Rattle.sc_emit_select.specs.Prelude.{Piece}
 use Rattle.sc_emit.specs.Layout.{GoesAround, HasRounds, HaveCode, LeadOn, LeadsOver, branching, empty, leads_on}
 use Rattle.sc_emit.specs.Layout.{loopless, repeating}
@@ -220,7 +221,8 @@ module _ (frame : FrameTree) (places : List Place) (plan : Plan) where
       let following : Piece = in_turn (joined frame places role (map (select frame places plan) stmts)) in
       let next : Role = role_first (map (select frame places plan) stmts) in
       let own : List Line =
-      (between frame places before (select frame places plan stmt) next).lines (following.size + b) (following.size + c) in
+      (between frame places before (select frame places plan stmt) next).lines (following.size + b) (following.size + c)
+      in
       subst (HaveCode (stmt ∷ (stmts ++ rest)))
       (sym (ap (λ t. t ++ more) (map-append (λ line. line.instr) own (following.lines b c)) ∙
       append_assoc (instrs_of own) (instrs_of (following.lines b c)) more))

@@ -13,7 +13,7 @@ use Rattle.sc_emit.proofs.Common.{list_all, loads_it, ltb-true, map, map-TacStmt
 use Rattle.sc_emit.proofs.Common.{names_own_temps, nat_lt, need, need_step, needs_of, never_applies, none_after, not}
 use Rattle.sc_emit.proofs.Common.{nothing as no_lines, object_inside, object_read, object_store, object_there}
 use Rattle.sc_emit.proofs.Common.{one_or_none, operates_it, parts_least, passes_few, place_needed, read_is_last, refl}
-use Rattle.sc_emit.proofs.Common.{return_is_last, return_of, returns_it, role_unjoined, role_to_next, role_first}
+use Rattle.sc_emit.proofs.Common.{return_is_last, return_of, returns_it, role_first, role_to_next, role_unjoined}
 use Rattle.sc_emit.proofs.Common.{roll-TacStmt, rotated_follows, row, row_needs, select, select_all, select_step}
 use Rattle.sc_emit.proofs.Common.{sets_it, short_form, short_operation, short_return, slice_get-get_or, stmt_does}
 use Rattle.sc_emit.proofs.Common.{stmt_induction, store_is_last, stores_it, straightly, subst, sym, takes_two}
@@ -270,7 +270,8 @@ module _ (T : Setting) (R : Running) (formed : IsWellFormed T.image) (inputs : A
       let following : Code = coded (role_to_next own (code next).role) rest in
       let sizes : no_lines.size + (one.size + following.size) ≤ limit =
       subst (λ p. p.size + (one.size + following.size) ≤ limit) c1
-      (subst (λ p. (between frame R.places before (code stmt) (code next).role).size + (p.size + following.size) ≤ limit)
+      (subst (λ p. (between frame R.places before (code stmt) (code next).role).size + (p.size + following.size) ≤
+      limit)
       c2 few) in
       let done : Follows T R (all_do (layer_does first ∷ layer_does second ∷ map does rest))
       (followed no_lines (followed one following)) (row (layer_trail first ∷ layer_trail second ∷ map trail rest)) =

@@ -30,7 +30,8 @@ module _ (T : Setting) (R : Running) where
       ComesStraight lives x instrs left (Reached (record { exit = Next; carried = temps }) s)
   comes_past lives x instrs left temps s g ends e f =
       inl (subst (λ pc. Arrives T R lives.following x (length instrs + left) ends.left temps s pc) (sym f)
-      (subst (λ n. Arrives T R lives.following x (length instrs + left) n temps s (x.pc + 4 * length instrs)) (sym e) g))
+      (subst (λ n. Arrives T R lives.following x (length instrs + left) n temps s (x.pc + 4 * length instrs)) (sym e)
+      g))
 
   -- lines, some of which the linker completes, follow a statement
   pub lines_follow : (does : Codes) (lines : List Line) (trail : Trail) →

@@ -1,5 +1,5 @@
 -- The names from below that several definitions of this crate cite, passed on from one place. Declares nothing.
-pub use Rattle.sc_core.specs.Prelude.{IsPrefix, total, wrapping}
+pub use Rattle.sc_core.specs.Prelude.{total, wrapping}
 pub use Rattle.rv_code.specs.declared.instr.Instr.{Instr}
 pub use Rattle.sc_tac.specs.Prelude.{branches, code_function, entry_weight, everywhere, parts, passes_words, weight}
 pub use Rattle.sc_tac.specs.declared.machine_code.CodeTree.{CodeTree}

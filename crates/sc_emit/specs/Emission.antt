@@ -1,6 +1,7 @@
 -- What the code of a function keeps.
-use Rattle.sc_emit.specs.Common.{CodeTree, IsPrefix, FunctionFollows, Setting, branches, code_function, entry_weight}
-use Rattle.sc_emit.specs.Common.{everywhere, frame_taken, linked, passes_words, refers_only, weight, wrapping}
+use Rattle.sc_emit.specs.Common.{CodeTree, FunctionFollows, Setting, branches, code_function, entry_weight, everywhere}
+use Rattle.sc_emit.specs.Common.{frame_taken, linked, passes_words, refers_only, weight, wrapping}
+use Rattle.sc_base.specs.Prelude.{IsPrefix}
 use Rattle.sc_image.specs.Prelude.{IsWellFormed, IsWord}
 use Rattle.sc_emit_hart.specs.Prelude.{CodeAt}
 use Rattle.std.specs.Prelude.{ℕ, ◌+◌, ◌*◌, ◌<◌, ◌≤◌, Bool, length, All, IsTrue}

@@ -1,10 +1,9 @@
 -- Addresses of places of one block: a number of cells further or back, modulo 2 ^ 32, and how far apart.
-use Rattle.sc_emit_hart.proofs.Common.{Bool, add_word, ap, ap₂, arith, bytes_of, div_word, false, if◌then◌else◌, inl, inr}
-use Rattle.sc_emit_hart.proofs.Common.{int_div, int_lt, mul-add, mul-mod_second, mul_word, nat_lt, neg_ℤ, negsuc}
-use Rattle.sc_emit_hart.proofs.Common.{number_of, pos, refl, signed_of, stepped_word, sub_word, subst, suc, sym, true}
-use Rattle.sc_emit_hart.proofs.Common.{word_of, word_of-unsigned_sub, zero, ℕ, ℤ, ⊎_elim, ◌%◌, ◌*ℤ◌, ◌*◌, ◌+ℤ◌, ◌+◌, ◌-ℤ◌}
-use Rattle.sc_emit_hart.proofs.Common.{◌-◌, ◌/◌, ◌<◌, ◌==◌, ◌^◌, ◌∙◌, ◌≡◌, ◌⊎◌}
-use Rattle.std.proofs.lemmas.Bool.{cases_lt}
+use Rattle.sc_emit_hart.proofs.Common.{Bool, add_word, ap, ap₂, arith, bytes_of, cases_lt, div_word, false}
+use Rattle.sc_emit_hart.proofs.Common.{if◌then◌else◌, inl, inr, int_div, int_lt, mul-add, mul-mod_second, mul_word}
+use Rattle.sc_emit_hart.proofs.Common.{nat_lt, neg_ℤ, negsuc, number_of, pos, refl, signed_of, stepped_word, sub_word}
+use Rattle.sc_emit_hart.proofs.Common.{subst, suc, sym, true, word_of, word_of-unsigned_sub, zero, ℕ, ℤ, ⊎_elim, ◌%◌}
+use Rattle.sc_emit_hart.proofs.Common.{◌*ℤ◌, ◌*◌, ◌+ℤ◌, ◌+◌, ◌-ℤ◌, ◌-◌, ◌/◌, ◌<◌, ◌==◌, ◌^◌, ◌∙◌, ◌≡◌, ◌⊎◌}
 use Rattle.std.proofs.lemmas.Int.{ints}
 use Rattle.std.proofs.Math.Nat.{mul-div-mul_left}
 

@@ -1,7 +1,7 @@
 -- What an operator's code computes is a word.
 use Rattle.sc_emit_hart.proofs.Common.{BinaryOp, Bool, TacOp, UnaryOp, and_le_l, arith, bit_and, bytes_of, false}
-use Rattle.sc_emit_hart.proofs.Common.{is_unsigned, negated_word, on_all_words, op_word, or_of_32, stepped_word, sub_word}
-use Rattle.sc_emit_hart.proofs.Common.{true, truth, unary_word, word_of-lt, xor_of_32, ℕ, ◌<◌, ◌^◌, ◌≤◌}
+use Rattle.sc_emit_hart.proofs.Common.{is_unsigned, negated_word, on_all_words, op_word, or_of_32, stepped_word}
+use Rattle.sc_emit_hart.proofs.Common.{sub_word, true, truth, unary_word, word_of-lt, xor_of_32, ℕ, ◌<◌, ◌^◌, ◌≤◌}
 use Rattle.sc_base.specs.declared.op.UnaryOp.TheVariants as unary
 use Rattle.sc_base.specs.declared.op.BinaryOp.TheVariants as op
 use Rattle.sc_word.proofs.Below.{add_word-lt, sub_word-lt, mul_word-lt, div_word-lt, divu_word-lt, rem_word-lt}

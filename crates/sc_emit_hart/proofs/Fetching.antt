@@ -1,6 +1,7 @@
 -- Code, found at its place.
-use Rattle.sc_emit_hart.proofs.Common.{CodeAt, CodeIsFetched, ImageParts, Instr, List, [], append_assoc, arith, code_start}
-use Rattle.sc_emit_hart.proofs.Common.{image_in_memory, length, map, subst, suc, sym, ℕ, ◌*◌, ◌++◌, ◌+◌, ◌∙◌, ◌∷◌, ◌≡◌}
+use Rattle.sc_emit_hart.proofs.Common.{CodeAt, CodeIsFetched, ImageParts, Instr, List, [], append_assoc, arith}
+use Rattle.sc_emit_hart.proofs.Common.{code_start, image_in_memory, length, map, subst, suc, sym, ℕ, ◌*◌, ◌++◌, ◌+◌}
+use Rattle.sc_emit_hart.proofs.Common.{◌∙◌, ◌∷◌, ◌≡◌}
 use Rattle.rv_code.specs.Prelude.{IsInstr, word_of}
 use Rattle.std.proofs.lemmas.List.{length_push}
 use Rattle.std.proofs.lemmas.List.Elements.{All-head, All-tail}

@@ -1,9 +1,11 @@
 -- The prologue of a function, and its epilogue.
-use Rattle.sc_emit_hart.proofs.Common.{CodeAt, Computes, ImageParts, Instr, List, Load, Lw, Memory, Owned, Registers}
-use Rattle.sc_emit_hart.proofs.Common.{Store, Stores, Sw, World, [], add_word, ap, arith, back_at, data_start, frame_taken}
-use Rattle.sc_emit_hart.proofs.Common.{prefix_at, length, length-append, moved_by, pos, refl, sub_word, sw_traps, word}
-use Rattle.sc_emit_hart.proofs.Common.{word_of-lt, word_of-unsigned_sub, ℕ, ◌%◌, ◌*◌, ◌+◌, ◌<◌, ◌^◌, ◌∙◌, ◌∷◌, ◌≡◌}
-use Rattle.sc_emit_hart.specs.Frames.{TakesFrame, FrameOverflows, LeavesFrame}
+use Rattle.sc_emit_hart.proofs.Common.{CodeAt, Computes, FrameOverflows, ImageParts, Instr, LeavesFrame, List, Load, Lw}
+use Rattle.sc_emit_hart.proofs.Common.{Memory, Owned, Registers, Store, Stores, Sw, TakesFrame, World, [], add_word, ap}
+use Rattle.sc_emit_hart.proofs.Common.{arith, data_start, frame_taken, length, length-append, moved_by, pos, refl}
+use Rattle.sc_emit_hart.proofs.Common.{sub_word, word, word_of-lt, word_of-unsigned_sub, ℕ, ◌%◌, ◌*◌, ◌+◌, ◌<◌, ◌^◌}
+use Rattle.sc_emit_hart.proofs.Common.{◌∙◌, ◌∷◌, ◌≡◌}
+use Rattle.sc_emit_hart.proofs.Fetching.{back_at, prefix_at}
+use Rattle.sc_emit_hart.proofs.Steps.{sw_traps}
 use Rattle.sc_emit_hart.proofs.Rows.{in_row, computes, loads, stores}
 use Rattle.sc_emit_hart.proofs.Loading.{moves_on}
 

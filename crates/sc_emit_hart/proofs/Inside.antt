@@ -1,7 +1,7 @@
 -- Code lies low, at multiples of 4.
-use Rattle.sc_emit_hart.proofs.Common.{Bool, ImageParts, IsWellFormed, None, Option, Some, [], and_parts, arith, code_of}
-use Rattle.sc_emit_hart.proofs.Common.{code_start, eqb-true, false, if◌then◌else◌, leb-true, nat_eq, nat_le, refl, slice_get}
-use Rattle.sc_emit_hart.proofs.Common.{true, word_at, ℕ, ◌%◌, ◌&&◌, ◌*◌, ◌-◌, ◌/◌, ◌<◌, ◌^◌, ◌≡◌, ◌≤◌}
+use Rattle.sc_emit_hart.proofs.Common.{Bool, ImageParts, IsWellFormed, None, Option, Some, [], and_parts, arith}
+use Rattle.sc_emit_hart.proofs.Common.{code_of, code_start, eqb-true, false, if◌then◌else◌, leb-true, nat_eq, nat_le}
+use Rattle.sc_emit_hart.proofs.Common.{refl, slice_get, true, word_at, ℕ, ◌%◌, ◌&&◌, ◌*◌, ◌-◌, ◌/◌, ◌<◌, ◌^◌, ◌≡◌, ◌≤◌}
 use Rattle.std.specs.Option.{option_map_or}
 use Rattle.std.proofs.lemmas.Option.{slice_get_within}
 use Rattle.sc_image.specs.declared.parts.CompPart.{CompPart}

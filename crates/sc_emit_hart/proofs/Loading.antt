@@ -1,8 +1,8 @@
 -- Words loaded, and registers moved.
 use Rattle.sc_emit_hart.proofs.Common.{Add, Addi, Bool, Computes, ImageParts, IsWritable, List, Lui, Memory, Op, OpImm}
 use Rattle.sc_emit_hart.proofs.Common.{Registers, Upper, World, [], add_word, ap, arith, false, if◌then◌else◌, is_short}
-use Rattle.sc_emit_hart.proofs.Common.{loading, look, lower_part, move, moved_by, pos, refl, signed_of, true, upper_part}
-use Rattle.sc_emit_hart.proofs.Common.{word_of, ℕ, ◌++◌, ◌<◌, ◌^◌, ◌∙◌, ◌∷◌, ◌≡◌, ◌≢◌}
+use Rattle.sc_emit_hart.proofs.Common.{loading, look, lower_part, move, moved_by, pos, refl, signed_of, true}
+use Rattle.sc_emit_hart.proofs.Common.{upper_part, word_of, ℕ, ◌++◌, ◌<◌, ◌^◌, ◌∙◌, ◌∷◌, ◌≡◌, ◌≢◌}
 use Rattle.sc_emit_hart.proofs.Rows.{followed_by, computes, look_at, looked, upper, with_number, of_two}
 use Rattle.sc_emit_hart.proofs.Numbers.{word_of-signed_of, two_parts}
 

@@ -1,7 +1,7 @@
 -- Words and the immediates that make them.
 use Rattle.sc_emit_hart.proofs.Common.{Bool, add_word, arith, false, if◌then◌else◌, lower_part, ltb-false, ltb-true}
-use Rattle.sc_emit_hart.proofs.Common.{nat_lt, negsuc, pos, refl, signed_of, suc, true, upper_part, word_of, ℕ, ◌%◌, ◌*◌}
-use Rattle.sc_emit_hart.proofs.Common.{◌-◌, ◌<◌, ◌^◌, ◌≡◌, ◌≤◌}
+use Rattle.sc_emit_hart.proofs.Common.{nat_lt, negsuc, pos, refl, signed_of, suc, true, upper_part, word_of, ℕ, ◌%◌}
+use Rattle.sc_emit_hart.proofs.Common.{◌*◌, ◌-◌, ◌<◌, ◌^◌, ◌≡◌, ◌≤◌}
 
 signed_by : (w : ℕ) (below : Bool) → nat_lt w (2 ^ 31) ≡ below → w < 2 ^ 32 → word_of (signed_of w) ≡ w
 signed_by w true is h = let same : signed_of w ≡ pos w = grind arith in rw same (omega arith)

@@ -1,14 +1,14 @@
 -- The code of each operator computes its word.
 use Rattle.sc_emit_hart.proofs.Common.{Add, And, AreOperands, BinaryOp, Bool, Computes, Div, Divu, ImageParts, Instr}
-use Rattle.sc_emit_hart.proofs.Common.{IsWritable, List, Memory, Mul, Op, OpImm, OpImmOp, OpOp, Or, Registers, Rem, Remu}
-use Rattle.sc_emit_hart.proofs.Common.{Shift, Sll, Slt, Sltiu, Sltu, Sra, Srl, Sub, TacOp, UnaryOp, World, Xor, Xori, []}
-use Rattle.sc_emit_hart.proofs.Common.{add_word, address_scratch, ap, arith, binary_code, bit_or, bit_xor, bytes_ahead}
-use Rattle.sc_emit_hart.proofs.Common.{bytes_of, computed, div_word, eqb-true, false, if◌then◌else◌, is_unsigned, loading}
-use Rattle.sc_emit_hart.proofs.Common.{mul_word, negated_word, negsuc, on_all_words, on_registers, op_code, op_word}
-use Rattle.sc_emit_hart.proofs.Common.{pointer_difference, pointer_move, pos, refl, second_scratch, shift_on_registers}
-use Rattle.sc_emit_hart.proofs.Common.{signed_wraps, slt_word, sltu_word, stepped_word, sub_word, sym, tests_are_words}
-use Rattle.sc_emit_hart.proofs.Common.{true, truth, unary_code, unary_word, word_of, ℕ, ℤ, ◌++◌, ◌-◌, ◌<◌, ◌==◌, ◌^◌, ◌∙◌}
-use Rattle.sc_emit_hart.proofs.Common.{◌∷◌, ◌≡◌}
+use Rattle.sc_emit_hart.proofs.Common.{IsWritable, List, Memory, Mul, Op, OpImm, OpImmOp, OpOp, Or, Registers, Rem}
+use Rattle.sc_emit_hart.proofs.Common.{Remu, Shift, Sll, Slt, Sltiu, Sltu, Sra, Srl, Sub, TacOp, UnaryOp, World, Xor}
+use Rattle.sc_emit_hart.proofs.Common.{Xori, [], add_word, address_scratch, ap, arith, binary_code, bit_or, bit_xor}
+use Rattle.sc_emit_hart.proofs.Common.{bytes_ahead, bytes_of, computed, div_word, eqb-true, false, if◌then◌else◌}
+use Rattle.sc_emit_hart.proofs.Common.{is_unsigned, loading, mul_word, negated_word, negsuc, on_all_words, on_registers}
+use Rattle.sc_emit_hart.proofs.Common.{op_code, op_word, pointer_difference, pointer_move, pos, refl, second_scratch}
+use Rattle.sc_emit_hart.proofs.Common.{shift_on_registers, signed_wraps, slt_word, sltu_word, stepped_word, sub_word}
+use Rattle.sc_emit_hart.proofs.Common.{sym, tests_are_words, true, truth, unary_code, unary_word, word_of, ℕ, ℤ, ◌++◌}
+use Rattle.sc_emit_hart.proofs.Common.{◌-◌, ◌<◌, ◌==◌, ◌^◌, ◌∙◌, ◌∷◌, ◌≡◌}
 use Rattle.rv_code.specs.declared.instr.ShiftOp.TheVariants.{Slli}
 use Rattle.sc_emit_hart.proofs.Rows.{with_amount, followed_by, computes, looked, with_number, of_two}
 use Rattle.sc_base.specs.declared.op.UnaryOp.TheVariants as unary

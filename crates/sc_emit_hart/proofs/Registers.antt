@@ -1,6 +1,7 @@
 -- The registers' list and their function.
-use Rattle.sc_emit_hart.proofs.Common.{Registers, ap, ap₂, arith, eq-eqb, listed, look, ne_eqb, put, refl, set, slice_index}
-use Rattle.sc_emit_hart.proofs.Common.{slice_set, suc, sym, words_from, written, zero, ℕ, ◌+◌, ◌<◌, ◌∙◌, ◌∷◌, ◌≡◌, ◌≢◌}
+use Rattle.sc_emit_hart.proofs.Common.{Registers, ap, ap₂, arith, eq-eqb, listed, look, ne_eqb, put, refl, set}
+use Rattle.sc_emit_hart.proofs.Common.{slice_index, slice_set, suc, sym, words_from, written, zero, ℕ, ◌+◌, ◌<◌, ◌∙◌}
+use Rattle.sc_emit_hart.proofs.Common.{◌∷◌, ◌≡◌, ◌≢◌}
 
 read_from : (count first : ℕ) (regs : Registers) (i : ℕ) → i < count →
     slice_index (words_from count first regs) i ≡ regs (first + i)

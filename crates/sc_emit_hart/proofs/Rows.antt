@@ -1,11 +1,12 @@
 -- Pieces of code in a row, and pieces of one instruction.
 use Rattle.sc_emit_hart.proofs.Common.{Besides, Computes, Does, Fetches, ImageParts, Instr, IsWritable, List, Load, Lui}
-use Rattle.sc_emit_hart.proofs.Common.{Lw, Memory, Op, OpImm, OpImmOp, OpOp, Owned, Registers, Shift, Store, Stores, Sw}
-use Rattle.sc_emit_hart.proofs.Common.{Upper, Walks, World, [], add_word, ap, arith, at, back_at, computed, prefix_at}
-use Rattle.sc_emit_hart.proofs.Common.{if◌then◌else◌, length, length-append, look, lui, lw, nat_eq, ne_eqb, on_registers}
-use Rattle.sc_emit_hart.proofs.Common.{op_imm, operate, put_word, refl, set, shift_on_registers, shifts, subst, sw, sym}
-use Rattle.sc_emit_hart.proofs.Common.{then_go, word, word_of, ℕ, ℤ, ◌*◌, ◌++◌, ◌+◌, ◌<◌, ◌∙◌, ◌∷◌, ◌≡◌, ◌≢◌}
-use Rattle.rv_code.specs.declared.instr.ShiftOp.{ShiftOp}
+use Rattle.sc_emit_hart.proofs.Common.{Lw, Memory, Op, OpImm, OpImmOp, OpOp, Owned, Registers, Shift, ShiftOp, Store}
+use Rattle.sc_emit_hart.proofs.Common.{Stores, Sw, Upper, Walks, World, [], add_word, ap, arith, at, computed}
+use Rattle.sc_emit_hart.proofs.Common.{if◌then◌else◌, length, length-append, look, nat_eq, ne_eqb, on_registers}
+use Rattle.sc_emit_hart.proofs.Common.{put_word, refl, set, shift_on_registers, subst, sym, word, word_of, ℕ, ℤ, ◌*◌}
+use Rattle.sc_emit_hart.proofs.Common.{◌++◌, ◌+◌, ◌<◌, ◌∙◌, ◌∷◌, ◌≡◌, ◌≢◌}
+use Rattle.sc_emit_hart.proofs.Fetching.{back_at, prefix_at}
+use Rattle.sc_emit_hart.proofs.Steps.{lui, lw, op_imm, operate, shifts, sw, then_go}
 use Rattle.sc_emit_hart.proofs.Registers.{put_here, put_there}
 
 pub besides_prefix : (rs ss : List ℕ) (q : ℕ) → Besides (rs ++ ss) q → Besides rs q

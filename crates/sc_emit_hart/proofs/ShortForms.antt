@@ -3,8 +3,9 @@ use Rattle.sc_emit_hart.proofs.Common.{Addi, Andi, BinaryOp, Bool, Computes, Ima
 use Rattle.sc_emit_hart.proofs.Common.{OpImmOp, Option, Ori, Registers, Slti, Sltiu, Some, TacOp, World, Xori, []}
 use Rattle.sc_emit_hart.proofs.Common.{add_word, ap, arith, binary_short, bytes_of, computed, false, if◌then◌else◌}
 use Rattle.sc_emit_hart.proofs.Common.{is_short, is_unsigned, look, mul_word, on_all_words, on_registers, op_word, pos}
-use Rattle.sc_emit_hart.proofs.Common.{refl, short, short_code, short_form, signed_of, signed_wraps, sub_word, subst, sym}
-use Rattle.sc_emit_hart.proofs.Common.{true, word_of-lt, word_of-unsigned_sub, ℕ, ◌%◌, ◌+◌, ◌-ℤ◌, ◌-◌, ◌<◌, ◌^◌, ◌∙◌, ◌≡◌}
+use Rattle.sc_emit_hart.proofs.Common.{refl, short, short_code, short_form, signed_of, signed_wraps, sub_word, subst}
+use Rattle.sc_emit_hart.proofs.Common.{sym, true, word_of-lt, word_of-unsigned_sub, ℕ, ◌%◌, ◌+◌, ◌-ℤ◌, ◌-◌, ◌<◌, ◌^◌}
+use Rattle.sc_emit_hart.proofs.Common.{◌∙◌, ◌≡◌}
 use Rattle.sc_base.specs.declared.op.BinaryOp.TheVariants as op
 use Rattle.sc_tac.specs.declared.stmt.TacOp.TheVariants as tacop
 use Rattle.sc_emit_select.specs.declared.operators.ShortForm.{ShortForm}

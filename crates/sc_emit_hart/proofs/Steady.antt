@@ -1,6 +1,6 @@
 -- A stretch leads from a steady state to a steady state.
-use Rattle.sc_emit_hart.proofs.Common.{All, Goes, ImageParts, IsSteady, IsWellFormed, IsWord, List, Outcome, State, Traps}
-use Rattle.sc_emit_hart.proofs.Common.{Walks, after_outcome, refl, step, subst, suc, then_on, walk, zero, ℕ, ◌≡◌}
+use Rattle.sc_emit_hart.proofs.Common.{All, Goes, ImageParts, IsSteady, IsWellFormed, IsWord, List, Outcome, State}
+use Rattle.sc_emit_hart.proofs.Common.{Traps, Walks, after_outcome, refl, step, subst, suc, then_on, walk, zero, ℕ, ◌≡◌}
 use Rattle.sc_image.proofs.Reached.{runs_are_steady}
 
 module _ (image : ImageParts) (inputs : List ℕ) (formed : IsWellFormed image) (words : All IsWord inputs) where

@@ -1,18 +1,12 @@
 -- One instruction, as a stretch of one step; and stretches in a row.
-use Rattle.sc_emit_hart.proofs.Common.{BadJump, Fetches, Goes, ImageParts, Instr, IsAt, List, Memory, Outcome, Owned, Owner}
-use Rattle.sc_emit_hart.proofs.Common.{Registers, Some, State, Traps, Walks, World, ap, ap₂, arith, at, calls, compares}
-use Rattle.sc_emit_hart.proofs.Common.{computed, data_start, eq-eqb, false, gives, jalr_target, jump, leaves, load_of, look}
-use Rattle.sc_emit_hart.proofs.Common.{on_registers, put_word, refl, set, shift_on_registers, step, steps_by_instruction}
-use Rattle.sc_emit_hart.proofs.Common.{store, stored, true, unless, word, word_at, ℕ, ℤ, ◌%◌, ◌+◌, ◌<◌, ◌∙◌, ◌≡◌}
-use Rattle.sc_word.specs.Prelude.{add_word, word_of}
-use Rattle.rv_code.specs.declared.instr.Instr.TheVariants.{Upper, Jal, Jalr, Branch, Load, Store, OpImm, Op, Shift}
-use Rattle.rv_code.specs.declared.instr.ShiftOp.{ShiftOp}
+use Rattle.sc_emit_hart.proofs.Common.{BadJump, Branch, Fetches, Goes, ImageParts, Instr, IsAt, Jal, Jalr, List, Load}
+use Rattle.sc_emit_hart.proofs.Common.{Lui, Lw, Memory, Op, OpImm, OpImmOp, OpOp, Outcome, Owned, Owner, Registers}
+use Rattle.sc_emit_hart.proofs.Common.{Shift, ShiftOp, Some, State, Store, Sw, Traps, Upper, Walks, World, add_word, ap}
+use Rattle.sc_emit_hart.proofs.Common.{ap₂, arith, at, calls, compares, computed, data_start, eq-eqb, false, gives}
+use Rattle.sc_emit_hart.proofs.Common.{jalr_target, jump, leaves, load_of, look, on_registers, put_word, refl, set}
+use Rattle.sc_emit_hart.proofs.Common.{shift_on_registers, step, steps_by_instruction, store, stored, true, unless}
+use Rattle.sc_emit_hart.proofs.Common.{word, word_at, word_of, ℕ, ℤ, ◌%◌, ◌+◌, ◌<◌, ◌∙◌, ◌≡◌}
 use Rattle.rv_code.specs.declared.instr.BranchOp.{BranchOp}
-use Rattle.rv_code.specs.declared.instr.UpperOp.TheVariants.{Lui}
-use Rattle.rv_code.specs.declared.instr.LoadOp.TheVariants.{Lw}
-use Rattle.rv_code.specs.declared.instr.StoreOp.TheVariants.{Sw}
-use Rattle.rv_code.specs.declared.instr.OpImmOp.{OpImmOp}
-use Rattle.rv_code.specs.declared.instr.OpOp.{OpOp}
 use Rattle.sc_image.proofs.Stretches.{stretches_compose}
 use Rattle.sc_emit_hart.proofs.Registers.{read_listed, write_listed}
 use Rattle.sc_emit_hart.proofs.Words.{owned_allowed, below_refused}

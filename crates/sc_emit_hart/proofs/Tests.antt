@@ -1,7 +1,7 @@
 -- Tests of words, as instructions compute them.
-use Rattle.sc_emit_hart.proofs.Common.{and_le_l, and_le_r, and_mask, ap, arith, bit_and, bit_or, bit_xor, le_or_l, le_or_r}
-use Rattle.sc_emit_hart.proofs.Common.{not, sltu_word, sym, tests_are_words, truth, ℕ, ◌%◌, ◌&&◌, ◌*◌, ◌+◌, ◌-◌, ◌<◌, ◌==◌}
-use Rattle.sc_emit_hart.proofs.Common.{◌^◌, ◌||◌, ◌∙◌, ◌≡◌, ◌≤◌}
+use Rattle.sc_emit_hart.proofs.Common.{and_le_l, and_le_r, and_mask, ap, arith, bit_and, bit_or, bit_xor, le_or_l}
+use Rattle.sc_emit_hart.proofs.Common.{le_or_r, not, sltu_word, sym, tests_are_words, truth, ℕ, ◌%◌, ◌&&◌, ◌*◌, ◌+◌}
+use Rattle.sc_emit_hart.proofs.Common.{◌-◌, ◌<◌, ◌==◌, ◌^◌, ◌||◌, ◌∙◌, ◌≡◌, ◌≤◌}
 use Rattle.std.specs.Int.Bits.{or_add_and, xor_add_and, xor_self}
 
 pub zero_test : (a : ℕ) → sltu_word a 1 ≡ truth (a == 0)

@@ -1,8 +1,8 @@
 -- Words in memory, and which of them are owned.
-use Rattle.sc_emit_hart.proofs.Common.{Apart, ImageParts, Memory, None, Owned, Owner, Some, WordsAreKept, are_data, arith}
-use Rattle.sc_emit_hart.proofs.Common.{cases_lt, data_start, eq-eqb, false, image_in_memory, inl, inr, lt-leb, nat_le}
-use Rattle.sc_emit_hart.proofs.Common.{put_word, refl, refused, stack_top, true, word, ℕ, ⊎_elim, ◌%◌, ◌+◌, ◌<◌, ◌^◌, ◌∙◌}
-use Rattle.sc_emit_hart.proofs.Common.{◌≡◌}
+use Rattle.sc_emit_hart.proofs.Common.{Apart, ImageParts, Memory, None, Owned, Owner, Some, WordsAreKept, are_data}
+use Rattle.sc_emit_hart.proofs.Common.{arith, cases_lt, data_start, eq-eqb, false, image_in_memory, inl, inr, lt-leb}
+use Rattle.sc_emit_hart.proofs.Common.{nat_le, put_word, refl, refused, stack_top, true, word, ℕ, ⊎_elim, ◌%◌, ◌+◌, ◌<◌}
+use Rattle.sc_emit_hart.proofs.Common.{◌^◌, ◌∙◌, ◌≡◌}
 use Rattle.sc_store.proofs.Words.{load_of-stored, load_of-apart}
 
 pub word_same : (memory : Memory) (a value : ℕ) → value < 2 ^ 32 → word (put_word memory a value) a ≡ value

@@ -1,6 +1,8 @@
 -- What the prologue of a function does, and its epilogue.
-use Rattle.sc_emit_hart.specs.Common.{ImageParts, Instr, Memory, Registers, Traps, Walks, World, address_scratch, at}
-use Rattle.sc_emit_hart.specs.Common.{frame_taken, moved_by, put_word, ra, sp, step, word}
+use Rattle.sc_emit_hart.specs.Common.{ImageParts, Instr, Memory, Traps, Walks, address_scratch, frame_taken, moved_by}
+use Rattle.sc_emit_hart.specs.Common.{ra, sp, step}
+use Rattle.sc_emit_hart.specs.Hart.{Registers, World, at}
+use Rattle.sc_emit_hart.specs.Words.{put_word, word}
 use Rattle.std.specs.Prelude.{◌≡◌, ℕ, ◌+◌, ◌<◌, List, [], ◌∷◌, length, pos}
 use Rattle.rv_code.specs.declared.instr.Instr.TheVariants.{Load}
 use Rattle.rv_code.specs.declared.instr.LoadOp.TheVariants.{Lw}

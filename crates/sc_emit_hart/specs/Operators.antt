@@ -1,8 +1,9 @@
 -- What the code of an operator computes of two words.
-use Rattle.sc_emit_hart.specs.Common.{Registers, address_scratch, bytes_of, first_scratch, look, second_scratch}
+use Rattle.sc_emit_hart.specs.Common.{address_scratch, bytes_of, first_scratch, second_scratch}
 use Rattle.sc_word.specs.Prelude.{add_word, div_word, mul_word, sub_word}
 use Rattle.sc_core.specs.Prelude.{negated_word, on_all_words, truth}
 use Rattle.sc_tac.specs.Prelude.{is_unsigned}
+use Rattle.sc_emit_hart.specs.Hart.{Registers, look}
 use Rattle.std.specs.Prelude.{◌≡◌, ◌≢◌, ℕ, ◌-◌, ◌^◌, ◌<◌, Bool, true, false, ◌==◌}
 use Rattle.sc_base.specs.declared.op.UnaryOp.{UnaryOp}
 use Rattle.sc_base.specs.declared.op.UnaryOp.TheVariants as unary

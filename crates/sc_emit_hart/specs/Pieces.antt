@@ -1,5 +1,8 @@
 -- What straight code does wherever it stands, an instruction a step: to the registers and to memory.
-use Rattle.sc_emit_hart.specs.Common.{CodeAt, ImageParts, Instr, Memory, Owned, Registers, Walks, World, at, put_word, sp}
+use Rattle.sc_emit_hart.specs.Common.{ImageParts, Instr, Memory, Walks, sp}
+use Rattle.sc_emit_hart.specs.Code.{CodeAt}
+use Rattle.sc_emit_hart.specs.Words.{Owned, put_word}
+use Rattle.sc_emit_hart.specs.Hart.{Registers, World, at}
 use Rattle.std.specs.Prelude.{◌≡◌, ◌≢◌, ℕ, ◌+◌, ◌*◌, ◌^◌, ◌<◌, List, [], ◌∷◌, length}
 
 -- a register is none of these

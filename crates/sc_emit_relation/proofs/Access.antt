@@ -1,9 +1,9 @@
 -- What a load and a store of the meaning say of blocks.
-use Rattle.sc_emit_relation.proofs.Common.{BadType, Block, Blocks, Bool, Cell, Dangling, Err, List, None, Null, Ok, Option}
-use Rattle.sc_emit_relation.proofs.Common.{OutOfBounds, Pointer, Ptr, Some, Value, Word, [], ap, bind, cell_of, false}
-use Rattle.sc_emit_relation.proofs.Common.{if◌then◌else◌, is_live, length, live_cells, load, loaded, ltb-true, nat_lt, refl}
-use Rattle.sc_emit_relation.proofs.Common.{slice_get, slice_set, store, suc, sym, true, with_cell, zero, ℕ, ◌<◌, ◌∙◌, ◌∷◌}
-use Rattle.sc_emit_relation.proofs.Common.{◌≡◌, ◌≢◌}
+use Rattle.sc_emit_relation.proofs.Common.{BadType, Block, Blocks, Bool, Cell, Dangling, Err, List, None, Null, Ok}
+use Rattle.sc_emit_relation.proofs.Common.{Option, OutOfBounds, Pointer, Ptr, Some, Value, Word, [], ap, bind, cell_of}
+use Rattle.sc_emit_relation.proofs.Common.{false, if◌then◌else◌, is_live, length, live_cells, load, loaded, ltb-true}
+use Rattle.sc_emit_relation.proofs.Common.{nat_lt, refl, slice_get, slice_set, store, suc, sym, true, with_cell, zero}
+use Rattle.sc_emit_relation.proofs.Common.{ℕ, ◌<◌, ◌∙◌, ◌∷◌, ◌≡◌, ◌≢◌}
 use Rattle.sc_core.specs.declared.value.Cell.TheVariants as cell
 
 -- a list after a write

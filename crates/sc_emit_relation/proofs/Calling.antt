@@ -1,13 +1,13 @@
 -- A call of a function, from its first instruction to its jump back: what its code begins with, and what is left of it.
-use Rattle.sc_emit_relation.proofs.Common.{Activation, All, Begins, BlocksMatch, Cell, Effect, FrameMatches, FrameTree}
-use Rattle.sc_emit_relation.proofs.Common.{Function, FrameFits, IsActivation, IsFrame, IsLeft, IsWellFormed, IsWord, Joint}
-use Rattle.sc_emit_relation.proofs.Common.{Leads, List, LiveAt, Memory as Bytes, Option, Place, Placed, Plan, Protected}
-use Rattle.sc_emit_relation.proofs.Common.{Ready, Registers, Returns, Set, Setting, Settled, Some, Standpoint, StandsFor}
-use Rattle.sc_emit_relation.proofs.Common.{State as Meant, Value, Walks, a0, ap, arith, begun, cases_eq, data_start, done}
-use Rattle.sc_emit_relation.proofs.Common.{eq-eqb, false, inr, length, machine, ne_eqb, no_temps, stack_depth, put, refl}
-use Rattle.sc_emit_relation.proofs.Common.{same_Some, seen_from, slice_get, slice_get_within, sp, stack_size, stack_top}
-use Rattle.sc_emit_relation.proofs.Common.{subst, sym, then_go, walks_steady, wanted, word, ℕ, ⊎_elim, ◌%◌, ◌+◌, ◌<◌, ◌∙◌}
-use Rattle.sc_emit_relation.proofs.Common.{◌≡◌, ◌≢◌, ◌≤◌, ◌⊎◌}
+use Rattle.sc_emit_relation.proofs.Common.{Activation, All, Begins, BlocksMatch, Cell, Effect, FrameFits, FrameMatches}
+use Rattle.sc_emit_relation.proofs.Common.{FrameTree, Function, IsActivation, IsFrame, IsLeft, IsWellFormed, IsWord}
+use Rattle.sc_emit_relation.proofs.Common.{Joint, Leads, List, LiveAt, Memory as Bytes, Option, Place, Placed, Plan}
+use Rattle.sc_emit_relation.proofs.Common.{Protected, Ready, Registers, Returns, Set, Setting, Settled, Some}
+use Rattle.sc_emit_relation.proofs.Common.{Standpoint, StandsFor, State as Meant, Value, Walks, a0, ap, arith, begun}
+use Rattle.sc_emit_relation.proofs.Common.{cases_eq, data_start, done, eq-eqb, false, inr, length, machine, ne_eqb}
+use Rattle.sc_emit_relation.proofs.Common.{no_temps, put, refl, same_Some, seen_from, slice_get, slice_get_within, sp}
+use Rattle.sc_emit_relation.proofs.Common.{stack_depth, stack_size, stack_top, subst, sym, then_go, walks_steady}
+use Rattle.sc_emit_relation.proofs.Common.{wanted, word, ℕ, ⊎_elim, ◌%◌, ◌+◌, ◌<◌, ◌∙◌, ◌≡◌, ◌≢◌, ◌≤◌, ◌⊎◌}
 use Rattle.sc_emit_relation.proofs.Ending.{lives_on, length_closed, LivesOn, depth_begun, depth_begun_else, depth_done}
 use Rattle.sc_emit_relation.proofs.Ending.{depth_done_else, timed_closed, timed_opened}
 use Rattle.sc_emit_relation.proofs.Held.{held_at_entry}

@@ -26,17 +26,12 @@ pub use Rattle.sc_core.specs.declared.value.Pointer.{Pointer}
 pub use Rattle.sc_core.specs.declared.value.Value.TheVariants.{Null, Ptr, Word}
 pub use Rattle.sc_core_laws.proofs.Growing.{done_goes, follow_goes, more, no_turn, reached, stays, then_from, then_goes}
 pub use Rattle.sc_core_laws.proofs.Growing.{turn_goes}
-pub use Rattle.sc_core_laws.specs.Prelude.{AllBefore, Goes, Grown, last, stack_depth, depth_after}
+pub use Rattle.sc_core_laws.specs.Prelude.{AllBefore, Goes, Grown, depth_after, last, stack_depth}
 pub use Rattle.rv_code.specs.declared.instr.Instr.{Instr}
 pub use Rattle.sc_store.specs.Prelude.{Memory}
 pub use Rattle.sc_image.proofs.Memory.{few_globals}
 pub use Rattle.sc_image.specs.Prelude.{IsWellFormed, IsWord, Traps, Walks, data_start, stack_size, stack_top, step}
 pub use Rattle.sc_image.specs.Prelude.{word_at}
-pub use Rattle.sc_emit_hart.proofs.Inside.{IsInside, code_inside}
-pub use Rattle.sc_emit_hart.proofs.Steady.{walks_steady}
-pub use Rattle.sc_emit_hart.proofs.Steps.{jal, op_imm, stay, then_go}
-pub use Rattle.sc_emit_hart.proofs.Words.{apart_from, word_apart, word_same}
-pub use Rattle.sc_emit_hart.specs.Prelude.{Apart, CodeAt, Fetches, Owned, Registers, data_end, put, put_word, word}
 pub use Rattle.sc_tac.specs.Prelude.{Codes, FrameFits, InSlot, IsClear, IsFrame, Lives, Point, Range, Set, Temps, Trail}
 pub use Rattle.sc_tac.specs.Prelude.{ahead_at, end_of, in_body, in_head, in_next, is_comparison, is_one, is_pointer}
 pub use Rattle.sc_tac.specs.Prelude.{is_unsigned, known, live_across, live_at_start, live_before, loop_points, no_temps}
@@ -45,15 +40,22 @@ pub use Rattle.sc_tac.specs.Prelude.{read, readings, row_first, row_points, take
 pub use Rattle.sc_tac.specs.declared.frame.FrameTree.{FrameTree}
 pub use Rattle.sc_tac.specs.declared.place.Place.TheVariants.{Register, Slot}
 pub use Rattle.sc_emit_select.specs.Prelude.{Addresses, Line, Plan, a0, a7, address_scratch, branch_back, branch_reach}
-pub use Rattle.sc_emit_select.specs.Prelude.{breaking, bytes_of, code_of_lines, completed, continuing, cycle, first_scratch}
-pub use Rattle.sc_emit_select.specs.Prelude.{followed, jump_back, linked, linked_from, low_after, low_of_target, nothing, plain}
-pub use Rattle.sc_emit_select.specs.Prelude.{plainly, ra, register_of, relocation_of, relocations_after, relocations_from}
-pub use Rattle.sc_emit_select.specs.Prelude.{rotated, second_scratch, sp, target_at, testing, with_low, with_target}
+pub use Rattle.sc_emit_select.specs.Prelude.{breaking, bytes_of, code_of_lines, completed, continuing, cycle}
+pub use Rattle.sc_emit_select.specs.Prelude.{first_scratch, followed, jump_back, linked, linked_from, low_after}
+pub use Rattle.sc_emit_select.specs.Prelude.{low_of_target, nothing, plain, plainly, ra, register_of, relocation_of}
+pub use Rattle.sc_emit_select.specs.Prelude.{relocations_after, relocations_from, rotated, second_scratch, sp}
+pub use Rattle.sc_emit_select.specs.Prelude.{target_at, testing, with_low, with_target}
+pub use Rattle.sc_emit_hart.proofs.Inside.{IsInside, code_inside}
+pub use Rattle.sc_emit_hart.proofs.Steady.{walks_steady}
+pub use Rattle.sc_emit_hart.proofs.Steps.{jal, op_imm, stay, then_go}
+pub use Rattle.sc_emit_hart.proofs.Words.{apart_from, word_apart, word_same}
+pub use Rattle.sc_emit_hart.specs.Prelude.{Apart, CodeAt, Fetches, Owned, Registers, data_end, op_word, put, put_word}
+pub use Rattle.sc_emit_hart.specs.Prelude.{stepped_word, unary_word, word}
 pub use Rattle.sc_emit_relation.specs.Common.{CallTarget, Cell, ImageParts, Jal, Place, Value}
-pub use Rattle.sc_emit_relation.specs.Prelude.{Activation, AreInPlace, Arrives, Begins, Beside, BlocksMatch, Came, Comes}
-pub use Rattle.sc_emit_relation.specs.Prelude.{ComesBack, Costs, Effect, Ends, ExitGives, Follows, FrameMatches}
-pub use Rattle.sc_emit_relation.specs.Prelude.{FunctionGives, ReturnsValue, Gives, Guarded, InCell, InPlace, Injection}
-pub use Rattle.sc_emit_relation.specs.Prelude.{IsActivation, IsAddress, IsElement, IsInPlace, IsLeft, IsSound, Joint, Leads}
-pub use Rattle.sc_emit_relation.specs.Prelude.{LiveAt, Means, Overflows, Placed, Protected, Ready, Returns, Running, Setting}
-pub use Rattle.sc_emit_relation.specs.Prelude.{Settled, Emits, Standpoint, StandsAt, StandsFor, Starts, ends_of, machine}
-pub use Rattle.sc_emit_relation.specs.Prelude.{own_words, row, seen_from, wanted}
+pub use Rattle.sc_emit_relation.specs.Prelude.{Activation, AreInPlace, Arrives, Begins, Beside, BlocksMatch, Came}
+pub use Rattle.sc_emit_relation.specs.Prelude.{Comes, ComesBack, Costs, Effect, Emits, Ends, ExitGives, Follows}
+pub use Rattle.sc_emit_relation.specs.Prelude.{FrameMatches, FunctionGives, Gives, Guarded, InCell, InPlace, Injection}
+pub use Rattle.sc_emit_relation.specs.Prelude.{IsActivation, IsAddress, IsElement, IsInPlace, IsLeft, IsSound, Joint}
+pub use Rattle.sc_emit_relation.specs.Prelude.{Leads, LiveAt, Means, Overflows, Placed, Protected, Ready, Returns}
+pub use Rattle.sc_emit_relation.specs.Prelude.{ReturnsValue, Running, Setting, Settled, Standpoint, StandsAt, StandsFor}
+pub use Rattle.sc_emit_relation.specs.Prelude.{Starts, ends_of, machine, own_words, row, seen_from, wanted}

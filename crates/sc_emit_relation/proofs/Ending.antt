@@ -1,9 +1,10 @@
 -- A call ends: its blocks no longer live, and the stack depth is less by its frame size.
-use Rattle.sc_emit_relation.proofs.Common.{AllBefore, Block, Blocks, Bool, Cell, Closed, FrameChange, Function, List, LiveAt}
-use Rattle.sc_emit_relation.proofs.Common.{Opened, Option, Some, State as Meant, Value, [], ap, arith, begun, cases_eq, done}
-use Rattle.sc_emit_relation.proofs.Common.{ended, eq-eqb, false, if◌then◌else◌, inl, inr, length, ne_eqb, stack_depth, refl}
-use Rattle.sc_emit_relation.proofs.Common.{depth_after, same_Some, slice_get, suc, sym, true, with_blocks, zero, ℕ, ⊎_elim}
-use Rattle.sc_emit_relation.proofs.Common.{◌++◌, ◌+◌, ◌-◌, ◌<◌, ◌==◌, ◌∙◌, ◌∷◌, ◌≡◌, ◌≢◌, ◌≤◌, ◌⊎◌}
+use Rattle.sc_emit_relation.proofs.Common.{AllBefore, Block, Blocks, Bool, Cell, Closed, FrameChange, Function, List}
+use Rattle.sc_emit_relation.proofs.Common.{LiveAt, Opened, Option, Some, State as Meant, Value, [], ap, arith, begun}
+use Rattle.sc_emit_relation.proofs.Common.{cases_eq, depth_after, done, ended, eq-eqb, false, if◌then◌else◌, inl, inr}
+use Rattle.sc_emit_relation.proofs.Common.{length, ne_eqb, refl, same_Some, slice_get, stack_depth, suc, sym, true}
+use Rattle.sc_emit_relation.proofs.Common.{with_blocks, zero, ℕ, ⊎_elim, ◌++◌, ◌+◌, ◌-◌, ◌<◌, ◌==◌, ◌∙◌, ◌∷◌, ◌≡◌, ◌≢◌}
+use Rattle.sc_emit_relation.proofs.Common.{◌≤◌, ◌⊎◌}
 use Rattle.sc_core.specs.Prelude.{Memory}
 use Rattle.sc_emit_relation.proofs.Access.{LivesIn}
 
@@ -88,15 +89,18 @@ last_change k depth (Closed timed c less ∷ xs) last =
     (last_change k (depth - less) xs last) (last_change k depth xs last)
 
 module _ (k comp : ℕ) (f : Function) (s : Meant) where
-  pub depth_begun : (args : List Value) → k ≡ comp → stack_depth k (begun comp f args s) ≡ stack_depth k s + f.frame_size
-  depth_begun args e = last_change k 0 s.frames (Opened (length s.trace) comp f.frame_size) ∙ rw (eq-eqb comp k (sym e)) refl
+  pub depth_begun : (args : List Value) → k ≡ comp →
+      stack_depth k (begun comp f args s) ≡ stack_depth k s + f.frame_size
+  depth_begun args e = last_change k 0 s.frames (Opened (length s.trace) comp f.frame_size) ∙
+      rw (eq-eqb comp k (sym e)) refl
 
   pub depth_begun_else : (args : List Value) → k ≢ comp → stack_depth k (begun comp f args s) ≡ stack_depth k s
   depth_begun_else args n =
       last_change k 0 s.frames (Opened (length s.trace) comp f.frame_size) ∙ rw (ne_eqb comp k (λ e. n (sym e))) refl
 
   pub depth_done : (first : ℕ) → k ≡ comp → stack_depth k (done comp f first s) ≡ stack_depth k s - f.frame_size
-  depth_done first e = last_change k 0 s.frames (Closed (length s.trace) comp f.frame_size) ∙ rw (eq-eqb comp k (sym e)) refl
+  depth_done first e = last_change k 0 s.frames (Closed (length s.trace) comp f.frame_size) ∙
+      rw (eq-eqb comp k (sym e)) refl
 
   pub depth_done_else : (first : ℕ) → k ≢ comp → stack_depth k (done comp f first s) ≡ stack_depth k s
   depth_done_else first n =

@@ -1,10 +1,10 @@
 -- What comes of the parts of a statement: it reads what was assigned, it computes what the meaning computes, or both
 -- sides end; and a call that came back.
-use Rattle.sc_emit_relation.proofs.Common.{All, CallTarget, Cause, Comes, ComesBack, Ends, Err, ReturnsValue, Here, IsClear}
-use Rattle.sc_emit_relation.proofs.Common.{Joint, Leads, Left, List, Lives, None, Ok, Option, Piece, Ready, Result, Running}
-use Rattle.sc_emit_relation.proofs.Common.{Setting, Some, Standpoint, State as Meant, Temps, Value, a0, and_then, ap, arith}
-use Rattle.sc_emit_relation.proofs.Common.{computed, false, inl, known, live_across, plain_points, read, refl, seen_from}
-use Rattle.sc_emit_relation.proofs.Common.{subst, true, ℕ, ◌+◌, ◌≡◌}
+use Rattle.sc_emit_relation.proofs.Common.{All, CallTarget, Cause, Comes, ComesBack, Ends, Err, Here, IsClear, Joint}
+use Rattle.sc_emit_relation.proofs.Common.{Leads, Left, List, Lives, None, Ok, Option, Piece, Ready, Result}
+use Rattle.sc_emit_relation.proofs.Common.{ReturnsValue, Running, Setting, Some, Standpoint, State as Meant, Temps}
+use Rattle.sc_emit_relation.proofs.Common.{Value, a0, and_then, ap, arith, computed, false, inl, known, live_across}
+use Rattle.sc_emit_relation.proofs.Common.{plain_points, read, refl, seen_from, subst, true, ℕ, ◌+◌, ◌≡◌}
 use Rattle.sc_emit_relation.proofs.Straight.{live_plain, call_from, leads_from, called}
 use Rattle.sc_emit_relation.proofs.Stretches.{emits_here}
 

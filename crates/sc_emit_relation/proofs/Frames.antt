@@ -1,9 +1,9 @@
 -- The words that a frame keeps for itself, and its objects: they lie inside it, and no two meet.
-use Rattle.sc_emit_relation.proofs.Common.{AllPairs, Apart, FrameTree, FrameFits, List, Place, Range, Some, [], all_at, ap}
-use Rattle.sc_emit_relation.proofs.Common.{ap₂, arith, cases_order, end_of, get_or_from_slice_get, inl, inr, is_there}
-use Rattle.sc_emit_relation.proofs.Common.{length, length-map, map, object_range, own_words, ranges_of, same_Some, slice_get}
-use Rattle.sc_emit_relation.proofs.Common.{slice_get_within, subst₂, suc, zero, zip, ℕ, ⊎_elim, ◌*◌, ◌++◌, ◌+◌, ◌<◌, ◌∙◌}
-use Rattle.sc_emit_relation.proofs.Common.{◌∷◌, ◌≡◌, ◌≢◌, ◌≤◌, ◌⊎◌}
+use Rattle.sc_emit_relation.proofs.Common.{AllPairs, Apart, FrameFits, FrameTree, List, Place, Range, Some, [], all_at}
+use Rattle.sc_emit_relation.proofs.Common.{ap, ap₂, arith, cases_order, end_of, get_or_from_slice_get, inl, inr}
+use Rattle.sc_emit_relation.proofs.Common.{is_there, length, length-map, map, object_range, own_words, ranges_of}
+use Rattle.sc_emit_relation.proofs.Common.{same_Some, slice_get, slice_get_within, subst₂, suc, zero, zip, ℕ, ⊎_elim}
+use Rattle.sc_emit_relation.proofs.Common.{◌*◌, ◌++◌, ◌+◌, ◌<◌, ◌∙◌, ◌∷◌, ◌≡◌, ◌≢◌, ◌≤◌, ◌⊎◌}
 use Rattle.sc_tac.specs.Prelude.{Apart as RangesApart, word_at}
 
 pair_at : {X : Type 0} (R : X → X → Type 0) (xs : List X) (i j : ℕ) (x y : X) → AllPairs R xs → i < j →
@@ -47,7 +47,8 @@ module _ (cells : List ℕ) (places : List Place) (nodes : ℕ) (frame : FrameTr
   in_order : (i j o u : ℕ) → i < j → slice_get (own_words frame) i ≡ Some o → slice_get (own_words frame) j ≡ Some u →
       Apart o u
   in_order i j o u l e f =
-      pair_at RangesApart (ranges_of cells frame) i j (word_at o) (word_at u) frame_fits.apart l (own_at i o e) (own_at j u f)
+      pair_at RangesApart (ranges_of cells frame) i j (word_at o) (word_at u) frame_fits.apart l (own_at i o e)
+      (own_at j u f)
 
   pub own_apart : (i j o u : ℕ) → i ≢ j → slice_get (own_words frame) i ≡ Some o →
       slice_get (own_words frame) j ≡ Some u → Apart o u
@@ -94,5 +95,6 @@ module _ (cells : List ℕ) (places : List Place) (nodes : ℕ) (frame : FrameTr
       let within : i < length (own_words frame) = slice_get_within (own_words frame) i u e in
       let long : length (map word_at (own_words frame)) ≡ length (own_words frame) =
       length-map (own_words frame) word_at in
-      pair_at RangesApart (ranges_of cells frame) i (following + o) (word_at u) _ frame_fits.apart (omega arith) (own_at i u e)
+      pair_at RangesApart (ranges_of cells frame) i (following + o) (word_at u) _ frame_fits.apart (omega arith)
+      (own_at i u e)
       (object_at o offset n f g)

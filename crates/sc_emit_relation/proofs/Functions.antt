@@ -1,11 +1,12 @@
 -- What comes of a call of a function, from what comes of its body; and of one whose frame goes below the stack.
-use Rattle.sc_emit_relation.proofs.Common.{All, Begins, FrameTree, Function, FunctionGives, Grown, FrameFits, IsFrame}
-use Rattle.sc_emit_relation.proofs.Common.{IsWellFormed, IsWord, Joint, List, Memory as Bytes, Option, Overflows, Piece}
-use Rattle.sc_emit_relation.proofs.Common.{Place, Plan, Reached, Registers, Returns, Running, Set, Setting, Emits, Some}
-use Rattle.sc_emit_relation.proofs.Common.{Standpoint, State as Meant, Stopped, Traps, Value, Walks, and_then, ap, arith}
-use Rattle.sc_emit_relation.proofs.Common.{begun, data_start, done, done_goes, inl, inr, last, length, machine, more}
-use Rattle.sc_emit_relation.proofs.Common.{stack_depth, reached, seen_from, slice_get, stack_size, step, subst, sym, then_from}
-use Rattle.sc_emit_relation.proofs.Common.{then_go, ℕ, ⊎_elim, ◌+◌, ◌<◌, ◌∙◌, ◌≡◌, ◌≤◌, ◌⊎◌}
+use Rattle.sc_emit_relation.proofs.Common.{All, Begins, Emits, FrameFits, FrameTree, Function, FunctionGives, Grown}
+use Rattle.sc_emit_relation.proofs.Common.{IsFrame, IsWellFormed, IsWord, Joint, List, Memory as Bytes, Option}
+use Rattle.sc_emit_relation.proofs.Common.{Overflows, Piece, Place, Plan, Reached, Registers, Returns, Running, Set}
+use Rattle.sc_emit_relation.proofs.Common.{Setting, Some, Standpoint, State as Meant, Stopped, Traps, Value, Walks}
+use Rattle.sc_emit_relation.proofs.Common.{and_then, ap, arith, begun, data_start, done, done_goes, inl, inr, last}
+use Rattle.sc_emit_relation.proofs.Common.{length, machine, more, reached, seen_from, slice_get, stack_depth}
+use Rattle.sc_emit_relation.proofs.Common.{stack_size, step, subst, sym, then_from, then_go, ℕ, ⊎_elim, ◌+◌, ◌<◌, ◌∙◌}
+use Rattle.sc_emit_relation.proofs.Common.{◌≡◌, ◌≤◌, ◌⊎◌}
 use Rattle.sc_image.specs.Prelude.{State}
 use Rattle.sc_base.specs.declared.stop.TrapReason.TheVariants.{Owner}
 use Rattle.sc_emit_relation.proofs.Ending.{timed_opened}
@@ -45,7 +46,8 @@ module _ (T : Setting) (formed : IsWellFormed T.image) (inputs : All IsWord T.in
       (frame_fits : FrameFits f.cells places nodes frame) (roomy : frame.bytes ≤ f.frame_size)
       (bound_is : P.bound ≡ low + frame.bytes) (start : data_start P.comp ≤ low) (n pc : ℕ) (regs : Registers)
       (bytes : Bytes)
-      (enters : Enters T formed inputs P f args address ra_is x begins frame places nodes low whole frame_fits roomy bound_is
+      (enters : Enters T formed inputs P f args address ra_is x begins frame places nodes low whole frame_fits roomy
+      bound_is
       start n pc regs bytes)
       (params : (o n : ℕ) → o < length args → slice_get f.cells o ≡ Some n → 1 ≤ n) (to : ℕ) (plan : Plan) where
     abbrev y : Joint
@@ -74,7 +76,8 @@ module _ (T : Setting) (formed : IsWellFormed T.image) (inputs : All IsWord T.in
     gives_entered : (budget : ℕ) (piece : Piece (Option Value)) → BodyGives budget piece →
         FunctionGives T P x (n + budget) ra_is (with_end piece)
     gives_entered budget (Reached v s) g =
-        is_left T formed inputs P f args address ra_is x begins frame places nodes low whole frame_fits roomy bound_is start n
+        is_left T formed inputs P f args address ra_is x begins frame places nodes low whole frame_fits roomy bound_is
+        start n
         pc regs bytes enters params plan to budget v s g
     gives_entered budget (Stopped end s) g = emits_entered budget s g
 

@@ -1,10 +1,11 @@
 -- The frame of the running call and the values in its places, across what code does.
-use Rattle.sc_emit_relation.proofs.Common.{Activation, Apart, AreInPlace, FrameMatches, Guarded, FrameFits, ImageParts, InPlace}
-use Rattle.sc_emit_relation.proofs.Common.{InSlot, Injection, IsClear, IsInPlace, List, Means, Memory as Bytes, Null, Option}
-use Rattle.sc_emit_relation.proofs.Common.{Place, Point, Ptr, Register, Registers, Set, Slot, Some, StandsFor, Temps, Value}
-use Rattle.sc_emit_relation.proofs.Common.{Word, ap, apart_from, arith, cases_eq, eq-eqb, ne_eqb, no_temps, own_words}
-use Rattle.sc_emit_relation.proofs.Common.{put_word, refl, register_of, same_Some, slice_get, subst, suc, sym, true}
-use Rattle.sc_emit_relation.proofs.Common.{with_temp, word, word_apart, ℕ, ⊎_elim, ◌+◌, ◌∙◌, ◌≡◌, ◌≢◌}
+use Rattle.sc_emit_relation.proofs.Common.{Activation, Apart, AreInPlace, FrameFits, FrameMatches, Guarded, ImageParts}
+use Rattle.sc_emit_relation.proofs.Common.{InPlace, InSlot, Injection, IsClear, IsInPlace, List, Means, Memory as Bytes}
+use Rattle.sc_emit_relation.proofs.Common.{Null, Option, Place, Point, Ptr, Register, Registers, Set, Slot, Some}
+use Rattle.sc_emit_relation.proofs.Common.{StandsFor, Temps, Value, Word, ap, apart_from, arith, cases_eq, eq-eqb}
+use Rattle.sc_emit_relation.proofs.Common.{ne_eqb, no_temps, own_words, put_word, refl, register_of, same_Some}
+use Rattle.sc_emit_relation.proofs.Common.{slice_get, subst, suc, sym, true, with_temp, word, word_apart, ℕ, ⊎_elim}
+use Rattle.sc_emit_relation.proofs.Common.{◌+◌, ◌∙◌, ◌≡◌, ◌≢◌}
 use Rattle.sc_core.specs.Prelude.{Memory}
 use Rattle.sc_emit_relation.proofs.Frames.{own_apart}
 use Rattle.sc_emit_relation.proofs.Registers.{HasNoOtherUse, no_other_use, register_same}

@@ -1,9 +1,10 @@
 -- Jumps inside the code of a function: over lines, and back.
-use Rattle.sc_emit_relation.proofs.Common.{All, Arrives, Break, Continue, Fetches, Follows, IsInside, IsSome, IsWellFormed}
-use Rattle.sc_emit_relation.proofs.Common.{IsWord, Jal, Joint, Leads, Ready, Running, Set, Setting, Some, Standpoint, Temps}
-use Rattle.sc_emit_relation.proofs.Common.{add_word, ap, arith, breaking, code_inside, continuing, inl, is_some, jal, leave}
-use Rattle.sc_emit_relation.proofs.Common.{machine, neg_ℤ, pos, refl, seen_from, stays, suc, trail_step, walks_steady}
-use Rattle.sc_emit_relation.proofs.Common.{word_at, word_of, zero, ℕ, ℤ, ◌%◌, ◌*◌, ◌+◌, ◌-◌, ◌<◌, ◌^◌, ◌∙◌, ◌≡◌, ◌≤◌}
+use Rattle.sc_emit_relation.proofs.Common.{All, Arrives, Break, Continue, Fetches, Follows, IsInside, IsSome}
+use Rattle.sc_emit_relation.proofs.Common.{IsWellFormed, IsWord, Jal, Joint, Leads, Ready, Running, Set, Setting, Some}
+use Rattle.sc_emit_relation.proofs.Common.{Standpoint, Temps, add_word, ap, arith, breaking, code_inside, continuing}
+use Rattle.sc_emit_relation.proofs.Common.{inl, is_some, jal, leave, machine, neg_ℤ, pos, refl, seen_from, stays, suc}
+use Rattle.sc_emit_relation.proofs.Common.{trail_step, walks_steady, word_at, word_of, zero, ℕ, ℤ, ◌%◌, ◌*◌, ◌+◌, ◌-◌}
+use Rattle.sc_emit_relation.proofs.Common.{◌<◌, ◌^◌, ◌∙◌, ◌≡◌, ◌≤◌}
 use Rattle.sc_emit_relation.proofs.Coming.{came_by}
 use Rattle.sc_tac.specs.declared.stmt.TacStmt.TheOpen as tac
 use Rattle.sc_emit_relation.proofs.Stretches.{effect_still, arrives_with}

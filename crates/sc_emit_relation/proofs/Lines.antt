@@ -1,7 +1,7 @@
 -- Lines that the linker completed, in parts.
-use Rattle.sc_emit_relation.proofs.Common.{Addresses, CodeAt, ImageParts, Instr, Line, List, None, Option, [], ap, arith}
-use Rattle.sc_emit_relation.proofs.Common.{completed, length, low_after, low_of_target, plainly, refl, subst, suc, with_low}
-use Rattle.sc_emit_relation.proofs.Common.{with_target, ℕ, ◌*◌, ◌++◌, ◌+◌, ◌∙◌, ◌∷◌, ◌≡◌}
+use Rattle.sc_emit_relation.proofs.Common.{Addresses, CodeAt, ImageParts, Instr, Line, List, None, Option, [], ap}
+use Rattle.sc_emit_relation.proofs.Common.{arith, completed, length, low_after, low_of_target, plainly, refl, subst}
+use Rattle.sc_emit_relation.proofs.Common.{suc, with_low, with_target, ℕ, ◌*◌, ◌++◌, ◌+◌, ◌∙◌, ◌∷◌, ◌≡◌}
 use Rattle.sc_emit_hart.proofs.Fetching.{prefix_at, back_at}
 
 module _ (addresses : Addresses) where

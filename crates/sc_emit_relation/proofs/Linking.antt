@@ -1,8 +1,8 @@
 -- Code as the linker completes it by its relocations is what it completes line by line.
 use Rattle.sc_emit_relation.proofs.Common.{Addresses, Instr, Line, List, None, Option, Some, [], ap, ap₂, arith}
-use Rattle.sc_emit_relation.proofs.Common.{code_of_lines, completed, eq-eqb, linked, linked_from, low_of_target, map, ne_eqb}
-use Rattle.sc_emit_relation.proofs.Common.{refl, relocation_of, relocations_after, relocations_from, suc, target_at}
-use Rattle.sc_emit_relation.proofs.Common.{with_low, with_target, ℕ, ◌++◌, ◌+◌, ◌<◌, ◌∙◌, ◌∷◌, ◌≡◌}
+use Rattle.sc_emit_relation.proofs.Common.{code_of_lines, completed, eq-eqb, linked, linked_from, low_of_target, map}
+use Rattle.sc_emit_relation.proofs.Common.{ne_eqb, refl, relocation_of, relocations_after, relocations_from, suc}
+use Rattle.sc_emit_relation.proofs.Common.{target_at, with_low, with_target, ℕ, ◌++◌, ◌+◌, ◌<◌, ◌∙◌, ◌∷◌, ◌≡◌}
 use Rattle.sc_tac.specs.declared.machine_code.Relocation.{Relocation}
 use Rattle.sc_tac.specs.declared.machine_code.Target.{Target}
 

@@ -1,13 +1,13 @@
 -- Loops.
 use Rattle.sc_emit_relation.proofs.Common.{All, Arrives, Break, Codes, Comes, Continue, Ends, Exit, ExitGives, Fetches}
 use Rattle.sc_emit_relation.proofs.Common.{Follows, Gives, IsClear, IsWellFormed, IsWord, Jal, Joint, Leads, Left, Line}
-use Rattle.sc_emit_relation.proofs.Common.{List, Lives, Next, None, Piece, Reached, Ready, Return, Running, Set, Setting}
-use Rattle.sc_emit_relation.proofs.Common.{Settled, Standpoint, StandsAt, Starts, Stopped, Temps, Trail, Walks, [], add_word}
-use Rattle.sc_emit_relation.proofs.Common.{ap, arith, code_inside, cycle, ends_of, follow, in_body, in_head, in_loop, inl}
-use Rattle.sc_emit_relation.proofs.Common.{is_some, jump_back, length, length-append, live_at_start, live_before, loop}
-use Rattle.sc_emit_relation.proofs.Common.{loop_points, low_after, machine, neg_ℤ, op_imm, pos, refl, rounds, row, seen_from}
-use Rattle.sc_emit_relation.proofs.Common.{subst, suc, sym, take, trail_step, word_of, zero, ℕ, ⊎_elim, ◌*◌, ◌++◌, ◌+◌, ◌∙◌}
-use Rattle.sc_emit_relation.proofs.Common.{◌∷◌, ◌≡◌, ◌≤◌}
+use Rattle.sc_emit_relation.proofs.Common.{List, Lives, Next, None, Piece, Reached, Ready, Return, Running, Set}
+use Rattle.sc_emit_relation.proofs.Common.{Setting, Settled, Standpoint, StandsAt, Starts, Stopped, Temps, Trail, Walks}
+use Rattle.sc_emit_relation.proofs.Common.{[], add_word, ap, arith, code_inside, cycle, ends_of, follow, in_body}
+use Rattle.sc_emit_relation.proofs.Common.{in_head, in_loop, inl, is_some, jump_back, length, length-append}
+use Rattle.sc_emit_relation.proofs.Common.{live_at_start, live_before, loop, loop_points, low_after, machine, neg_ℤ}
+use Rattle.sc_emit_relation.proofs.Common.{op_imm, pos, refl, rounds, row, seen_from, subst, suc, sym, take, trail_step}
+use Rattle.sc_emit_relation.proofs.Common.{word_of, zero, ℕ, ⊎_elim, ◌*◌, ◌++◌, ◌+◌, ◌∙◌, ◌∷◌, ◌≡◌, ◌≤◌}
 use Rattle.sc_emit_select.specs.Prelude.{Piece as Code}
 use Rattle.rv_code.specs.declared.instr.Instr.TheVariants.{OpImm}
 use Rattle.rv_code.specs.declared.instr.OpImmOp.TheVariants.{Addi}

@@ -1,12 +1,13 @@
 -- A call begins: its blocks, their places in its frame, and how the bytes stand for all blocks then.
-use Rattle.sc_emit_relation.proofs.Common.{Block, BlocksMatch, Bool, Cell, FrameTree, Guarded, FrameFits, ImageParts, InCell}
-use Rattle.sc_emit_relation.proofs.Common.{Injection, IsFrame, IsWellFormed, List, LiveAt, Memory as Bytes, None, Option}
-use Rattle.sc_emit_relation.proofs.Common.{Owned, Place, Placed, Some, StandsFor, Value, [], all_at, ap, arith, blocks_for}
-use Rattle.sc_emit_relation.proofs.Common.{cases_eq, cases_lt, cases_order, cell_of, data_start, eq-eqb, false, few_globals}
-use Rattle.sc_emit_relation.proofs.Common.{get_prefix, if◌then◌else◌, inl, inr, le-leb, length, length-append, lt-leb, nat_eq}
-use Rattle.sc_emit_relation.proofs.Common.{nat_le, ne_eqb, own_words, put, refl, replicate, same_Some, slice_get}
-use Rattle.sc_emit_relation.proofs.Common.{slice_get_within, stack_top, subst, suc, sym, true, with_blocks, word, zero, ℕ}
-use Rattle.sc_emit_relation.proofs.Common.{⊎_elim, ◌%◌, ◌&&◌, ◌*◌, ◌++◌, ◌+◌, ◌-◌, ◌<◌, ◌∙◌, ◌∷◌, ◌≡◌, ◌≢◌, ◌≤◌, ◌⊎◌}
+use Rattle.sc_emit_relation.proofs.Common.{Block, BlocksMatch, Bool, Cell, FrameFits, FrameTree, Guarded, ImageParts}
+use Rattle.sc_emit_relation.proofs.Common.{InCell, Injection, IsFrame, IsWellFormed, List, LiveAt, Memory as Bytes}
+use Rattle.sc_emit_relation.proofs.Common.{None, Option, Owned, Place, Placed, Some, StandsFor, Value, [], all_at, ap}
+use Rattle.sc_emit_relation.proofs.Common.{arith, blocks_for, cases_eq, cases_lt, cases_order, cell_of, data_start}
+use Rattle.sc_emit_relation.proofs.Common.{eq-eqb, false, few_globals, get_prefix, if◌then◌else◌, inl, inr, le-leb}
+use Rattle.sc_emit_relation.proofs.Common.{length, length-append, lt-leb, nat_eq, nat_le, ne_eqb, own_words, put, refl}
+use Rattle.sc_emit_relation.proofs.Common.{replicate, same_Some, slice_get, slice_get_within, stack_top, subst, suc}
+use Rattle.sc_emit_relation.proofs.Common.{sym, true, with_blocks, word, zero, ℕ, ⊎_elim, ◌%◌, ◌&&◌, ◌*◌, ◌++◌, ◌+◌}
+use Rattle.sc_emit_relation.proofs.Common.{◌-◌, ◌<◌, ◌∙◌, ◌∷◌, ◌≡◌, ◌≢◌, ◌≤◌, ◌⊎◌}
 use Rattle.sc_core.specs.Prelude.{Memory}
 use Rattle.std.specs.Option.{option_map}
 use Rattle.sc_core.specs.declared.value.Cell.TheVariants as cell

@@ -1,15 +1,16 @@
 -- The word that an operator's code computes stands for the operator's value.
-use Rattle.sc_emit_relation.proofs.Common.{BadPointer, BadType, BlocksMatch, Bool, Cause, Cell, Err, ImageParts, Injection}
-use Rattle.sc_emit_relation.proofs.Common.{IsAddress, IsElement, IsSound, IsWellFormed, List, LiveAt, Means, Memory as Bytes}
-use Rattle.sc_emit_relation.proofs.Common.{Null, Ok, Option, Pointer, Ptr, Result, Some, StandsFor, Value, Word, add_word}
-use Rattle.sc_emit_relation.proofs.Common.{ap, apart, applied_one, ap₂, arith, between, bind, bytes_of, data_end, div_word}
-use Rattle.sc_emit_relation.proofs.Common.{eq-eqb, eqb-true, false, few_globals, if◌then◌else◌, in_elements, int_div}
-use Rattle.sc_emit_relation.proofs.Common.{int_rem, is_comparison, is_inside, is_pointer, is_unsigned, is_zero, length}
-use Rattle.sc_emit_relation.proofs.Common.{moved, moved_back, moved_on, nat_lt, ne_eqb, neg_ℤ, negated_word, not, number_of}
-use Rattle.sc_emit_relation.proofs.Common.{of_bool, on_all_words, on_words, operated, ordered, pos, refl, same_Some}
-use Rattle.sc_emit_relation.proofs.Common.{same_place, sub_word, subst, sym, takes_two, true, true≢false, truth, word_of}
-use Rattle.sc_emit_relation.proofs.Common.{wrapping, ℕ, ℤ, ⊎_elim, ◌&&◌, ◌*ℤ◌, ◌*◌, ◌+ℤ◌, ◌+◌, ◌-ℤ◌, ◌-◌, ◌<◌, ◌==◌, ◌^◌}
-use Rattle.sc_emit_relation.proofs.Common.{◌∙◌, ◌≡◌, ◌≢◌, ◌≤◌}
+use Rattle.sc_emit_relation.proofs.Common.{BadPointer, BadType, BlocksMatch, Bool, Cause, Cell, Err, ImageParts}
+use Rattle.sc_emit_relation.proofs.Common.{Injection, IsAddress, IsElement, IsSound, IsWellFormed, List, LiveAt, Means}
+use Rattle.sc_emit_relation.proofs.Common.{Memory as Bytes, Null, Ok, Option, Pointer, Ptr, Result, Some, StandsFor}
+use Rattle.sc_emit_relation.proofs.Common.{Value, Word, add_word, ap, apart, applied_one, ap₂, arith, between, bind}
+use Rattle.sc_emit_relation.proofs.Common.{bytes_of, data_end, div_word, eq-eqb, eqb-true, false, few_globals}
+use Rattle.sc_emit_relation.proofs.Common.{if◌then◌else◌, in_elements, int_div, int_rem, is_comparison, is_inside}
+use Rattle.sc_emit_relation.proofs.Common.{is_pointer, is_unsigned, is_zero, length, moved, moved_back, moved_on}
+use Rattle.sc_emit_relation.proofs.Common.{nat_lt, ne_eqb, neg_ℤ, negated_word, not, number_of, of_bool, on_all_words}
+use Rattle.sc_emit_relation.proofs.Common.{on_words, op_word, operated, ordered, pos, refl, same_Some, same_place}
+use Rattle.sc_emit_relation.proofs.Common.{stepped_word, sub_word, subst, sym, takes_two, true, true≢false, truth}
+use Rattle.sc_emit_relation.proofs.Common.{unary_word, word_of, wrapping, ℕ, ℤ, ⊎_elim, ◌&&◌, ◌*ℤ◌, ◌*◌, ◌+ℤ◌, ◌+◌}
+use Rattle.sc_emit_relation.proofs.Common.{◌-ℤ◌, ◌-◌, ◌<◌, ◌==◌, ◌^◌, ◌∙◌, ◌≡◌, ◌≢◌, ◌≤◌}
 use Rattle.sc_core.specs.Prelude.{Memory}
 use Rattle.sc_base.specs.declared.op.UnaryOp.{UnaryOp}
 use Rattle.sc_base.specs.declared.op.UnaryOp.TheVariants as unary
@@ -17,7 +18,6 @@ use Rattle.sc_base.specs.declared.op.BinaryOp.{BinaryOp}
 use Rattle.sc_base.specs.declared.op.BinaryOp.TheVariants as op
 use Rattle.sc_tac.specs.declared.stmt.TacOp.{TacOp}
 use Rattle.sc_tac.specs.declared.stmt.TacOp.TheVariants as tacop
-use Rattle.sc_emit_hart.specs.Operators.{unary_word, stepped_word, op_word}
 use Rattle.sc_emit_hart.proofs.Addresses.{elements_on, elements_back, member_on, elements_between, order_of, order_back}
 use Rattle.sc_emit_hart.proofs.Addresses.{same_of}
 use Rattle.sc_emit_hart.proofs.Below.{op_below}

@@ -1,9 +1,9 @@
 -- What operators on pointers have found, where they gave a value.
-use Rattle.sc_emit_relation.proofs.Common.{BadPointer, Block, Blocks, Bool, Cause, Cell, Dangling, Err, List, None, Null, Ok}
-use Rattle.sc_emit_relation.proofs.Common.{Option, OutOfBounds, Pointer, Ptr, Result, Some, Value, Word, apart, bind}
-use Rattle.sc_emit_relation.proofs.Common.{cells_at, eqb-true, false, if◌then◌else◌, is_inside, leb-true, length, live_cells}
-use Rattle.sc_emit_relation.proofs.Common.{ltb-true, moved, nat_le, nat_lt, negsuc, place_at, pos, refl, slice_get, subst}
-use Rattle.sc_emit_relation.proofs.Common.{true, ℕ, ℤ, ◌&&◌, ◌+ℤ◌, ◌-ℤ◌, ◌<◌, ◌==◌, ◌≡◌, ◌≤◌}
+use Rattle.sc_emit_relation.proofs.Common.{BadPointer, Block, Blocks, Bool, Cause, Cell, Dangling, Err, List, None}
+use Rattle.sc_emit_relation.proofs.Common.{Null, Ok, Option, OutOfBounds, Pointer, Ptr, Result, Some, Value, Word}
+use Rattle.sc_emit_relation.proofs.Common.{apart, bind, cells_at, eqb-true, false, if◌then◌else◌, is_inside, leb-true}
+use Rattle.sc_emit_relation.proofs.Common.{length, live_cells, ltb-true, moved, nat_le, nat_lt, negsuc, place_at, pos}
+use Rattle.sc_emit_relation.proofs.Common.{refl, slice_get, subst, true, ℕ, ℤ, ◌&&◌, ◌+ℤ◌, ◌-ℤ◌, ◌<◌, ◌==◌, ◌≡◌, ◌≤◌}
 use Rattle.sc_emit_relation.proofs.Access.{LivesIn, alive}
 
 -- what is bound gave a result

@@ -1,7 +1,7 @@
 -- The registers of temporaries: each is one register, and none that pieces of code compute in, or that has another use.
-use Rattle.sc_emit_relation.proofs.Common.{a0, a7, address_scratch, arith, cases_lt, first_scratch, inl, inr, le-ltb, lt-ltb}
-use Rattle.sc_emit_relation.proofs.Common.{ra, refl, register_of, second_scratch, sp, ℕ, ⊎_elim, ◌+◌, ◌<◌, ◌≡◌, ◌≢◌, ◌≤◌}
-use Rattle.sc_emit_relation.proofs.Common.{◌⊎◌}
+use Rattle.sc_emit_relation.proofs.Common.{a0, a7, address_scratch, arith, cases_lt, first_scratch, inl, inr, le-ltb}
+use Rattle.sc_emit_relation.proofs.Common.{lt-ltb, ra, refl, register_of, second_scratch, sp, ℕ, ⊎_elim, ◌+◌, ◌<◌, ◌≡◌}
+use Rattle.sc_emit_relation.proofs.Common.{◌≢◌, ◌≤◌, ◌⊎◌}
 
 -- a register with no other use: not x0, ra, sp, a scratch register or one of an argument
 pub record HasNoOtherUse (q : ℕ) : Type 0 where

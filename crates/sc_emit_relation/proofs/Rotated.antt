@@ -1,14 +1,15 @@
 -- Loops that end with their head, and that with its test.
-use Rattle.sc_emit_relation.proofs.Common.{All, Arrives, Bool, Break, CodeAt, Codes, Comes, Continue, Ends, Exit, Fetches}
-use Rattle.sc_emit_relation.proofs.Common.{Follows, Goes, Instr, IsClear, IsWellFormed, IsWord, Jal, Joint, Left, Line, List}
-use Rattle.sc_emit_relation.proofs.Common.{Lives, Next, None, Overflows, Piece, Reached, Ready, Return, Returns, Running}
-use Rattle.sc_emit_relation.proofs.Common.{Set, Setting, Settled, Emits, Some, Standpoint, StandsAt, State as Meant, Stopped}
-use Rattle.sc_emit_relation.proofs.Common.{Temps, Trail, [], ap, arith, branch_back, branch_reach, code_inside, completed}
-use Rattle.sc_emit_relation.proofs.Common.{ends_of, false, first_scratch, follow, in_body, in_head, in_loop, inl, is_some}
-use Rattle.sc_emit_relation.proofs.Common.{length, length-append, length-map, live_at_start, live_before, loop, loop_points}
-use Rattle.sc_emit_relation.proofs.Common.{low_after, nat_lt, plain, plainly, pos, refl, rotated, rounds, row, row_points}
-use Rattle.sc_emit_relation.proofs.Common.{seen_from, subst, suc, sym, take as onward, testing, trail_step, true, word_at}
-use Rattle.sc_emit_relation.proofs.Common.{zero, ℕ, ⊎_elim, ◌*◌, ◌++◌, ◌+◌, ◌∙◌, ◌∷◌, ◌≡◌, ◌≤◌, ◌⊎◌}
+use Rattle.sc_emit_relation.proofs.Common.{All, Arrives, Bool, Break, CodeAt, Codes, Comes, Continue, Emits, Ends, Exit}
+use Rattle.sc_emit_relation.proofs.Common.{Fetches, Follows, Goes, Instr, IsClear, IsWellFormed, IsWord, Jal, Joint}
+use Rattle.sc_emit_relation.proofs.Common.{Left, Line, List, Lives, Next, None, Overflows, Piece, Reached, Ready}
+use Rattle.sc_emit_relation.proofs.Common.{Return, Returns, Running, Set, Setting, Settled, Some, Standpoint, StandsAt}
+use Rattle.sc_emit_relation.proofs.Common.{State as Meant, Stopped, Temps, Trail, [], ap, arith, branch_back}
+use Rattle.sc_emit_relation.proofs.Common.{branch_reach, code_inside, completed, ends_of, false, first_scratch, follow}
+use Rattle.sc_emit_relation.proofs.Common.{in_body, in_head, in_loop, inl, is_some, length, length-append, length-map}
+use Rattle.sc_emit_relation.proofs.Common.{live_at_start, live_before, loop, loop_points, low_after, nat_lt, plain}
+use Rattle.sc_emit_relation.proofs.Common.{plainly, pos, refl, rotated, rounds, row, row_points, seen_from, subst, suc}
+use Rattle.sc_emit_relation.proofs.Common.{sym, take as onward, testing, trail_step, true, word_at, zero, ℕ, ⊎_elim}
+use Rattle.sc_emit_relation.proofs.Common.{◌*◌, ◌++◌, ◌+◌, ◌∙◌, ◌∷◌, ◌≡◌, ◌≤◌, ◌⊎◌}
 use Rattle.sc_emit_select.specs.Prelude.{Piece as Code, take}
 use Rattle.sc_tac.specs.declared.stmt.TacStmt.TheOpen as tac
 use Rattle.sc_emit_relation.proofs.Jumps.{HasNoGap, over}

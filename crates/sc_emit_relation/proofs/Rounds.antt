@@ -1,13 +1,14 @@
 -- A round of a loop after its head: the turn, the body, and what comes next.
-use Rattle.sc_emit_relation.proofs.Common.{All, All-tail, Arrives, Bool, Break, Codes, Comes, Continue, Does, Ends, Exit}
-use Rattle.sc_emit_relation.proofs.Common.{ExitGives, Follows, Gives, Goes, IsClear, Joint, Leads, Left, List, Lives, Next}
-use Rattle.sc_emit_relation.proofs.Common.{Overflows, Piece, Place, Point, Reached, Ready, Return, Running, Set, Setting}
-use Rattle.sc_emit_relation.proofs.Common.{Settled, Standpoint, StandsAt, Starts, Stopped, Temps, Trail, [], ahead_at}
-use Rattle.sc_emit_relation.proofs.Common.{and_then, ap, arith, ends_of, false, follow, follow_goes, in_body, in_head}
-use Rattle.sc_emit_relation.proofs.Common.{in_loop, in_next, inl, inr, live_at_start, live_before, loop_points, no_turn}
-use Rattle.sc_emit_relation.proofs.Common.{part_ahead, point, readings, refl, rounds, row, row_first, row_points, seen_from}
-use Rattle.sc_emit_relation.proofs.Common.{stays, subst, suc, sym, take, then_from, then_goes, true, turn, turn_goes}
-use Rattle.sc_emit_relation.proofs.Common.{turn_of, zero, ℕ, ⊎_elim, ◌*◌, ◌++◌, ◌+◌, ◌∙◌, ◌∷◌, ◌≡◌, ◌≤◌}
+use Rattle.sc_emit_relation.proofs.Common.{All, All-tail, Arrives, Bool, Break, Codes, Comes, Continue, Does, Ends}
+use Rattle.sc_emit_relation.proofs.Common.{Exit, ExitGives, Follows, Gives, Goes, IsClear, Joint, Leads, Left, List}
+use Rattle.sc_emit_relation.proofs.Common.{Lives, Next, Overflows, Piece, Place, Point, Reached, Ready, Return, Running}
+use Rattle.sc_emit_relation.proofs.Common.{Set, Setting, Settled, Standpoint, StandsAt, Starts, Stopped, Temps, Trail}
+use Rattle.sc_emit_relation.proofs.Common.{[], ahead_at, and_then, ap, arith, ends_of, false, follow, follow_goes}
+use Rattle.sc_emit_relation.proofs.Common.{in_body, in_head, in_loop, in_next, inl, inr, live_at_start, live_before}
+use Rattle.sc_emit_relation.proofs.Common.{loop_points, no_turn, part_ahead, point, readings, refl, rounds, row}
+use Rattle.sc_emit_relation.proofs.Common.{row_first, row_points, seen_from, stays, subst, suc, sym, take, then_from}
+use Rattle.sc_emit_relation.proofs.Common.{then_goes, true, turn, turn_goes, turn_of, zero, ℕ, ⊎_elim, ◌*◌, ◌++◌, ◌+◌}
+use Rattle.sc_emit_relation.proofs.Common.{◌∙◌, ◌∷◌, ◌≡◌, ◌≤◌}
 use Rattle.sc_emit_select.specs.Prelude.{Piece as Code}
 use Rattle.sc_emit_relation.proofs.Clear.{all_back, all_prefix}
 use Rattle.sc_emit_relation.proofs.Stretches.{arrives_with, comes_after, overflows_with, emits_after, emits_here}

@@ -1,11 +1,11 @@
 -- Statements in order.
 use Rattle.sc_emit_relation.proofs.Common.{Break, Codes, Comes, Continue, Ends, Exit, ExitGives, Follows, Gives, Goes}
-use Rattle.sc_emit_relation.proofs.Common.{IsClear, Joint, Left, List, Lives, Next, None, Overflows, Piece, Reached, Ready}
-use Rattle.sc_emit_relation.proofs.Common.{Return, Running, Setting, StandsAt, Starts, State as Meant, Stopped, Temps, Trail}
-use Rattle.sc_emit_relation.proofs.Common.{[], all_do, ap, ap₂, arith, ends_of, follow, follow_goes, followed}
-use Rattle.sc_emit_relation.proofs.Common.{in_order as in_turn, inl, inr, length, length-append, live_before, low_after}
-use Rattle.sc_emit_relation.proofs.Common.{nothing, refl, row, row_points, seen_from, stays, subst, sym, take, then_from, ℕ}
-use Rattle.sc_emit_relation.proofs.Common.{⊎_elim, ◌*◌, ◌+◌, ◌∙◌, ◌∷◌, ◌≡◌}
+use Rattle.sc_emit_relation.proofs.Common.{IsClear, Joint, Left, List, Lives, Next, None, Overflows, Piece, Reached}
+use Rattle.sc_emit_relation.proofs.Common.{Ready, Return, Running, Setting, StandsAt, Starts, State as Meant, Stopped}
+use Rattle.sc_emit_relation.proofs.Common.{Temps, Trail, [], all_do, ap, ap₂, arith, ends_of, follow, follow_goes}
+use Rattle.sc_emit_relation.proofs.Common.{followed, in_order as in_turn, inl, inr, length, length-append, live_before}
+use Rattle.sc_emit_relation.proofs.Common.{low_after, nothing, refl, row, row_points, seen_from, stays, subst, sym}
+use Rattle.sc_emit_relation.proofs.Common.{take, then_from, ℕ, ⊎_elim, ◌*◌, ◌+◌, ◌∙◌, ◌∷◌, ◌≡◌}
 use Rattle.sc_emit_select.specs.Prelude.{Piece as Code}
 use Rattle.sc_emit_relation.proofs.Clear.{all_prefix, all_back}
 use Rattle.sc_emit_relation.proofs.Lines.{InParts, in_parts, low_append}

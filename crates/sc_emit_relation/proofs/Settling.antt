@@ -1,10 +1,11 @@
 -- Both sides stay settled while code of the running call changes registers and words of its frame, and across a store
 -- through a pointer; and what such a stretch leaves unchanged.
-use Rattle.sc_emit_relation.proofs.Common.{Activation, All, Apart, Blocks, FrameMatches, IsActivation, IsWellFormed, IsWord}
-use Rattle.sc_emit_relation.proofs.Common.{Joint, Leads, List, Memory as Bytes, Ok, Place, Pointer, Protected, Ptr}
-use Rattle.sc_emit_relation.proofs.Common.{Registers, Setting, Settled, Some, Standpoint, StandsFor, Value, Walks, arith}
-use Rattle.sc_emit_relation.proofs.Common.{cases_eq, false, inr, machine, own_words, put_word, refl, seen_from, slice_get}
-use Rattle.sc_emit_relation.proofs.Common.{store, walks_steady, with_memory, word, word_apart, ℕ, ⊎_elim, ◌*◌, ◌+◌, ◌≡◌, ◌≤◌}
+use Rattle.sc_emit_relation.proofs.Common.{Activation, All, Apart, Blocks, FrameMatches, IsActivation, IsWellFormed}
+use Rattle.sc_emit_relation.proofs.Common.{IsWord, Joint, Leads, List, Memory as Bytes, Ok, Place, Pointer, Protected}
+use Rattle.sc_emit_relation.proofs.Common.{Ptr, Registers, Setting, Settled, Some, Standpoint, StandsFor, Value, Walks}
+use Rattle.sc_emit_relation.proofs.Common.{arith, cases_eq, false, inr, machine, own_words, put_word, refl, seen_from}
+use Rattle.sc_emit_relation.proofs.Common.{slice_get, store, walks_steady, with_memory, word, word_apart, ℕ, ⊎_elim}
+use Rattle.sc_emit_relation.proofs.Common.{◌*◌, ◌+◌, ◌≡◌, ◌≤◌}
 use Rattle.sc_emit_relation.proofs.Frames.{own_inside}
 use Rattle.sc_emit_relation.proofs.Storing.{CellsKept, other_data, blocks_kept, guarded_cells, was, guarded_kept}
 use Rattle.sc_emit_relation.proofs.Storing.{blocks_after}

@@ -1,13 +1,15 @@
 -- Blocks and guarded words across stores: at a guarded word, and through a pointer to a live cell.
 use Rattle.sc_emit_relation.proofs.Common.{Apart, Beside, Block, Blocks, BlocksMatch, Bool, Cell, Guarded, ImageParts}
-use Rattle.sc_emit_relation.proofs.Common.{InCell, Injection, IsWellFormed, List, LiveAt, Memory as Bytes, Null, Ok, Option}
-use Rattle.sc_emit_relation.proofs.Common.{Owned, Placed, Pointer, Ptr, Some, StandsFor, Value, Word, ap, apart_from, arith}
-use Rattle.sc_emit_relation.proofs.Common.{cases_eq, cases_order, cell_of, eq-eqb, false, few_globals, inl, inr, length}
-use Rattle.sc_emit_relation.proofs.Common.{length-set, load, ne_eqb, put_word, refl, same_Some, slice_get, slice_get-get_or}
-use Rattle.sc_emit_relation.proofs.Common.{slice_get_within, slice_set, store, subst, sym, true, with_blocks, word}
-use Rattle.sc_emit_relation.proofs.Common.{word_apart, word_same, ℕ, ⊎_elim, ◌*◌, ◌+◌, ◌<◌, ◌∙◌, ◌≡◌, ◌≢◌, ◌≤◌, ◌⊎◌}
+use Rattle.sc_emit_relation.proofs.Common.{InCell, Injection, IsWellFormed, List, LiveAt, Memory as Bytes, Null, Ok}
+use Rattle.sc_emit_relation.proofs.Common.{Option, Owned, Placed, Pointer, Ptr, Some, StandsFor, Value, Word, ap}
+use Rattle.sc_emit_relation.proofs.Common.{apart_from, arith, cases_eq, cases_order, cell_of, eq-eqb, false}
+use Rattle.sc_emit_relation.proofs.Common.{few_globals, inl, inr, length, length-set, load, ne_eqb, put_word, refl}
+use Rattle.sc_emit_relation.proofs.Common.{same_Some, slice_get, slice_get-get_or, slice_get_within, slice_set, store}
+use Rattle.sc_emit_relation.proofs.Common.{subst, sym, true, with_blocks, word, word_apart, word_same, ℕ, ⊎_elim, ◌*◌}
+use Rattle.sc_emit_relation.proofs.Common.{◌+◌, ◌<◌, ◌∙◌, ◌≡◌, ◌≢◌, ◌≤◌, ◌⊎◌}
 use Rattle.sc_core.specs.Prelude.{Memory}
-use Rattle.sc_emit_relation.proofs.Access.{get_set_same, get_set_other, with_value, Loads, load_found, Stores, store_found}
+use Rattle.sc_emit_relation.proofs.Access.{get_set_same, get_set_other, with_value, Loads, load_found, Stores}
+use Rattle.sc_emit_relation.proofs.Access.{store_found}
 
 -- the data of two compartments don't meet
 pub other_data : (image : ImageParts) (k c p q : ℕ) → IsWellFormed image → k ≢ c → Owned image k p → Owned image c q →

@@ -1,21 +1,21 @@
 -- Straight code of the running call: it moves on, it assigns a temporary, it stores through a pointer, it has called.
-use Rattle.sc_emit_relation.proofs.Common.{Activation, All, Arrives, Blocks, Bool, Effect, FrameMatches, Guarded, InPlace}
-use Rattle.sc_emit_relation.proofs.Common.{IsActivation, IsClear, IsWellFormed, IsWord, Joint, Leads, List, Lives}
-use Rattle.sc_emit_relation.proofs.Common.{Memory as Bytes, None, Null, Ok, Option, Overflows, Owned, Piece, Place, Point}
-use Rattle.sc_emit_relation.proofs.Common.{Pointer, Protected, Ptr, Ready, Register, Registers, Running, Set, Setting}
-use Rattle.sc_emit_relation.proofs.Common.{Settled, Emits, Slot, Some, Standpoint, StandsFor, State as Meant, Temps, Value}
-use Rattle.sc_emit_relation.proofs.Common.{Walks, Word, ahead_at, all_at, and_first, and_from, and_rest, arith, false}
-use Rattle.sc_emit_relation.proofs.Common.{is_one, live_across, load, machine, ne_eqb, not, one_or_none, or_right, own_words}
-use Rattle.sc_emit_relation.proofs.Common.{plain_points, put_word, refl, register_of, seen_from, slice_get, sp, store, subst}
-use Rattle.sc_emit_relation.proofs.Common.{suc, sym, true, wanted, with_memory, with_temp, word, word_same, ℕ, ◌*◌, ◌+◌, ◌∙◌}
-use Rattle.sc_emit_relation.proofs.Common.{◌≡◌, ◌≢◌}
+use Rattle.sc_emit_relation.proofs.Common.{Activation, All, Arrives, Blocks, Bool, Effect, Emits, FrameMatches, Guarded}
+use Rattle.sc_emit_relation.proofs.Common.{InPlace, IsActivation, IsClear, IsWellFormed, IsWord, Joint, Leads, List}
+use Rattle.sc_emit_relation.proofs.Common.{Lives, Memory as Bytes, None, Null, Ok, Option, Overflows, Owned, Piece}
+use Rattle.sc_emit_relation.proofs.Common.{Place, Point, Pointer, Protected, Ptr, Ready, Register, Registers, Running}
+use Rattle.sc_emit_relation.proofs.Common.{Set, Setting, Settled, Slot, Some, Standpoint, StandsFor, State as Meant}
+use Rattle.sc_emit_relation.proofs.Common.{Temps, Value, Walks, Word, ahead_at, all_at, and_first, and_from, and_rest}
+use Rattle.sc_emit_relation.proofs.Common.{arith, false, is_one, live_across, load, machine, ne_eqb, not, one_or_none}
+use Rattle.sc_emit_relation.proofs.Common.{or_right, own_words, plain_points, put_word, refl, register_of, seen_from}
+use Rattle.sc_emit_relation.proofs.Common.{slice_get, sp, store, subst, suc, sym, true, wanted, with_memory, with_temp}
+use Rattle.sc_emit_relation.proofs.Common.{word, word_same, ℕ, ◌*◌, ◌+◌, ◌∙◌, ◌≡◌, ◌≢◌}
 use Rattle.sc_tac.specs.Prelude.{plain}
 use Rattle.sc_emit_relation.proofs.Wanted.{clear_wanted, wanted_less}
 use Rattle.sc_emit_relation.proofs.Held.{PlaceKept, frame_kept, kept_but_register, kept_but_slot, kept_all, ra_kept}
 use Rattle.sc_emit_relation.proofs.Held.{held_kept, held_assigned, held_over_call}
 use Rattle.sc_emit_relation.proofs.Registers.{HasNoOtherUse}
-use Rattle.sc_emit_relation.proofs.Settling.{moved, moved_with, settled_moved, leads_moved, settled_stored, leads_stored}
-use Rattle.sc_emit_relation.proofs.Settling.{own_cells, own_keeps}
+use Rattle.sc_emit_relation.proofs.Settling.{moved, moved_with, settled_moved, leads_moved, settled_stored}
+use Rattle.sc_emit_relation.proofs.Settling.{leads_stored, own_cells, own_keeps}
 use Rattle.sc_emit_relation.proofs.Storing.{CellsKept, LoadsWord, loads_word, target_owned, guarded_after, guarded_kept}
 use Rattle.sc_emit_relation.proofs.Stretches.{protected_on}
 
@@ -36,7 +36,8 @@ module _ (reads : List ℕ) (assigned : Option ℕ) (lives : Lives) where
 pub after_live : (reads : List ℕ) (lives : Lives) (t d : ℕ) → lives.following t ≡ true → t ≢ d →
     live_plain reads (Some d) lives t ≡ true
 after_live reads lives t d on n =
-    or_right (is_one t reads) _ (and_from (not (is_one t (one_or_none (Some d)))) (lives.following t) (not_one t d n) on)
+    or_right (is_one t reads) _ (and_from (not (is_one t (one_or_none (Some d)))) (lives.following t) (not_one t d n)
+    on)
 
 pub after_unassigned : (reads : List ℕ) (lives : Lives) (t : ℕ) → lives.following t ≡ true →
     live_plain reads None lives t ≡ true
@@ -150,7 +151,8 @@ module _ (T : Setting) (R : Running) where
         Arrives T R lives.following x (n + left) left (with_temp d v temps) x.meant pc
     assigned reads lives temps x n left d pc place v regs later ready clear its h walks =
         assigned_at (live_plain reads (Some d) lives)
-        (record { assigned = Some d; calls = false; live = lives.following }) temps x n left d pc place v regs later ready
+        (record { assigned = Some d; calls = false; live = lives.following }) temps x n left d pc place v regs later
+        ready
         (all_at (IsClear R.places) (plain_points reads false (Some d) lives) 1 _ clear refl) refl its
         (λ t on e. after_live reads lives t d on e) h walks
 

@@ -1,10 +1,11 @@
 -- Stretches in a row.
-use Rattle.sc_emit_relation.proofs.Common.{Arrives, Beside, Break, Comes, Continue, Costs, Effect, Ends, Exit, ExitGives}
-use Rattle.sc_emit_relation.proofs.Common.{Gives, Goes, Grown, Joint, Leads, Left, Lives, Next, Option, Overflows, Piece}
-use Rattle.sc_emit_relation.proofs.Common.{Protected, Reached, Registers, Return, Returns, Running, Set, Setting, Settled}
-use Rattle.sc_emit_relation.proofs.Common.{Emits, Standpoint, State as Meant, Stopped, Temps, Value, and_then, arith, inl}
-use Rattle.sc_emit_relation.proofs.Common.{inr, last, length, machine, more, refl, same_Some, seen_from, stay, subst, sym}
-use Rattle.sc_emit_relation.proofs.Common.{then_from, then_go, ℕ, ⊎_elim, ◌+◌, ◌∙◌, ◌≡◌, ◌≤◌}
+use Rattle.sc_emit_relation.proofs.Common.{Arrives, Beside, Break, Comes, Continue, Costs, Effect, Emits, Ends, Exit}
+use Rattle.sc_emit_relation.proofs.Common.{ExitGives, Gives, Goes, Grown, Joint, Leads, Left, Lives, Next, Option}
+use Rattle.sc_emit_relation.proofs.Common.{Overflows, Piece, Protected, Reached, Registers, Return, Returns, Running}
+use Rattle.sc_emit_relation.proofs.Common.{Set, Setting, Settled, Standpoint, State as Meant, Stopped, Temps, Value}
+use Rattle.sc_emit_relation.proofs.Common.{and_then, arith, inl, inr, last, length, machine, more, refl, same_Some}
+use Rattle.sc_emit_relation.proofs.Common.{seen_from, stay, subst, sym, then_from, then_go, ℕ, ⊎_elim, ◌+◌, ◌∙◌, ◌≡◌}
+use Rattle.sc_emit_relation.proofs.Common.{◌≤◌}
 
 module _ (T : Setting) (P : Standpoint) where
   -- what is protected stays so

@@ -1,7 +1,7 @@
 -- What the code of a function follows, where the calls in it are followed.
 use Rattle.sc_emit_relation.specs.Common.{CallTarget, Calls, Ecall, Fetches, Function, Goes, Jal, Jalr, Piece, Reached}
-use Rattle.sc_emit_relation.specs.Common.{State as Meant, Stopped, Value, a0, a7, and_then, begun, done, jalr_target, look}
-use Rattle.sc_emit_relation.specs.Common.{ra, sp, stack_top, word_at}
+use Rattle.sc_emit_relation.specs.Common.{State as Meant, Stopped, Value, a0, a7, and_then, begun, done, jalr_target}
+use Rattle.sc_emit_relation.specs.Common.{look, ra, sp, stack_top, word_at}
 use Rattle.sc_word.specs.Prelude.{add_word, word_of}
 use Rattle.std.specs.Prelude.{◌≡◌, ◌≢◌, ℕ, ◌+◌, ◌%◌, ◌<◌, ◌≤◌, ◌⊎◌, ℤ, pos, Bool, true, false, List, length, Option}
 use Rattle.std.specs.Prelude.{Some, slice_get, IsSome}

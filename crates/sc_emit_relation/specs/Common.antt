@@ -9,8 +9,8 @@ pub use Rattle.rv_code.specs.declared.instr.Instr.TheVariants.{Ecall, Jal, Jalr}
 pub use Rattle.sc_image.specs.Prelude.{Crossing, IsSteady, Traps, Walks, data_start, jalr_target, stack_size, stack_top}
 pub use Rattle.sc_image.specs.Prelude.{step, word_at}
 pub use Rattle.sc_image.specs.declared.parts.ImageParts.{ImageParts}
-pub use Rattle.sc_emit_hart.specs.Prelude.{CodeAt, Fetches, Owned, Registers, at, data_end, look, word}
 pub use Rattle.sc_tac.specs.Prelude.{Codes, FrameFits, IsClear, IsFrame, Lives, Set, Temps, Trail, ahead_at, readings}
 pub use Rattle.sc_tac.specs.Prelude.{row_first, row_fresh, row_points}
 pub use Rattle.sc_tac.specs.declared.place.Place.{Place}
 pub use Rattle.sc_emit_select.specs.Prelude.{Addresses, Plan, a0, a7, completed, low_after, ra, register_of, sp}
+pub use Rattle.sc_emit_hart.specs.Prelude.{CodeAt, Fetches, Owned, Registers, at, data_end, look, word}

@@ -1,8 +1,8 @@
 -- A piece of code follows what statements do: what it is to stand at its start, and what it gives.
-use Rattle.sc_emit_relation.specs.Common.{Break, CodeAt, Codes, Continue, Exit, Fetches, Goes, IsClear, Jalr, Left, Lives}
-use Rattle.sc_emit_relation.specs.Common.{Next, Piece, Place, Plan, Reached, Return, Set, State as Meant, Stopped, Temps}
-use Rattle.sc_emit_relation.specs.Common.{Trail, Value, a0, ahead_at, completed, low_after, ra, readings, row_first}
-use Rattle.sc_emit_relation.specs.Common.{row_fresh, row_points, sp}
+use Rattle.sc_emit_relation.specs.Common.{Break, CodeAt, Codes, Continue, Exit, Fetches, Goes, IsClear, Jalr, Left}
+use Rattle.sc_emit_relation.specs.Common.{Lives, Next, Piece, Place, Plan, Reached, Return, Set, State as Meant}
+use Rattle.sc_emit_relation.specs.Common.{Stopped, Temps, Trail, Value, a0, ahead_at, completed, low_after, ra}
+use Rattle.sc_emit_relation.specs.Common.{readings, row_first, row_fresh, row_points, sp}
 use Rattle.sc_emit_select.specs.Prelude.{Piece as Code}
 use Rattle.std.specs.Prelude.{◌≡◌, ◌&&◌, ℕ, ◌+◌, ◌*◌, ◌≤◌, ◌⊎◌, pos, List, length, All, Option, None}
 use Rattle.sc_emit_relation.specs.Frames.{Activation, FrameMatches, AreInPlace}

@@ -1,6 +1,6 @@
 -- The running call: its frame, and the places of its temporaries.
-use Rattle.sc_emit_relation.specs.Common.{Crossing, FrameFits, Here, ImageParts, IsFrame, Memory, Place, Registers, Set, Temps}
-use Rattle.sc_emit_relation.specs.Common.{Value, data_start, register_of, stack_top, word}
+use Rattle.sc_emit_relation.specs.Common.{Crossing, FrameFits, Here, ImageParts, IsFrame, Memory, Place, Registers, Set}
+use Rattle.sc_emit_relation.specs.Common.{Temps, Value, data_start, register_of, stack_top, word}
 use Rattle.sc_store.specs.Prelude.{Memory as Bytes}
 use Rattle.std.specs.Prelude.{◌≡◌, ℕ, ◌+◌, ◌%◌, ◌<◌, ◌≤◌, Bool, true, false, List, ◌∷◌, Some, slice_get}
 use Rattle.sc_tac.specs.declared.frame.FrameTree.{FrameTree}

@@ -1,7 +1,7 @@
 -- Stretches of a run on both sides: of the machine, and of a meaning whose state stands beside the machine's.
 use Rattle.sc_emit_relation.specs.Common.{Addresses, AllBefore, CallTarget, Cell, Crossing, Grown, ImageParts, IsSteady}
-use Rattle.sc_emit_relation.specs.Common.{Memory, Piece, Registers, State as Meant, Traps, Value, Walks, at, last, stack_depth}
-use Rattle.sc_emit_relation.specs.Common.{stack_size, stack_top, step, word}
+use Rattle.sc_emit_relation.specs.Common.{Memory, Piece, Registers, State as Meant, Traps, Value, Walks, at, last}
+use Rattle.sc_emit_relation.specs.Common.{stack_depth, stack_size, stack_top, step, word}
 use Rattle.sc_store.specs.Prelude.{Memory as Bytes}
 use Rattle.sc_image.specs.Prelude.{State}
 use Rattle.std.specs.Prelude.{◌≡◌, ◌≢◌, ℕ, suc, ◌+◌, ◌*◌, ◌<◌, ◌≤◌, Bool, false, List, length, drop, Option, None, Some}

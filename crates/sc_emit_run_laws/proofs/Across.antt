@@ -1,13 +1,14 @@
 -- A call of a function of another compartment, into it and back, whoever calls and whoever is called.
 use Rattle.sc_emit_run_laws.proofs.Common.{All, AllHonest, AreFloors, ArePassed, Bool, Call, ComesBack, Costs, Cross}
-use Rattle.sc_emit_run_laws.proofs.Common.{Crossing, Effect, Export, ReturnsValue, IsWellFormed, IsWord, Joint, Leads, List}
-use Rattle.sc_emit_run_laws.proofs.Common.{None, Option, Protected, Proto, Ret, Setting, Settled, Some, Standpoint, Value}
-use Rattle.sc_emit_run_laws.proofs.Common.{Walks, [], a0, ap, arguments, arith, called_other, came_by, cases_eq}
-use Rattle.sc_emit_run_laws.proofs.Common.{cleared_for_call, false, gate, get_or-set_other, get_or-set_same, has_result}
-use Rattle.sc_emit_run_laws.proofs.Common.{if◌then◌else◌, is_some, is_word, length, list_all, listed, machine, map}
-use Rattle.sc_emit_run_laws.proofs.Common.{option_value, params_of, ra, refl, returned_to, slice_index, slice_set, sp}
-use Rattle.sc_emit_run_laws.proofs.Common.{subst, suc, sym, emit_event, then_go, true, walks_steady, word_back, word_in, written}
-use Rattle.sc_emit_run_laws.proofs.Common.{ℕ, ⊎_elim, ◌++◌, ◌+◌, ◌<◌, ◌∙◌, ◌∷◌, ◌≡◌, ◌≢◌, ◌≤◌}
+use Rattle.sc_emit_run_laws.proofs.Common.{Crossing, Effect, Export, IsWellFormed, IsWord, Joint, Leads, List, None}
+use Rattle.sc_emit_run_laws.proofs.Common.{Option, Protected, Proto, Ret, ReturnsValue, Setting, Settled, Some}
+use Rattle.sc_emit_run_laws.proofs.Common.{Standpoint, Value, Walks, [], a0, ap, arguments, arith, called_other}
+use Rattle.sc_emit_run_laws.proofs.Common.{came_by, cases_eq, cleared_for_call, emit_event, false, gate}
+use Rattle.sc_emit_run_laws.proofs.Common.{get_or-set_other, get_or-set_same, has_result, if◌then◌else◌, is_some}
+use Rattle.sc_emit_run_laws.proofs.Common.{is_word, length, list_all, listed, machine, map, option_value, params_of, ra}
+use Rattle.sc_emit_run_laws.proofs.Common.{refl, returned_to, slice_index, slice_set, sp, subst, suc, sym, then_go}
+use Rattle.sc_emit_run_laws.proofs.Common.{true, walks_steady, word_back, word_in, written, ℕ, ⊎_elim, ◌++◌, ◌+◌, ◌<◌}
+use Rattle.sc_emit_run_laws.proofs.Common.{◌∙◌, ◌∷◌, ◌≡◌, ◌≢◌, ◌≤◌}
 use Rattle.sc_image.specs.Prelude.{State, called, may_call}
 use Rattle.sc_emit_run_laws.proofs.Crossing.{arguments_are, called_listed, called_regs, given_back as given_value}
 use Rattle.sc_emit_run_laws.proofs.Crossing.{given_is, returned_listed, returned_regs, returned_sp}
@@ -241,7 +242,8 @@ module _ (T : Setting) (formed : IsWellFormed T.image) (inputs : All IsWord T.in
             }
 
         -- and the call comes back
-        pub comes_back : ComesBack T P x (Cross to index) (option_value timed) (emit_event (Ret to P.comp timed) w.meant)
+        pub comes_back : ComesBack T P x (Cross to index) (option_value timed)
+            (emit_event (Ret to P.comp timed) w.meant)
         comes_back = record {
           y = z;
           meant_is = refl;

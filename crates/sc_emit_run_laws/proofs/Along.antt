@@ -1,12 +1,13 @@
 -- Runs along a stretch on which no end is emitted.
-use Rattle.sc_emit_run_laws.proofs.Common.{Bool, Call, End, Event, IsPrefix, Goes, ImageParts, In, IsPrefixOf, IsWellFormed}
-use Rattle.sc_emit_run_laws.proofs.Common.{List, None, Option, Out, Outcome, Ret, Some, Stop, Traps, [], ap, arith, false}
-use Rattle.sc_emit_run_laws.proofs.Common.{prefix_long, prefix_more, prefix_same, goes_adds, goes_one, has_no_end, is_end}
-use Rattle.sc_emit_run_laws.proofs.Common.{is_ended, le-leb, leb-false, leb-true, length, list_any, nat_le, not}
-use Rattle.sc_emit_run_laws.proofs.Common.{not_stopped, option_map_or, refl, run, run_goes, run_out, run_stopped}
-use Rattle.sc_emit_run_laws.proofs.Common.{run_traps, slice_get, step, stopped, subst, suc, suc-add, sym, take, take_all}
-use Rattle.sc_emit_run_laws.proofs.Common.{take_prefix as take_exactly, take_prefixes, then_on, true, walk, walk_adds, zero}
-use Rattle.sc_emit_run_laws.proofs.Common.{zero-add, ℕ, ◌++◌, ◌+◌, ◌-◌, ◌<◌, ◌||◌, ◌∙◌, ◌∷◌, ◌≡◌, ◌≤◌}
+use Rattle.sc_emit_run_laws.proofs.Common.{Bool, Call, End, Event, Goes, ImageParts, In, IsPrefix, IsWellFormed, List}
+use Rattle.sc_emit_run_laws.proofs.Common.{None, Option, Out, Outcome, Ret, Some, Stop, Traps, [], ap, arith, false}
+use Rattle.sc_emit_run_laws.proofs.Common.{goes_adds, goes_one, has_no_end, is_end, is_ended, le-leb, leb-false}
+use Rattle.sc_emit_run_laws.proofs.Common.{leb-true, length, list_any, nat_le, not, not_stopped, option_map_or}
+use Rattle.sc_emit_run_laws.proofs.Common.{prefix_long, prefix_more, prefix_same, refl, run, run_goes, run_out}
+use Rattle.sc_emit_run_laws.proofs.Common.{run_stopped, run_traps, slice_get, step, stopped, subst, suc, suc-add, sym}
+use Rattle.sc_emit_run_laws.proofs.Common.{take, take_all, take_prefix as take_exactly, take_prefixes, then_on, true}
+use Rattle.sc_emit_run_laws.proofs.Common.{walk, walk_adds, zero, zero-add, ℕ, ◌++◌, ◌+◌, ◌-◌, ◌<◌, ◌||◌, ◌∙◌, ◌∷◌, ◌≡◌}
+use Rattle.sc_emit_run_laws.proofs.Common.{◌≤◌}
 use Rattle.sc_image.specs.Prelude.{State, is_end as ends}
 use Rattle.sc_base.specs.declared.stop.Stop.TheVariants.{EventsOut}
 
@@ -58,14 +59,11 @@ prefix_endless xs ys prefix h = fewer xs (subst (λ zs. has_no_end zs ≡ true) 
 -- STEPS
 
 module _ (image : ImageParts) (inputs : List ℕ) (formed : IsWellFormed image) where
-  as_prefix : (xs ys : List Event) → IsPrefixOf xs ys → IsPrefix xs ys
-  as_prefix xs ys h = record { more = h.0; is = sym h.1 }
-
   pub goes_prefix : (state next : State) → step image inputs state ≡ Goes next → IsPrefix state.trace next.trace
-  goes_prefix state next goes = as_prefix state.trace next.trace (goes_adds image inputs formed state next goes)
+  goes_prefix state next goes = goes_adds image inputs formed state next goes
 
   pub walk_prefix : (n : ℕ) (from to : State) → walk image inputs n from ≡ Goes to → IsPrefix from.trace to.trace
-  walk_prefix n from to goes = as_prefix from.trace to.trace (walk_adds image inputs formed n from to goes)
+  walk_prefix n from to goes = walk_adds image inputs formed n from to goes
 
   -- RUNS
   module _ (events : ℕ) where
@@ -92,7 +90,7 @@ module _ (image : ImageParts) (inputs : List ℕ) (formed : IsWellFormed image) 
         pub fewer : (m : ℕ) → m ≤ n → IsPrefix (run image inputs events m from).state.trace (take events to.trace)
         pub full : (m : ℕ) → n ≤ m → events ≤ length to.trace →
             (run image inputs events m from).state.trace ≡ take events to.trace
-        pub depth : (k : ℕ) → length to.trace < events →
+        pub further : (k : ℕ) → length to.trace < events →
             run image inputs events (n + k) from ≡ run image inputs events k to
 
       before : (from : State) → IsPrefix from.trace to.trace → is_ended from.trace ≡ false
@@ -105,7 +103,7 @@ module _ (image : ImageParts) (inputs : List ℕ) (formed : IsWellFormed image) 
             (prefix_taken events to.trace to.trace (prefix_same to.trace) short));
         full = λ m le full. ap (λ s. s.trace) (at_full m to (not_over to.trace going) full) ∙
             sym (take_prefix events to.trace to.trace (prefix_same to.trace) (omega (arith, short, full)));
-        depth = λ k less. ap (λ j. run image inputs events j to) (zero-add k);
+        further = λ k less. ap (λ j. run image inputs events j to) (zero-add k);
       } where
         zero_is : (m : ℕ) → m ≤ 0 → m ≡ 0
         zero_is m le = omega (arith, le)
@@ -122,7 +120,7 @@ module _ (image : ImageParts) (inputs : List ℕ) (formed : IsWellFormed image) 
             fewer = λ m le. subst (λ t. IsPrefix t (take events to.trace)) (sym (stays m))
                 (prefix_same (take events to.trace));
             full = λ m le long. stays m;
-            depth = λ k less. absurd (omega (arith, less, full, prefix_long from.trace to.trace prefix));
+            further = λ k less. absurd (omega (arith, less, full, prefix_long from.trace to.trace prefix));
           }
 
       -- it goes on by a step
@@ -135,7 +133,8 @@ module _ (image : ImageParts) (inputs : List ℕ) (formed : IsWellFormed image) 
           record {
             fewer = λ m le. fewer_at on m le;
             full = λ m le long. full_at on m le long;
-            depth = λ k less. ap (λ j. run image inputs events j from) (suc-add n k) ∙ on (n + k) ∙ rest.room k less;
+            further = λ k less. ap (λ j. run image inputs events j from) (suc-add n k) ∙ on (n + k) ∙
+                rest.further k less;
           }
         where
           fewer_at : ((m : ℕ) → run image inputs events (suc m) from ≡ run image inputs events m next) → (m : ℕ) →

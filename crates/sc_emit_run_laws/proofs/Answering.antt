@@ -1,15 +1,15 @@
 -- What calls of functions of a program do: whatever that is, they only go on, and they answer where a value is
 -- promised.
-use Rattle.sc_emit_run_laws.proofs.Common.{BadType, Blamed, BodyGoes, Bool, Call, CallTarget, Cross, Export, Function}
-use Rattle.sc_emit_run_laws.proofs.Common.{GivesResults, GivesValue, Here, Input, IsSome, Denotations, List, None, Option}
-use Rattle.sc_emit_run_laws.proofs.Common.{Output, Own, Piece, Proto, Reached, Roles, RunEnd, Scalar, Some, State as Meant}
-use Rattle.sc_emit_run_laws.proofs.Common.{Stopped, TacFnTree, TacTree, Value, and_then, ap, back_cross, back_own, begun}
-use Rattle.sc_emit_run_laws.proofs.Common.{bodies, called, calls_go, calls_of, code_function, code_denotations, code_obeys}
-use Rattle.sc_emit_run_laws.proofs.Common.{crossed, crossing, done, export_at, false, found, function, functions_in, gives}
-use Rattle.sc_emit_run_laws.proofs.Common.{gives_result, if◌then◌else◌, is_some, length, map, may_call, option_value}
-use Rattle.sc_emit_run_laws.proofs.Common.{promises_result, ran, refl, run_in, run_step, scripted_goes_on, scripted_step}
-use Rattle.sc_emit_run_laws.proofs.Common.{slice_get, subst, sym, emit_event, true, turn, within_goes, word_back, word_in}
-use Rattle.sc_emit_run_laws.proofs.Common.{wrapping, ℕ, ◌≡◌}
+use Rattle.sc_emit_run_laws.proofs.Common.{BadType, Blamed, BodyGoes, Bool, Call, CallTarget, Cross, Denotations}
+use Rattle.sc_emit_run_laws.proofs.Common.{Export, Function, GivesResults, GivesValue, Here, Input, IsSome, List, None}
+use Rattle.sc_emit_run_laws.proofs.Common.{Option, Output, Own, Piece, Proto, Reached, Roles, RunEnd, Scalar, Some}
+use Rattle.sc_emit_run_laws.proofs.Common.{State as Meant, Stopped, TacFnTree, TacTree, Value, and_then, ap, back_cross}
+use Rattle.sc_emit_run_laws.proofs.Common.{back_own, begun, bodies, called, calls_go, calls_of, code_denotations}
+use Rattle.sc_emit_run_laws.proofs.Common.{code_function, code_obeys, crossed, crossing, done, emit_event, export_at}
+use Rattle.sc_emit_run_laws.proofs.Common.{false, found, function, functions_in, gives, gives_result, if◌then◌else◌}
+use Rattle.sc_emit_run_laws.proofs.Common.{is_some, length, map, may_call, option_value, promises_result, ran, refl}
+use Rattle.sc_emit_run_laws.proofs.Common.{run_in, run_step, scripted_goes_on, scripted_step, slice_get, subst, sym}
+use Rattle.sc_emit_run_laws.proofs.Common.{true, turn, within_goes, word_back, word_in, wrapping, ℕ, ◌≡◌}
 use Rattle.sc_core_laws.specs.Prelude.{Goes}
 use Rattle.sc_emit_run_laws.proofs.Sections.{function_found}
 

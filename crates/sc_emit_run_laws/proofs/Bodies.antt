@@ -1,17 +1,17 @@
 -- The induction on open calls: calls are followed where bodies with as many open calls are, and so bodies are followed
 -- in which one more may be open.
 use Rattle.sc_emit_run_laws.proofs.Common.{Addresses, All, ArePassed, BadType, Blamed, BodiesFollow, Bool, CallStands}
-use Rattle.sc_emit_run_laws.proofs.Common.{CallTarget, CallsFollow, Cross, Function, FunctionGives, GivesResults, HasCode}
-use Rattle.sc_emit_run_laws.proofs.Common.{Here, ImageParts, Input, IsBase, IsFunction, IsLinked, IsProgram, IsRun, IsWord}
-use Rattle.sc_emit_run_laws.proofs.Common.{Joint, Denotations, List, None, Null, Option, Output, Overflows, Own}
-use Rattle.sc_emit_run_laws.proofs.Common.{PerformersFollow, Piece, Ptr, Reached, Roles, Setting, Settled, Some}
+use Rattle.sc_emit_run_laws.proofs.Common.{CallTarget, CallsFollow, Cross, Denotations, Function, FunctionGives}
+use Rattle.sc_emit_run_laws.proofs.Common.{GivesResults, HasCode, Here, ImageParts, Input, IsBase, IsFunction, IsLinked}
+use Rattle.sc_emit_run_laws.proofs.Common.{IsProgram, IsRun, IsWord, Joint, List, None, Null, Option, Output, Overflows}
+use Rattle.sc_emit_run_laws.proofs.Common.{Own, PerformersFollow, Piece, Ptr, Reached, Roles, Setting, Settled, Some}
 use Rattle.sc_emit_run_laws.proofs.Common.{Standpoint, State as Meant, TacFnTree, TacTree, Value, Word, [], and_parts}
-use Rattle.sc_emit_run_laws.proofs.Common.{and_then, ap, arith, begun, bodies, called, calls_of, code_function}
-use Rattle.sc_emit_run_laws.proofs.Common.{code_denotations, done, eqb-true, false, found, functions_in, gives, if◌then◌else◌}
-use Rattle.sc_emit_run_laws.proofs.Common.{imports, inl, is_output, length, machine, may_call, nat_lt, not, or_parts}
-use Rattle.sc_emit_run_laws.proofs.Common.{own_call_fits, passes_words, performs, ran, refl, rows_left, run_step, setting}
-use Rattle.sc_emit_run_laws.proofs.Common.{slice_get, sp, stay, subst, suc, sym, true, wrapping, zero, ℕ, ◌+◌, ◌==◌, ◌∙◌}
-use Rattle.sc_emit_run_laws.proofs.Common.{◌∷◌, ◌≡◌, ◌⊎◌}
+use Rattle.sc_emit_run_laws.proofs.Common.{and_then, ap, arith, begun, bodies, called, calls_of, code_denotations}
+use Rattle.sc_emit_run_laws.proofs.Common.{code_function, done, eqb-true, false, found, functions_in, gives}
+use Rattle.sc_emit_run_laws.proofs.Common.{if◌then◌else◌, imports, inl, is_output, length, machine, may_call, nat_lt}
+use Rattle.sc_emit_run_laws.proofs.Common.{not, or_parts, own_call_fits, passes_words, performs, ran, refl, rows_left}
+use Rattle.sc_emit_run_laws.proofs.Common.{run_step, setting, slice_get, sp, stay, subst, suc, sym, true, wrapping}
+use Rattle.sc_emit_run_laws.proofs.Common.{zero, ℕ, ◌+◌, ◌==◌, ◌∙◌, ◌∷◌, ◌≡◌, ◌⊎◌}
 use Rattle.sc_emit_run_laws.proofs.Answering.{answers, calls_only_go, own_is}
 use Rattle.sc_emit_run_laws.proofs.CrossCalls.{cross_follows}
 use Rattle.sc_emit_run_laws.proofs.Environment.{input_comes, output_comes}

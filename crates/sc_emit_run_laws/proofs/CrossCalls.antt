@@ -1,20 +1,21 @@
 -- Calls of functions of other compartments of a program: those that code makes, and those of functions that run theirs.
 use Rattle.sc_emit_run_laws.proofs.Common.{Addresses, All, ArePassed, BadType, Begins, Blamed, BodiesFollow, Bool, Call}
-use Rattle.sc_emit_run_laws.proofs.Common.{CallGives, CallStands, Cross, EntersBy, Export, Function, FunctionGives}
-use Rattle.sc_emit_run_laws.proofs.Common.{GivesResults, HasCode, Here, ImageParts, IsBase, IsFunction, IsLeft, IsLinked}
-use Rattle.sc_emit_run_laws.proofs.Common.{IsProgram, IsRun, IsWord, Joint, Denotations, List, None, Option, Overflows, Piece}
-use Rattle.sc_emit_run_laws.proofs.Common.{Proto, Reached, Ret, Roles, Setting, Settled, Some, Standpoint, State as Meant}
-use Rattle.sc_emit_run_laws.proofs.Common.{Stopped, TacFnTree, TacTree, Value, Walks, and_parts, and_then, ap, arith}
-use Rattle.sc_emit_run_laws.proofs.Common.{back_cross, back_goes, begun, bodies, call_cross, called, called_there}
-use Rattle.sc_emit_run_laws.proofs.Common.{calls_of, cases_eq, code_function, code_inside, code_denotations, cross_call_fits}
-use Rattle.sc_emit_run_laws.proofs.Common.{crossed, crossing, done, eqb-true, export_at, false, found, function_entered}
+use Rattle.sc_emit_run_laws.proofs.Common.{CallGives, CallStands, Cross, Denotations, EntersBy, Export, Function}
+use Rattle.sc_emit_run_laws.proofs.Common.{FunctionGives, GivesResults, HasCode, Here, ImageParts, IsBase, IsFunction}
+use Rattle.sc_emit_run_laws.proofs.Common.{IsLeft, IsLinked, IsProgram, IsRun, IsWord, Joint, List, None, Option}
+use Rattle.sc_emit_run_laws.proofs.Common.{Overflows, Piece, Proto, Reached, Ret, Roles, Setting, Settled, Some}
+use Rattle.sc_emit_run_laws.proofs.Common.{Standpoint, State as Meant, Stopped, TacFnTree, TacTree, Value, Walks}
+use Rattle.sc_emit_run_laws.proofs.Common.{and_parts, and_then, ap, arith, back_cross, back_goes, begun, bodies}
+use Rattle.sc_emit_run_laws.proofs.Common.{call_cross, called, called_there, calls_of, cases_eq, code_denotations}
+use Rattle.sc_emit_run_laws.proofs.Common.{code_function, code_inside, cross_call_fits, crossed, crossing, done}
+use Rattle.sc_emit_run_laws.proofs.Common.{emit_event, eqb-true, export_at, false, found, function_entered}
 use Rattle.sc_emit_run_laws.proofs.Common.{functions_in, gate, imports, inl, inr, is_function, is_some, is_word, jal}
 use Rattle.sc_emit_run_laws.proofs.Common.{jalr_target, leads, length, length-map, list_all, lt-ltb, machine, map}
-use Rattle.sc_emit_run_laws.proofs.Common.{may_call, nat_lt, not, option_map, option_value, overflows_then, pos, ra, ran}
-use Rattle.sc_emit_run_laws.proofs.Common.{read_listed, refl, reg, run_in, setting, settled_moved, slice_get, slice_index}
-use Rattle.sc_emit_run_laws.proofs.Common.{sp, steps_emit, subst, suc, sym, takes, emit_event, then_go, then_then, true, word_at}
-use Rattle.sc_emit_run_laws.proofs.Common.{word_back, word_in, wrapping, ℕ, ⊎_elim, ◌<◌, ◌==◌, ◌||◌, ◌∙◌, ◌≡◌, ◌≢◌, ◌≤◌}
-use Rattle.sc_emit_run_laws.proofs.Common.{◌⊎◌}
+use Rattle.sc_emit_run_laws.proofs.Common.{may_call, nat_lt, not, option_map, option_value, overflows_then, pos, ra}
+use Rattle.sc_emit_run_laws.proofs.Common.{ran, read_listed, refl, reg, run_in, setting, settled_moved, slice_get}
+use Rattle.sc_emit_run_laws.proofs.Common.{slice_index, sp, steps_emit, subst, suc, sym, takes, then_go, then_then}
+use Rattle.sc_emit_run_laws.proofs.Common.{true, word_at, word_back, word_in, wrapping, ℕ, ⊎_elim, ◌<◌, ◌==◌, ◌||◌, ◌∙◌}
+use Rattle.sc_emit_run_laws.proofs.Common.{◌≡◌, ◌≢◌, ◌≤◌, ◌⊎◌}
 use Rattle.sc_image.specs.Prelude.{export_at as image_export}
 use Rattle.sc_emit_run_laws.proofs.Across.{IsDone, IsMade, across, comes_back, goes_across, low_is, opened, seen_across}
 use Rattle.sc_emit_run_laws.proofs.Across.{settled_in, walks_in}
@@ -170,7 +171,8 @@ module _ (program : TacTree) (image : ImageParts) (inputs : List ℕ) (roles : R
       (λ may.
       (let one = and_parts (imports program.interfaces P.comp (is_function to index)) _ may in
       let two = and_parts (takes program.interfaces to index (length args)) _ one.1 in
-      let three = and_parts (list_all is_word args) (leads denotations to (denotations.entered to (Export index))) two.1 in
+      let three = and_parts (list_all is_word args) (leads denotations to (denotations.entered to (Export index))) two.1
+      in
       let led : IsLed to index = led_by to index (denotations.entered to (Export index)) refl three.1 in
       where_turns T P x (Cross to index) x.meant.turns
       (λ s. call_cross denotations (bodies program roles n) P.comp to index args s)

@@ -1,12 +1,13 @@
 -- What passes between compartments at a call and at its return.
-use Rattle.sc_emit_run_laws.proofs.Common.{ArePassed, Bool, ReturnsValue, List, None, Null, Option, Ptr, Registers, Scalar}
-use Rattle.sc_emit_run_laws.proofs.Common.{Setting, Some, StandsFor, Value, Word, [], a0, and_parts, ap, ap₂, arguments}
-use Rattle.sc_emit_run_laws.proofs.Common.{arith, cleared_for_call, cleared_for_return, crossed, gate, if◌then◌else◌}
-use Rattle.sc_emit_run_laws.proofs.Common.{is_argument, is_result, is_some, is_word, kept, kept_from, le-leb, length}
-use Rattle.sc_emit_run_laws.proofs.Common.{list_all, listed, lt-ltb, map, option_map, option_value, put, put_here}
-use Rattle.sc_emit_run_laws.proofs.Common.{put_there, ra, refl, same_Some, slice_get, slice_get-map, slice_get_within, sp}
-use Rattle.sc_emit_run_laws.proofs.Common.{subst, suc, sym, take, true, word_back, word_in, words_from, write_listed}
-use Rattle.sc_emit_run_laws.proofs.Common.{written, zero, ℕ, ◌+◌, ◌<◌, ◌^◌, ◌∙◌, ◌∷◌, ◌≡◌, ◌≤◌}
+use Rattle.sc_emit_run_laws.proofs.Common.{ArePassed, Bool, List, None, Null, Option, Ptr, Registers, ReturnsValue}
+use Rattle.sc_emit_run_laws.proofs.Common.{Scalar, Setting, Some, StandsFor, Value, Word, [], a0, and_parts, ap, ap₂}
+use Rattle.sc_emit_run_laws.proofs.Common.{arguments, arith, cleared_for_call, cleared_for_return, crossed, gate}
+use Rattle.sc_emit_run_laws.proofs.Common.{if◌then◌else◌, is_argument, is_result, is_some, is_word, kept, kept_from}
+use Rattle.sc_emit_run_laws.proofs.Common.{le-leb, length, list_all, listed, lt-ltb, map, option_map, option_value, put}
+use Rattle.sc_emit_run_laws.proofs.Common.{put_here, put_there, ra, refl, same_Some, slice_get, slice_get-map}
+use Rattle.sc_emit_run_laws.proofs.Common.{slice_get_within, sp, subst, suc, sym, take, true, word_back, word_in}
+use Rattle.sc_emit_run_laws.proofs.Common.{words_from, write_listed, written, zero, ℕ, ◌+◌, ◌<◌, ◌^◌, ◌∙◌, ◌∷◌, ◌≡◌}
+use Rattle.sc_emit_run_laws.proofs.Common.{◌≤◌}
 use Rattle.sc_image.proofs.Words.{if_zero}
 
 -- Registers of which some are kept.

@@ -1,16 +1,17 @@
 -- The traces of the machine's runs, by what it does beside a run.
-use Rattle.sc_emit_run_laws.proofs.Common.{AgreesInDepth, AgreesUntilBlame, AllBefore, AllFrom, Blamed, Bool, Closed, End}
-use Rattle.sc_emit_run_laws.proofs.Common.{Ended, Event, EventsOut, Finishes, FrameChange, IsPrefix, Goes, ImageParts}
-use Rattle.sc_emit_run_laws.proofs.Common.{IsBlamed, IsFull, IsStop, IsWellFormed, List, None, Opened, OutcomesSimulate, Owner}
-use Rattle.sc_emit_run_laws.proofs.Common.{Reaches, Run, RunEnd, RunsAgree, RunsUntilBlame, SimulatesRun, SourceRun, Stands}
-use Rattle.sc_emit_run_laws.proofs.Common.{Traps, TrapsFull, TurnsOut, [], ap, arith, before_more, blamed, blamed_run}
-use Rattle.sc_emit_run_laws.proofs.Common.{deepest, deepest_is_reached, depth_in, drop, ended, false, finishes, prefix_more}
-use Rattle.sc_emit_run_laws.proofs.Common.{prefix_same, inl, inr, is_full, leb-false, leb-true, length, length-append}
-use Rattle.sc_emit_run_laws.proofs.Common.{lt-leb, ltb-false, ltb-true, nat_le, nat_lt, not_stopped, reaches, refl, reg}
-use Rattle.sc_emit_run_laws.proofs.Common.{depth_after, run, run_goes, run_stopped, run_traps, same, same_run, stack_size}
-use Rattle.sc_emit_run_laws.proofs.Common.{stands, start, step, steps_emit, stopped, stopped_at, subst, suc, sym, take}
-use Rattle.sc_emit_run_laws.proofs.Common.{take-append-drop, take_prefixes, trace_is, true, without_line, zero, ℕ, ⊎_elim}
-use Rattle.sc_emit_run_laws.proofs.Common.{◌++◌, ◌+◌, ◌-◌, ◌<◌, ◌∙◌, ◌∷◌, ◌≡◌, ◌≤◌, ◌⊎◌}
+use Rattle.sc_emit_run_laws.proofs.Common.{AgreesInDepth, AgreesUntilBlame, AllBefore, AllFrom, Blamed, Bool, Closed}
+use Rattle.sc_emit_run_laws.proofs.Common.{End, Ended, Event, EventsOut, Finishes, FrameChange, Goes, ImageParts}
+use Rattle.sc_emit_run_laws.proofs.Common.{IsBlamed, IsFull, IsPrefix, IsStop, IsWellFormed, List, None, Opened}
+use Rattle.sc_emit_run_laws.proofs.Common.{OutcomesSimulate, Owner, Reaches, Run, RunEnd, RunsAgree, RunsUntilBlame}
+use Rattle.sc_emit_run_laws.proofs.Common.{SimulatesRun, SourceRun, Stands, Traps, TrapsFull, TurnsOut, [], ap, arith}
+use Rattle.sc_emit_run_laws.proofs.Common.{before_more, blamed, blamed_run, deepest, deepest_is_reached, depth_after}
+use Rattle.sc_emit_run_laws.proofs.Common.{depth_in, drop, ended, false, finishes, inl, inr, is_full, leb-false}
+use Rattle.sc_emit_run_laws.proofs.Common.{leb-true, length, length-append, lt-leb, ltb-false, ltb-true, nat_le, nat_lt}
+use Rattle.sc_emit_run_laws.proofs.Common.{not_stopped, prefix_more, prefix_same, reaches, refl, reg, run, run_goes}
+use Rattle.sc_emit_run_laws.proofs.Common.{run_stopped, run_traps, same, same_run, stack_size, stands, start, step}
+use Rattle.sc_emit_run_laws.proofs.Common.{steps_emit, stopped, stopped_at, subst, suc, sym, take, take-append-drop}
+use Rattle.sc_emit_run_laws.proofs.Common.{take_prefixes, trace_is, true, without_line, zero, ℕ, ⊎_elim, ◌++◌, ◌+◌, ◌-◌}
+use Rattle.sc_emit_run_laws.proofs.Common.{◌<◌, ◌∙◌, ◌∷◌, ◌≡◌, ◌≤◌, ◌⊎◌}
 use Rattle.sc_image.specs.Prelude.{State, a0, machine}
 use Rattle.sc_emit_run_laws.specs.Prelude.{Outcome}
 use Rattle.std.proofs.Common.{take_all}
@@ -52,7 +53,8 @@ take_same : {A : Type 0} (n : ℕ) (xs ys : List A) → IsPrefix xs ys → n ≤
 take_same n xs ys prefix le = take_within n xs prefix.more le ∙ ap (take n) (sym prefix.is)
 
 -- of two prefixes of a list the one that is no longer is a prefix of the other
-pub shorter_first : {A : Type 0} (xs ys zs : List A) → IsPrefix xs zs → IsPrefix ys zs → length xs ≤ length ys → IsPrefix xs ys
+pub shorter_first : {A : Type 0} (xs ys zs : List A) → IsPrefix xs zs → IsPrefix ys zs → length xs ≤ length ys →
+    IsPrefix xs ys
 shorter_first xs ys zs a b le =
     let begins : take (length xs) ys ≡ xs =
     take_same (length xs) ys zs b le ∙ sym (take_same (length xs) xs zs a (omega arith)) ∙
@@ -97,9 +99,9 @@ module _ (image : ImageParts) (inputs : List ℕ) (formed : IsWellFormed image) 
     full steps le long = way.full steps le long
 
     -- at least as many, where it has fewer
-    room : (more : ℕ) → length reached.trace < events →
+    further : (more : ℕ) → length reached.trace < events →
         machine image inputs (place.steps + more) events ≡ run image inputs events more reached
-    room more short = way.room more short
+    further more short = way.further more short
 
     early : length reached.trace < events → stopped events reached.trace ≡ None
     early short = not_stopped image inputs formed events reached.trace (not_over reached.trace place.going) short
@@ -111,7 +113,7 @@ module _ (image : ImageParts) (inputs : List ℕ) (formed : IsWellFormed image) 
     on_from : (steps : ℕ) → place.steps ≤ steps → length reached.trace < events →
         machine image inputs steps events ≡ run image inputs events (steps - place.steps) reached
     on_from steps le short =
-        ap (λ k. machine image inputs k events) (sym (rest_is steps le)) ∙ room (steps - place.steps) short
+        ap (λ k. machine image inputs k events) (sym (rest_is steps le)) ∙ further (steps - place.steps) short
 
     -- where one more step ends the run
     pub ended_is : (steps : ℕ) → place.steps < steps → length reached.trace < events →
@@ -176,7 +178,8 @@ module _ (image : ImageParts) (inputs : List ℕ) (formed : IsWellFormed image) 
 
     finish_back : (steps : ℕ) → IsPrefix (observed bound f.place events steps) (take events whole)
     finish_back steps = by (nat_lt f.place.steps steps) refl where
-      by : (b : Bool) → nat_lt f.place.steps steps ≡ b → IsPrefix (observed bound f.place events steps) (take events whole)
+      by : (b : Bool) → nat_lt f.place.steps steps ≡ b →
+          IsPrefix (observed bound f.place events steps) (take events whole)
       by true is =
           subst (λ t. IsPrefix t (take events whole)) (sym (finish_is steps (ltb-true f.place.steps steps is)))
           (prefix_same (take events whole))
@@ -325,7 +328,8 @@ module _ (image : ImageParts) (inputs : List ℕ) (formed : IsWellFormed image) 
         IsPrefix trace (cut events)
     to_cut events trace = subst (IsPrefix trace) (sym (trace_is events run.behaviour))
 
-    equal_cut : (events : ℕ) (trace : List Event) → trace ≡ take events run.behaviour.trace → IsPrefix (cut events) trace
+    equal_cut : (events : ℕ) (trace : List Event) → trace ≡ take events run.behaviour.trace →
+        IsPrefix (cut events) trace
     equal_cut events trace is =
         as_cut events trace (subst (IsPrefix (take events run.behaviour.trace)) (sym is)
         (prefix_same (take events run.behaviour.trace)))
@@ -486,7 +490,8 @@ module _ (image : ImageParts) (inputs : List ℕ) (bound turns : ℕ) (run other
         (λ h. inr (
           blamed_too (stopped_at events run.behaviour).end (stopped_at events other.behaviour).end
               (agree.behaviour events).end h.0,
-          subst (λ t. IsPrefix t (machine image inputs steps events).state.trace) (sym (agree.behaviour events).trace) h.1,
+          subst (λ t. IsPrefix t (machine image inputs steps events).state.trace) (sym (agree.behaviour events).trace)
+              h.1,
         )) (observed.backward steps events le);
   }
 
@@ -494,5 +499,6 @@ pub outcomes_simulate : OutcomesSimulate
 outcomes_simulate = record {
   emits = λ image inputs bound turns one other formed words agrees outcome.
       emits image inputs formed bound turns one other agrees outcome;
-  along = λ image inputs bound turns run other agree observed. emits_too image inputs bound turns run other agree observed;
+  along = λ image inputs bound turns run other agree observed. emits_too image inputs bound turns run other agree
+      observed;
 }

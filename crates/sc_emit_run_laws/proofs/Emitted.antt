@@ -1,7 +1,7 @@
 -- Some number of steps from the start emits the trace of a run.
-use Rattle.sc_emit_run_laws.proofs.Common.{Goes, ImageParts, HasEmitted, List, None, Option, Outcome, Some, Stop, Traps, ap}
-use Rattle.sc_emit_run_laws.proofs.Common.{refl, run, run_goes, run_out, run_stopped, run_traps, start, step, stopped, suc}
-use Rattle.sc_emit_run_laws.proofs.Common.{sym, then_on, walk, zero, ℕ, ◌∙◌, ◌≡◌}
+use Rattle.sc_emit_run_laws.proofs.Common.{Goes, HasEmitted, ImageParts, List, None, Option, Outcome, Some, Stop, Traps}
+use Rattle.sc_emit_run_laws.proofs.Common.{ap, refl, run, run_goes, run_out, run_stopped, run_traps, start, step}
+use Rattle.sc_emit_run_laws.proofs.Common.{stopped, suc, sym, then_on, walk, zero, ℕ, ◌∙◌, ◌≡◌}
 use Rattle.sc_image.specs.Prelude.{State, machine}
 
 module _ (image : ImageParts) (inputs : List ℕ) (events : ℕ) where

@@ -1,10 +1,10 @@
 -- Calls of the environment.
 use Rattle.sc_emit_run_laws.proofs.Common.{All, ComesBack, Ecall, Fetches, In, Input, IsAt, IsWellFormed, IsWord, Joint}
-use Rattle.sc_emit_run_laws.proofs.Common.{List, None, Out, Output, Setting, Settled, Some, Standpoint, StandsFor, Walks}
-use Rattle.sc_emit_run_laws.proofs.Common.{Word, [], a0, a7, ap, arith, came_by, drop, drop_next, input_at, listed}
-use Rattle.sc_emit_run_laws.proofs.Common.{machine, may_input, may_output, next_input, put, put_here, put_there}
-use Rattle.sc_emit_run_laws.proofs.Common.{read_input, read_listed, refl, sp, steps_emit, subst, suc, sym, emit_event, true}
-use Rattle.sc_emit_run_laws.proofs.Common.{walks_steady, write_listed, written, zero, ℕ, ◌++◌, ◌+◌, ◌∙◌, ◌∷◌, ◌≡◌}
+use Rattle.sc_emit_run_laws.proofs.Common.{List, None, Out, Output, Setting, Settled, Some, Standpoint, StandsFor}
+use Rattle.sc_emit_run_laws.proofs.Common.{Walks, Word, [], a0, a7, ap, arith, came_by, drop, drop_next, emit_event}
+use Rattle.sc_emit_run_laws.proofs.Common.{input_at, listed, machine, may_input, may_output, next_input, put, put_here}
+use Rattle.sc_emit_run_laws.proofs.Common.{put_there, read_input, read_listed, refl, sp, steps_emit, subst, suc, sym}
+use Rattle.sc_emit_run_laws.proofs.Common.{true, walks_steady, write_listed, written, zero, ℕ, ◌++◌, ◌+◌, ◌∙◌, ◌∷◌, ◌≡◌}
 use Rattle.sc_image.specs.Prelude.{State}
 use Rattle.sc_emit_run_laws.proofs.Turning.{before_timed}
 
@@ -114,7 +114,8 @@ module _ (T : Setting) (formed : IsWellFormed T.image) (inputs : All IsWord T.in
 
     walks' : Walks T.image T.inputs 1 (machine P x) (machine P z')
     walks' =
-        subst (λ word. Walks T.image T.inputs 1 (machine P x) (observed word)) (read_listed x.regs a0 (omega arith) ∙ is)
+        subst (λ word. Walks T.image T.inputs 1 (machine P x) (observed word))
+        (read_listed x.regs a0 (omega arith) ∙ is)
         (steps_emit.outputs T.image T.inputs (machine P x) is_at (read_listed x.regs a7 (omega arith) ∙ asked)
         may).walks
 

@@ -1,10 +1,11 @@
 -- Each export of a program of code leads to a function.
 use Rattle.sc_emit_run_laws.proofs.Common.{Bool, Export, ExportsLead, Interface, IsProgram, None, Option, Proto, Some}
-use Rattle.sc_emit_run_laws.proofs.Common.{TacFnTree, TacSection, TacTree, and_parts, ap, are_headed, arith, code_denotations}
-use Rattle.sc_emit_run_laws.proofs.Common.{comp_at, count, eqb-true, export_at, exports_entered, false, false≢true}
-use Rattle.sc_emit_run_laws.proofs.Common.{function_entered, functions_in, functions_or_none, is_entered, is_some}
-use Rattle.sc_emit_run_laws.proofs.Common.{is_there, leads, length, option_and_then, option_map_or, refl, same_entry}
-use Rattle.sc_emit_run_laws.proofs.Common.{slice_get, slice_get_within, subst, true, wrapping, ℕ, ◌+◌, ◌==◌, ◌∙◌, ◌≡◌}
+use Rattle.sc_emit_run_laws.proofs.Common.{TacFnTree, TacSection, TacTree, and_parts, ap, are_headed, arith}
+use Rattle.sc_emit_run_laws.proofs.Common.{code_denotations, comp_at, count, eqb-true, export_at, exports_entered}
+use Rattle.sc_emit_run_laws.proofs.Common.{false, false≢true, function_entered, functions_in, functions_or_none}
+use Rattle.sc_emit_run_laws.proofs.Common.{is_entered, is_some, is_there, leads, length, option_and_then, option_map_or}
+use Rattle.sc_emit_run_laws.proofs.Common.{refl, same_entry, slice_get, slice_get_within, subst, true, wrapping, ℕ, ◌+◌}
+use Rattle.sc_emit_run_laws.proofs.Common.{◌==◌, ◌∙◌, ◌≡◌}
 use Rattle.sc_emit_run_laws.proofs.Sections.{entered_of, function_found, numbered_at}
 use Rattle.sc_emit_run_laws.proofs.Start.{IsFirst, first_of}
 

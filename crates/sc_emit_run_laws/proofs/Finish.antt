@@ -1,17 +1,17 @@
 -- What comes of a run of a program, by what its code comes to once `main` has begun.
-use Rattle.sc_emit_run_laws.proofs.Common.{AllBefore, AllFrom, AllHonest, BodiesFollow, Body, Costs, End, Event, Finishes}
-use Rattle.sc_emit_run_laws.proofs.Common.{IsPrefix, FunctionGives, ReturnsValue, Gone, Here, ImageParts, IsBuilt, IsFull}
-use Rattle.sc_emit_run_laws.proofs.Common.{IsLeft, Joint, Denotations, List, Main, Memory, Option, Overflows, Piece, Reached}
-use Rattle.sc_emit_run_laws.proofs.Common.{Reaches, RunEnd, Setting, Emits, Some, Standpoint, Stands, State as Meant}
-use Rattle.sc_emit_run_laws.proofs.Common.{Stopped, StopsSpent, TacFnTree, TacTree, TurnsOut, Value, Walks, Word, []}
-use Rattle.sc_emit_run_laws.proofs.Common.{and_then, ap, ap₂, arith, begun, bodies, call_own, code_function, code_globals}
-use Rattle.sc_emit_run_laws.proofs.Common.{code_denotations, code_obeys, code_run, done, exit_word, finishes, found}
-use Rattle.sc_emit_run_laws.proofs.Common.{frames_are, prefix_more, prefix_same, function_entered, functions_in, gate}
-use Rattle.sc_emit_run_laws.proofs.Common.{has_no_end, inl, inr, is_full, is_some, jalr_target, keeps_depths, last, leads}
-use Rattle.sc_emit_run_laws.proofs.Common.{length, lt-ltb, machine, main_call, nobody, own_goes, pos, ran, refl, reg}
-use Rattle.sc_emit_run_laws.proofs.Common.{run_goes_on, run_step, run_to, setting, slice_get, stands, steps_emit, subst}
-use Rattle.sc_emit_run_laws.proofs.Common.{suc, sym, true, within, within_goes, wrapping, ℕ, ◌*◌, ◌++◌, ◌+◌, ◌<◌, ◌∙◌, ◌∷◌}
-use Rattle.sc_emit_run_laws.proofs.Common.{◌≡◌, ◌≤◌, ◌⊎◌}
+use Rattle.sc_emit_run_laws.proofs.Common.{AllBefore, AllFrom, AllHonest, BodiesFollow, Body, Costs, Denotations, Emits}
+use Rattle.sc_emit_run_laws.proofs.Common.{End, Event, Finishes, FunctionGives, Gone, Here, ImageParts, IsBuilt, IsFull}
+use Rattle.sc_emit_run_laws.proofs.Common.{IsLeft, IsPrefix, Joint, List, Main, Memory, Option, Overflows, Piece}
+use Rattle.sc_emit_run_laws.proofs.Common.{Reached, Reaches, ReturnsValue, RunEnd, Setting, Some, Standpoint, Stands}
+use Rattle.sc_emit_run_laws.proofs.Common.{State as Meant, Stopped, StopsSpent, TacFnTree, TacTree, TurnsOut, Value}
+use Rattle.sc_emit_run_laws.proofs.Common.{Walks, Word, [], and_then, ap, ap₂, arith, begun, bodies, call_own}
+use Rattle.sc_emit_run_laws.proofs.Common.{code_denotations, code_function, code_globals, code_obeys, code_run, done}
+use Rattle.sc_emit_run_laws.proofs.Common.{exit_word, finishes, found, frames_are, function_entered, functions_in, gate}
+use Rattle.sc_emit_run_laws.proofs.Common.{has_no_end, inl, inr, is_full, is_some, jalr_target, keeps_depths, last}
+use Rattle.sc_emit_run_laws.proofs.Common.{leads, length, lt-ltb, machine, main_call, nobody, own_goes, pos}
+use Rattle.sc_emit_run_laws.proofs.Common.{prefix_more, prefix_same, ran, refl, reg, run_goes_on, run_step, run_to}
+use Rattle.sc_emit_run_laws.proofs.Common.{setting, slice_get, stands, steps_emit, subst, suc, sym, true, within}
+use Rattle.sc_emit_run_laws.proofs.Common.{within_goes, wrapping, ℕ, ◌*◌, ◌++◌, ◌+◌, ◌<◌, ◌∙◌, ◌∷◌, ◌≡◌, ◌≤◌, ◌⊎◌}
 use Rattle.sc_image.specs.Prelude.{State, a0, ra}
 use Rattle.sc_emit_run_laws.specs.Prelude.{Outcome}
 use Rattle.sc_core_laws.proofs.Turns.{spends_turns}
@@ -38,7 +38,8 @@ within_bound turn_pays turns steps left rest budget less most =
     omega (arith, less, most, whole)
 
 -- the events of a run begin with those of what it comes to
-pub run_prefix : (main : ℕ) (piece : Piece (Option Value)) → IsPrefix (last piece).trace (run_to main piece).behaviour.trace
+pub run_prefix : (main : ℕ) (piece : Piece (Option Value)) →
+    IsPrefix (last piece).trace (run_to main piece).behaviour.trace
 run_prefix main (Reached v s) = record { more = End main (exit_word v) ∷ []; is = refl }
 run_prefix main (Stopped end s) = prefix_same s.trace
 
@@ -108,11 +109,13 @@ module _ (program : TacTree) (image : ImageParts) (turn_pays : ℕ) (built : IsB
   -- it emits no end, and goes on from the first state
   no_end : has_no_end (last whole).trace ≡ true
   no_end =
-      (keeps_depths denotations (code_obeys.itself wrapping program)).no_end (suc turns) image.main number [] x.meant refl
+      (keeps_depths denotations (code_obeys.itself wrapping program)).no_end (suc turns) image.main number [] x.meant
+      refl
 
   gone : Gone x.meant whole
   gone =
-      own_goes denotations body (within_goes (run_step denotations) (run_goes_on denotations (code_obeys.itself wrapping program))
+      own_goes denotations body (within_goes (run_step denotations)
+      (run_goes_on denotations (code_obeys.itself wrapping program))
       (suc turns)) image.main number [] x.meant
 
   led : leads denotations main (denotations.entered main Main) ≡ true
@@ -207,7 +210,8 @@ module _ (program : TacTree) (image : ImageParts) (turn_pays : ℕ) (built : IsB
       frames = over.begun.frames;
       prefix = record { more = over.grown.frames.more; is = frames_are main whole ∙ over.grown.frames.is };
       before = subst (λ (t : List Event). AllBefore (suc (length t)) over.begun.frames) (sym over.trace) over.timed;
-      following = subst (λ (t : List Event). AllFrom (length t) over.grown.frames.more) (sym over.trace) over.grown.late;
+      following = subst (λ (t : List Event). AllFrom (length t) over.grown.frames.more) (sym over.trace)
+          over.grown.late;
       deep = over.deep;
     }
 

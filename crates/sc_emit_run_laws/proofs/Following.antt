@@ -1,11 +1,11 @@
 -- The induction on open calls where some compartments perform their parts of the machine's own trace: what they perform
 -- is followed, whatever code they have, and all others are followed by their code.
-use Rattle.sc_emit_run_laws.proofs.Common.{Addresses, All, BodiesFollow, Bool, Event, GivesResults, Here, ImageParts}
-use Rattle.sc_emit_run_laws.proofs.Common.{IsFunction, IsLinked, IsProgram, HasEmitted, IsWord, List, PerformersDo, Roles}
-use Rattle.sc_emit_run_laws.proofs.Common.{Setting, Some, State as Meant, TacFnTree, TacTree, UnknownComes, ap, bodies}
-use Rattle.sc_emit_run_laws.proofs.Common.{code_denotations, functions_in, if◌then◌else◌, inl, legal, performs, roles_in}
-use Rattle.sc_emit_run_laws.proofs.Common.{rows_left, run_step, setting, emits_here, slice_get, subst, suc, sym, true}
-use Rattle.sc_emit_run_laws.proofs.Common.{wrapping, zero, ℕ, ◌≡◌}
+use Rattle.sc_emit_run_laws.proofs.Common.{Addresses, All, BodiesFollow, Bool, Event, GivesResults, HasEmitted, Here}
+use Rattle.sc_emit_run_laws.proofs.Common.{ImageParts, IsFunction, IsLinked, IsProgram, IsWord, List, PerformersDo}
+use Rattle.sc_emit_run_laws.proofs.Common.{Roles, Setting, Some, State as Meant, TacFnTree, TacTree, UnknownComes, ap}
+use Rattle.sc_emit_run_laws.proofs.Common.{bodies, code_denotations, emits_here, functions_in, if◌then◌else◌, inl}
+use Rattle.sc_emit_run_laws.proofs.Common.{legal, performs, roles_in, rows_left, run_step, setting, slice_get, subst}
+use Rattle.sc_emit_run_laws.proofs.Common.{suc, sym, true, wrapping, zero, ℕ, ◌≡◌}
 use Rattle.sc_emit_run_laws.proofs.Bodies.{more_follow, none_follow}
 use Rattle.sc_emit_run_laws.proofs.Unknown.{followed}
 use Rattle.sc_emit_run_laws.proofs.Performing.{performers_follow}
@@ -29,11 +29,13 @@ module _ (program : TacTree) (image : ImageParts) (inputs : List ℕ) (set : ℕ
 
   performs_is : (n number : ℕ) (here : Here) (s : Meant) → set here.comp ≡ true →
       bodies program roles (suc n) number here s ≡
-      performs (code_denotations wrapping program) (bodies program roles n) (rows_left roles here.comp s.trace) number here
+      performs (code_denotations wrapping program) (bodies program roles n) (rows_left roles here.comp s.trace) number
+      here
       s
   performs_is n number here s is =
       ap (λ b. if b then
-      performs (code_denotations wrapping program) (bodies program roles n) (rows_left roles here.comp s.trace) number here
+      performs (code_denotations wrapping program) (bodies program roles n) (rows_left roles here.comp s.trace) number
+      here
       s else run_step (code_denotations wrapping program) (bodies program roles n) number here s) is
 
   more_perform : (n : ℕ) → AllFollow n → PerformersDo program roles T (suc n)

@@ -1,8 +1,8 @@
 -- Runs that keep to a trace: so do runs that agree with them.
-use Rattle.sc_emit_run_laws.proofs.Common.{AgreesInDepth, Bool, Event, IsPrefix, IsBlamed, KeepsTo, List, Run, RunsAgree}
-use Rattle.sc_emit_run_laws.proofs.Common.{RunsUntilBlame, SourceRun, arith, blamed_run, false, prefix_more, inl, inr}
-use Rattle.sc_emit_run_laws.proofs.Common.{leb-false, leb-true, length, nat_le, refl, same_run, subst, sym, true, ⊎_elim}
-use Rattle.sc_emit_run_laws.proofs.Common.{◌<◌, ◌≡◌}
+use Rattle.sc_emit_run_laws.proofs.Common.{AgreesInDepth, Bool, Event, IsBlamed, IsPrefix, KeepsTo, List, Run}
+use Rattle.sc_emit_run_laws.proofs.Common.{RunsAgree, RunsUntilBlame, SourceRun, arith, blamed_run, false, inl, inr}
+use Rattle.sc_emit_run_laws.proofs.Common.{leb-false, leb-true, length, nat_le, prefix_more, refl, same_run, subst, sym}
+use Rattle.sc_emit_run_laws.proofs.Common.{true, ⊎_elim, ◌<◌, ◌≡◌}
 use Rattle.sc_emit_run_laws.proofs.Emits.{blamed_too, shorter_first}
 
 module _ (trace : List Event) where

@@ -1,11 +1,12 @@
 -- Calls of functions of the own compartment.
-use Rattle.sc_emit_run_laws.proofs.Common.{All, ArePassed, Begins, CallGives, ComesBack, Fetches, Function, FunctionGives}
-use Rattle.sc_emit_run_laws.proofs.Common.{IsBase, IsInside, IsLeft, IsSome, IsWellFormed, IsWord, Jal, Joint, List}
-use Rattle.sc_emit_run_laws.proofs.Common.{Option, Overflows, Own, Piece, Reached, Setting, Settled, Some, Standpoint}
-use Rattle.sc_emit_run_laws.proofs.Common.{StandsFor, State as Meant, Stopped, Value, Walks, a0, add_word, ap, arith}
-use Rattle.sc_emit_run_laws.proofs.Common.{came_by, code_inside, false, inl, inr, jal, jalr, jalr_target, machine, pos}
-use Rattle.sc_emit_run_laws.proofs.Common.{put, put_here, put_there, ra, refl, sp, subst, suc, sym, then_go, walks_steady}
-use Rattle.sc_emit_run_laws.proofs.Common.{word_at, word_of, ℕ, ℤ, ⊎_elim, ◌%◌, ◌*◌, ◌+◌, ◌/◌, ◌<◌, ◌^◌, ◌∙◌, ◌≡◌, ◌⊎◌}
+use Rattle.sc_emit_run_laws.proofs.Common.{All, ArePassed, Begins, CallGives, ComesBack, Fetches, Function}
+use Rattle.sc_emit_run_laws.proofs.Common.{FunctionGives, IsBase, IsInside, IsLeft, IsSome, IsWellFormed, IsWord, Jal}
+use Rattle.sc_emit_run_laws.proofs.Common.{Joint, List, Option, Overflows, Own, Piece, Reached, Setting, Settled, Some}
+use Rattle.sc_emit_run_laws.proofs.Common.{Standpoint, StandsFor, State as Meant, Stopped, Value, Walks, a0, add_word}
+use Rattle.sc_emit_run_laws.proofs.Common.{ap, arith, came_by, code_inside, false, inl, inr, jal, jalr, jalr_target}
+use Rattle.sc_emit_run_laws.proofs.Common.{machine, pos, put, put_here, put_there, ra, refl, sp, subst, suc, sym}
+use Rattle.sc_emit_run_laws.proofs.Common.{then_go, walks_steady, word_at, word_of, ℕ, ℤ, ⊎_elim, ◌%◌, ◌*◌, ◌+◌, ◌/◌}
+use Rattle.sc_emit_run_laws.proofs.Common.{◌<◌, ◌^◌, ◌∙◌, ◌≡◌, ◌⊎◌}
 use Rattle.sc_emit_run_laws.proofs.Turning.{GoesIn, turned, emits_in, overflows_in, costs_back}
 use Rattle.sc_base.proofs.Bools.{some_value}
 

@@ -1,10 +1,10 @@
 -- A state that the machine reaches, and the trace of a run of `steps` steps: the run doesn't come so far, or it passes.
-use Rattle.sc_emit_run_laws.proofs.Common.{Blamed, Bool, End, Ended, Event, EventsOut, IsPrefix, Goes, ImageParts, IsBlamed}
-use Rattle.sc_emit_run_laws.proofs.Common.{IsStop, IsWellFormed, KeepsTo, List, Owner, Reaches, RunEnd, SourceRun, Traps}
-use Rattle.sc_emit_run_laws.proofs.Common.{TurnsOut, [], append-nil, arith, drop, ended, false, prefix_more, prefix_same}
-use Rattle.sc_emit_run_laws.proofs.Common.{inl, inr, leb-false, leb-true, length, ltb-false, ltb-true, nat_le, nat_lt}
-use Rattle.sc_emit_run_laws.proofs.Common.{refl, reg, step, subst, sym, take, take-append-drop, true, ℕ, ⊎_elim, ◌++◌, ◌<◌}
-use Rattle.sc_emit_run_laws.proofs.Common.{◌∙◌, ◌∷◌, ◌≡◌, ◌≤◌, ◌⊎◌}
+use Rattle.sc_emit_run_laws.proofs.Common.{Blamed, Bool, End, Ended, Event, EventsOut, Goes, ImageParts, IsBlamed}
+use Rattle.sc_emit_run_laws.proofs.Common.{IsPrefix, IsStop, IsWellFormed, KeepsTo, List, Owner, Reaches, RunEnd}
+use Rattle.sc_emit_run_laws.proofs.Common.{SourceRun, Traps, TurnsOut, [], append-nil, arith, drop, ended, false, inl}
+use Rattle.sc_emit_run_laws.proofs.Common.{inr, leb-false, leb-true, length, ltb-false, ltb-true, nat_le, nat_lt}
+use Rattle.sc_emit_run_laws.proofs.Common.{prefix_more, prefix_same, refl, reg, step, subst, sym, take}
+use Rattle.sc_emit_run_laws.proofs.Common.{take-append-drop, true, ℕ, ⊎_elim, ◌++◌, ◌<◌, ◌∙◌, ◌∷◌, ◌≡◌, ◌≤◌, ◌⊎◌}
 use Rattle.sc_image.specs.Prelude.{a0, machine}
 use Rattle.sc_emit_run_laws.proofs.Emits.{ended_is, few, full, later_prefix, trapped_is}
 
@@ -22,7 +22,7 @@ module _ (image : ImageParts) (inputs : List ℕ) (formed : IsWellFormed image) 
     -- the run has come there, and may emit more events
     record Passes : Type 0 where
       pub more : place.steps < steps
-      pub room : length there < events
+      pub events_left : length there < events
       pub prefix : IsPrefix there observed
 
     passes : IsPrefix observed there ⊎ Passes
@@ -33,11 +33,11 @@ module _ (image : ImageParts) (inputs : List ℕ) (formed : IsWellFormed image) 
           (sym (full image inputs formed bound place events steps (omega (arith, less))
           (leb-true events (length there) is))) (prefix_of_take events there))
       full_by false is less =
-          let room : length there < events = leb-false events (length there) is in
+          let events_left : length there < events = leb-false events (length there) is in
           inr (record {
             more = less;
-            room = room;
-            prefix = later_prefix image inputs formed bound place events steps (omega (arith, less)) room;
+            events_left = events_left;
+            prefix = later_prefix image inputs formed bound place events steps (omega (arith, less)) events_left;
           })
 
       by : (b : Bool) → nat_lt place.steps steps ≡ b → IsPrefix observed there ⊎ Passes
@@ -55,7 +55,8 @@ module _ (image : ImageParts) (inputs : List ℕ) (formed : IsWellFormed image) 
         (λ prefix. prefix_more observed there whole prefix
         (record { more = End place.reached.active (reg place.reached a0) ∷ []; is = sym is }))
         (λ past. subst (IsPrefix observed)
-        (ended_is image inputs formed bound place events steps past.more past.room goes ∙ is) (prefix_same observed)) passes
+        (ended_is image inputs formed bound place events steps past.more past.events_left goes ∙ is)
+        (prefix_same observed)) passes
 
     -- where the machine stands trapped
     pub emits_trap : step image inputs place.reached ≡ Traps Owner → (whole : List Event) → IsPrefix there whole →
@@ -63,7 +64,7 @@ module _ (image : ImageParts) (inputs : List ℕ) (formed : IsWellFormed image) 
     emits_trap traps whole begins =
         ⊎_elim (λ prefix. prefix_more observed there whole prefix begins)
         (λ past. subst (λ r. IsPrefix r.state.trace whole)
-        (sym (trapped_is image inputs formed bound place events steps past.more past.room traps)) begins) passes
+        (sym (trapped_is image inputs formed bound place events steps past.more past.events_left traps)) begins) passes
 
     -- a run that stops there for want of turns has emitted the machine's whole trace, or the machine's steps are used
     abbrev IsUsed : SourceRun → Type 0

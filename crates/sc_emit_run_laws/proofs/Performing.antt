@@ -1,7 +1,7 @@
 -- Calls of compartments that perform are followed where their functions are, from compartments that run their code.
 use Rattle.sc_emit_run_laws.proofs.Common.{Addresses, All, GivesResults, ImageParts, IsFunction, IsLinked, IsProgram}
-use Rattle.sc_emit_run_laws.proofs.Common.{IsWord, List, PerformersDo, PerformersFollow, Roles, Setting, Some, TacFnTree}
-use Rattle.sc_emit_run_laws.proofs.Common.{TacTree, functions_in, setting, slice_get, ℕ, ◌≡◌}
+use Rattle.sc_emit_run_laws.proofs.Common.{IsWord, List, PerformersDo, PerformersFollow, Roles, Setting, Some}
+use Rattle.sc_emit_run_laws.proofs.Common.{TacFnTree, TacTree, functions_in, setting, slice_get, ℕ, ◌≡◌}
 use Rattle.sc_emit_run_laws.proofs.CrossCalls.{cross_where}
 use Rattle.sc_emit_run_laws.proofs.UnknownCrossing.{into_unknown}
 

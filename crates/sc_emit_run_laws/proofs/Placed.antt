@@ -1,12 +1,12 @@
 -- Where the machine's run has come: its states follow one another, and what its trace says of who is active.
 use Rattle.sc_emit_run_laws.proofs.Common.{Activation, Bool, Call, Crossing, End, Event, Goes, ImageParts, In}
-use Rattle.sc_emit_run_laws.proofs.Common.{IsWellFormed, List, None, Option, Out, Outcome, Ret, Row, Some, Standing, Traps}
-use Rattle.sc_emit_run_laws.proofs.Common.{Walks, [], and_parts, ap, arguments, arith, at_start, count_of, entered_by}
-use Rattle.sc_emit_run_laws.proofs.Common.{false, filter, given_back, has_result, if◌then◌else◌, input_at, is_allowed}
-use Rattle.sc_emit_run_laws.proofs.Common.{is_legal_from, length, params_of, performer, refl, reg, returned, rows_from}
-use Rattle.sc_emit_run_laws.proofs.Common.{stands_after, stands_after_all, stands_last, start, step, step_of, subst, suc}
-use Rattle.sc_emit_run_laws.proofs.Common.{suc-add, sym, then_on, true, walk, zero, zero-add, ℕ, ◌++◌, ◌+◌, ◌==◌, ◌∙◌, ◌∷◌}
-use Rattle.sc_emit_run_laws.proofs.Common.{◌≡◌, ◌≤◌}
+use Rattle.sc_emit_run_laws.proofs.Common.{IsWellFormed, List, None, Option, Out, Outcome, Ret, Row, Some, Standing}
+use Rattle.sc_emit_run_laws.proofs.Common.{Traps, Walks, [], and_parts, ap, arguments, arith, at_start, count_of}
+use Rattle.sc_emit_run_laws.proofs.Common.{entered_by, false, filter, given_back, has_result, if◌then◌else◌, input_at}
+use Rattle.sc_emit_run_laws.proofs.Common.{is_allowed, is_legal_from, length, params_of, performer, refl, reg, returned}
+use Rattle.sc_emit_run_laws.proofs.Common.{rows_from, stands_after, stands_after_all, stands_last, start, step, step_of}
+use Rattle.sc_emit_run_laws.proofs.Common.{subst, suc, suc-add, sym, then_on, true, walk, zero, zero-add, ℕ, ◌++◌, ◌+◌}
+use Rattle.sc_emit_run_laws.proofs.Common.{◌==◌, ◌∙◌, ◌∷◌, ◌≡◌, ◌≤◌}
 use Rattle.sc_image.specs.Prelude.{State, a0}
 use Rattle.sc_event.specs.declared.interface.Interfaces.{Interfaces}
 
@@ -66,7 +66,8 @@ pub record HasStood (from : Option Standing) (trace : List Event) : Type 0 where
   pub at : Standing
   pub stood : stands_after_all from trace ≡ Some at
 
-stood_before : (from : Option Standing) (xs ys : List Event) (at : Standing) → stands_after_all from (xs ++ ys) ≡ Some at →
+stood_before : (from : Option Standing) (xs ys : List Event) (at : Standing) →
+    stands_after_all from (xs ++ ys) ≡ Some at →
     HasStood from xs
 stood_before None [] [] at is = cc is
 stood_before None [] (y ∷ ys) at is = cc is

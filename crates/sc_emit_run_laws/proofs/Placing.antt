@@ -1,16 +1,17 @@
 -- The code of a function of a program is placed where a linked image has it.
 use Rattle.sc_emit_run_laws.proofs.Common.{Addresses, All, Bool, CallTarget, CodeAt, Cross, HasCode, ImageParts, Input}
-use Rattle.sc_emit_run_laws.proofs.Common.{IsAddress, IsLinked, IsProgram, IsWord, List, None, Option, Output, Own, Proto}
-use Rattle.sc_emit_run_laws.proofs.Common.{Setting, Some, Store, TacFnTree, TacSection, TacStmt, TacStmt-F, TacTree, []}
-use Rattle.sc_emit_run_laws.proofs.Common.{all_true, and_from, and_parts, ap, arith, calls_exports, calls_imports}
-use Rattle.sc_emit_run_laws.proofs.Common.{calls_own, code_globals, cross_call_fits, everywhere, export_at, false}
-use Rattle.sc_emit_run_laws.proofs.Common.{first_blocks, fold-roll-TacStmt, frame_taken, functions_in, functions_or_none}
-use Rattle.sc_emit_run_laws.proofs.Common.{gives, gives_result, imports, is_function, is_some, is_there, length}
-use Rattle.sc_emit_run_laws.proofs.Common.{length-append, length-map, linked_from, ltb-true, makes, map, map-TacStmt}
-use Rattle.sc_emit_run_laws.proofs.Common.{moved_by, names_own_global, nat_lt, not, option_map, own_call_fits}
-use Rattle.sc_emit_run_laws.proofs.Common.{passes_words, pos, promises_result, ra, refl, roll-TacStmt, setting, slice_get}
-use Rattle.sc_emit_run_laws.proofs.Common.{slice_get-map, slice_get_within, sp, sub_word, subst, sym, takes_result, true}
-use Rattle.sc_emit_run_laws.proofs.Common.{with_parts, word_at, ℕ, ◌&&◌, ◌<◌, ◌==◌, ◌||◌, ◌∙◌, ◌∷◌, ◌≡◌, ◌≤◌}
+use Rattle.sc_emit_run_laws.proofs.Common.{IsAddress, IsLinked, IsProgram, IsWord, List, None, Option, Output, Own}
+use Rattle.sc_emit_run_laws.proofs.Common.{Proto, Setting, Some, Store, TacFnTree, TacSection, TacStmt, TacStmt-F}
+use Rattle.sc_emit_run_laws.proofs.Common.{TacTree, [], all_true, and_from, and_parts, ap, arith, calls_exports}
+use Rattle.sc_emit_run_laws.proofs.Common.{calls_imports, calls_own, code_globals, cross_call_fits, everywhere}
+use Rattle.sc_emit_run_laws.proofs.Common.{export_at, false, first_blocks, fold-roll-TacStmt, frame_taken, functions_in}
+use Rattle.sc_emit_run_laws.proofs.Common.{functions_or_none, gives, gives_result, imports, is_function, is_some}
+use Rattle.sc_emit_run_laws.proofs.Common.{is_there, length, length-append, length-map, linked_from, ltb-true, makes}
+use Rattle.sc_emit_run_laws.proofs.Common.{map, map-TacStmt, moved_by, names_own_global, nat_lt, not, option_map}
+use Rattle.sc_emit_run_laws.proofs.Common.{own_call_fits, passes_words, pos, promises_result, ra, refl, roll-TacStmt}
+use Rattle.sc_emit_run_laws.proofs.Common.{setting, slice_get, slice_get-map, slice_get_within, sp, sub_word, subst}
+use Rattle.sc_emit_run_laws.proofs.Common.{sym, takes_result, true, with_parts, word_at, ℕ, ◌&&◌, ◌<◌, ◌==◌, ◌||◌, ◌∙◌}
+use Rattle.sc_emit_run_laws.proofs.Common.{◌∷◌, ◌≡◌, ◌≤◌}
 use Rattle.sc_emit.specs.Prelude.{IsCodeAddress, IsPlaced, calls_only, is_call, names_only}
 use Rattle.rv_code.specs.declared.instr.Instr.{Instr}
 use Rattle.rv_code.specs.declared.instr.StoreOp.TheVariants.{Sw}

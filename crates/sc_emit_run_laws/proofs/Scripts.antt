@@ -1,18 +1,18 @@
 -- The run of a program's code in which a set performs its part of the machine's trace keeps to that trace, by what its
 -- code comes to once `main` has begun.
-use Rattle.sc_emit_run_laws.proofs.Common.{BodiesFollow, Body, Bool, Departs, End, Event, IsPrefix, Function, FunctionGives}
-use Rattle.sc_emit_run_laws.proofs.Common.{Gone, Here, ImageParts, IsBuilt, IsLeft, IsRun, IsUnknown, Joint, KeepsTo}
-use Rattle.sc_emit_run_laws.proofs.Common.{Denotations, List, Main, Memory, Option, Overflows, Owner, PerformersDo, Piece}
-use Rattle.sc_emit_run_laws.proofs.Common.{Reached, Reaches, Roles, RunEnd, Setting, Emits, Some, Standpoint}
-use Rattle.sc_emit_run_laws.proofs.Common.{State as Meant, Stopped, TacTree, Traps, TurnsOut, UnknownGives, Value, Walks}
-use Rattle.sc_emit_run_laws.proofs.Common.{Word, [], and_then, ap, ap₂, arith, begun, bodies, call_own, code_function}
-use Rattle.sc_emit_run_laws.proofs.Common.{code_globals, code_denotations, code_obeys, done, exit_word, false, found}
-use Rattle.sc_emit_run_laws.proofs.Common.{prefix_more, function_entered, functions_in, gate, has_no_end, inl, inr, is_some}
-use Rattle.sc_emit_run_laws.proofs.Common.{jalr_target, keeps_depths, last, leads, legal, length, machine, own_goes, pos}
-use Rattle.sc_emit_run_laws.proofs.Common.{ran, refl, roles_in, run_step, run_to, scripted_call, scripted_code_run}
-use Rattle.sc_emit_run_laws.proofs.Common.{scripted_goes_on, scripted_step, setting, slice_get, spends_along, step}
-use Rattle.sc_emit_run_laws.proofs.Common.{steps_emit, subst, suc, sym, true, within_goes, wrapping, ℕ, ⊎_elim, ◌++◌, ◌∙◌}
-use Rattle.sc_emit_run_laws.proofs.Common.{◌∷◌, ◌≡◌, ◌≤◌, ◌⊎◌}
+use Rattle.sc_emit_run_laws.proofs.Common.{BodiesFollow, Body, Bool, Denotations, Departs, Emits, End, Event, Function}
+use Rattle.sc_emit_run_laws.proofs.Common.{FunctionGives, Gone, Here, ImageParts, IsBuilt, IsLeft, IsPrefix, IsRun}
+use Rattle.sc_emit_run_laws.proofs.Common.{IsUnknown, Joint, KeepsTo, List, Main, Memory, Option, Overflows, Owner}
+use Rattle.sc_emit_run_laws.proofs.Common.{PerformersDo, Piece, Reached, Reaches, Roles, RunEnd, Setting, Some}
+use Rattle.sc_emit_run_laws.proofs.Common.{Standpoint, State as Meant, Stopped, TacTree, Traps, TurnsOut, UnknownGives}
+use Rattle.sc_emit_run_laws.proofs.Common.{Value, Walks, Word, [], and_then, ap, ap₂, arith, begun, bodies, call_own}
+use Rattle.sc_emit_run_laws.proofs.Common.{code_denotations, code_function, code_globals, code_obeys, done, exit_word}
+use Rattle.sc_emit_run_laws.proofs.Common.{false, found, function_entered, functions_in, gate, has_no_end, inl, inr}
+use Rattle.sc_emit_run_laws.proofs.Common.{is_some, jalr_target, keeps_depths, last, leads, legal, length, machine}
+use Rattle.sc_emit_run_laws.proofs.Common.{own_goes, pos, prefix_more, ran, refl, roles_in, run_step, run_to}
+use Rattle.sc_emit_run_laws.proofs.Common.{scripted_call, scripted_code_run, scripted_goes_on, scripted_step, setting}
+use Rattle.sc_emit_run_laws.proofs.Common.{slice_get, spends_along, step, steps_emit, subst, suc, sym, true}
+use Rattle.sc_emit_run_laws.proofs.Common.{within_goes, wrapping, ℕ, ⊎_elim, ◌++◌, ◌∙◌, ◌∷◌, ◌≡◌, ◌≤◌, ◌⊎◌}
 use Rattle.sc_image.specs.Prelude.{State, a0, machine as ran_by, ra}
 use Rattle.sc_emit_run_laws.proofs.Along.{prefix_endless}
 use Rattle.sc_emit_run_laws.proofs.Exports.{exports_lead}
@@ -133,25 +133,26 @@ module _ (program : TacTree) (image : ImageParts) (turn_pays : ℕ) (built : IsB
 
   module _ (is_legal : legal program.interfaces trace ≡ true) where
     -- WHERE IT STOPS
-    module _ (end : RunEnd) (s : Meant) (is : whole ≡ Stopped end s) (budget : ℕ) (observed : Emits T P x budget s) where
-      -- where it is out of turns, and hasn't emitted all of the trace, no step is left
-      used : end ≡ TurnsOut → (event : Event) (more : List Event) → trace ≡ s.trace ++ event ∷ more →
-          steps ≤ observed.steps
-      used out event more along =
-          omega (
-            arith,
-            observed.costs.least,
-            spends_along denotations (code_obeys.itself wrapping program) (exports_lead program built.rules) led trace
-                is_legal set globals inputs steps s (called_whole ∙ is ∙ ap (λ end. Stopped end s) out) event more
-                along,
-          )
+    module _ (end : RunEnd) (s : Meant) (is : whole ≡ Stopped end s) (budget : ℕ) (observed : Emits T P x budget s)
+      where
+        -- where it is out of turns, and hasn't emitted all of the trace, no step is left
+        used : end ≡ TurnsOut → (event : Event) (more : List Event) → trace ≡ s.trace ++ event ∷ more →
+            steps ≤ observed.steps
+        used out event more along =
+            omega (
+              arith,
+              observed.costs.least,
+              spends_along denotations (code_obeys.itself wrapping program) (exports_lead program built.rules) led trace
+                  is_legal set globals inputs steps s (called_whole ∙ is ∙ ap (λ end. Stopped end s) out) event more
+                  along,
+            )
 
-      stops : KeepsTo trace (run_to main (Stopped end s)).behaviour
-      stops =
-          emits_stop image inputs built.linked.formed steps events (suc observed.steps)
-          (reaches observed.steps observed.reached observed.run
-          (ap has_no_end observed.trace ∙ ap (λ p. has_no_end (last p).trace) (sym is) ∙ no_end))
-          (run_to main (Stopped end s)).behaviour observed.trace (subst (Gone x.meant) is gone).stop used
+        stops : KeepsTo trace (run_to main (Stopped end s)).behaviour
+        stops =
+            emits_stop image inputs built.linked.formed steps events (suc observed.steps)
+            (reaches observed.steps observed.reached observed.run
+            (ap has_no_end observed.trace ∙ ap (λ p. has_no_end (last p).trace) (sym is) ∙ no_end))
+            (run_to main (Stopped end s)).behaviour observed.trace (subst (Gone x.meant) is gone).stop used
 
     keeps_by : (piece : Piece (Option Value)) → whole ≡ piece → MainGives piece →
         KeepsTo trace (run_to main piece).behaviour

@@ -1,13 +1,14 @@
 -- The functions of a program by their numbers, and what its rules say of each.
-use Rattle.sc_emit_run_laws.proofs.Common.{Bool, Export, Interface, IsFunction, IsProgram, List, None, Option, Proto, Some}
-use Rattle.sc_emit_run_laws.proofs.Common.{TacFnTree, TacSection, TacStmt-F, TacTree, [], and_parts, ap, are_entered}
-use Rattle.sc_emit_run_laws.proofs.Common.{are_headed, arith, code_function, code_functions, code_denotations, comp_at}
-use Rattle.sc_emit_run_laws.proofs.Common.{enters_by_words, eqb-true, everywhere, export_at, exports_entered, function}
-use Rattle.sc_emit_run_laws.proofs.Common.{function_entered, functions_in, functions_or_none, get_or_from_slice_get}
-use Rattle.sc_emit_run_laws.proofs.Common.{has_head, in_section, is_entered, is_some, length, list_all, map, not, numbered}
-use Rattle.sc_emit_run_laws.proofs.Common.{option_and_then, option_map, passes_words, position, position-Some, refl}
-use Rattle.sc_emit_run_laws.proofs.Common.{same_Some, same_entry, slice_get, slice_get-map, slice_index_or, subst, suc}
-use Rattle.sc_emit_run_laws.proofs.Common.{sym, true, wrapping, zero, ℕ, ◌+◌, ◌==◌, ◌||◌, ◌∙◌, ◌∷◌, ◌≡◌}
+use Rattle.sc_emit_run_laws.proofs.Common.{Bool, Export, Interface, IsFunction, IsProgram, List, None, Option, Proto}
+use Rattle.sc_emit_run_laws.proofs.Common.{Some, TacFnTree, TacSection, TacStmt-F, TacTree, [], and_parts, ap}
+use Rattle.sc_emit_run_laws.proofs.Common.{are_entered, are_headed, arith, code_denotations, code_function}
+use Rattle.sc_emit_run_laws.proofs.Common.{code_functions, comp_at, enters_by_words, eqb-true, everywhere, export_at}
+use Rattle.sc_emit_run_laws.proofs.Common.{exports_entered, function, function_entered, functions_in, functions_or_none}
+use Rattle.sc_emit_run_laws.proofs.Common.{get_or_from_slice_get, has_head, in_section, is_entered, is_some, length}
+use Rattle.sc_emit_run_laws.proofs.Common.{list_all, map, not, numbered, option_and_then, option_map, passes_words}
+use Rattle.sc_emit_run_laws.proofs.Common.{position, position-Some, refl, same_Some, same_entry, slice_get}
+use Rattle.sc_emit_run_laws.proofs.Common.{slice_get-map, slice_index_or, subst, suc, sym, true, wrapping, zero, ℕ, ◌+◌}
+use Rattle.sc_emit_run_laws.proofs.Common.{◌==◌, ◌||◌, ◌∙◌, ◌∷◌, ◌≡◌}
 use Rattle.sc_event.specs.declared.row.Entry.{Entry}
 
 -- Lists.

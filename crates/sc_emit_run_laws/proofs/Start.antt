@@ -1,14 +1,15 @@
 -- Where both sides stand at the start of a run: the machine, and the meaning of the program whose code it has.
 use Rattle.sc_emit_run_laws.proofs.Common.{Addresses, Begins, BlocksMatch, Bool, Cell, ImageParts, InCell, Injection}
 use Rattle.sc_emit_run_laws.proofs.Common.{IsBase, IsLinked, IsProgram, Joint, List, Main, Memory, None, Option, Placed}
-use Rattle.sc_emit_run_laws.proofs.Common.{Registers, Setting, Settled, Some, Standpoint, TacFnTree, TacSection, TacTree}
-use Rattle.sc_emit_run_laws.proofs.Common.{[], and_parts, ap, are_headed, arith, code_function, code_globals, cond, count}
-use Rattle.sc_emit_run_laws.proofs.Common.{eqb-true, false, first_state, function_entered, functions_in, functions_or_none}
-use Rattle.sc_emit_run_laws.proofs.Common.{gate, has_head, if◌then◌else◌, length, lt-ltb, ltb-true, main_entered, nat_lt}
-use Rattle.sc_emit_run_laws.proofs.Common.{not, option_map, or_parts, position, position-cons, refl, runs_are_steady}
-use Rattle.sc_emit_run_laws.proofs.Common.{same_Some, same_entry, setting, slice_get, slice_get_within, slice_index}
-use Rattle.sc_emit_run_laws.proofs.Common.{stack_top, stack_tops, start_memory, subst, suc, sym, true, truth, word}
-use Rattle.sc_emit_run_laws.proofs.Common.{wrapping, zero, zero-add, ℕ, ◌*◌, ◌+◌, ◌<◌, ◌==◌, ◌||◌, ◌∙◌, ◌∷◌, ◌≡◌, ◌≤◌, ◌⊎◌}
+use Rattle.sc_emit_run_laws.proofs.Common.{Registers, Setting, Settled, Some, Standpoint, TacFnTree, TacSection}
+use Rattle.sc_emit_run_laws.proofs.Common.{TacTree, [], and_parts, ap, are_headed, arith, code_function, code_globals}
+use Rattle.sc_emit_run_laws.proofs.Common.{cond, count, eqb-true, false, first_state, function_entered, functions_in}
+use Rattle.sc_emit_run_laws.proofs.Common.{functions_or_none, gate, has_head, if◌then◌else◌, length, lt-ltb, ltb-true}
+use Rattle.sc_emit_run_laws.proofs.Common.{main_entered, nat_lt, not, option_map, or_parts, position, position-cons}
+use Rattle.sc_emit_run_laws.proofs.Common.{refl, runs_are_steady, same_Some, same_entry, setting, slice_get}
+use Rattle.sc_emit_run_laws.proofs.Common.{slice_get_within, slice_index, stack_top, stack_tops, start_memory, subst}
+use Rattle.sc_emit_run_laws.proofs.Common.{suc, sym, true, truth, word, wrapping, zero, zero-add, ℕ, ◌*◌, ◌+◌, ◌<◌}
+use Rattle.sc_emit_run_laws.proofs.Common.{◌==◌, ◌||◌, ◌∙◌, ◌∷◌, ◌≡◌, ◌≤◌, ◌⊎◌}
 use Rattle.sc_core.specs.declared.value.Cell.TheVariants as cell
 use Rattle.sc_image.specs.declared.parts.CompPart.{CompPart}
 use Rattle.sc_emit_run_laws.proofs.Sections.{all_at, position_at}

@@ -1,10 +1,10 @@
 -- A call takes a turn, and that pays for what is called.
-use Rattle.sc_emit_run_laws.proofs.Common.{AllBefore, AllHonest, Bool, CallGives, CallTarget, Costs, Event, FrameChange}
-use Rattle.sc_emit_run_laws.proofs.Common.{Joint, List, Option, Overflows, Piece, RunEnd, Setting, Emits, Standpoint}
-use Rattle.sc_emit_run_laws.proofs.Common.{State as Meant, Stopped, Value, Walks, [], and_then, ap, arith, before_more}
-use Rattle.sc_emit_run_laws.proofs.Common.{false, if◌then◌else◌, inl, length, length_push, machine, refl, emits_here}
-use Rattle.sc_emit_run_laws.proofs.Common.{subst, suc, then_go, true, turn_of, zero, ℕ, ◌*◌, ◌++◌, ◌+◌, ◌<◌, ◌∷◌, ◌≡◌, ◌≤◌}
-use Rattle.sc_emit_run_laws.proofs.Common.{◌⊎◌}
+use Rattle.sc_emit_run_laws.proofs.Common.{AllBefore, AllHonest, Bool, CallGives, CallTarget, Costs, Emits, Event}
+use Rattle.sc_emit_run_laws.proofs.Common.{FrameChange, Joint, List, Option, Overflows, Piece, RunEnd, Setting}
+use Rattle.sc_emit_run_laws.proofs.Common.{Standpoint, State as Meant, Stopped, Value, Walks, [], and_then, ap, arith}
+use Rattle.sc_emit_run_laws.proofs.Common.{before_more, emits_here, false, if◌then◌else◌, inl, length, length_push}
+use Rattle.sc_emit_run_laws.proofs.Common.{machine, refl, subst, suc, then_go, true, turn_of, zero, ℕ, ◌*◌, ◌++◌, ◌+◌}
+use Rattle.sc_emit_run_laws.proofs.Common.{◌<◌, ◌∷◌, ◌≡◌, ◌≤◌, ◌⊎◌}
 
 pub before_timed : (trace : List Event) (event : Event) (changes : List FrameChange) →
     AllBefore (suc (length trace)) changes → AllBefore (suc (length (trace ++ event ∷ []))) changes

@@ -1,21 +1,23 @@
 -- Unknown code: whatever code the compartments have that perform their parts of the machine's own trace, the machine
 -- follows what they perform, and what all others do.
 use Rattle.sc_emit_run_laws.proofs.Common.{Addresses, All, AllHonest, AreFloors, BodiesFollow, Bool, Call, ComesBack}
-use Rattle.sc_emit_run_laws.proofs.Common.{Cross, Crossing, End, Event, IsPrefix, GivesResults, Goes as Steps, Here}
-use Rattle.sc_emit_run_laws.proofs.Common.{ImageParts, In, IsFunction, IsLinked, IsProgram, HasEmitted, IsSteady, IsWord}
-use Rattle.sc_emit_run_laws.proofs.Common.{Joint, Leads, Denotations, List, None, Option, Out, Overflows, PerformersDo, Piece}
-use Rattle.sc_emit_run_laws.proofs.Common.{Reached, Ret, Roles, Setting, Settled, Emits, Some, Standpoint, State as Meant}
-use Rattle.sc_emit_run_laws.proofs.Common.{Stopped, TacFnTree, TacTree, Traps, UnknownComes, UnknownGives, Value, Walks}
-use Rattle.sc_emit_run_laws.proofs.Common.{Word, [], a0, allowed_at, and_then, ap, append-nil, append_assoc, ap₂}
-use Rattle.sc_emit_run_laws.proofs.Common.{arguments, arith, at_start, bodies, call_cross, came_by, cases_lt, code_denotations}
-use Rattle.sc_emit_run_laws.proofs.Common.{departing, drop, drop_next, entered_by, false, functions_in, given_back}
-use Rattle.sc_emit_run_laws.proofs.Common.{has_result, if◌then◌else◌, inl, input, input_at, inr, leads_moved, leads_then}
-use Rattle.sc_emit_run_laws.proofs.Common.{legal, length, listed, machine, nat_lt, next_input, not, option_value, output}
-use Rattle.sc_emit_run_laws.proofs.Common.{overflows_after, overflows_then, params_of, read_input, read_listed, refl, reg}
-use Rattle.sc_emit_run_laws.proofs.Common.{returned, roles_in, setting, settled_moved, emits_after, emits_here, slice_get}
-use Rattle.sc_emit_run_laws.proofs.Common.{slice_index, stands_after_all, start, step, subst, suc, sym, emit_event, true, turn}
-use Rattle.sc_emit_run_laws.proofs.Common.{walk_one, walks_steady, with_pc, word, wrapping, written, zero, ℕ, ◌*◌, ◌++◌}
-use Rattle.sc_emit_run_laws.proofs.Common.{◌+◌, ◌-◌, ◌<◌, ◌||◌, ◌∙◌, ◌∷◌, ◌≡◌, ◌≢◌, ◌≤◌, ◌⊎◌}
+use Rattle.sc_emit_run_laws.proofs.Common.{Cross, Crossing, Denotations, Emits, End, Event, GivesResults, Goes as Steps}
+use Rattle.sc_emit_run_laws.proofs.Common.{HasEmitted, Here, ImageParts, In, IsFunction, IsLinked, IsPrefix, IsProgram}
+use Rattle.sc_emit_run_laws.proofs.Common.{IsSteady, IsWord, Joint, Leads, List, None, Option, Out, Overflows}
+use Rattle.sc_emit_run_laws.proofs.Common.{PerformersDo, Piece, Reached, Ret, Roles, Setting, Settled, Some, Standpoint}
+use Rattle.sc_emit_run_laws.proofs.Common.{State as Meant, Stopped, TacFnTree, TacTree, Traps, UnknownComes}
+use Rattle.sc_emit_run_laws.proofs.Common.{UnknownGives, Value, Walks, Word, [], a0, allowed_at, and_then, ap}
+use Rattle.sc_emit_run_laws.proofs.Common.{append-nil, append_assoc, ap₂, arguments, arith, at_start, bodies}
+use Rattle.sc_emit_run_laws.proofs.Common.{call_cross, came_by, cases_lt, code_denotations, departing, drop, drop_next}
+use Rattle.sc_emit_run_laws.proofs.Common.{emit_event, emits_after, emits_here, entered_by, false, functions_in}
+use Rattle.sc_emit_run_laws.proofs.Common.{given_back, has_result, if◌then◌else◌, inl, input, input_at, inr}
+use Rattle.sc_emit_run_laws.proofs.Common.{leads_moved, leads_then, legal, length, listed, machine, nat_lt, next_input}
+use Rattle.sc_emit_run_laws.proofs.Common.{not, option_value, output, overflows_after, overflows_then, params_of}
+use Rattle.sc_emit_run_laws.proofs.Common.{read_input, read_listed, refl, reg, returned, roles_in, setting}
+use Rattle.sc_emit_run_laws.proofs.Common.{settled_moved, slice_get, slice_index, stands_after_all, start, step, subst}
+use Rattle.sc_emit_run_laws.proofs.Common.{suc, sym, true, turn, walk_one, walks_steady, with_pc, word, wrapping}
+use Rattle.sc_emit_run_laws.proofs.Common.{written, zero, ℕ, ◌*◌, ◌++◌, ◌+◌, ◌-◌, ◌<◌, ◌||◌, ◌∙◌, ◌∷◌, ◌≡◌, ◌≢◌, ◌≤◌}
+use Rattle.sc_emit_run_laws.proofs.Common.{◌⊎◌}
 use Rattle.sc_store.specs.Prelude.{Memory as Bytes}
 use Rattle.sc_image.specs.Prelude.{State, called, export_at as image_export, may_call as may_make}
 use Rattle.sc_emit_relation.proofs.Storing.{block_owned}
@@ -24,13 +26,14 @@ use Rattle.sc_emit_run_laws.proofs.Answering.{bodies_go}
 use Rattle.sc_emit_run_laws.proofs.CrossCalls.{IsLed, IsOffered, into_code}
 use Rattle.sc_emit_run_laws.proofs.Environment.{next_at}
 use Rattle.sc_emit_run_laws.proofs.Exports.{IsExported}
-use Rattle.sc_emit_run_laws.proofs.Placed.{HasStood, StepsOn, first_step, legal_stood, stands_so, standing_in, walk_rest}
+use Rattle.sc_emit_run_laws.proofs.Placed.{HasStood, StepsOn, first_step, legal_stood, stands_so, standing_in}
+use Rattle.sc_emit_run_laws.proofs.Placed.{walk_rest}
 use Rattle.sc_emit_run_laws.proofs.Sections.{IsEntered, is_export}
 use Rattle.sc_emit_run_laws.proofs.Turning.{CallComes, before_timed, turned, where_turns}
 use Rattle.sc_emit_run_laws.proofs.Across.{IsMade}
 use Rattle.sc_emit_run_laws.proofs.UnknownCrossing.{into_unknown}
-use Rattle.sc_emit_run_laws.proofs.UnknownEvents.{IsNext, call_is, end_is, enters, input_is, offered, output_is, return_is}
-use Rattle.sc_emit_run_laws.proofs.UnknownEvents.{work, work_done}
+use Rattle.sc_emit_run_laws.proofs.UnknownEvents.{IsNext, call_is, end_is, enters, input_is, offered, output_is}
+use Rattle.sc_emit_run_laws.proofs.UnknownEvents.{return_is, work, work_done}
 use Rattle.sc_emit_run_laws.proofs.UnknownRules.{are_words, as_values, entry_is, words_passed}
 use Rattle.sc_emit_run_laws.proofs.UnknownSteps.{KeepsOthers, StepIs, calls, leaves, listed_is, moves, reads, emits}
 use Rattle.sc_emit_run_laws.proofs.UnknownSteps.{step_is, traps}
@@ -535,5 +538,6 @@ module _ (program : TacTree) (image : ImageParts) (inputs : List ℕ) (set : ℕ
               let gap : ℕ = observed.steps - settled.came.steps in
               let whole : observed.steps ≡ settled.came.steps + gap = omega (arith, within) in
               on_to_last gap x settled
-              (walk_rest image inputs settled.came.steps gap (start image) (machine P x) observed.last settled.came.walks
+              (walk_rest image inputs settled.came.steps gap (start image) (machine P x) observed.last
+              settled.came.walks
               (subst (λ k. Walks image inputs k (start image) observed.last) whole observed.walks))

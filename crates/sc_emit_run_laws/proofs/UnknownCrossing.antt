@@ -1,15 +1,16 @@
 -- Calls of compartments that perform are followed, whoever makes them, where their functions are.
-use Rattle.sc_emit_run_laws.proofs.Common.{Addresses, All, AllHonest, Bool, Call, CallGives, Cross, Departs, Export}
-use Rattle.sc_emit_run_laws.proofs.Common.{Function, ReturnsValue, GivesResults, Here, ImageParts, IsFunction, IsLinked}
-use Rattle.sc_emit_run_laws.proofs.Common.{IsProgram, IsUnknown, IsWord, Joint, Denotations, List, None, Option, PerformersDo}
-use Rattle.sc_emit_run_laws.proofs.Common.{Piece, Reached, Ret, Roles, Scalar, Setting, Some, Standpoint, State as Meant}
-use Rattle.sc_emit_run_laws.proofs.Common.{Stopped, TacFnTree, TacTree, UnknownComes, UnknownGives, Value, a0, and_then}
-use Rattle.sc_emit_run_laws.proofs.Common.{ap, arith, back_cross, back_goes, begun, bodies, call_cross, called_there}
-use Rattle.sc_emit_run_laws.proofs.Common.{code_function, code_denotations, crossed, crossing, done, done_goes, earlier, false}
-use Rattle.sc_emit_run_laws.proofs.Common.{found, functions_in, has_result, if◌then◌else◌, inl, inr, is_some, length}
-use Rattle.sc_emit_run_laws.proofs.Common.{machine, map, nat_lt, not, option_value, overflows_then, read_listed, refl}
-use Rattle.sc_emit_run_laws.proofs.Common.{run_in, setting, slice_get, subst, sym, emit_event, true, walk_one, word_back}
-use Rattle.sc_emit_run_laws.proofs.Common.{word_in, wrapping, ℕ, ◌<◌, ◌||◌, ◌∙◌, ◌≡◌}
+use Rattle.sc_emit_run_laws.proofs.Common.{Addresses, All, AllHonest, Bool, Call, CallGives, Cross, Denotations}
+use Rattle.sc_emit_run_laws.proofs.Common.{Departs, Export, Function, GivesResults, Here, ImageParts, IsFunction}
+use Rattle.sc_emit_run_laws.proofs.Common.{IsLinked, IsProgram, IsUnknown, IsWord, Joint, List, None, Option}
+use Rattle.sc_emit_run_laws.proofs.Common.{PerformersDo, Piece, Reached, Ret, ReturnsValue, Roles, Scalar, Setting}
+use Rattle.sc_emit_run_laws.proofs.Common.{Some, Standpoint, State as Meant, Stopped, TacFnTree, TacTree, UnknownComes}
+use Rattle.sc_emit_run_laws.proofs.Common.{UnknownGives, Value, a0, and_then, ap, arith, back_cross, back_goes, begun}
+use Rattle.sc_emit_run_laws.proofs.Common.{bodies, call_cross, called_there, code_denotations, code_function, crossed}
+use Rattle.sc_emit_run_laws.proofs.Common.{crossing, done, done_goes, earlier, emit_event, false, found, functions_in}
+use Rattle.sc_emit_run_laws.proofs.Common.{has_result, if◌then◌else◌, inl, inr, is_some, length, machine, map, nat_lt}
+use Rattle.sc_emit_run_laws.proofs.Common.{not, option_value, overflows_then, read_listed, refl, run_in, setting}
+use Rattle.sc_emit_run_laws.proofs.Common.{slice_get, subst, sym, true, walk_one, word_back, word_in, wrapping, ℕ, ◌<◌}
+use Rattle.sc_emit_run_laws.proofs.Common.{◌||◌, ◌∙◌, ◌≡◌}
 use Rattle.sc_core_laws.specs.Prelude.{Goes}
 use Rattle.sc_emit_run_laws.proofs.Across.{IsDone, IsMade, across, comes_back, seen_across, settled_in, walks_in}
 use Rattle.sc_emit_run_laws.proofs.CrossCalls.{IsLed, IsOffered}

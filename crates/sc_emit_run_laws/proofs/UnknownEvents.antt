@@ -1,14 +1,15 @@
 -- What a compartment performs in the meaning, by the next event of the trace of which it performs its part.
-use Rattle.sc_emit_run_laws.proofs.Common.{Body, Bool, Call, CallTarget, Cross, End, Event, Export, IsPrefix, Here, In, Input}
-use Rattle.sc_emit_run_laws.proofs.Common.{IsProgram, Denotations, List, Next, Option, Out, Output, Piece, Reached, Ret, Roles}
-use Rattle.sc_emit_run_laws.proofs.Common.{Row, Some, Standing, State as Meant, Stopped, TacTree, TurnsOut, Value, Word}
-use Rattle.sc_emit_run_laws.proofs.Common.{[], action_of, acts, and_from, and_parts, and_then, ap, asks, asks_is, at_start}
-use Rattle.sc_emit_run_laws.proofs.Common.{bodies, call_cross, called, code_denotations, count_of, drop, drop_all, eq-eqb}
-use Rattle.sc_emit_run_laws.proofs.Common.{if◌then◌else◌, imports, is_allowed, is_function, is_number, is_output, is_word}
-use Rattle.sc_emit_run_laws.proofs.Common.{leads, length, length-map, list_all, may_call, may_perform, next_input}
-use Rattle.sc_emit_run_laws.proofs.Common.{option_value, part, performer, performs, read_input, refl, roles_in}
-use Rattle.sc_emit_run_laws.proofs.Common.{row_of_next, rows_after, rows_left, stands_after_all, subst, sym, takes, emit_event}
-use Rattle.sc_emit_run_laws.proofs.Common.{true, turn, wrapping, ℕ, ◌++◌, ◌==◌, ◌∙◌, ◌∷◌, ◌≡◌, ◌≤◌}
+use Rattle.sc_emit_run_laws.proofs.Common.{Body, Bool, Call, CallTarget, Cross, Denotations, End, Event, Export, Here}
+use Rattle.sc_emit_run_laws.proofs.Common.{In, Input, IsPrefix, IsProgram, List, Next, Option, Out, Output, Piece}
+use Rattle.sc_emit_run_laws.proofs.Common.{Reached, Ret, Roles, Row, Some, Standing, State as Meant, Stopped, TacTree}
+use Rattle.sc_emit_run_laws.proofs.Common.{TurnsOut, Value, Word, [], action_of, acts, and_from, and_parts, and_then}
+use Rattle.sc_emit_run_laws.proofs.Common.{ap, asks, asks_is, at_start, bodies, call_cross, called, code_denotations}
+use Rattle.sc_emit_run_laws.proofs.Common.{count_of, drop, drop_all, emit_event, eq-eqb, if◌then◌else◌, imports}
+use Rattle.sc_emit_run_laws.proofs.Common.{is_allowed, is_function, is_number, is_output, is_word, leads, length}
+use Rattle.sc_emit_run_laws.proofs.Common.{length-map, list_all, may_call, may_perform, next_input, option_value, part}
+use Rattle.sc_emit_run_laws.proofs.Common.{performer, performs, read_input, refl, roles_in, row_of_next, rows_after}
+use Rattle.sc_emit_run_laws.proofs.Common.{rows_left, stands_after_all, subst, sym, takes, true, turn, wrapping, ℕ}
+use Rattle.sc_emit_run_laws.proofs.Common.{◌++◌, ◌==◌, ◌∙◌, ◌∷◌, ◌≡◌, ◌≤◌}
 use Rattle.sc_emit_run_laws.proofs.Answering.{bodies_go}
 use Rattle.sc_emit_run_laws.proofs.CrossCalls.{IsOffered}
 use Rattle.sc_emit_run_laws.proofs.Exports.{IsExported, exported, exports_lead}
@@ -57,14 +58,17 @@ module _ (program : TacTree) (set : ℕ → Bool) (t : List Event) (n : ℕ) whe
 
         -- the next row is that event, and it names the function
         work_is : work s ≡
-            acts denotations body (action_of e) (performs denotations body row.rest number here) (body number here) comp s
+            acts denotations body (action_of e) (performs denotations body row.rest number here) (body number here) comp
+            s
         work_is =
             ap (λ rows. performs denotations body rows number here s) row.is ∙
             ap (λ o. if is_number number o then
-            acts denotations body (action_of e) (performs denotations body row.rest number here) (body number here) comp s else
+            acts denotations body (action_of e) (performs denotations body row.rest number here) (body number here) comp
+            s else
             Stopped TurnsOut s) entered ∙
             ap (λ b. if b then
-            acts denotations body (action_of e) (performs denotations body row.rest number here) (body number here) comp s else
+            acts denotations body (action_of e) (performs denotations body row.rest number here) (body number here) comp
+            s else
             Stopped TurnsOut s) (eq-eqb number number refl)
 
         following : drop (count_of comp (s.trace ++ e ∷ [])) (part program.interfaces.main comp t) ≡ row.rest

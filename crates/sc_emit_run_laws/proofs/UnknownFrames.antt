@@ -1,8 +1,8 @@
 -- The variables and the frame of a function that performs, only in the meaning: the machine knows nothing of them.
 use Rattle.sc_emit_run_laws.proofs.Common.{AllBefore, Cell, Effect, FrameChange, Function, Joint, List, LiveAt, Memory}
 use Rattle.sc_emit_run_laws.proofs.Common.{Protected, Setting, Settled, Standpoint, Value, ap, arith, begun, cases_eq}
-use Rattle.sc_emit_run_laws.proofs.Common.{done, false, length, ne_eqb, stack_depth, refl, depth_after, slice_get, suc, sym}
-use Rattle.sc_emit_run_laws.proofs.Common.{true, ℕ, ⊎_elim, ◌∙◌, ◌≡◌, ◌≢◌, ◌≤◌}
+use Rattle.sc_emit_run_laws.proofs.Common.{depth_after, done, false, length, ne_eqb, refl, slice_get, stack_depth, suc}
+use Rattle.sc_emit_run_laws.proofs.Common.{sym, true, ℕ, ⊎_elim, ◌∙◌, ◌≡◌, ◌≢◌, ◌≤◌}
 use Rattle.sc_emit_relation.proofs.Ending.{length_closed, memory_closed, depth_begun, depth_begun_else, depth_done}
 use Rattle.sc_emit_relation.proofs.Ending.{depth_done_else, timed_closed, timed_opened}
 use Rattle.sc_emit_relation.proofs.Opening.{length_opened, memory_opened}

@@ -1,10 +1,10 @@
 -- What the rules of a program and of its image say of calls that any code makes.
 use Rattle.sc_emit_run_laws.proofs.Common.{ArePassed, ImageParts, List, None, Option, Proto, Registers, Some, StandsFor}
-use Rattle.sc_emit_run_laws.proofs.Common.{TacTree, Value, Word, [], a0, ap, arguments, arith, count, eqb-true, export_at}
-use Rattle.sc_emit_run_laws.proofs.Common.{exports_of, false, is_word, length, list_all, listed, map, ne_eqb}
+use Rattle.sc_emit_run_laws.proofs.Common.{TacTree, Value, Word, [], a0, ap, arguments, arith, count, eqb-true}
+use Rattle.sc_emit_run_laws.proofs.Common.{export_at, exports_of, false, is_word, length, list_all, listed, map, ne_eqb}
 use Rattle.sc_emit_run_laws.proofs.Common.{option_map_or, position-Some, read_listed, refl, same_Some, slice_get}
-use Rattle.sc_emit_run_laws.proofs.Common.{slice_index, subst, suc, sym, takes, true, words_from, zero, ℕ, ◌+◌, ◌<◌, ◌==◌}
-use Rattle.sc_emit_run_laws.proofs.Common.{◌^◌, ◌∙◌, ◌∷◌, ◌≡◌, ◌≤◌}
+use Rattle.sc_emit_run_laws.proofs.Common.{slice_index, subst, suc, sym, takes, true, words_from, zero, ℕ, ◌+◌, ◌<◌}
+use Rattle.sc_emit_run_laws.proofs.Common.{◌==◌, ◌^◌, ◌∙◌, ◌∷◌, ◌≡◌, ◌≤◌}
 use Rattle.sc_image.specs.Prelude.{export_at as image_export}
 use Rattle.sc_image.specs.declared.parts.ExportPart.{ExportPart}
 use Rattle.sc_emit_run_laws.proofs.CrossCalls.{IsOffered}

@@ -1,8 +1,9 @@
 -- What a step of a compartment comes to, whatever its code is: it touches no data of other compartments.
 use Rattle.sc_emit_run_laws.proofs.Common.{Goes, ImageParts, IsWellFormed, List, Outcome, Owned, Registers, Some, Traps}
 use Rattle.sc_emit_run_laws.proofs.Common.{[], ap, ap₂, are_data, arith, input, length, listed, may_input, may_output}
-use Rattle.sc_emit_run_laws.proofs.Common.{output, params_of, refl, returned, slice_index, step, step_of, store_size, suc}
-use Rattle.sc_emit_run_laws.proofs.Common.{sym, true, with_pc, word, words_from, zero, ℕ, ◌+◌, ◌<◌, ◌∙◌, ◌∷◌, ◌≡◌, ◌≢◌}
+use Rattle.sc_emit_run_laws.proofs.Common.{output, params_of, refl, returned, slice_index, step, step_of, store_size}
+use Rattle.sc_emit_run_laws.proofs.Common.{suc, sym, true, with_pc, word, words_from, zero, ℕ, ◌+◌, ◌<◌, ◌∙◌, ◌∷◌, ◌≡◌}
+use Rattle.sc_emit_run_laws.proofs.Common.{◌≢◌}
 use Rattle.sc_store.specs.Prelude.{Memory as Bytes, stored}
 use Rattle.sc_image.specs.Prelude.{State, called, export_at, may_call}
 use Rattle.sc_image.proofs.Memory.{allowed_data, within_data}

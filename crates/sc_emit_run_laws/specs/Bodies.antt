@@ -1,11 +1,11 @@
 -- What functions do, with all that they call, is followed by their code; what those of compartments that perform do, by
 -- whatever code these have.
 use Rattle.sc_emit_run_laws.specs.Common.{AreFloors, ArePassed, Begins, CallGives, CallStands, Calls, Cross, Crossing}
-use Rattle.sc_emit_run_laws.specs.Common.{Event, FunctionGives, Goes, ImageParts, IsBase, Joint, Leads, Main, Overflows}
-use Rattle.sc_emit_run_laws.specs.Common.{Piece, Reached, Roles, Setting, Settled, Emits, Standpoint, State as Meant}
-use Rattle.sc_emit_run_laws.specs.Common.{Stopped, TacFnTree, TacTree, Value, Walks, Word, a0, and_then, begun, calls}
-use Rattle.sc_emit_run_laws.specs.Common.{code_function, code_denotations, done, has_result, option_value, passes_words}
-use Rattle.sc_emit_run_laws.specs.Common.{returned, sp, start, step, wrapping}
+use Rattle.sc_emit_run_laws.specs.Common.{Emits, Event, FunctionGives, Goes, ImageParts, IsBase, Joint, Leads, Main}
+use Rattle.sc_emit_run_laws.specs.Common.{Overflows, Piece, Reached, Roles, Setting, Settled, Standpoint}
+use Rattle.sc_emit_run_laws.specs.Common.{State as Meant, Stopped, TacFnTree, TacTree, Value, Walks, Word, a0, and_then}
+use Rattle.sc_emit_run_laws.specs.Common.{begun, calls, code_denotations, code_function, done, has_result, option_value}
+use Rattle.sc_emit_run_laws.specs.Common.{passes_words, returned, sp, start, step, wrapping}
 use Rattle.sc_image.specs.Prelude.{State}
 use Rattle.sc_emit_relation.specs.Prelude.{machine}
 use Rattle.std.specs.Prelude.{◌≡◌, ℕ, ◌<◌, ◌⊎◌, true, false, List, [], ◌∷◌, length, IsTrue, Option, None, Some}

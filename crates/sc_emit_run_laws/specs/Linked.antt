@@ -1,9 +1,9 @@
 -- Images in which the code of a program stands.
 use Rattle.sc_emit_run_laws.specs.Common.{Addresses, Cross, Export, ImageParts, InCell, Input, IsAddress, IsWellFormed}
 use Rattle.sc_emit_run_laws.specs.Common.{Main, Output, Own, Placed, Proto, Setting, TacFnTree, TacTree, code_globals}
-use Rattle.sc_emit_run_laws.specs.Common.{cross_call_fits, export_at, function_entered, has_result, imports, is_function}
-use Rattle.sc_emit_run_laws.specs.Common.{is_input, is_output, linked, may_call, may_input, may_output, own_call_fits}
-use Rattle.sc_emit_run_laws.specs.Common.{params_of, stack_top, start, start_memory}
+use Rattle.sc_emit_run_laws.specs.Common.{cross_call_fits, export_at, function_entered, has_result, imports}
+use Rattle.sc_emit_run_laws.specs.Common.{is_function, is_input, is_output, linked, may_call, may_input, may_output}
+use Rattle.sc_emit_run_laws.specs.Common.{own_call_fits, params_of, stack_top, start, start_memory}
 use Rattle.sc_word.specs.Prelude.{add_word, word_of}
 use Rattle.sc_image.specs.Prelude.{export_at as image_export}
 use Rattle.sc_emit_hart.specs.Prelude.{CodeAt, Fetches, word}

@@ -1,7 +1,7 @@
 -- What the machine does from its start, beside a run of code.
-use Rattle.sc_emit_run_laws.specs.Common.{AllBefore, AllFrom, Ended, FrameChange, IsPrefix, Goes, ImageParts, IsStop, Owner}
-use Rattle.sc_emit_run_laws.specs.Common.{Run, Traps, TurnsOut, Walks, ended, has_no_end, depth_after, stack_size, start}
-use Rattle.sc_emit_run_laws.specs.Common.{step}
+use Rattle.sc_emit_run_laws.specs.Common.{AllBefore, AllFrom, Ended, FrameChange, Goes, ImageParts, IsPrefix, IsStop}
+use Rattle.sc_emit_run_laws.specs.Common.{Owner, Run, Traps, TurnsOut, Walks, depth_after, ended, has_no_end}
+use Rattle.sc_emit_run_laws.specs.Common.{stack_size, start, step}
 use Rattle.sc_image.specs.Prelude.{State}
 use Rattle.std.specs.Prelude.{◌≡◌, ℕ, suc, ◌<◌, ◌≤◌, true, List, length}
 

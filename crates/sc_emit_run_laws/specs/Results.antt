@@ -1,7 +1,7 @@
 -- What the functions of a program return, whoever performs and however many calls may be open.
 use Rattle.sc_emit_run_laws.specs.Common.{Body, Export, Here, Main, Proto, Reached, Roles, State, TacFnTree, TacTree}
-use Rattle.sc_emit_run_laws.specs.Common.{Value, Word, code_denotations, crossing, export_at, function_entered, option_value}
-use Rattle.sc_emit_run_laws.specs.Common.{run_step, scripted_step, within, wrapping}
+use Rattle.sc_emit_run_laws.specs.Common.{Value, Word, code_denotations, crossing, export_at, function_entered}
+use Rattle.sc_emit_run_laws.specs.Common.{option_value, run_step, scripted_step, within, wrapping}
 use Rattle.std.specs.Prelude.{◌≡◌, ℕ, true, false, Option, Some, slice_get, IsSome}
 use Rattle.sc_emit_run_laws.specs.Linked.{functions_in}
 

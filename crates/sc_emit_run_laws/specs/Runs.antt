@@ -1,7 +1,7 @@
 -- The traces of the machine's runs beside a program's run, wherever either is stopped.
-use Rattle.sc_emit_run_laws.specs.Common.{AgreesInDepth, Blamed, Ended, Event, EventsOut, IsPrefix, ImageParts, IsWellFormed}
-use Rattle.sc_emit_run_laws.specs.Common.{IsWord, Owner, Run, RunsAgree, TurnsOut, depth_in, machine, stack_size}
-use Rattle.sc_emit_run_laws.specs.Common.{stopped_at}
+use Rattle.sc_emit_run_laws.specs.Common.{AgreesInDepth, Blamed, Ended, Event, EventsOut, ImageParts, IsPrefix}
+use Rattle.sc_emit_run_laws.specs.Common.{IsWellFormed, IsWord, Owner, Run, RunsAgree, TurnsOut, depth_in, machine}
+use Rattle.sc_emit_run_laws.specs.Common.{stack_size, stopped_at}
 use Rattle.sc_image.specs.Prelude.{Run as MachineRun}
 use Rattle.std.specs.Prelude.{◌≡◌, ℕ, ◌<◌, ◌≤◌, ◌⊎◌, List, All}
 use Rattle.sc_base.specs.declared.stop.Stop.TheVariants.{Trap}

@@ -1,6 +1,6 @@
 -- The machine on a linked image does what the code of its program does.
-use Rattle.sc_emit_run_laws.specs.Common.{Addresses, ImageParts, IsFunction, IsProgram, IsWord, Roles, TacFnTree, TacTree}
-use Rattle.sc_emit_run_laws.specs.Common.{code_run, legal, machine, scripted_code_run, wrapping}
+use Rattle.sc_emit_run_laws.specs.Common.{Addresses, ImageParts, IsFunction, IsProgram, IsWord, Roles, TacFnTree}
+use Rattle.sc_emit_run_laws.specs.Common.{TacTree, code_run, legal, machine, scripted_code_run, wrapping}
 use Rattle.std.specs.Prelude.{◌≡◌, ℕ, suc, ◌*◌, Bool, true, false, List, [], All, Some, slice_get}
 use Rattle.sc_emit_run_laws.specs.Linked.{IsLinked, functions_in}
 use Rattle.sc_emit_run_laws.specs.Outcomes.{Outcome}

@@ -1,14 +1,14 @@
 -- What the code of statements in order, of choices and of loops is made of, and that the jumps of their parts reach.
-use Rattle.sc_emit_select.proofs.Common.{Bool, Fits, FitsBetween, FitsLoop, FrameTree, Instr, Line, List, OnOk, Other, Piece}
-use Rattle.sc_emit_select.proofs.Common.{Place, Plan, Result, Role, TacFnTree, TacStmt, [], and_first, and_rest, ap}
-use Rattle.sc_emit_select.proofs.Common.{append_assoc, ap₂, arith, as_one, between, choice, choosing, closing, cycle, drop}
-use Rattle.sc_emit_select.proofs.Common.{drop-cons, prologue, everywhere, false, fold-TacStmt, fold-roll-TacStmt}
-use Rattle.sc_emit_select.proofs.Common.{function_lines, get_or, if◌then◌else◌, in_turn, joined, joins, jump_back, jump_over}
-use Rattle.sc_emit_select.proofs.Common.{kind_of_fork, length, length-append, length-map, loop_begins, map, nothing}
-use Rattle.sc_emit_select.proofs.Common.{on_ok_weaker, passes_few, past, plain, plainly, refl, role_before, role_to_next}
-use Rattle.sc_emit_select.proofs.Common.{role_first, roll-TacStmt, select, select_all, select_step, skipping, stmt_weight}
-use Rattle.sc_emit_select.proofs.Common.{subst, suc, sym, true, weight, weight_step, with_parts, zero, ℕ, ◌&&◌, ◌++◌, ◌+◌}
-use Rattle.sc_emit_select.proofs.Common.{◌-◌, ◌<◌, ◌==◌, ◌∙◌, ◌∷◌, ◌≡◌, ◌≤◌}
+use Rattle.sc_emit_select.proofs.Common.{Bool, Fits, FitsBetween, FitsLoop, FrameTree, Instr, Line, List, OnOk, Other}
+use Rattle.sc_emit_select.proofs.Common.{Piece, Place, Plan, Result, Role, TacFnTree, TacStmt, [], and_first, and_rest}
+use Rattle.sc_emit_select.proofs.Common.{ap, append_assoc, ap₂, arith, as_one, between, choice, choosing, closing}
+use Rattle.sc_emit_select.proofs.Common.{cycle, drop, drop-cons, everywhere, false, fold-TacStmt, fold-roll-TacStmt}
+use Rattle.sc_emit_select.proofs.Common.{function_lines, get_or, if◌then◌else◌, in_turn, joined, joins, jump_back}
+use Rattle.sc_emit_select.proofs.Common.{jump_over, kind_of_fork, length, length-append, length-map, loop_begins, map}
+use Rattle.sc_emit_select.proofs.Common.{nothing, on_ok_weaker, passes_few, past, plain, plainly, prologue, refl}
+use Rattle.sc_emit_select.proofs.Common.{role_before, role_first, role_to_next, roll-TacStmt, select, select_all}
+use Rattle.sc_emit_select.proofs.Common.{select_step, skipping, stmt_weight, subst, suc, sym, true, weight, weight_step}
+use Rattle.sc_emit_select.proofs.Common.{with_parts, zero, ℕ, ◌&&◌, ◌++◌, ◌+◌, ◌-◌, ◌<◌, ◌==◌, ◌∙◌, ◌∷◌, ◌≡◌, ◌≤◌}
 use Rattle.sc_tac.specs.declared.stmt.TacStmt.TheOpen as tac
 use Rattle.sc_tac.specs.declared.stmt.TacStmt.TheVariants as emit
 use Rattle.sc_emit_select.proofs.Joining.{drop_map, joined_at, joined_length, none_after, role_in_is}
@@ -499,7 +499,8 @@ module _ (frame : FrameTree) (places : List Place) (plan : Plan) where
       ap (λ role. between frame places role (select frame places plan stmt) (role_first (drop (suc i) parts)) ∷
       drop (suc i) (pieces stmts)) (role_in_is frame places plan parts i
       (omega (arith, h, length-map stmts (select frame places plan)))) ∙
-      ap (λ following. between frame places (role_before parts i) (select frame places plan stmt) (role_first following) ∷
+      ap (λ following. between frame places (role_before parts i) (select frame places plan stmt)
+      (role_first following) ∷
       drop (suc i) (pieces stmts)) (drop_map frame places plan stmts (suc i))
 
   -- what the statements from one on need is no more than what all need

@@ -1,16 +1,17 @@
 -- Pieces between others: what holds of each piece of statements holds of all of them in order, and which statements are
 -- one piece.
-use Rattle.sc_emit_select.proofs.Common.{Applies, Bool, Each, FrameTree, Kind, List, Loads, None, Operates, Option, Other}
-use Rattle.sc_emit_select.proofs.Common.{Piece, Place, Places, Plan, Returns, Role, Sets, ShortForm, Some, Stores, TacOp}
-use Rattle.sc_emit_select.proofs.Common.{TacStmt, TacStmt-F, [], and_first, and_rest, ap, ap₂, arith, as_one, between}
-use Rattle.sc_emit_select.proofs.Common.{choice, choosing, drop, ending_past, eqb-true, false, fold-roll-TacStmt, followed}
-use Rattle.sc_emit_select.proofs.Common.{fork, get_or, if◌then◌else◌, in_order, in_turn, inl, inr, is_some, joined, joins}
-use Rattle.sc_emit_select.proofs.Common.{jump_over, kind_of_fork, length, map, map-TacStmt, not, nothing, object_read}
-use Rattle.sc_emit_select.proofs.Common.{object_store, past, refl, role_before, role_to_next, role_first, role_of_operation}
-use Rattle.sc_emit_select.proofs.Common.{role_of_store, roll-TacStmt, select, select_step, short_form, short_operation}
-use Rattle.sc_emit_select.proofs.Common.{short_return, skipping, stmt_induction, straight, straightly, suc, sym, true}
-use Rattle.sc_emit_select.proofs.Common.{turning, word_of_constant, zero, ℕ, ⊎_elim, ◌&&◌, ◌-◌, ◌<◌, ◌==◌, ◌∙◌, ◌∷◌, ◌≡◌}
-use Rattle.sc_emit_select.proofs.Common.{◌≤◌, ◌⊎◌}
+use Rattle.sc_emit_select.proofs.Common.{Applies, Bool, Each, FrameTree, Kind, List, Loads, None, Operates, Option}
+use Rattle.sc_emit_select.proofs.Common.{Other, Piece, Place, Places, Plan, Returns, Role, Sets, ShortForm, Some}
+use Rattle.sc_emit_select.proofs.Common.{Stores, TacOp, TacStmt, TacStmt-F, [], and_first, and_rest, ap, ap₂, arith}
+use Rattle.sc_emit_select.proofs.Common.{as_one, between, choice, choosing, drop, ending_past, eqb-true, false}
+use Rattle.sc_emit_select.proofs.Common.{fold-roll-TacStmt, followed, fork, get_or, if◌then◌else◌, in_order, in_turn}
+use Rattle.sc_emit_select.proofs.Common.{inl, inr, is_some, joined, joins, jump_over, kind_of_fork, length, map}
+use Rattle.sc_emit_select.proofs.Common.{map-TacStmt, not, nothing, object_read, object_store, past, refl, role_before}
+use Rattle.sc_emit_select.proofs.Common.{role_first, role_of_operation, role_of_store, role_to_next, roll-TacStmt}
+use Rattle.sc_emit_select.proofs.Common.{select, select_step, short_form, short_operation, short_return, skipping}
+use Rattle.sc_emit_select.proofs.Common.{stmt_induction, straight, straightly, suc, sym, true, turning}
+use Rattle.sc_emit_select.proofs.Common.{word_of_constant, zero, ℕ, ⊎_elim, ◌&&◌, ◌-◌, ◌<◌, ◌==◌, ◌∙◌, ◌∷◌, ◌≡◌, ◌≤◌}
+use Rattle.sc_emit_select.proofs.Common.{◌⊎◌}
 use Rattle.sc_tac.specs.declared.stmt.Constant.{Constant}
 use Rattle.sc_tac.specs.declared.stmt.TacStmt.TheOpen as tac
 
@@ -638,7 +639,8 @@ module _ (frame : FrameTree) (places : List Place) (plan : Plan) where
       let first : suc (suc i) - 2 ≡ i = omega arith in
       let second : suc (suc i) - 1 ≡ suc i = omega arith in
       ap₂ (λ n m. role_to_next (role_at stmts n) (role_at stmts m)) first second ∙
-      ap₂ (λ ps qs. role_to_next (role_first ps) (role_first qs)) (sym (drop_map stmts i)) (sym (drop_map stmts (suc i)))
+      ap₂ (λ ps qs. role_to_next (role_first ps) (role_first qs)) (sym (drop_map stmts i))
+      (sym (drop_map stmts (suc i)))
 
   -- PIECES
   -- what holds of a piece and of those that may stand for it and its neighbours
@@ -680,8 +682,10 @@ module _ (frame : FrameTree) (places : List Place) (plan : Plan) where
     as_one_keeps (Returns temp) second = none
     as_one_keeps Other second = none
 
-    pub between_keeps : (before following : Role) (piece : Piece) → P piece → P (between frame places before piece following)
-    between_keeps before following piece h = by (joins (role_to_next before piece.role) following) (joins before piece.role)
+    pub between_keeps : (before following : Role) (piece : Piece) → P piece →
+        P (between frame places before piece following)
+    between_keeps before following piece h =
+        by (joins (role_to_next before piece.role) following) (joins before piece.role)
       where
         by : (one two : Bool) → P (if one then nothing else if two then as_one frame places before piece.role else
             piece)

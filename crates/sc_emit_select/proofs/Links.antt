@@ -1,21 +1,22 @@
 -- Lines that refer to targets stand where the linker can complete them.
-use Rattle.sc_emit_select.proofs.Common.{All, AllPairs, Bne, Bool, Branch, Each, Entry, FrameTree, Function, Global, Inside}
-use Rattle.sc_emit_select.proofs.Common.{Instr, IsCode, IsTrue, Jal, Jalr, Kind, Line, List, Lui, None, Option, Piece, Place}
-use Rattle.sc_emit_select.proofs.Common.{Places, Plan, Relocation, Role, Sets, Some, Store, Sw, TacFnTree, TacStmt}
-use Rattle.sc_emit_select.proofs.Common.{TacStmt-F, Target, Upper, [], and_first, and_from, and_rest, ap, append-nil, arith}
-use Rattle.sc_emit_select.proofs.Common.{branch_back, branch_reach, brought, call_cross, call_own, choice, closing, code_of}
-use Rattle.sc_emit_select.proofs.Common.{code_of_lines, copied, cycle, prologue, environment_call, eq-eqb, false}
-use Rattle.sc_emit_select.proofs.Common.{first_scratch, fold-roll-TacStmt, followed, frame_taken, function_lines, has_mark}
-use Rattle.sc_emit_select.proofs.Common.{if◌then◌else◌, in_order, is_address, is_jal, is_linkable, is_near, jump_back, keep}
-use Rattle.sc_emit_select.proofs.Common.{le-ltb, length, length-append, length-map, load_from, loading, map, map-TacStmt}
-use Rattle.sc_emit_select.proofs.Common.{moved_by, nat_lt, needed_in, neg_ℤ, object_offset, object_read, object_store}
-use Rattle.sc_emit_select.proofs.Common.{operand, operation, pass, place_of_global, plain, plainly, plan_by, plan_of, pos}
-use Rattle.sc_emit_select.proofs.Common.{receive, referring, refl, relocation_of, relocations_from, result_register, return}
-use Rattle.sc_emit_select.proofs.Common.{role_of_load, role_of_operation, role_of_return, role_of_store, rotated, select}
-use Rattle.sc_emit_select.proofs.Common.{select_all, select_step, short_form, short_operation, short_return, slice_get}
-use Rattle.sc_emit_select.proofs.Common.{stmt_induction, store_arguments, store_to, straightly, sub_word, subst, suc, sym}
-use Rattle.sc_emit_select.proofs.Common.{take, testing, true, word_of_constant, ℕ, ◌&&◌, ◌*◌, ◌++◌, ◌+◌, ◌<◌, ◌∙◌, ◌∷◌, ◌≡◌}
-use Rattle.sc_emit_select.proofs.Common.{◌≤◌}
+use Rattle.sc_emit_select.proofs.Common.{All, AllPairs, Bne, Bool, Branch, Each, Entry, FrameTree, Function, Global}
+use Rattle.sc_emit_select.proofs.Common.{Inside, Instr, IsCode, IsTrue, Jal, Jalr, Kind, Line, List, Lui, None, Option}
+use Rattle.sc_emit_select.proofs.Common.{Piece, Place, Places, Plan, Relocation, Role, Sets, Some, Store, Sw, TacFnTree}
+use Rattle.sc_emit_select.proofs.Common.{TacStmt, TacStmt-F, Target, Upper, [], and_first, and_from, and_rest, ap}
+use Rattle.sc_emit_select.proofs.Common.{append-nil, arith, branch_back, branch_reach, brought, call_cross, call_own}
+use Rattle.sc_emit_select.proofs.Common.{choice, closing, code_of, code_of_lines, copied, cycle, environment_call}
+use Rattle.sc_emit_select.proofs.Common.{eq-eqb, false, first_scratch, fold-roll-TacStmt, followed, frame_taken}
+use Rattle.sc_emit_select.proofs.Common.{function_lines, has_mark, if◌then◌else◌, in_order, is_address, is_jal}
+use Rattle.sc_emit_select.proofs.Common.{is_linkable, is_near, jump_back, keep, le-ltb, length, length-append}
+use Rattle.sc_emit_select.proofs.Common.{length-map, load_from, loading, map, map-TacStmt, moved_by, nat_lt, needed_in}
+use Rattle.sc_emit_select.proofs.Common.{neg_ℤ, object_offset, object_read, object_store, operand, operation, pass}
+use Rattle.sc_emit_select.proofs.Common.{place_of_global, plain, plainly, plan_by, plan_of, pos, prologue, receive}
+use Rattle.sc_emit_select.proofs.Common.{referring, refl, relocation_of, relocations_from, result_register, return}
+use Rattle.sc_emit_select.proofs.Common.{role_of_load, role_of_operation, role_of_return, role_of_store, rotated}
+use Rattle.sc_emit_select.proofs.Common.{select, select_all, select_step, short_form, short_operation, short_return}
+use Rattle.sc_emit_select.proofs.Common.{slice_get, stmt_induction, store_arguments, store_to, straightly, sub_word}
+use Rattle.sc_emit_select.proofs.Common.{subst, suc, sym, take, testing, true, word_of_constant, ℕ, ◌&&◌, ◌*◌, ◌++◌}
+use Rattle.sc_emit_select.proofs.Common.{◌+◌, ◌<◌, ◌∙◌, ◌∷◌, ◌≡◌, ◌≤◌}
 use Rattle.sc_core.proofs.Induction.{everywhere as each_holds}
 use Rattle.std.proofs.lemmas.List.Elements.{All-cons, All-nil, All-weaker}
 use Rattle.std.proofs.lemmas.List.Kept.{AllPairs-cons}

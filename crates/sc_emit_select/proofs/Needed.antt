@@ -1,11 +1,12 @@
 -- What statements need, mark by mark; and that it names only temporaries of their function.
-use Rattle.sc_emit_select.proofs.Common.{Bool, Each, Inside, IsFunction, List, Marked, Need, None, Option, Some, TacFnTree}
-use Rattle.sc_emit_select.proofs.Common.{TacStmt, TacStmt-F, [], add-one, all_true, and_first, and_rest, ap, arith, drop}
-use Rattle.sc_emit_select.proofs.Common.{drop-cons, everywhere, false, fold-TacStmt, fold-roll-TacStmt, get_or, has_mark}
-use Rattle.sc_emit_select.proofs.Common.{if◌then◌else◌, is_one, length, ltb-true, map, map-TacStmt, names_own_temps, nat_lt}
-use Rattle.sc_emit_select.proofs.Common.{ne_eqb, need, need_step, needed_in, needs_of, one_or_none, parts, place_needed}
-use Rattle.sc_emit_select.proofs.Common.{refl, replicate, row_needs, slice_get, stmt_induction, subst, suc, sym, true}
-use Rattle.sc_emit_select.proofs.Common.{with_parts, zero, ℕ, ◌&&◌, ◌++◌, ◌+◌, ◌<◌, ◌==◌, ◌||◌, ◌∙◌, ◌∷◌, ◌≡◌, ◌≤◌}
+use Rattle.sc_emit_select.proofs.Common.{Bool, Each, Inside, IsFunction, List, Marked, Need, None, Option, Some}
+use Rattle.sc_emit_select.proofs.Common.{TacFnTree, TacStmt, TacStmt-F, [], add-one, all_true, and_first, and_rest, ap}
+use Rattle.sc_emit_select.proofs.Common.{arith, drop, drop-cons, everywhere, false, fold-TacStmt, fold-roll-TacStmt}
+use Rattle.sc_emit_select.proofs.Common.{get_or, has_mark, if◌then◌else◌, is_one, length, ltb-true, map, map-TacStmt}
+use Rattle.sc_emit_select.proofs.Common.{names_own_temps, nat_lt, ne_eqb, need, need_step, needed_in, needs_of}
+use Rattle.sc_emit_select.proofs.Common.{one_or_none, parts, place_needed, refl, replicate, row_needs, slice_get}
+use Rattle.sc_emit_select.proofs.Common.{stmt_induction, subst, suc, sym, true, with_parts, zero, ℕ, ◌&&◌, ◌++◌, ◌+◌}
+use Rattle.sc_emit_select.proofs.Common.{◌<◌, ◌==◌, ◌||◌, ◌∙◌, ◌∷◌, ◌≡◌, ◌≤◌}
 use Rattle.std.specs.List.{list_all}
 use Rattle.std.specs.Option.{option_map, unwrap_or}
 use Rattle.std.proofs.Math.Bool.{or_assoc}

@@ -3,10 +3,10 @@ use Rattle.sc_emit_select.proofs.Common.{Bool, Fits, FitsLoop, FrameTree, Instr,
 use Rattle.sc_emit_select.proofs.Common.{Place, Plan, Result, Some, TacStmt, [], and_first, and_from, and_rest, ap}
 use Rattle.sc_emit_select.proofs.Common.{append_assoc, arith, before_test, branch_back, cycle, ending_test, everywhere}
 use Rattle.sc_emit_select.proofs.Common.{false, first_scratch, fold-TacStmt, fold-roll-TacStmt, if◌then◌else◌, in_order}
-use Rattle.sc_emit_select.proofs.Common.{jump_over, length, length-append, length-map, map, on_ok_weaker, passes_few, plain}
-use Rattle.sc_emit_select.proofs.Common.{plainly, refl, roll-TacStmt, rotated, select, select_all, select_step, suc, sym}
-use Rattle.sc_emit_select.proofs.Common.{take, true, turning, weight, with_parts, zero, ℕ, ◌++◌, ◌+◌, ◌-◌, ◌<◌, ◌∙◌, ◌∷◌}
-use Rattle.sc_emit_select.proofs.Common.{◌≡◌, ◌≤◌}
+use Rattle.sc_emit_select.proofs.Common.{jump_over, length, length-append, length-map, map, on_ok_weaker, passes_few}
+use Rattle.sc_emit_select.proofs.Common.{plain, plainly, refl, roll-TacStmt, rotated, select, select_all, select_step}
+use Rattle.sc_emit_select.proofs.Common.{suc, sym, take, true, turning, weight, with_parts, zero, ℕ, ◌++◌, ◌+◌, ◌-◌}
+use Rattle.sc_emit_select.proofs.Common.{◌<◌, ◌∙◌, ◌∷◌, ◌≡◌, ◌≤◌}
 use Rattle.std.proofs.Common.{take as take_prefix}
 use Rattle.sc_tac.specs.declared.stmt.TacStmt.TheOpen as tac
 use Rattle.sc_tac.specs.declared.stmt.TacStmt.TheVariants as emit

@@ -1,9 +1,10 @@
 -- Worked functions: the code of each.
-use Rattle.sc_emit_select.proofs.Common.{Addi, Bne, Bool, Branch, CodeTree, FrameTree, Function, Jal, Jalr, Line, List, Load}
-use Rattle.sc_emit_select.proofs.Common.{Lw, Need, None, Op, OpImm, Piece, Place, Plan as Way, Register, Slot, Some, Store}
-use Rattle.sc_emit_select.proofs.Common.{Sub, Sw, [], ap, branch_reach, closing, code_of, code_of_lines, prologue, frame_of}
-use Rattle.sc_emit_select.proofs.Common.{function_lines, in_order, is_one, length, nat_lt, need_step, needed_in, negsuc}
-use Rattle.sc_emit_select.proofs.Common.{plainly, plan_of, pos, row_needs, select_step, true, ℕ, ◌++◌, ◌∙◌, ◌∷◌, ◌≡◌}
+use Rattle.sc_emit_select.proofs.Common.{Addi, Bne, Bool, Branch, CodeTree, FrameTree, Function, Jal, Jalr, Line, List}
+use Rattle.sc_emit_select.proofs.Common.{Load, Lw, Need, None, Op, OpImm, Piece, Place, Plan as Way, Register, Slot}
+use Rattle.sc_emit_select.proofs.Common.{Some, Store, Sub, Sw, [], ap, branch_reach, closing, code_of, code_of_lines}
+use Rattle.sc_emit_select.proofs.Common.{frame_of, function_lines, in_order, is_one, length, nat_lt, need_step}
+use Rattle.sc_emit_select.proofs.Common.{needed_in, negsuc, plainly, plan_of, pos, prologue, row_needs, select_step}
+use Rattle.sc_emit_select.proofs.Common.{true, ℕ, ◌++◌, ◌∙◌, ◌∷◌, ◌≡◌}
 use Rattle.sc_base.specs.declared.op.BinaryOp.TheVariants as op
 use Rattle.sc_event.specs.declared.row.Entry.TheVariants as entry
 use Rattle.sc_tac.specs.declared.stmt.TacStmt.TheOpen as tac

@@ -2,9 +2,9 @@
 use Rattle.sc_emit_select.proofs.Common.{Each, FrameTree, Inside, Instr, Kind, Line, List, Other, Piece, Place, Plan}
 use Rattle.sc_emit_select.proofs.Common.{TacStmt, TacStmt-F, [], arith, branch_back, choice, cycle, drop, first_scratch}
 use Rattle.sc_emit_select.proofs.Common.{fold-roll-TacStmt, followed, in_order, in_turn, joined, jump_back, jump_over}
-use Rattle.sc_emit_select.proofs.Common.{length, length-append, length-map, map, map-TacStmt, plain, plainly, refl, rotated}
-use Rattle.sc_emit_select.proofs.Common.{select, select_all, select_step, stmt_induction, straight, subst, suc, sym, take}
-use Rattle.sc_emit_select.proofs.Common.{testing, ℕ, ◌++◌, ◌+◌, ◌∷◌, ◌≡◌}
+use Rattle.sc_emit_select.proofs.Common.{length, length-append, length-map, map, map-TacStmt, plain, plainly, refl}
+use Rattle.sc_emit_select.proofs.Common.{rotated, select, select_all, select_step, stmt_induction, straight, subst, suc}
+use Rattle.sc_emit_select.proofs.Common.{sym, take, testing, ℕ, ◌++◌, ◌+◌, ◌∷◌, ◌≡◌}
 use Rattle.sc_core.proofs.Induction.{everywhere}
 use Rattle.sc_tac.specs.declared.stmt.TacStmt.TheOpen as tac
 use Rattle.sc_emit_select.proofs.Joining.{fork_keeps, from_keeps}

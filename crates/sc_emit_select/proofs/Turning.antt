@@ -1,11 +1,11 @@
 -- Loops that end with their test: which they are.
-use Rattle.sc_emit_select.proofs.Common.{Bool, Breaks, Each, FrameTree, Kind, List, None, Option, Piece, Place, Plain, Plan}
-use Rattle.sc_emit_select.proofs.Common.{Some, Strays, TacStmt, TacStmt-F, Tests, [], all_plain, and_first, and_rest, ap}
-use Rattle.sc_emit_select.proofs.Common.{ap₂, arith, before_test, breaks, cycle, drop, ending_test, eqb-true, false}
-use Rattle.sc_emit_select.proofs.Common.{fold-roll-TacStmt, get_or, if◌then◌else◌, in_order, is_break, is_plain, kind_by}
-use Rattle.sc_emit_select.proofs.Common.{kind_of_fork, length, map, map-TacStmt, refl, rotated, select, select_step}
-use Rattle.sc_emit_select.proofs.Common.{stmt_induction, subst, suc, sym, test_by, test_of, true, turning, zero, ℕ, ◌&&◌}
-use Rattle.sc_emit_select.proofs.Common.{◌++◌, ◌-◌, ◌<◌, ◌==◌, ◌∙◌, ◌∷◌, ◌≡◌, ◌≤◌}
+use Rattle.sc_emit_select.proofs.Common.{Bool, Breaks, Each, FrameTree, Kind, List, None, Option, Piece, Place, Plain}
+use Rattle.sc_emit_select.proofs.Common.{Plan, Some, Strays, TacStmt, TacStmt-F, Tests, [], all_plain, and_first}
+use Rattle.sc_emit_select.proofs.Common.{and_rest, ap, ap₂, arith, before_test, breaks, cycle, drop, ending_test}
+use Rattle.sc_emit_select.proofs.Common.{eqb-true, false, fold-roll-TacStmt, get_or, if◌then◌else◌, in_order, is_break}
+use Rattle.sc_emit_select.proofs.Common.{is_plain, kind_by, kind_of_fork, length, map, map-TacStmt, refl, rotated}
+use Rattle.sc_emit_select.proofs.Common.{select, select_step, stmt_induction, subst, suc, sym, test_by, test_of, true}
+use Rattle.sc_emit_select.proofs.Common.{turning, zero, ℕ, ◌&&◌, ◌++◌, ◌-◌, ◌<◌, ◌==◌, ◌∙◌, ◌∷◌, ◌≡◌, ◌≤◌}
 use Rattle.std.proofs.Common.{take as take_prefix}
 unfoldable use Rattle.sc_tac.specs.declared.stmt.TacStmt.{roll-TacStmt}
 use Rattle.sc_tac.specs.declared.stmt.TacStmt.TheOpen as tac

@@ -1,29 +1,30 @@
 -- Code has no more instructions than its function weighs.
 use Rattle.sc_emit_select.proofs.Common.{Add, Bne, Bool, Branch, Div, Each, Entry as EntryOf, Fits, FrameTree, Function}
 use Rattle.sc_emit_select.proofs.Common.{Inside, Instr, IsFunction, Jal, Jalr, Line, List, Load, Lui, Lw, Mul, None, Op}
-use Rattle.sc_emit_select.proofs.Common.{Option, Other, Piece, Place, Plan, Register, Role, Shift, ShortForm, Slot, Some}
-use Rattle.sc_emit_select.proofs.Common.{Store, Sw, TacFnTree, TacOp, TacStmt, TacStmt-F, Upper, [], all_true, and_first}
-use Rattle.sc_emit_select.proofs.Common.{and_from, and_rest, ap, ap₂, arith, as_one, at_hand, between, binary_code, brought}
-use Rattle.sc_emit_select.proofs.Common.{bytes_ahead, bytes_of, call_cross, call_own, choice, choosing, closing, code_of}
-use Rattle.sc_emit_select.proofs.Common.{copied, prologue, entry_weight, environment_call, everywhere, false, fold-TacStmt}
-use Rattle.sc_emit_select.proofs.Common.{fold-roll-TacStmt, fork, epilogue, frame_taken, function_lines, has_operands}
-use Rattle.sc_emit_select.proofs.Common.{if◌then◌else◌, in_order, in_turn, is_near, is_short, is_some, is_unsigned, joined}
-use Rattle.sc_emit_select.proofs.Common.{joins, keep, kept, length, length-append, length-map, load_from, load_word, loading}
-use Rattle.sc_emit_select.proofs.Common.{map, map-TacStmt, moved_by, nothing, object_offset, object_read, object_store}
-use Rattle.sc_emit_select.proofs.Common.{op_code, op_weight, operand, operation, pass, place_of_global, plain, plainly}
-use Rattle.sc_emit_select.proofs.Common.{plan_of, pointer_difference, pointer_move, pos, put, receive, referring, refl}
-use Rattle.sc_emit_select.proofs.Common.{register_of, result_register, return, role_to_next, role_first, roll-TacStmt}
+use Rattle.sc_emit_select.proofs.Common.{Option, Other, Piece, Place, Plan, Register, Role, Shift, ShortForm, Slot}
+use Rattle.sc_emit_select.proofs.Common.{Some, Store, Sw, TacFnTree, TacOp, TacStmt, TacStmt-F, Upper, [], all_true}
+use Rattle.sc_emit_select.proofs.Common.{and_first, and_from, and_rest, ap, ap₂, arith, as_one, at_hand, between}
+use Rattle.sc_emit_select.proofs.Common.{binary_code, brought, bytes_ahead, bytes_of, call_cross, call_own, choice}
+use Rattle.sc_emit_select.proofs.Common.{choosing, closing, code_of, copied, entry_weight, environment_call, epilogue}
+use Rattle.sc_emit_select.proofs.Common.{everywhere, false, fold-TacStmt, fold-roll-TacStmt, fork, frame_taken}
+use Rattle.sc_emit_select.proofs.Common.{function_lines, has_operands, if◌then◌else◌, in_order, in_turn, is_near}
+use Rattle.sc_emit_select.proofs.Common.{is_short, is_some, is_unsigned, joined, joins, keep, kept, length}
+use Rattle.sc_emit_select.proofs.Common.{length-append, length-map, load_from, load_word, loading, map, map-TacStmt}
+use Rattle.sc_emit_select.proofs.Common.{moved_by, nothing, object_offset, object_read, object_store, op_code}
+use Rattle.sc_emit_select.proofs.Common.{op_weight, operand, operation, pass, place_of_global, plain, plainly, plan_of}
+use Rattle.sc_emit_select.proofs.Common.{pointer_difference, pointer_move, pos, prologue, put, receive, referring, refl}
+use Rattle.sc_emit_select.proofs.Common.{register_of, result_register, return, role_first, role_to_next, roll-TacStmt}
 use Rattle.sc_emit_select.proofs.Common.{second_operand, select, select_all, select_step, short_code, short_form}
 use Rattle.sc_emit_select.proofs.Common.{short_operation, short_return, skipping, slice_get, slot_offset, stepped}
 use Rattle.sc_emit_select.proofs.Common.{stmt_induction, stmt_weight, store_arguments, store_to, store_word, straightly}
-use Rattle.sc_emit_select.proofs.Common.{sub_word, subst, suc, sym, take, take_second, taken, takes_two, true, unary_code}
-use Rattle.sc_emit_select.proofs.Common.{weight, weight_step, with_parts, word_of_constant, zero, ℕ, ⊎_elim, ◌&&◌, ◌*◌, ◌++◌}
-use Rattle.sc_emit_select.proofs.Common.{◌+◌, ◌<◌, ◌==◌, ◌^◌, ◌∙◌, ◌∷◌, ◌≡◌, ◌≤◌}
+use Rattle.sc_emit_select.proofs.Common.{sub_word, subst, suc, sym, take, take_second, taken, takes_two, true}
+use Rattle.sc_emit_select.proofs.Common.{unary_code, weight, weight_step, with_parts, word_of_constant, zero, ℕ, ⊎_elim}
+use Rattle.sc_emit_select.proofs.Common.{◌&&◌, ◌*◌, ◌++◌, ◌+◌, ◌<◌, ◌==◌, ◌^◌, ◌∙◌, ◌∷◌, ◌≡◌, ◌≤◌}
 use Rattle.sc_core.specs.Prelude.{total}
 use Rattle.sc_core.proofs.Induction.{everywhere as each_holds}
 use Rattle.rv_code.specs.declared.instr.ShiftOp.TheVariants.{Slli}
-use Rattle.sc_emit_select.proofs.Joining.{IsRead, IsReturned, IsShort, IsStored, loads_it, operates_it, past_few, returns_it}
-use Rattle.sc_emit_select.proofs.Joining.{stores_it, which_pair}
+use Rattle.sc_emit_select.proofs.Joining.{IsRead, IsReturned, IsShort, IsStored, loads_it, operates_it, past_few}
+use Rattle.sc_emit_select.proofs.Joining.{returns_it, stores_it, which_pair}
 use Rattle.sc_emit_select.proofs.Turning.{each_before, test_stmt, turning_by}
 use Rattle.std.specs.Bool.{beq}
 use Rattle.sc_base.specs.declared.op.BinaryOp.{BinaryOp}

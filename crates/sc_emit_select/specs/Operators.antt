@@ -1,8 +1,8 @@
 -- The instructions of operators, by the registers of the result and of the operands. The result is written last, since
 -- it may lie where an operand lies.
-use Rattle.sc_emit_select.specs.Common.{Add, Addi, And, Andi, Div, Divu, Instr, Mul, Op, OpImm, Or, Ori, Rem, Remu, Shift}
-use Rattle.sc_emit_select.specs.Common.{Sll, Slt, Slti, Sltiu, Sltu, Sra, Srl, Sub, TacOp, Xor, Xori, is_unsigned, mul_word}
-use Rattle.sc_emit_select.specs.Common.{signed_of, sub_word}
+use Rattle.sc_emit_select.specs.Common.{Add, Addi, And, Andi, Div, Divu, Instr, Mul, Op, OpImm, Or, Ori, Rem, Remu}
+use Rattle.sc_emit_select.specs.Common.{Shift, Sll, Slt, Slti, Sltiu, Sltu, Sra, Srl, Sub, TacOp, Xor, Xori}
+use Rattle.sc_emit_select.specs.Common.{is_unsigned, mul_word, signed_of, sub_word}
 use Rattle.rv_code.specs.declared.instr.ShiftOp.TheVariants.{Slli}
 use Rattle.std.specs.Prelude.{◌==◌, ℕ, pos, negsuc, ◌*◌, ◌%◌, ◌^◌, Bool, true, false, List, [], ◌∷◌, ◌++◌, Option, None}
 use Rattle.std.specs.Prelude.{Some, if◌then◌else◌}
@@ -14,7 +14,8 @@ use Rattle.sc_base.specs.declared.op.UnaryOp.{UnaryOp}
 use Rattle.sc_base.specs.declared.op.UnaryOp.TheVariants as unary
 use Rattle.sc_tac.specs.declared.stmt.TacOp.TheVariants as tacop
 use Rattle.sc_emit_select.specs.declared.operators.ShortForm.{ShortForm}
-use Rattle.sc_emit_select.specs.Pieces.{first_scratch, second_scratch, address_scratch, is_short, move, loading, moved_by}
+use Rattle.sc_emit_select.specs.Pieces.{first_scratch, second_scratch, address_scratch, is_short, move, loading}
+use Rattle.sc_emit_select.specs.Pieces.{moved_by}
 
 -- of the two, the one for unsigned words
 abbrev pub by_sign : Bool → (of_signed of_unsigned : OpOp) → OpOp

@@ -1,7 +1,7 @@
 -- Instruction selection: the instructions of each statement of three-address code, where each temporary has its place.
-use Rattle.sc_emit_select.specs.Common.{Addi, Branch, CodeTree, Ecall, Entry as EntryOf, FrameTree, Function, Global, Instr}
-use Rattle.sc_emit_select.specs.Common.{Jal, Jalr, Load, Lui, Lw, OpImm, Place, Store, Sw, TacOp, TacStmt, TacStmt-F, Upper}
-use Rattle.sc_emit_select.specs.Common.{fold-TacStmt}
+use Rattle.sc_emit_select.specs.Common.{Addi, Branch, CodeTree, Ecall, Entry as EntryOf, FrameTree, Function, Global}
+use Rattle.sc_emit_select.specs.Common.{Instr, Jal, Jalr, Load, Lui, Lw, OpImm, Place, Store, Sw, TacOp, TacStmt}
+use Rattle.sc_emit_select.specs.Common.{TacStmt-F, Upper, fold-TacStmt}
 use Rattle.std.specs.Prelude.{ℕ, zero, suc, pos, ◌+◌, ◌*◌, List, [], ◌∷◌, ◌++◌, map, length, Option, None, Some}
 use Rattle.std.specs.Prelude.{slice_get, neg_ℤ, ◌==◌, ◌&&◌, ◌-◌, if◌then◌else◌, Bool, drop, false, is_some, not, true}
 use Rattle.std.specs.Prelude.{nat_lt, take as take_prefix}
@@ -20,8 +20,8 @@ use Rattle.sc_emit_select.specs.declared.roles.Role.TheVariants.{Applies, Loads,
 use Rattle.sc_emit_select.specs.declared.roles.Role.TheVariants.{Stores}
 use Rattle.sc_emit_select.specs.Needs.{has_mark, needed_in}
 use Rattle.sc_emit_select.specs.Lines.{Line, plain, plainly, referring, code_of_lines}
-use Rattle.sc_emit_select.specs.Pieces.{ra, sp, first_scratch, second_scratch, a0, a7, register_of, move, loading, moved_by}
-use Rattle.sc_emit_select.specs.Pieces.{load_word, store_word, frame_taken, epilogue}
+use Rattle.sc_emit_select.specs.Pieces.{ra, sp, first_scratch, second_scratch, a0, a7, register_of, move, loading}
+use Rattle.sc_emit_select.specs.Pieces.{moved_by, load_word, store_word, frame_taken, epilogue}
 use Rattle.sc_emit_select.specs.declared.operators.ShortForm.{ShortForm}
 use Rattle.sc_emit_select.specs.Operators.{op_code, short_code, short_form}
 

@@ -12,7 +12,7 @@ use crate::homes::Homes;
 use crate::jumps::{branch_back, is_skip, jump_back, jump_over, loop_begins};
 use crate::kinds::ending_test;
 use crate::pieces::{FIRST_SCRATCH, register};
-use crate::roles::{Role, joins, role_at, role_before, role_to_next, role_of};
+use crate::roles::{Role, joins, role_at, role_before, role_of, role_to_next};
 use sc_base::OutOfMemory;
 use sc_tac::TacStmt;
 

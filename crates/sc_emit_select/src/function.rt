@@ -1,8 +1,8 @@
 //! The code of a function.
 
-ghost use Rattle.sc_emit_select.specs.Prelude.{IsCode, IsFunction, Line, closing, code_of, code_of_lines, prologue};
-ghost use Rattle.sc_emit_select.specs.Prelude.{entry_weight, function_lines, has_mark, needed_in, plainly, plan_by, plan_of};
-ghost use Rattle.sc_emit_select.specs.Prelude.{store_arguments, weight};
+ghost use Rattle.sc_emit_select.specs.Prelude.{IsCode, IsFunction, Line, closing, code_of, code_of_lines, entry_weight};
+ghost use Rattle.sc_emit_select.specs.Prelude.{function_lines, has_mark, needed_in, plainly, plan_by, plan_of};
+ghost use Rattle.sc_emit_select.specs.Prelude.{prologue, store_arguments, weight};
 ghost use Rattle.std.specs.Prelude.{◌≡◌, ◌≤◌, ◌<◌, ◌^◌, ◌+◌, ◌*◌, ◌++◌, ℕ, IfOk, OnOk, length};
 
 use crate::backward::Backward;

@@ -1,7 +1,7 @@
 //! What statements are to the loop in whose head they stand.
 
-ghost use Rattle.sc_emit_select.specs.Prelude.{FrameTree, Place, Plan, all_plain, breaks, ending_test, is_break, is_plain};
-ghost use Rattle.sc_emit_select.specs.Prelude.{kind_of_fork, select, test_of};
+ghost use Rattle.sc_emit_select.specs.Prelude.{FrameTree, Place, Plan, all_plain, breaks, ending_test, is_break};
+ghost use Rattle.sc_emit_select.specs.Prelude.{is_plain, kind_of_fork, select, test_of};
 ghost use Rattle.std.specs.Prelude.{◌≡◌, List, map};
 
 use sc_tac::TacStmt;

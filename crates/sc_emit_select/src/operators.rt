@@ -1,9 +1,9 @@
 //! The instructions of operators.
 
 ghost use Rattle.sc_emit_select.specs.Prelude.{Op, OpImm, Slt, Sltiu, Sltu, Xori, added_by, binary_code, binary_short};
-ghost use Rattle.sc_emit_select.specs.Prelude.{by_sign, bytes_ahead, bytes_of, inverted, is_not_zero, is_unsigned, is_zero};
-ghost use Rattle.sc_emit_select.specs.Prelude.{less_than, op_code, plainly, pointer_difference, pointer_move, short};
-ghost use Rattle.sc_emit_select.specs.Prelude.{short_code, short_form, stepped, unary_code};
+ghost use Rattle.sc_emit_select.specs.Prelude.{by_sign, bytes_ahead, bytes_of, inverted, is_not_zero, is_unsigned};
+ghost use Rattle.sc_emit_select.specs.Prelude.{is_zero, less_than, op_code, plainly, pointer_difference, pointer_move};
+ghost use Rattle.sc_emit_select.specs.Prelude.{short, short_code, short_form, stepped, unary_code};
 ghost use Rattle.std.specs.Prelude.{◌≡◌, ◌++◌, ◌∷◌, [], false, OnOk};
 ghost use Rattle.sc_base.specs.declared.op.BinaryOp.TheVariants as op;
 

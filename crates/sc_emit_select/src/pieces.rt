@@ -1,8 +1,8 @@
 //! Pieces of code: constants, words of the frame, the prologue and the epilogue of a function.
 
-ghost use Rattle.sc_emit_select.specs.Prelude.{Add, Addi, IsImmediate, IsReg, Load, Op, OpImm, Store, Upper, far_from_sp};
-ghost use Rattle.sc_emit_select.specs.Prelude.{epilogue, frame_taken, load_word, loading, lower_part, move, moved_by};
-ghost use Rattle.sc_emit_select.specs.Prelude.{plainly, store_word, upper_part};
+ghost use Rattle.sc_emit_select.specs.Prelude.{Add, Addi, IsImmediate, IsReg, Load, Op, OpImm, Store, Upper, epilogue};
+ghost use Rattle.sc_emit_select.specs.Prelude.{far_from_sp, frame_taken, load_word, loading, lower_part, move};
+ghost use Rattle.sc_emit_select.specs.Prelude.{moved_by, plainly, store_word, upper_part};
 ghost use Rattle.std.specs.Prelude.{◌≡◌, ◌++◌, ◌∷◌, ◌<◌, OnOk};
 ghost use Rattle.rv_code.specs.declared.instr.UpperOp.TheVariants.{Lui};
 ghost use Rattle.rv_code.specs.declared.instr.LoadOp.TheVariants.{Lw};

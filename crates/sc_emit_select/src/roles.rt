@@ -2,8 +2,8 @@
 //! there or stores there, or the first sets a constant and the second is an operator that reads it and takes its
 //! temporary, which a third may return.
 
-ghost use Rattle.sc_emit_select.specs.Prelude.{FrameTree, Place, has_mark, joins, plan_by, role_before, role_to_next};
-ghost use Rattle.sc_emit_select.specs.Prelude.{role_first, role_of_operation, role_of_return, role_of_store, select};
+ghost use Rattle.sc_emit_select.specs.Prelude.{FrameTree, Place, has_mark, joins, plan_by, role_before, role_first};
+ghost use Rattle.sc_emit_select.specs.Prelude.{role_of_operation, role_of_return, role_of_store, role_to_next, select};
 ghost use Rattle.std.specs.Prelude.{◌≡◌, ◌≤◌, Bool, List, drop, length, map};
 
 use crate::needs::Needs;

@@ -3,8 +3,8 @@
 ghost use Rattle.sc_emit_select.specs.Prelude.{a0, as_one, brought, choice, copied, environment_call, keep, load_from};
 ghost use Rattle.sc_emit_select.specs.Prelude.{loading, moved_by, object_offset, object_read, object_store, operation};
 ghost use Rattle.sc_emit_select.specs.Prelude.{place_of_global, plainly, put, receive, result_register, return};
-ghost use Rattle.sc_emit_select.specs.Prelude.{second_operand, short_operation, short_return, store_to, take, take_second};
-ghost use Rattle.sc_emit_select.specs.Prelude.{word_of_constant};
+ghost use Rattle.sc_emit_select.specs.Prelude.{second_operand, short_operation, short_return, store_to, take};
+ghost use Rattle.sc_emit_select.specs.Prelude.{take_second, word_of_constant};
 ghost use Rattle.std.specs.Prelude.{◌≡◌, ◌++◌, ◌∷◌, [], ◌+◌, ◌<◌, ℕ, OnOk, Some, None, length, slice_get};
 
 use crate::backward::Backward;

@@ -1,8 +1,8 @@
 -- A compartment's next row is its next event: what the rows are after the events that it has performed.
 use Rattle.sc_event.proofs.Common.{Bool, Event, List, None, Option, Some, Standing, [], action_of, ap, arith, at_start}
 use Rattle.sc_event.proofs.Common.{cond, count_of, drop, false, filter, if◌then◌else◌, length, none-some, option_map_or}
-use Rattle.sc_event.proofs.Common.{part, performer, rows_from, stands_after, stands_after_all, subst, suc, true, ℕ, ◌++◌}
-use Rattle.sc_event.proofs.Common.{◌+◌, ◌==◌, ◌∙◌, ◌∷◌, ◌≡◌}
+use Rattle.sc_event.proofs.Common.{part, performer, rows_from, stands_after, stands_after_all, subst, suc, true, ℕ}
+use Rattle.sc_event.proofs.Common.{◌++◌, ◌+◌, ◌==◌, ◌∙◌, ◌∷◌, ◌≡◌}
 use Rattle.sc_event.specs.declared.row.Row.{Row}
 
 -- the row of an event that happens where the run stands
@@ -36,16 +36,17 @@ module _ (comp : ℕ) (event : Event) (later : List Event) (at : Standing) (own 
       ap (λ n. row_of at n event ∷ rows_from comp (suc n) (stands_after at event) later) none
   following number (first ∷ earlier) None e = absurd (none-some at e)
   following number (first ∷ earlier) (Some s) e =
-      split (performer first == comp) (following _ earlier (stands_after s first) e) (following number earlier _ e) where
-        split : (mine : Bool) → IsNext (suc number) (count_of comp earlier)
-            (rows_from comp (suc number) (stands_after s first) (earlier ++ event ∷ later)) → IsNext number
-            (count_of comp earlier) (rows_from comp number (stands_after s first) (earlier ++ event ∷ later)) → IsNext
-            number (length (cond mine (first ∷ filter (λ event. performer event == comp) earlier)
-            (filter (λ event. performer event == comp) earlier))) (if mine then row_of s number first ∷ rows_from comp
-            (suc number) (stands_after s first) (earlier ++ event ∷ later) else rows_from comp number
-            (stands_after s first) (earlier ++ event ∷ later))
-        split true with_it without = one_before number (count_of comp earlier) (row_of s number first) _ with_it
-        split false with_it without = without
+      split (performer first == comp) (following _ earlier (stands_after s first) e) (following number earlier _ e)
+    where
+      split : (mine : Bool) → IsNext (suc number) (count_of comp earlier)
+          (rows_from comp (suc number) (stands_after s first) (earlier ++ event ∷ later)) → IsNext number
+          (count_of comp earlier) (rows_from comp number (stands_after s first) (earlier ++ event ∷ later)) → IsNext
+          number (length (cond mine (first ∷ filter (λ event. performer event == comp) earlier)
+          (filter (λ event. performer event == comp) earlier))) (if mine then row_of s number first ∷ rows_from comp
+          (suc number) (stands_after s first) (earlier ++ event ∷ later) else rows_from comp number
+          (stands_after s first) (earlier ++ event ∷ later))
+      split true with_it without = one_before number (count_of comp earlier) (row_of s number first) _ with_it
+      split false with_it without = without
 
 -- after its own events so far, the rows of a compartment begin with its next event, and the function that is active
 -- there

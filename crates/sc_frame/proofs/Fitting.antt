@@ -1,6 +1,6 @@
 -- Objects and slots fit into their frame: ranges that stand one after the other don't meet.
-use Rattle.sc_frame.proofs.Common.{All, AllPairs, Apart, FrameFits, IsFrame, List, Range, [], ap, arith, end_of, frame_of}
-use Rattle.sc_frame.proofs.Common.{inl, length, length-map-range_with_len, map, object_range, offsets_from}
+use Rattle.sc_frame.proofs.Common.{All, AllPairs, Apart, FrameFits, IsFrame, List, Range, [], ap, arith, end_of}
+use Rattle.sc_frame.proofs.Common.{frame_of, inl, length, length-map-range_with_len, map, object_range, offsets_from}
 use Rattle.sc_frame.proofs.Common.{range_with_len, ranges_of, refl, slots_of, subst, suc, sym, total, word_at, zero}
 use Rattle.sc_frame.proofs.Common.{zip, ℕ, ◌%◌, ◌*◌, ◌++◌, ◌+◌, ◌∷◌, ◌≡◌, ◌≤◌}
 use Rattle.std.proofs.lemmas.List.Elements.{All-nil, All-cons}
@@ -30,7 +30,8 @@ following : (x : Range) (from end : ℕ) (ranges : List Range) → end_of x ≤ 
     All (Apart x) ranges
 following x from end [] low h = All-nil _
 following x from end (y ∷ ys) low h =
-    All-cons (Apart x) y ys (inl (omega (arith, low, h.0))) (following x (end_of y) end ys (omega (arith, low, h.0)) h.1)
+    All-cons (Apart x) y ys (inl (omega (arith, low, h.0)))
+    (following x (end_of y) end ys (omega (arith, low, h.0)) h.1)
 
 apart : (from end : ℕ) (ranges : List Range) → Stacked from ranges end → AllPairs Apart ranges
 apart from end [] h = λ i j d low high. absurd (omega arith)

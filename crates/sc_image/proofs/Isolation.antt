@@ -4,10 +4,10 @@ use Rattle.sc_image.proofs.Common.{Goes, GoesOnSame, ImageParts, IsChain, IsSile
 use Rattle.sc_image.proofs.Common.{LeavesOthers, List, LooksSame, Memory, None, OpenCall, Outcome, Ret, Running, Some}
 use Rattle.sc_image.proofs.Common.{State, Waits, [], a0, activates, after_outcome, after_step, after_steps, ap, ap₂}
 use Rattle.sc_image.proofs.Common.{are_data, arguments, arith, byte_of, call_of, called, data_of, drop}
-use Rattle.sc_image.proofs.Common.{drop-append_seam, eq-eqb, false, flat_map, get_or, get_or-set_other, get_or-set_same}
-use Rattle.sc_image.proofs.Common.{given_back, has_result, if◌then◌else◌, input, inputs_in, kept_by, length, map}
-use Rattle.sc_image.proofs.Common.{nat_eq, nat_le, nat_lt, ne_eqb, observation_of, output, own, params_of, refl, reg}
-use Rattle.sc_image.proofs.Common.{returned, returned_to, saved_sp, set, emits_entry, sp, step, store_size, stored}
+use Rattle.sc_image.proofs.Common.{drop-append_seam, emits_entry, eq-eqb, false, flat_map, get_or, get_or-set_other}
+use Rattle.sc_image.proofs.Common.{get_or-set_same, given_back, has_result, if◌then◌else◌, input, inputs_in, kept_by}
+use Rattle.sc_image.proofs.Common.{length, map, nat_eq, nat_le, nat_lt, ne_eqb, observation_of, output, own, params_of}
+use Rattle.sc_image.proofs.Common.{refl, reg, returned, returned_to, saved_sp, set, sp, step, store_size, stored}
 use Rattle.sc_image.proofs.Common.{stored-apart, subst, suc, sym, true, with_pc, with_stored, zero, ℕ, ◌&&◌, ◌++◌, ◌+◌}
 use Rattle.sc_image.proofs.Common.{◌-◌, ◌<◌, ◌==◌, ◌||◌, ◌↔◌, ◌∙◌, ◌∷◌, ◌≡◌, ◌≢◌, ◌≤◌}
 use Rattle.sc_image.proofs.Cases.{crossing_to, step_of, other, step_both}

@@ -21,7 +21,8 @@ module _ {A : Type 0} (field : List ℕ → Read A) (count : ℕ) where
   pub begins : (bytes : List ℕ) → with_prefix [] (fields_at field (count - 0) bytes) ≡ fields_at field count bytes
   begins bytes = let all : count - 0 ≡ count = omega arith in rw all (no_prefix _)
 
-  pub goes_on : (prefix : List A) (i : ℕ) (bytes : List ℕ) (x : A) (after : List ℕ) (total : Read (List A)) → i < count →
+  pub goes_on : (prefix : List A) (i : ℕ) (bytes : List ℕ) (x : A) (after : List ℕ) (total : Read (List A)) →
+      i < count →
       field bytes ≡ Ok (x, after) → with_prefix prefix (fields_at field (count - i) bytes) ≡ total →
       with_prefix (prefix ++ x ∷ []) (fields_at field (count - (i + 1)) after) ≡ total
   unfolding fields_at

@@ -191,7 +191,8 @@ steps_by_instruction = record {
 
 -- Memory at the start.
 
-past_prefix : (before : List ℕ) (word : ℕ) (after : List ℕ) → slice_get (before ++ word ∷ after) (length before) ≡ Some word
+past_prefix : (before : List ℕ) (word : ℕ) (after : List ℕ) →
+    slice_get (before ++ word ∷ after) (length before) ≡ Some word
 past_prefix [] word after = refl
 past_prefix (x ∷ before) word after = past_prefix before word after
 

@@ -1,7 +1,7 @@
 -- Runs along stretches, the states that runs reach, and stretches that emit events.
-use Rattle.sc_image.proofs.Common.{Bool, Crossing, Ended, Event, EventsOut, Goes, ImageParts, IsCall, IsReached}
-use Rattle.sc_image.proofs.Common.{IsWellFormed, List, None, Option, Outcome, Some, State, StepsOut, StepsEmit, Stop}
-use Rattle.sc_image.proofs.Common.{StretchesCompose, EmittingComposes, Emits, Traps, Walks, [], ap, append-nil}
+use Rattle.sc_image.proofs.Common.{Bool, Crossing, Emits, EmittingComposes, Ended, Event, EventsOut, Goes, ImageParts}
+use Rattle.sc_image.proofs.Common.{IsCall, IsPrefix, IsReached, IsWellFormed, List, None, Option, Outcome, Some, State}
+use Rattle.sc_image.proofs.Common.{StepsEmit, StepsOut, Stop, StretchesCompose, Traps, Walks, [], ap, append-nil}
 use Rattle.sc_image.proofs.Common.{append_assoc, arith, called, calls, code_start, comp_of_code, ended, eq-eqb, false}
 use Rattle.sc_image.proofs.Common.{gate, if◌then◌else◌, is_end, is_ended, is_some, jump, leaves, length, length-append}
 use Rattle.sc_image.proofs.Common.{list_any, list_any-append, lt-leb, nat_tests, or_from, or_parts, params_of, ra, refl}
@@ -16,17 +16,17 @@ use Rattle.sc_image.proofs.Reached.{called_other}
 
 -- A step adds events at the end of the trace.
 
-abbrev pub IsPrefixOf : List Event → List Event → Type 0
-IsPrefixOf xs ys = (rest : List Event) × (xs ++ rest ≡ ys)
+prefix_self : (xs : List Event) → IsPrefix xs xs
+prefix_self xs = record { more = []; is = sym (append-nil xs) }
 
-prefix_self : (xs : List Event) → IsPrefixOf xs xs
-prefix_self xs = ([], append-nil xs)
+prefix_on : (xs ys zs : List Event) → IsPrefix xs ys → IsPrefix ys zs → IsPrefix xs zs
+prefix_on xs ys zs p q = record {
+  more = p.more ++ q.more;
+  is = q.is ∙ ap (λ t. t ++ q.more) p.is ∙ append_assoc xs p.more q.more;
+}
 
-prefix_on : (xs ys zs : List Event) → IsPrefixOf xs ys → IsPrefixOf ys zs → IsPrefixOf xs zs
-prefix_on xs ys zs p q = (p.0 ++ q.0, sym (append_assoc xs p.0 q.0) ∙ ap (λ t. t ++ q.0) p.1 ∙ q.1)
-
-prefix_short : (xs ys : List Event) → IsPrefixOf xs ys → length xs ≤ length ys
-prefix_short xs ys p = omega (arith, sym (length-append xs p.0) ∙ ap length p.1)
+prefix_short : (xs ys : List Event) → IsPrefix xs ys → length xs ≤ length ys
+prefix_short xs ys p = omega (arith, length-append xs p.more, ap length p.is)
 
 -- one event at most
 abbrev AddsOne : List Event → State → Type 0
@@ -100,7 +100,8 @@ still_open trace (event ∷ emitted) going none =
     (still_open (trace ++ event ∷ []) emitted (ended_by trace event ∙ parts.0) parts.1)
 
 -- two ends of one list, the first no longer
-past_prefix : (trace first emitted rest : List Event) → (trace ++ first) ++ rest ≡ trace ++ emitted → first ++ rest ≡ emitted
+past_prefix : (trace first emitted rest : List Event) → (trace ++ first) ++ rest ≡ trace ++ emitted →
+    first ++ rest ≡ emitted
 past_prefix [] first emitted rest same = same
 past_prefix (event ∷ trace) first emitted rest same = past_prefix trace first emitted rest (cc same)
 
@@ -112,13 +113,13 @@ module _ (image : ImageParts) (inputs : List ℕ) (formed : IsWellFormed image) 
   unfolding stopped
   not_stopped events trace going below = rw (going, lt-leb events _ below) refl
 
-  pub goes_adds : (state next : State) → step image inputs state ≡ Goes next → IsPrefixOf state.trace next.trace
+  pub goes_adds : (state next : State) → step image inputs state ≡ Goes next → IsPrefix state.trace next.trace
   goes_adds state next goes =
-      let more = step_to image inputs formed state next goes in (more.0, more.1)
+      let more = step_to image inputs formed state next goes in record { more = more.0; is = sym more.1 }
 
-  pub walk_adds : (n : ℕ) (state to : State) → walk image inputs n state ≡ Goes to → IsPrefixOf state.trace to.trace
+  pub walk_adds : (n : ℕ) (state to : State) → walk image inputs n state ≡ Goes to → IsPrefix state.trace to.trace
   walk_adds zero state to goes = let same : state ≡ to = cc goes in
-      subst (λ t. IsPrefixOf state.trace t.trace) same (prefix_self _)
+      subst (λ t. IsPrefix state.trace t.trace) same (prefix_self _)
   walk_adds (suc n) state to goes =
       let first = first_step (walk image inputs n) to _ goes in
       prefix_on _ first.0.trace _ (goes_adds state first.0 first.1) (walk_adds n first.0 to first.2)
@@ -132,16 +133,17 @@ module _ (image : ImageParts) (inputs : List ℕ) (formed : IsWellFormed image) 
         ap (λ k. run image inputs events k from) (zero-add more) ∙ ap (run image inputs events more) same
     run_along (suc n) emitted from to goes trace none going below =
         let one = first_step (walk image inputs n) to _ goes in
-        let first : IsPrefixOf from.trace one.0.trace = goes_adds from one.0 one.1 in
+        let first : IsPrefix from.trace one.0.trace = goes_adds from one.0 one.1 in
         let last = walk_adds n one.0 to one.2 in
-        let parts : first.0 ++ last.0 ≡ emitted =
-        past_prefix _ first.0 emitted last.0 (ap (λ t. t ++ last.0) first.1 ∙ last.1 ∙ trace) in
-        let each = none_in_each first.0 last.0 (subst (λ t. list_any is_end t ≡ false) (sym parts) none) in
-        let short : length from.trace < events = omega (arith, below, ap length trace, length-append from.trace emitted) in
-        let still = subst (λ t. is_ended t ≡ false) first.1 (still_open from.trace first.0 going each.0) in
+        let parts : first.more ++ last.more ≡ emitted =
+        past_prefix _ first.more emitted last.more (ap (λ t. t ++ last.more) (sym first.is) ∙ sym last.is ∙ trace) in
+        let each = none_in_each first.more last.more (subst (λ t. list_any is_end t ≡ false) (sym parts) none) in
+        let short : length from.trace < events =
+        omega (arith, below, ap length trace, length-append from.trace emitted) in
+        let still = subst (λ t. is_ended t ≡ false) (sym first.is) (still_open from.trace first.more going each.0) in
         ap (λ k. run image inputs events k from) (suc-add n more) ∙
         run_goes image inputs events (n + more) from one.0 (not_stopped events _ going short) one.1 ∙
-        run_along n last.0 one.0 to one.2 (sym last.1) each.1 still below
+        run_along n last.more one.0 to one.2 last.is each.1 still below
 
   -- The states that runs reach.
 
@@ -250,10 +252,12 @@ together image inputs m n first second from middle to one two = record {
   no_end = none_in_both first second one.no_end two.no_end;
 }
 
-along_emitted : (image : ImageParts) (inputs : List ℕ) (events steps more : ℕ) (emitted : List Event) (from to : State) →
+along_emitted : (image : ImageParts) (inputs : List ℕ) (events steps more : ℕ) (emitted : List Event)
+    (from to : State) →
     IsWellFormed image → Emits image inputs steps emitted from to → stopped events from.trace ≡ None →
     length to.trace < events → run image inputs events (steps + more) from ≡ run image inputs events more to
-along_emitted image inputs events steps more emitted from to formed emits_trace early below = run_along image inputs formed events
+along_emitted image inputs events steps more emitted from to formed emits_trace early below =
+    run_along image inputs formed events
     more steps emitted from to emits_trace.walks.by emits_trace.trace emits_trace.no_end (goes_on events _ early) below
 
 to_stop : (image : ImageParts) (inputs : List ℕ) (events steps more : ℕ) (emitted : List Event) (from last to : State)

@@ -270,7 +270,8 @@ emitted_run image inputs formed all events = run_keeps image inputs events (IsEm
     (λ state h early. emitted_step image inputs formed all state (goes image events state h early))
 
 emitted_start : (image : ImageParts) → IsWellFormed image → IsEmitted image (start image)
-emitted_start image formed = inl (record { steady = steady_start image formed; exports = tt; legal = refl; stands = refl })
+emitted_start image formed = inl
+    (record { steady = steady_start image formed; exports = tt; legal = refl; stands = refl })
 
 emitted_legal : (image : ImageParts) (state : State) → IsEmitted image state →
     law.legal (interfaces_of image) state.trace ≡ true

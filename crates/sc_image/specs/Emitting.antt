@@ -14,10 +14,11 @@ use Rattle.sc_image.specs.Machine.{is_end, stopped, run}
 use Rattle.sc_image.specs.Walks.{Walks, IsAt}
 
 -- `steps` steps lead from one state to another and emit these events, of which none is the end
-pub record Emits (image : ImageParts) (inputs : List ℕ) (steps : ℕ) (emitted : List Event) (from to : State) : Type 0 where
-  pub walks : Walks image inputs steps from to
-  pub trace : to.trace ≡ from.trace ++ emitted
-  pub no_end : list_any is_end emitted ≡ false
+pub record Emits (image : ImageParts) (inputs : List ℕ) (steps : ℕ) (emitted : List Event) (from to : State) : Type 0
+  where
+    pub walks : Walks image inputs steps from to
+    pub trace : to.trace ≡ from.trace ++ emitted
+    pub no_end : list_any is_end emitted ≡ false
 
 -- Stretches that emit events follow one another, and a run goes along them while its bound on events isn't reached.
 pub record EmittingComposes : Type 0 where
@@ -29,7 +30,8 @@ pub record EmittingComposes : Type 0 where
   pub together : (image : ImageParts) (inputs : List ℕ) (m n : ℕ) (first second : List Event) (from middle to : State) →
       Emits image inputs m first from middle → Emits image inputs n second middle to →
       Emits image inputs (m + n) (first ++ second) from to
-  pub run_along : (image : ImageParts) (inputs : List ℕ) (events steps more : ℕ) (emitted : List Event) (from to : State) →
+  pub run_along : (image : ImageParts) (inputs : List ℕ) (events steps more : ℕ) (emitted : List Event)
+      (from to : State) →
       IsWellFormed image → Emits image inputs steps emitted from to → stopped events from.trace ≡ None →
       length to.trace < events → run image inputs events (steps + more) from ≡ run image inputs events more to
   -- up to a step whose event is the last: the end, or the last that the bound allows

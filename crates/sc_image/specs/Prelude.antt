@@ -6,11 +6,12 @@ pub use Rattle.sc_image.specs.Calls.{export_at, exports_of, has_result, imports_
 pub use Rattle.sc_image.specs.Calls.{params_of}
 pub use Rattle.sc_image.specs.Cross.{arguments, called, cleared_for_call, cleared_for_return, ended, given_back, input}
 pub use Rattle.sc_image.specs.Cross.{input_at, is_argument, is_result, kept, kept_from, output, returned, returned_to}
+pub use Rattle.sc_image.specs.Emitting.{Emits, EmittingComposes, IsCall, StepsEmit}
 pub use Rattle.sc_image.specs.Interfaces.{LegalByWords, TracesAreLegal, import_of, interface_of, interfaces_of}
 pub use Rattle.sc_image.specs.Interfaces.{proto_of, word_interface, word_interfaces, word_proto}
 pub use Rattle.sc_image.specs.Isolation.{Adds, AreSilent, EntersByEvent, FollowsFromOwn, GoesOnSame, IsReached}
 pub use Rattle.sc_image.specs.Isolation.{IsSilent, LeavesOthers, LooksSame, RunsAreSteady, activates, after_outcome}
-pub use Rattle.sc_image.specs.Isolation.{after_step, after_steps, observation_of, emits_entry}
+pub use Rattle.sc_image.specs.Isolation.{after_step, after_steps, emits_entry, observation_of}
 pub use Rattle.sc_image.specs.Layout.{Filled, code_of, code_start, comp_of_code, comp_of_data, data_regions, data_start}
 pub use Rattle.sc_image.specs.Layout.{data_with, gate, globals_of, most_globals, stack_size, stack_top, stretch}
 unfoldable pub use Rattle.sc_image.specs.Layout.{are_data, word_at}
@@ -34,6 +35,5 @@ pub use Rattle.sc_image.specs.Step.{execute, export_called, extended, gives, if_
 pub use Rattle.sc_image.specs.Step.{leaves, load, load_size, loaded, next, on_registers, refused, shift_on_registers}
 pub use Rattle.sc_image.specs.Step.{step, store, store_size, unless, with_stored}
 unfoldable pub use Rattle.sc_image.specs.Step.{execute_by, step_by}
-pub use Rattle.sc_image.specs.Emitting.{IsCall, StepsEmit, EmittingComposes, Emits}
 pub use Rattle.sc_image.specs.Walks.{ImageInMemory, IsAt, StepsByInstruction, StretchesCompose, Walks, then_on, walk}
 pub use Rattle.sc_image.specs.WellFormed.{IsByte, IsComp, IsDistinct, IsEntry, IsExport, IsImport, IsWellFormed, IsWord}

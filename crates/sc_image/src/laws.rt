@@ -1,9 +1,9 @@
 //! Laws of images and of the machine that runs them. Each law is the contract of a function with nothing to do, for the
 //! proofs of callers.
 
-ghost use Rattle.sc_image.specs.Prelude.{BadOrImage, BytesNameOneImage, EntersByEvent, FollowsFromOwn, ImageInMemory};
-ghost use Rattle.sc_image.specs.Prelude.{LeavesOthers, LegalByWords, RunsAreSteady, StepsByInstruction, StepsEmit};
-ghost use Rattle.sc_image.specs.Prelude.{StretchesCompose, EmittingComposes, TracesAreLegal};
+ghost use Rattle.sc_image.specs.Prelude.{BadOrImage, BytesNameOneImage, EmittingComposes, EntersByEvent};
+ghost use Rattle.sc_image.specs.Prelude.{FollowsFromOwn, ImageInMemory, LeavesOthers, LegalByWords, RunsAreSteady};
+ghost use Rattle.sc_image.specs.Prelude.{StepsByInstruction, StepsEmit, StretchesCompose, TracesAreLegal};
 
 /// Bytes are those of one image at most.
 #[tactic(auto, using(crate::proofs::Whole::one_image_each))]

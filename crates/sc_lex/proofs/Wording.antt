@@ -58,7 +58,8 @@ record FirstWord (line : List ℕ) (len : ℕ) : Type 0 where
   following : words (drop len line) ≡ drop 1 (words line)
 
 first_word_some : (line : List ℕ) (len : ℕ) → words line ≡ take len line ∷ words (drop len line) → FirstWord line len
-first_word_some line len h = record { word = sym (ap (λ ws. get_or ws 0 []) h); following = sym (ap (λ ws. drop 1 ws) h) }
+first_word_some line len h = record
+    { word = sym (ap (λ ws. get_or ws 0 []) h); following = sym (ap (λ ws. drop 1 ws) h) }
 
 first_word_nil : (line : List ℕ) (len : ℕ) → line ≡ [] → FirstWord line len
 unfolding words

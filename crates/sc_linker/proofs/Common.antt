@@ -59,13 +59,13 @@ pub use Rattle.sc_emit_select.specs.Prelude.{Addresses, is_named, linked, linked
 pub use Rattle.sc_emit_select.specs.Prelude.{relocations_after, target_at, upper_part, with_low, with_target}
 pub use Rattle.sc_linker.specs.Common.{Cell, Export, ImageParts, Instr, Interface, Jal, Main, ProgramTree, TypedGlobal}
 pub use Rattle.sc_linker.specs.Common.{TypedSection, TypedStruct, Upper}
-pub use Rattle.sc_linker.specs.Prelude.{GlobalsAreWords, AreKnown, AreNamed, CanBeLinked, CodeTree, EntriesStand}
-pub use Rattle.sc_linker.specs.Prelude.{FunctionsStand, GlobalsStand, Fits, ImportsStand, IsCodeAddress, IsKnown}
-pub use Rattle.sc_linker.specs.Prelude.{IsLinkable, IsNamed, IsStart, IsWhole, LinkedImagesHold, Proto, RefersInside}
-pub use Rattle.sc_linker.specs.Prelude.{StandFrom, StandsAt, TypedFunction, addresses_at, addresses_of, cell_word}
-pub use Rattle.sc_linker.specs.Prelude.{cells, code_sizes, codes_at, codes_in, comp_code, comp_part, comp_parts}
-pub use Rattle.sc_linker.specs.Prelude.{entry_address, entry_jump, entry_jumps, export_parts, exports_at, exports_in}
-pub use Rattle.sc_linker.specs.Prelude.{function_address, global_sizes, global_words, import_part, initial_words}
-pub use Rattle.sc_linker.specs.Prelude.{instructions, is_known, linked_codes, linked_image, section_addresses}
-pub use Rattle.sc_linker.specs.Prelude.{section_at, section_code, section_layout, section_or_none, starts}
+pub use Rattle.sc_linker.specs.Prelude.{AreKnown, AreNamed, CanBeLinked, CodeTree, EntriesStand, Fits, FunctionsStand}
+pub use Rattle.sc_linker.specs.Prelude.{GlobalsAreWords, GlobalsStand, ImportsStand, IsCodeAddress, IsKnown, IsLinkable}
+pub use Rattle.sc_linker.specs.Prelude.{IsNamed, IsStart, IsWhole, LinkedImagesHold, Proto, RefersInside, StandFrom}
+pub use Rattle.sc_linker.specs.Prelude.{StandsAt, TypedFunction, addresses_at, addresses_of, cell_word, cells}
+pub use Rattle.sc_linker.specs.Prelude.{code_sizes, codes_at, codes_in, comp_code, comp_part, comp_parts, entry_address}
+pub use Rattle.sc_linker.specs.Prelude.{entry_jump, entry_jumps, export_parts, exports_at, exports_in, function_address}
+pub use Rattle.sc_linker.specs.Prelude.{global_sizes, global_words, import_part, initial_words, instructions, is_known}
+pub use Rattle.sc_linker.specs.Prelude.{linked_codes, linked_image, section_addresses, section_at, section_code}
+pub use Rattle.sc_linker.specs.Prelude.{section_layout, section_or_none, starts}
 pub use Rattle.sc_linker.specs.declared.layout.SectionLayout.{SectionLayout}

@@ -173,4 +173,5 @@ module _ (program : ProgramTree) (typed : IsWellTyped program) (c index : ℕ) (
     pub export_there : Fits program c → slice_get (exports_at program c) index ≡ Some proto
     export_there fits =
         ap (λ ps. slice_get ps index) (exports_are program c fits)
-        ∙ sym (ap (λ o. option_and_then (λ (found : Interface). slice_get found.exports index) o) fits.interface_is) ∙ is
+        ∙ sym (ap (λ o. option_and_then (λ (found : Interface). slice_get found.exports index) o) fits.interface_is) ∙
+        is

@@ -43,7 +43,8 @@ module _ (interfaces : Interfaces) (c : ℕ) (interface : Interface) (section : 
     own_names = map {A = TypedFunction} (λ f. f.name) section.functions
 
     pub callable_apart : are_distinct (map (import_name interfaces) interface.imports ++ own_names) ≡ true
-    callable_apart = and_first (are_distinct (map (import_name interfaces) interface.imports ++ own_names)) _ interface_fitting
+    callable_apart = and_first (are_distinct (map (import_name interfaces) interface.imports ++ own_names)) _
+        interface_fitting
 
     pub names_apart : are_distinct (map name_of interface.exports) ≡ true
     names_apart = and_first (are_distinct (map name_of interface.exports)) _

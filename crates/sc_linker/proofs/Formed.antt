@@ -92,7 +92,8 @@ module _ (program : ProgramTree) (codes : List CodeTree) (typed : IsWellTyped pr
                 all_here (λ (proto : Proto). IsTrue (is_name proto.name)) interface.exports
                 (all_here (λ (x : Interface). All {X = Proto} (λ proto. IsTrue (is_name proto.name)) x.exports)
                 program.interfaces.comps are_named.exports c interface fits.interface_is) i of.proto of.is;
-            params = few_params program.interfaces c interface fits.section fits.interface_fitting fits.fits i of.proto of.is;
+            params = few_params program.interfaces c interface fits.section fits.interface_fitting fits.fits i of.proto
+                of.is;
             entry = entry_starts i of.proto of.is;
           })
 

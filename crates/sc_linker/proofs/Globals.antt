@@ -1,5 +1,5 @@
 -- In a linked image each global lies at its place in its compartment's data, and holds its words at the start.
-use Rattle.sc_linker.proofs.Common.{All, GlobalsAreWords, Block, Cell, CodeTree, CompPart, GlobalsStand, IsLinkable}
+use Rattle.sc_linker.proofs.Common.{All, Block, Cell, CodeTree, CompPart, GlobalsAreWords, GlobalsStand, IsLinkable}
 use Rattle.sc_linker.proofs.Common.{IsStart, IsWellTyped, List, None, Option, ProgramTree, Some, TypedGlobal}
 use Rattle.sc_linker.proofs.Common.{TypedSection, [], addresses_at, ap, arith, cases_lt, cell_word, cells, cells_of}
 use Rattle.sc_linker.proofs.Common.{comp_at, first_blocks, flat_map, global_block, global_fits, global_words}

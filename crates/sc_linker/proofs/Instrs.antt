@@ -2,8 +2,8 @@
 use Rattle.sc_linker.proofs.Common.{Addresses, All, All-cons, All-head, All-nil, All-tail, Bool, Entry, Function}
 use Rattle.sc_linker.proofs.Common.{Global, Instr, IsImmediate, IsInstr, IsJumpOffset, IsUpper, Jal, List, None, Option}
 use Rattle.sc_linker.proofs.Common.{Relocation, Some, Target, Upper, [], arith, cases_lt, false, if◌then◌else◌, length}
-use Rattle.sc_linker.proofs.Common.{linked_from, low_of_target, lower_part, ltb-false, ltb-true, nat_lt, negsuc, pos, refl}
-use Rattle.sc_linker.proofs.Common.{relocations_after, rules, subst, suc, target_at, true, upper_part, with_low}
+use Rattle.sc_linker.proofs.Common.{linked_from, low_of_target, lower_part, ltb-false, ltb-true, nat_lt, negsuc, pos}
+use Rattle.sc_linker.proofs.Common.{refl, relocations_after, rules, subst, suc, target_at, true, upper_part, with_low}
 use Rattle.sc_linker.proofs.Common.{with_target, ℕ, ⊎_elim, ◌%◌, ◌*◌, ◌+◌, ◌-ℤ◌, ◌-◌, ◌<◌, ◌==◌, ◌^◌, ◌∷◌, ◌≡◌, ◌≤◌}
 use Rattle.std.proofs.lemmas.Int.{ints}
 use Rattle.rv_code.specs.declared.instr.Instr.TheVariants.{Jalr, Branch, Load, Store, OpImm, Shift, Op, Fence, Ecall}

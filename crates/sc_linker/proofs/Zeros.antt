@@ -71,7 +71,8 @@ module _ (structs : List TypedStruct) where
   members_blank zeros count offset end (m ∷ members) known fit =
       let following = and_rest (m.offset == offset) _ fit in
       let size = cells_of structs m.ty in
-      let here = blank zeros count (suc count) known m.ty (and_first (type_within count (suc count) m.ty) _ following) in
+      let here = blank zeros count (suc count) known m.ty (and_first (type_within count (suc count) m.ty) _ following)
+      in
       let later = member_zeros zeros members in
       ap (λ ws. replicate offset 0 ++ ws)
       (map-append cell_word (zeros_of zeros m.ty) later ∙ ap (λ ws. ws ++ map cell_word later) here.words) ∙

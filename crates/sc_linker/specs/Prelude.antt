@@ -10,8 +10,8 @@ pub use Rattle.sc_tac.specs.declared.machine_code.CodeTree.{CodeTree}
 pub use Rattle.sc_linker.specs.Image.{cell_word, comp_code, comp_part, comp_parts, entry_jump, entry_jumps}
 pub use Rattle.sc_linker.specs.Image.{export_parts, function_address, global_words, import_part, linked_codes}
 pub use Rattle.sc_linker.specs.Image.{linked_image}
-pub use Rattle.sc_linker.specs.Laws.{GlobalsAreWords, AreNamed, EntriesStand, FunctionsStand, GlobalsStand, ImportsStand}
-pub use Rattle.sc_linker.specs.Laws.{IsStart, IsWhole, LinkedImagesHold, StandFrom, StandsAt}
+pub use Rattle.sc_linker.specs.Laws.{AreNamed, EntriesStand, FunctionsStand, GlobalsAreWords, GlobalsStand}
+pub use Rattle.sc_linker.specs.Laws.{ImportsStand, IsStart, IsWhole, LinkedImagesHold, StandFrom, StandsAt}
 pub use Rattle.sc_linker.specs.Layout.{addresses_at, cells, codes_at, codes_in, entry_address, exports_at, exports_in}
 pub use Rattle.sc_linker.specs.Layout.{instructions, section_addresses, section_at, section_or_none}
 pub use Rattle.sc_linker.specs.Linkable.{IsLinkable, RefersInside}

@@ -1,7 +1,7 @@
 //! The code of a compartment: its entries, and then its functions.
 
-ghost use Rattle.sc_linker.specs.Prelude.{AreKnown, CanBeLinked, CodeTree, Fits, IsCodeAddress, IsWhole};
-ghost use Rattle.sc_linker.specs.Prelude.{addresses_of, instructions, linked_codes, section_code, word_of};
+ghost use Rattle.sc_linker.specs.Prelude.{AreKnown, CanBeLinked, CodeTree, Fits, IsCodeAddress, IsWhole, addresses_of};
+ghost use Rattle.sc_linker.specs.Prelude.{instructions, linked_codes, section_code, word_of};
 ghost use Rattle.std.specs.Prelude.{◌≡◌, ◌++◌, All, IfOk, OnOk, length, map};
 
 use crate::entry::push_entries;

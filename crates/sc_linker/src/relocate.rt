@@ -1,9 +1,9 @@
 //! Code with the addresses of what it refers to.
 
-ghost use Rattle.sc_linker.specs.Prelude.{AreKnown, Fits, IsCodeAddress, IsInstr, IsJumpOffset, IsKnown};
-ghost use Rattle.sc_linker.specs.Prelude.{addresses_of, with_jump, with_upper, word_of};
-ghost use Rattle.sc_emit_select.specs.Prelude.{Addresses, linked, low_of_target, relocations_after, target_at, upper_part};
-ghost use Rattle.sc_emit_select.specs.Prelude.{with_low, with_target};
+ghost use Rattle.sc_linker.specs.Prelude.{AreKnown, Fits, IsCodeAddress, IsInstr, IsJumpOffset, IsKnown, addresses_of};
+ghost use Rattle.sc_linker.specs.Prelude.{with_jump, with_upper, word_of};
+ghost use Rattle.sc_emit_select.specs.Prelude.{Addresses, linked, low_of_target, relocations_after, target_at};
+ghost use Rattle.sc_emit_select.specs.Prelude.{upper_part, with_low, with_target};
 ghost use Rattle.std.specs.Prelude.{◌≡◌, ◌≤◌, ◌++◌, drop, pos, ◌-ℤ◌, All, IfSome, Some, OnOk, length, map};
 
 use crate::layout::{SectionLayout, entry_address};

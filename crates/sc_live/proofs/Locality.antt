@@ -61,7 +61,8 @@ module _ (Here : ℕ → Type 0) where
         continued = (g t here i).continued;
       })) (row_same stmts h.1 lives lives' g)
 
-  pub part_same : (lives lives' : Lives) (end end' : Set) → SameSet lives.following lives'.following → SameSet end end' →
+  pub part_same : (lives lives' : Lives) (end end' : Set) → SameSet lives.following lives'.following →
+      SameSet end end' →
       SameLives (part_lives lives end) (part_lives lives' end')
   part_same lives lives' end end' g h t here i =
       record { following = h t here i; broken = g t here i; continued = h t here i }

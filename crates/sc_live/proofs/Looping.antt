@@ -177,14 +177,16 @@ module _ (head body next : List TacStmt) (lives : Lives) where
 
       settled : (t : ℕ) (used : Bool) → start t ≡ used →
           marked at call end used (Some (mark_of t (round ++ following)))
-          ≡ Some (if used then Some (mark_here at call (mark_of t (whole ++ following))) else mark_of t (whole ++ following))
+          ≡ Some (if used then Some (mark_here at call (mark_of t (whole ++ following))) else mark_of t
+          (whole ++ following))
       settled t true live = ap (λ mark. Some (Some mark))
           (to_last at call end (mark_of t (round ++ following))
           ∙ ap (mark_from at call) (capped_after t end round following (omega arith) ∙ sym (end_is t live))
           ∙ sym (here_last at call (mark_of t (whole ++ following))))
       settled t false dead = ap Some (mark_same Dead t dead _ _ (after_alike Dead (λ t here. here)))
 
-      mark_is : (t : ℕ) → t < temps → slice_get after.marks t ≡ Some (mark_of t (point false start ∷ (whole ++ following)))
+      mark_is : (t : ℕ) → t < temps →
+          slice_get after.marks t ≡ Some (mark_of t (point false start ∷ (whole ++ following)))
       mark_is t within =
           p.marks t
           ∙ (λ i. marked (count_is i) (call_is i) (g.counted i) (h.live i t) (k.marks t within i))

@@ -16,7 +16,8 @@ pub record Holds (temps : ℕ) (walk : Walk) (points : List Point) : Type 0 wher
 -- it goes on over these points, which stand before those that it has passed; this is live at their start
 pub record Walked (points : List Point) (set : Set) (before after : Walk) : Type 0 where
   pub live : set_of after.live ≡ set
-  pub holds : (temps : ℕ) (following : List Point) → Holds temps before following → Holds temps after (points ++ following)
+  pub holds : (temps : ℕ) (following : List Point) → Holds temps before following →
+      Holds temps after (points ++ following)
 
 -- it goes on over one point, and what is used at it is taken to be used as far as an end, at least
 pub record Passed (x : Point) (end : ℕ) (before after : Walk) : Type 0 where

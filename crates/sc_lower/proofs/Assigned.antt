@@ -1,15 +1,15 @@
 -- Lowered code assigns each temporary before it reads it.
 use Rattle.sc_lower.proofs.Common.{Ahead, BinaryOp, Bool, Constant, Each, Global, Int, List, Local, Low, Lowered, Lows}
 use Rattle.sc_lower.proofs.Common.{None, Param, Reading, Some, TacOp, TacStmt, TacStmt-F, Ty, TypedExpr, TypedKind}
-use Rattle.sc_lower.proofs.Common.{TypedKind-F, TypedStruct, Under, VarRef, Want, [], lone, and_code, and_first}
-use Rattle.sc_lower.proofs.Common.{and_from, and_rest, ap, at_place, between_op, binary, binary_code, constant_of}
-use Rattle.sc_lower.proofs.Common.{either, eq-eqb, eqb-true, everywhere, expr_at, expr_induction, false, false≢true}
-use Rattle.sc_lower.proofs.Common.{fold-TacStmt, fold-roll-TacStmt, from_first, from_one, from_two, if◌then◌else◌, inl}
-use Rattle.sc_lower.proofs.Common.{inr, is_array, is_pointer, is_unsigned_op, loaded, lowered, lowered_step, map}
-use Rattle.sc_lower.proofs.Common.{map-TacStmt, member, move_op, not, not_op, or_code, or_right, place_code, reading}
-use Rattle.sc_lower.proofs.Common.{reading_step, refl, roll-TacStmt, row_first, row_fresh, scalar_in, subst, sym}
-use Rattle.sc_lower.proofs.Common.{target_cells, term_of, term_step, true, truth_code, unary_op, with_parts, ℕ, ◌&&◌}
-use Rattle.sc_lower.proofs.Common.{◌++◌, ◌+◌, ◌==◌, ◌||◌, ◌∙◌, ◌∷◌, ◌≡◌, ◌⊎◌}
+use Rattle.sc_lower.proofs.Common.{TypedKind-F, TypedStruct, Under, VarRef, Want, [], and_code, and_first, and_from}
+use Rattle.sc_lower.proofs.Common.{and_rest, ap, at_place, between_op, binary, binary_code, constant_of, either, eq-eqb}
+use Rattle.sc_lower.proofs.Common.{eqb-true, everywhere, expr_at, expr_induction, false, false≢true, fold-TacStmt}
+use Rattle.sc_lower.proofs.Common.{fold-roll-TacStmt, from_first, from_one, from_two, if◌then◌else◌, inl, inr, is_array}
+use Rattle.sc_lower.proofs.Common.{is_pointer, is_unsigned_op, loaded, lone, lowered, lowered_step, map, map-TacStmt}
+use Rattle.sc_lower.proofs.Common.{member, move_op, not, not_op, or_code, or_right, place_code, reading, reading_step}
+use Rattle.sc_lower.proofs.Common.{refl, roll-TacStmt, row_first, row_fresh, scalar_in, subst, sym, target_cells}
+use Rattle.sc_lower.proofs.Common.{term_of, term_step, true, truth_code, unary_op, with_parts, ℕ, ◌&&◌, ◌++◌, ◌+◌, ◌==◌}
+use Rattle.sc_lower.proofs.Common.{◌||◌, ◌∙◌, ◌∷◌, ◌≡◌, ◌⊎◌}
 use Rattle.sc_base.specs.declared.op.BinaryOp.TheVariants as op
 use Rattle.sc_base.specs.declared.op.UnaryOp.TheVariants as unary
 use Rattle.sc_core.specs.declared.expr.TypedKind.TheOpen as term
@@ -104,7 +104,8 @@ pub is_it : (x t : ℕ) → (x == t) ≡ true → t ≡ x
 is_it x t h = sym (eqb-true x t h)
 
 -- a statement that reads, then assigns: what is read first is read by it, or isn't what it assigns and is read after it
-pub plain_reads : {B : Type 0} (t d : ℕ) (reads following : Bool) → (reads || (not (d == t || false) && following)) ≡ true →
+pub plain_reads : {B : Type 0} (t d : ℕ) (reads following : Bool) →
+    (reads || (not (d == t || false) && following)) ≡ true →
     (reads ≡ true → B) → (following ≡ true → (t ≡ d) ⊎ B) → B
 plain_reads {B} t d reads following h read later =
     either reads (not (d == t || false) && following) h read
@@ -140,7 +141,8 @@ pub record Settled (l : Lows) : Type 0 where
 
 pub const_settles : (d : ℕ) (c : Constant) → Settles d (emit.Const d c ∷ [])
 const_settles d c b t ahead following h =
-    plain_reads t d false ahead.following (sym (first_one t (tac.Const d c) (emit.Const d c) ahead (emit.rolls-Const d c))
+    plain_reads t d false ahead.following
+    (sym (first_one t (tac.Const d c) (emit.Const d c) ahead (emit.rolls-Const d c))
     ∙ h) no_reads following
 
 place_settles : (params : ℕ) (v : VarRef) (d : ℕ) → Settles d (place_code params v d ∷ [])
@@ -216,7 +218,8 @@ pub place_settled : (ty : Ty) (w : Want) (l : Lows) → Settled l → Settled (a
 place_settled ty w l hl = record {
   settles = λ n b t ahead following h.
       hl.settles n b t (record ahead { following = first t (loaded ty w (l n).at) ahead })
-      (loaded_reads ty w (l n).at b t ahead following) (sym (first_append t (l n).code (loaded ty w (l n).at) ahead) ∙ h);
+      (loaded_reads ty w (l n).at b t ahead following)
+      (sym (first_append t (l n).code (loaded ty w (l n).at) ahead) ∙ h);
 }
 
 one_settled : (a : Lows) (make : ℕ → ℕ → TacStmt) → ((d x : ℕ) → ReadsOne d x (make d x ∷ [])) → Settled a →
@@ -244,7 +247,8 @@ two_settled a c make k ha hb = record {
 truth_reads : (ty : Ty) (d x : ℕ) → ReadsOne d x (truth_code ty d x)
 truth_reads ty d x b t ahead following h =
     let last : List TacStmt = emit.Op d (tacop.Unary unary.Not Int) d None ∷ [] in
-    one_op d (not_op ty) x b t (record ahead { following = first t last ahead }) (λ g. one_op d (tacop.Unary unary.Not Int)
+    one_op d (not_op ty) x b t (record ahead { following = first t last ahead })
+    (λ g. one_op d (tacop.Unary unary.Not Int)
     d b t ahead following g) (sym (first_append t (emit.Op d (not_op ty) x None ∷ []) last ahead) ∙ h)
 
 -- `If`: what it reads first is its condition, or read first in one of its parts

@@ -1,10 +1,10 @@
 -- Code takes at most a temporary for each node, and weighs at most 24 for each.
 use Rattle.sc_lower.proofs.Common.{BinaryOp, Bool, Constant, Global, Int, List, Local, Low, Lowered, Lows, None, Option}
 use Rattle.sc_lower.proofs.Common.{Param, Some, TacOp, TacStmt, TacStmt-F, Ty, TypedExpr, TypedKind, TypedKind-F}
-use Rattle.sc_lower.proofs.Common.{TypedStruct, Under, VarRef, Want, [], lone, and_code, ap, arith as numbers}
-use Rattle.sc_lower.proofs.Common.{at_place, between_op, binary, binary_code, constant_of, expr_at, expr_induction}
-use Rattle.sc_lower.proofs.Common.{expr_nodes, false, fold-roll-TacStmt, from_first, from_one, from_two, if◌then◌else◌}
-use Rattle.sc_lower.proofs.Common.{is_array, is_pointer, is_unsigned_op, loaded, lowered, lowered_step, map-TacStmt}
+use Rattle.sc_lower.proofs.Common.{TypedStruct, Under, VarRef, Want, [], and_code, ap, arith as numbers, at_place}
+use Rattle.sc_lower.proofs.Common.{between_op, binary, binary_code, constant_of, expr_at, expr_induction, expr_nodes}
+use Rattle.sc_lower.proofs.Common.{false, fold-roll-TacStmt, from_first, from_one, from_two, if◌then◌else◌, is_array}
+use Rattle.sc_lower.proofs.Common.{is_pointer, is_unsigned_op, loaded, lone, lowered, lowered_step, map-TacStmt}
 use Rattle.sc_lower.proofs.Common.{move_op, not_op, op_weight, or_code, place_code, roll-TacStmt, scalar_in, scalar_of}
 use Rattle.sc_lower.proofs.Common.{stmt_weight, subst, suc, sym, target_cells, term_nodes, term_of, term_step, true}
 use Rattle.sc_lower.proofs.Common.{truth_code, typed, unary_op, weight, weight_step, ℕ, ◌*◌, ◌++◌, ◌+◌, ◌<◌, ◌∙◌, ◌∷◌}

@@ -3,18 +3,19 @@ use Rattle.sc_lower.proofs.Common.{BinaryOp, Bool, CallTarget, Constant, Each, F
 use Rattle.sc_lower.proofs.Common.{KeepsBranches, List, Local, Low, Lowered, Lows, Many, None, Option, Param, Part}
 use Rattle.sc_lower.proofs.Common.{Parts, Some, TacOp, TacStmt, TacStmt-F, Ty, TypedCall, TypedExpr, TypedKind}
 use Rattle.sc_lower.proofs.Common.{TypedKind-F, TypedLocal, TypedSimple, TypedSimpleKind, TypedStmt, TypedStmtKind}
-use Rattle.sc_lower.proofs.Common.{TypedStmtKind-F, TypedStruct, Under, VarRef, Want, [], after, lone, and_code, ap}
+use Rattle.sc_lower.proofs.Common.{TypedStmtKind-F, TypedStruct, Under, VarRef, Want, [], after, and_code, ap}
 use Rattle.sc_lower.proofs.Common.{arith as numbers, assign, at_place, between_op, binary, binary_code, block_code}
-use Rattle.sc_lower.proofs.Common.{both, call_statement, call_branches, call_code, call_for, constant_of, cycle, expr_at}
-use Rattle.sc_lower.proofs.Common.{expr_branches, expr_induction, false, first_of, fold-roll-TacStmt, forms, from_first}
-use Rattle.sc_lower.proofs.Common.{from_one, from_two, ifs, ifs_step, if◌then◌else◌, in_turn, init_branches, init_code}
-use Rattle.sc_lower.proofs.Common.{inits_code, is_array, is_pointer, is_unsigned_op, just, kind_branches, kind_step}
-use Rattle.sc_lower.proofs.Common.{layer_of, length, loaded, local_branches, lowered, lowered_step, many, map}
-use Rattle.sc_lower.proofs.Common.{map-TacStmt, member, move_op, not_op, on_line, op_branches, or_code, part_branches}
-use Rattle.sc_lower.proofs.Common.{part_code, place_code, refl, return_value, roll-TacStmt, scalar_in, simple_branches}
-use Rattle.sc_lower.proofs.Common.{simple_code, stmt_at, stmt_branches, stmt_code, stmt_ifs, stmt_induction, store_at}
-use Rattle.sc_lower.proofs.Common.{subst, suc, sym, target_cells, term_branches, term_of, term_step, test, total, true}
-use Rattle.sc_lower.proofs.Common.{truth_code, typed, unary_op, ℕ, ◌++◌, ◌+◌, ◌∙◌, ◌∷◌, ◌≡◌}
+use Rattle.sc_lower.proofs.Common.{both, call_branches, call_code, call_for, call_statement, constant_of, cycle}
+use Rattle.sc_lower.proofs.Common.{expr_at, expr_branches, expr_induction, false, first_of, fold-roll-TacStmt, forms}
+use Rattle.sc_lower.proofs.Common.{from_first, from_one, from_two, ifs, ifs_step, if◌then◌else◌, in_turn, init_branches}
+use Rattle.sc_lower.proofs.Common.{init_code, inits_code, is_array, is_pointer, is_unsigned_op, just, kind_branches}
+use Rattle.sc_lower.proofs.Common.{kind_step, layer_of, length, loaded, local_branches, lone, lowered, lowered_step}
+use Rattle.sc_lower.proofs.Common.{many, map, map-TacStmt, member, move_op, not_op, on_line, op_branches, or_code}
+use Rattle.sc_lower.proofs.Common.{part_branches, part_code, place_code, refl, return_value, roll-TacStmt, scalar_in}
+use Rattle.sc_lower.proofs.Common.{simple_branches, simple_code, stmt_at, stmt_branches, stmt_code, stmt_ifs}
+use Rattle.sc_lower.proofs.Common.{stmt_induction, store_at, subst, suc, sym, target_cells, term_branches, term_of}
+use Rattle.sc_lower.proofs.Common.{term_step, test, total, true, truth_code, typed, unary_op, ℕ, ◌++◌, ◌+◌, ◌∙◌, ◌∷◌}
+use Rattle.sc_lower.proofs.Common.{◌≡◌}
 use Rattle.sc_base.specs.declared.op.BinaryOp.TheVariants as op
 use Rattle.sc_base.specs.declared.op.UnaryOp.TheVariants as unary
 use Rattle.sc_core.specs.declared.expr.CallTarget.TheVariants as target

@@ -32,26 +32,26 @@ pub use Rattle.sc_core.proofs.Shapes.{Amp, Arrow, AssignCallLine, AssignLine, At
 pub use Rattle.sc_core.proofs.Shapes.{Dot, EmptyLine, ForLine, IfLine, Lines, Lit, NoLine, One, ReturnCallLine}
 pub use Rattle.sc_core.proofs.Shapes.{ReturnLine, ReturnValueLine, Shape, Star, Two, Var, WhileLine, call_of, expr}
 pub use Rattle.sc_core.proofs.Shapes.{lines_are, lines_do, part, stmts, way, way_is}
-pub use Rattle.sc_core.specs.Prelude.{Acts, Arith, Blocks, Body, Break, Callable, Calls, Continue, Exit, Function, Here}
-pub use Rattle.sc_core.specs.Prelude.{IsWellTyped, Judged, Left, Denotations, Meant, Next, On, Piece, Reached, Return}
-pub use Rattle.sc_core.specs.Prelude.{Roles, Route, Scope, Signature, State, Step, Stopped, Ways, acts, all_do}
+pub use Rattle.sc_core.specs.Prelude.{Acts, Arith, Blocks, Body, Break, Callable, Calls, Continue, Denotations, Exit}
+pub use Rattle.sc_core.specs.Prelude.{Function, Here, IsWellTyped, Judged, Left, Meant, Next, On, Piece, Reached}
+pub use Rattle.sc_core.specs.Prelude.{Return, Roles, Route, Scope, Signature, State, Step, Stopped, Ways, acts, all_do}
 pub use Rattle.sc_core.specs.Prelude.{all_go_into, allowed, and_then, applied, applied_one, are_distinct, are_equatable}
 pub use Rattle.sc_core.specs.Prelude.{are_ordered, args_fit, asks, assign_call, assign_call_fits, assign_fits, at_brace}
 pub use Rattle.sc_core.specs.Prelude.{at_pointer, back_cross, back_own, base_cells, base_within, begun, between}
 pub use Rattle.sc_core.specs.Prelude.{binary_fits, bind, block_does, body_does, body_fits, both_ints, c_arith, call}
 pub use Rattle.sc_core.specs.Prelude.{call_cross, call_fits, call_nodes, call_own, callable_in, called, calls, cells_of}
 pub use Rattle.sc_core.specs.Prelude.{choose, closed, common, computed, crossed, crossing, decayed, deepest}
-pub use Rattle.sc_core.specs.Prelude.{difference_fits, done, entry_in, export_fits, expr_nodes, first_blocks}
-pub use Rattle.sc_core.specs.Prelude.{first_state, follow, found, frame_bound, function, function_fits, function_of}
-pub use Rattle.sc_core.specs.Prelude.{functions_in, global_fits, globals_of, goes_into, has_member, import_fits}
-pub use Rattle.sc_core.specs.Prelude.{import_name, in_loop, in_order, init_does, init_fits, init_nodes, inits_do}
-pub use Rattle.sc_core.specs.Prelude.{interface_fits, is_address, is_array, is_int, is_integer, is_main, is_number}
-pub use Rattle.sc_core.specs.Prelude.{is_plain_name, is_pointer, is_scalar, is_target, is_true, is_type, is_unsigned}
-pub use Rattle.sc_core.specs.Prelude.{is_unsigned_op, is_well_typed, is_word, judged, kind_fits, kind_nodes, leads}
-pub use Rattle.sc_core.specs.Prelude.{leave, denotations_of, literal, literal_fits, load, local_fits, local_nodes, loop}
-pub use Rattle.sc_core.specs.Prelude.{main_fits, main_name, mains_in, may_call, meaning, meant, meant_step, member_of}
-pub use Rattle.sc_core.specs.Prelude.{members_fit, most_cells, most_compartments, most_exports, most_nodes, most_params}
-pub use Rattle.sc_core.specs.Prelude.{moved, moved_back, moved_on, nodes, of_bool, on_words, option_goes}
+pub use Rattle.sc_core.specs.Prelude.{denotations_of, difference_fits, done, emit_event, entry_in, export_fits}
+pub use Rattle.sc_core.specs.Prelude.{expr_nodes, first_blocks, first_state, follow, found, frame_bound, function}
+pub use Rattle.sc_core.specs.Prelude.{function_fits, function_of, functions_in, global_fits, globals_of, goes_into}
+pub use Rattle.sc_core.specs.Prelude.{has_member, import_fits, import_name, in_loop, in_order, init_does, init_fits}
+pub use Rattle.sc_core.specs.Prelude.{init_nodes, inits_do, interface_fits, is_address, is_array, is_int, is_integer}
+pub use Rattle.sc_core.specs.Prelude.{is_main, is_number, is_plain_name, is_pointer, is_scalar, is_target, is_true}
+pub use Rattle.sc_core.specs.Prelude.{is_type, is_unsigned, is_unsigned_op, is_well_typed, is_word, judged, kind_fits}
+pub use Rattle.sc_core.specs.Prelude.{kind_nodes, leads, leave, literal, literal_fits, load, local_fits, local_nodes}
+pub use Rattle.sc_core.specs.Prelude.{loop, main_fits, main_name, mains_in, may_call, meaning, meant, meant_step}
+pub use Rattle.sc_core.specs.Prelude.{member_of, members_fit, most_cells, most_compartments, most_exports, most_nodes}
+pub use Rattle.sc_core.specs.Prelude.{most_params, moved, moved_back, moved_on, nodes, of_bool, on_words, option_goes}
 pub use Rattle.sc_core.specs.Prelude.{option_signature, option_value, part_does, part_fits, part_nodes, passed_fits}
 pub use Rattle.sc_core.specs.Prelude.{performs, place_named, place_of_export, pointer_to, points, proto_signature}
 pub use Rattle.sc_core.specs.Prelude.{result_fits, result_goes, result_ty, returned_call_fits, returned_fits, roles_in}
@@ -61,7 +61,7 @@ pub use Rattle.sc_core.specs.Prelude.{scope_of, scripted_run_of, scripted_step, 
 pub use Rattle.sc_core.specs.Prelude.{signature_of, simple_does, simple_fits, simple_nodes, starred, starred_cells}
 pub use Rattle.sc_core.specs.Prelude.{starred_within, stmt_fits, stmt_nodes, stmt_step, stopped_at, store, store_result}
 pub use Rattle.sc_core.specs.Prelude.{stored, struct_cells, struct_fits, structs_fit, sum_fits, take, target}
-pub use Rattle.sc_core.specs.Prelude.{target_cells, target_signature, emit_event, term_judged, term_nodes, total, truth, turn}
+pub use Rattle.sc_core.specs.Prelude.{target_cells, target_signature, term_judged, term_nodes, total, truth, turn}
 pub use Rattle.sc_core.specs.Prelude.{turn_of, type_goes, type_within, unary_fits, values, variable_at, variable_fits}
 pub use Rattle.sc_core.specs.Prelude.{variable_ty, variables, wanted, ways, with_memory, within, word_back, word_in}
 pub use Rattle.sc_core.specs.Prelude.{wrapping}
@@ -80,8 +80,8 @@ pub use Rattle.sc_core.specs.declared.value.Value.{Value}
 pub use Rattle.sc_core.specs.declared.value.Value.TheVariants.{Null, Ptr, Word}
 pub use Rattle.sc_core.specs.declared.value.Want.{Want}
 pub use Rattle.sc_core_laws.proofs.Agreement.{calls_agree, itself, own_agree, performs_agree, run_agree, then_agree}
-pub use Rattle.sc_core_laws.specs.Prelude.{BodiesAgree, CallsAgree, FunctionsAgree, DenotationsAgree, Meets, PiecesAgree}
-pub use Rattle.sc_core_laws.specs.Prelude.{RunsAgree, piece_without_line, without_line}
+pub use Rattle.sc_core_laws.specs.Prelude.{BodiesAgree, CallsAgree, DenotationsAgree, FunctionsAgree, Meets}
+pub use Rattle.sc_core_laws.specs.Prelude.{PiecesAgree, RunsAgree, piece_without_line, without_line}
 pub use Rattle.sc_core_kind_laws.proofs.Bodies.{Signed, signed}
 pub use Rattle.sc_core_kind_laws.proofs.Results.{After, following, function_imported, input_imported, output_imported}
 pub use Rattle.sc_core_kind_laws.proofs.Results.{reached_good}
@@ -93,8 +93,8 @@ pub use Rattle.sc_core_kind_laws.specs.Kinds.{is_of}
 pub use Rattle.sc_tac.proofs.Runs.{across_interfaces, fetched, give, int_op, output, word}
 pub use Rattle.sc_tac.proofs.Shapes.{Cycle, Done, Fork, Line, rows, rows_are}
 pub use Rattle.sc_tac.specs.Prelude.{Ahead, Codes, IsFunction, IsProgram, Reading, Temps, all_assigned_first}
-pub use Rattle.sc_tac.specs.Prelude.{are_entered, call_does, calls_exports, calls_imports, calls_own, code_does}
-pub use Rattle.sc_tac.specs.Prelude.{code_function, code_functions, code_globals, code_denotations, code_meaning}
+pub use Rattle.sc_tac.specs.Prelude.{are_entered, call_does, calls_exports, calls_imports, calls_own, code_denotations}
+pub use Rattle.sc_tac.specs.Prelude.{code_does, code_function, code_functions, code_globals, code_meaning}
 pub use Rattle.sc_tac.specs.Prelude.{code_meaning_by, code_run, code_step, code_wrapped, compared, constant_value}
 pub use Rattle.sc_tac.specs.Prelude.{count, counts_elements, cross_call_fits, enters_by_words, entry_known}
 pub use Rattle.sc_tac.specs.Prelude.{entry_weight, everywhere, exports_entered, function_entered, gets, has_elements}
@@ -117,16 +117,16 @@ pub use Rattle.sc_lower.specs.Common.{ObjectPlace, Op, Param, ProgramTree, TacSt
 pub use Rattle.sc_lower.specs.Common.{TypedFunction, TypedKind-F, TypedLocal, TypedSection, TypedSimple}
 pub use Rattle.sc_lower.specs.Common.{TypedSimpleKind, TypedStmt, TypedStmtKind-F, TypedStruct, VarRef, fold-TacStmt}
 pub use Rattle.sc_lower.specs.Prelude.{AreFunctions, Forms, IsLowerable, IsOperands, KeepsBranches, KeepsMeaning}
-pub use Rattle.sc_lower.specs.Prelude.{KeepsRules, Low, Lowered, Lows, Many, Part, Parts, after, lone, and_code}
-pub use Rattle.sc_lower.specs.Prelude.{assign, at_place, between_op, beyond, binary, binary_code, block_code, body_code}
-pub use Rattle.sc_lower.specs.Prelude.{both, call_statement, call_beyond, call_branches, call_code, call_for, code_of}
+pub use Rattle.sc_lower.specs.Prelude.{KeepsRules, Low, Lowered, Lows, Many, Part, Parts, after, and_code, assign}
+pub use Rattle.sc_lower.specs.Prelude.{at_place, between_op, beyond, binary, binary_code, block_code, body_code, both}
+pub use Rattle.sc_lower.specs.Prelude.{call_beyond, call_branches, call_code, call_for, call_statement, code_of}
 pub use Rattle.sc_lower.specs.Prelude.{constant_of, cycle, entry_of, export_called, exports_of, expr_beyond}
 pub use Rattle.sc_lower.specs.Prelude.{expr_branches, first_of, fork, forms, fragment_of, from_first, from_one}
 pub use Rattle.sc_lower.specs.Prelude.{from_two, ifs, ifs_step, in_turn, init_beyond, init_branches, init_code}
 pub use Rattle.sc_lower.specs.Prelude.{inits_code, just, kind_beyond, kind_branches, kind_step, loaded, local_beyond}
-pub use Rattle.sc_lower.specs.Prelude.{local_branches, lowered, lowered_function, lowered_program, lowered_section}
-pub use Rattle.sc_lower.specs.Prelude.{lowered_sections, lowered_step, many, member, move_op, not_op, op_branches}
-pub use Rattle.sc_lower.specs.Prelude.{or_code, part_beyond, part_branches, part_code, place_code, return_value}
-pub use Rattle.sc_lower.specs.Prelude.{scalar_in, scalar_of, simple_beyond, simple_branches, simple_code, stmt_beyond}
-pub use Rattle.sc_lower.specs.Prelude.{stmt_branches, stmt_code, stmt_ifs, store_at, term_beyond, term_branches}
-pub use Rattle.sc_lower.specs.Prelude.{term_step, test, truth_code, unary_op, values_of, variable_beyond}
+pub use Rattle.sc_lower.specs.Prelude.{local_branches, lone, lowered, lowered_function, lowered_program}
+pub use Rattle.sc_lower.specs.Prelude.{lowered_section, lowered_sections, lowered_step, many, member, move_op, not_op}
+pub use Rattle.sc_lower.specs.Prelude.{op_branches, or_code, part_beyond, part_branches, part_code, place_code}
+pub use Rattle.sc_lower.specs.Prelude.{return_value, scalar_in, scalar_of, simple_beyond, simple_branches, simple_code}
+pub use Rattle.sc_lower.specs.Prelude.{stmt_beyond, stmt_branches, stmt_code, stmt_ifs, store_at, term_beyond}
+pub use Rattle.sc_lower.specs.Prelude.{term_branches, term_step, test, truth_code, unary_op, values_of, variable_beyond}

@@ -200,17 +200,20 @@ module _ (program : ProgramTree) (typed : is_well_typed program ≡ true) where
 
   one_main : mains_in sections ≡ 1
   one_main =
-      eqb-true (mains_in sections) 1 (and_rest (main_fits (slice_get sections interface_fitting.main)) _ (mains_so program typed))
+      eqb-true (mains_in sections) 1 (and_rest (main_fits (slice_get sections interface_fitting.main)) _
+      (mains_so program typed))
 
   -- a section that defines `main` is the main one
   pub main_there : (comp : ℕ) (section : TypedSection) → slice_get sections comp ≡ Some section →
       list_any is_main section.functions ≡ true → comp ≡ interface_fitting.main
   main_there comp section is h =
       by (slice_get sections interface_fitting.main) refl (main_so program typed) where
-        by : (o : Option TypedSection) → slice_get sections interface_fitting.main ≡ o → main_fits o ≡ true → comp ≡ interface_fitting.main
+        by : (o : Option TypedSection) → slice_get sections interface_fitting.main ≡ o → main_fits o ≡ true →
+            comp ≡ interface_fitting.main
         by None at fits = absurd (false≢true fits)
         by (Some own) at fits =
-            mains_apart sections comp interface_fitting.main section own is h at (any_along {A = TypedFunction} _ is_main
+            mains_apart sections comp interface_fitting.main section own is h at
+            (any_along {A = TypedFunction} _ is_main
             (λ f k. and_first (is_main f) _ k) own.functions fits) one_main
 
   module _ (comp : ℕ) (section : TypedSection) (is : slice_get sections comp ≡ Some section) where
@@ -223,13 +226,15 @@ module _ (program : ProgramTree) (typed : is_well_typed program ≡ true) where
     pub export_names : are_distinct (map name_of exports) ≡ true
     export_names =
         and_first (are_distinct (map name_of exports))
-        _ (and_rest (are_distinct (map (import_name interface_fitting) place.interface.imports ++ map {A = TypedFunction}
+        _ (and_rest (are_distinct (map (import_name interface_fitting) place.interface.imports ++ map
+        {A = TypedFunction}
         (λ f. f.name) section.functions)) _ place.placed.interface_fitting)
 
     pub exports_so : list_all (export_fits section.functions) exports ≡ true
     exports_so =
         and_first (list_all (export_fits section.functions) exports) _ (and_rest (are_distinct (map name_of exports))
-        _ (and_rest (are_distinct (map (import_name interface_fitting) place.interface.imports ++ map {A = TypedFunction}
+        _ (and_rest (are_distinct (map (import_name interface_fitting) place.interface.imports ++ map
+        {A = TypedFunction}
         (λ f. f.name) section.functions)) _ place.placed.interface_fitting))
 
     -- a function is entered by an export exactly where it is called so
@@ -265,7 +270,8 @@ module _ (program : ProgramTree) (typed : is_well_typed program ≡ true) where
 
       nowhere : (b : Bool) → list_any is_main section.functions ≡ b → (comp == interface_fitting.main) ≡ false →
           list_any is_main section.functions ≡ false
-      nowhere true h other = absurd (false≢true (sym other ∙ eq-eqb comp interface_fitting.main (main_there comp section is h)))
+      nowhere true h other = absurd (false≢true
+          (sym other ∙ eq-eqb comp interface_fitting.main (main_there comp section is h)))
       nowhere false h other = h
 
       by : (b : Bool) → (comp == interface_fitting.main) ≡ b →
@@ -289,14 +295,16 @@ module _ (program : ProgramTree) (typed : is_well_typed program ≡ true) where
     in_section : (entry : Entry) → position (entered entry) section.functions ≡ function_entered entry
         (Some (lowered_section interface_fitting comp section))
     in_section entry =
-        sym (position_map (lowered_function interface_fitting comp section.structs) (λ (f : TacFnTree). same_entry entry f.entry)
+        sym (position_map (lowered_function interface_fitting comp section.structs)
+        (λ (f : TacFnTree). same_entry entry f.entry)
         section.functions)
 
     section_entered : (entry : Entry) →
         entry_in program comp entry ≡ function_entered entry (Some (lowered_section interface_fitting comp section))
     section_entered Main = ap (place_named main_name) is ∙ main_placed ∙ in_section Main
     section_entered (Export index) =
-        ap (place_of_export (export_at interface_fitting comp index)) is ∙ export_placed index (export_at interface_fitting comp index) refl
+        ap (place_of_export (export_at interface_fitting comp index)) is ∙
+        export_placed index (export_at interface_fitting comp index) refl
         ∙ in_section (Export index)
 
   nothing_entered : (entry : Entry) (comp : ℕ) → slice_get sections comp ≡ None → entry_in program comp entry ≡ None
@@ -309,9 +317,11 @@ module _ (program : ProgramTree) (typed : is_well_typed program ≡ true) where
 
   -- an entry leads to the same function
   pub entered_same : (comp : ℕ) (entry : Entry) →
-      entry_in program comp entry ≡ function_entered entry (slice_get (lowered_sections interface_fitting 0 sections) comp)
+      entry_in program comp entry ≡ function_entered entry
+      (slice_get (lowered_sections interface_fitting 0 sections) comp)
   entered_same comp entry =
-      by (slice_get sections comp) refl ∙ sym (ap (function_entered entry) (first_at interface_fitting sections comp)) where
+      by (slice_get sections comp) refl ∙
+      sym (ap (function_entered entry) (first_at interface_fitting sections comp)) where
         by : (o : Option TypedSection) → slice_get sections comp ≡ o →
             entry_in program comp entry ≡ function_entered entry (option_map (lowered_section interface_fitting comp)
             (slice_get sections comp))

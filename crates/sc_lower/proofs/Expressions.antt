@@ -3,14 +3,14 @@ use Rattle.sc_lower.proofs.Common.{Arith, BinaryOp, Blocks, Bool, Calls, Cause, 
 use Rattle.sc_lower.proofs.Common.{Here, If, Int, List, Load, Local, Low, Lowered, Lows, Meant, None, Null, ObjectPlace}
 use Rattle.sc_lower.proofs.Common.{Ok, Op, Param, Result, Scope, Some, State, TacOp, TacStmt, Temps, Ty, TypedExpr}
 use Rattle.sc_lower.proofs.Common.{TypedKind, TypedKind-F, TypedStruct, UnaryOp, Under, Value, VarRef, Want, Word, []}
-use Rattle.sc_lower.proofs.Common.{address_fits, lone, and_code, and_first, and_rest, ap, applied, applied_one}
+use Rattle.sc_lower.proofs.Common.{address_fits, and_code, and_first, and_rest, ap, applied, applied_one}
 use Rattle.sc_lower.proofs.Common.{arith as numbers, at_place, at_pointer, between, between_op, binary, binary_code}
 use Rattle.sc_lower.proofs.Common.{bind, choose, constant_of, constant_value, expr_at, expr_induction, false}
 use Rattle.sc_lower.proofs.Common.{from_first, from_one, from_two, gets, if◌then◌else◌, int_fits, is_address, is_array}
 use Rattle.sc_lower.proofs.Common.{is_int, is_of, is_pointer, is_true, is_unsigned, is_unsigned_op, judged, judged_ty}
-use Rattle.sc_lower.proofs.Common.{literal, load, loaded, lowered, lowered_step, meant, meant_step, member, move_op}
-use Rattle.sc_lower.proofs.Common.{moved, not, not_op, of_bool, on_words, operated, or_code, place_code, pos, refl}
-use Rattle.sc_lower.proofs.Common.{scalar_in, sound, start_of, subst, sym, target_cells, term_judged, term_of}
+use Rattle.sc_lower.proofs.Common.{literal, load, loaded, lone, lowered, lowered_step, meant, meant_step, member}
+use Rattle.sc_lower.proofs.Common.{move_op, moved, not, not_op, of_bool, on_words, operated, or_code, place_code, pos}
+use Rattle.sc_lower.proofs.Common.{refl, scalar_in, sound, start_of, subst, sym, target_cells, term_judged, term_of}
 use Rattle.sc_lower.proofs.Common.{term_step, true, truth_code, typed, unary_op, variable_at, wanted, ℕ, ◌+◌, ◌<◌, ◌||◌}
 use Rattle.sc_lower.proofs.Common.{◌∙◌, ◌∷◌, ◌≡◌, ◌≤◌}
 use Rattle.sc_core.specs.Prelude.{at_place as place_way, binary as binary_way, term_step as term_way}

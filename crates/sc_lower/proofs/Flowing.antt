@@ -2,16 +2,17 @@
 use Rattle.sc_lower.proofs.Common.{Ahead, Bool, CallTarget, Callable, Each, Forms, Inside, List, Local, Low, Lows, Many}
 use Rattle.sc_lower.proofs.Common.{None, Option, Part, Parts, Scope, Some, TacStmt, Ty, TypedCall, TypedExpr}
 use Rattle.sc_lower.proofs.Common.{TypedLocal, TypedSimple, TypedSimpleKind, TypedStmt, TypedStmtKind, TypedStmtKind-F}
-use Rattle.sc_lower.proofs.Common.{TypedStruct, [], after, all_assigned_first, all_go_into, lone, and_first, and_from}
+use Rattle.sc_lower.proofs.Common.{TypedStruct, [], after, all_assigned_first, all_go_into, and_first, and_from}
 use Rattle.sc_lower.proofs.Common.{and_rest, ap, assign, assign_call_fits, assign_fits, at_place, block_code, body_fits}
-use Rattle.sc_lower.proofs.Common.{both, call_statement, call_code, call_fits, call_for, cycle, false, false≢true, first_of}
-use Rattle.sc_lower.proofs.Common.{fork, forms, goes_into, in_turn, init_code, init_fits, inits_code, inl, inr}
-use Rattle.sc_lower.proofs.Common.{is_assigned_first, is_one, is_scalar, is_target, is_type, judged, just, kind_fits}
-use Rattle.sc_lower.proofs.Common.{kind_step, layer_of, length, list_all, many, map, not, nothing_ahead, or_left}
-use Rattle.sc_lower.proofs.Common.{or_right, part_ahead, part_code, part_fits, place_code, refl, result_goes}
-use Rattle.sc_lower.proofs.Common.{return_value, returned_call_fits, signed, simple_code, simple_fits, stmt_at}
-use Rattle.sc_lower.proofs.Common.{stmt_code, stmt_fits, stmt_induction, store_at, subst, suc, sym, target_signature}
-use Rattle.sc_lower.proofs.Common.{test as tests, true, variable_ty, zero, ℕ, ◌&&◌, ◌==◌, ◌||◌, ◌∙◌, ◌∷◌, ◌≡◌, ◌⊎◌}
+use Rattle.sc_lower.proofs.Common.{both, call_code, call_fits, call_for, call_statement, cycle, false, false≢true}
+use Rattle.sc_lower.proofs.Common.{first_of, fork, forms, goes_into, in_turn, init_code, init_fits, inits_code, inl}
+use Rattle.sc_lower.proofs.Common.{inr, is_assigned_first, is_one, is_scalar, is_target, is_type, judged, just}
+use Rattle.sc_lower.proofs.Common.{kind_fits, kind_step, layer_of, length, list_all, lone, many, map, not}
+use Rattle.sc_lower.proofs.Common.{nothing_ahead, or_left, or_right, part_ahead, part_code, part_fits, place_code, refl}
+use Rattle.sc_lower.proofs.Common.{result_goes, return_value, returned_call_fits, signed, simple_code, simple_fits}
+use Rattle.sc_lower.proofs.Common.{stmt_at, stmt_code, stmt_fits, stmt_induction, store_at, subst, suc, sym}
+use Rattle.sc_lower.proofs.Common.{target_signature, test as tests, true, variable_ty, zero, ℕ, ◌&&◌, ◌==◌, ◌||◌, ◌∙◌}
+use Rattle.sc_lower.proofs.Common.{◌∷◌, ◌≡◌, ◌⊎◌}
 use Rattle.sc_core.specs.declared.expr.CallTarget.TheVariants as target
 use Rattle.sc_core.specs.declared.stmt.TypedStmtKind.TheOpen as layer
 use Rattle.sc_core.specs.declared.stmt.TypedSimpleKind.TheVariants as simple
@@ -48,7 +49,12 @@ record Nothing (ahead : Ahead) : Type 0 where
 
 none_allowed : (ahead : Ahead) → Nothing ahead → Allows false ahead
 none_allowed ahead h =
-    record { following = λ k. sym h.following ∙ k; broken = λ k. sym h.broken ∙ k; continued = λ k. sym h.continued ∙ k }
+    record {
+      following = λ k. sym h.following ∙ k;
+      broken = λ k. sym h.broken ∙ k;
+      continued = λ k. sym h.continued ∙
+          k;
+    }
 
 -- code that reads nothing first by itself
 record Steady (p : Parts) : Type 0 where
@@ -66,7 +72,8 @@ after_steady : (a : Lows) (make : ℕ → Parts) → Settled a → ((n : ℕ) �
 after_steady a make ha straight h = record {
   keeps = λ n t b ahead allows g.
       let y : List TacStmt = (make (a n).at (a n).next).code in
-      ha.settles n b t (record ahead { following = first t y ahead }) (λ f. h.keeps (a n).at (a n).next t b ahead allows f)
+      ha.settles n b t (record ahead { following = first t y ahead })
+      (λ f. h.keeps (a n).at (a n).next t b ahead allows f)
       (sym (first_append t (a n).code y ahead) ∙ g);
   fresh = λ n t ahead none.
       fresh_append t (a n).code (make (a n).at (a n).next).code ahead (straight_fresh (a n).code (straight n) t _)
@@ -267,7 +274,8 @@ cycle_steady p q r hp hq hr = record {
       let x : Part = p n in let y : Part = q x.next in let z : Part = r y.next in
       fresh_one t (tac.Loop x.code y.code z.code) (emit.Loop x.code y.code z.code) ahead
       (emit.rolls-Loop x.code y.code z.code)
-      (and_from _ _ (part_begins p hp n t ahead none.following) (and_from _ _ (part_begins q hq x.next t ahead none.following)
+      (and_from _ _ (part_begins p hp n t ahead none.following)
+      (and_from _ _ (part_begins q hq x.next t ahead none.following)
       (part_begins r hr y.next t ahead none.following)));
 }
 
@@ -296,7 +304,8 @@ module _ (scope : Scope) (callable : Callable) (result : Option Ty) (structs : L
       let hr = many_steady types es x.next (and_rest (goes_into ty (judged scope e)) _ h) in
       record {
         keeps = λ t b ahead following g.
-            (expr_settled structs params e want.Value).settles n b t (record ahead { following = first t rest.code ahead })
+            (expr_settled structs params e want.Value).settles n b t
+            (record ahead { following = first t rest.code ahead })
             (λ f. out_of x.at t b (hr.keeps t (x.at == t || b) ahead (λ k. or_turn (x.at == t) (is_one t rest.at) b
             (following k)) f)) (sym (first_append t x.code rest.code ahead) ∙ g);
         straight =

@@ -1,16 +1,16 @@
 -- Worked programs: a `for` whose head lacks its first part, its last, or each part.
-use Rattle.sc_lower.proofs.Common.{Acts, Arith, AssignLine, BreakLine, Calls, Codes, Cycle, Done, End, Ended, Fork}
-use Rattle.sc_lower.proofs.Common.{Function, Here, IfLine, Denotations, Line, Lines, List, Main, Next, NoLine, None, Option}
-use Rattle.sc_lower.proofs.Common.{Out, Parts, ProgramTree, ReturnValueLine, Shape, Some, SourceRun, Two, TypedFunction}
-use Rattle.sc_lower.proofs.Common.{TypedSimple, TypedStmt, [], all_do, and_then, ap, assign, both, bytes_eq, c_arith}
-use Rattle.sc_lower.proofs.Common.{closed, code_function, code_globals, code_denotations, code_meaning, code_step, codes}
-use Rattle.sc_lower.proofs.Common.{cycle, entry_of, expr, false, follow, frame_bound, function_of, give, global}
-use Rattle.sc_lower.proofs.Common.{global_of, globals_of, in_order, in_turn, int_op, just, kind_step, leave, denotations_of}
-use Rattle.sc_lower.proofs.Common.{lines_are as lines_act, lines_do, lit, loop, lowered_function, lowered_program}
-use Rattle.sc_lower.proofs.Common.{main_name, map, meaning, no_temps, nodes, on_line, output, part, part_code}
-use Rattle.sc_lower.proofs.Common.{part_does, plus, refl, roll-TacStmt, rows, rows_are, run_by, run_step, same_entry}
-use Rattle.sc_lower.proofs.Common.{stmt_at, stmt_code, stmt_does, stmt_step, stmts, stopped_at, suc, test, true, way}
-use Rattle.sc_lower.proofs.Common.{way_is, word, ℕ, ◌&&◌, ◌==◌, ◌∙◌, ◌∷◌, ◌≡◌}
+use Rattle.sc_lower.proofs.Common.{Acts, Arith, AssignLine, BreakLine, Calls, Codes, Cycle, Denotations, Done, End}
+use Rattle.sc_lower.proofs.Common.{Ended, Fork, Function, Here, IfLine, Line, Lines, List, Main, Next, NoLine, None}
+use Rattle.sc_lower.proofs.Common.{Option, Out, Parts, ProgramTree, ReturnValueLine, Shape, Some, SourceRun, Two}
+use Rattle.sc_lower.proofs.Common.{TypedFunction, TypedSimple, TypedStmt, [], all_do, and_then, ap, assign, both}
+use Rattle.sc_lower.proofs.Common.{bytes_eq, c_arith, closed, code_denotations, code_function, code_globals}
+use Rattle.sc_lower.proofs.Common.{code_meaning, code_step, codes, cycle, denotations_of, entry_of, expr, false, follow}
+use Rattle.sc_lower.proofs.Common.{frame_bound, function_of, give, global, global_of, globals_of, in_order, in_turn}
+use Rattle.sc_lower.proofs.Common.{int_op, just, kind_step, leave, lines_are as lines_act, lines_do, lit, loop}
+use Rattle.sc_lower.proofs.Common.{lowered_function, lowered_program, main_name, map, meaning, no_temps, nodes, on_line}
+use Rattle.sc_lower.proofs.Common.{output, part, part_code, part_does, plus, refl, roll-TacStmt, rows, rows_are, run_by}
+use Rattle.sc_lower.proofs.Common.{run_step, same_entry, stmt_at, stmt_code, stmt_does, stmt_step, stmts, stopped_at}
+use Rattle.sc_lower.proofs.Common.{suc, test, true, way, way_is, word, ℕ, ◌&&◌, ◌==◌, ◌∙◌, ◌∷◌, ◌≡◌}
 use Rattle.sc_core.specs.Prelude.{assign as assigns, kind_step as kind_acts, stmt_does as stmt_acts, test as tests}
 use Rattle.sc_base.specs.declared.op.BinaryOp.TheVariants as op
 use Rattle.sc_core.specs.declared.stmt.TypedStmtKind.TheOpen as layer
@@ -109,7 +109,8 @@ module _ (l : Looped) where
 
   abbrev pub means : Function → ℕ → SourceRun
   means f turns =
-      stopped_at 10 (run_by (denotations f) (run_step (denotations f)) (globals_of (program_of l).sections) [] turns).behaviour
+      stopped_at 10 (run_by (denotations f) (run_step (denotations f)) (globals_of (program_of l).sections) []
+      turns).behaviour
 
   pub meaning_is : (turns : ℕ) → meaning (program_of l) [] turns 10 ≡ means quick turns
   meaning_is turns = ap (λ f. means f turns) quick_is

@@ -1,14 +1,14 @@
 -- A hollow copy of denotations, whose functions have their variables and frames but do nothing: callers can't
 -- distinguish the two.
-use Rattle.sc_lower.proofs.Common.{BadType, Blamed, BodiesAgree, Body, Call, CallTarget, CallsAgree, Cross, Export}
-use Rattle.sc_lower.proofs.Common.{Function, FunctionsAgree, Here, Input, DenotationsAgree, Denotations, List, Meets, None}
+use Rattle.sc_lower.proofs.Common.{BadType, Blamed, BodiesAgree, Body, Call, CallTarget, CallsAgree, Cross, Denotations}
+use Rattle.sc_lower.proofs.Common.{DenotationsAgree, Export, Function, FunctionsAgree, Here, Input, List, Meets, None}
 use Rattle.sc_lower.proofs.Common.{Option, Output, Own, Piece, PiecesAgree, Some, State, Stopped, TurnsOut, Value, Word}
 use Rattle.sc_lower.proofs.Common.{[], acts, and_then, ap, asks, back_cross, back_own, begun, call_cross, call_own}
-use Rattle.sc_lower.proofs.Common.{called, calls, calls_agree, crossed, done, found, function, if◌then◌else◌, imports}
-use Rattle.sc_lower.proofs.Common.{is_function, is_number, is_some, is_word, itself, leads, length, list_all, map}
-use Rattle.sc_lower.proofs.Common.{may_call, option_map, own_agree, performs, performs_agree, refl, run_in, slice_get}
-use Rattle.sc_lower.proofs.Common.{slice_get-map, slice_index_or, subst, suc, sym, takes, emit_event, turn, word_in, zero, ℕ}
-use Rattle.sc_lower.proofs.Common.{◌&&◌, ◌∙◌, ◌∷◌, ◌≡◌}
+use Rattle.sc_lower.proofs.Common.{called, calls, calls_agree, crossed, done, emit_event, found, function}
+use Rattle.sc_lower.proofs.Common.{if◌then◌else◌, imports, is_function, is_number, is_some, is_word, itself, leads}
+use Rattle.sc_lower.proofs.Common.{length, list_all, map, may_call, option_map, own_agree, performs, performs_agree}
+use Rattle.sc_lower.proofs.Common.{refl, run_in, slice_get, slice_get-map, slice_index_or, subst, suc, sym, takes, turn}
+use Rattle.sc_lower.proofs.Common.{word_in, zero, ℕ, ◌&&◌, ◌∙◌, ◌∷◌, ◌≡◌}
 use Rattle.sc_event.specs.declared.row.Row.{Row}
 use Rattle.sc_event.specs.declared.row.Action.{Action}
 use Rattle.sc_event.specs.declared.row.Action.TheVariants as act
@@ -109,7 +109,12 @@ module _ (L : Denotations) where
 -- functions that do nothing agree with themselves
 shells_meet : (o : Option Function) → Meets FunctionsAgree (option_map shell o) (option_map shell o)
 shells_meet None = tt
-shells_meet (Some f) = record { cells = refl; frame_size = refl; does = λ C D agree here s. itself (Stopped TurnsOut s) }
+shells_meet (Some f) = record {
+  cells = refl;
+  frame_size = refl;
+  does =
+      λ C D agree here s. itself (Stopped TurnsOut s);
+}
 
 hollow_agrees : (L : Denotations) → DenotationsAgree (hollow L) (hollow L)
 hollow_agrees L = record {

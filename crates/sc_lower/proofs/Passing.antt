@@ -2,13 +2,13 @@
 use Rattle.sc_lower.proofs.Common.{Bool, CallTarget, Callable, Each, Forms, Inside, Judged, List, Local, Low, Lows}
 use Rattle.sc_lower.proofs.Common.{Many, None, Option, Part, Parts, Scope, Signature, Signed, Some, TacStmt, TacStmt-F}
 use Rattle.sc_lower.proofs.Common.{Ty, TypedCall, TypedExpr, TypedLocal, TypedSimple, TypedSimpleKind, TypedStmt}
-use Rattle.sc_lower.proofs.Common.{TypedStmtKind, TypedStmtKind-F, TypedStruct, [], after, all_go_into, lone}
-use Rattle.sc_lower.proofs.Common.{and_first, and_from, and_rest, ap, args_fit, arith as numbers, assign}
-use Rattle.sc_lower.proofs.Common.{assign_call_fits, assign_fits, at_place, block_code, body_fits, both, call_statement}
-use Rattle.sc_lower.proofs.Common.{call_code, call_fits, call_for, cycle, everywhere, false, false≢true, first_of, fork}
-use Rattle.sc_lower.proofs.Common.{forms, goes_into, in_turn, init_code, init_fits, inits_code, is_scalar, is_some}
-use Rattle.sc_lower.proofs.Common.{is_target, is_type, judged, just, kind_fits, kind_step, layer_of, length, list_all}
-use Rattle.sc_lower.proofs.Common.{many, map, not, option_goes, part_code, part_fits, place_code, refl, result_goes}
+use Rattle.sc_lower.proofs.Common.{TypedStmtKind, TypedStmtKind-F, TypedStruct, [], after, all_go_into, and_first}
+use Rattle.sc_lower.proofs.Common.{and_from, and_rest, ap, args_fit, arith as numbers, assign, assign_call_fits}
+use Rattle.sc_lower.proofs.Common.{assign_fits, at_place, block_code, body_fits, both, call_code, call_fits, call_for}
+use Rattle.sc_lower.proofs.Common.{call_statement, cycle, everywhere, false, false≢true, first_of, fork, forms}
+use Rattle.sc_lower.proofs.Common.{goes_into, in_turn, init_code, init_fits, inits_code, is_scalar, is_some, is_target}
+use Rattle.sc_lower.proofs.Common.{is_type, judged, just, kind_fits, kind_step, layer_of, length, list_all, lone, many}
+use Rattle.sc_lower.proofs.Common.{map, not, option_goes, part_code, part_fits, place_code, refl, result_goes}
 use Rattle.sc_lower.proofs.Common.{return_value, returned_call_fits, returned_fits, signed, simple_code, simple_fits}
 use Rattle.sc_lower.proofs.Common.{stmt_at, stmt_code, stmt_fits, stmt_induction, store_at, subst, suc, sym}
 use Rattle.sc_lower.proofs.Common.{target_signature, test as tests, true, variable_ty, ℕ, ◌<◌, ◌∙◌, ◌∷◌, ◌≡◌, ◌≤◌}

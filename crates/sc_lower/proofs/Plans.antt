@@ -1,9 +1,9 @@
 -- The code of programs by plans: its meaning is the run of denotations that compute, where its code is known.
-use Rattle.sc_lower.proofs.Common.{Arith, Codes, Function, Interfaces, Denotations, List, Local, Main, None, Option, Parts}
-use Rattle.sc_lower.proofs.Common.{Plan, Shape, Sheet, Slot, Some, SourceRun, TacStmt, TypedStruct, [], all_do, lone}
-use Rattle.sc_lower.proofs.Common.{and_then, ap, assign, at_place, body_code, both, closed, code_function}
-use Rattle.sc_lower.proofs.Common.{code_functions, code_globals, code_denotations, code_meaning_by, code_step, entry_of}
-use Rattle.sc_lower.proofs.Common.{frame_bound, in_turn, init_code, init_of, inits_code, is_some, just, length}
+use Rattle.sc_lower.proofs.Common.{Arith, Codes, Denotations, Function, Interfaces, List, Local, Main, None, Option}
+use Rattle.sc_lower.proofs.Common.{Parts, Plan, Shape, Sheet, Slot, Some, SourceRun, TacStmt, TypedStruct, [], all_do}
+use Rattle.sc_lower.proofs.Common.{and_then, ap, assign, at_place, body_code, both, closed, code_denotations}
+use Rattle.sc_lower.proofs.Common.{code_function, code_functions, code_globals, code_meaning_by, code_step, entry_of}
+use Rattle.sc_lower.proofs.Common.{frame_bound, in_turn, init_code, init_of, inits_code, is_some, just, length, lone}
 use Rattle.sc_lower.proofs.Common.{lowered_function, lowered_program, lowered_sections, map, no_temps, place_code}
 use Rattle.sc_lower.proofs.Common.{plan_nodes, plan_nodes_is, program, refl, rows, rows_are, run_by, run_step}
 use Rattle.sc_lower.proofs.Common.{same_entry, section, stmt_does, stopped_at, suc, variables, ℕ, ◌∙◌, ◌∷◌, ◌≡◌}

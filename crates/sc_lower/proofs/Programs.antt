@@ -88,9 +88,11 @@ module _ (program : ProgramTree) (typed : is_well_typed program ≡ true) where
   numbered_all test k [] h = refl
   numbered_all test k (x ∷ xs) h =
       let here : k + 0 ≡ k = omega numbers in
-      and_from (test k (lowered_section interface_fitting k x)) _ (subst (λ n. test n (lowered_section interface_fitting n x) ≡ true) here
+      and_from (test k (lowered_section interface_fitting k x)) _
+      (subst (λ n. test n (lowered_section interface_fitting n x) ≡ true) here
       (h 0 x refl))
-      (numbered_all test (suc k) xs (λ i section at. subst (λ n. test n (lowered_section interface_fitting n section) ≡ true)
+      (numbered_all test (suc k) xs (λ i section at. subst
+      (λ n. test n (lowered_section interface_fitting n section) ≡ true)
       (next k i) (h (suc i) section at))) where
         next : (k i : ℕ) → k + suc i ≡ suc k + i
         next k i = omega numbers
@@ -100,12 +102,14 @@ module _ (program : ProgramTree) (typed : is_well_typed program ≡ true) where
       test comp (lowered_section interface_fitting comp section) ≡ true) →
       numbered test 0 (lowered_sections interface_fitting 0 program.sections) ≡ true
   each_section test h =
-      numbered_all test 0 program.sections (λ i section at. subst (λ n. test n (lowered_section interface_fitting n section) ≡ true)
+      numbered_all test 0 program.sections
+      (λ i section at. subst (λ n. test n (lowered_section interface_fitting n section) ≡ true)
       (first i) (h i section at)) where
         first : (i : ℕ) → i ≡ 0 + i
         first i = omega numbers
 
-  lowered_length : (k : ℕ) (sections : List TypedSection) → length (lowered_sections interface_fitting k sections) ≡ length sections
+  lowered_length : (k : ℕ) (sections : List TypedSection) →
+      length (lowered_sections interface_fitting k sections) ≡ length sections
   lowered_length k [] = refl
   lowered_length k (x ∷ xs) = ap suc (lowered_length (suc k) xs)
 
@@ -115,7 +119,8 @@ module _ (program : ProgramTree) (typed : is_well_typed program ≡ true) where
   fit_length k [] (y ∷ ys) h = absurd (false≢true h)
   fit_length k (x ∷ xs) [] h = absurd (false≢true h)
   fit_length k (x ∷ xs) (y ∷ ys) h =
-      ap suc (fit_length (suc k) xs ys (and_rest (interface_fits interface_fitting k x y) _ (and_rest (section_fits interface_fitting k x y)
+      ap suc (fit_length (suc k) xs ys
+      (and_rest (interface_fits interface_fitting k x y) _ (and_rest (section_fits interface_fitting k x y)
       _ h)))
 
   module _ (comp : ℕ) (section : TypedSection) (is : slice_get program.sections comp ≡ Some section) where
@@ -137,10 +142,12 @@ module _ (program : ProgramTree) (typed : is_well_typed program ≡ true) where
         is_entered entry params result lowered ≡ true
     entered entry name params result so any head =
         and_from _ _ (eq-eqb _ 1 (count_made (λ (f : TacFnTree). same_entry entry f.entry)
-        (lowered_function interface_fitting comp section.structs) section.functions ∙ ap (λ p. count p section.functions)
+        (lowered_function interface_fitting comp section.structs) section.functions ∙
+        ap (λ p. count p section.functions)
         (λ i f. so f i) ∙ named_once name section.functions distinct any))
         (all_made _ (lowered_function interface_fitting comp section.structs) section.functions
-        (λ n f item. implies (same_entry entry (entry_of interface_fitting comp f.name)) (length f.params == params && beq
+        (λ n f item. implies (same_entry entry (entry_of interface_fitting comp f.name))
+        (length f.params == params && beq
         (is_some f.result) result) (λ k. head n f item (sym (so f) ∙ k))))
 
     headed : (f : TypedFunction) (types : List Ty) (result : Option Ty) →
@@ -174,7 +181,8 @@ module _ (program : ProgramTree) (typed : is_well_typed program ≡ true) where
         (result_same proto.result) same))
 
     exports_at : (k : ℕ) (protos : List Proto) →
-        ((i : ℕ) (proto : Proto) → slice_get protos i ≡ Some proto → export_at interface_fitting comp (k + i) ≡ Some proto) →
+        ((i : ℕ) (proto : Proto) → slice_get protos i ≡ Some proto →
+        export_at interface_fitting comp (k + i) ≡ Some proto) →
         list_all (export_fits section.functions) protos ≡ true → are_entered k protos lowered ≡ true
     exports_at k [] at fits = refl
     exports_at k (proto ∷ protos) at fits =
@@ -200,10 +208,12 @@ module _ (program : ProgramTree) (typed : is_well_typed program ≡ true) where
               (place_of program typed comp section is).is ∙ at
 
     -- `main`
-    is_main_entered : comp ≡ interface_fitting.main → main_fits (Some section) ≡ true → is_entered Main 0 true lowered ≡ true
+    is_main_entered : comp ≡ interface_fitting.main → main_fits (Some section) ≡ true →
+        is_entered Main 0 true lowered ≡ true
     is_main_entered here any =
         entered Main main_name 0 true
-        (λ f. main_is interface_fitting comp f.name ∙ ap (λ b. b && bytes_eq f.name main_name) (eq-eqb comp interface_fitting.main here))
+        (λ f. main_is interface_fitting comp f.name ∙
+        ap (λ b. b && bytes_eq f.name main_name) (eq-eqb comp interface_fitting.main here))
         (any_along {A = TypedFunction} (λ f. is_main f && same_signature (signature_of f)
         (record { params = []; result = Some ty.Int })) is_main (λ f k. and_first (is_main f) _ k) section.functions
         any)
@@ -232,8 +242,10 @@ module _ (program : ProgramTree) (typed : is_well_typed program ≡ true) where
           (place_of program typed comp section is).is
           ∙ export_known name (position {X = Proto} (λ proto. bytes_eq name proto.name) interface.exports) refl
 
-  main_so : main_entered (slice_get (lowered_sections interface_fitting 0 program.sections) interface_fitting.main) ≡ true
-  main_so = ap main_entered (first_at interface_fitting program.sections interface_fitting.main) ∙ by (slice_get program.sections interface_fitting.main)
+  main_so : main_entered (slice_get (lowered_sections interface_fitting 0 program.sections) interface_fitting.main) ≡
+      true
+  main_so = ap main_entered (first_at interface_fitting program.sections interface_fitting.main) ∙
+      by (slice_get program.sections interface_fitting.main)
       refl (and_first (main_fits (slice_get program.sections interface_fitting.main)) _ (mains_so program typed)) where
         by : (o : Option TypedSection) → slice_get program.sections interface_fitting.main ≡ o → main_fits o ≡ true →
             main_entered (option_map (lowered_section interface_fitting interface_fitting.main) o) ≡ true
@@ -245,7 +257,8 @@ module _ (program : ProgramTree) (typed : is_well_typed program ≡ true) where
     sections = lowered_length 0 program.sections ∙ fit_length 0 interface_fitting.comps program.sections
         (sections_so program typed);
     numbers =
-        each_section _ (λ comp section is. all_made _ (lowered_function interface_fitting comp section.structs) section.functions
+        each_section _ (λ comp section is. all_made _ (lowered_function interface_fitting comp section.structs)
+        section.functions
         (λ n f item. eq-eqb comp comp refl));
     globals = each_section _ (λ comp section is. globals_named program typed comp section is);
     own_calls = each_section _ (λ comp section is. own_called program typed comp section is);
@@ -254,7 +267,8 @@ module _ (program : ProgramTree) (typed : is_well_typed program ≡ true) where
     exported = each_section _ (λ comp section is. all_entered comp section is);
     main_there = main_so;
     entries =
-        each_section _ (λ comp section is. all_made _ (lowered_function interface_fitting comp section.structs) section.functions
+        each_section _ (λ comp section is. all_made _ (lowered_function interface_fitting comp section.structs)
+        section.functions
         (λ n f item. known comp section is f.name));
   }
 

@@ -1,13 +1,13 @@
 -- The code of a function of a well-typed program keeps the rules of functions.
-use Rattle.sc_lower.proofs.Common.{All, BaseTy, After, Bool, CallTarget, Callable, Export, ForSection, Interface}
+use Rattle.sc_lower.proofs.Common.{After, All, BaseTy, Bool, CallTarget, Callable, Export, ForSection, Interface}
 use Rattle.sc_lower.proofs.Common.{Interfaces, IsFunction, IsLowerable, List, Main, None, Option, Part, Placed}
 use Rattle.sc_lower.proofs.Common.{ProgramTree, Proto, Scalar, Scope, Signature, Some, TacOp, TacStmt-F, Ty}
 use Rattle.sc_lower.proofs.Common.{TypedFunction, TypedLocal, TypedParam, TypedSection, TypedStruct, []}
 use Rattle.sc_lower.proofs.Common.{all_assigned_first, all_at, allowed, and_first, and_from, and_rest, ap, are_distinct}
-use Rattle.sc_lower.proofs.Common.{arith as numbers, following, beq, block_code, body_code, body_fits, both, bytes_eq}
-use Rattle.sc_lower.proofs.Common.{callable_in, cells_of, comp_at, counts_elements, enters_by_words, entry_of, eq-eqb}
-use Rattle.sc_lower.proofs.Common.{eqb-true, everywhere, export_at, export_called, export_fits, exports_of, false}
-use Rattle.sc_lower.proofs.Common.{false≢true, first_of as first_temp, for_interface, for_section, found_passes}
+use Rattle.sc_lower.proofs.Common.{arith as numbers, beq, block_code, body_code, body_fits, both, bytes_eq, callable_in}
+use Rattle.sc_lower.proofs.Common.{cells_of, comp_at, counts_elements, enters_by_words, entry_of, eq-eqb, eqb-true}
+use Rattle.sc_lower.proofs.Common.{everywhere, export_at, export_called, export_fits, exports_of, false, false≢true}
+use Rattle.sc_lower.proofs.Common.{first_of as first_temp, following, for_interface, for_section, found_passes}
 use Rattle.sc_lower.proofs.Common.{function_fits, global_fits, has_elements, has_none, has_operands, has_words}
 use Rattle.sc_lower.proofs.Common.{if◌then◌else◌, import_fits, import_name, in_turn, init_fits, inits_code, is_array}
 use Rattle.sc_lower.proofs.Common.{is_plain_name, is_some, is_type, is_well_typed, le-leb, leb-true, length}
@@ -323,7 +323,8 @@ module _ (program : ProgramTree) (typed : is_well_typed program ≡ true) where
   any_headed functions proto h =
       and_rest (not (bytes_eq proto.name main_name)) _ (and_rest (is_plain_name proto.name) _ h)
 
-  proto_few : (interface : Interface) (section : TypedSection) → Placed interface_fitting interface section → (proto : Proto) →
+  proto_few : (interface : Interface) (section : TypedSection) → Placed interface_fitting interface section →
+      (proto : Proto) →
       export_fits section.functions proto ≡ true → length proto.params ≤ most_params
   proto_few interface section placed proto h =
       let test : TypedFunction → Bool =
@@ -344,14 +345,16 @@ module _ (program : ProgramTree) (typed : is_well_typed program ≡ true) where
   export_few to index proto h =
       let found : After {A = Interface} (λ i. slice_get i.exports index) (comp_at interface_fitting to) proto =
       following (λ i. slice_get i.exports index) (comp_at interface_fitting to) proto h in
-      let place = for_interface interface_fitting 0 interface_fitting.comps program.sections (sections_so program typed) to found.item
+      let place = for_interface interface_fitting 0 interface_fitting.comps program.sections (sections_so program typed)
+      to found.item
       found.is in
       proto_few found.item place.section place.placed proto (all_at (export_fits place.section.functions)
       found.item.exports (exports_fit found.item place.section place.placed) index proto found.gives)
 
   module _ (comp : ℕ) (section : TypedSection) (is : slice_get program.sections comp ≡ Some section) where
     pub place : ForSection interface_fitting interface_fitting.comps comp section
-    place = for_section interface_fitting 0 interface_fitting.comps program.sections (sections_so program typed) comp section is
+    place = for_section interface_fitting 0 interface_fitting.comps program.sections (sections_so program typed) comp
+        section is
 
     abbrev pub callable : Callable
     callable = callable_in interface_fitting place.interface section
@@ -609,12 +612,14 @@ module _ (program : ProgramTree) (typed : is_well_typed program ≡ true) where
           words_pass section.structs f.params found.item.params others
           (and_first (same_types (signature_of f).params (proto_signature found.item).params) _ same)
 
-      words_enter : enters_by_words (entry_of interface_fitting comp f.name) (length f.params) (variables section.structs f) ≡ true
+      words_enter : enters_by_words (entry_of interface_fitting comp f.name) (length f.params)
+          (variables section.structs f) ≡ true
       words_enter = by (comp == interface_fitting.main && bytes_eq f.name main_name) refl where
         by : (b : Bool) → (comp == interface_fitting.main && bytes_eq f.name main_name) ≡ b →
             enters_by_words (if b then Some Main else export_called interface_fitting comp f.name) (length f.params)
             (parameters ++ others) ≡ true
-        by true own = main_enters (and_first (comp == interface_fitting.main) _ own) (and_rest (comp == interface_fitting.main) _ own)
+        by true own = main_enters (and_first (comp == interface_fitting.main) _ own)
+            (and_rest (comp == interface_fitting.main) _ own)
         by false own =
             ap (λ (o : Option Interface). enters_by_words
             (option_map Export (position {X = Proto} (λ proto. bytes_eq f.name proto.name) (exports_of o)))

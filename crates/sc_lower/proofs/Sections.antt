@@ -88,7 +88,8 @@ module _ (program : ProgramTree) (typed : is_well_typed program ≡ true) (comp 
     fork = λ c a b lt. refl;
   }
 
-  own_passed : (temps : ℕ) (f : TypedFunction) → PassedBy temps (scope_of section f) (calls_own interface_fitting comp lowered)
+  own_passed : (temps : ℕ) (f : TypedFunction) →
+      PassedBy temps (scope_of section f) (calls_own interface_fitting comp lowered)
   own_passed temps f = record {
     constant = λ d c word lt. refl;
     one = λ d o x two ld lx. refl;
@@ -156,7 +157,8 @@ module _ (program : ProgramTree) (typed : is_well_typed program ≡ true) (comp 
       (is_some dest ≡ true → is_some signature.result ≡ true) →
       calls_own interface_fitting comp lowered (call_layer to dest at) ≡ true
   call_own_fits scope (target.Own n) signature dest at es h goes count results =
-      ap (λ o. own_call_fits o dest (length at)) (slice_get-map (lowered_function interface_fitting comp section.structs)
+      ap (λ o. own_call_fits o dest (length at))
+      (slice_get-map (lowered_function interface_fitting comp section.structs)
       section.functions n)
       ∙ own_fits scope (slice_get section.functions n) n signature dest at es refl
       (sym (slice_get-map signature_of section.functions n) ∙ h) goes count results
@@ -179,7 +181,8 @@ module _ (program : ProgramTree) (typed : is_well_typed program ≡ true) (comp 
 
   call_exports_fit : (to : CallTarget) (signature : Signature) (dest : Option ℕ) (at : List ℕ) →
       target_signature may to ≡ Some signature → length at ≡ length signature.params →
-      (is_some dest ≡ true → is_some signature.result ≡ true) → calls_exports interface_fitting comp lowered (call_layer to dest at)
+      (is_some dest ≡ true → is_some signature.result ≡ true) →
+      calls_exports interface_fitting comp lowered (call_layer to dest at)
       ≡ true
   call_exports_fit (target.Own n) signature dest at h count results = refl
   call_exports_fit (target.Cross to index) signature dest at h count results =
@@ -197,7 +200,8 @@ module _ (program : ProgramTree) (typed : is_well_typed program ≡ true) (comp 
       (place_of program typed comp section is).is ∙ any_along p q on interface.imports h
 
   call_imports_fit : (to : CallTarget) (signature : Signature) (dest : Option ℕ) (at : List ℕ) →
-      target_signature may to ≡ Some signature → calls_imports interface_fitting comp lowered (call_layer to dest at) ≡ true
+      target_signature may to ≡ Some signature →
+      calls_imports interface_fitting comp lowered (call_layer to dest at) ≡ true
   call_imports_fit (target.Own n) signature dest at h = refl
   call_imports_fit (target.Cross to index) signature dest at h =
       imports_so (same_import (import.Function to index)) (is_function to index) (function_imported to index)

@@ -2,10 +2,10 @@
 use Rattle.sc_lower.proofs.Common.{Amp, Arrow, AssignCallLine, AssignLine, At, BreakLine, CallLine, ContinueLine, Dot}
 use Rattle.sc_lower.proofs.Common.{EmptyLine, ForLine, Forms, IfLine, Lines, List, Lit, Lowered, NoLine, None, One}
 use Rattle.sc_lower.proofs.Common.{Parts, ReturnCallLine, ReturnLine, ReturnValueLine, Shape, Star, Two, TypedStruct}
-use Rattle.sc_lower.proofs.Common.{Var, WhileLine, [], after, ap, assign, both, call_statement, call_for, call_of, cycle}
-use Rattle.sc_lower.proofs.Common.{expr, expr_at, fork, forms, in_turn, just, kind_step, lowered, lowered_step, map}
-use Rattle.sc_lower.proofs.Common.{part, refl, return_value, stmt_at, stmt_code, stmts, store_at, term_step, test, ℕ}
-use Rattle.sc_lower.proofs.Common.{◌∙◌, ◌∷◌, ◌≡◌}
+use Rattle.sc_lower.proofs.Common.{Var, WhileLine, [], after, ap, assign, both, call_for, call_of, call_statement}
+use Rattle.sc_lower.proofs.Common.{cycle, expr, expr_at, fork, forms, in_turn, just, kind_step, lowered, lowered_step}
+use Rattle.sc_lower.proofs.Common.{map, part, refl, return_value, stmt_at, stmt_code, stmts, store_at, term_step, test}
+use Rattle.sc_lower.proofs.Common.{ℕ, ◌∙◌, ◌∷◌, ◌≡◌}
 use Rattle.sc_core.specs.declared.expr.TypedKind.TheOpen as term
 use Rattle.sc_core.specs.declared.stmt.TypedStmtKind.TheOpen as layer
 use Rattle.sc_core.specs.declared.value.Want.TheVariants as want

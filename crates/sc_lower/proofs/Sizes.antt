@@ -2,10 +2,10 @@
 use Rattle.sc_lower.proofs.Common.{CallTarget, Each, Forms, Inside, List, Local, Low, Lows, Many, None, Option, Part}
 use Rattle.sc_lower.proofs.Common.{Parts, Some, TacStmt, TypedCall, TypedExpr, TypedFunction, TypedLocal, TypedSimple}
 use Rattle.sc_lower.proofs.Common.{TypedSimpleKind, TypedStmt, TypedStmtKind, TypedStmtKind-F, TypedStruct, [], after}
-use Rattle.sc_lower.proofs.Common.{lone, ap, arith as numbers, assign, at_place, block_code, body_code, both}
-use Rattle.sc_lower.proofs.Common.{call_statement, call_code, call_for, call_nodes, cycle, entry_weight, expr_nodes}
-use Rattle.sc_lower.proofs.Common.{first_of, fork, forms, in_turn, init_code, init_nodes, inits_code, just, kind_nodes}
-use Rattle.sc_lower.proofs.Common.{kind_step, layer_of, length, local_nodes, many, map, nodes, on_line, part_code}
+use Rattle.sc_lower.proofs.Common.{ap, arith as numbers, assign, at_place, block_code, body_code, both, call_code}
+use Rattle.sc_lower.proofs.Common.{call_for, call_nodes, call_statement, cycle, entry_weight, expr_nodes, first_of}
+use Rattle.sc_lower.proofs.Common.{fork, forms, in_turn, init_code, init_nodes, inits_code, just, kind_nodes, kind_step}
+use Rattle.sc_lower.proofs.Common.{layer_of, length, local_nodes, lone, many, map, nodes, on_line, part_code}
 use Rattle.sc_lower.proofs.Common.{part_nodes, place_code, return_value, simple_code, simple_nodes, stmt_at, stmt_code}
 use Rattle.sc_lower.proofs.Common.{stmt_induction, stmt_nodes, store_at, subst, suc, sym, test, total, weight, ℕ, ◌*◌}
 use Rattle.sc_lower.proofs.Common.{◌+◌, ◌<◌, ◌∙◌, ◌∷◌, ◌≤◌}

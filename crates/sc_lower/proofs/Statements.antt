@@ -4,15 +4,15 @@ use Rattle.sc_lower.proofs.Common.{Err, Forms, Here, Inside, Judged, Left, List,
 use Rattle.sc_lower.proofs.Common.{Part, Parts, Piece, Reached, Result, Return, Scope, Signature, Some, State, Stopped}
 use Rattle.sc_lower.proofs.Common.{TacStmt, Temps, Ty, TypedCall, TypedExpr, TypedFunction, TypedLocal, TypedSimple}
 use Rattle.sc_lower.proofs.Common.{TypedSimpleKind, TypedStmt, TypedStmtKind, TypedStmtKind-F, TypedStruct, Value, Ways}
-use Rattle.sc_lower.proofs.Common.{[], all_do, all_go_into, allowed, lone, and_first, and_rest, and_then, ap, args_fit}
+use Rattle.sc_lower.proofs.Common.{[], all_do, all_go_into, allowed, and_first, and_rest, and_then, ap, args_fit}
 use Rattle.sc_lower.proofs.Common.{arith as numbers, assign, assign_call, assign_call_fits, assign_fits, at_place}
-use Rattle.sc_lower.proofs.Common.{block_code, block_does, body_code, body_does, body_fits, call as calls_of}
-use Rattle.sc_lower.proofs.Common.{call_statement, call_code, call_does, call_fits, call_for, choose, computed, cycle}
-use Rattle.sc_lower.proofs.Common.{false, false≢true, first_of, follow, forms, goes_into, in_order, in_turn, init_code}
+use Rattle.sc_lower.proofs.Common.{block_code, block_does, body_code, body_does, body_fits, call as calls_of, call_code}
+use Rattle.sc_lower.proofs.Common.{call_does, call_fits, call_for, call_statement, choose, computed, cycle, false}
+use Rattle.sc_lower.proofs.Common.{false≢true, first_of, follow, forms, goes_into, in_order, in_turn, init_code}
 use Rattle.sc_lower.proofs.Common.{init_does, init_fits, inits_code, inits_do, is_scalar, is_some, is_target, is_true}
 use Rattle.sc_lower.proofs.Common.{judged, just, kind_fits, kind_step, layer_of, leave, length, list_all, list_any}
-use Rattle.sc_lower.proofs.Common.{local_fits, loop, many, map, on_line, option_goes, part_code, part_does, part_fits}
-use Rattle.sc_lower.proofs.Common.{place_code, received, refl, result_goes, return_value, returned_call_fits}
+use Rattle.sc_lower.proofs.Common.{local_fits, lone, loop, many, map, on_line, option_goes, part_code, part_does}
+use Rattle.sc_lower.proofs.Common.{part_fits, place_code, received, refl, result_goes, return_value, returned_call_fits}
 use Rattle.sc_lower.proofs.Common.{same_import, signed, simple_code, simple_does, simple_fits, stmt_at, stmt_code}
 use Rattle.sc_lower.proofs.Common.{stmt_does, stmt_fits, stmt_induction, stmt_step, store, store_at, store_result}
 use Rattle.sc_lower.proofs.Common.{stored, subst, suc, sym, target_signature, test, true, values, variable_at}
@@ -255,7 +255,8 @@ module _ (arith : Arith) (structs : List TypedStruct) (here : Here) (params : �
         store_at_matches f w h (form e want.Value n).next line (form e want.Value n).at a u s v
         ((fits_value e fit).below n) is)
 
-    call_statement_matches : (c : TypedCall) (n line : ℕ) → call_fits callable c.target (map (judged scope) c.args) ≡ true →
+    call_statement_matches : (c : TypedCall) (n line : ℕ) →
+        call_fits callable c.target (map (judged scope) c.args) ≡ true →
         Does (calls_alone here C c.target (map way c.args) line)
         (run arith here D (call_statement c.target (map form c.args) n).code)
     call_statement_matches c n line fits a t s =

@@ -2,17 +2,17 @@
 use Rattle.sc_lower.proofs.Common.{Bool, CallTarget, Callable, Each, Forms, Inside, Judged, List, Local, Lows, Many}
 use Rattle.sc_lower.proofs.Common.{None, Option, Part, Parts, Scope, Some, TacStmt, TacStmt-F, Ty, TypedCall, TypedExpr}
 use Rattle.sc_lower.proofs.Common.{TypedLocal, TypedSimple, TypedSimpleKind, TypedStmt, TypedStmtKind, TypedStmtKind-F}
-use Rattle.sc_lower.proofs.Common.{TypedStruct, Want, [], after, all_go_into, lone, and_first, and_rest, ap}
-use Rattle.sc_lower.proofs.Common.{arith as numbers, assign, assign_call_fits, assign_fits, at_place, block_code}
-use Rattle.sc_lower.proofs.Common.{body_fits, both, call_statement, call_code, call_fits, call_for, cycle, everywhere}
-use Rattle.sc_lower.proofs.Common.{false, false≢true, first_of, fold-TacStmt, fold-roll-TacStmt, fork, forms, goes_into}
-use Rattle.sc_lower.proofs.Common.{has_none, in_turn, init_code, init_fits, inits_code, is_scalar, is_target, is_type}
-use Rattle.sc_lower.proofs.Common.{judged, just, kind_fits, kind_step, layer_of, length, list_all, many, map}
-use Rattle.sc_lower.proofs.Common.{map-TacStmt, not, or_from, part_code, part_fits, place_code, refl, return_value}
-use Rattle.sc_lower.proofs.Common.{returned_call_fits, roll-TacStmt, signed, simple_code, simple_fits, some_hold}
-use Rattle.sc_lower.proofs.Common.{stmt_at, stmt_code, stmt_fits, stmt_induction, store_at, stray_break, stray_continue}
-use Rattle.sc_lower.proofs.Common.{subst, suc, sym, target_signature, test as tests, true, variable_ty, with_parts, ℕ}
-use Rattle.sc_lower.proofs.Common.{◌++◌, ◌||◌, ◌∙◌, ◌∷◌, ◌≡◌}
+use Rattle.sc_lower.proofs.Common.{TypedStruct, Want, [], after, all_go_into, and_first, and_rest, ap, arith as numbers}
+use Rattle.sc_lower.proofs.Common.{assign, assign_call_fits, assign_fits, at_place, block_code, body_fits, both}
+use Rattle.sc_lower.proofs.Common.{call_code, call_fits, call_for, call_statement, cycle, everywhere, false, false≢true}
+use Rattle.sc_lower.proofs.Common.{first_of, fold-TacStmt, fold-roll-TacStmt, fork, forms, goes_into, has_none, in_turn}
+use Rattle.sc_lower.proofs.Common.{init_code, init_fits, inits_code, is_scalar, is_target, is_type, judged, just}
+use Rattle.sc_lower.proofs.Common.{kind_fits, kind_step, layer_of, length, list_all, lone, many, map, map-TacStmt, not}
+use Rattle.sc_lower.proofs.Common.{or_from, part_code, part_fits, place_code, refl, return_value, returned_call_fits}
+use Rattle.sc_lower.proofs.Common.{roll-TacStmt, signed, simple_code, simple_fits, some_hold, stmt_at, stmt_code}
+use Rattle.sc_lower.proofs.Common.{stmt_fits, stmt_induction, store_at, stray_break, stray_continue, subst, suc, sym}
+use Rattle.sc_lower.proofs.Common.{target_signature, test as tests, true, variable_ty, with_parts, ℕ, ◌++◌, ◌||◌, ◌∙◌}
+use Rattle.sc_lower.proofs.Common.{◌∷◌, ◌≡◌}
 use Rattle.sc_core.specs.declared.expr.CallTarget.TheVariants as target
 use Rattle.sc_core.specs.declared.stmt.TypedStmtKind.TheOpen as layer
 use Rattle.sc_core.specs.declared.stmt.TypedSimpleKind.TheVariants as simple

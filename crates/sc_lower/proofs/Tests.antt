@@ -2,14 +2,14 @@
 use Rattle.sc_lower.proofs.Common.{BinaryOp, Bool, CallTarget, Constant, Global, Int, Judged, List, Local, Low, Lowered}
 use Rattle.sc_lower.proofs.Common.{Lows, None, Option, Param, Scope, Some, TacOp, TacStmt, TacStmt-F, Ty, TypedExpr}
 use Rattle.sc_lower.proofs.Common.{TypedKind, TypedKind-F, TypedStruct, UnaryOp, Under, VarRef, Want, [], address_fits}
-use Rattle.sc_lower.proofs.Common.{lone, and_code, and_first, and_from, and_rest, ap, are_equatable, are_ordered}
+use Rattle.sc_lower.proofs.Common.{and_code, and_first, and_from, and_rest, ap, are_equatable, are_ordered}
 use Rattle.sc_lower.proofs.Common.{arith as numbers, at_place, between_op, binary, binary_code, binary_fits, both_ints}
 use Rattle.sc_lower.proofs.Common.{common, constant_of, counts_elements, decayed, difference_fits, either, everywhere}
 use Rattle.sc_lower.proofs.Common.{expr_at, expr_induction, false, false≢true, first_of, fold-TacStmt}
 use Rattle.sc_lower.proofs.Common.{fold-roll-TacStmt, from_first, from_one, from_two, if◌then◌else◌, int_fits}
 use Rattle.sc_lower.proofs.Common.{integer_kind, is_address, is_array, is_int, is_machine_word, is_pointer, is_scalar}
 use Rattle.sc_lower.proofs.Common.{is_type, is_unsigned_op, judged, judged_ty, leb-true, length, literal_fits, loaded}
-use Rattle.sc_lower.proofs.Common.{lowered, lowered_step, lt-ltb, map-TacStmt, member, move_op, not_op, or_code}
+use Rattle.sc_lower.proofs.Common.{lone, lowered, lowered_step, lt-ltb, map-TacStmt, member, move_op, not_op, or_code}
 use Rattle.sc_lower.proofs.Common.{place_code, points, refl, roll-TacStmt, same_pointers, same_ty, scalar_in, scalar_of}
 use Rattle.sc_lower.proofs.Common.{slice_get, subst, suc, sum_fits, sym, takes_two, target_cells, term_judged, term_of}
 use Rattle.sc_lower.proofs.Common.{term_step, true, truth_code, unary_fits, unary_op, variable_ty, with_parts, zero, ℕ}

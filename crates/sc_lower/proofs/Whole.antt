@@ -1,15 +1,15 @@
 -- The code of a well-typed program runs as the program does.
-use Rattle.sc_lower.proofs.Common.{Arith, BadType, Blamed, BodiesAgree, Body, Bool, CallTarget, Callable, Cross, Export}
-use Rattle.sc_lower.proofs.Common.{ForSection, Function, Here, Input, Interfaces, KeepsMeaning, Left, Denotations, List}
-use Rattle.sc_lower.proofs.Common.{Main, None, Option, Output, Own, Piece, PiecesAgree, ProgramTree, Proto, Reached}
-use Rattle.sc_lower.proofs.Common.{Roles, RunsAgree, Scalar, Some, State, Step, Stopped, TacSection, Temps, TurnsOut}
-use Rattle.sc_lower.proofs.Common.{TypedFunction, TypedParam, TypedSection, TypedStruct, Value, [], all_at, allowed}
-use Rattle.sc_lower.proofs.Common.{and_first, and_rest, and_then, ap, back_own, begun, body_code, body_does, body_fits}
-use Rattle.sc_lower.proofs.Common.{bytes_eq, call_cross, call_own, callable_in, called, calls, closed, code_does}
-use Rattle.sc_lower.proofs.Common.{code_function, code_functions, code_globals, code_denotations, code_run, crossing}
-use Rattle.sc_lower.proofs.Common.{deepest, done, export_at, false, first_blocks, first_state, for_section, found}
-use Rattle.sc_lower.proofs.Common.{function, function_fits, function_of, functions_in, global_fits, globals_of}
-use Rattle.sc_lower.proofs.Common.{if◌then◌else◌, index_map, is_some, is_well_typed, itself, length, denotations_of}
+use Rattle.sc_lower.proofs.Common.{Arith, BadType, Blamed, BodiesAgree, Body, Bool, CallTarget, Callable, Cross}
+use Rattle.sc_lower.proofs.Common.{Denotations, Export, ForSection, Function, Here, Input, Interfaces, KeepsMeaning}
+use Rattle.sc_lower.proofs.Common.{Left, List, Main, None, Option, Output, Own, Piece, PiecesAgree, ProgramTree, Proto}
+use Rattle.sc_lower.proofs.Common.{Reached, Roles, RunsAgree, Scalar, Some, State, Step, Stopped, TacSection, Temps}
+use Rattle.sc_lower.proofs.Common.{TurnsOut, TypedFunction, TypedParam, TypedSection, TypedStruct, Value, [], all_at}
+use Rattle.sc_lower.proofs.Common.{allowed, and_first, and_rest, and_then, ap, back_own, begun, body_code, body_does}
+use Rattle.sc_lower.proofs.Common.{body_fits, bytes_eq, call_cross, call_own, callable_in, called, calls, closed}
+use Rattle.sc_lower.proofs.Common.{code_denotations, code_does, code_function, code_functions, code_globals, code_run}
+use Rattle.sc_lower.proofs.Common.{crossing, deepest, denotations_of, done, export_at, false, first_blocks, first_state}
+use Rattle.sc_lower.proofs.Common.{for_section, found, function, function_fits, function_of, functions_in, global_fits}
+use Rattle.sc_lower.proofs.Common.{globals_of, if◌then◌else◌, index_map, is_some, is_well_typed, itself, length}
 use Rattle.sc_lower.proofs.Common.{list_all, list_any, local_fits, lowered_function, lowered_program, lowered_section}
 use Rattle.sc_lower.proofs.Common.{lowered_sections, main_name, map, may_call, most_params, nat_le, no_temps}
 use Rattle.sc_lower.proofs.Common.{option_map, option_signature, option_value, passed_fits, performs, proto_signature}
@@ -128,16 +128,21 @@ module _ (arith : Arith) (program : ProgramTree) (typed : is_well_typed program 
   module _ (comp : ℕ) (section : TypedSection) (is : slice_get program.sections comp ≡ Some section) where
     tree_at : (n : ℕ) → function L comp n ≡ option_map (tree_function section.structs) (slice_get section.functions n)
     tree_at n =
-        ap (λ fs. slice_get fs n) (index_map (functions_in arith interface_fitting.main) program.sections comp section is)
+        ap (λ fs. slice_get fs n) (index_map (functions_in arith interface_fitting.main) program.sections comp section
+        is)
         ∙ slice_get-map (tree_function section.structs) section.functions n
 
     code_at : (n : ℕ) →
-        function M comp n ≡ option_map (code_function arith) (option_map (lowered_function interface_fitting comp section.structs)
+        function M comp n ≡ option_map (code_function arith)
+        (option_map (lowered_function interface_fitting comp section.structs)
         (slice_get section.functions n))
     code_at n =
-        ap (λ fs. slice_get fs n) (index_map (code_functions arith) lowered comp (lowered_section interface_fitting comp section)
-        (first_at interface_fitting program.sections comp ∙ ap (option_map (lowered_section interface_fitting comp)) is))
-        ∙ slice_get-map (code_function arith) (map (lowered_function interface_fitting comp section.structs) section.functions) n
+        ap (λ fs. slice_get fs n) (index_map (code_functions arith) lowered comp
+        (lowered_section interface_fitting comp section)
+        (first_at interface_fitting program.sections comp ∙
+        ap (option_map (lowered_section interface_fitting comp)) is))
+        ∙ slice_get-map (code_function arith)
+        (map (lowered_function interface_fitting comp section.structs) section.functions) n
         ∙ ap (option_map (code_function arith)) (slice_get-map (lowered_function interface_fitting comp section.structs)
         section.functions n)
 
@@ -163,9 +168,11 @@ module _ (arith : Arith) (program : ProgramTree) (typed : is_well_typed program 
   both_at comp n = by (slice_get program.sections comp) refl where
     by : (o : Option TypedSection) → slice_get program.sections comp ≡ o → Both comp n
     by None is =
-        Nowhere (ap (λ fs. slice_get fs n) (no_functions (functions_in arith interface_fitting.main) program.sections comp is))
+        Nowhere (ap (λ fs. slice_get fs n)
+        (no_functions (functions_in arith interface_fitting.main) program.sections comp is))
         (ap (λ fs. slice_get fs n) (no_functions (code_functions arith) lowered comp
-        (first_at interface_fitting program.sections comp ∙ ap (option_map (lowered_section interface_fitting comp)) is)))
+        (first_at interface_fitting program.sections comp ∙
+        ap (option_map (lowered_section interface_fitting comp)) is)))
     by (Some section) is = section_both comp section is n
 
   -- BODIES
@@ -182,7 +189,8 @@ module _ (arith : Arith) (program : ProgramTree) (typed : is_well_typed program 
         (section : TypedSection) (is : slice_get program.sections comp ≡ Some section) (plain : scripted comp
         ≡ false) where
       place : ForSection interface_fitting interface_fitting.comps comp section
-      place = for_section interface_fitting 0 interface_fitting.comps program.sections (sections_so program typed) comp section is
+      place = for_section interface_fitting 0 interface_fitting.comps program.sections (sections_so program typed) comp
+          section is
 
       abbrev callable : Callable
       callable = callable_in interface_fitting place.interface section
@@ -207,7 +215,8 @@ module _ (arith : Arith) (program : ProgramTree) (typed : is_well_typed program 
                 (body n (record { comp = comp; first = length (s.memory comp) }) (begun comp g args s))
                 (λ v t. done comp g (length (s.memory comp)) t) (gives comp n section f is item plain
                 (length (s.memory comp)) (begun comp g args s)))) where
-                  following : (G : Option Value → Type 0) (o : Piece (Option Value)) (k : Option Value → State → State) →
+                  following : (G : Option Value → Type 0) (o : Piece (Option Value))
+                      (k : Option Value → State → State) →
                       Lasting G o → Lasting G (and_then o (λ v t. Reached v (k v t)))
                   following G (Reached v s) k h = h
                   following G (Stopped end s) k h = tt
@@ -218,7 +227,8 @@ module _ (arith : Arith) (program : ProgramTree) (typed : is_well_typed program 
       called_answers (Cross to index) args s =
           let b = list_any (same_import (import.Function to index)) place.interface.imports in
           let G : Option Value → Type 0 =
-          λ v. answers (promises (allowed b (option_signature proto_signature (export_at interface_fitting to index)))) v ≡ true in
+          λ v. answers (promises (allowed b (option_signature proto_signature (export_at interface_fitting to index))))
+          v ≡ true in
           lasting_then G (turn s) (λ _ s. call_cross L body comp to index args s) (λ _ s.
           lasting_then G (found (L.entered to (Export index)) s) _ (λ n s.
           lasting_then G (found (function L to n) _) _ (λ g s.
@@ -273,8 +283,10 @@ module _ (arith : Arith) (program : ProgramTree) (typed : is_well_typed program 
           let code : Piece (Left Temps) =
           code_does arith here (calls M other) (body_code section.structs f 0).code no_temps s in
           subst (λ m. BackMatches (is_some f.result) ((tree_function section.structs f).does (calls L body) here s)
-          (and_then code (λ left s. closed left.exit (is_some f.result) m 0 here s))) (sym (main_is interface_fitting comp f.name))
-          (close_matches (is_some f.result) (comp == interface_fitting.main && bytes_eq f.name main_name) f.close_line here
+          (and_then code (λ left s. closed left.exit (is_some f.result) m 0 here s)))
+          (sym (main_is interface_fitting comp f.name))
+          (close_matches (is_some f.result) (comp == interface_fitting.main && bytes_eq f.name main_name) f.close_line
+          here
           (body_does arith section.structs here (length f.params) (calls L body) f tt s) code
           (body_matches arith section.structs here (scope_of section f) callable (calls L body) (calls M other) f
           (calls_match first section.structs f) (function_locals f (function_so n f item))
@@ -349,12 +361,16 @@ module _ (arith : Arith) (program : ProgramTree) (typed : is_well_typed program 
           by comp (Some section) = refl
 
     start_found : (o p : Option ℕ) (turns : ℕ) (s : State) → o ≡ p →
-        PiecesAgree (and_then (found o s) (λ number s. call_own L (within tree_step (suc turns)) interface_fitting.main number []
+        PiecesAgree (and_then (found o s)
+        (λ number s. call_own L (within tree_step (suc turns)) interface_fitting.main number []
         s))
-        (and_then (found p s) (λ number s. call_own M (within code_step (suc turns)) interface_fitting.main number [] s))
+        (and_then (found p s) (λ number s. call_own M (within code_step (suc turns)) interface_fitting.main number []
+        s))
     start_found o p turns s is =
-        subst (λ p. PiecesAgree (and_then (found o s) (λ number s. call_own L (within tree_step (suc turns)) interface_fitting.main
-        number [] s)) (and_then (found p s) (λ number s. call_own M (within code_step (suc turns)) interface_fitting.main number []
+        subst (λ p. PiecesAgree (and_then (found o s)
+        (λ number s. call_own L (within tree_step (suc turns)) interface_fitting.main
+        number [] s)) (and_then (found p s)
+        (λ number s. call_own M (within code_step (suc turns)) interface_fitting.main number []
         s))) is
         (then_agree _ _ _ _ (itself (found o s)) (λ number s. own_alike L M alike (within tree_step (suc turns))
         (within code_step (suc turns)) (within_both (suc turns)).agree interface_fitting.main number [] s))
@@ -365,8 +381,10 @@ module _ (arith : Arith) (program : ProgramTree) (typed : is_well_typed program 
     runs_alike inputs turns =
         subst (λ globals. RunsAgree (run_by L tree_step (globals_of program.sections) inputs turns)
         (run_by M code_step globals inputs turns)) globals_same
-        (run_agree interface_fitting.main _ _ (start_found (L.entered interface_fitting.main Main) (M.entered interface_fitting.main Main) turns
-        (first_state (globals_of program.sections) inputs turns) (entered_same program typed interface_fitting.main Main)))
+        (run_agree interface_fitting.main _ _
+        (start_found (L.entered interface_fitting.main Main) (M.entered interface_fitting.main Main) turns
+        (first_state (globals_of program.sections) inputs turns)
+        (entered_same program typed interface_fitting.main Main)))
 
   abbrev nobody : Roles
   nobody = record { scripted = λ comp. false; rows = λ comp. [] }

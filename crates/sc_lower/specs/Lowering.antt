@@ -1,7 +1,7 @@
 -- What lowering keeps.
 use Rattle.sc_lower.specs.Common.{Arith, Entry, IsFunction, IsProgram, IsWellTyped, ProgramTree, Roles, TypedFunction}
-use Rattle.sc_lower.specs.Common.{TypedSection, code_depth_by, code_denotations, code_run, depth_by, denotations_of, run_of}
-use Rattle.sc_lower.specs.Common.{run_step, scripted_code_depth_by, scripted_code_run, scripted_depth_by}
+use Rattle.sc_lower.specs.Common.{TypedSection, code_denotations, code_depth_by, code_run, denotations_of, depth_by}
+use Rattle.sc_lower.specs.Common.{run_of, run_step, scripted_code_depth_by, scripted_code_run, scripted_depth_by}
 use Rattle.sc_lower.specs.Common.{scripted_run_of, scripted_step, within}
 use Rattle.sc_core_laws.specs.Prelude.{BodiesAgree, RunsAgree}
 use Rattle.std.specs.Prelude.{◌≡◌, ℕ, Bool, List, Some, slice_get}
@@ -29,7 +29,8 @@ pub record KeepsMeaning : Type 0 where
       ≡ scripted_code_depth_by arith (lowered_program program) set trace inputs turns events comp
   -- entries lead to the same functions, and these do the same, whoever performs and however many calls may be open
   pub entered : (arith : Arith) (program : ProgramTree) → IsWellTyped program → (comp : ℕ) (entry : Entry) →
-      (denotations_of arith program).entered comp entry ≡ (code_denotations arith (lowered_program program)).entered comp entry
+      (denotations_of arith program).entered comp entry ≡ (code_denotations arith (lowered_program program)).entered
+      comp entry
   pub bodies : (arith : Arith) (program : ProgramTree) → IsWellTyped program → (roles : Roles) (open_calls : ℕ) →
       let tree = denotations_of arith program in
       let code = code_denotations arith (lowered_program program) in

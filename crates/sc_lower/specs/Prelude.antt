@@ -7,14 +7,14 @@ pub use Rattle.sc_lower.specs.Beyond.{part_beyond, simple_beyond, stmt_beyond, t
 pub use Rattle.sc_lower.specs.Branches.{KeepsBranches, branches, call_branches, expr_branches, ifs, ifs_step}
 pub use Rattle.sc_lower.specs.Branches.{init_branches, kind_branches, local_branches, op_branches, part_branches}
 pub use Rattle.sc_lower.specs.Branches.{simple_branches, stmt_branches, stmt_ifs, term_branches}
-pub use Rattle.sc_lower.specs.Expressions.{Forms, Low, Lowered, Lows, lone, and_code, at_place, between_op, binary}
+pub use Rattle.sc_lower.specs.Expressions.{Forms, Low, Lowered, Lows, and_code, at_place, between_op, binary}
 pub use Rattle.sc_lower.specs.Expressions.{binary_code, constant_of, forms, from_first, from_one, from_two, is_sub}
-pub use Rattle.sc_lower.specs.Expressions.{loaded, lowered, lowered_step, member, move_op, not_op, or_code, place_code}
-pub use Rattle.sc_lower.specs.Expressions.{scalar_in, scalar_of, term_step, truth_code, unary_op}
+pub use Rattle.sc_lower.specs.Expressions.{loaded, lone, lowered, lowered_step, member, move_op, not_op, or_code}
+pub use Rattle.sc_lower.specs.Expressions.{place_code, scalar_in, scalar_of, term_step, truth_code, unary_op}
 pub use Rattle.sc_lower.specs.Lowering.{KeepsMeaning, KeepsRules}
 pub use Rattle.sc_lower.specs.Programs.{body_code, entry_of, export_called, exports_of, init_code, inits_code}
 pub use Rattle.sc_lower.specs.Programs.{lowered_function, lowered_program, lowered_section, lowered_sections}
 pub use Rattle.sc_lower.specs.Results.{AreFunctions, IsLowerable, IsOperands, code_of, fragment_of, values_of}
-pub use Rattle.sc_lower.specs.Statements.{Many, Part, Parts, after, args, assign, block_code, both, call_statement}
-pub use Rattle.sc_lower.specs.Statements.{call_code, call_for, cycle, first_of, fork, in_turn, just, kind_step, many}
+pub use Rattle.sc_lower.specs.Statements.{Many, Part, Parts, after, args, assign, block_code, both, call_code, call_for}
+pub use Rattle.sc_lower.specs.Statements.{call_statement, cycle, first_of, fork, in_turn, just, kind_step, many}
 pub use Rattle.sc_lower.specs.Statements.{part_code, return_value, simple_code, stmt_code, store_at, test}

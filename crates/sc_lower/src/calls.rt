@@ -1,8 +1,8 @@
 //! Calls (C11 6.5.2.2): arguments from left to right, then the call.
 
-ghost use Rattle.sc_lower.specs.Prelude.{args, call_statement, call_beyond, call_code, call_for, call_nodes, expr_beyond};
-ghost use Rattle.sc_lower.specs.Prelude.{expr_nodes, first_of, forms, fragment_of, many, most_nodes, return_value};
-ghost use Rattle.sc_lower.specs.Prelude.{store_at, total, values_of};
+ghost use Rattle.sc_lower.specs.Prelude.{args, call_beyond, call_code, call_for, call_nodes, call_statement};
+ghost use Rattle.sc_lower.specs.Prelude.{expr_beyond, expr_nodes, first_of, forms, fragment_of, many, most_nodes};
+ghost use Rattle.sc_lower.specs.Prelude.{return_value, store_at, total, values_of};
 ghost use Rattle.std.specs.Prelude.{◌≡◌, ◌≤◌, ◌+◌, ◌++◌, ◌∷◌, [], suc, map, None, Some, IfOk};
 
 use crate::code::{Fragment, Scope, single};

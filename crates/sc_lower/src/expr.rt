@@ -7,7 +7,7 @@ ghost use Rattle.std.specs.Prelude.{◌≡◌, ◌≤◌, ◌<◌, ◌+◌, ℕ,
 ghost use Rattle.sc_base.specs.declared.op.BinaryOp.TheVariants as op;
 ghost use Rattle.sc_tac.specs.declared.stmt.TacStmt;
 
-use crate::code::{Code, Fragment, Scope, lone, following, ended, loaded, with_last};
+use crate::code::{Code, Fragment, Scope, ended, following, loaded, lone, with_last};
 use crate::selection::{binary_code, constant_of, move_op, place_code, unary_op, with_truth};
 use sc_base::{BinaryOp, OutOfMemory};
 use sc_core::{Ty, TypedExpr, TypedKind, VarRef, Want};

@@ -11,7 +11,7 @@ ghost use Rattle.std.specs.Option.{option_copied};
 ghost use Rattle.sc_event.specs.declared.interface.Proto.{Proto};
 ghost use Rattle.sc_core.specs.declared.section.TypedParam.{TypedParam};
 
-use crate::code::{Fragment, Scope, after, lone, ended, nothing};
+use crate::code::{Fragment, Scope, after, ended, lone, nothing};
 use crate::expr::lower_expr;
 use crate::nodes::function_nodes;
 use crate::selection::place_code;

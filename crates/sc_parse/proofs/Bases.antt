@@ -2,13 +2,13 @@
 use Rattle.sc_parse.proofs.Common.{BaseTree, Declarator, IsIdent, IsInteger, IsKeyword, IsMark, Keyword, Lexeme, List}
 use Rattle.sc_parse.proofs.Common.{Mark, None, Number, Option, Some, SpellsBase, SpellsDeclarator, SpellsStars}
 use Rattle.sc_parse.proofs.Common.{SpellsTypeName, Symbol, [], ap, append_assoc, arith, array, array_length, base_at}
-use Rattle.sc_parse.proofs.Common.{base_by, begins_with, following, first_mark, bound, cond_both, declarator}
-use Rattle.sc_parse.proofs.Common.{declarator_at, drop, elements_at, false, false_from_ne_true, false≢true, first_line}
-use Rattle.sc_parse.proofs.Common.{glued, int, integer_by, is_base, is_int, is_mark, is_void, keyword_at, length}
-use Rattle.sc_parse.proofs.Common.{length_at, line_at, name_ahead, name_at, no_base, none-some, one-add, past_int}
-use Rattle.sc_parse.proofs.Common.{plain, refl, same_some, signed, signed_int, star, star_count, subst, suc, sym, true}
-use Rattle.sc_parse.proofs.Common.{type_name, type_name_at, type_of, unsigned, unsigned_int, ℕ, ◌++◌, ◌+◌, ◌<◌, ◌>>=◌}
-use Rattle.sc_parse.proofs.Common.{◌∙◌, ◌∷◌, ◌≡◌}
+use Rattle.sc_parse.proofs.Common.{base_by, begins_with, bound, cond_both, declarator, declarator_at, drop, elements_at}
+use Rattle.sc_parse.proofs.Common.{false, false_from_ne_true, false≢true, first_line, first_mark, following, glued, int}
+use Rattle.sc_parse.proofs.Common.{integer_by, is_base, is_int, is_mark, is_void, keyword_at, length, length_at}
+use Rattle.sc_parse.proofs.Common.{line_at, name_ahead, name_at, no_base, none-some, one-add, past_int, plain, refl}
+use Rattle.sc_parse.proofs.Common.{same_some, signed, signed_int, star, star_count, subst, suc, sym, true, type_name}
+use Rattle.sc_parse.proofs.Common.{type_name_at, type_of, unsigned, unsigned_int, ℕ, ◌++◌, ◌+◌, ◌<◌, ◌>>=◌, ◌∙◌, ◌∷◌}
+use Rattle.sc_parse.proofs.Common.{◌≡◌}
 use Rattle.sc_parse.specs.Types.{struct, none}
 use Rattle.sc_ast.specs.declared.types.BaseTree.TheVariants as base
 use Rattle.sc_parse_expr.specs.declared.mark.Keyword.TheVariants as word

@@ -4,13 +4,13 @@ use Rattle.sc_parse.proofs.Common.{IsGlobal, IsMark, Keyword, Lexeme, List, None
 use Rattle.sc_parse.proofs.Common.{SpellsBase, SpellsDecl, SpellsDeclarator, SpellsHead, SpellsInit, SpellsResult}
 use Rattle.sc_parse.proofs.Common.{SpellsStars, SpellsStruct, StructTree, TypeName, TypeTree, [], a_function, a_result}
 use Rattle.sc_parse.proofs.Common.{a_struct, absent, adds, ap, append_assoc, arith, array, begins_call, begins_head}
-use Rattle.sc_parse.proofs.Common.{begins_struct, begins_with, following, past_head, first_mark, bound, cond, decl_at}
-use Rattle.sc_parse.proofs.Common.{declares, decls_height, drop, false, false≢true, function, function_at, global}
-use Rattle.sc_parse.proofs.Common.{globals, grouped, head, head_of, headed_at, int, is_empty, is_struct_word}
-use Rattle.sc_parse.proofs.Common.{keyword_at, length, length-append, line_at, many, many_comma, map, more}
-use Rattle.sc_parse.proofs.Common.{names_struct, no_result, past_base, past_stars, plain, prototype, refl, signed}
-use Rattle.sc_parse.proofs.Common.{signed_int, star, struct, struct_decl_at, subst, sym, true, type_name, unsigned}
-use Rattle.sc_parse.proofs.Common.{unsigned_int, ℕ, ◌++◌, ◌+◌, ◌<◌, ◌∙◌, ◌∷◌, ◌≡◌}
+use Rattle.sc_parse.proofs.Common.{begins_struct, begins_with, bound, cond, decl_at, declares, decls_height, drop}
+use Rattle.sc_parse.proofs.Common.{false, false≢true, first_mark, following, function, function_at, global, globals}
+use Rattle.sc_parse.proofs.Common.{grouped, head, head_of, headed_at, int, is_empty, is_struct_word, keyword_at, length}
+use Rattle.sc_parse.proofs.Common.{length-append, line_at, many, many_comma, map, more, names_struct, no_result}
+use Rattle.sc_parse.proofs.Common.{past_base, past_head, past_stars, plain, prototype, refl, signed, signed_int, star}
+use Rattle.sc_parse.proofs.Common.{struct, struct_decl_at, subst, sym, true, type_name, unsigned, unsigned_int, ℕ, ◌++◌}
+use Rattle.sc_parse.proofs.Common.{◌+◌, ◌<◌, ◌∙◌, ◌∷◌, ◌≡◌}
 use Rattle.sc_ast.specs.declared.section.GlobalTree.{GlobalTree}
 use Rattle.sc_parse.proofs.Bases.{base_start, NoInt, stars_no_int, stars_count}
 use Rattle.sc_parse_expr.specs.declared.mark.Mark.TheVariants as mark

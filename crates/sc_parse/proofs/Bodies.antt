@@ -1,15 +1,15 @@
 -- Locals and functions are read exactly as they are spelled.
 use Rattle.sc_parse.proofs.Common.{BaseTree, Declares, ExprTree, FunctionHead, FunctionParam, FunctionTree, Grouped}
 use Rattle.sc_parse.proofs.Common.{HeadTree, IsLocal, IsMark, Lexeme, List, LocalTree, None, Option, ParamTree, Some}
-use Rattle.sc_parse.proofs.Common.{SpellsStmts, SpellsValue, StmtTree, [], a_value, ap, append_assoc, arith, following}
-use Rattle.sc_parse.proofs.Common.{first_mark, body_at, bound, declaration_at, declares, false, first_line}
+use Rattle.sc_parse.proofs.Common.{SpellsStmts, SpellsValue, StmtTree, [], a_value, add_local, ap, append_assoc, arith}
+use Rattle.sc_parse.proofs.Common.{body_at, bound, declaration_at, declares, false, first_line, first_mark, following}
 use Rattle.sc_parse.proofs.Common.{function_head, function_param, function_tree, glued, head_of, init_height, is_base}
-use Rattle.sc_parse.proofs.Common.{local, local_at, local_height, locals_at, add_local, locals_height, map}
-use Rattle.sc_parse.proofs.Common.{named_head, named_params, no_base, no_value, param_of, refl, same_some, subst, sym}
-use Rattle.sc_parse.proofs.Common.{true, value_at, ℕ, ◌++◌, ◌>>=◌, ◌∙◌, ◌∷◌, ◌≡◌}
+use Rattle.sc_parse.proofs.Common.{local, local_at, local_height, locals_at, locals_height, map, named_head}
+use Rattle.sc_parse.proofs.Common.{named_params, no_base, no_value, param_of, refl, same_some, subst, sym, true}
+use Rattle.sc_parse.proofs.Common.{value_at, ℕ, ◌++◌, ◌>>=◌, ◌∙◌, ◌∷◌, ◌≡◌}
 use Rattle.sc_parse.proofs.Bases.{NoBracket, base_start}
-use Rattle.sc_parse.proofs.Exact.{Any, Complete, Exact, ExactAdder, Form, Low, Made, Property, Sound, Turns}
-use Rattle.sc_parse.proofs.Exact.{fits_after, formed_exact, from_none, first_taken, given, grouped_exact, groups_apart}
+use Rattle.sc_parse.proofs.Exact.{Any, Complete, Exact, ExactAdder, Form, Low, Made, Property, Sound, Turns, fits_after}
+use Rattle.sc_parse.proofs.Exact.{formed_exact, from_none, first_taken, given, grouped_exact, groups_apart}
 use Rattle.sc_parse.proofs.Exact.{groups_joined, groups_turned, items_apart, items_joined, items_turned, made}
 use Rattle.sc_parse.proofs.Exact.{made_exact, took}
 use Rattle.sc_parse.proofs.Parts.{kind_starts}

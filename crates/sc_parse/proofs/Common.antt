@@ -21,14 +21,14 @@ pub use Rattle.sc_ast.specs.Prelude.{exprs_height, has_nameless, head_of, highes
 pub use Rattle.sc_ast.specs.Prelude.{kind_of, local_height, locals_height, non_empty, option_height, param_of}
 pub use Rattle.sc_ast.specs.Prelude.{section_height, simple_kind_height, stmts_height}
 pub use Rattle.sc_ast.specs.declared.section.FunctionParam.{FunctionParam}
-pub use Rattle.sc_parse_expr.proofs.Ahead.{first_mark, bound, cond_is, glued, name_ahead, same_some}
+pub use Rattle.sc_parse_expr.proofs.Ahead.{bound, cond_is, first_mark, glued, name_ahead, same_some}
 pub use Rattle.sc_parse_expr.proofs.Balance.{open_along, open_low}
 pub use Rattle.sc_parse_expr.proofs.Sound.{read_sound}
-pub use Rattle.sc_parse_expr.specs.Prelude.{IsIdent, IsMark, Spells, arrow, following, binary_of, extension_at, found, ident_in}
-pub use Rattle.sc_parse_expr.specs.Prelude.{import_of, index, is_mark, joined, lead_by, lexeme_of, literal, look_up, looser}
-pub use Rattle.sc_parse_expr.specs.Prelude.{mark_texts, member, most_open, name_at, number_in, open_after, open_after_mark}
-pub use Rattle.sc_parse_expr.specs.Prelude.{or_unused, parenthesised, prefix, prefix_of, prefixed, read, symbol_of}
-pub use Rattle.sc_parse_expr.specs.Prelude.{third_word, variable, ◌>>=◌}
+pub use Rattle.sc_parse_expr.specs.Prelude.{IsIdent, IsMark, Spells, arrow, binary_of, extension_at, following, found}
+pub use Rattle.sc_parse_expr.specs.Prelude.{ident_in, import_of, index, is_mark, joined, lead_by, lexeme_of, literal}
+pub use Rattle.sc_parse_expr.specs.Prelude.{look_up, looser, mark_texts, member, most_open, name_at, number_in}
+pub use Rattle.sc_parse_expr.specs.Prelude.{open_after, open_after_mark, or_unused, parenthesised, prefix, prefix_of}
+pub use Rattle.sc_parse_expr.specs.Prelude.{prefixed, read, symbol_of, third_word, variable, ◌>>=◌}
 unfoldable pub use Rattle.sc_parse_expr.specs.Prelude.{mark_of, says}
 pub use Rattle.sc_parse_expr.specs.declared.operator.Prefix.{Prefix}
 pub use Rattle.sc_parse.specs.Common.{BaseTree, BinaryOp, CallTree, ConstTree, Decl, Declarator, ExportLine, ExprTree}
@@ -42,36 +42,35 @@ pub use Rattle.sc_parse.specs.Prelude.{SpellsDeclarator, SpellsDirectives, Spell
 pub use Rattle.sc_parse.specs.Prelude.{SpellsParam, SpellsParams, SpellsPart, SpellsPlace, SpellsResult, SpellsSection}
 pub use Rattle.sc_parse.specs.Prelude.{SpellsStars, SpellsStmtKind, SpellsStmts, SpellsStruct, SpellsTest}
 pub use Rattle.sc_parse.specs.Prelude.{SpellsTypeName, SpellsValue, a_function, a_part, a_result, a_struct, a_test}
-pub use Rattle.sc_parse.specs.Prelude.{a_value, absent, all_separated, lone_if, add_arg, array, assign, assign_call}
-pub use Rattle.sc_parse.specs.Prelude.{base_by, before_mark, begins_call, begins_struct, begins_value, begins_with}
-pub use Rattle.sc_parse.specs.Prelude.{past_head, after_inner_comma, block, call, call_tree, change_at, change_of}
-pub use Rattle.sc_parse.specs.Prelude.{changed, choice, compartment_at, compartment_by, compound, compound_of}
-pub use Rattle.sc_parse.specs.Prelude.{condition, const_tree, declarator, declares, decls_at, directives, directives_at}
-pub use Rattle.sc_parse.specs.Prelude.{elements_at, empty, ended_by, export, export_line, first_line, for_loop}
-pub use Rattle.sc_parse.specs.Prelude.{for_parts, function, function_head, function_param, function_tree, global}
-pub use Rattle.sc_parse.specs.Prelude.{globals, add_global, head, head_tree, import_line, int, integer_by, is_base}
-pub use Rattle.sc_parse.specs.Prelude.{is_else, is_empty, is_if, is_int, is_struct_word, is_void, keyword_at}
-pub use Rattle.sc_parse.specs.Prelude.{keyword_by, kind_by, lexemes_of, line_at, line_by, literal_at, local, locals_at}
-pub use Rattle.sc_parse.specs.Prelude.{add_local, loop_of, makes_value, many, many_comma, mark_at, mark_by}
-pub use Rattle.sc_parse.specs.Prelude.{add_member, members_in_braces, more, named, named_head, named_params}
-pub use Rattle.sc_parse.specs.Prelude.{nameless, names_struct, negated, next, no_args, no_base, no_params, no_part}
-pub use Rattle.sc_parse.specs.Prelude.{no_result, no_test, no_value, none, one, otherwise, otherwise_if, param_tree}
-pub use Rattle.sc_parse.specs.Prelude.{params_in_parens, past_base, past_comma, past_int, past_stars, placed, plain}
-pub use Rattle.sc_parse.specs.Prelude.{prototype, return_call, return_nothing, return_value, section, section_at}
-pub use Rattle.sc_parse.specs.Prelude.{section_tree, signed, signed_int, simple_or_none, simple_tree, some_args}
-pub use Rattle.sc_parse.specs.Prelude.{some_params, star, step_at, step_before, step_after, step_of, stmt_tree}
-pub use Rattle.sc_parse.specs.Prelude.{stmts_at, struct, struct_tree, type_name, type_of, unary_place, unsigned}
-pub use Rattle.sc_parse.specs.Prelude.{unsigned_int, unstepped, updates, value_returned, while_loop, whole_line}
-pub use Rattle.sc_parse.specs.Prelude.{with_line}
-unfoldable pub use Rattle.sc_parse.specs.Prelude.{adds, args_at, assignment_at, base_at, begins_head, block_at}
-unfoldable pub use Rattle.sc_parse.specs.Prelude.{body_at, call_at, condition_at, const_at, consts_at, decl_at}
-unfoldable pub use Rattle.sc_parse.specs.Prelude.{declaration_at, declarator_at, else_at, after_else, ended_at}
-unfoldable pub use Rattle.sc_parse.specs.Prelude.{expr_at, first_part, after_for, for_head, function_at, global_at}
-unfoldable pub use Rattle.sc_parse.specs.Prelude.{grouped, head_at, headed_at, after_if, init_at, initialiser_at}
-unfoldable pub use Rattle.sc_parse.specs.Prelude.{last_part, length_at, lines_at, local_at, member_at, members_at}
-unfoldable pub use Rattle.sc_parse.specs.Prelude.{middle_part, operand_at, param_at, params_at, part_at, place_at}
-unfoldable pub use Rattle.sc_parse.specs.Prelude.{plain_at, result_at, returned, section_within, separated, simple_at}
-unfoldable pub use Rattle.sc_parse.specs.Prelude.{star_count, stepped, stmt_at, stmt_within, struct_at, struct_decl_at}
-unfoldable pub use Rattle.sc_parse.specs.Prelude.{test_at, tree_of, type_name_at, value_at, assigned_at, after_while}
+pub use Rattle.sc_parse.specs.Prelude.{a_value, absent, add_arg, add_global, add_local, add_member, after_inner_comma}
+pub use Rattle.sc_parse.specs.Prelude.{all_separated, array, assign, assign_call, base_by, before_mark, begins_call}
+pub use Rattle.sc_parse.specs.Prelude.{begins_struct, begins_value, begins_with, block, call, call_tree, change_at}
+pub use Rattle.sc_parse.specs.Prelude.{change_of, changed, choice, compartment_at, compartment_by, compound}
+pub use Rattle.sc_parse.specs.Prelude.{compound_of, condition, const_tree, declarator, declares, decls_at, directives}
+pub use Rattle.sc_parse.specs.Prelude.{directives_at, elements_at, empty, ended_by, export, export_line, first_line}
+pub use Rattle.sc_parse.specs.Prelude.{for_loop, for_parts, function, function_head, function_param, function_tree}
+pub use Rattle.sc_parse.specs.Prelude.{global, globals, head, head_tree, import_line, int, integer_by, is_base, is_else}
+pub use Rattle.sc_parse.specs.Prelude.{is_empty, is_if, is_int, is_struct_word, is_void, keyword_at, keyword_by}
+pub use Rattle.sc_parse.specs.Prelude.{kind_by, lexemes_of, line_at, line_by, literal_at, local, locals_at, lone_if}
+pub use Rattle.sc_parse.specs.Prelude.{loop_of, makes_value, many, many_comma, mark_at, mark_by, members_in_braces}
+pub use Rattle.sc_parse.specs.Prelude.{more, named, named_head, named_params, nameless, names_struct, negated, next}
+pub use Rattle.sc_parse.specs.Prelude.{no_args, no_base, no_params, no_part, no_result, no_test, no_value, none, one}
+pub use Rattle.sc_parse.specs.Prelude.{otherwise, otherwise_if, param_tree, params_in_parens, past_base, past_comma}
+pub use Rattle.sc_parse.specs.Prelude.{past_head, past_int, past_stars, placed, plain, prototype, return_call}
+pub use Rattle.sc_parse.specs.Prelude.{return_nothing, return_value, section, section_at, section_tree, signed}
+pub use Rattle.sc_parse.specs.Prelude.{signed_int, simple_or_none, simple_tree, some_args, some_params, star}
+pub use Rattle.sc_parse.specs.Prelude.{step_after, step_at, step_before, step_of, stmt_tree, stmts_at, struct}
+pub use Rattle.sc_parse.specs.Prelude.{struct_tree, type_name, type_of, unary_place, unsigned, unsigned_int, unstepped}
+pub use Rattle.sc_parse.specs.Prelude.{updates, value_returned, while_loop, whole_line, with_line}
+unfoldable pub use Rattle.sc_parse.specs.Prelude.{adds, after_else, after_for, after_if, after_while, args_at}
+unfoldable pub use Rattle.sc_parse.specs.Prelude.{assigned_at, assignment_at, base_at, begins_head, block_at, body_at}
+unfoldable pub use Rattle.sc_parse.specs.Prelude.{call_at, condition_at, const_at, consts_at, decl_at, declaration_at}
+unfoldable pub use Rattle.sc_parse.specs.Prelude.{declarator_at, else_at, ended_at, expr_at, first_part, for_head}
+unfoldable pub use Rattle.sc_parse.specs.Prelude.{function_at, global_at, grouped, head_at, headed_at, init_at}
+unfoldable pub use Rattle.sc_parse.specs.Prelude.{initialiser_at, last_part, length_at, lines_at, local_at, member_at}
+unfoldable pub use Rattle.sc_parse.specs.Prelude.{members_at, middle_part, operand_at, param_at, params_at, part_at}
+unfoldable pub use Rattle.sc_parse.specs.Prelude.{place_at, plain_at, result_at, returned, section_within, separated}
+unfoldable pub use Rattle.sc_parse.specs.Prelude.{simple_at, star_count, stepped, stmt_at, stmt_within, struct_at}
+unfoldable pub use Rattle.sc_parse.specs.Prelude.{struct_decl_at, test_at, tree_of, type_name_at, value_at}
 pub use Rattle.sc_parse.specs.declared.section.Directives.{Directives}
 pub use Rattle.sc_parse.specs.declared.section.Line.{Line}

@@ -2,22 +2,22 @@
 use Rattle.sc_parse.proofs.Common.{BaseTree, Bool, ConstTree, Decl, Declarator, Declares, Grouped, InitTree, IsInteger}
 use Rattle.sc_parse.proofs.Common.{IsMark, IsMember, Lexeme, List, MemberTree, None, Number, Reader, Separated, Some}
 use Rattle.sc_parse.proofs.Common.{SpellsBase, SpellsConst, SpellsDeclarator, SpellsInit, SpellsStruct, StructTree}
-use Rattle.sc_parse.proofs.Common.{TypeTree, [], absent, adds, all_separated, ap, append_assoc, arith, array, base_at}
-use Rattle.sc_parse.proofs.Common.{before_mark, begins_with, following, after_inner_comma, first_mark, bound, cond_both}
+use Rattle.sc_parse.proofs.Common.{TypeTree, [], absent, add_global, add_member, adds, after_inner_comma, all_separated}
+use Rattle.sc_parse.proofs.Common.{ap, append_assoc, arith, array, base_at, before_mark, begins_with, bound, cond_both}
 use Rattle.sc_parse.proofs.Common.{const_at, const_tree, consts_at, declaration_at, declarator, declarator_at, declares}
-use Rattle.sc_parse.proofs.Common.{drop, ended_by, false, first_line, global_at, add_global, glued, grouped}
+use Rattle.sc_parse.proofs.Common.{drop, ended_by, false, first_line, first_mark, following, global_at, glued, grouped}
 use Rattle.sc_parse.proofs.Common.{init_at, initialiser_at, keyword_at, length, length-append, literal_at, many}
-use Rattle.sc_parse.proofs.Common.{many_comma, member_at, members_at, add_member, members_in_braces, more, name_at}
-use Rattle.sc_parse.proofs.Common.{negated, next, non_empty, none, none-some, one, past_comma, plain, refl, same_some}
-use Rattle.sc_parse.proofs.Common.{separated, struct, struct_at, struct_tree, subst, subst₂, sym, true, type_of, ℕ}
-use Rattle.sc_parse.proofs.Common.{◌++◌, ◌+◌, ◌<◌, ◌>>=◌, ◌∙◌, ◌∷◌, ◌≡◌}
+use Rattle.sc_parse.proofs.Common.{many_comma, member_at, members_at, members_in_braces, more, name_at, negated, next}
+use Rattle.sc_parse.proofs.Common.{non_empty, none, none-some, one, past_comma, plain, refl, same_some, separated}
+use Rattle.sc_parse.proofs.Common.{struct, struct_at, struct_tree, subst, subst₂, sym, true, type_of, ℕ, ◌++◌, ◌+◌, ◌<◌}
+use Rattle.sc_parse.proofs.Common.{◌>>=◌, ◌∙◌, ◌∷◌, ◌≡◌}
 use Rattle.sc_parse.proofs.Bases.{base_start, NoInt, NoBracket, base_exact, no_length, in_brackets, declarator_sound}
 use Rattle.sc_parse.proofs.Bases.{declarator_reads, stars_no_int, integer_is}
 use Rattle.sc_parse.proofs.Exact.{Adds, Any, Before, Complete, Exact, ExactAdder, Form, Hereditary, Property, Then}
 use Rattle.sc_parse.proofs.Exact.{adding, any, before, before_exact, both, commas_exact, fitting, then_exact, took}
-use Rattle.sc_parse.proofs.Exact.{AfterWord, Between, IsName, Sound, Taken, a_name, after_mark, after_word, between_exact}
-use Rattle.sc_parse.proofs.Exact.{chosen, from_none, given, grouped_exact, name_exact, same_pair, separated_exact}
-use Rattle.sc_parse.proofs.Exact.{word_taken}
+use Rattle.sc_parse.proofs.Exact.{AfterWord, Between, IsName, Sound, Taken, a_name, after_mark, after_word}
+use Rattle.sc_parse.proofs.Exact.{between_exact, chosen, from_none, given, grouped_exact, name_exact, same_pair}
+use Rattle.sc_parse.proofs.Exact.{separated_exact, word_taken}
 use Rattle.sc_parse_expr.specs.declared.mark.Mark.TheVariants as mark
 use Rattle.sc_parse_expr.specs.declared.mark.Keyword.TheVariants as word
 use Rattle.sc_parse.specs.Lists as lists
@@ -244,7 +244,8 @@ struct_complete (struct {ts = ts} {us = us} {members = members} {others = others
     let some : 0 < length (members ++ others) =
     omega (arith, declares_many IsMember d, length-append members others) in
     ap (λ z. struct_at (t ∷ u ∷ v ∷ (z ++ rest))) (sym (append_assoc (ts ++ us) _ _ ∙ append_assoc ts us _)) ∙
-    (tail_exact t.line).complete _ _ (both (a_name u tag q) (before y l (after_mark v r (before w k (next d g, some))))) rest
+    (tail_exact t.line).complete _ _ (both (a_name u tag q) (before y l (after_mark v r (before w k (next d g, some)))))
+    rest
     tt tt
 
 -- an integer, with or without a sign

@@ -1,8 +1,8 @@
 -- Readers that read exactly what is spelled, of single items and of lists.
 use Rattle.sc_parse.proofs.Common.{Adder, Bool, Grouped, IsIdent, IsKeyword, IsMark, Keyword, Lexeme, List, Mark, None}
 use Rattle.sc_parse.proofs.Common.{Option, Reader, Separated, Some, Symbol, [], adds, all_separated, ap, append-nil}
-use Rattle.sc_parse.proofs.Common.{append_assoc, arith, before_mark, following, first_mark, bound, cond, drop, ended_by}
-use Rattle.sc_parse.proofs.Common.{false, glued, grouped, highest, is_mark, keyword_at, keyword_by, length}
+use Rattle.sc_parse.proofs.Common.{append_assoc, arith, before_mark, bound, cond, drop, ended_by, false, first_mark}
+use Rattle.sc_parse.proofs.Common.{following, glued, grouped, highest, is_mark, keyword_at, keyword_by, length}
 use Rattle.sc_parse.proofs.Common.{length-append, map, max, more, name_ahead, name_at, next, none, none-some, one}
 use Rattle.sc_parse.proofs.Common.{option_map_or, refl, same_some, separated, subst, suc, sym, true, zero, ℕ, ◌++◌, ◌+◌}
 use Rattle.sc_parse.proofs.Common.{◌<◌, ◌>>=◌, ◌∙◌, ◌∷◌, ◌≡◌, ◌≤◌}

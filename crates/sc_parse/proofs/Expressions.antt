@@ -1,9 +1,9 @@
 -- Expressions in statements, and calls, are read exactly as they are spelled.
 use Rattle.sc_parse.proofs.Common.{Bool, CallTree, ExprTree, Lexeme, List, Mark, None, Prefix, Separated, Some, Spells}
-use Rattle.sc_parse.proofs.Common.{SpellsArgs, SpellsCall, Symbol, [], all_separated, ap, append_assoc, args_at}
-use Rattle.sc_parse.proofs.Common.{add_arg, arith, arrow, begins_call, begins_with, following, binary_of, bound, call}
-use Rattle.sc_parse.proofs.Common.{call_at, call_height, call_tree, expr_at, expr_height, exprs_height, extension_at}
-use Rattle.sc_parse.proofs.Common.{false, false_from_ne_true, false≢true, found, index, is_some, joined, lead_by}
+use Rattle.sc_parse.proofs.Common.{SpellsArgs, SpellsCall, Symbol, [], add_arg, all_separated, ap, append_assoc}
+use Rattle.sc_parse.proofs.Common.{args_at, arith, arrow, begins_call, begins_with, binary_of, bound, call, call_at}
+use Rattle.sc_parse.proofs.Common.{call_height, call_tree, expr_at, expr_height, exprs_height, extension_at, false}
+use Rattle.sc_parse.proofs.Common.{false_from_ne_true, false≢true, following, found, index, is_some, joined, lead_by}
 use Rattle.sc_parse.proofs.Common.{literal, looser, loosest_level, member, more, most_open, no_args, none-some, one}
 use Rattle.sc_parse.proofs.Common.{open_after, open_after_mark, open_low, parenthesised, prefix, prefix_of, read}
 use Rattle.sc_parse.proofs.Common.{read_sound, refl, some_args, sym, true, variable, ℕ, ◌++◌, ◌∙◌, ◌∷◌, ◌≡◌, ◌≤◌}

@@ -1,15 +1,15 @@
 -- Blocks and the statements that hold them are read exactly as they are spelled.
 use Rattle.sc_parse.proofs.Common.{ExprTree, Grouped, IsKeyword, IsMark, Keyword, Lexeme, List, None, Option, Reader}
-use Rattle.sc_parse.proofs.Common.{SimpleKind, Some, SpellsBlock, SpellsIf, SpellsStmts, StmtKind, StmtTree, [], lone_if}
-use Rattle.sc_parse.proofs.Common.{ap, append-nil, append_assoc, arith, begins_with, block, block_at, bound, choice}
-use Rattle.sc_parse.proofs.Common.{cond, drop, else_at, after_else, empty, ended_at, false, false≢true, first_line}
-use Rattle.sc_parse.proofs.Common.{first_part, after_for, for_head, for_height, for_loop, for_parts, after_if}
+use Rattle.sc_parse.proofs.Common.{SimpleKind, Some, SpellsBlock, SpellsIf, SpellsStmts, StmtKind, StmtTree, []}
+use Rattle.sc_parse.proofs.Common.{after_else, after_for, after_if, after_while, ap, append-nil, append_assoc, arith}
+use Rattle.sc_parse.proofs.Common.{begins_with, block, block_at, bound, choice, cond, drop, else_at, empty, ended_at}
+use Rattle.sc_parse.proofs.Common.{false, false≢true, first_line, first_part, for_head, for_height, for_loop, for_parts}
 use Rattle.sc_parse.proofs.Common.{if_height, is_else, is_if, keyword_at, kind_by, kind_height, kind_of, last_part}
-use Rattle.sc_parse.proofs.Common.{loop_of, middle_part, none-some, otherwise, otherwise_if, plain_at, plain_height}
-use Rattle.sc_parse.proofs.Common.{refl, return_call, return_call_height, return_nothing, return_value, returned}
-use Rattle.sc_parse.proofs.Common.{simple_at, stmt_at, stmt_tree, stmt_within, stmts_at, stmts_height, subst, suc, sym}
-use Rattle.sc_parse.proofs.Common.{tree_height, true, value_height, after_while, while_height, while_loop, zero, ℕ}
-use Rattle.sc_parse.proofs.Common.{◌++◌, ◌<◌, ◌∙◌, ◌∷◌, ◌≡◌, ◌≤◌}
+use Rattle.sc_parse.proofs.Common.{lone_if, loop_of, middle_part, none-some, otherwise, otherwise_if, plain_at}
+use Rattle.sc_parse.proofs.Common.{plain_height, refl, return_call, return_call_height, return_nothing, return_value}
+use Rattle.sc_parse.proofs.Common.{returned, simple_at, stmt_at, stmt_tree, stmt_within, stmts_at, stmts_height, subst}
+use Rattle.sc_parse.proofs.Common.{suc, sym, tree_height, true, value_height, while_height, while_loop, zero, ℕ, ◌++◌}
+use Rattle.sc_parse.proofs.Common.{◌<◌, ◌∙◌, ◌∷◌, ◌≡◌, ◌≤◌}
 use Rattle.sc_parse.specs.Statements.{plain}
 use Rattle.sc_ast.specs.declared.stmt.StmtKind.TheVariants as stmt
 use Rattle.sc_parse_expr.specs.declared.mark.Keyword.TheVariants as word
@@ -17,10 +17,11 @@ use Rattle.sc_parse_expr.specs.declared.mark.Mark.TheVariants as mark
 use Rattle.sc_parse.specs.Lists as lists
 use Rattle.sc_parse.specs.Statements as statements
 use Rattle.sc_parse.specs.declared.stmts.ForHead.{ForHead}
-use Rattle.sc_parse.proofs.Exact.{Any, Before, AfterWord, Between, Complete, Exact, Form, Low, Made, One, Property, Sound}
-use Rattle.sc_parse.proofs.Exact.{Taken, Then, Turns, adds_exact, after_mark, as_form, before, before_exact, after_word}
-use Rattle.sc_parse.proofs.Exact.{between_exact, both, chosen, fits_after, formed_exact, from_none, first_taken}
-use Rattle.sc_parse.proofs.Exact.{grouped_exact, made, made_exact, single, then_exact, took, word_ahead, word_taken}
+use Rattle.sc_parse.proofs.Exact.{Any, Before, AfterWord, Between, Complete, Exact, Form, Low, Made, One, Property}
+use Rattle.sc_parse.proofs.Exact.{Sound, Taken, Then, Turns, adds_exact, after_mark, as_form, before, before_exact}
+use Rattle.sc_parse.proofs.Exact.{after_word, between_exact, both, chosen, fits_after, formed_exact, from_none}
+use Rattle.sc_parse.proofs.Exact.{first_taken, grouped_exact, made, made_exact, single, then_exact, took, word_ahead}
+use Rattle.sc_parse.proofs.Exact.{word_taken}
 use Rattle.sc_parse.proofs.Bases.{mark_is}
 use Rattle.sc_parse.proofs.Expressions.{Few, call_begins, call_exact, call_starts, expr_exact, expr_starts, few}
 use Rattle.sc_parse.proofs.Expressions.{no_call, no_mark}
@@ -121,7 +122,8 @@ if_is _ _ (after_word t p (both k (both b e))) = if_made t p k b e
 
 if_apart : {room : ℕ} {ts : List Lexeme} {x : StmtKind} → SpellsIf ts x → kind_height x ≤ room →
     AfterWord word.If (IfParts room) ts x
-if_apart {room} (lone_if {ts = ts} {us = us} {cond = c} {then_part = th} t p k b) low = let height = if_height c th [] in
+if_apart {room} (lone_if {ts = ts} {us = us} {cond = c} {then_part = th} t p k b) low = let height =
+    if_height c th [] in
     subst (λ l. AfterWord word.If (IfParts room) (t ∷ (ts ++ l)) (stmt.If c th [])) (append-nil us)
     (after_word t p (both (k, omega arith) (both (b, omega arith) (made nothing))))
 if_apart (otherwise {cond = c} {then_part = th} {else_part = e} t u p q k b d) low = let height = if_height c th e in

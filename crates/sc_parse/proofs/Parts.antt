@@ -2,23 +2,23 @@
 use Rattle.sc_parse.proofs.Common.{CallTree, ExprTree, IsKeyword, IsMark, Keyword, Lexeme, List, Mark, None, Option}
 use Rattle.sc_parse.proofs.Common.{SimpleKind, SimpleTree, Some, Spells, SpellsCall, SpellsCondition, SpellsIf}
 use Rattle.sc_parse.proofs.Common.{SpellsKind, SpellsPart, SpellsStmtKind, SpellsTest, StmtKind, StmtTree, Symbol, []}
-use Rattle.sc_parse.proofs.Common.{a_part, a_test, lone_if, ap, append_assoc, arith, assign, assign_call, begins_with}
-use Rattle.sc_parse.proofs.Common.{first_mark, bound, break_height, call, choice, compound, cond, cond_is, condition}
-use Rattle.sc_parse.proofs.Common.{condition_at, continue_height, drop, empty, empty_height, ended_at, expr_height}
-use Rattle.sc_parse.proofs.Common.{false, false≢true, first_line, for_loop, glued, is_base, is_else, is_if, is_some}
+use Rattle.sc_parse.proofs.Common.{a_part, a_test, ap, append_assoc, arith, assign, assign_call, begins_with, bound}
+use Rattle.sc_parse.proofs.Common.{break_height, call, choice, compound, cond, cond_is, condition, condition_at}
+use Rattle.sc_parse.proofs.Common.{continue_height, drop, empty, empty_height, ended_at, expr_height, false, false≢true}
+use Rattle.sc_parse.proofs.Common.{first_line, first_mark, for_loop, glued, is_base, is_else, is_if, is_some}
 use Rattle.sc_parse.proofs.Common.{keyword_at, keyword_by, kind_height, kind_of, le-leb, lead_by, leb, leb-true, length}
-use Rattle.sc_parse.proofs.Common.{length-append, no_base, no_part, no_test, not, option_height, otherwise}
+use Rattle.sc_parse.proofs.Common.{length-append, lone_if, no_base, no_part, no_test, not, option_height, otherwise}
 use Rattle.sc_parse.proofs.Common.{otherwise_if, part_at, plain_at, plain_height, read, refl, return_call}
 use Rattle.sc_parse.proofs.Common.{return_call_height, return_height, return_nothing, return_value, returned, simple_at}
-use Rattle.sc_parse.proofs.Common.{simple_or_none, simple_tree, step_before, step_after, step_of, stmt_tree, sym}
+use Rattle.sc_parse.proofs.Common.{simple_or_none, simple_tree, step_after, step_before, step_of, stmt_tree, sym}
 use Rattle.sc_parse.proofs.Common.{test_at, true, value_height, value_returned, while_loop, ℕ, ◌++◌, ◌-◌, ◌<◌, ◌>>=◌}
 use Rattle.sc_parse.proofs.Common.{◌∙◌, ◌∷◌, ◌≡◌, ◌≤◌}
 use Rattle.sc_parse_expr.specs.declared.mark.Mark.TheVariants as mark
 use Rattle.sc_parse_expr.specs.declared.lexeme.Symbol.TheVariants as symbol
 use Rattle.sc_parse.specs.Statements as statements
-use Rattle.sc_parse.proofs.Exact.{Any, Between, Complete, Exact, Form, Low, Property, Turns, after_mark, as_form, before}
-use Rattle.sc_parse.proofs.Exact.{between_exact, chosen, formed_exact, took, Sound, Taken, first_taken, made_exact}
-use Rattle.sc_parse.proofs.Exact.{made_of, word_ahead}
+use Rattle.sc_parse.proofs.Exact.{Any, Between, Complete, Exact, Form, Low, Property, Turns, after_mark, as_form}
+use Rattle.sc_parse.proofs.Exact.{before, between_exact, chosen, formed_exact, took, Sound, Taken, first_taken}
+use Rattle.sc_parse.proofs.Exact.{made_exact, made_of, word_ahead}
 use Rattle.sc_parse.proofs.Bases.{other_mark}
 use Rattle.sc_parse.proofs.Expressions.{Few, IsExpr, NoExtension, begins_expr, call_starts, expr_exact, expr_starts}
 use Rattle.sc_parse.proofs.Expressions.{few, no_mark, starts_expr, call_exact}

@@ -1,16 +1,17 @@
 -- Parameters and heads are read exactly as they are spelled.
 use Rattle.sc_parse.proofs.Common.{HeadTree, Keyword, Lexeme, List, None, Option, ParamTree, Separated, Some}
 use Rattle.sc_parse.proofs.Common.{SpellsHead, SpellsParam, SpellsParams, SpellsResult, SpellsTypeName, TypeName, []}
-use Rattle.sc_parse.proofs.Common.{a_result, adds, all_separated, ap, append_assoc, following, bound, false, false≢true}
-use Rattle.sc_parse.proofs.Common.{first_line, glued, head, head_at, head_tree, is_void, keyword_at, name_ahead}
-use Rattle.sc_parse.proofs.Common.{name_at, named, nameless, no_params, no_result, option_map_or, param_at, param_tree}
-use Rattle.sc_parse.proofs.Common.{params_at, params_in_parens, refl, result_at, some_params, subst, sym, true}
-use Rattle.sc_parse.proofs.Common.{type_name, type_name_at, ℕ, ◌++◌, ◌>>=◌, ◌∙◌, ◌∷◌, ◌≡◌}
+use Rattle.sc_parse.proofs.Common.{a_result, adds, all_separated, ap, append_assoc, bound, false, false≢true}
+use Rattle.sc_parse.proofs.Common.{first_line, following, glued, head, head_at, head_tree, is_void, keyword_at}
+use Rattle.sc_parse.proofs.Common.{name_ahead, name_at, named, nameless, no_params, no_result, option_map_or, param_at}
+use Rattle.sc_parse.proofs.Common.{param_tree, params_at, params_in_parens, refl, result_at, some_params, subst, sym}
+use Rattle.sc_parse.proofs.Common.{true, type_name, type_name_at, ℕ, ◌++◌, ◌>>=◌, ◌∙◌, ◌∷◌, ◌≡◌}
 use Rattle.sc_parse.proofs.Bases.{NoType, base_start, type_name_exact}
 use Rattle.sc_parse.proofs.Declared.{separated_prefix}
 use Rattle.sc_parse.proofs.Exact.{Any, Between, Complete, Exact, ExactAdder, Form, IsName, Made, Property, Sound, Then}
-use Rattle.sc_parse.proofs.Exact.{Turns, a_name, after_mark, any, as_form, before, between_exact, both, chosen, commas_exact}
-use Rattle.sc_parse.proofs.Exact.{from_none, given, made, made_exact, name_exact, then_exact, took, word_ahead}
+use Rattle.sc_parse.proofs.Exact.{Turns, a_name, after_mark, any, as_form, before, between_exact, both, chosen}
+use Rattle.sc_parse.proofs.Exact.{commas_exact, from_none, given, made, made_exact, name_exact, then_exact, took}
+use Rattle.sc_parse.proofs.Exact.{word_ahead}
 use Rattle.sc_parse_expr.specs.declared.mark.Keyword.TheVariants as word
 use Rattle.sc_parse_expr.specs.declared.mark.Mark.TheVariants as mark
 
@@ -141,6 +142,7 @@ head_exact = record {
     complete : Complete Any SpellsHead Any head_at
     complete _ _ (head {ts = ts} {us = us} {result = result} {params = params} t u v name p q r d g) rest fits h =
         let after_result = t ∷ u ∷ (us ++ v ∷ []) in
-        (lined_exact _).complete _ _ (both d (both (a_name t name p) (made (after_mark u q (before v r g))))) rest tt tt ∙
+        (lined_exact _).complete _ _ (both d (both (a_name t name p) (made (after_mark u q (before v r g))))) rest tt
+        tt ∙
         ap (λ n. Some (head_tree result name params n, rest))
         (ap first_line (append_assoc ts after_result rest) ∙ first_line_result d (after_result ++ rest))

@@ -1,15 +1,15 @@
 -- Assignments, `++` and `--`, and calls are read exactly as they are spelled.
 use Rattle.sc_parse.proofs.Common.{BinaryOp, CallTree, ExprTree, IsMark, IsTrue, Lexeme, List, Mark, None, Option}
 use Rattle.sc_parse.proofs.Common.{Prefix, SimpleKind, Some, Spells, SpellsKind, SpellsPlace, Symbol, [], ap}
-use Rattle.sc_parse.proofs.Common.{append_assoc, arith, arrow, assign, assign_call, assignment_at, begins_call}
-use Rattle.sc_parse.proofs.Common.{begins_value, begins_with, bound, call, change_at, change_of, changed, compound}
-use Rattle.sc_parse.proofs.Common.{compound_of, cond_is, drop, expr_height, false, false≢true, index, is_place, is_some}
-use Rattle.sc_parse.proofs.Common.{joined, lead_by, literal, looser, lt-ltb, ltb-true, makes_value, mark_at, mark_by}
-use Rattle.sc_parse.proofs.Common.{max, member, none-some, operand_at, option_map_or, parenthesised, place_at}
-use Rattle.sc_parse.proofs.Common.{placed, prefix, prefix_of, prefixed, read, read_sound, refl, rules, same_some}
-use Rattle.sc_parse.proofs.Common.{simple_at, simple_kind_height, step_at, step_before, step_after, step_of, stepped}
-use Rattle.sc_parse.proofs.Common.{subst, sym, true, unary_place, unstepped, updates, assigned_at, variable, ℕ, ◌++◌}
-use Rattle.sc_parse.proofs.Common.{◌+◌, ◌-◌, ◌<◌, ◌>>=◌, ◌∙◌, ◌∷◌, ◌≡◌, ◌≤◌}
+use Rattle.sc_parse.proofs.Common.{append_assoc, arith, arrow, assign, assign_call, assigned_at, assignment_at}
+use Rattle.sc_parse.proofs.Common.{begins_call, begins_value, begins_with, bound, call, change_at, change_of, changed}
+use Rattle.sc_parse.proofs.Common.{compound, compound_of, cond_is, drop, expr_height, false, false≢true, index}
+use Rattle.sc_parse.proofs.Common.{is_place, is_some, joined, lead_by, literal, looser, lt-ltb, ltb-true, makes_value}
+use Rattle.sc_parse.proofs.Common.{mark_at, mark_by, max, member, none-some, operand_at, option_map_or, parenthesised}
+use Rattle.sc_parse.proofs.Common.{place_at, placed, prefix, prefix_of, prefixed, read, read_sound, refl, rules}
+use Rattle.sc_parse.proofs.Common.{same_some, simple_at, simple_kind_height, step_after, step_at, step_before, step_of}
+use Rattle.sc_parse.proofs.Common.{stepped, subst, sym, true, unary_place, unstepped, updates, variable, ℕ, ◌++◌, ◌+◌}
+use Rattle.sc_parse.proofs.Common.{◌-◌, ◌<◌, ◌>>=◌, ◌∙◌, ◌∷◌, ◌≡◌, ◌≤◌}
 use Rattle.sc_ast.specs.declared.expr.ExprTree.{the_lemmas}
 use Rattle.sc_ast.specs.declared.expr.ExprTree.TheVariants as expr
 use Rattle.sc_base.specs.declared.op.UnaryOp.{UnaryOp}

@@ -24,8 +24,8 @@ pub use Rattle.sc_ast.specs.declared.stmt.StmtTree.{StmtTree}
 pub use Rattle.sc_ast.specs.declared.types.BaseTree.{BaseTree}
 pub use Rattle.sc_ast.specs.declared.types.TypeName.{TypeName}
 pub use Rattle.sc_ast.specs.declared.types.TypeTree.{TypeTree}
-pub use Rattle.sc_parse_expr.specs.Prelude.{IsIdent, IsMark, Spells, following, is_mark, lexeme_of, most_open, name_at, name_by}
-pub use Rattle.sc_parse_expr.specs.Prelude.{read, ◌>>=◌}
+pub use Rattle.sc_parse_expr.specs.Prelude.{IsIdent, IsMark, Spells, following, is_mark, lexeme_of, most_open, name_at}
+pub use Rattle.sc_parse_expr.specs.Prelude.{name_by, read, ◌>>=◌}
 pub use Rattle.sc_parse_expr.specs.declared.lexeme.Lexeme.{Lexeme}
 pub use Rattle.sc_parse_expr.specs.declared.lexeme.Symbol.{Symbol}
 pub use Rattle.sc_parse_expr.specs.declared.mark.Keyword.{Keyword}

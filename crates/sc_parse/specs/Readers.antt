@@ -1,7 +1,7 @@
 -- Helping: reading types, lists and declarations from left to right.
 use Rattle.sc_parse.specs.Common.{BaseTree, ConstTree, Decl, Declarator, HeadTree, InitTree, Keyword, Lexeme}
-use Rattle.sc_parse.specs.Common.{MemberTree, Number, ParamTree, StructTree, TypeName, TypeTree, array_length, following}
-use Rattle.sc_parse.specs.Common.{name_at, non_empty, ◌>>=◌}
+use Rattle.sc_parse.specs.Common.{MemberTree, Number, ParamTree, StructTree, TypeName, TypeTree, array_length}
+use Rattle.sc_parse.specs.Common.{following, name_at, non_empty, ◌>>=◌}
 use Rattle.std.specs.Prelude.{ℕ, zero, suc, ◌+◌, Bool, true, false, ◌||◌, List, [], ◌∷◌, ◌++◌, length, drop, Option}
 use Rattle.std.specs.Prelude.{Some, None, is_some, if◌then◌else◌}
 use Rattle.std.specs.Option.{option_map_or}

@@ -1,6 +1,6 @@
 //! Expressions in statements, and calls.
 
-ghost use Rattle.sc_parse.specs.Prelude.{Agrees, all_separated, args_at, add_arg, args_in_parens, call_at};
+ghost use Rattle.sc_parse.specs.Prelude.{Agrees, add_arg, all_separated, args_at, args_in_parens, call_at};
 ghost use Rattle.sc_parse.specs.Prelude.{condition_at, expr_at};
 ghost use Rattle.std.specs.Prelude.{◌≡◌, ◌+◌, [], length};
 

@@ -1,13 +1,13 @@
 //! Locals and functions.
 
-ghost use Rattle.sc_parse.specs.Prelude.{Agrees, all_separated, past_head, body_at, declaration_at};
-ghost use Rattle.sc_parse.specs.Prelude.{function_at, grouped, headed_at, local_at, locals_at, add_local};
-ghost use Rattle.sc_parse.specs.Prelude.{named_head, no_base, value_at};
+ghost use Rattle.sc_parse.specs.Prelude.{Agrees, add_local, all_separated, body_at, declaration_at, function_at};
+ghost use Rattle.sc_parse.specs.Prelude.{grouped, headed_at, local_at, locals_at, named_head, no_base, past_head};
+ghost use Rattle.sc_parse.specs.Prelude.{value_at};
 ghost use Rattle.std.specs.Prelude.{◌≡◌, ◌+◌, [], length};
 
 use crate::calls::expr_at;
-use crate::lookahead::{first_line, is_base, keyword_at, skip, take};
 use crate::heads::head_at;
+use crate::lookahead::{first_line, is_base, keyword_at, skip, take};
 use crate::stmts::stmts_at;
 use crate::types::{Declarator, base_at, declarator_at};
 use sc_ast::{
@@ -160,11 +160,7 @@ fn body_at(
 }
 
 #[tactic(auto, unfolding(crate::specs::SectionReaders::function_at))]
-fn function_at(
-    alloc: Global,
-    head: &HeadTree,
-    rest: &mut &[Lexeme],
-) -> Result<Decl, SyntaxFault>
+fn function_at(alloc: Global, head: &HeadTree, rest: &mut &[Lexeme]) -> Result<Decl, SyntaxFault>
     ensures { Agrees (λ x. (x, rest.new.now)) result (function_at 1024 256 head.now rest.old.now) }
 {
     let named = named_head(alloc, head, rest)?;

@@ -1,7 +1,7 @@
 //! Globals and what they begin with.
 
-ghost use Rattle.sc_parse.specs.Prelude.{Agrees, adds, all_consts, all_separated, after_inner_comma, const_at};
-ghost use Rattle.sc_parse.specs.Prelude.{consts_at, declaration_at, global_at, add_global, init_at, initialiser_at};
+ghost use Rattle.sc_parse.specs.Prelude.{Agrees, add_global, adds, after_inner_comma, all_consts, all_separated};
+ghost use Rattle.sc_parse.specs.Prelude.{const_at, consts_at, declaration_at, global_at, init_at, initialiser_at};
 ghost use Rattle.sc_parse.specs.Prelude.{literal_at, one_at, past_comma, separated};
 ghost use Rattle.std.specs.Prelude.{◌≡◌, ◌≤◌, ◌+◌, [], length};
 

@@ -7,10 +7,10 @@
 mod brackets;
 mod calls;
 mod copy;
-mod lookahead;
 mod functions;
 mod globals;
 mod heads;
+mod lookahead;
 mod members;
 mod reading;
 mod says;

@@ -2,13 +2,15 @@
 //!
 //! A parser takes the lexemes that are left by `&mut`, and leaves those after what it read.
 
-ghost use Rattle.sc_parse.specs.Prelude.{Agrees, begins_call, begins_with, following, after_inner_comma, ended_by};
-ghost use Rattle.sc_parse.specs.Prelude.{first_line, integer_by, is_base, is_else, is_void, keyword_at, keyword_by};
+ghost use Rattle.sc_parse.specs.Prelude.{Agrees, after_inner_comma, begins_call, begins_with, ended_by, first_line};
+ghost use Rattle.sc_parse.specs.Prelude.{following, integer_by, is_base, is_else, is_void, keyword_at, keyword_by};
 ghost use Rattle.sc_parse.specs.Prelude.{name_at, past_int, star_count};
 ghost use Rattle.std.specs.Prelude.{◌≡◌, ◌≤◌, length, drop, IsSome, true, false, Some, None};
 
 use sc_ast::{Ident, Literal};
-use sc_parse_expr::{Keyword, Lexeme, Mark, Symbol, SyntaxFault, expect, is_mark, name_by, refused};
+use sc_parse_expr::{
+    Keyword, Lexeme, Mark, Symbol, SyntaxFault, expect, is_mark, name_by, refused,
+};
 
 /// Whether the lexemes begin with a mark.
 pub fn begins_with(mark: Mark, rest: &[Lexeme]) -> bool

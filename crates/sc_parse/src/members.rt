@@ -1,7 +1,7 @@
 //! Structs and their members.
 
-ghost use Rattle.sc_parse.specs.Prelude.{Agrees, adds, all_separated, begins_with, declaration_at, grouped, member_at};
-ghost use Rattle.sc_parse.specs.Prelude.{members_at, add_member, members_in_braces, struct_at};
+ghost use Rattle.sc_parse.specs.Prelude.{Agrees, add_member, adds, all_separated, begins_with, declaration_at, grouped};
+ghost use Rattle.sc_parse.specs.Prelude.{member_at, members_at, members_in_braces, struct_at};
 ghost use Rattle.std.specs.Prelude.{◌≡◌, ◌≤◌, ◌+◌, length};
 ghost use Rattle.sc_parse_expr.specs.declared.mark.Mark.TheVariants.{CloseCurly};
 

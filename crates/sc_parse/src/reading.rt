@@ -8,8 +8,8 @@ ghost use Rattle.sc_lex.specs.declared.refusal.Phase.TheVariants.{Syntax};
 use crate::brackets::first_excess;
 use crate::section::section_at;
 use sc_ast::SectionTree;
-use sc_parse_expr::{Lexeme, SyntaxFault, lexemes};
 use sc_lex::{Phase, Refusal, Section, TextFault, Token, slices_in_order};
+use sc_parse_expr::{Lexeme, SyntaxFault, lexemes};
 use std::alloc::Global;
 
 // The line in the whole text of a lexeme, the last where fewer stand there, of a section that begins in this line.

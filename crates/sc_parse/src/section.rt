@@ -7,10 +7,10 @@ ghost use Rattle.sc_parse.specs.Prelude.{names_struct, section_at, struct_decl_a
 ghost use Rattle.std.specs.Prelude.{◌≡◌, ◌≤◌, ◌+◌, ◌-◌, ℕ, List, [], length, drop, true, false, IsSome, IfOk};
 ghost use Rattle.sc_parse_expr.specs.declared.lexeme.Lexeme.{Lexeme};
 
-use crate::lookahead::{begins_with, keyword_at, past};
 use crate::functions::headed_at;
 use crate::globals::globals_at;
 use crate::heads::begins_head;
+use crate::lookahead::{begins_with, keyword_at, past};
 use crate::members::struct_at;
 use sc_ast::{Decl, Decls, ExportLine, ExportLines, ImportLine, ImportLines, SectionTree};
 use sc_base::Name;

@@ -1,9 +1,9 @@
 //! Assignments, `++` and `--`, and calls as statements.
 
-ghost use Rattle.sc_parse.specs.Prelude.{Agrees, always, assignment_at, begins_value, call_statement, change_at, change_of};
-ghost use Rattle.sc_parse.specs.Prelude.{changed, compound_of, makes_value, mark_at, mark_by, operand_at, part_at};
-ghost use Rattle.sc_parse.specs.Prelude.{place_at, simple_at, step_at, step_of, stepped, test_at, unstepped, updates};
-ghost use Rattle.sc_parse.specs.Prelude.{assigned_at};
+ghost use Rattle.sc_parse.specs.Prelude.{Agrees, always, assigned_at, assignment_at, begins_value, call_statement};
+ghost use Rattle.sc_parse.specs.Prelude.{change_at, change_of, changed, compound_of, makes_value, mark_at, mark_by};
+ghost use Rattle.sc_parse.specs.Prelude.{operand_at, part_at, place_at, simple_at, step_at, step_of, stepped, test_at};
+ghost use Rattle.sc_parse.specs.Prelude.{unstepped, updates};
 ghost use Rattle.std.specs.Prelude.{◌≡◌, ◌≤◌, ◌+◌, drop, length, IsSome, IfOk, Some};
 ghost use Rattle.sc_parse.specs.Statements.{one};
 ghost use Rattle.sc_parse.specs.StmtReaders.{step_before};
@@ -13,7 +13,9 @@ use crate::copy::copy_expr;
 use crate::lookahead::{begins_call, begins_with, first_line, past};
 use sc_ast::{ExprTree, Literal, PlaceTree, SimpleKind, SimpleTree};
 use sc_base::{BinaryOp, MAX_BRACKETS, UNARY};
-use sc_parse_expr::{Built, Lexeme, Mark, Symbol, SyntaxFault, parse_level, refused, refused_before};
+use sc_parse_expr::{
+    Built, Lexeme, Mark, Symbol, SyntaxFault, parse_level, refused, refused_before,
+};
 use sqlite_items::Boxed;
 use std::alloc::{AllocError, Global};
 

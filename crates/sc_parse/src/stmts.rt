@@ -1,9 +1,9 @@
 //! Statements and blocks.
 
-ghost use Rattle.sc_parse.specs.Prelude.{Agrees, adds, block_at, else_at, after_else, ended_at, first_part};
-ghost use Rattle.sc_parse.specs.Prelude.{after_for, for_head, after_if, is_else, keyword_at, kind_by, last_part};
+ghost use Rattle.sc_parse.specs.Prelude.{Agrees, adds, after_else, after_for, after_if, after_while, block_at, else_at};
+ghost use Rattle.sc_parse.specs.Prelude.{ended_at, first_part, for_head, is_else, keyword_at, kind_by, last_part};
 ghost use Rattle.sc_parse.specs.Prelude.{loop_of, middle_part, plain_at, returned, simple_or_none, stmt_at};
-ghost use Rattle.sc_parse.specs.Prelude.{stmt_within, stmts_at, value_returned, after_while};
+ghost use Rattle.sc_parse.specs.Prelude.{stmt_within, stmts_at, value_returned};
 ghost use Rattle.sc_ast.specs.Prelude.{kind_of};
 ghost use Rattle.std.specs.Prelude.{◌≡◌, ◌≤◌, ◌+◌, [], ◌∷◌, length, drop, true, false, IfOk};
 ghost use Rattle.sc_parse.specs.StmtReaders.{lone_if};

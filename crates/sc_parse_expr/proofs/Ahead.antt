@@ -1,10 +1,10 @@
 -- What an answer that is there came from, and what the lexemes begin with, where reading says so.
-use Rattle.sc_parse_expr.proofs.Common.{BinaryOp, Bool, Extension, IsIdent, IsMark, Lexeme, List, Mark, None, Option, Prefix}
-use Rattle.sc_parse_expr.proofs.Common.{Some, Symbol, [], ap, append_assoc, arith, following, binary_of, cases_lt, cond}
+use Rattle.sc_parse_expr.proofs.Common.{BinaryOp, Bool, Extension, IsIdent, IsMark, Lexeme, List, Mark, None, Option}
+use Rattle.sc_parse_expr.proofs.Common.{Prefix, Some, Symbol, [], ap, append_assoc, arith, binary_of, cases_lt, cond}
 use Rattle.sc_parse_expr.proofs.Common.{cond_some, extension_at, extension_by, extension_level, extension_of}
-use Rattle.sc_parse_expr.proofs.Common.{extension_within, false, is_mark, le-leb, lead_of, leb-true, level_of, name_at}
-use Rattle.sc_parse_expr.proofs.Common.{name_by, none-some, prefix_of, refl, rules, subst, sym, true, within, ℕ, ⊎_elim, ◌++◌}
-use Rattle.sc_parse_expr.proofs.Common.{◌<◌, ◌>>=◌, ◌∙◌, ◌∷◌, ◌≡◌, ◌≤◌}
+use Rattle.sc_parse_expr.proofs.Common.{extension_within, false, following, is_mark, le-leb, lead_of, leb-true}
+use Rattle.sc_parse_expr.proofs.Common.{level_of, name_at, name_by, none-some, prefix_of, refl, rules, subst, sym, true}
+use Rattle.sc_parse_expr.proofs.Common.{within, ℕ, ⊎_elim, ◌++◌, ◌<◌, ◌>>=◌, ◌∙◌, ◌∷◌, ◌≡◌, ◌≤◌}
 use Rattle.sc_base.specs.declared.op.BinaryOp.TheVariants as binary
 use Rattle.sc_parse_expr.specs.contracts.mark.Mark.{the_type}
 use denote.Enum.Bare.{same_true}

@@ -1,7 +1,8 @@
 -- Brackets along lexemes that spell an expression: after them as many are open as before.
-use Rattle.sc_parse_expr.proofs.Common.{BinaryOp, ExprTree, Lexeme, List, Mark, Prefix, Some, Spells, Symbol, [], ap, arith}
-use Rattle.sc_parse_expr.proofs.Common.{arrow, binary_of, index, joined, literal, looser, max, member, most_open, open_after}
-use Rattle.sc_parse_expr.proofs.Common.{parenthesised, prefix_of, refl, variable, «prefix», ℕ, ◌++◌, ◌+◌, ◌-◌, ◌∷◌, ◌≡◌, ◌≤◌}
+use Rattle.sc_parse_expr.proofs.Common.{BinaryOp, ExprTree, Lexeme, List, Mark, Prefix, Some, Spells, Symbol, [], ap}
+use Rattle.sc_parse_expr.proofs.Common.{arith, arrow, binary_of, index, joined, literal, looser, max, member, most_open}
+use Rattle.sc_parse_expr.proofs.Common.{open_after, parenthesised, prefix_of, refl, variable, «prefix», ℕ, ◌++◌, ◌+◌}
+use Rattle.sc_parse_expr.proofs.Common.{◌-◌, ◌∷◌, ◌≡◌, ◌≤◌}
 use Rattle.sc_parse_expr.specs.declared.mark.Mark.TheVariants as mark
 use Rattle.sc_parse_expr.specs.declared.lexeme.Symbol.TheVariants as symbol
 

@@ -7,12 +7,13 @@ pub use Rattle.std.proofs.lemmas.Option.{cond_some, none-some}
 pub use Rattle.sc_base.specs.Prelude.{level_of, loosest_level, unary_level}
 pub use Rattle.sc_ast.specs.Prelude.{Number, expr_height}
 pub use Rattle.sc_parse_expr.specs.Common.{BinaryOp, ExprTree}
-pub use Rattle.sc_parse_expr.specs.Prelude.{Agrees, Fails, Found, IsParse, IsIdent, IsMark, OutOfMemory, Reader, Refused}
-pub use Rattle.sc_parse_expr.specs.Prelude.{Spells, arrow, following, binary_of, extension_at, extension_by, extension_level}
-pub use Rattle.sc_parse_expr.specs.Prelude.{extension_of, extension_within, found, index, is_mark, joined, joined_with}
-pub use Rattle.sc_parse_expr.specs.Prelude.{lead_by, lead_of, lead_with, leaf_of, level_with, lexeme_of, literal, looser}
-pub use Rattle.sc_parse_expr.specs.Prelude.{member, most_open, name_at, name_by, open_after, parenthesised, prefix_of}
-pub use Rattle.sc_parse_expr.specs.Prelude.{prefixed, read_expr, read_nested, turn_with, variable, within, «prefix», ◌>>=◌}
+pub use Rattle.sc_parse_expr.specs.Prelude.{Agrees, Fails, Found, IsIdent, IsMark, IsParse, OutOfMemory, Reader}
+pub use Rattle.sc_parse_expr.specs.Prelude.{Refused, Spells, arrow, binary_of, extension_at, extension_by}
+pub use Rattle.sc_parse_expr.specs.Prelude.{extension_level, extension_of, extension_within, following, found, index}
+pub use Rattle.sc_parse_expr.specs.Prelude.{is_mark, joined, joined_with, lead_by, lead_of, lead_with, leaf_of}
+pub use Rattle.sc_parse_expr.specs.Prelude.{level_with, lexeme_of, literal, looser, member, most_open, name_at, name_by}
+pub use Rattle.sc_parse_expr.specs.Prelude.{open_after, parenthesised, prefix_of, prefixed, read_expr, read_nested}
+pub use Rattle.sc_parse_expr.specs.Prelude.{turn_with, variable, within, «prefix», ◌>>=◌}
 unfoldable pub use Rattle.sc_parse_expr.specs.Prelude.{extended_with, go_on, operand_with, read, read_within}
 pub use Rattle.sc_parse_expr.specs.declared.fault.SyntaxFault.{SyntaxFault}
 pub use Rattle.sc_parse_expr.specs.declared.lexeme.Lexeme.{Lexeme}

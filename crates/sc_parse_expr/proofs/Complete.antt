@@ -1,11 +1,11 @@
 -- What is spelled within the limits is read.
-use Rattle.sc_parse_expr.proofs.Common.{ExprTree, Extension, IsMark, Lexeme, List, Mark, None, Option, Prefix, Some, Spells}
-use Rattle.sc_parse_expr.proofs.Common.{[], ap, append_assoc, arith, arrow, cond, expr_height, extended_with, extension_by}
-use Rattle.sc_parse_expr.proofs.Common.{extension_level, extension_of, extension_within, found, go_on, index, joined}
-use Rattle.sc_parse_expr.proofs.Common.{joined_with, le-leb, lead_by, level_of, literal, looser, lt-leb, member, most_open}
-use Rattle.sc_parse_expr.proofs.Common.{none-some, operand_with, parenthesised, prefix_of, read, read_nested, refl, subst}
-use Rattle.sc_parse_expr.proofs.Common.{suc, sym, variable, within, zero, «prefix», ℕ, ◌++◌, ◌+◌, ◌-◌, ◌<◌, ◌∙◌, ◌∷◌, ◌≡◌}
-use Rattle.sc_parse_expr.proofs.Common.{◌≤◌}
+use Rattle.sc_parse_expr.proofs.Common.{ExprTree, Extension, IsMark, Lexeme, List, Mark, None, Option, Prefix, Some}
+use Rattle.sc_parse_expr.proofs.Common.{Spells, [], ap, append_assoc, arith, arrow, cond, expr_height, extended_with}
+use Rattle.sc_parse_expr.proofs.Common.{extension_by, extension_level, extension_of, extension_within, found, go_on}
+use Rattle.sc_parse_expr.proofs.Common.{index, joined, joined_with, le-leb, lead_by, level_of, literal, looser, lt-leb}
+use Rattle.sc_parse_expr.proofs.Common.{member, most_open, none-some, operand_with, parenthesised, prefix_of, read}
+use Rattle.sc_parse_expr.proofs.Common.{read_nested, refl, subst, suc, sym, variable, within, zero, «prefix», ℕ, ◌++◌}
+use Rattle.sc_parse_expr.proofs.Common.{◌+◌, ◌-◌, ◌<◌, ◌∙◌, ◌∷◌, ◌≡◌, ◌≤◌}
 use Rattle.std.specs.Option.{option_map}
 use Rattle.sc_parse_expr.specs.declared.mark.Mark.TheVariants as mark
 use Rattle.sc_parse_expr.specs.declared.lexeme.Symbol.TheVariants as symbol

@@ -1,7 +1,7 @@
 -- The height of each form of expression.
-use Rattle.sc_parse_expr.proofs.Common.{BinaryOp, ExprTree, Lexeme, List, Number, Prefix, Spells, arith, arrow, expr_height}
-use Rattle.sc_parse_expr.proofs.Common.{index, joined, literal, looser, max, member, parenthesised, prefixed, rules, variable}
-use Rattle.sc_parse_expr.proofs.Common.{«prefix», ℕ, ◌+◌, ◌≡◌, ◌≤◌}
+use Rattle.sc_parse_expr.proofs.Common.{BinaryOp, ExprTree, Lexeme, List, Number, Prefix, Spells, arith, arrow}
+use Rattle.sc_parse_expr.proofs.Common.{expr_height, index, joined, literal, looser, max, member, parenthesised}
+use Rattle.sc_parse_expr.proofs.Common.{prefixed, rules, variable, «prefix», ℕ, ◌+◌, ◌≡◌, ◌≤◌}
 use Rattle.sc_ast.specs.declared.expr.ExprTree.{the_lemmas}
 use Rattle.sc_ast.specs.declared.expr.ExprTree.TheVariants as expr
 use Rattle.sc_parse_expr.specs.declared.operator.Prefix.TheVariants as prefix

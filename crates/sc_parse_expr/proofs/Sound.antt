@@ -1,22 +1,24 @@
 -- What is read is spelled so, and within the limits.
-use Rattle.sc_parse_expr.proofs.Common.{ExprTree, Extension, Found, IsMark, Lexeme, List, Mark, None, Option, Prefix, Reader}
-use Rattle.sc_parse_expr.proofs.Common.{Some, Spells, Symbol, [], ap, arith, arrow, following, cases_lt, expr_height}
-use Rattle.sc_parse_expr.proofs.Common.{extended_with, extension_at, extension_by, extension_level, extension_within, found}
-use Rattle.sc_parse_expr.proofs.Common.{go_on, index, joined, joined_with, lead_of, lead_with, leaf_of, leb, leb-true}
-use Rattle.sc_parse_expr.proofs.Common.{level_of, level_with, literal, looser, member, most_open, name_at, none-some}
-use Rattle.sc_parse_expr.proofs.Common.{operand_with, parenthesised, read, read_within, refl, subst, suc, sym, true}
-use Rattle.sc_parse_expr.proofs.Common.{turn_with, variable, zero, «prefix», ℕ, ⊎_elim, ◌++◌, ◌+◌, ◌-◌, ◌<◌, ◌>>=◌, ◌∙◌, ◌∷◌}
-use Rattle.sc_parse_expr.proofs.Common.{◌≡◌, ◌≤◌}
+use Rattle.sc_parse_expr.proofs.Common.{ExprTree, Extension, Found, IsMark, Lexeme, List, Mark, None, Option, Prefix}
+use Rattle.sc_parse_expr.proofs.Common.{Reader, Some, Spells, Symbol, [], ap, arith, arrow, cases_lt, expr_height}
+use Rattle.sc_parse_expr.proofs.Common.{extended_with, extension_at, extension_by, extension_level, extension_within}
+use Rattle.sc_parse_expr.proofs.Common.{following, found, go_on, index, joined, joined_with, lead_of, lead_with}
+use Rattle.sc_parse_expr.proofs.Common.{leaf_of, leb, leb-true, level_of, level_with, literal, looser, member}
+use Rattle.sc_parse_expr.proofs.Common.{most_open, name_at, none-some, operand_with, parenthesised, read, read_within}
+use Rattle.sc_parse_expr.proofs.Common.{refl, subst, suc, sym, true, turn_with, variable, zero, «prefix», ℕ, ⊎_elim}
+use Rattle.sc_parse_expr.proofs.Common.{◌++◌, ◌+◌, ◌-◌, ◌<◌, ◌>>=◌, ◌∙◌, ◌∷◌, ◌≡◌, ◌≤◌}
 use Rattle.sc_parse_expr.specs.declared.parser.Lead.{Lead}
 use Rattle.sc_parse_expr.specs.declared.mark.Mark.TheVariants as mark
 use Rattle.sc_parse_expr.specs.declared.operator.Extension.TheVariants as extension
 use Rattle.sc_parse_expr.specs.declared.lexeme.Symbol.TheVariants as symbol
 use Rattle.sc_parse_expr.specs.declared.parser.Lead.TheVariants as lead
-use Rattle.sc_parse_expr.proofs.Ahead.{same_some, bound, cond_is, glued, operator_low, operator_mark, extension_mark, Ahead}
-use Rattle.sc_parse_expr.proofs.Ahead.{ahead, Onward, nothing_within, first_mark, name_ahead, paren_lead, prefix_lead}
+use Rattle.sc_parse_expr.proofs.Ahead.{same_some, bound, cond_is, glued, operator_low, operator_mark, extension_mark}
+use Rattle.sc_parse_expr.proofs.Ahead.{Ahead, ahead, Onward, nothing_within, first_mark, name_ahead, paren_lead}
+use Rattle.sc_parse_expr.proofs.Ahead.{prefix_lead}
 use Rattle.sc_parse_expr.proofs.Heights.{literal_height, variable_height, prefixed_height, joined_height, index_height}
 use Rattle.sc_parse_expr.proofs.Heights.{member_height, arrow_height}
-use Rattle.sc_parse_expr.proofs.Balance.{IsPlain, says, plain_binary, plain_prefix, most_after, most_bracketed, most_plain}
+use Rattle.sc_parse_expr.proofs.Balance.{IsPlain, says, plain_binary, plain_prefix, most_after, most_bracketed}
+use Rattle.sc_parse_expr.proofs.Balance.{most_plain}
 
 -- The lexemes begin with an expression: it is spelled at this level within the limits, and an extension after it is of
 -- level `least` or a looser one.

@@ -1,7 +1,8 @@
 -- What reading is at a level of height, at a bracket, and at a turn.
-use Rattle.sc_parse_expr.proofs.Common.{Extension, Fails, Found, Lexeme, List, None, Option, OutOfMemory, Reader, Refused}
-use Rattle.sc_parse_expr.proofs.Common.{Some, SyntaxFault, ap, arith, extended_with, extension_within, go_on, level_with}
-use Rattle.sc_parse_expr.proofs.Common.{operand_with, read, read_nested, read_within, refl, suc, zero, ℕ, ◌+◌, ◌<◌, ◌≡◌}
+use Rattle.sc_parse_expr.proofs.Common.{Extension, Fails, Found, Lexeme, List, None, Option, OutOfMemory, Reader}
+use Rattle.sc_parse_expr.proofs.Common.{Refused, Some, SyntaxFault, ap, arith, extended_with, extension_within, go_on}
+use Rattle.sc_parse_expr.proofs.Common.{level_with, operand_with, read, read_nested, read_within, refl, suc, zero, ℕ}
+use Rattle.sc_parse_expr.proofs.Common.{◌+◌, ◌<◌, ◌≡◌}
 
 pub read_at : (free room below level : ℕ) (ts : List Lexeme) → room ≡ below + 1 →
     read free room level ts ≡ level_with (read_nested free) (read free below) below level ts

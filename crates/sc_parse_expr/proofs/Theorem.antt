@@ -1,7 +1,8 @@
 -- Reading gives exactly the prefixes within the limits, and lexemes spell one expression at most.
-use Rattle.sc_parse_expr.proofs.Common.{Agrees, Bor, Err, ExprTree, Found, IfOk, IsErrOf, IsParse, Lexeme, List, Ok, Refused}
-use Rattle.sc_parse_expr.proofs.Common.{Result, Some, Spells, SyntaxFault, [], ap, arith, expr_height, found, max, most_open}
-use Rattle.sc_parse_expr.proofs.Common.{none-some, read, read_expr, subst, sym, ℕ, ◌-◌, ◌<◌, ◌∙◌, ◌≡◌, ◌≤◌}
+use Rattle.sc_parse_expr.proofs.Common.{Agrees, Bor, Err, ExprTree, Found, IfOk, IsErrOf, IsParse, Lexeme, List, Ok}
+use Rattle.sc_parse_expr.proofs.Common.{Refused, Result, Some, Spells, SyntaxFault, [], ap, arith, expr_height, found}
+use Rattle.sc_parse_expr.proofs.Common.{max, most_open, none-some, read, read_expr, subst, sym, ℕ, ◌-◌, ◌<◌, ◌∙◌, ◌≡◌}
+use Rattle.sc_parse_expr.proofs.Common.{◌≤◌}
 use Rattle.sc_parse_expr.specs.declared.parser.Built.{Built}
 use Rattle.sc_parse_expr.proofs.Ahead.{same_some}
 use Rattle.sc_parse_expr.proofs.Balance.{open_low}

@@ -1,9 +1,9 @@
 //! Reading an expression: an operand, then in one loop all that extends it.
 
-ghost use Rattle.sc_parse_expr.specs.Prelude.{Agrees, IsParse, Spells, extended_with, extension_by, extension_within, found};
-ghost use Rattle.sc_parse_expr.specs.Prelude.{joined_with, lead_by, lead_of, leaf_at, leaf_of, loosest_level, named_with};
-ghost use Rattle.sc_parse_expr.specs.Prelude.{operand_with, paren_with, prefix_with, read, read_expr, read_nested};
-ghost use Rattle.sc_parse_expr.specs.Prelude.{unary_level};
+ghost use Rattle.sc_parse_expr.specs.Prelude.{Agrees, IsParse, Spells, extended_with, extension_by, extension_within};
+ghost use Rattle.sc_parse_expr.specs.Prelude.{found, joined_with, lead_by, lead_of, leaf_at, leaf_of, loosest_level};
+ghost use Rattle.sc_parse_expr.specs.Prelude.{named_with, operand_with, paren_with, prefix_with, read, read_expr};
+ghost use Rattle.sc_parse_expr.specs.Prelude.{read_nested, unary_level};
 ghost use Rattle.sc_ast.specs.Prelude.{expr_height};
 ghost use Rattle.std.specs.Prelude.{◌≡◌, ℕ, ◌<◌, ◌≤◌, ◌+◌, ◌-◌, ◌^◌, List, IfOk, IsErrOf, Some};
 ghost use Rattle.std.specs.Option.{option_map};

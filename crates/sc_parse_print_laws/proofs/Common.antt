@@ -31,8 +31,8 @@ pub use Rattle.sc_lex.specs.declared.token.TokenKind.{TokenKind}
 pub use Rattle.sc_ast.proofs.Induction.{Each, Inside, Under, everywhere, expr_induction, stmt_induction}
 pub use Rattle.sc_ast.proofs.Layers.{expr_at, stmt_at}
 pub use Rattle.sc_ast.proofs.Statements.{bare_stmt, for_height, if_height, tree_height, while_height}
-pub use Rattle.sc_ast.specs.Prelude.{Layout, Number, Piece, Printed, SameButLines, apart, array_length, base_words}
-pub use Rattle.sc_ast.specs.Prelude.{after_else, binary_text, binary_words, blank, blank_if, block_words, call_words}
+pub use Rattle.sc_ast.specs.Prelude.{Layout, Number, Piece, Printed, SameButLines, after_else, apart, array_length}
+pub use Rattle.sc_ast.specs.Prelude.{base_words, binary_text, binary_words, blank, blank_if, block_words, call_words}
 pub use Rattle.sc_ast.specs.Prelude.{chain_words, comma, condition_words, const_words, decl_height, decl_words}
 pub use Rattle.sc_ast.specs.Prelude.{declared_words, decls_height, deeper, else_words, ended, equals, expr_height}
 pub use Rattle.sc_ast.specs.Prelude.{expr_step, expr_words, first_words, fits, for_words, function_words, global_words}
@@ -76,13 +76,15 @@ pub use Rattle.sc_parse.specs.Prelude.{SpellsDeclarator, SpellsDirectives, Spell
 pub use Rattle.sc_parse.specs.Prelude.{SpellsParam, SpellsParams, SpellsPart, SpellsPlace, SpellsResult, SpellsSection}
 pub use Rattle.sc_parse.specs.Prelude.{SpellsStars, SpellsStmtKind, SpellsStmts, SpellsTypeName, SpellsValue}
 pub use Rattle.sc_parse.specs.Prelude.{first_line, more, no_args, one, some_args, type_name}
-pub use Rattle.sc_parse_print_laws.specs.Common.{Decl, ExprTree, ExprTree-F, Lexeme, SectionTree, StmtTree, Symbol, Token}
-pub use Rattle.sc_parse_print_laws.specs.Prelude.{DeclsReadAs, DeclsSpell, ReadsAs, SaysAll, SectionReadsAs, SectionSpells}
-pub use Rattle.sc_parse_print_laws.specs.Prelude.{StmtsReadAs, StmtsSpell, WordsSpell, all_kept, are_kept, decls_text, dense_decl}
-pub use Rattle.sc_parse_print_laws.specs.Prelude.{dense_text, dense_words, expr_text, is_kept, is_kept_decl, is_kept_stmt}
-pub use Rattle.sc_parse_print_laws.specs.Prelude.{kept_base, kept_call, kept_const, kept_export, kept_function, kept_global}
-pub use Rattle.sc_parse_print_laws.specs.Prelude.{kept_head, kept_import, kept_init, kept_kind, kept_length, kept_local}
-pub use Rattle.sc_parse_print_laws.specs.Prelude.{kept_member, kept_name, kept_option, kept_param, kept_place, kept_result}
-pub use Rattle.sc_parse_print_laws.specs.Prelude.{kept_section, kept_simple, kept_step, kept_struct, kept_type, kept_value}
-pub use Rattle.sc_parse_print_laws.specs.Prelude.{some_kept, stmts_text, symbols}
+pub use Rattle.sc_parse_print_laws.specs.Common.{Decl, ExprTree, ExprTree-F, Lexeme, SectionTree, StmtTree, Symbol}
+pub use Rattle.sc_parse_print_laws.specs.Common.{Token}
+pub use Rattle.sc_parse_print_laws.specs.Prelude.{DeclsReadAs, DeclsSpell, ReadsAs, SaysAll, SectionReadsAs}
+pub use Rattle.sc_parse_print_laws.specs.Prelude.{SectionSpells, StmtsReadAs, StmtsSpell, WordsSpell, all_kept}
+pub use Rattle.sc_parse_print_laws.specs.Prelude.{are_kept, decls_text, dense_decl, dense_text, dense_words, expr_text}
+pub use Rattle.sc_parse_print_laws.specs.Prelude.{is_kept, is_kept_decl, is_kept_stmt, kept_base, kept_call, kept_const}
+pub use Rattle.sc_parse_print_laws.specs.Prelude.{kept_export, kept_function, kept_global, kept_head, kept_import}
+pub use Rattle.sc_parse_print_laws.specs.Prelude.{kept_init, kept_kind, kept_length, kept_local, kept_member, kept_name}
+pub use Rattle.sc_parse_print_laws.specs.Prelude.{kept_option, kept_param, kept_place, kept_result, kept_section}
+pub use Rattle.sc_parse_print_laws.specs.Prelude.{kept_simple, kept_step, kept_struct, kept_type, kept_value, some_kept}
+pub use Rattle.sc_parse_print_laws.specs.Prelude.{stmts_text, symbols}
 unfoldable pub use Rattle.sc_parse_print_laws.specs.Prelude.{word_symbol}

@@ -1,11 +1,13 @@
 -- What directive lines and compartment lines say, by their words.
-use Rattle.sc_parse_print_laws.proofs.Common.{Bool, List, Some, Symbol, TokenKind, [], and_from, and_parts, ap, append_assoc}
-use Rattle.sc_parse_print_laws.proofs.Common.{arith, begins_heading, codes, drop, false, false_from_ne_true, false≢true, filter}
-use Rattle.sc_parse_print_laws.proofs.Common.{get_or, heading_name, is_blank, is_empty, is_inside_line, is_name, is_name_byte}
-use Rattle.sc_parse_print_laws.proofs.Common.{is_nondigit, is_some, kind_of, kind_of-directive, length, line_kind, list_all}
-use Rattle.sc_parse_print_laws.proofs.Common.{list_all-append, name_of, ne_eqb, not, not-true, only_name, option_and_then, or_left}
-use Rattle.sc_parse_print_laws.proofs.Common.{or_unused, refl, says, slice_eq-Decides, slice_index, slice_split, suc, sym, take}
-use Rattle.sc_parse_print_laws.proofs.Common.{take-append_seam, true, word_symbol, words, zero, ℕ, ◌++◌, ◌<◌, ◌==◌, ◌∙◌, ◌∷◌, ◌≡◌}
+use Rattle.sc_parse_print_laws.proofs.Common.{Bool, List, Some, Symbol, TokenKind, [], and_from, and_parts, ap}
+use Rattle.sc_parse_print_laws.proofs.Common.{append_assoc, arith, begins_heading, codes, drop, false}
+use Rattle.sc_parse_print_laws.proofs.Common.{false_from_ne_true, false≢true, filter, get_or, heading_name, is_blank}
+use Rattle.sc_parse_print_laws.proofs.Common.{is_empty, is_inside_line, is_name, is_name_byte, is_nondigit, is_some}
+use Rattle.sc_parse_print_laws.proofs.Common.{kind_of, kind_of-directive, length, line_kind, list_all, list_all-append}
+use Rattle.sc_parse_print_laws.proofs.Common.{name_of, ne_eqb, not, not-true, only_name, option_and_then, or_left}
+use Rattle.sc_parse_print_laws.proofs.Common.{or_unused, refl, says, slice_eq-Decides, slice_index, slice_split, suc}
+use Rattle.sc_parse_print_laws.proofs.Common.{sym, take, take-append_seam, true, word_symbol, words, zero, ℕ, ◌++◌, ◌<◌}
+use Rattle.sc_parse_print_laws.proofs.Common.{◌==◌, ◌∙◌, ◌∷◌, ◌≡◌}
 use Rattle.std.proofs.lemmas.Bool.Decides.{Decides-eqb}
 use Rattle.std.proofs.lemmas.List.Splits.{slice_split_at, slice_split_none}
 use Rattle.sc_base.proofs.Lists.{list_all_along}

@@ -1,11 +1,12 @@
 -- The height of a tree doesn't depend on its lines.
-use Rattle.sc_parse_print_laws.proofs.Common.{Decl, Each, Inside, List, LocalTree, None, Option, SameButLines, SectionTree}
-use Rattle.sc_parse_print_laws.proofs.Common.{SimpleTree, Some, StmtKind, StmtKind-F, StmtTree, [], ap, ap₂, bare_stmt}
-use Rattle.sc_parse_print_laws.proofs.Common.{decl_height, decls_height, everywhere, expr_height, for_height, if_height}
-use Rattle.sc_parse_print_laws.proofs.Common.{kind_height, lineless_decl, lineless_kind, lineless_local, lineless_option}
-use Rattle.sc_parse_print_laws.proofs.Common.{lineless_stmt, lineless_stmts, local_height, locals_height, map, max, option_height}
-use Rattle.sc_parse_print_laws.proofs.Common.{refl, roll-StmtKind, rules, section_height, stmt_height, stmt_induction}
-use Rattle.sc_parse_print_laws.proofs.Common.{stmts_height, sym, tree_height, while_height, ◌+◌, ◌∙◌, ◌∷◌, ◌≡◌}
+use Rattle.sc_parse_print_laws.proofs.Common.{Decl, Each, Inside, List, LocalTree, None, Option, SameButLines}
+use Rattle.sc_parse_print_laws.proofs.Common.{SectionTree, SimpleTree, Some, StmtKind, StmtKind-F, StmtTree, [], ap}
+use Rattle.sc_parse_print_laws.proofs.Common.{ap₂, bare_stmt, decl_height, decls_height, everywhere, expr_height}
+use Rattle.sc_parse_print_laws.proofs.Common.{for_height, if_height, kind_height, lineless_decl, lineless_kind}
+use Rattle.sc_parse_print_laws.proofs.Common.{lineless_local, lineless_option, lineless_stmt, lineless_stmts}
+use Rattle.sc_parse_print_laws.proofs.Common.{local_height, locals_height, map, max, option_height, refl, roll-StmtKind}
+use Rattle.sc_parse_print_laws.proofs.Common.{rules, section_height, stmt_height, stmt_induction, stmts_height, sym}
+use Rattle.sc_parse_print_laws.proofs.Common.{tree_height, while_height, ◌+◌, ◌∙◌, ◌∷◌, ◌≡◌}
 use Rattle.sc_ast.specs.declared.stmt.StmtTree as trees
 use Rattle.sc_ast.specs.declared.stmt.StmtKind as kinds
 use Rattle.sc_ast.specs.declared.stmt.StmtKind.TheOpen as layer

@@ -1,12 +1,13 @@
 -- Pieces that stand apart, and lines that are directives, are cut into their words.
 use Rattle.sc_parse_print_laws.proofs.Common.{Cuts, IsToken, IsTrue, List, Piece, Some, Symbol, Token, TokenKind, []}
-use Rattle.sc_parse_print_laws.proofs.Common.{allows_directive, and_from, ap, append-nil, append_assoc, ap₂, arith, begins_heading}
-use Rattle.sc_parse_print_laws.proofs.Common.{begins_line, directive_found, drop, drop-append_seam, eq-eqb, gap}
-use Rattle.sc_parse_print_laws.proofs.Common.{get_or-append_seam, is_white_space, kind_of, length, length-append, line_kind, map}
-use Rattle.sc_parse_print_laws.proofs.Common.{newline, nothing, option_and_then, or_right, or_unused, refl, replicate, says}
-use Rattle.sc_parse_print_laws.proofs.Common.{slice_index, slice_range, subst, suc, sym, symbol_of, symbols, take}
-use Rattle.sc_parse_print_laws.proofs.Common.{take-append_seam, text_of, token, token_at, true, white_space, word, word_symbol}
-use Rattle.sc_parse_print_laws.proofs.Common.{zero, ℕ, ◌*◌, ◌++◌, ◌+◌, ◌-◌, ◌<◌, ◌==◌, ◌∙◌, ◌∷◌, ◌≡◌}
+use Rattle.sc_parse_print_laws.proofs.Common.{allows_directive, and_from, ap, append-nil, append_assoc, ap₂, arith}
+use Rattle.sc_parse_print_laws.proofs.Common.{begins_heading, begins_line, directive_found, drop, drop-append_seam}
+use Rattle.sc_parse_print_laws.proofs.Common.{eq-eqb, gap, get_or-append_seam, is_white_space, kind_of, length}
+use Rattle.sc_parse_print_laws.proofs.Common.{length-append, line_kind, map, newline, nothing, option_and_then}
+use Rattle.sc_parse_print_laws.proofs.Common.{or_right, or_unused, refl, replicate, says, slice_index, slice_range}
+use Rattle.sc_parse_print_laws.proofs.Common.{subst, suc, sym, symbol_of, symbols, take, take-append_seam, text_of}
+use Rattle.sc_parse_print_laws.proofs.Common.{token, token_at, true, white_space, word, word_symbol, zero, ℕ, ◌*◌, ◌++◌}
+use Rattle.sc_parse_print_laws.proofs.Common.{◌+◌, ◌-◌, ◌<◌, ◌==◌, ◌∙◌, ◌∷◌, ◌≡◌}
 use Rattle.sc_parse_print_laws.proofs.Spacing as spacing
 use Rattle.sc_parse_print_laws.proofs.Spacing.{Tidy, run_is}
 use Rattle.sc_parse_print_laws.proofs.DirectiveWords.{IsLine, kind_of_line}
@@ -28,7 +29,8 @@ module _ (bytes : List ℕ) where
       ap (drop (length leading)) whole ∙ drop-append_seam leading (text ++ rest) in
       let back = take-append_seam text rest in
       let long : length leading + length text - length leading ≡ length text = omega arith in
-      let slice : slice_range bytes (length leading) (length leading + length text) ≡ text = rw (following, long) back in
+      let slice : slice_range bytes (length leading) (length leading + length text) ≡ text =
+      rw (following, long) back in
       let kind_is : kind_of text ≡ Some kind = sym (ap kind_of back) ∙ spelled in
       ap (λ x. or_unused (says kind x)) slice ∙ ap (λ k. or_unused (option_and_then (λ j. says j text) k)) (sym kind_is)
 
@@ -36,7 +38,8 @@ module _ (bytes : List ℕ) where
   pub skipped : (byte : ℕ) → is_white_space byte ≡ true → (leading : List ℕ) (ss : List Symbol) (rest : List ℕ) →
       bytes ≡ leading ++ byte ∷ rest → Found bytes (length (leading ++ byte ∷ [])) ss → Found bytes (length leading) ss
   skipped byte white leading ss rest whole on =
-      let following : drop (length leading) bytes ≡ byte ∷ rest = ap (drop _) whole ∙ drop-append_seam leading (byte ∷ rest) in
+      let following : drop (length leading) bytes ≡ byte ∷ rest = ap (drop _) whole ∙
+      drop-append_seam leading (byte ∷ rest) in
       let long = length-append leading (byte ∷ []) in
       let is : IsTrue (is_white_space (slice_index (drop (length leading) bytes) 0)) = rw following white in
       record {
@@ -100,7 +103,8 @@ line_token text rest l =
 
 module _ (bytes : List ℕ) (heading : begins_heading bytes ≡ true) where
   -- a line begins after a newline
-  next_line : (leading rest : List ℕ) → bytes ≡ leading ++ 10 ∷ rest → begins_line bytes (length (leading ++ 10 ∷ [])) ≡ true
+  next_line : (leading rest : List ℕ) → bytes ≡ leading ++ 10 ∷ rest →
+      begins_line bytes (length (leading ++ 10 ∷ [])) ≡ true
   next_line leading rest whole =
       let long = length-append leading (10 ∷ []) in
       let before : length (leading ++ 10 ∷ []) - 1 ≡ length leading = omega (arith, long) in
@@ -109,7 +113,8 @@ module _ (bytes : List ℕ) (heading : begins_heading bytes ≡ true) where
       or_right (length (leading ++ 10 ∷ []) == 0) (slice_index bytes (length (leading ++ 10 ∷ []) - 1) == 10)
       (eq-eqb (slice_index bytes _) 10 byte)
 
-  pub found_lines : {pieces : List Piece} → Lined pieces → (leading : List ℕ) → begins_line bytes (length leading) ≡ true →
+  pub found_lines : {pieces : List Piece} → Lined pieces → (leading : List ℕ) →
+      begins_line bytes (length leading) ≡ true →
       bytes ≡ leading ++ text_of pieces → Found bytes (length leading) (symbols pieces)
   found_lines (tidy t) leading begins whole = found_from bytes t refl leading whole
   found_lines (line {text = text} {pieces = pieces} l more) leading begins whole =

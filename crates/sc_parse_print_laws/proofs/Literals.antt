@@ -1,14 +1,16 @@
 -- What names and integer constants say.
-use Rattle.sc_parse_print_laws.proofs.Common.{Bool, IsTrue, List, Number, Option, Some, [], and_parts, ap, append-nil, arith}
-use Rattle.sc_parse_print_laws.proofs.Common.{base_of, bytes_eq, bytes_eq-Decides, codes, digit_value, digits_of, false}
-use Rattle.sc_parse_print_laws.proofs.Common.{false_from_ne_true, false≢true, fits, get_or-append_seam, greatest_of, has_suffix}
-use Rattle.sc_parse_print_laws.proofs.Common.{if◌then◌else◌, integer_of, is_between, is_digit, is_empty, is_hexadecimal, is_ident}
-use Rattle.sc_parse_print_laws.proofs.Common.{is_integer, is_name, is_name_byte, is_nondigit, is_number, is_reserved, kind_of}
-use Rattle.sc_parse_print_laws.proofs.Common.{le-leb, le-ltb, leb-true, length, length-append, list_all, list_all-append, list_any}
-use Rattle.sc_parse_print_laws.proofs.Common.{literal_text, lt-ltb, nat_le, nat_lt, ne_eqb, not, not-true, number, number_of}
-use Rattle.sc_parse_print_laws.proofs.Common.{or_cases, refl, reserved_words, says, slice_index, subst, suc, sym, take-append_seam}
-use Rattle.sc_parse_print_laws.proofs.Common.{true, value_of, without_suffix, word_kind, word_symbol, zero, ℕ, ⊎_elim, ◌%◌, ◌&&◌}
-use Rattle.sc_parse_print_laws.proofs.Common.{◌*◌, ◌++◌, ◌+◌, ◌-◌, ◌/◌, ◌<◌, ◌==◌, ◌^◌, ◌||◌, ◌∙◌, ◌∷◌, ◌≡◌, ◌≤◌}
+use Rattle.sc_parse_print_laws.proofs.Common.{Bool, IsTrue, List, Number, Option, Some, [], and_parts, ap, append-nil}
+use Rattle.sc_parse_print_laws.proofs.Common.{arith, base_of, bytes_eq, bytes_eq-Decides, codes, digit_value, digits_of}
+use Rattle.sc_parse_print_laws.proofs.Common.{false, false_from_ne_true, false≢true, fits, get_or-append_seam}
+use Rattle.sc_parse_print_laws.proofs.Common.{greatest_of, has_suffix, if◌then◌else◌, integer_of, is_between, is_digit}
+use Rattle.sc_parse_print_laws.proofs.Common.{is_empty, is_hexadecimal, is_ident, is_integer, is_name, is_name_byte}
+use Rattle.sc_parse_print_laws.proofs.Common.{is_nondigit, is_number, is_reserved, kind_of, le-leb, le-ltb, leb-true}
+use Rattle.sc_parse_print_laws.proofs.Common.{length, length-append, list_all, list_all-append, list_any, literal_text}
+use Rattle.sc_parse_print_laws.proofs.Common.{lt-ltb, nat_le, nat_lt, ne_eqb, not, not-true, number, number_of}
+use Rattle.sc_parse_print_laws.proofs.Common.{or_cases, refl, reserved_words, says, slice_index, subst, suc, sym}
+use Rattle.sc_parse_print_laws.proofs.Common.{take-append_seam, true, value_of, without_suffix, word_kind, word_symbol}
+use Rattle.sc_parse_print_laws.proofs.Common.{zero, ℕ, ⊎_elim, ◌%◌, ◌&&◌, ◌*◌, ◌++◌, ◌+◌, ◌-◌, ◌/◌, ◌<◌, ◌==◌, ◌^◌}
+use Rattle.sc_parse_print_laws.proofs.Common.{◌||◌, ◌∙◌, ◌∷◌, ◌≡◌, ◌≤◌}
 use Rattle.sc_lex.specs.declared.token.TokenKind.TheVariants as kind
 use Rattle.sc_parse_expr.specs.declared.lexeme.Symbol.TheVariants as symbol
 use Rattle.std.specs.Fmt.{decimal}
@@ -213,7 +215,8 @@ in_words : (n : ℕ) (u : Bool) → Fitting n u → n < 2 ^ 64
 in_words n u h = let le = leb-true n 4294967295 (and_parts _ _ h).1 in omega (arith, le)
 
 is_literal : (n : ℕ) (u : Bool) → Fitting n u → IsLiteral n u (decimal n ++ suffix u)
-is_literal zero u h = subst (λ ds. IsLiteral 0 u (ds ++ suffix u)) (sym (decimal_digit 0 (omega arith))) (zero_literal u)
+is_literal zero u h = subst (λ ds. IsLiteral 0 u (ds ++ suffix u)) (sym (decimal_digit 0 (omega arith)))
+    (zero_literal u)
 is_literal (suc n) u h = positive_literal (suc n) _ (omega arith) (decimal_is _ (in_words (suc n) u h)) u h
 
 pub literal_kind : (number : Number) → IsTrue (fits number) → word_kind (literal_text number) ≡ Some kind.Integer

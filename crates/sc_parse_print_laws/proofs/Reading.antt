@@ -1,9 +1,9 @@
 -- A row of printed words is read back as these words: its lexemes are taken word by word and part by part.
-use Rattle.sc_parse_print_laws.proofs.Common.{Bool, ExprTree, Grouped, IsTrue, Lexeme, List, Piece, Separated, Spells, Symbol, []}
-use Rattle.sc_parse_print_laws.proofs.Common.{and_parts, ap, append-nil, ap₂, arith, blank, cases_lt, comma, flat_map}
-use Rattle.sc_parse_print_laws.proofs.Common.{flat_map-append, indent, join_by, length, line_of, list_all, looser, map, more}
-use Rattle.sc_parse_print_laws.proofs.Common.{newline, one, refl, subst, suc, sym, symbols, true, word, word_symbol, zero, ℕ}
-use Rattle.sc_parse_print_laws.proofs.Common.{⊎_elim, ◌++◌, ◌∙◌, ◌∷◌, ◌≡◌, ◌≤◌}
+use Rattle.sc_parse_print_laws.proofs.Common.{Bool, ExprTree, Grouped, IsTrue, Lexeme, List, Piece, Separated, Spells}
+use Rattle.sc_parse_print_laws.proofs.Common.{Symbol, [], and_parts, ap, append-nil, ap₂, arith, blank, cases_lt, comma}
+use Rattle.sc_parse_print_laws.proofs.Common.{flat_map, flat_map-append, indent, join_by, length, line_of, list_all}
+use Rattle.sc_parse_print_laws.proofs.Common.{looser, map, more, newline, one, refl, subst, suc, sym, symbols, true}
+use Rattle.sc_parse_print_laws.proofs.Common.{word, word_symbol, zero, ℕ, ⊎_elim, ◌++◌, ◌∙◌, ◌∷◌, ◌≡◌, ◌≤◌}
 use Rattle.sc_parse.specs.Lists as lists
 use Rattle.sc_parse_print_laws.proofs.Tables as tables
 

@@ -1,21 +1,25 @@
 -- The words of whole declarations spell them, lines aside.
-use Rattle.sc_parse_print_laws.proofs.Common.{BaseTree, Bool, Decl, Declares, DeclsSpell, ExprTree, FunctionTree, GlobalTree}
-use Rattle.sc_parse_print_laws.proofs.Common.{Grouped, HeadTree, InitTree, IsGlobal, IsLocal, IsMember, IsTrue, Lexeme, List}
-use Rattle.sc_parse_print_laws.proofs.Common.{LocalTree, MemberTree, None, Number, Option, ParamTree, Piece, Some, SpellsBase}
-use Rattle.sc_parse_print_laws.proofs.Common.{SpellsConst, SpellsDecl, SpellsDeclarator, SpellsHead, SpellsInit, SpellsParam}
-use Rattle.sc_parse_print_laws.proofs.Common.{SpellsParams, SpellsResult, SpellsStars, SpellsTypeName, SpellsValue, TypeName}
-use Rattle.sc_parse_print_laws.proofs.Common.{TypeTree, [], and_from, and_parts, ap, append-nil, append_assoc, arith, array_length}
-use Rattle.sc_parse_print_laws.proofs.Common.{base_words, blank, blank_if, cases_lt, codes, comma, const_words, decl_words}
-use Rattle.sc_parse_print_laws.proofs.Common.{declared_words, ended, expr_words, false, false≢true, first_line, fits, flat_map}
-use Rattle.sc_parse_print_laws.proofs.Common.{function_words, global_words, head_of, head_words, init_words, is_ident}
-use Rattle.sc_parse_print_laws.proofs.Common.{is_kept_decl, join_by, kept_base, kept_const, kept_function, kept_global, kept_head}
-use Rattle.sc_parse_print_laws.proofs.Common.{kept_init, kept_length, kept_local, kept_member, kept_name, kept_param, kept_result}
-use Rattle.sc_parse_print_laws.proofs.Common.{kept_type, kept_value, le-leb, leb-true, length_number, length_words, line_of}
-use Rattle.sc_parse_print_laws.proofs.Common.{lineless_decl, lineless_function_head, lineless_local, lineless_stmts, list_all}
-use Rattle.sc_parse_print_laws.proofs.Common.{literal_text, local_line, lt-ltb, map, member_line, minus_words, name_words, nat_le}
-use Rattle.sc_parse_print_laws.proofs.Common.{nat_lt, newline, one, or_right, param_words, params_words, refl, result_words}
-use Rattle.sc_parse_print_laws.proofs.Common.{some_kept, star_words, struct_words, subst, suc, symbols, true, type_name}
-use Rattle.sc_parse_print_laws.proofs.Common.{value_words, word, zero, ℕ, ⊎_elim, ◌&&◌, ◌++◌, ◌+◌, ◌||◌, ◌∙◌, ◌∷◌, ◌≡◌, ◌≤◌}
+use Rattle.sc_parse_print_laws.proofs.Common.{BaseTree, Bool, Decl, Declares, DeclsSpell, ExprTree, FunctionTree}
+use Rattle.sc_parse_print_laws.proofs.Common.{GlobalTree, Grouped, HeadTree, InitTree, IsGlobal, IsLocal, IsMember}
+use Rattle.sc_parse_print_laws.proofs.Common.{IsTrue, Lexeme, List, LocalTree, MemberTree, None, Number, Option}
+use Rattle.sc_parse_print_laws.proofs.Common.{ParamTree, Piece, Some, SpellsBase, SpellsConst, SpellsDecl}
+use Rattle.sc_parse_print_laws.proofs.Common.{SpellsDeclarator, SpellsHead, SpellsInit, SpellsParam, SpellsParams}
+use Rattle.sc_parse_print_laws.proofs.Common.{SpellsResult, SpellsStars, SpellsTypeName, SpellsValue, TypeName}
+use Rattle.sc_parse_print_laws.proofs.Common.{TypeTree, [], and_from, and_parts, ap, append-nil, append_assoc, arith}
+use Rattle.sc_parse_print_laws.proofs.Common.{array_length, base_words, blank, blank_if, cases_lt, codes, comma}
+use Rattle.sc_parse_print_laws.proofs.Common.{const_words, decl_words, declared_words, ended, expr_words, false}
+use Rattle.sc_parse_print_laws.proofs.Common.{false≢true, first_line, fits, flat_map, function_words, global_words}
+use Rattle.sc_parse_print_laws.proofs.Common.{head_of, head_words, init_words, is_ident, is_kept_decl, join_by}
+use Rattle.sc_parse_print_laws.proofs.Common.{kept_base, kept_const, kept_function, kept_global, kept_head, kept_init}
+use Rattle.sc_parse_print_laws.proofs.Common.{kept_length, kept_local, kept_member, kept_name, kept_param, kept_result}
+use Rattle.sc_parse_print_laws.proofs.Common.{kept_type, kept_value, le-leb, leb-true, length_number, length_words}
+use Rattle.sc_parse_print_laws.proofs.Common.{line_of, lineless_decl, lineless_function_head, lineless_local}
+use Rattle.sc_parse_print_laws.proofs.Common.{lineless_stmts, list_all, literal_text, local_line, lt-ltb, map}
+use Rattle.sc_parse_print_laws.proofs.Common.{member_line, minus_words, name_words, nat_le, nat_lt, newline, one}
+use Rattle.sc_parse_print_laws.proofs.Common.{or_right, param_words, params_words, refl, result_words, some_kept}
+use Rattle.sc_parse_print_laws.proofs.Common.{star_words, struct_words, subst, suc, symbols, true, type_name}
+use Rattle.sc_parse_print_laws.proofs.Common.{value_words, word, zero, ℕ, ⊎_elim, ◌&&◌, ◌++◌, ◌+◌, ◌||◌, ◌∙◌, ◌∷◌, ◌≡◌}
+use Rattle.sc_parse_print_laws.proofs.Common.{◌≤◌}
 use Rattle.sc_base.specs.declared.op.BinaryOp.TheVariants as binary
 use Rattle.sc_base.specs.declared.op.UnaryOp.TheVariants as unary
 use Rattle.sc_ast.specs.declared.types.BaseTree.TheVariants as base
@@ -24,14 +28,14 @@ use Rattle.sc_parse.specs.Types as types
 use Rattle.sc_parse.specs.Declarations as decls
 use Rattle.sc_parse_print_laws.proofs.Tables as tables
 use Rattle.sc_parse_print_laws.proofs.Literals.{name_says, literal_says}
-use Rattle.sc_parse_print_laws.proofs.Reading.{Reading, part, written, reads, separated, fixed, Alike, AllAlike, all_alike}
-use Rattle.sc_parse_print_laws.proofs.Reading.{line_symbols, joined_symbols, Say}
+use Rattle.sc_parse_print_laws.proofs.Reading.{Reading, part, written, reads, separated, fixed, Alike, AllAlike}
+use Rattle.sc_parse_print_laws.proofs.Reading.{all_alike, line_symbols, joined_symbols, Say}
 use Rattle.sc_parse_expr.specs.declared.mark.Keyword.TheVariants as keyword
 use Rattle.sc_ast.specs.declared.section.Decl.TheVariants as decl
 use Rattle.sc_parse.specs.Lists as lists
 use Rattle.sc_parse_print_laws.proofs.Stmts.{each_kept, expr_reads, Lines, lines_read, stmt_holds}
-use Rattle.sc_parse_print_laws.proofs.Tables.{lone_says, open_paren, close_paren, open_square, close_square, semicolon, open_curly}
-use Rattle.sc_parse_print_laws.proofs.Tables.{close_curly}
+use Rattle.sc_parse_print_laws.proofs.Tables.{lone_says, open_paren, close_paren, open_square, close_square, semicolon}
+use Rattle.sc_parse_print_laws.proofs.Tables.{open_curly, close_curly}
 
 pub base_reads : (b : BaseTree) → IsTrue (kept_base b) → Reading (base_words b) (λ ts. SpellsBase ts b)
 base_reads base.Int k = reads (written _ ∷ []) _ (λ t is. types.int t (is ∙ tables.keyword_says _))
@@ -103,8 +107,10 @@ init_reads (init.Many (c ∷ cs)) k =
     (separated const_words kept_const SpellsConst (λ c k. const_from _ _ k) c cs parts.0 parts.1 ts said))
 
 -- one declarator after its base, on a line of its own
-single : {A : Type 0} (Item : BaseTree → ℕ → List Lexeme → A → Type 0) (depth : ℕ) (b : BaseTree) (following : List Piece)
-    (entry : ℕ → A) → IsTrue (kept_base b) → ((line : ℕ) → Reading following (λ ts. Item b line ts (entry line))) → Reading
+single : {A : Type 0} (Item : BaseTree → ℕ → List Lexeme → A → Type 0) (depth : ℕ) (b : BaseTree)
+    (following : List Piece)
+    (entry : ℕ → A) → IsTrue (kept_base b) → ((line : ℕ) → Reading following (λ ts. Item b line ts (entry line))) →
+    Reading
     (line_of depth (ended (base_words b ++ blank ∷ following))) (λ ts. (line : ℕ) × Declares Item ts (entry line ∷ []))
 single Item depth b following entry k item ts h =
     reads (part (base_words b) ∷ fixed blank ∷ part following ∷ written (codes ";") ∷ [])
@@ -139,7 +145,8 @@ members_read [] k = reads [] _ lists.none
 members_read (m ∷ ms) k =
     let parts = and_parts (kept_member m) (list_all _ ms) k in
     reads (part (member_line m) ∷ part (flat_map member_line ms) ∷ []) _
-    (λ leading said back following. lists.next (member_reads m parts.0 leading said) (members_read ms parts.1 back following))
+    (λ leading said back following. lists.next (member_reads m parts.0 leading said)
+    (members_read ms parts.1 back following))
 
 -- a declaration that is spelled, and is this one, lines aside
 abbrev Spelled : List Lexeme → Decl → Type 0

@@ -1,14 +1,16 @@
 -- The words of an expression stand apart: which text may follow a word, and that what is printed does.
-use Rattle.sc_parse_print_laws.proofs.Common.{BinaryOp, Bool, ExprTree, ExprTree-F, IsToken, IsTrue, Keyword, List, Mark, Piece}
-use Rattle.sc_parse_print_laws.proofs.Common.{Printed, Some, TokenKind, UnaryOp, Under, [], and_from, and_parts, ap, append-nil}
-use Rattle.sc_parse_print_laws.proofs.Common.{append_assoc, arith, begins_block_comment, begins_line_comment, binary_text}
-use Rattle.sc_parse_print_laws.proofs.Common.{binary_words, blank, bytes_eq, codes, drop, eq-eqb, expr_at, expr_induction}
-use Rattle.sc_parse_print_laws.proofs.Common.{expr_step, false, false≢true, flat_map-append, if◌then◌else◌, in_parens, indent}
-use Rattle.sc_parse_print_laws.proofs.Common.{is_doubled, is_ident, is_kept, is_mark, is_name_byte, is_reserved, kept_step, le-leb}
-use Rattle.sc_parse_print_laws.proofs.Common.{length, length-append, list_all, lt-ltb, map-ExprTree, mark_one, mark_two, marks}
-use Rattle.sc_parse_print_laws.proofs.Common.{nat_le, nat_lt, ne_eqb, newline, prefix_len, prefix_words, refl, slice_index, subst}
-use Rattle.sc_parse_print_laws.proofs.Common.{sym, take, take-append_seam, text_of, true, unary_text, word, word_found, word_kind}
-use Rattle.sc_parse_print_laws.proofs.Common.{word_run, words_at, ℕ, ◌&&◌, ◌++◌, ◌-◌, ◌<◌, ◌==◌, ◌||◌, ◌∙◌, ◌∷◌, ◌≡◌, ◌≤◌}
+use Rattle.sc_parse_print_laws.proofs.Common.{BinaryOp, Bool, ExprTree, ExprTree-F, IsToken, IsTrue, Keyword, List}
+use Rattle.sc_parse_print_laws.proofs.Common.{Mark, Piece, Printed, Some, TokenKind, UnaryOp, Under, [], and_from}
+use Rattle.sc_parse_print_laws.proofs.Common.{and_parts, ap, append-nil, append_assoc, arith, begins_block_comment}
+use Rattle.sc_parse_print_laws.proofs.Common.{begins_line_comment, binary_text, binary_words, blank, bytes_eq, codes}
+use Rattle.sc_parse_print_laws.proofs.Common.{drop, eq-eqb, expr_at, expr_induction, expr_step, false, false≢true}
+use Rattle.sc_parse_print_laws.proofs.Common.{flat_map-append, if◌then◌else◌, in_parens, indent, is_doubled, is_ident}
+use Rattle.sc_parse_print_laws.proofs.Common.{is_kept, is_mark, is_name_byte, is_reserved, kept_step, le-leb, length}
+use Rattle.sc_parse_print_laws.proofs.Common.{length-append, list_all, lt-ltb, map-ExprTree, mark_one, mark_two, marks}
+use Rattle.sc_parse_print_laws.proofs.Common.{nat_le, nat_lt, ne_eqb, newline, prefix_len, prefix_words, refl}
+use Rattle.sc_parse_print_laws.proofs.Common.{slice_index, subst, sym, take, take-append_seam, text_of, true}
+use Rattle.sc_parse_print_laws.proofs.Common.{unary_text, word, word_found, word_kind, word_run, words_at, ℕ, ◌&&◌}
+use Rattle.sc_parse_print_laws.proofs.Common.{◌++◌, ◌-◌, ◌<◌, ◌==◌, ◌||◌, ◌∙◌, ◌∷◌, ◌≡◌, ◌≤◌}
 use Rattle.sc_lex.specs.declared.token.TokenKind.TheVariants as kind
 use Rattle.sc_base.specs.declared.op.BinaryOp.TheVariants as binary
 use Rattle.sc_parse_expr.specs.declared.mark.Keyword.TheVariants as keyword
@@ -215,7 +217,8 @@ go_on b rest (gap t) e d = gap (go_on b rest t e d)
 go_on b rest (at_level levels t) e d = at_level levels (go_on b rest t e d)
 go_on b rest (line_end t) e d = line_end (go_on b rest t e d)
 go_on b rest (next {text = text} {pieces = pieces} {rest = r} w t) e d = next
-    (subst (λ x. IsWord text x) (ap (λ x. text_of pieces ++ x) e ∙ sym (following pieces b rest)) w) (go_on b rest t e d)
+    (subst (λ x. IsWord text x) (ap (λ x. text_of pieces ++ x) e ∙ sym (following pieces b rest)) w)
+    (go_on b rest t e d)
 
 pub tidy_append : (a b : List Piece) (rest : List ℕ) → Tidy a (text_of b ++ rest) → Tidy b rest → Tidy (a ++ b) rest
 tidy_append a b rest t d = go_on b rest t refl d

@@ -1,12 +1,13 @@
 -- The words of an expression spell it.
-use Rattle.sc_parse_print_laws.proofs.Common.{BinaryOp, Bool, ExprTree, ExprTree-F, IsTrue, Lexeme, List, Mark, Piece, Printed}
-use Rattle.sc_parse_print_laws.proofs.Common.{Some, Spells, Under, WordsSpell, [], and_parts, ap, apart, append-nil, arith, arrow}
-use Rattle.sc_parse_print_laws.proofs.Common.{binary_text, binary_words, blank, bytes_eq, codes, expr_at, expr_induction}
-use Rattle.sc_parse_print_laws.proofs.Common.{expr_step, false, if◌then◌else◌, in_parens, index, is_doubled, is_ident, is_kept}
-use Rattle.sc_parse_print_laws.proofs.Common.{joined, kept_step, literal, ltb-false, map-ExprTree, member, nat_lt, parenthesised}
-use Rattle.sc_parse_print_laws.proofs.Common.{prefix_of, prefix_words, prefixed, refl, roll-ExprTree, subst, sym, symbols, true}
-use Rattle.sc_parse_print_laws.proofs.Common.{variable, word, word_symbol, words_at, «prefix», ℕ, ◌&&◌, ◌++◌, ◌-◌, ◌∙◌, ◌∷◌, ◌≡◌}
-use Rattle.sc_parse_print_laws.proofs.Common.{◌≤◌}
+use Rattle.sc_parse_print_laws.proofs.Common.{BinaryOp, Bool, ExprTree, ExprTree-F, IsTrue, Lexeme, List, Mark, Piece}
+use Rattle.sc_parse_print_laws.proofs.Common.{Printed, Some, Spells, Under, WordsSpell, [], and_parts, ap, apart}
+use Rattle.sc_parse_print_laws.proofs.Common.{append-nil, arith, arrow, binary_text, binary_words, blank, bytes_eq}
+use Rattle.sc_parse_print_laws.proofs.Common.{codes, expr_at, expr_induction, expr_step, false, if◌then◌else◌}
+use Rattle.sc_parse_print_laws.proofs.Common.{in_parens, index, is_doubled, is_ident, is_kept, joined, kept_step}
+use Rattle.sc_parse_print_laws.proofs.Common.{literal, ltb-false, map-ExprTree, member, nat_lt, parenthesised}
+use Rattle.sc_parse_print_laws.proofs.Common.{prefix_of, prefix_words, prefixed, refl, roll-ExprTree, subst, sym}
+use Rattle.sc_parse_print_laws.proofs.Common.{symbols, true, variable, word, word_symbol, words_at, «prefix», ℕ, ◌&&◌}
+use Rattle.sc_parse_print_laws.proofs.Common.{◌++◌, ◌-◌, ◌∙◌, ◌∷◌, ◌≡◌, ◌≤◌}
 use Rattle.sc_base.specs.declared.op.BinaryOp.TheVariants as binary
 use Rattle.sc_base.specs.Levels as levels
 use Rattle.sc_ast.specs.declared.expr.ExprTree.TheOpen as term

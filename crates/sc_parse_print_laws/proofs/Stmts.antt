@@ -1,19 +1,22 @@
 -- Statements without their lines, what each of those that are kept is, and that their words spell them.
-use Rattle.sc_parse_print_laws.proofs.Common.{Bool, CallTree, Each, ExprTree, Inside, IsKeyword, IsMark, IsTrue, Keyword, Layout}
-use Rattle.sc_parse_print_laws.proofs.Common.{Lexeme, List, None, Option, Piece, SimpleKind, SimpleTree, Some, Spells, SpellsArgs}
-use Rattle.sc_parse_print_laws.proofs.Common.{SpellsBlock, SpellsCall, SpellsCondition, SpellsIf, SpellsKind, SpellsPart}
-use Rattle.sc_parse_print_laws.proofs.Common.{SpellsPlace, SpellsStmtKind, SpellsStmts, StmtKind, StmtKind-F, StmtTree, StmtsSpell}
-use Rattle.sc_parse_print_laws.proofs.Common.{[], all_kept, and_parts, ap, append-nil, append_assoc, ap₂, are_kept, arith}
-use Rattle.sc_parse_print_laws.proofs.Common.{bare_stmt, after_else, blank, block_words, call_words, chain_words, codes, comma}
-use Rattle.sc_parse_print_laws.proofs.Common.{condition_words, deeper, else_words, ended, eqb-true, equals}
-use Rattle.sc_parse_print_laws.proofs.Common.{everywhere as everywhere_holds, expr_words, false, false≢true, first_line}
-use Rattle.sc_parse_print_laws.proofs.Common.{first_words, for_words, if_words, if◌then◌else◌, indent, is_chain, is_ident, is_kept}
-use Rattle.sc_parse_print_laws.proofs.Common.{is_kept_stmt, join_by, kept_call, kept_kind, kept_option, kept_place, kept_simple}
-use Rattle.sc_parse_print_laws.proofs.Common.{kind_layout, layouts, length, line_of, lineless_kind, lineless_option, lineless_stmt}
-use Rattle.sc_parse_print_laws.proofs.Common.{lineless_stmts, lines_at, list_all, loosest_level, map, map-StmtKind, ne_eqb}
-use Rattle.sc_parse_print_laws.proofs.Common.{newline, next_words, no_args, place_words, refl, return_words, roll-StmtKind, rules}
-use Rattle.sc_parse_print_laws.proofs.Common.{simple_words, some_args, stmt_at, stmt_induction, stmt_layout, subst, sym, symbols}
-use Rattle.sc_parse_print_laws.proofs.Common.{true, word, word_symbol, ℕ, ◌&&◌, ◌++◌, ◌==◌, ◌∙◌, ◌∷◌, ◌≡◌}
+use Rattle.sc_parse_print_laws.proofs.Common.{Bool, CallTree, Each, ExprTree, Inside, IsKeyword, IsMark, IsTrue}
+use Rattle.sc_parse_print_laws.proofs.Common.{Keyword, Layout, Lexeme, List, None, Option, Piece, SimpleKind}
+use Rattle.sc_parse_print_laws.proofs.Common.{SimpleTree, Some, Spells, SpellsArgs, SpellsBlock, SpellsCall}
+use Rattle.sc_parse_print_laws.proofs.Common.{SpellsCondition, SpellsIf, SpellsKind, SpellsPart, SpellsPlace}
+use Rattle.sc_parse_print_laws.proofs.Common.{SpellsStmtKind, SpellsStmts, StmtKind, StmtKind-F, StmtTree, StmtsSpell}
+use Rattle.sc_parse_print_laws.proofs.Common.{[], after_else, all_kept, and_parts, ap, append-nil, append_assoc, ap₂}
+use Rattle.sc_parse_print_laws.proofs.Common.{are_kept, arith, bare_stmt, blank, block_words, call_words, chain_words}
+use Rattle.sc_parse_print_laws.proofs.Common.{codes, comma, condition_words, deeper, else_words, ended, eqb-true}
+use Rattle.sc_parse_print_laws.proofs.Common.{equals, everywhere as everywhere_holds, expr_words, false, false≢true}
+use Rattle.sc_parse_print_laws.proofs.Common.{first_line, first_words, for_words, if_words, if◌then◌else◌, indent}
+use Rattle.sc_parse_print_laws.proofs.Common.{is_chain, is_ident, is_kept, is_kept_stmt, join_by, kept_call, kept_kind}
+use Rattle.sc_parse_print_laws.proofs.Common.{kept_option, kept_place, kept_simple, kind_layout, layouts, length}
+use Rattle.sc_parse_print_laws.proofs.Common.{line_of, lineless_kind, lineless_option, lineless_stmt, lineless_stmts}
+use Rattle.sc_parse_print_laws.proofs.Common.{lines_at, list_all, loosest_level, map, map-StmtKind, ne_eqb, newline}
+use Rattle.sc_parse_print_laws.proofs.Common.{next_words, no_args, place_words, refl, return_words, roll-StmtKind}
+use Rattle.sc_parse_print_laws.proofs.Common.{rules, simple_words, some_args, stmt_at, stmt_induction, stmt_layout}
+use Rattle.sc_parse_print_laws.proofs.Common.{subst, sym, symbols, true, word, word_symbol, ℕ, ◌&&◌, ◌++◌, ◌==◌, ◌∙◌}
+use Rattle.sc_parse_print_laws.proofs.Common.{◌∷◌, ◌≡◌}
 use Rattle.sc_ast.specs.Prelude.{kind_of}
 use Rattle.sc_ast.specs.StmtWords as printing
 use Rattle.sc_ast.specs.declared.stmt.StmtTree as trees
@@ -102,7 +105,8 @@ assigned : (place : ExprTree) (value : List Piece) (P : List Lexeme → Type 0) 
 assigned place value P k take =
     let parts = and_parts _ (is_kept place) k in
     reads (part (place_words place) ∷ fixed blank ∷ written (codes "=") ∷ fixed blank ∷ part value ∷ []) P
-    (λ ts said t is us following. take ts t us (spelled_at place parts.1 [] 1 ts said, parts.0) (is ∙ tables.equal) following)
+    (λ ts said t is us following. take ts t us (spelled_at place parts.1 [] 1 ts said, parts.0) (is ∙ tables.equal)
+    following)
 
 pub simple_reads : (k : SimpleKind) → IsTrue (kept_simple k) → Reading (simple_words k) (λ ts. SpellsKind ts k)
 simple_reads (simple.Assign place value) k ts h =

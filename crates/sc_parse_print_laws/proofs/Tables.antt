@@ -1,8 +1,8 @@
 -- What each fixed word says.
-use Rattle.sc_parse_print_laws.proofs.Common.{BinaryOp, Keyword, List, Mark, Some, UnaryOp, arith, binary_of, binary_text, codes}
-use Rattle.sc_parse_print_laws.proofs.Common.{is_integer, is_mark, is_name, is_number, is_reserved, keyword_of, kind_of, level_of}
-use Rattle.sc_parse_print_laws.proofs.Common.{mark_of, prefix_of, refl, says, suc, unary_text, word_kind, word_symbol, ℕ, ◌-◌, ◌≡◌}
-use Rattle.sc_parse_print_laws.proofs.Common.{◌≤◌}
+use Rattle.sc_parse_print_laws.proofs.Common.{BinaryOp, Keyword, List, Mark, Some, UnaryOp, arith, binary_of}
+use Rattle.sc_parse_print_laws.proofs.Common.{binary_text, codes, is_integer, is_mark, is_name, is_number, is_reserved}
+use Rattle.sc_parse_print_laws.proofs.Common.{keyword_of, kind_of, level_of, mark_of, prefix_of, refl, says, suc}
+use Rattle.sc_parse_print_laws.proofs.Common.{unary_text, word_kind, word_symbol, ℕ, ◌-◌, ◌≡◌, ◌≤◌}
 use Rattle.sc_base.specs.Levels as levels
 use Rattle.sc_base.specs.declared.op.UnaryOp.TheVariants as unary
 use Rattle.sc_base.specs.declared.op.BinaryOp.TheVariants as binary

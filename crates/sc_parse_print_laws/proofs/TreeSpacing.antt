@@ -1,21 +1,24 @@
 -- The words of statements and of declarations stand apart.
-use Rattle.sc_parse_print_laws.proofs.Common.{BaseTree, Bool, CallTree, Decl, Each, ExprTree, FunctionTree, GlobalTree, HeadTree}
-use Rattle.sc_parse_print_laws.proofs.Common.{InitTree, IsTrue, Layout, List, LocalTree, MemberTree, None, Number, Option}
-use Rattle.sc_parse_print_laws.proofs.Common.{ParamTree, Piece, SimpleKind, SimpleTree, Some, StmtKind, StmtTree, TypeName}
-use Rattle.sc_parse_print_laws.proofs.Common.{TypeTree, [], all_kept, and_parts, append-nil, append_assoc, are_kept, base_words}
-use Rattle.sc_parse_print_laws.proofs.Common.{blank, blank_if, block_words, call_words, chain_words, codes, comma, condition_words}
-use Rattle.sc_parse_print_laws.proofs.Common.{const_words, decl_words, declared_words, deeper, else_words, ended, equals}
-use Rattle.sc_parse_print_laws.proofs.Common.{expr_words, false, false≢true, first_words, fits, flat_map, for_words}
-use Rattle.sc_parse_print_laws.proofs.Common.{function_words, global_words, head_of, head_words, if◌then◌else◌, indent, init_words}
-use Rattle.sc_parse_print_laws.proofs.Common.{is_chain, is_ident, is_kept, is_kept_decl, is_kept_stmt, is_some, join_by, kept_base}
-use Rattle.sc_parse_print_laws.proofs.Common.{kept_call, kept_const, kept_function, kept_global, kept_head, kept_init, kept_length}
-use Rattle.sc_parse_print_laws.proofs.Common.{kept_local, kept_member, kept_name, kept_option, kept_param, kept_place, kept_result}
-use Rattle.sc_parse_print_laws.proofs.Common.{kept_simple, kept_struct, kept_type, kept_value, layouts, leb-true, length}
-use Rattle.sc_parse_print_laws.proofs.Common.{length_words, line_of, lines_at, list_all, literal_text, local_line, map}
-use Rattle.sc_parse_print_laws.proofs.Common.{member_line, minus_words, name_words, nat_le, nat_lt, newline, next_words}
-use Rattle.sc_parse_print_laws.proofs.Common.{param_words, params_words, place_words, refl, result_words, return_words}
-use Rattle.sc_parse_print_laws.proofs.Common.{simple_words, some_kept, star_words, stmt_layout, struct_words, subst, suc, sym}
-use Rattle.sc_parse_print_laws.proofs.Common.{text_of, true, value_words, word, zero, ℕ, ◌&&◌, ◌++◌, ◌==◌, ◌||◌, ◌∷◌, ◌≡◌}
+use Rattle.sc_parse_print_laws.proofs.Common.{BaseTree, Bool, CallTree, Decl, Each, ExprTree, FunctionTree, GlobalTree}
+use Rattle.sc_parse_print_laws.proofs.Common.{HeadTree, InitTree, IsTrue, Layout, List, LocalTree, MemberTree, None}
+use Rattle.sc_parse_print_laws.proofs.Common.{Number, Option, ParamTree, Piece, SimpleKind, SimpleTree, Some, StmtKind}
+use Rattle.sc_parse_print_laws.proofs.Common.{StmtTree, TypeName, TypeTree, [], all_kept, and_parts, append-nil}
+use Rattle.sc_parse_print_laws.proofs.Common.{append_assoc, are_kept, base_words, blank, blank_if, block_words}
+use Rattle.sc_parse_print_laws.proofs.Common.{call_words, chain_words, codes, comma, condition_words, const_words}
+use Rattle.sc_parse_print_laws.proofs.Common.{decl_words, declared_words, deeper, else_words, ended, equals, expr_words}
+use Rattle.sc_parse_print_laws.proofs.Common.{false, false≢true, first_words, fits, flat_map, for_words, function_words}
+use Rattle.sc_parse_print_laws.proofs.Common.{global_words, head_of, head_words, if◌then◌else◌, indent, init_words}
+use Rattle.sc_parse_print_laws.proofs.Common.{is_chain, is_ident, is_kept, is_kept_decl, is_kept_stmt, is_some, join_by}
+use Rattle.sc_parse_print_laws.proofs.Common.{kept_base, kept_call, kept_const, kept_function, kept_global, kept_head}
+use Rattle.sc_parse_print_laws.proofs.Common.{kept_init, kept_length, kept_local, kept_member, kept_name, kept_option}
+use Rattle.sc_parse_print_laws.proofs.Common.{kept_param, kept_place, kept_result, kept_simple, kept_struct, kept_type}
+use Rattle.sc_parse_print_laws.proofs.Common.{kept_value, layouts, leb-true, length, length_words, line_of, lines_at}
+use Rattle.sc_parse_print_laws.proofs.Common.{list_all, literal_text, local_line, map, member_line, minus_words}
+use Rattle.sc_parse_print_laws.proofs.Common.{name_words, nat_le, nat_lt, newline, next_words, param_words}
+use Rattle.sc_parse_print_laws.proofs.Common.{params_words, place_words, refl, result_words, return_words, simple_words}
+use Rattle.sc_parse_print_laws.proofs.Common.{some_kept, star_words, stmt_layout, struct_words, subst, suc, sym}
+use Rattle.sc_parse_print_laws.proofs.Common.{text_of, true, value_words, word, zero, ℕ, ◌&&◌, ◌++◌, ◌==◌, ◌||◌, ◌∷◌}
+use Rattle.sc_parse_print_laws.proofs.Common.{◌≡◌}
 use Rattle.sc_ast.specs.declared.stmt.SimpleKind.TheVariants as simple
 use Rattle.sc_ast.specs.declared.stmt.StmtKind.TheOpen as layer
 use Rattle.sc_lex.specs.declared.token.TokenKind.TheVariants as kind
@@ -26,11 +29,11 @@ use Rattle.sc_ast.specs.declared.section.InitTree.TheVariants as init
 use Rattle.sc_ast.specs.declared.section.Decl.TheVariants as decl
 use Rattle.sc_parse_print_laws.proofs.Stmts.{all_at, kept_each, each_kept, Of, Forms, by_forms}
 use Rattle.sc_parse_print_laws.proofs.Literals.{name_kind, name_some, literal_kind, literal_some}
-use Rattle.sc_parse_print_laws.proofs.Spacing.{IsWord, Calm, plain_word, equal_word, keyword_word, lone_word, Tidy, none, gap}
-use Rattle.sc_parse_print_laws.proofs.Spacing.{next, at_level, line_end, tidy_append, Sound, tidy_at, lone, Quiet, quiet}
-use Rattle.sc_parse_print_laws.proofs.Spacing.{prefix_word, signed, minus, asterisk, word_quiet}
-use Rattle.sc_parse_print_laws.proofs.Tables.{open_paren, close_paren, semicolon, comma_mark, open_curly, close_curly, open_square}
-use Rattle.sc_parse_print_laws.proofs.Tables.{close_square}
+use Rattle.sc_parse_print_laws.proofs.Spacing.{IsWord, Calm, plain_word, equal_word, keyword_word, lone_word, Tidy}
+use Rattle.sc_parse_print_laws.proofs.Spacing.{none, gap, next, at_level, line_end, tidy_append, Sound, tidy_at, lone}
+use Rattle.sc_parse_print_laws.proofs.Spacing.{Quiet, quiet, prefix_word, signed, minus, asterisk, word_quiet}
+use Rattle.sc_parse_print_laws.proofs.Tables.{open_paren, close_paren, semicolon, comma_mark, open_curly, close_curly}
+use Rattle.sc_parse_print_laws.proofs.Tables.{open_square, close_square}
 use Rattle.sc_ast.specs.declared.section.StructTree.{StructTree}
 use Rattle.sc_parse_print_laws.proofs.Sections.{length_fits}
 

@@ -1,12 +1,14 @@
 -- The words of whole sections spell them, their text is cut into them, and what is printed reads back.
-use Rattle.sc_parse_print_laws.proofs.Common.{Decl, DeclsReadAs, ExprTree, IsTrue, Lexeme, List, Piece, ReadsAs, SameButLines}
-use Rattle.sc_parse_print_laws.proofs.Common.{SaysAll, SectionReadsAs, SectionSpells, SectionTree, SpellsDecl, SpellsDirectives}
-use Rattle.sc_parse_print_laws.proofs.Common.{SpellsSection, StmtTree, StmtsReadAs, Token, [], and_parts, ap, append_assoc, ap₂}
-use Rattle.sc_parse_print_laws.proofs.Common.{are_kept, decl_words, decls_text, dense_decl, dense_text, dense_words, export_words}
-use Rattle.sc_parse_print_laws.proofs.Common.{expr_text, flat_map, heading_words, import_words, is_kept, is_kept_decl, is_name}
-use Rattle.sc_parse_print_laws.proofs.Common.{kept_export, kept_import, kept_section, lexeme_of, lineless_decl, lineless_export}
-use Rattle.sc_parse_print_laws.proofs.Common.{lineless_import, lines_at, list_all, map, newline, printed, refl, section_words}
-use Rattle.sc_parse_print_laws.proofs.Common.{stmts_text, sym, symbol_of, symbols, text_of, true, word, ℕ, ◌++◌, ◌∙◌, ◌∷◌, ◌≡◌}
+use Rattle.sc_parse_print_laws.proofs.Common.{Decl, DeclsReadAs, ExprTree, IsTrue, Lexeme, List, Piece, ReadsAs}
+use Rattle.sc_parse_print_laws.proofs.Common.{SameButLines, SaysAll, SectionReadsAs, SectionSpells, SectionTree}
+use Rattle.sc_parse_print_laws.proofs.Common.{SpellsDecl, SpellsDirectives, SpellsSection, StmtTree, StmtsReadAs, Token}
+use Rattle.sc_parse_print_laws.proofs.Common.{[], and_parts, ap, append_assoc, ap₂, are_kept, decl_words, decls_text}
+use Rattle.sc_parse_print_laws.proofs.Common.{dense_decl, dense_text, dense_words, export_words, expr_text, flat_map}
+use Rattle.sc_parse_print_laws.proofs.Common.{heading_words, import_words, is_kept, is_kept_decl, is_name, kept_export}
+use Rattle.sc_parse_print_laws.proofs.Common.{kept_import, kept_section, lexeme_of, lineless_decl, lineless_export}
+use Rattle.sc_parse_print_laws.proofs.Common.{lineless_import, lines_at, list_all, map, newline, printed, refl}
+use Rattle.sc_parse_print_laws.proofs.Common.{section_words, stmts_text, sym, symbol_of, symbols, text_of, true, word}
+use Rattle.sc_parse_print_laws.proofs.Common.{ℕ, ◌++◌, ◌∙◌, ◌∷◌, ◌≡◌}
 use Rattle.sc_ast.specs.declared.section.Decl.TheVariants as decl
 use Rattle.sc_parse.specs.Sections as spell
 use Rattle.sc_parse_print_laws.proofs.Reading.{joined_symbols, AllAlike, Reading, part, written, reads}
@@ -14,8 +16,9 @@ use Rattle.sc_parse_print_laws.proofs.Spacing.{Tidy, line_end, tidy_at}
 use Rattle.sc_parse_print_laws.proofs.TreeSpacing.{Free, decl_tidy, each_tidy, decls_tidy, stmts_tidy}
 use Rattle.sc_ast.specs.declared.section.ExportLine.{ExportLine}
 use Rattle.sc_ast.specs.declared.section.ImportLine.{ImportLine}
-use Rattle.sc_parse_print_laws.proofs.DirectiveWords.{export_says, export_line_is, import_text, import_says, import_line_is}
-use Rattle.sc_parse_print_laws.proofs.DirectiveWords.{heading_text, heading_says, heading_line_is, heading_begins}
+use Rattle.sc_parse_print_laws.proofs.DirectiveWords.{export_says, export_line_is, import_text, import_says}
+use Rattle.sc_parse_print_laws.proofs.DirectiveWords.{import_line_is, heading_text, heading_says, heading_line_is}
+use Rattle.sc_parse_print_laws.proofs.DirectiveWords.{heading_begins}
 use Rattle.sc_parse_print_laws.proofs.Lined.{Lined, tidy, line, found_lines, Found, cut_of}
 use Rattle.sc_parse_print_laws.proofs.Sections.{decls_read}
 use Rattle.sc_parse_print_laws.proofs.Spelling.{words_spell}

@@ -1,6 +1,6 @@
 -- What it means that printed declarations read back.
-use Rattle.sc_parse_print_laws.specs.Common.{Decl, Grouped, IsCut, Lexeme, SpellsDecl, Token, decl_words, lexeme_of, lineless_decl}
-use Rattle.sc_parse_print_laws.specs.Common.{text_of}
+use Rattle.sc_parse_print_laws.specs.Common.{Decl, Grouped, IsCut, Lexeme, SpellsDecl, Token, decl_words, lexeme_of}
+use Rattle.sc_parse_print_laws.specs.Common.{lineless_decl, text_of}
 use Rattle.std.specs.Prelude.{◌≡◌, ℕ, List, map}
 use Rattle.std.specs.List.{flat_map}
 use Rattle.sc_parse_print_laws.specs.Symbols.{symbols}

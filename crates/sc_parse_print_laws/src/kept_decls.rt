@@ -1,9 +1,9 @@
 //! What the leaves of declarations keep holds of all of them.
 
-ghost use Rattle.sc_parse_print_laws.specs.Prelude.{head_of, is_kept_decl, kept_base, kept_const, kept_function, kept_global};
-ghost use Rattle.sc_parse_print_laws.specs.Prelude.{kept_head, kept_init, kept_length, kept_local, kept_member, kept_name};
-ghost use Rattle.sc_parse_print_laws.specs.Prelude.{kept_param, kept_result, kept_struct, kept_type, kept_value, param_of};
-ghost use Rattle.sc_parse_print_laws.specs.Prelude.{some_kept};
+ghost use Rattle.sc_parse_print_laws.specs.Prelude.{head_of, is_kept_decl, kept_base, kept_const, kept_function};
+ghost use Rattle.sc_parse_print_laws.specs.Prelude.{kept_global, kept_head, kept_init, kept_length, kept_local};
+ghost use Rattle.sc_parse_print_laws.specs.Prelude.{kept_member, kept_name, kept_param, kept_result, kept_struct};
+ghost use Rattle.sc_parse_print_laws.specs.Prelude.{kept_type, kept_value, param_of, some_kept};
 ghost use Rattle.std.specs.Prelude.{◌≡◌, ◌<◌, true, IsTrue, map, length};
 ghost use Rattle.std.specs.List.{list_all};
 

@@ -1,10 +1,11 @@
 //! What is printed reads back: the bytes of a printed tree are cut into tokens that spell the tree again.
 #![tactic(auto)]
 
-ghost use Rattle.sc_parse_print_laws.specs.Prelude.{DeclsReadAs, DeclsSpell, ReadsAs, SameButLines, SaysAll, SectionReadsAs};
-ghost use Rattle.sc_parse_print_laws.specs.Prelude.{SectionSpells, StmtsReadAs, StmtsSpell, WordsSpell, are_kept, decls_text};
-ghost use Rattle.sc_parse_print_laws.specs.Prelude.{dense_text, expr_text, is_kept, is_kept_decl, kept_section, printed};
-ghost use Rattle.sc_parse_print_laws.specs.Prelude.{section_height, section_words, stmts_text, symbols};
+ghost use Rattle.sc_parse_print_laws.specs.Prelude.{DeclsReadAs, DeclsSpell, ReadsAs, SameButLines, SaysAll};
+ghost use Rattle.sc_parse_print_laws.specs.Prelude.{SectionReadsAs, SectionSpells, StmtsReadAs, StmtsSpell, WordsSpell};
+ghost use Rattle.sc_parse_print_laws.specs.Prelude.{are_kept, decls_text, dense_text, expr_text, is_kept, is_kept_decl};
+ghost use Rattle.sc_parse_print_laws.specs.Prelude.{kept_section, printed, section_height, section_words, stmts_text};
+ghost use Rattle.sc_parse_print_laws.specs.Prelude.{symbols};
 ghost use Rattle.std.specs.Prelude.{◌≡◌, ℕ, IsTrue, List};
 ghost use Rattle.std.specs.List.{list_all};
 ghost use Rattle.sc_ast.specs.declared.expr.ExprTree.{ExprTree};

@@ -1,12 +1,13 @@
 -- Each text is read, or fails a phase.
-use Rattle.sc_parse_read.proofs.Common.{AllByRecursion, AllZip, Any, AreSections, Err, Fails, FailsLex, First, HasTokens}
-use Rattle.sc_parse_read.proofs.Common.{HasTree, IsBadHeading, IsCut, IsParsed, IsRead, IsSection, IsSplit, IsTrue, IsUncut}
-use Rattle.sc_parse_read.proofs.Common.{IsUnread, Lexeme, List, NoHeading, None, Ok, Option, Part, PassesLex, Phase, Reads}
-use Rattle.sc_parse_read.proofs.Common.{Section, SectionTree, Some, Token, [], ap, arith, bad_heading, cases_lt, here}
-use Rattle.sc_parse_read.proofs.Common.{in_preamble, in_section, inl, inr, is_heading, later, length, length-take-le}
-use Rattle.sc_parse_read.proofs.Common.{lexemes_of, line_after, line_at, map, name_at, newlines, none, none-some, part_of}
-use Rattle.sc_parse_read.proofs.Common.{parts_of, refl, section, slice_range, subst, suc, sym, take, tree_of, uncut, zero, ℕ}
-use Rattle.sc_parse_read.proofs.Common.{⊎_elim, ◌+◌, ◌-◌, ◌<◌, ◌∙◌, ◌∷◌, ◌≡◌, ◌≤◌, ◌⊎◌}
+use Rattle.sc_parse_read.proofs.Common.{AllByRecursion, AllZip, Any, AreSections, Err, Fails, FailsLex, First}
+use Rattle.sc_parse_read.proofs.Common.{HasTokens, HasTree, IsBadHeading, IsCut, IsParsed, IsRead, IsSection, IsSplit}
+use Rattle.sc_parse_read.proofs.Common.{IsTrue, IsUncut, IsUnread, Lexeme, List, NoHeading, None, Ok, Option, Part}
+use Rattle.sc_parse_read.proofs.Common.{PassesLex, Phase, Reads, Section, SectionTree, Some, Token, [], ap, arith}
+use Rattle.sc_parse_read.proofs.Common.{bad_heading, cases_lt, here, in_preamble, in_section, inl, inr, is_heading}
+use Rattle.sc_parse_read.proofs.Common.{later, length, length-take-le, lexemes_of, line_after, line_at, map, name_at}
+use Rattle.sc_parse_read.proofs.Common.{newlines, none, none-some, part_of, parts_of, refl, section, slice_range, subst}
+use Rattle.sc_parse_read.proofs.Common.{suc, sym, take, tree_of, uncut, zero, ℕ, ⊎_elim, ◌+◌, ◌-◌, ◌<◌, ◌∙◌, ◌∷◌, ◌≡◌}
+use Rattle.sc_parse_read.proofs.Common.{◌≤◌, ◌⊎◌}
 use Rattle.sc_lex.specs.declared.refusal.Phase.TheVariants as phase
 use Rattle.sc_lex.specs.declared.fault.TextFault.TheVariants as fault
 use Rattle.sc_parse.proofs.Trees.{parsed, unparsed}

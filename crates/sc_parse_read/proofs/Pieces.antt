@@ -1,12 +1,12 @@
 -- Whether bytes are cut can be decided.
-use Rattle.sc_parse_read.proofs.Common.{Bool, Cuts, IsCut, IsGap, IsStuck, IsToken, IsTrue, List, None, Option, Some, Token}
-use Rattle.sc_parse_read.proofs.Common.{TokenKind, [], allows_directive, ap, arith, begins_block_comment, begins_line_comment}
-use Rattle.sc_parse_read.proofs.Common.{begins_with, block_comment, cases_lt, codes, drop, ends_comment, false, false≢true}
-use Rattle.sc_parse_read.proofs.Common.{gap, gap_fits, inl, inr, is_directive, is_some, is_white_space, kind_of, length}
-use Rattle.sc_parse_read.proofs.Common.{length-drop, line_comment, line_len, lt-ltb, ltb, ltb-true, may_follow, none-some}
-use Rattle.sc_parse_read.proofs.Common.{nothing, refl, same_unless, slice_index, subst, suc, sym, take, token, token_at}
-use Rattle.sc_parse_read.proofs.Common.{token_positive, true, white_space, zero, ℕ, ⊎_elim, ◌+◌, ◌-◌, ◌<◌, ◌∙◌, ◌∷◌, ◌≡◌, ◌≤◌}
-use Rattle.sc_parse_read.proofs.Common.{◌⊎◌}
+use Rattle.sc_parse_read.proofs.Common.{Bool, Cuts, IsCut, IsGap, IsStuck, IsToken, IsTrue, List, None, Option, Some}
+use Rattle.sc_parse_read.proofs.Common.{Token, TokenKind, [], allows_directive, ap, arith, begins_block_comment}
+use Rattle.sc_parse_read.proofs.Common.{begins_line_comment, begins_with, block_comment, cases_lt, codes, drop}
+use Rattle.sc_parse_read.proofs.Common.{ends_comment, false, false≢true, gap, gap_fits, inl, inr, is_directive, is_some}
+use Rattle.sc_parse_read.proofs.Common.{is_white_space, kind_of, length, length-drop, line_comment, line_len, lt-ltb}
+use Rattle.sc_parse_read.proofs.Common.{ltb, ltb-true, may_follow, none-some, nothing, refl, same_unless, slice_index}
+use Rattle.sc_parse_read.proofs.Common.{subst, suc, sym, take, token, token_at, token_positive, true, white_space, zero}
+use Rattle.sc_parse_read.proofs.Common.{ℕ, ⊎_elim, ◌+◌, ◌-◌, ◌<◌, ◌∙◌, ◌∷◌, ◌≡◌, ◌≤◌, ◌⊎◌}
 
 -- the first of n places from one on at which a test holds
 pub record IsFirst (p : ℕ → Bool) (from to at : ℕ) : Type 0 where

@@ -1,8 +1,8 @@
 -- A text is split in one way.
-use Rattle.sc_parse_read.proofs.Common.{AreSections, IsBadHeading, IsSection, IsSplit, IsTrue, List, None, Section, ap, ap₂}
-use Rattle.sc_parse_read.proofs.Common.{arith, cases_lt, is_heading, length, map, name_at, none, none-some, part_of, refl}
-use Rattle.sc_parse_read.proofs.Common.{same_unless, section, slice_range, subst, sym, take, ℕ, ⊎_elim, ◌<◌, ◌∙◌, ◌∷◌, ◌≡◌}
-use Rattle.sc_parse_read.proofs.Common.{◌≤◌}
+use Rattle.sc_parse_read.proofs.Common.{AreSections, IsBadHeading, IsSection, IsSplit, IsTrue, List, None, Section, ap}
+use Rattle.sc_parse_read.proofs.Common.{ap₂, arith, cases_lt, is_heading, length, map, name_at, none, none-some}
+use Rattle.sc_parse_read.proofs.Common.{part_of, refl, same_unless, section, slice_range, subst, sym, take, ℕ, ⊎_elim}
+use Rattle.sc_parse_read.proofs.Common.{◌<◌, ◌∙◌, ◌∷◌, ◌≡◌, ◌≤◌}
 use Rattle.sc_lex.proofs.Splits.{heading_within, sections_rise}
 
 begins : {text : List ℕ} {at end : ℕ} {ss : List Section} → AreSections text at end ss → at < end →
@@ -37,7 +37,8 @@ same_sections {text} (section first g others) (section first' g' others') same e
 -- no compartment line stands before the end of the preamble
 not_before : {text p q : List ℕ} {ss ss' : List Section} → IsSplit text p ss → IsSplit text q ss' →
     length p < length q → ⊥
-not_before {p = p} c d less = d.before _ (omega arith) less (begins c.following (omega (arith, sections_rise d.following)))
+not_before {p = p} c d less = d.before _ (omega arith) less
+    (begins c.following (omega (arith, sections_rise d.following)))
 
 pub same_preamble : {text p q : List ℕ} {ss ss' : List Section} → IsSplit text p ss → IsSplit text q ss' → p ≡ q
 same_preamble {text} {p} {q} c d = c.prefix ∙

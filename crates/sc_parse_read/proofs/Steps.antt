@@ -1,15 +1,16 @@
 -- From what the functions over the sections find to what is said of the text.
 use Rattle.sc_parse_read.proofs.Common.{AllByRecursion, AllZip, Any, AreSections, Cuts, Err, Fails, FailsSyntax, First}
-use Rattle.sc_parse_read.proofs.Common.{HasTokens, HasTree, IfOk, IsCut, IsCutInto, IsCuttable, IsGap, IsParsable, IsParsed}
-use Rattle.sc_parse_read.proofs.Common.{IsRead, IsSplit, IsTreeOf, IsUncut, IsUnread, List, None, Ok, Part, PassesLex, Phase}
-use Rattle.sc_parse_read.proofs.Common.{Reads, Refusal, RefusesBytes, RefusesHeading, RefusesTokens, Result, Section}
-use Rattle.sc_parse_read.proofs.Common.{SectionTree, Some, Token, [], and_parts, ap, arith, bad_heading, begins_line}
-use Rattle.sc_parse_read.proofs.Common.{block_comment, codes, drop, false, false≢true, prefix_byte, gap, get_or, get_or-take}
-use Rattle.sc_parse_read.proofs.Common.{here, in_preamble, in_section, is_white_space, later, length, length-drop}
-use Rattle.sc_parse_read.proofs.Common.{length-take-le, lexemes_of, line_after, line_at, line_comment, map, newlines, none}
-use Rattle.sc_parse_read.proofs.Common.{none-some, nothing, part_of, refl, section, slash_first, slice_get, slice_index}
-use Rattle.sc_parse_read.proofs.Common.{slice_set, star_first, subst, suc, sym, take, take-append-drop, token, true, uncut}
-use Rattle.sc_parse_read.proofs.Common.{white_space, zero, ℕ, ◌++◌, ◌+◌, ◌-◌, ◌<◌, ◌∙◌, ◌∷◌, ◌≡◌, ◌≤◌}
+use Rattle.sc_parse_read.proofs.Common.{HasTokens, HasTree, IfOk, IsCut, IsCutInto, IsCuttable, IsGap, IsParsable}
+use Rattle.sc_parse_read.proofs.Common.{IsParsed, IsRead, IsSplit, IsTreeOf, IsUncut, IsUnread, List, None, Ok, Part}
+use Rattle.sc_parse_read.proofs.Common.{PassesLex, Phase, Reads, Refusal, RefusesBytes, RefusesHeading, RefusesTokens}
+use Rattle.sc_parse_read.proofs.Common.{Result, Section, SectionTree, Some, Token, [], and_parts, ap, arith}
+use Rattle.sc_parse_read.proofs.Common.{bad_heading, begins_line, block_comment, codes, drop, false, false≢true, gap}
+use Rattle.sc_parse_read.proofs.Common.{get_or, get_or-take, here, in_preamble, in_section, is_white_space, later}
+use Rattle.sc_parse_read.proofs.Common.{length, length-drop, length-take-le, lexemes_of, line_after, line_at}
+use Rattle.sc_parse_read.proofs.Common.{line_comment, map, newlines, none, none-some, nothing, part_of, prefix_byte}
+use Rattle.sc_parse_read.proofs.Common.{refl, section, slash_first, slice_get, slice_index, slice_set, star_first}
+use Rattle.sc_parse_read.proofs.Common.{subst, suc, sym, take, take-append-drop, token, true, uncut, white_space, zero}
+use Rattle.sc_parse_read.proofs.Common.{ℕ, ◌++◌, ◌+◌, ◌-◌, ◌<◌, ◌∙◌, ◌∷◌, ◌≡◌, ◌≤◌}
 use Rattle.std.proofs.lemmas.List.{take_more, drop_more}
 use Rattle.sc_lex.specs.declared.refusal.Phase.TheVariants as phase
 

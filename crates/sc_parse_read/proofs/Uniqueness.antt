@@ -1,11 +1,12 @@
 -- A text is read or refused in one way, and bytes that are cut aren't refused.
-use Rattle.sc_parse_read.proofs.Common.{AllZip, Bool, Cuts, Fails, FailsLex, FailsSyntax, First, HasTokens, HasTree, IsCut}
-use Rattle.sc_parse_read.proofs.Common.{IsGap, IsParsed, IsRead, IsSplit, IsStuck, IsToken, IsUncut, IsUnread, Lexeme, List}
-use Rattle.sc_parse_read.proofs.Common.{Part, PassesLex, Phase, Reads, Refusal, RefusesBytes, RefusesHeading, Section}
-use Rattle.sc_parse_read.proofs.Common.{SectionTree, SpellsSection, Token, TokenKind, [], allows_directive, ap, ap₂, arith}
-use Rattle.sc_parse_read.proofs.Common.{bad_heading, drop, gap, gap_fits, here, in_preamble, in_section, later, length}
-use Rattle.sc_parse_read.proofs.Common.{length-drop, lexemes_of, line_at, nothing, one_gap, parts_of, refl, same_unless}
-use Rattle.sc_parse_read.proofs.Common.{subst, sym, token, token_positive, uncut, ℕ, ◌∙◌, ◌∷◌, ◌≡◌, ◌≤◌}
+use Rattle.sc_parse_read.proofs.Common.{AllZip, Bool, Cuts, Fails, FailsLex, FailsSyntax, First, HasTokens, HasTree}
+use Rattle.sc_parse_read.proofs.Common.{IsCut, IsGap, IsParsed, IsRead, IsSplit, IsStuck, IsToken, IsUncut, IsUnread}
+use Rattle.sc_parse_read.proofs.Common.{Lexeme, List, Part, PassesLex, Phase, Reads, Refusal, RefusesBytes}
+use Rattle.sc_parse_read.proofs.Common.{RefusesHeading, Section, SectionTree, SpellsSection, Token, TokenKind, []}
+use Rattle.sc_parse_read.proofs.Common.{allows_directive, ap, ap₂, arith, bad_heading, drop, gap, gap_fits, here}
+use Rattle.sc_parse_read.proofs.Common.{in_preamble, in_section, later, length, length-drop, lexemes_of, line_at}
+use Rattle.sc_parse_read.proofs.Common.{nothing, one_gap, parts_of, refl, same_unless, subst, sym, token}
+use Rattle.sc_parse_read.proofs.Common.{token_positive, uncut, ℕ, ◌∙◌, ◌∷◌, ◌≡◌, ◌≤◌}
 use Rattle.sc_lex.specs.declared.refusal.Phase.TheVariants as phase
 use Rattle.sc_parse_read.proofs.Splits.{same_preamble, same_parts, split_good}
 use Rattle.sc_lex.proofs.Cuts.{gap_and_token, token_le}

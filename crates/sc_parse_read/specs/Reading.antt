@@ -1,7 +1,7 @@
 -- How a text is read: it is split into its preamble and its sections, these parts are cut into tokens, and the tokens
 -- of each section spell its tree.
-use Rattle.sc_parse_read.specs.Common.{IsCut, IsParsed, IsSplit, RefusesBytes, RefusesHeading, Section, SectionTree, Token}
-use Rattle.sc_parse_read.specs.Common.{lexemes_of, line_after, line_at}
+use Rattle.sc_parse_read.specs.Common.{IsCut, IsParsed, IsSplit, RefusesBytes, RefusesHeading, Section, SectionTree}
+use Rattle.sc_parse_read.specs.Common.{Token, lexemes_of, line_after, line_at}
 use Rattle.std.specs.Prelude.{◌≡◌, ℕ, ◌-◌, List, [], ◌∷◌, map, Any}
 use Rattle.std.specs.List.{AllZip}
 use Rattle.sc_lex.specs.declared.refusal.Refusal.{Refusal}

@@ -1,9 +1,9 @@
 //! The text of a program that is made from a size and a seed.
 
 ghost use Rattle.std.specs.Prelude.{◌≡◌, ◌≤◌, ◌++◌, ◌/◌, ℕ, IfOk, OnOk, decimal, flat_map};
-ghost use Rattle.sc_report_made.specs.Text.{all_functions, call_text, export_text, function_name, function_text, functions_of};
-ghost use Rattle.sc_report_made.specs.Text.{import_text, made_text, main_text, next_state, numbers_from, proto_text};
-ghost use Rattle.sc_report_made.specs.Text.{worker_name, worker_text, workers};
+ghost use Rattle.sc_report_made.specs.Text.{all_functions, call_text, export_text, function_name, function_text};
+ghost use Rattle.sc_report_made.specs.Text.{functions_of, import_text, made_text, main_text, next_state, numbers_from};
+ghost use Rattle.sc_report_made.specs.Text.{proto_text, worker_name, worker_text, workers};
 ghost use Rattle.sc_report.specs.Making.{IsDrawn, call_with, function_with, rounds_text, state_at};
 
 use itoa::Buffer;

@@ -1,12 +1,13 @@
 -- The statements of `main`: a call of each function, what it gives is written, and the end.
 use Rattle.sc_report_made.proofs.Common.{AllByRecursion, Even, ExprTree, List, Nested, Number, Piece, StmtTree, [], ap}
-use Rattle.sc_report_made.proofs.Common.{append-nil, append_assoc, argument, arith, blank, call_kind, call_text, calls_tree}
-use Rattle.sc_report_made.proofs.Common.{codes, decimal, digits, even_equal, even_ident, even_keyword, even_literal}
-use Rattle.sc_report_made.proofs.Common.{even_semicolon, expr_height, expr_words, fits, flat_map, function_name, is_ident}
-use Rattle.sc_report_made.proofs.Common.{is_kept, is_kept_stmt, line_of, literal, literal_text, nested_blank, nested_even}
-use Rattle.sc_report_made.proofs.Common.{nested_level, nested_line, nested_none, nested_parens, output_kind, refl, return_kind}
-use Rattle.sc_report_made.proofs.Common.{return_words, rules, stmt_at, stmt_height, stmt_layout, subst, suc, sym, text_of}
-use Rattle.sc_report_made.proofs.Common.{true, word, ℕ, ◌++◌, ◌<◌, ◌∙◌, ◌∷◌, ◌≡◌, ◌≤◌}
+use Rattle.sc_report_made.proofs.Common.{append-nil, append_assoc, argument, arith, blank, call_kind, call_text}
+use Rattle.sc_report_made.proofs.Common.{calls_tree, codes, decimal, digits, even_equal, even_ident, even_keyword}
+use Rattle.sc_report_made.proofs.Common.{even_literal, even_semicolon, expr_height, expr_words, fits, flat_map}
+use Rattle.sc_report_made.proofs.Common.{function_name, is_ident, is_kept, is_kept_stmt, line_of, literal, literal_text}
+use Rattle.sc_report_made.proofs.Common.{nested_blank, nested_even, nested_level, nested_line, nested_none}
+use Rattle.sc_report_made.proofs.Common.{nested_parens, output_kind, refl, return_kind, return_words, rules, stmt_at}
+use Rattle.sc_report_made.proofs.Common.{stmt_height, stmt_layout, subst, suc, sym, text_of, true, word, ℕ, ◌++◌, ◌<◌}
+use Rattle.sc_report_made.proofs.Common.{◌∙◌, ◌∷◌, ◌≡◌, ◌≤◌}
 unfoldable use Rattle.sc_base.specs.Prelude.{is_name, is_reserved}
 use Rattle.sc_ast.specs.declared.expr.ExprTree as exprs
 use Rattle.sc_ast.specs.declared.expr.ExprTree.TheVariants as expr

@@ -40,19 +40,21 @@ pub use Rattle.sc_parse.specs.Prelude.{SpellsDecl, SpellsStmtKind, first_line}
 pub use Rattle.sc_parse_print_laws.proofs.Reading.{Alike, AllAlike, Reading, fixed, line_symbols, part, reads, written}
 pub use Rattle.sc_parse_print_laws.proofs.Spacing.{at_level, gap, line_end, lone, next, none, tidy_append, tidy_at}
 pub use Rattle.sc_parse_print_laws.proofs.Stmts.{Lines, Part, all_at, everywhere, for_with, same_line}
-pub use Rattle.sc_parse_print_laws.proofs.TreeSpacing.{Free, each_tidy, expr_tidy, head_tidy, local_tidy, simple_tidy, stmt_holds}
-pub use Rattle.sc_parse_print_laws.proofs.TreeSpacing.{stmts_tidy}
+pub use Rattle.sc_parse_print_laws.proofs.TreeSpacing.{Free, each_tidy, expr_tidy, head_tidy, local_tidy, simple_tidy}
+pub use Rattle.sc_parse_print_laws.proofs.TreeSpacing.{stmt_holds, stmts_tidy}
 pub use Rattle.sc_parse_print_laws.proofs.Whole.{decl_symbols, dense_tidy, exports_lined, imports_lined, section_with}
-pub use Rattle.sc_parse_print_laws.specs.Prelude.{are_kept, dense_decl, is_kept, is_kept_decl, is_kept_stmt, kept_export}
-pub use Rattle.sc_parse_print_laws.specs.Prelude.{kept_head, kept_import, kept_local, kept_option, kept_param}
-pub use Rattle.sc_types_scope.specs.Prelude.{Known, Text, among, body_lines, call_known, declared, defines_main, export_names}
-pub use Rattle.sc_types_scope.specs.Prelude.{expr_known, function_named, function_names, functions_in, globals_in, heads_in}
-pub use Rattle.sc_types_scope.specs.Prelude.{is_callable, is_environment, is_new, line_of_text, names_broken, offering}
-pub use Rattle.sc_types_scope.specs.Prelude.{offers, proto_names, protos_in, struct_names, structs_in, unless}
+pub use Rattle.sc_parse_print_laws.specs.Prelude.{are_kept, dense_decl, is_kept, is_kept_decl, is_kept_stmt}
+pub use Rattle.sc_parse_print_laws.specs.Prelude.{kept_export, kept_head, kept_import, kept_local, kept_option}
+pub use Rattle.sc_parse_print_laws.specs.Prelude.{kept_param}
+pub use Rattle.sc_types_scope.specs.Prelude.{Known, Text, among, body_lines, call_known, declared, defines_main}
+pub use Rattle.sc_types_scope.specs.Prelude.{export_names, expr_known, function_named, function_names, functions_in}
+pub use Rattle.sc_types_scope.specs.Prelude.{globals_in, heads_in, is_callable, is_environment, is_new, line_of_text}
+pub use Rattle.sc_types_scope.specs.Prelude.{names_broken, offering, offers, proto_names, protos_in, struct_names}
+pub use Rattle.sc_types_scope.specs.Prelude.{structs_in, unless}
 pub use Rattle.sc_types_interfaces.specs.Prelude.{agree, agrees_as, agrees_there, agrees_with, decls_from, export_holds}
 pub use Rattle.sc_types_interfaces.specs.Prelude.{exports_from, head_holds, import_fits, import_holds, imported_agrees}
-pub use Rattle.sc_types_interfaces.specs.Prelude.{imports_from, input_name, interface_broken, is_input, is_main, is_offered}
-pub use Rattle.sc_types_interfaces.specs.Prelude.{is_output, is_plain, lines_from, main_holds, output_name}
+pub use Rattle.sc_types_interfaces.specs.Prelude.{imports_from, input_name, interface_broken, is_input, is_main}
+pub use Rattle.sc_types_interfaces.specs.Prelude.{is_offered, is_output, is_plain, main_holds, output_name}
 pub use Rattle.sc_core.specs.Prelude.{Scope, Signature, args_fit, assign_fits, cells_of, frame_bound, goes_into}
 pub use Rattle.sc_core.specs.Prelude.{is_scalar, is_target, judged, most_nodes, nodes, place_judged, result_goes, total}
 pub use Rattle.sc_core.specs.Prelude.{value_judged, variables}
@@ -61,31 +63,32 @@ pub use Rattle.sc_core.specs.declared.expr.VarRef.TheVariants.{Global, Local, Pa
 pub use Rattle.sc_types_elab_expr.specs.Prelude.{Callees, Visible, going_to, typed}
 pub use Rattle.sc_types_elab_stmt.specs.Prelude.{assign_call_holds, assign_holds, call_holds, cond_holds, going_to_all}
 pub use Rattle.sc_types_elab_stmt.specs.Prelude.{params_of, part_lines, return_value_holds, stmt_lines}
-pub use Rattle.sc_types_elab.specs.Prelude.{callees_of, decl_lines, function_lines, global_variable, head_named, or_first}
-pub use Rattle.sc_types_elab.specs.Prelude.{program_of, scope_in, section_lines, sections_from, signature_by, structs, tags}
-pub use Rattle.sc_types_elab.specs.Prelude.{type_of, typed_function, typed_global, typed_section, types_broken, visible_of}
+pub use Rattle.sc_types_elab.specs.Prelude.{callees_of, decl_lines, global_variable, head_named, or_first, program_of}
+pub use Rattle.sc_types_elab.specs.Prelude.{scope_in, section_lines, sections_from, signature_by, structs, tags}
+pub use Rattle.sc_types_elab.specs.Prelude.{type_of, typed_function, typed_global, typed_section, types_broken}
+pub use Rattle.sc_types_elab.specs.Prelude.{visible_of}
 pub use Rattle.sc_types.proofs.TypedNodes.{function-nodes, section-nodes}
-pub use Rattle.sc_types.specs.Prelude.{counts_broken, function_nodes, global_lines, head_lines, section_nodes}
-pub use Rattle.sc_types.specs.Prelude.{stmt_nodes, structs_from}
-pub use Rattle.sc_back_reread_laws.proofs.Headless.{Closed, Closing, Headless, after_closing, closed_append, export_headless}
-pub use Rattle.sc_back_reread_laws.proofs.Headless.{headed, headed_text, import_headless, name_plain, plain, plain_append}
-pub use Rattle.sc_back_reread_laws.proofs.Headless.{plain_headless, plain_then, tidy_plain}
-pub use Rattle.sc_back_reread_laws.proofs.Nesting.{Even, Nested, even_binary, even_equal, even_ident, even_keyword, even_literal}
-pub use Rattle.sc_back_reread_laws.proofs.Nesting.{even_semicolon, even_step, nested_append, nested_blank, nested_curly}
-pub use Rattle.sc_back_reread_laws.proofs.Nesting.{nested_even, nested_level, nested_line, nested_more, nested_none}
-pub use Rattle.sc_back_reread_laws.proofs.Nesting.{nested_parens, nested_square}
+pub use Rattle.sc_types.specs.Prelude.{counts_broken, function_lines, function_nodes, global_lines, head_lines}
+pub use Rattle.sc_types.specs.Prelude.{lines_from, section_nodes, stmt_nodes, structs_from}
+pub use Rattle.sc_back_reread_laws.proofs.Headless.{Closed, Closing, Headless, after_closing, closed_append}
+pub use Rattle.sc_back_reread_laws.proofs.Headless.{export_headless, headed, headed_text, import_headless, name_plain}
+pub use Rattle.sc_back_reread_laws.proofs.Headless.{plain, plain_append, plain_headless, plain_then, tidy_plain}
+pub use Rattle.sc_back_reread_laws.proofs.Nesting.{Even, Nested, even_binary, even_equal, even_ident, even_keyword}
+pub use Rattle.sc_back_reread_laws.proofs.Nesting.{even_literal, even_semicolon, even_step, nested_append, nested_blank}
+pub use Rattle.sc_back_reread_laws.proofs.Nesting.{nested_curly, nested_even, nested_level, nested_line, nested_more}
+pub use Rattle.sc_back_reread_laws.proofs.Nesting.{nested_none, nested_parens, nested_square}
 pub use Rattle.sc_back_reread_laws.proofs.Performing.{even_export, even_heading, even_import}
 pub use Rattle.sc_back_reread_laws.proofs.Splitting.{IsText, Joined, bytes_of}
 pub use Rattle.sc_back_performer_laws.proofs.CountsKept.{all_none, none_beyond}
 pub use Rattle.sc_back_performer_laws.proofs.Distinct.{among_back, among_prefix, is_false, not_both, not_from}
 pub use Rattle.sc_back_performer_laws.proofs.Uses.{IsAmong, first, is_first_or_later, later, none_among}
-pub use Rattle.sc_report_made.specs.Laws.{AreSame, AreSmall, IsAsked, IsReadAs, IsSmall, MadeTextsAreAccepted}
-pub use Rattle.sc_report_made.specs.Laws.{MadeTextsAreRead, MadeTreesAreTyped}
+pub use Rattle.sc_report_made.specs.Laws.{AreSame, AreSmall, IsAsked, IsSmall, MadeTextsAreAccepted, MadeTextsAreRead}
+pub use Rattle.sc_report_made.specs.Laws.{MadeTreesAreTyped}
 pub use Rattle.sc_report_made.specs.Text.{addend, all_functions, argument, call_text, drawn, export_text, function_name}
 pub use Rattle.sc_report_made.specs.Text.{function_text, functions_of, import_text, made_text, main_text, numbers_from}
 pub use Rattle.sc_report_made.specs.Text.{proto_text, state_after, worker_name, worker_text, workers}
 pub use Rattle.sc_report_made.specs.Tree.{FunctionLines, add_kind, assign_simple, below, call_kind, call_of, calls_tree}
-pub use Rattle.sc_report_made.specs.Tree.{element, export_at, function_at, import_at, literal, local_at, loop_kind, made_trees}
-pub use Rattle.sc_report_made.specs.Tree.{main_at, main_body, main_tree, next_at, no_lines, output_import, output_kind}
-pub use Rattle.sc_report_made.specs.Tree.{output_proto, proto_at, return_kind, set_kind, start_at, stmt_at, store_kind}
-pub use Rattle.sc_report_made.specs.Tree.{table_at, variable, worker_tree}
+pub use Rattle.sc_report_made.specs.Tree.{element, export_at, function_at, import_at, literal, local_at, loop_kind}
+pub use Rattle.sc_report_made.specs.Tree.{made_trees, main_at, main_body, main_tree, next_at, no_lines, output_import}
+pub use Rattle.sc_report_made.specs.Tree.{output_kind, output_proto, proto_at, return_kind, set_kind, start_at, stmt_at}
+pub use Rattle.sc_report_made.specs.Tree.{store_kind, table_at, variable, worker_tree}

@@ -1,8 +1,7 @@
 -- The sections of a made text hold no more than a program may.
-use Rattle.sc_report_made.proofs.Common.{IsAsked, List, SectionTree, [], ap, ap₂, arith, callees_of, counts_broken, length}
-use Rattle.sc_report_made.proofs.Common.{line_of_text, map, none_beyond, numbers_from, refl, suc, workers, ℕ, ◌++◌, ◌∙◌, ◌≡◌}
-use Rattle.sc_report_made.proofs.Common.{◌≤◌}
-use Rattle.sc_types.specs.Prelude.{lines_from}
+use Rattle.sc_report_made.proofs.Common.{IsAsked, List, SectionTree, [], ap, ap₂, arith, callees_of, counts_broken}
+use Rattle.sc_report_made.proofs.Common.{length, line_of_text, lines_from, map, none_beyond, numbers_from, refl, suc}
+use Rattle.sc_report_made.proofs.Common.{workers, ℕ, ◌++◌, ◌∙◌, ◌≡◌, ◌≤◌}
 use Rattle.sc_report_made.proofs.MainCounts.{main_counted}
 use Rattle.sc_report_made.proofs.Shapes.{AreMade, AreWorkers, and_worker, no_workers}
 use Rattle.sc_report_made.proofs.Shares.{numbers_length}

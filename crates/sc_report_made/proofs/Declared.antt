@@ -4,8 +4,8 @@ use Rattle.sc_report_made.proofs.Common.{function_name, functions_in, globals_in
 use Rattle.sc_report_made.proofs.Common.{protos_in, refl, structs_in, ℕ, ◌++◌, ◌∷◌, ◌≡◌}
 use Rattle.sc_ast.specs.declared.section.Decl.TheVariants as decl
 use Rattle.sc_report_made.proofs.Naming.{function_names}
-use Rattle.sc_report_made.proofs.Shapes.{AreExports, AreFunctions, AreImports, AreProtos, and_export, and_function, and_import}
-use Rattle.sc_report_made.proofs.Shapes.{and_proto, no_exports, no_functions, no_imports, no_protos}
+use Rattle.sc_report_made.proofs.Shapes.{AreExports, AreFunctions, AreImports, AreProtos, and_export, and_function}
+use Rattle.sc_report_made.proofs.Shapes.{and_import, and_proto, no_exports, no_functions, no_imports, no_protos}
 
 -- Names.
 

@@ -1,12 +1,12 @@
 -- Declarations: words that spell them, and what these come to.
-use Rattle.sc_report_made.proofs.Common.{Alike, AllAlike, Decl, Free, FunctionTree, List, Nested, Piece, Reading, SpellsDecl}
-use Rattle.sc_report_made.proofs.Common.{[], ap, append_assoc, ap₂, arith, blank, codes, decl_height, decl_symbols}
-use Rattle.sc_report_made.proofs.Common.{decls_height, dense_decl, dense_tidy, each_tidy, flat_map-append, gap, head_of}
-use Rattle.sc_report_made.proofs.Common.{head_tidy, head_words, is_kept_decl, kept_head, kept_local, line_end, lineless_decl}
-use Rattle.sc_report_made.proofs.Common.{list_all, local_line, local_tidy, locals_height, lone, nested_append, nested_blank}
-use Rattle.sc_report_made.proofs.Common.{nested_curly, nested_line, nested_more, nested_none, newline, next, none, part}
-use Rattle.sc_report_made.proofs.Common.{piece_text, reads, refl, subst, text_of, tidy_append, true, word, ℕ, ◌++◌, ◌∙◌, ◌∷◌}
-use Rattle.sc_report_made.proofs.Common.{◌≡◌, ◌≤◌}
+use Rattle.sc_report_made.proofs.Common.{Alike, AllAlike, Decl, Free, FunctionTree, List, Nested, Piece, Reading}
+use Rattle.sc_report_made.proofs.Common.{SpellsDecl, [], ap, append_assoc, ap₂, arith, blank, codes, decl_height}
+use Rattle.sc_report_made.proofs.Common.{decl_symbols, decls_height, dense_decl, dense_tidy, each_tidy, flat_map-append}
+use Rattle.sc_report_made.proofs.Common.{gap, head_of, head_tidy, head_words, is_kept_decl, kept_head, kept_local}
+use Rattle.sc_report_made.proofs.Common.{line_end, lineless_decl, list_all, local_line, local_tidy, locals_height, lone}
+use Rattle.sc_report_made.proofs.Common.{nested_append, nested_blank, nested_curly, nested_line, nested_more}
+use Rattle.sc_report_made.proofs.Common.{nested_none, newline, next, none, part, piece_text, reads, refl, subst}
+use Rattle.sc_report_made.proofs.Common.{text_of, tidy_append, true, word, ℕ, ◌++◌, ◌∙◌, ◌∷◌, ◌≡◌, ◌≤◌}
 use Rattle.std.specs.List.{flat_map}
 use Rattle.sc_ast.specs.declared.section.Decl.TheVariants as decl
 use Rattle.sc_parse.specs.Lists as lists

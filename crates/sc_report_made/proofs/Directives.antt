@@ -1,11 +1,12 @@
 -- The directives of a made text: words that are lines, and what these come to.
-use Rattle.sc_report_made.proofs.Common.{AllByRecursion, Bool, ExportLine, Headless, ImportLine, List, Nested, Piece, []}
-use Rattle.sc_report_made.proofs.Common.{and_from, ap, append_assoc, ap₂, arith, codes, div-add-mod', even_export, even_import}
-use Rattle.sc_report_made.proofs.Common.{export_at, export_headless, export_text, flat_map, flat_map-append, function_name}
-use Rattle.sc_report_made.proofs.Common.{import_at, import_headless, import_text, kept_export, kept_import, list_all, map}
-use Rattle.sc_report_made.proofs.Common.{name_plain, nested_append, nested_even, nested_line, nested_none, output_import}
-use Rattle.sc_report_made.proofs.Common.{piece_text, plain_append, plain_then, refl, subst, sym, text_of, true, worker_name}
-use Rattle.sc_report_made.proofs.Common.{workers, ℕ, ◌%◌, ◌++◌, ◌<◌, ◌∙◌, ◌∷◌, ◌≡◌}
+use Rattle.sc_report_made.proofs.Common.{AllByRecursion, Bool, ExportLine, Headless, ImportLine, List, Nested, Piece}
+use Rattle.sc_report_made.proofs.Common.{[], and_from, ap, append_assoc, ap₂, arith, codes, div-add-mod', even_export}
+use Rattle.sc_report_made.proofs.Common.{even_import, export_at, export_headless, export_text, flat_map}
+use Rattle.sc_report_made.proofs.Common.{flat_map-append, function_name, import_at, import_headless, import_text}
+use Rattle.sc_report_made.proofs.Common.{kept_export, kept_import, list_all, map, name_plain, nested_append}
+use Rattle.sc_report_made.proofs.Common.{nested_even, nested_line, nested_none, output_import, piece_text, plain_append}
+use Rattle.sc_report_made.proofs.Common.{plain_then, refl, subst, sym, text_of, true, worker_name, workers, ℕ, ◌%◌}
+use Rattle.sc_report_made.proofs.Common.{◌++◌, ◌<◌, ◌∙◌, ◌∷◌, ◌≡◌}
 unfoldable use Rattle.sc_base.specs.Prelude.{is_name}
 unfoldable use Rattle.sc_ast.specs.Prelude.{export_words, import_words}
 use Rattle.sc_report_made.proofs.Spelled.{function_named, worker_named}

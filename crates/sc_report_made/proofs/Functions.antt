@@ -1,14 +1,15 @@
 -- The declarations of a made text: prototypes, `main`, the table of a worker and its functions.
-use Rattle.sc_report_made.proofs.Common.{AllByRecursion, Decl, List, Nested, Number, Piece, StmtTree, [], addend, and_from, ap}
-use Rattle.sc_report_made.proofs.Common.{append-nil, append_assoc, arith, blank, codes, decimal, dense_decl, digits}
-use Rattle.sc_report_made.proofs.Common.{even_equal, even_ident, even_keyword, even_literal, even_semicolon, expr_height}
-use Rattle.sc_report_made.proofs.Common.{expr_words, fits, flat_map, function_at, function_name, function_text, head_of}
-use Rattle.sc_report_made.proofs.Common.{head_words, is_ident, is_kept, is_kept_decl, is_kept_stmt, kept_head, kept_local}
-use Rattle.sc_report_made.proofs.Common.{kept_param, line_of, list_all, literal_text, local_at, local_line, main_at, map}
-use Rattle.sc_report_made.proofs.Common.{nested_blank, nested_even, nested_level, nested_line, nested_more, nested_none}
-use Rattle.sc_report_made.proofs.Common.{nested_parens, nested_square, no_lines, output_proto, proto_at, proto_text, refl}
-use Rattle.sc_report_made.proofs.Common.{return_kind, rules, set_kind, stmt_at, stmt_height, stmt_layout, subst, sym, table_at}
-use Rattle.sc_report_made.proofs.Common.{text_of, true, variable, word, ℕ, ◌++◌, ◌<◌, ◌∙◌, ◌∷◌, ◌≡◌}
+use Rattle.sc_report_made.proofs.Common.{AllByRecursion, Decl, List, Nested, Number, Piece, StmtTree, [], addend}
+use Rattle.sc_report_made.proofs.Common.{and_from, ap, append-nil, append_assoc, arith, blank, codes, decimal}
+use Rattle.sc_report_made.proofs.Common.{dense_decl, digits, even_equal, even_ident, even_keyword, even_literal}
+use Rattle.sc_report_made.proofs.Common.{even_semicolon, expr_height, expr_words, fits, flat_map, function_at}
+use Rattle.sc_report_made.proofs.Common.{function_name, function_text, head_of, head_words, is_ident, is_kept}
+use Rattle.sc_report_made.proofs.Common.{is_kept_decl, is_kept_stmt, kept_head, kept_local, kept_param, line_of}
+use Rattle.sc_report_made.proofs.Common.{list_all, literal_text, local_at, local_line, main_at, map, nested_blank}
+use Rattle.sc_report_made.proofs.Common.{nested_even, nested_level, nested_line, nested_more, nested_none}
+use Rattle.sc_report_made.proofs.Common.{nested_parens, nested_square, no_lines, output_proto, proto_at, proto_text}
+use Rattle.sc_report_made.proofs.Common.{refl, return_kind, rules, set_kind, stmt_at, stmt_height, stmt_layout, subst}
+use Rattle.sc_report_made.proofs.Common.{sym, table_at, text_of, true, variable, word, ℕ, ◌++◌, ◌<◌, ◌∙◌, ◌∷◌, ◌≡◌}
 unfoldable use Rattle.sc_base.specs.Prelude.{is_name, is_reserved}
 use Rattle.sc_ast.specs.declared.expr.ExprTree as exprs
 use Rattle.sc_ast.specs.declared.expr.ExprTree.TheVariants as expr

@@ -1,9 +1,10 @@
 -- Lines of statements: words that spell them, and what these come to.
-use Rattle.sc_report_made.proofs.Common.{Free, Lines, List, Nested, Piece, Reading, SpellsStmtKind, StmtKind, StmtTree, []}
-use Rattle.sc_report_made.proofs.Common.{ap₂, arith, at_level, first_line, flat_map-append, is_kept_stmt, line_end, line_of}
-use Rattle.sc_report_made.proofs.Common.{line_symbols, lineless_kind, nested_append, nested_none, newline, none, part}
-use Rattle.sc_report_made.proofs.Common.{piece_text, reads, refl, same_line, stmt_height, stmt_holds, stmt_layout}
-use Rattle.sc_report_made.proofs.Common.{stmts_height, text_of, tidy_append, true, ℕ, ◌++◌, ◌∙◌, ◌∷◌, ◌≡◌, ◌≤◌}
+use Rattle.sc_report_made.proofs.Common.{Free, Lines, List, Nested, Piece, Reading, SpellsStmtKind, StmtKind, StmtTree}
+use Rattle.sc_report_made.proofs.Common.{[], ap₂, arith, at_level, first_line, flat_map-append, is_kept_stmt, line_end}
+use Rattle.sc_report_made.proofs.Common.{line_of, line_symbols, lineless_kind, nested_append, nested_none, newline}
+use Rattle.sc_report_made.proofs.Common.{none, part, piece_text, reads, refl, same_line, stmt_height, stmt_holds}
+use Rattle.sc_report_made.proofs.Common.{stmt_layout, stmts_height, text_of, tidy_append, true, ℕ, ◌++◌, ◌∙◌, ◌∷◌, ◌≡◌}
+use Rattle.sc_report_made.proofs.Common.{◌≤◌}
 use Rattle.sc_parse_expr.specs.declared.lexeme.Lexeme.{Lexeme}
 use Rattle.sc_parse.specs.Statements as spell
 use Rattle.sc_parse_print_laws.proofs.Stmts as printed

@@ -1,7 +1,7 @@
 -- The literals of a made text: how they are typed and judged, and that those that are drawn fit.
-use Rattle.sc_report_made.proofs.Common.{Scope, TypedExpr, Visible, addend, ap, argument, arith, drawn, goes_into, judged}
-use Rattle.sc_report_made.proofs.Common.{le-leb, literal, nat_le, rules, state_after, suc, true, typed, value_judged, ℕ, ◌%◌}
-use Rattle.sc_report_made.proofs.Common.{◌*◌, ◌+◌, ◌/◌, ◌^◌, ◌∙◌, ◌≡◌, ◌≤◌}
+use Rattle.sc_report_made.proofs.Common.{Scope, TypedExpr, Visible, addend, ap, argument, arith, drawn, goes_into}
+use Rattle.sc_report_made.proofs.Common.{judged, le-leb, literal, nat_le, rules, state_after, suc, true, typed}
+use Rattle.sc_report_made.proofs.Common.{value_judged, ℕ, ◌%◌, ◌*◌, ◌+◌, ◌/◌, ◌^◌, ◌∙◌, ◌≡◌, ◌≤◌}
 use Rattle.sc_ast.specs.declared.expr.ExprTree as exprs
 use Rattle.sc_core.specs.declared.expr.TypedExpr as typed_exprs
 use Rattle.sc_core.specs.declared.expr.TypedKind as typed_kinds

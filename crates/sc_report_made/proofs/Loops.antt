@@ -1,15 +1,16 @@
 -- The loop in a worker's function, whose `i++` is the words of no tree.
-use Rattle.sc_report_made.proofs.Common.{ExprTree, Free, List, Nested, Part, Piece, Reading, Some, StmtTree, [], add_kind}
-use Rattle.sc_report_made.proofs.Common.{all_at, and_from, ap, are_kept, arith, at_level, below, blank, block_words, codes}
-use Rattle.sc_report_made.proofs.Common.{digits, even_binary, even_equal, even_ident, even_keyword, even_literal}
-use Rattle.sc_report_made.proofs.Common.{even_semicolon, even_step, everywhere, expr_tidy, expr_words, first_line, first_words}
-use Rattle.sc_report_made.proofs.Common.{fixed, for_with, gap, indent, is_ident, is_kept, is_kept_stmt, is_place, kept_option}
-use Rattle.sc_report_made.proofs.Common.{layouts, line_end, line_of, line_symbols, lines_at, literal_text, lone, loop_kind}
-use Rattle.sc_report_made.proofs.Common.{nested_blank, nested_curly, nested_even, nested_level, nested_line, nested_more}
-use Rattle.sc_report_made.proofs.Common.{nested_none, nested_parens, nested_square, newline, next, next_at, no_lines, none}
-use Rattle.sc_report_made.proofs.Common.{part, place_words, reads, refl, rules, simple_tidy, start_at, stmt_at, stmt_height}
-use Rattle.sc_report_made.proofs.Common.{stmt_layout, stmts_tidy, store_kind, subst, sym, text_of, tidy_append, tidy_at, true}
-use Rattle.sc_report_made.proofs.Common.{variable, word, written, ◌++◌, ◌∙◌, ◌∷◌, ◌≡◌, ◌≤◌}
+use Rattle.sc_report_made.proofs.Common.{ExprTree, Free, List, Nested, Part, Piece, Reading, Some, StmtTree, []}
+use Rattle.sc_report_made.proofs.Common.{add_kind, all_at, and_from, ap, are_kept, arith, at_level, below, blank}
+use Rattle.sc_report_made.proofs.Common.{block_words, codes, digits, even_binary, even_equal, even_ident, even_keyword}
+use Rattle.sc_report_made.proofs.Common.{even_literal, even_semicolon, even_step, everywhere, expr_tidy, expr_words}
+use Rattle.sc_report_made.proofs.Common.{first_line, first_words, fixed, for_with, gap, indent, is_ident, is_kept}
+use Rattle.sc_report_made.proofs.Common.{is_kept_stmt, is_place, kept_option, layouts, line_end, line_of, line_symbols}
+use Rattle.sc_report_made.proofs.Common.{lines_at, literal_text, lone, loop_kind, nested_blank, nested_curly}
+use Rattle.sc_report_made.proofs.Common.{nested_even, nested_level, nested_line, nested_more, nested_none}
+use Rattle.sc_report_made.proofs.Common.{nested_parens, nested_square, newline, next, next_at, no_lines, none, part}
+use Rattle.sc_report_made.proofs.Common.{place_words, reads, refl, rules, simple_tidy, start_at, stmt_at, stmt_height}
+use Rattle.sc_report_made.proofs.Common.{stmt_layout, stmts_tidy, store_kind, subst, sym, text_of, tidy_append, tidy_at}
+use Rattle.sc_report_made.proofs.Common.{true, variable, word, written, ◌++◌, ◌∙◌, ◌∷◌, ◌≡◌, ◌≤◌}
 use Rattle.sc_base.specs.declared.op.BinaryOp.TheVariants as binary
 unfoldable use Rattle.sc_base.specs.Prelude.{is_name, is_reserved}
 use Rattle.sc_ast.specs.declared.expr.ExprTree as exprs
@@ -154,7 +155,8 @@ loop_is = rw (start_words, below_words, i_words, store_laid, add_laid)
 
 loop_reads : Reading loop_words (λ ts. Spelled ts loop)
 loop_reads ts said =
-    let emitted = for_with (Some (start_at 0)) below (Some (next_at 0)) body turn (start_kept i_ident) (below_kept i_ident)
+    let emitted = for_with (Some (start_at 0)) below (Some (next_at 0)) body turn (start_kept i_ident)
+    (below_kept i_ident)
     turn_reads (everywhere body) (all_at body body_kept) 1 ts said in
     record { kind = emitted.kind; spelled = emitted.spelled; same = emitted.same }
 

@@ -1,10 +1,11 @@
 -- `Main` holds no more than a program may.
-use Rattle.sc_report_made.proofs.Common.{Callees, ExportLine, HeadTree, ImportLine, List, SectionTree, [], all_functions}
-use Rattle.sc_report_made.proofs.Common.{all_none, and_from, ap, arith, concat, function_nodes, global_lines, head_lines}
-use Rattle.sc_report_made.proofs.Common.{le-leb, length, length-append, length-map, map, most_nodes, nat_le, none_beyond}
-use Rattle.sc_report_made.proofs.Common.{output_import, output_proto, refl, section-nodes, section_nodes, structs_from, suc}
-use Rattle.sc_report_made.proofs.Common.{total, true, unless, ℕ, ◌*◌, ◌++◌, ◌+◌, ◌∙◌, ◌∷◌, ◌≡◌, ◌≤◌}
-use Rattle.sc_types.specs.Prelude.{function_lines, section_lines}
+use Rattle.sc_report_made.proofs.Common.{Callees, ExportLine, HeadTree, ImportLine, List, SectionTree, []}
+use Rattle.sc_report_made.proofs.Common.{all_functions, all_none, and_from, ap, arith, concat, function_lines}
+use Rattle.sc_report_made.proofs.Common.{function_nodes, global_lines, head_lines, le-leb, length, length-append}
+use Rattle.sc_report_made.proofs.Common.{length-map, map, most_nodes, nat_le, none_beyond, output_import, output_proto}
+use Rattle.sc_report_made.proofs.Common.{refl, section-nodes, section_nodes, structs_from, suc, total, true, unless, ℕ}
+use Rattle.sc_report_made.proofs.Common.{◌*◌, ◌++◌, ◌+◌, ◌∙◌, ◌∷◌, ◌≡◌, ◌≤◌}
+use Rattle.sc_types.specs.Prelude.{section_lines}
 use Rattle.sc_ast.specs.declared.section.Decl.TheVariants as decl
 use Rattle.sc_report_made.proofs.Shapes.{AreImports, AreProtos, IsMain, and_import, and_proto, no_imports, no_protos}
 use Rattle.sc_report_made.proofs.Shares.{numbers_length}

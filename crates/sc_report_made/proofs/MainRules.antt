@@ -1,14 +1,15 @@
 -- The section of `Main` breaks no rule of interfaces.
-use Rattle.sc_report_made.proofs.Common.{Bool, Decl, FunctionTree, HeadTree, ImportLine, IsAmong, IsAsked, List, SectionTree}
-use Rattle.sc_report_made.proofs.Common.{Text, [], agree, agrees_as, agrees_there, agrees_with, all_functions, among}
-use Rattle.sc_report_made.proofs.Common.{among_back, among_prefix, and_from, and_parts, ap, append-nil, append_assoc, ap₂}
-use Rattle.sc_report_made.proofs.Common.{bytes_eq, codes, decls_from, exports_from, false, first, function_name}
-use Rattle.sc_report_made.proofs.Common.{function_names, head_holds, head_of, heads_in, if◌then◌else◌, import_at, import_fits}
-use Rattle.sc_report_made.proofs.Common.{import_holds, imported_agrees, imports_from, input_name, is_input, is_new, is_offered}
-use Rattle.sc_report_made.proofs.Common.{is_output, is_plain, is_some, later, list_all, main_at, main_holds, map, map-append}
-use Rattle.sc_report_made.proofs.Common.{not, not_from, numbers_from, offering, or_left, or_right, output_import, output_name}
-use Rattle.sc_report_made.proofs.Common.{output_proto, proto_at, proto_names, refl, suc, sym, take, true, unless, workers, ℕ}
-use Rattle.sc_report_made.proofs.Common.{◌%◌, ◌&&◌, ◌++◌, ◌||◌, ◌∙◌, ◌∷◌, ◌≡◌}
+use Rattle.sc_report_made.proofs.Common.{Bool, Decl, FunctionTree, HeadTree, ImportLine, IsAmong, IsAsked, List}
+use Rattle.sc_report_made.proofs.Common.{SectionTree, Text, [], agree, agrees_as, agrees_there, agrees_with}
+use Rattle.sc_report_made.proofs.Common.{all_functions, among, among_back, among_prefix, and_from, and_parts, ap}
+use Rattle.sc_report_made.proofs.Common.{append-nil, append_assoc, ap₂, bytes_eq, codes, decls_from, exports_from}
+use Rattle.sc_report_made.proofs.Common.{false, first, function_name, function_names, head_holds, head_of, heads_in}
+use Rattle.sc_report_made.proofs.Common.{if◌then◌else◌, import_at, import_fits, import_holds, imported_agrees}
+use Rattle.sc_report_made.proofs.Common.{imports_from, input_name, is_input, is_new, is_offered, is_output, is_plain}
+use Rattle.sc_report_made.proofs.Common.{is_some, later, list_all, main_at, main_holds, map, map-append, not, not_from}
+use Rattle.sc_report_made.proofs.Common.{numbers_from, offering, or_left, or_right, output_import, output_name}
+use Rattle.sc_report_made.proofs.Common.{output_proto, proto_at, proto_names, refl, suc, sym, take, true, unless}
+use Rattle.sc_report_made.proofs.Common.{workers, ℕ, ◌%◌, ◌&&◌, ◌++◌, ◌||◌, ◌∙◌, ◌∷◌, ◌≡◌}
 use Rattle.sc_types_interfaces.specs.Prelude.{decl_lines, section_lines}
 use Rattle.sc_ast.specs.declared.section.Decl.TheVariants as decl
 use Rattle.sc_report_made.proofs.Declared.{after_functions, after_protos, protos_heads, protos_named}

@@ -1,12 +1,14 @@
 -- `Main` breaks no rule of types.
-use Rattle.sc_report_made.proofs.Common.{AssignCall, Call, CallTree, Callees, ExprTree, GlobalTree, HeadTree, List, Local}
-use Rattle.sc_report_made.proofs.Common.{ReturnValue, Scope, SectionTree, Some, StmtTree, TypedExpr, Variable, Visible, []}
-use Rattle.sc_report_made.proofs.Common.{all_functions, all_hold, ap, args_fit, argument, assign_call_holds, call_holds}
-use Rattle.sc_report_made.proofs.Common.{call_kind, call_of, callees_of, codes, concat, decl_lines, function_lines}
-use Rattle.sc_report_made.proofs.Common.{function_name, global_variable, goes_into, going_to_all, is_target, judged, literal}
-use Rattle.sc_report_made.proofs.Common.{map, output_kind, params_of, place_judged, refl, result_goes, return_kind}
-use Rattle.sc_report_made.proofs.Common.{return_value_holds, rules, scope_in, section_lines, stmt_at, stmt_lines, structs}
-use Rattle.sc_report_made.proofs.Common.{true, type_of, typed, unless, visible_of, ℕ, ◌&&◌, ◌++◌, ◌∙◌, ◌∷◌, ◌≡◌}
+use Rattle.sc_report_made.proofs.Common.{AssignCall, Call, CallTree, Callees, ExprTree, GlobalTree, HeadTree, List}
+use Rattle.sc_report_made.proofs.Common.{Local, ReturnValue, Scope, SectionTree, Some, StmtTree, TypedExpr, Variable}
+use Rattle.sc_report_made.proofs.Common.{Visible, [], all_functions, all_hold, ap, args_fit, argument}
+use Rattle.sc_report_made.proofs.Common.{assign_call_holds, call_holds, call_kind, call_of, callees_of, codes, concat}
+use Rattle.sc_report_made.proofs.Common.{decl_lines, function_name, global_variable, goes_into, going_to_all, is_target}
+use Rattle.sc_report_made.proofs.Common.{judged, literal, map, output_kind, params_of, place_judged, refl, result_goes}
+use Rattle.sc_report_made.proofs.Common.{return_kind, return_value_holds, rules, scope_in, section_lines, stmt_at}
+use Rattle.sc_report_made.proofs.Common.{stmt_lines, structs, true, type_of, typed, unless, visible_of, ℕ, ◌&&◌, ◌++◌}
+use Rattle.sc_report_made.proofs.Common.{◌∙◌, ◌∷◌, ◌≡◌}
+use Rattle.sc_types_elab.specs.Prelude.{function_lines}
 use Rattle.sc_ast.specs.declared.expr.ExprTree as exprs
 use Rattle.sc_ast.specs.declared.stmt.StmtKind as kinds
 use Rattle.sc_ast.specs.declared.stmt.StmtTree as stmts

@@ -1,14 +1,15 @@
 -- The sections of a made text break no rule of names.
 use Rattle.sc_report_made.proofs.Common.{CallTree, Decl, ExprTree, FunctionLines, FunctionTree, GlobalTree, HeadTree}
-use Rattle.sc_report_made.proofs.Common.{ImportLine, IsAmong, IsAsked, Known, List, SectionTree, Some, StmtTree, StructTree}
-use Rattle.sc_report_made.proofs.Common.{Text, Variable, [], add_kind, all_functions, all_hold, among, among_back, among_prefix}
-use Rattle.sc_report_made.proofs.Common.{and_from, ap, append-nil, append_assoc, ap₂, below, body_lines, call_kind, call_known}
-use Rattle.sc_report_made.proofs.Common.{call_of, codes, concat, declared, element, expr_known, false, first, function_at}
-use Rattle.sc_report_made.proofs.Common.{function_name, functions_in, functions_of, is_callable, is_new, later, line_of_text}
-use Rattle.sc_report_made.proofs.Common.{literal, loop_kind, main_at, map, map-append, names_broken, next_at, numbers_from}
-use Rattle.sc_report_made.proofs.Common.{output_kind, output_proto, proto_at, refl, return_kind, rules, set_kind, start_at}
-use Rattle.sc_report_made.proofs.Common.{stmt_at, store_kind, suc, sym, table_at, true, unless, variable, workers, ℕ, ◌&&◌}
-use Rattle.sc_report_made.proofs.Common.{◌++◌, ◌∙◌, ◌∷◌, ◌≡◌, ◌≤◌}
+use Rattle.sc_report_made.proofs.Common.{ImportLine, IsAmong, IsAsked, Known, List, SectionTree, Some, StmtTree}
+use Rattle.sc_report_made.proofs.Common.{StructTree, Text, Variable, [], add_kind, all_functions, all_hold, among}
+use Rattle.sc_report_made.proofs.Common.{among_back, among_prefix, and_from, ap, append-nil, append_assoc, ap₂, below}
+use Rattle.sc_report_made.proofs.Common.{body_lines, call_kind, call_known, call_of, codes, concat, declared, element}
+use Rattle.sc_report_made.proofs.Common.{expr_known, false, first, function_at, function_name, functions_in}
+use Rattle.sc_report_made.proofs.Common.{functions_of, is_callable, is_new, later, line_of_text, literal, loop_kind}
+use Rattle.sc_report_made.proofs.Common.{main_at, map, map-append, names_broken, next_at, numbers_from, output_kind}
+use Rattle.sc_report_made.proofs.Common.{output_proto, proto_at, refl, return_kind, rules, set_kind, start_at, stmt_at}
+use Rattle.sc_report_made.proofs.Common.{store_kind, suc, sym, table_at, true, unless, variable, workers, ℕ, ◌&&◌, ◌++◌}
+use Rattle.sc_report_made.proofs.Common.{◌∙◌, ◌∷◌, ◌≡◌, ◌≤◌}
 use Rattle.sc_types_scope.specs.Prelude.{decl_lines, function_lines, lines_from, part_lines, section_lines, stmt_lines}
 use Rattle.sc_ast.specs.declared.expr.ExprTree as exprs
 use Rattle.sc_ast.specs.declared.section.Decl.TheVariants as decl
@@ -22,7 +23,8 @@ use Rattle.sc_report_made.proofs.Declared.{functions_structs, imports_named}
 use Rattle.sc_report_made.proofs.Naming.{Below, below_more, below_next, function_among, function_names, function_new}
 use Rattle.sc_report_made.proofs.Numbers.{Rise, functions_rise}
 use Rattle.sc_report_made.proofs.Shapes.{AreCalls, AreFunctions, AreMade, AreProtos, AreWorkers, IsMain, IsWorker}
-use Rattle.sc_report_made.proofs.Shapes.{and_function, and_proto, and_worker, calls, ends, no_functions, no_protos, no_workers}
+use Rattle.sc_report_made.proofs.Shapes.{and_function, and_proto, and_worker, calls, ends, no_functions, no_protos}
+use Rattle.sc_report_made.proofs.Shapes.{no_workers}
 
 -- The body of `main`.
 

@@ -1,8 +1,9 @@
 -- The names of functions and workers: which are among others, and that they are new.
 use Rattle.sc_report_made.proofs.Common.{Bool, IsAmong, List, Text, [], among, ap, arith, bytes_eq, bytes_eq_self}
-use Rattle.sc_report_made.proofs.Common.{decimal_injective, drop, false, function_name, inl, inr, is_false, is_first_or_later}
-use Rattle.sc_report_made.proofs.Common.{is_new, map, none_among, not_both, not_from, or_left, or_right, refl, same_text}
-use Rattle.sc_report_made.proofs.Common.{subst, suc, true, worker_name, ℕ, ◌++◌, ◌<◌, ◌||◌, ◌∙◌, ◌∷◌, ◌≡◌, ◌≤◌}
+use Rattle.sc_report_made.proofs.Common.{decimal_injective, drop, false, function_name, inl, inr, is_false}
+use Rattle.sc_report_made.proofs.Common.{is_first_or_later, is_new, map, none_among, not_both, not_from, or_left}
+use Rattle.sc_report_made.proofs.Common.{or_right, refl, same_text, subst, suc, true, worker_name, ℕ, ◌++◌, ◌<◌, ◌||◌}
+use Rattle.sc_report_made.proofs.Common.{◌∙◌, ◌∷◌, ◌≡◌, ◌≤◌}
 
 abbrev pub function_names : List ℕ → List Text
 function_names js = map function_name js

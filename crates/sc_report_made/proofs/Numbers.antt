@@ -1,8 +1,8 @@
 -- The numbers of functions and workers: which are in a list, and that they rise.
-use Rattle.sc_report_made.proofs.Common.{AllByRecursion, Bool, IsAmong, List, [], all_functions, arith, cond, eq-eqb, false}
-use Rattle.sc_report_made.proofs.Common.{false≢true, filter, first, functions_of, inl, inr, is_first_or_later, later, nat_eq}
-use Rattle.sc_report_made.proofs.Common.{none_among, numbers_from, refl, subst, suc, true, workers, zero, ℕ, ◌%◌, ◌+◌, ◌<◌}
-use Rattle.sc_report_made.proofs.Common.{◌∷◌, ◌≡◌, ◌≤◌}
+use Rattle.sc_report_made.proofs.Common.{AllByRecursion, Bool, IsAmong, List, [], all_functions, arith, cond, eq-eqb}
+use Rattle.sc_report_made.proofs.Common.{false, false≢true, filter, first, functions_of, inl, inr, is_first_or_later}
+use Rattle.sc_report_made.proofs.Common.{later, nat_eq, none_among, numbers_from, refl, subst, suc, true, workers, zero}
+use Rattle.sc_report_made.proofs.Common.{ℕ, ◌%◌, ◌+◌, ◌<◌, ◌∷◌, ◌≡◌, ◌≤◌}
 use Rattle.std.proofs.lemmas.Nat.{mod_below}
 
 -- the numbers rise, from `low` on, and stay below `high`

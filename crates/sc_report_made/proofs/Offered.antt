@@ -1,11 +1,12 @@
 -- What `Main` imports is offered by the workers, as it declares it.
-use Rattle.sc_report_made.proofs.Common.{Bool, FunctionTree, HeadTree, ImportLine, IsAmong, List, SectionTree, Some, Text, []}
-use Rattle.sc_report_made.proofs.Common.{agree, agrees_there, agrees_with, all_hold, among, and_from, ap, arith, bytes_eq}
-use Rattle.sc_report_made.proofs.Common.{bytes_eq_self, codes, eq-eqb, export_names, false, false≢true, function_name}
-use Rattle.sc_report_made.proofs.Common.{functions_of, get_or, head_of, heads_in, if◌then◌else◌, import_at, inl, inr}
-use Rattle.sc_report_made.proofs.Common.{is_environment, is_false, is_first_or_later, is_some, map, nat_eq, ne_eqb, none_among}
-use Rattle.sc_report_made.proofs.Common.{not, not_from, offering, offers, or_left, or_right, proto_at, refl, same_text, subst}
-use Rattle.sc_report_made.proofs.Common.{suc, sym, true, worker_name, workers, ℕ, ◌%◌, ◌==◌, ◌||◌, ◌∙◌, ◌∷◌, ◌≡◌}
+use Rattle.sc_report_made.proofs.Common.{Bool, FunctionTree, HeadTree, ImportLine, IsAmong, List, SectionTree, Some}
+use Rattle.sc_report_made.proofs.Common.{Text, [], agree, agrees_there, agrees_with, all_hold, among, and_from, ap}
+use Rattle.sc_report_made.proofs.Common.{arith, bytes_eq, bytes_eq_self, codes, eq-eqb, export_names, false, false≢true}
+use Rattle.sc_report_made.proofs.Common.{function_name, functions_of, get_or, head_of, heads_in, if◌then◌else◌}
+use Rattle.sc_report_made.proofs.Common.{import_at, inl, inr, is_environment, is_false, is_first_or_later, is_some, map}
+use Rattle.sc_report_made.proofs.Common.{nat_eq, ne_eqb, none_among, not, not_from, offering, offers, or_left, or_right}
+use Rattle.sc_report_made.proofs.Common.{proto_at, refl, same_text, subst, suc, sym, true, worker_name, workers, ℕ, ◌%◌}
+use Rattle.sc_report_made.proofs.Common.{◌==◌, ◌||◌, ◌∙◌, ◌∷◌, ◌≡◌}
 use Rattle.sc_report_made.proofs.Declared.{exports_named, functions_heads}
 use Rattle.sc_report_made.proofs.Naming.{function_among}
 use Rattle.sc_report_made.proofs.Shapes.{AreFunctions, AreProtos, AreWorkers, IsMain, IsWorker, and_function, and_proto}

@@ -1,9 +1,10 @@
 -- A made text is split into its sections, and these are read as its trees.
-use Rattle.sc_report_made.proofs.Common.{AllZip, AreSame, IsReadAs, Joined, List, MadeTextsAreRead, SectionTree, [], ap, arith}
-use Rattle.sc_report_made.proofs.Common.{bytes_of, concat, flat_map, inr, made_text, made_trees, main_text, map, numbers_from}
-use Rattle.sc_report_made.proofs.Common.{refl, subst, suc, worker_text, worker_tree, workers, zero, ℕ, ◌++◌, ◌+◌, ◌∷◌, ◌≡◌}
-use Rattle.sc_report_made.proofs.Common.{◌≤◌}
+use Rattle.sc_report_made.proofs.Common.{AllZip, AreSame, Joined, List, MadeTextsAreRead, SectionTree, [], ap, arith}
+use Rattle.sc_report_made.proofs.Common.{bytes_of, concat, flat_map, inr, made_text, made_trees, main_text, map}
+use Rattle.sc_report_made.proofs.Common.{numbers_from, refl, subst, suc, worker_text, worker_tree, workers, zero, ℕ}
+use Rattle.sc_report_made.proofs.Common.{◌++◌, ◌+◌, ◌∷◌, ◌≡◌, ◌≤◌}
 use Rattle.sc_lex.specs.Prelude.{line_at, nothing}
+use Rattle.sc_report_made.specs.Laws.{IsReadAs}
 use Rattle.sc_lex.specs.declared.section.Section.{Section}
 use Rattle.sc_parse_read.specs.Reading.{IsRead, part_of}
 use Rattle.sc_back_reread_laws.specs.Performing as single

@@ -1,12 +1,13 @@
 -- The sections of a made text: words that spell them, and no compartment line but the first.
-use Rattle.sc_report_made.proofs.Common.{Closed, Closing, IsText, List, Piece, SectionTree, [], addend, all_functions, ap}
-use Rattle.sc_report_made.proofs.Common.{append-nil, append_assoc, ap₂, arith, after_closing, call_text, closed_append, codes}
-use Rattle.sc_report_made.proofs.Common.{decimal, even_heading, export_text, exports_lined, flat_map, flat_map-append}
-use Rattle.sc_report_made.proofs.Common.{function_name, function_text, functions_of, headed, headed_text, heading_words}
-use Rattle.sc_report_made.proofs.Common.{import_text, imports_lined, main_body, main_text, main_tree, nested_append}
-use Rattle.sc_report_made.proofs.Common.{nested_even, nested_line, nested_more, piece_text, plain, plain_headless, proto_text}
-use Rattle.sc_report_made.proofs.Common.{refl, section_with, subst, sym, text_of, tidy_plain, true, worker_name, worker_text}
-use Rattle.sc_report_made.proofs.Common.{worker_tree, ℕ, ◌++◌, ◌<◌, ◌∙◌, ◌∷◌, ◌≡◌, ◌≤◌}
+use Rattle.sc_report_made.proofs.Common.{Closed, Closing, IsText, List, Piece, SectionTree, [], addend, after_closing}
+use Rattle.sc_report_made.proofs.Common.{all_functions, ap, append-nil, append_assoc, ap₂, arith, call_text}
+use Rattle.sc_report_made.proofs.Common.{closed_append, codes, decimal, even_heading, export_text, exports_lined}
+use Rattle.sc_report_made.proofs.Common.{flat_map, flat_map-append, function_name, function_text, functions_of, headed}
+use Rattle.sc_report_made.proofs.Common.{headed_text, heading_words, import_text, imports_lined, main_body, main_text}
+use Rattle.sc_report_made.proofs.Common.{main_tree, nested_append, nested_even, nested_line, nested_more, piece_text}
+use Rattle.sc_report_made.proofs.Common.{plain, plain_headless, proto_text, refl, section_with, subst, sym, text_of}
+use Rattle.sc_report_made.proofs.Common.{tidy_plain, true, worker_name, worker_text, worker_tree, ℕ, ◌++◌, ◌<◌, ◌∙◌}
+use Rattle.sc_report_made.proofs.Common.{◌∷◌, ◌≡◌, ◌≤◌}
 unfoldable use Rattle.sc_base.specs.Prelude.{is_name}
 unfoldable use Rattle.sc_ast.specs.Prelude.{export_words, import_words}
 use Rattle.sc_parse_print_laws.proofs.DirectiveWords.{heading_begins, heading_line_is}

@@ -1,9 +1,9 @@
 -- The sections of a made text with any lines.
-use Rattle.sc_report_made.proofs.Common.{ExportLine, FunctionLines, FunctionTree, HeadTree, ImportLine, List, SectionTree}
-use Rattle.sc_report_made.proofs.Common.{StmtTree, [], all_functions, call_kind, codes, export_at, function_at, functions_of}
-use Rattle.sc_report_made.proofs.Common.{import_at, literal, main_at, map, numbers_from, output_import, output_kind}
-use Rattle.sc_report_made.proofs.Common.{output_proto, proto_at, return_kind, stmt_at, table_at, worker_name, workers, ℕ, ◌++◌}
-use Rattle.sc_report_made.proofs.Common.{◌∷◌, ◌≡◌}
+use Rattle.sc_report_made.proofs.Common.{ExportLine, FunctionLines, FunctionTree, HeadTree, ImportLine, List}
+use Rattle.sc_report_made.proofs.Common.{SectionTree, StmtTree, [], all_functions, call_kind, codes, export_at}
+use Rattle.sc_report_made.proofs.Common.{function_at, functions_of, import_at, literal, main_at, map, numbers_from}
+use Rattle.sc_report_made.proofs.Common.{output_import, output_kind, output_proto, proto_at, return_kind, stmt_at}
+use Rattle.sc_report_made.proofs.Common.{table_at, worker_name, workers, ℕ, ◌++◌, ◌∷◌, ◌≡◌}
 use Rattle.sc_ast.specs.declared.section.Decl.TheVariants as decl
 
 -- `Main`

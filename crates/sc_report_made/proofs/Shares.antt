@@ -1,7 +1,7 @@
 -- A worker has few functions: those of each 31st number.
-use Rattle.sc_report_made.proofs.Common.{Bool, List, [], all_functions, ap, arith, cases_lt, cond, eqb-true, false, filter}
-use Rattle.sc_report_made.proofs.Common.{functions_of, inl, inr, length, nat_eq, numbers_from, refl, suc, true, workers, zero}
-use Rattle.sc_report_made.proofs.Common.{ℕ, ◌%◌, ◌*◌, ◌+◌, ◌<◌, ◌∙◌, ◌∷◌, ◌≡◌, ◌≤◌, ◌⊎◌}
+use Rattle.sc_report_made.proofs.Common.{Bool, List, [], all_functions, ap, arith, cases_lt, cond, eqb-true, false}
+use Rattle.sc_report_made.proofs.Common.{filter, functions_of, inl, inr, length, nat_eq, numbers_from, refl, suc, true}
+use Rattle.sc_report_made.proofs.Common.{workers, zero, ℕ, ◌%◌, ◌*◌, ◌+◌, ◌<◌, ◌∙◌, ◌∷◌, ◌≡◌, ◌≤◌, ◌⊎◌}
 
 -- how many numbers of a list pass a test
 

@@ -1,10 +1,11 @@
 -- What `Main` declares, and by which heads its calls are typed.
-use Rattle.sc_report_made.proofs.Common.{AllByRecursion, Bool, Callees, Decl, FunctionTree, HeadTree, List, None, SectionTree}
-use Rattle.sc_report_made.proofs.Common.{Signature, Some, StructTree, [], all_functions, ap, ap₂, bytes_eq, bytes_eq_self}
-use Rattle.sc_report_made.proofs.Common.{callees_of, codes, false, false≢true, function_name, function_named, functions_in}
-use Rattle.sc_report_made.proofs.Common.{get_or, globals_in, head_named, heads_in, if◌then◌else◌, is_false, main_at, map}
-use Rattle.sc_report_made.proofs.Common.{nat_eq, or_first, output_proto, proto_at, refl, same_text, signature_by, struct_names}
-use Rattle.sc_report_made.proofs.Common.{structs_in, true, ℕ, ◌++◌, ◌∙◌, ◌∷◌, ◌≡◌}
+use Rattle.sc_report_made.proofs.Common.{AllByRecursion, Bool, Callees, Decl, FunctionTree, HeadTree, List, None}
+use Rattle.sc_report_made.proofs.Common.{SectionTree, Signature, Some, StructTree, [], all_functions, ap, ap₂, bytes_eq}
+use Rattle.sc_report_made.proofs.Common.{bytes_eq_self, callees_of, codes, false, false≢true, function_name}
+use Rattle.sc_report_made.proofs.Common.{function_named, functions_in, get_or, globals_in, head_named, heads_in}
+use Rattle.sc_report_made.proofs.Common.{if◌then◌else◌, is_false, main_at, map, nat_eq, or_first, output_proto}
+use Rattle.sc_report_made.proofs.Common.{proto_at, refl, same_text, signature_by, struct_names, structs_in, true, ℕ}
+use Rattle.sc_report_made.proofs.Common.{◌++◌, ◌∙◌, ◌∷◌, ◌≡◌}
 use Rattle.std.specs.Option.{option_map}
 use Rattle.sc_ast.specs.declared.section.Decl.TheVariants as decl
 use Rattle.sc_core.specs.declared.ty.Ty.TheVariants as ty

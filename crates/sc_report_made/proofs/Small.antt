@@ -1,9 +1,10 @@
 -- The sections of a made text are small.
-use Rattle.sc_report_made.proofs.Common.{AllByRecursion, AreSmall, Callees, FunctionLines, FunctionTree, IsAsked, IsSmall}
-use Rattle.sc_report_made.proofs.Common.{List, SectionTree, StmtTree, all_functions, ap, arith, callees_of, cells_of}
-use Rattle.sc_report_made.proofs.Common.{frame_bound, function-nodes, function_at, functions_of, main_at, map, nodes}
-use Rattle.sc_report_made.proofs.Common.{numbers_from, program_of, refl, sections_from, structs, subst, suc, sym, tags, total}
-use Rattle.sc_report_made.proofs.Common.{typed_function, typed_global, typed_section, variables, workers, ℕ, ◌≡◌, ◌≤◌}
+use Rattle.sc_report_made.proofs.Common.{AllByRecursion, AreSmall, Callees, FunctionLines, FunctionTree, IsAsked}
+use Rattle.sc_report_made.proofs.Common.{IsSmall, List, SectionTree, StmtTree, all_functions, ap, arith, callees_of}
+use Rattle.sc_report_made.proofs.Common.{cells_of, frame_bound, function-nodes, function_at, functions_of, main_at, map}
+use Rattle.sc_report_made.proofs.Common.{nodes, numbers_from, program_of, refl, sections_from, structs, subst, suc, sym}
+use Rattle.sc_report_made.proofs.Common.{tags, total, typed_function, typed_global, typed_section, variables, workers}
+use Rattle.sc_report_made.proofs.Common.{ℕ, ◌≡◌, ◌≤◌}
 use Rattle.std.proofs.lemmas.List.Elements.{All-from_recursion}
 use Rattle.sc_core.specs.declared.section.TypedFunction.{TypedFunction}
 use Rattle.sc_core.specs.declared.section.TypedGlobal.{TypedGlobal}

@@ -1,9 +1,9 @@
 -- Names of functions and of workers are names, and numbers that are drawn are literals.
-use Rattle.sc_report_made.proofs.Common.{Bool, List, Number, [], addend, and_from, and_parts, ap, argument, arith, decimal}
-use Rattle.sc_report_made.proofs.Common.{decimal_by_steps, false, fits, function_name, is_digit, is_ident, is_name_byte}
-use Rattle.sc_report_made.proofs.Common.{is_nondigit, le-leb, leb-true, length, length-decimal-le, list_all, lt-ltb, nat_le}
-use Rattle.sc_report_made.proofs.Common.{nat_lt, not, or_right, refl, reserved_words, true, worker_name, ℕ, ◌%◌, ◌&&◌, ◌++◌}
-use Rattle.sc_report_made.proofs.Common.{◌+◌, ◌<◌, ◌^◌, ◌∙◌, ◌∷◌, ◌≡◌}
+use Rattle.sc_report_made.proofs.Common.{Bool, List, Number, [], addend, and_from, and_parts, ap, argument, arith}
+use Rattle.sc_report_made.proofs.Common.{decimal, decimal_by_steps, false, fits, function_name, is_digit, is_ident}
+use Rattle.sc_report_made.proofs.Common.{is_name_byte, is_nondigit, le-leb, leb-true, length, length-decimal-le}
+use Rattle.sc_report_made.proofs.Common.{list_all, lt-ltb, nat_le, nat_lt, not, or_right, refl, reserved_words, true}
+use Rattle.sc_report_made.proofs.Common.{worker_name, ℕ, ◌%◌, ◌&&◌, ◌++◌, ◌+◌, ◌<◌, ◌^◌, ◌∙◌, ◌∷◌, ◌≡◌}
 use Rattle.std.proofs.lemmas.List.Folds.{list_all-append}
 use Rattle.sc_base.proofs.Lists.{list_all_along}
 unfoldable use Rattle.sc_base.specs.Prelude.{is_name, is_reserved}

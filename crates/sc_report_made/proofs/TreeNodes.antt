@@ -1,8 +1,8 @@
 -- How many nodes the functions of a made text have.
 use Rattle.sc_report_made.proofs.Common.{ExprTree, FunctionLines, FunctionTree, List, StmtTree, arith, call_kind, codes}
-use Rattle.sc_report_made.proofs.Common.{function_at, function_nodes, length, literal, loop_kind, main_at, map, output_kind}
-use Rattle.sc_report_made.proofs.Common.{refl, return_kind, rules, set_kind, stmt_at, stmt_nodes, total, variable, ℕ, ◌*◌, ◌+◌}
-use Rattle.sc_report_made.proofs.Common.{◌≡◌}
+use Rattle.sc_report_made.proofs.Common.{function_at, function_nodes, length, literal, loop_kind, main_at, map}
+use Rattle.sc_report_made.proofs.Common.{output_kind, refl, return_kind, rules, set_kind, stmt_at, stmt_nodes, total}
+use Rattle.sc_report_made.proofs.Common.{variable, ℕ, ◌*◌, ◌+◌, ◌≡◌}
 use Rattle.sc_ast.specs.declared.expr.ExprTree as exprs
 use Rattle.sc_ast.specs.declared.stmt.StmtKind as kinds
 use Rattle.sc_ast.specs.declared.stmt.StmtTree as stmts

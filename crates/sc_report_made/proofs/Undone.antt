@@ -1,15 +1,16 @@
 -- Sections that are those of a made text, lines aside, are these with lines.
 use Rattle.sc_report_made.proofs.Common.{Add, AreSame, Binary, CallTree, Decl, ExportLine, ExprTree, FunctionLines}
-use Rattle.sc_report_made.proofs.Common.{FunctionTree, HeadTree, ImportLine, List, None, Option, SameButLines, SectionTree}
-use Rattle.sc_report_made.proofs.Common.{SimpleTree, Some, StmtKind, StmtTree, [], add_kind, all_functions, ap, ap₂}
-use Rattle.sc_report_made.proofs.Common.{assign_simple, below, call_kind, calls_tree, codes, export_at, flat_map, function_at}
-use Rattle.sc_report_made.proofs.Common.{functions_of, import_at, lineless_decl, lineless_export, lineless_function}
-use Rattle.sc_report_made.proofs.Common.{lineless_head, lineless_import, lineless_kind, lineless_local, lineless_option}
-use Rattle.sc_report_made.proofs.Common.{lineless_simple, lineless_stmt, lineless_stmts, literal, local_at, loop_kind}
-use Rattle.sc_report_made.proofs.Common.{made_trees, main_at, main_body, main_tree, map, next_at, no_lines, numbers_from}
-use Rattle.sc_report_made.proofs.Common.{out-StmtKind, output_import, output_kind, output_proto, proto_at, refl, return_kind}
-use Rattle.sc_report_made.proofs.Common.{set_kind, start_at, stmt_at, store_kind, subst, sym, table_at, variable, worker_tree}
-use Rattle.sc_report_made.proofs.Common.{workers, ℕ, ◌++◌, ◌∙◌, ◌∷◌, ◌≡◌}
+use Rattle.sc_report_made.proofs.Common.{FunctionTree, HeadTree, ImportLine, List, None, Option, SameButLines}
+use Rattle.sc_report_made.proofs.Common.{SectionTree, SimpleTree, Some, StmtKind, StmtTree, [], add_kind, all_functions}
+use Rattle.sc_report_made.proofs.Common.{ap, ap₂, assign_simple, below, call_kind, calls_tree, codes, export_at}
+use Rattle.sc_report_made.proofs.Common.{flat_map, function_at, functions_of, import_at, lineless_decl, lineless_export}
+use Rattle.sc_report_made.proofs.Common.{lineless_function, lineless_head, lineless_import, lineless_kind}
+use Rattle.sc_report_made.proofs.Common.{lineless_local, lineless_option, lineless_simple, lineless_stmt}
+use Rattle.sc_report_made.proofs.Common.{lineless_stmts, literal, local_at, loop_kind, made_trees, main_at, main_body}
+use Rattle.sc_report_made.proofs.Common.{main_tree, map, next_at, no_lines, numbers_from, out-StmtKind, output_import}
+use Rattle.sc_report_made.proofs.Common.{output_kind, output_proto, proto_at, refl, return_kind, set_kind, start_at}
+use Rattle.sc_report_made.proofs.Common.{stmt_at, store_kind, subst, sym, table_at, variable, worker_tree, workers, ℕ}
+use Rattle.sc_report_made.proofs.Common.{◌++◌, ◌∙◌, ◌∷◌, ◌≡◌}
 use Rattle.sc_ast.proofs.Statements.{bare_stmt}
 use Rattle.sc_ast.specs.declared.stmt.StmtKind.TheOpen as layer
 use Rattle.sc_ast.specs.declared.stmt.StmtKind.TheVariants as stmt
@@ -17,8 +18,8 @@ use Rattle.sc_ast.specs.declared.section.Decl.TheVariants as decl
 use Rattle.sc_ast.specs.declared.section.LocalTree.{LocalTree}
 use Rattle.sc_back_performer_laws.proofs.BareKinds.{IsFor, IsLeaf, for_kind, kind_of_layer, leaf_kind}
 use Rattle.sc_report_made.proofs.Shapes.{AreCalls, AreExports, AreFunctions, AreImports, AreMade, AreProtos, AreWorkers}
-use Rattle.sc_report_made.proofs.Shapes.{IsMain, IsWorker, and_export, and_function, and_import, and_proto, and_worker, calls}
-use Rattle.sc_report_made.proofs.Shapes.{ends, no_exports, no_functions, no_imports, no_protos, no_workers}
+use Rattle.sc_report_made.proofs.Shapes.{IsMain, IsWorker, and_export, and_function, and_import, and_proto, and_worker}
+use Rattle.sc_report_made.proofs.Shapes.{calls, ends, no_exports, no_functions, no_imports, no_protos, no_workers}
 use Rattle.sc_back_performer_laws.proofs.Undone.{heads_same, tails_same}
 
 -- Statements.

@@ -1,9 +1,10 @@
 -- A worker holds no more than a program may.
 use Rattle.sc_report_made.proofs.Common.{Callees, ExportLine, FunctionTree, ImportLine, List, SectionTree, [], all_none}
-use Rattle.sc_report_made.proofs.Common.{and_from, ap, arith, concat, function_nodes, functions_of, global_lines, head_lines}
-use Rattle.sc_report_made.proofs.Common.{le-leb, length, length-map, map, most_nodes, nat_le, none_beyond, refl, section-nodes}
-use Rattle.sc_report_made.proofs.Common.{section_nodes, structs_from, suc, total, true, unless, ℕ, ◌*◌, ◌∙◌, ◌≡◌, ◌≤◌}
-use Rattle.sc_types.specs.Prelude.{function_lines, section_lines}
+use Rattle.sc_report_made.proofs.Common.{and_from, ap, arith, concat, function_lines, function_nodes, functions_of}
+use Rattle.sc_report_made.proofs.Common.{global_lines, head_lines, le-leb, length, length-map, map, most_nodes, nat_le}
+use Rattle.sc_report_made.proofs.Common.{none_beyond, refl, section-nodes, section_nodes, structs_from, suc, total}
+use Rattle.sc_report_made.proofs.Common.{true, unless, ℕ, ◌*◌, ◌∙◌, ◌≡◌, ◌≤◌}
+use Rattle.sc_types.specs.Prelude.{section_lines}
 use Rattle.sc_ast.specs.declared.section.Decl.TheVariants as decl
 use Rattle.sc_report_made.proofs.Shapes.{AreExports, AreFunctions, IsWorker, and_export, and_function, no_exports}
 use Rattle.sc_report_made.proofs.Shapes.{no_functions}

@@ -1,17 +1,18 @@
 -- The sections of workers break no rule of interfaces, and neither does the whole text.
-use Rattle.sc_report_made.proofs.Common.{Bool, ExportLine, FunctionLines, FunctionTree, HeadTree, IsAmong, IsAsked, List}
-use Rattle.sc_report_made.proofs.Common.{SectionTree, Text, [], agrees_with, among, and_from, ap, ap₂, bytes_eq, codes}
-use Rattle.sc_report_made.proofs.Common.{decls_from, defines_main, export_at, export_holds, exports_from, false, first}
-use Rattle.sc_report_made.proofs.Common.{function_at, function_name, function_names, functions_of, head_holds, head_of}
-use Rattle.sc_report_made.proofs.Common.{heads_in, imports_from, interface_broken, is_main, is_new, later, line_of_text}
-use Rattle.sc_report_made.proofs.Common.{lines_from, list_any, main_holds, map, map-append, not, numbers_from, or_left, refl}
-use Rattle.sc_report_made.proofs.Common.{suc, sym, table_at, true, unless, worker_name, workers, ℕ, ◌&&◌, ◌++◌, ◌||◌, ◌∙◌, ◌∷◌}
-use Rattle.sc_report_made.proofs.Common.{◌≡◌, ◌≤◌}
-use Rattle.sc_types_interfaces.specs.Prelude.{section_lines}
+use Rattle.sc_report_made.proofs.Common.{Bool, ExportLine, FunctionLines, FunctionTree, HeadTree, IsAmong, IsAsked}
+use Rattle.sc_report_made.proofs.Common.{List, SectionTree, Text, [], agrees_with, among, and_from, ap, ap₂, bytes_eq}
+use Rattle.sc_report_made.proofs.Common.{codes, decls_from, defines_main, export_at, export_holds, exports_from, false}
+use Rattle.sc_report_made.proofs.Common.{first, function_at, function_name, function_names, functions_of, head_holds}
+use Rattle.sc_report_made.proofs.Common.{head_of, heads_in, imports_from, interface_broken, is_main, is_new, later}
+use Rattle.sc_report_made.proofs.Common.{line_of_text, list_any, main_holds, map, map-append, not, numbers_from}
+use Rattle.sc_report_made.proofs.Common.{or_left, refl, suc, sym, table_at, true, unless, worker_name, workers, ℕ, ◌&&◌}
+use Rattle.sc_report_made.proofs.Common.{◌++◌, ◌||◌, ◌∙◌, ◌∷◌, ◌≡◌, ◌≤◌}
+use Rattle.sc_types_interfaces.specs.Prelude.{lines_from, section_lines}
 use Rattle.sc_ast.specs.declared.section.Decl.TheVariants as decl
 use Rattle.sc_report_made.proofs.Declared.{after_functions, functions_functions, functions_heads, functions_named}
 use Rattle.sc_report_made.proofs.Naming as naming
-use Rattle.sc_report_made.proofs.Naming.{Below, below_more, below_next, function_among, function_new, worker_names, worker_new}
+use Rattle.sc_report_made.proofs.Naming.{Below, below_more, below_next, function_among, function_new, worker_names}
+use Rattle.sc_report_made.proofs.Naming.{worker_new}
 use Rattle.sc_report_made.proofs.Numbers.{Rise, functions_rise, workers_rise}
 use Rattle.sc_report_made.proofs.Offered.{TakesInt, apart_first, functions_agree}
 use Rattle.sc_report_made.proofs.MainRules.{main_interfaces, not_main, plain}

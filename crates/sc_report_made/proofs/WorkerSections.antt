@@ -1,9 +1,10 @@
 -- What names stand for in a worker, and that it breaks no rule of types.
-use Rattle.sc_report_made.proofs.Common.{Callees, FunctionLines, FunctionTree, GlobalTree, HeadTree, List, SectionTree, Some}
-use Rattle.sc_report_made.proofs.Common.{StructTree, [], ap, ap₂, codes, concat, decl_lines, function_at, function_lines}
-use Rattle.sc_report_made.proofs.Common.{functions_in, functions_of, global_variable, globals_in, head_of, heads_in, map, refl}
-use Rattle.sc_report_made.proofs.Common.{scope_in, section_lines, stmt_lines, struct_names, structs, structs_in, table_at}
-use Rattle.sc_report_made.proofs.Common.{type_of, visible_of, ℕ, ◌++◌, ◌∙◌, ◌∷◌, ◌≡◌}
+use Rattle.sc_report_made.proofs.Common.{Callees, FunctionLines, FunctionTree, GlobalTree, HeadTree, List, SectionTree}
+use Rattle.sc_report_made.proofs.Common.{Some, StructTree, [], ap, ap₂, codes, concat, decl_lines, function_at}
+use Rattle.sc_report_made.proofs.Common.{functions_in, functions_of, global_variable, globals_in, head_of, heads_in}
+use Rattle.sc_report_made.proofs.Common.{map, refl, scope_in, section_lines, stmt_lines, struct_names, structs}
+use Rattle.sc_report_made.proofs.Common.{structs_in, table_at, type_of, visible_of, ℕ, ◌++◌, ◌∙◌, ◌∷◌, ◌≡◌}
+use Rattle.sc_types_elab.specs.Prelude.{function_lines}
 use Rattle.sc_ast.specs.declared.section.Decl.TheVariants as decl
 use Rattle.sc_core.specs.declared.ty.Ty.TheVariants as ty
 unfoldable use Rattle.sc_types_elab.specs.Prelude.{typed_structs}

@@ -1,11 +1,12 @@
 -- A worker breaks no rule of types.
-use Rattle.sc_report_made.proofs.Common.{Add, Assign, Binary, BitAnd, Callees, ExprTree, For, FunctionLines, Global, Less}
-use Rattle.sc_report_made.proofs.Common.{List, Local, Option, Param, ReturnValue, Scope, SimpleTree, Some, StmtTree, TypedExpr}
-use Rattle.sc_report_made.proofs.Common.{Variable, Visible, [], add_kind, addend, ap, ap₂, assign_fits, assign_holds, below}
-use Rattle.sc_report_made.proofs.Common.{codes, concat, cond_holds, element, goes_into, going_to, is_scalar, judged, literal}
-use Rattle.sc_report_made.proofs.Common.{loop_kind, map, next_at, part_lines, place_judged, refl, return_kind}
-use Rattle.sc_report_made.proofs.Common.{return_value_holds, rules, set_kind, start_at, stmt_at, stmt_lines, store_kind, true}
-use Rattle.sc_report_made.proofs.Common.{typed, unless, value_judged, ℕ, ◌++◌, ◌∙◌, ◌∷◌, ◌≡◌}
+use Rattle.sc_report_made.proofs.Common.{Add, Assign, Binary, BitAnd, Callees, ExprTree, For, FunctionLines, Global}
+use Rattle.sc_report_made.proofs.Common.{Less, List, Local, Option, Param, ReturnValue, Scope, SimpleTree, Some}
+use Rattle.sc_report_made.proofs.Common.{StmtTree, TypedExpr, Variable, Visible, [], add_kind, addend, ap, ap₂}
+use Rattle.sc_report_made.proofs.Common.{assign_fits, assign_holds, below, codes, concat, cond_holds, element}
+use Rattle.sc_report_made.proofs.Common.{goes_into, going_to, is_scalar, judged, literal, loop_kind, map, next_at}
+use Rattle.sc_report_made.proofs.Common.{part_lines, place_judged, refl, return_kind, return_value_holds, rules}
+use Rattle.sc_report_made.proofs.Common.{set_kind, start_at, stmt_at, stmt_lines, store_kind, true, typed, unless}
+use Rattle.sc_report_made.proofs.Common.{value_judged, ℕ, ◌++◌, ◌∙◌, ◌∷◌, ◌≡◌}
 use Rattle.sc_base.specs.declared.op.BinaryOp.{BinaryOp}
 use Rattle.sc_ast.specs.declared.expr.ExprTree as exprs
 use Rattle.sc_ast.specs.declared.stmt.StmtKind as kinds

@@ -3,10 +3,10 @@ use Rattle.sc_run.proofs.Common.{Begun, Bor, Call, Callee, Caller, CameTo, Comes
 use Rattle.sc_run.proofs.Common.{Left, List, None, Ok, Option, Piece, Place, ProgramTree, Reached, Result, Ret, RunEnd}
 use Rattle.sc_run.proofs.Common.{Seen, Some, SourceRun, Standing, State, Step, Steps, Stop, Stopped, To, TypedExpr}
 use Rattle.sc_run.proofs.Common.{Value, Work, [], and_then, ap, arith, back_from, back_to, back_value, begun}
-use Rattle.sc_run.proofs.Common.{blocks_for, bodies, body_acts, c_arith, calls_in, cleared, closes, done, ended}
-use Rattle.sc_run.proofs.Common.{ended_as, entry_from, found, function, function_in, function_of, here_of, leave}
-use Rattle.sc_run.proofs.Common.{left_by, length, denotations, map, refl, result_goes, resume, returned, reverse, run_in}
-use Rattle.sc_run.proofs.Common.{seen_of, store_at, subst, suc, sym, emit_event, then_then, emitted_return, emitted_call, turn}
+use Rattle.sc_run.proofs.Common.{blocks_for, bodies, body_acts, c_arith, calls_in, cleared, closes, denotations, done}
+use Rattle.sc_run.proofs.Common.{emit_event, emitted_call, emitted_return, ended, ended_as, entry_from, found, function}
+use Rattle.sc_run.proofs.Common.{function_in, function_of, here_of, leave, left_by, length, map, refl, result_goes}
+use Rattle.sc_run.proofs.Common.{resume, returned, reverse, run_in, seen_of, store_at, subst, suc, sym, then_then, turn}
 use Rattle.sc_run.proofs.Common.{variable_count, variables, way_in, with_blocks, with_variables, word_crossing, word_in}
 use Rattle.sc_run.proofs.Common.{zero, ℕ, ◌++◌, ◌∙◌, ◌∷◌, ◌≡◌, ◌≤◌}
 use Rattle.sc_run.proofs.Blank.{left_same, blank_more, blank_new, length_same}
@@ -110,7 +110,8 @@ module _ (program : ProgramTree) (caller : Frame) (callee : Callee) (args : List
     Entered = Standing program whole begun_to later g (λ n s. body_acts program n g tt s)
 
     enter_at : (m : ℕ) (t : State) → later ≡ work ++ Caller caller to crossing ∷ [] →
-        seen_of t ≡ emitted_call caller callee args crossing mid → ((n : ℕ) (p : Piece (Left (Unit {0}))) (f : Frame) → f ≡
+        seen_of t ≡ emitted_call caller callee args crossing mid →
+        ((n : ℕ) (p : Piece (Left (Unit {0}))) (f : Frame) → f ≡
         frame_at (length (t.memory callee.comp.now)) → resume program n (Caller caller to crossing ∷ reverse work) f p ≡
         resume program (suc n) (reverse work) caller (and_then (returned program f (back_from program caller callee
         crossing) p) (result_goes program caller to))) → t.turns ≤ m → (resume program (suc m) (reverse work) caller
@@ -243,7 +244,8 @@ module _ (program : ProgramTree) (f : Frame) (exit : Exit) where
         }
 
     pub call_returns : (v : Option Value) → ClosedBy program f exit (Ok v) →
-        Standing program whole before waiting f (λ n s. leaving s) → Standing program whole (emitted_return program caller f
+        Standing program whole before waiting f (λ n s. leaving s) →
+        Standing program whole (emitted_return program caller f
         crossing v (left_by f before)) work caller (λ n s. result_goes program caller to (back_value program f crossing
         v) s)
     call_returns v is h = back_at _ v (suc h.open_calls) h.state (ap (λ r. r.behaviour) (sym (resumed _ h.state ∙ ap
@@ -270,7 +272,8 @@ module _ (program : ProgramTree) (f : Frame) (exit : Exit) where
           stands = λ whole standing. h.stands whole
               (subst (λ x. Standing program whole x work caller (λ n s. result_goes program caller to back s))
               (sym (emits_trace ∙ ap (emitted_return program caller f crossing v) ends))
-              (subst (λ x. Standing program whole (emitted_return program caller f crossing v (left_by f before)) work caller
+              (subst (λ x. Standing program whole (emitted_return program caller f crossing v (left_by f before)) work
+              caller
               (λ n s. result_goes program caller to x s)) (sym gives)
               (call_returns whole before work caller to crossing v is standing)));
         }

@@ -15,22 +15,21 @@ pub use Rattle.sc_base.proofs.Lists.{drop-step, drop_next}
 pub use Rattle.sc_event.specs.declared.event.Event.TheVariants.{End, In, Out}
 pub use Rattle.sc_event.specs.declared.row.Entry.TheVariants.{Export, Main}
 pub use Rattle.sc_core.proofs.Layers.{expr_at, layer_of, stmt_at, term_of, typed}
-pub use Rattle.sc_core.specs.Prelude.{Acts, Blocks, Break, Calls, Exit, IsPrefix, Function, Here, IsStop, Left, Meant}
-pub use Rattle.sc_core.specs.Prelude.{Memory, Next, Piece, Reached, Return, Route, State, Stopped, Ways, all_do}
-pub use Rattle.sc_core.specs.Prelude.{and_then, applied, applied_one, assign, at_place, at_pointer, back_cross}
-pub use Rattle.sc_core.specs.Prelude.{back_own, begun, between, binary, bind, block_does, blocks_for, c_arith, call}
-pub use Rattle.sc_core.specs.Prelude.{call_own, called, cell_of, cells_at, cells_of, choose, computed, crossed, done}
-pub use Rattle.sc_core.specs.Prelude.{ended, entry_in, evaluated, exit_word, first_blocks, first_state, first_word}
-pub use Rattle.sc_core.specs.Prelude.{follow, found, function, function_of, functions_in, global_block, globals_of}
-pub use Rattle.sc_core.specs.Prelude.{in_loop, in_order, init_does, inits_do, is_array, is_inside, is_live, is_pointer}
-pub use Rattle.sc_core.specs.Prelude.{is_true, is_unsigned, is_unsigned_op, is_word, kind_step, leads, leave}
-pub use Rattle.sc_core.specs.Prelude.{live_cells, load, loaded, loop, may_call, meaning, meant, meant_step}
-pub use Rattle.sc_core.specs.Prelude.{member_zeros, moved, moved_back, moved_on, next_input, of_bool, on_words}
-pub use Rattle.sc_core.specs.Prelude.{part_does, place_at, read_input, repeated, run_in, run_of, run_step, run_to}
-pub use Rattle.sc_core.specs.Prelude.{same_place, stmt_step, stopped_at, store, store_at, store_result, stored}
-pub use Rattle.sc_core.specs.Prelude.{struct_zeros, target_cells, emit_event, term_step, test, turn, turn_of, values}
-pub use Rattle.sc_core.specs.Prelude.{variable_at, variables, wanted, ways, with_blocks, with_cell, with_words, within}
-pub use Rattle.sc_core.specs.Prelude.{word_in, zeros_of}
+pub use Rattle.sc_core.specs.Prelude.{Acts, Blocks, Break, Calls, Exit, Function, Here, IsStop, Left, Meant, Memory}
+pub use Rattle.sc_core.specs.Prelude.{Next, Piece, Reached, Return, Route, State, Stopped, Ways, all_do, and_then}
+pub use Rattle.sc_core.specs.Prelude.{applied, applied_one, assign, at_place, at_pointer, back_cross, back_own, begun}
+pub use Rattle.sc_core.specs.Prelude.{between, binary, bind, block_does, blocks_for, c_arith, call, call_own, called}
+pub use Rattle.sc_core.specs.Prelude.{cell_of, cells_at, cells_of, choose, computed, crossed, done, emit_event, ended}
+pub use Rattle.sc_core.specs.Prelude.{entry_in, evaluated, exit_word, first_blocks, first_state, first_word, follow}
+pub use Rattle.sc_core.specs.Prelude.{found, function, function_of, functions_in, global_block, globals_of, in_loop}
+pub use Rattle.sc_core.specs.Prelude.{in_order, init_does, inits_do, is_array, is_inside, is_live, is_pointer, is_true}
+pub use Rattle.sc_core.specs.Prelude.{is_unsigned, is_unsigned_op, is_word, kind_step, leads, leave, live_cells, load}
+pub use Rattle.sc_core.specs.Prelude.{loaded, loop, may_call, meaning, meant, meant_step, member_zeros, moved}
+pub use Rattle.sc_core.specs.Prelude.{moved_back, moved_on, next_input, of_bool, on_words, part_does, place_at}
+pub use Rattle.sc_core.specs.Prelude.{read_input, repeated, run_in, run_of, run_step, run_to, same_place, stmt_step}
+pub use Rattle.sc_core.specs.Prelude.{stopped_at, store, store_at, store_result, stored, struct_zeros, target_cells}
+pub use Rattle.sc_core.specs.Prelude.{term_step, test, turn, turn_of, values, variable_at, variables, wanted, ways}
+pub use Rattle.sc_core.specs.Prelude.{with_blocks, with_cell, with_words, within, word_in, zeros_of}
 pub use Rattle.sc_core.specs.declared.cause.Cause.{Cause}
 pub use Rattle.sc_core.specs.declared.cause.Cause.TheVariants.{BadPointer, BadType, Dangling, OutOfBounds}
 pub use Rattle.sc_core.specs.declared.expr.CallTarget.TheVariants.{Cross, Input, Output, Own}
@@ -57,11 +56,11 @@ pub use Rattle.sc_run.specs.Common.{Call, Callee, Event, Frame, Loop, Null, Prog
 pub use Rattle.sc_run.specs.Common.{Value, cleared, given_back}
 pub use Rattle.sc_run.specs.Prelude.{Begun, CameTo, Comes, Doing, EndsAs, EntryAt, FoundAt, Passes, PassesIf, Seen}
 pub use Rattle.sc_run.specs.Prelude.{Standing, Stands, Steps, back_from, back_to, back_value, block_acts, block_for}
-pub use Rattle.sc_run.specs.Prelude.{bodies, body_acts, calls_in, cell_with, closes, does_now, ended_as, ended_so}
-pub use Rattle.sc_run.specs.Prelude.{entry_from, exit_of, function_in, in_body, in_round, kept_by, left_at, left_by}
-pub use Rattle.sc_run.specs.Prelude.{denotations, loop_acts, memory_of, next_acts, part_acts, result_goes, resume, returned}
-pub use Rattle.sc_run.specs.Prelude.{seen_of, stmt_acts, emitted_return, emitted_call, variable_count, way_in, with_exit}
-pub use Rattle.sc_run.specs.Prelude.{with_variables, word_crossing}
+pub use Rattle.sc_run.specs.Prelude.{bodies, body_acts, calls_in, cell_with, closes, denotations, does_now}
+pub use Rattle.sc_run.specs.Prelude.{emitted_call, emitted_return, ended_as, ended_so, entry_from, exit_of, function_in}
+pub use Rattle.sc_run.specs.Prelude.{in_body, in_round, kept_by, left_at, left_by, loop_acts, memory_of, next_acts}
+pub use Rattle.sc_run.specs.Prelude.{part_acts, result_goes, resume, returned, seen_of, stmt_acts, variable_count}
+pub use Rattle.sc_run.specs.Prelude.{way_in, with_exit, with_variables, word_crossing}
 pub use Rattle.sc_run.specs.declared.work.Now.{Now}
 pub use Rattle.sc_run.specs.declared.work.Now.TheVariants.{Leave, Run}
 pub use Rattle.sc_run.specs.declared.work.Step.{Step}

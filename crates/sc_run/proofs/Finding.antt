@@ -1,6 +1,6 @@
 -- Functions of a program's denotations, by the program's tree.
-use Rattle.sc_run.proofs.Common.{EntryAt, List, None, ProgramTree, TypedSection, [], ap, c_arith, function}
-use Rattle.sc_run.proofs.Common.{functions_in, denotations, map, refl, slice_get, slice_index_or, suc, zero, ℕ, ◌∷◌, ◌≡◌}
+use Rattle.sc_run.proofs.Common.{EntryAt, List, None, ProgramTree, TypedSection, [], ap, c_arith, denotations, function}
+use Rattle.sc_run.proofs.Common.{functions_in, map, refl, slice_get, slice_index_or, suc, zero, ℕ, ◌∷◌, ◌≡◌}
 use Rattle.sc_event.specs.declared.row.Entry.{Entry}
 
 module _ (program : ProgramTree) where

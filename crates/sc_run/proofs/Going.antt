@@ -2,7 +2,7 @@
 -- blame or without turns.
 use Rattle.sc_run.proofs.Common.{Acts, Back, Calls, Frame, GoFrom, Goes, Here, Left, List, Loop, Never, Nowhere, Option}
 use Rattle.sc_run.proofs.Common.{Place, ProgramTree, State, To, TypedStmt, Value, block_acts, block_does, bodies}
-use Rattle.sc_run.proofs.Common.{c_arith, calls_go, calls_in, closes, here_of, denotations, loop, loop_acts, next_acts}
+use Rattle.sc_run.proofs.Common.{c_arith, calls_go, calls_in, closes, denotations, here_of, loop, loop_acts, next_acts}
 use Rattle.sc_run.proofs.Common.{option_copied, part_does, result_goes, run_step, stays, store_result, test, way_in}
 use Rattle.sc_run.proofs.Common.{within_goes, ℕ, ◌≡◌}
 use Rattle.sc_core_laws.proofs.Expressions.{ArithKeeps}

@@ -3,11 +3,11 @@ use Rattle.sc_run.proofs.Common.{BadType, Blamed, Bool, Call, Callee, Comes, Cro
 use Rattle.sc_run.proofs.Common.{FoundAt, Frame, Function, In, Input, Left, List, None, Ok, Option, Out, Output, Own}
 use Rattle.sc_run.proofs.Common.{Piece, ProgramTree, Reached, Result, RunEnd, Seen, Some, State, Step, Steps, Stop}
 use Rattle.sc_run.proofs.Common.{Stopped, To, TypedExpr, Value, Word, Work, [], and_then, ap, arith, back_cross}
-use Rattle.sc_run.proofs.Common.{back_from, back_own, bodies, call, called, calls_in, computed, crossed, drop}
-use Rattle.sc_run.proofs.Common.{entry_from, entry_in, false, false≢true, first_word, found, function, here_of}
-use Rattle.sc_run.proofs.Common.{if◌then◌else◌, is_some, is_word, leads, length, denotations, map, may_call, next_input}
-use Rattle.sc_run.proofs.Common.{read_input, refl, result_goes, run_in, seen_of, sym, emit_event, then_then, true, true≢false}
-use Rattle.sc_run.proofs.Common.{turn, values, way_in, word_in, ℕ, ◌&&◌, ◌++◌, ◌∙◌, ◌∷◌, ◌≡◌}
+use Rattle.sc_run.proofs.Common.{back_from, back_own, bodies, call, called, calls_in, computed, crossed, denotations}
+use Rattle.sc_run.proofs.Common.{drop, emit_event, entry_from, entry_in, false, false≢true, first_word, found, function}
+use Rattle.sc_run.proofs.Common.{here_of, if◌then◌else◌, is_some, is_word, leads, length, map, may_call, next_input}
+use Rattle.sc_run.proofs.Common.{read_input, refl, result_goes, run_in, seen_of, sym, then_then, true, true≢false, turn}
+use Rattle.sc_run.proofs.Common.{values, way_in, word_in, ℕ, ◌&&◌, ◌++◌, ◌∙◌, ◌∷◌, ◌≡◌}
 use Rattle.sc_event.specs.Prelude.{imports, is_function, takes}
 use Rattle.std.specs.List.{list_all}
 use Rattle.sc_base.proofs.Bools.{and_rest}
@@ -51,7 +51,8 @@ module _ (program : ProgramTree) (f : Frame) (to : To) where
   calling target args n s = and_then (calls_in program n f.scope.comp.now target args s) rg
 
   abbrev tried : Bool → CallTarget → List Value → Doing
-  tried b target args n s = and_then (if b then called (denotations program) (bodies program n) f.scope.comp.now target args
+  tried b target args n s = and_then
+      (if b then called (denotations program) (bodies program n) f.scope.comp.now target args
       s else Stopped refusal s) rg
 
   pub refused : {before : Seen} {work : List Work} (target : CallTarget) (args : List Value) {end : RunEnd} →
@@ -74,7 +75,8 @@ module _ (program : ProgramTree) (f : Frame) (to : To) where
   -- a function that is entered, as a call sees it
   abbrev entering : Callee → List Value → Option ℕ → Doing
   entering callee args crossing n s =
-      and_then (and_then (turn s) (λ _ s. run_in (denotations program) (bodies program n) callee.comp.now callee.number args
+      and_then (and_then (turn s) (λ _ s. run_in (denotations program) (bodies program n) callee.comp.now callee.number
+      args
       (back_from program f callee crossing) (entry_from f callee args crossing s))) rg
 
   is_there : (callee : Callee) {comp number : ℕ} → callee.comp.now ≡ comp → callee.number ≡ number → {g : Function} →
@@ -136,12 +138,14 @@ module _ (program : ProgramTree) (f : Frame) (to : To) where
               (denotations program) (bodies program n) comp number (as_words i)
               (back_cross program.interfaces f.scope.comp.now comp index)
               (emit_event (Call f.scope.comp.now comp index (map word_in args)) s)))) rg) ∙
-              (λ i. and_then (and_then (turn s) (λ _ s. run_in (denotations program) (bodies program n) (sym entry.1.0 i)
+              (λ i. and_then (and_then (turn s)
+              (λ _ s. run_in (denotations program) (bodies program n) (sym entry.1.0 i)
               callee.number args (back_cross program.interfaces f.scope.comp.now (sym entry.1.0 i) index)
               (emit_event (Call f.scope.comp.now (sym entry.1.0 i) index (map word_in args)) s))) rg)
 
   -- the next input
-  pub input_steps : {before middle emitted after : Seen} {work : List Work} (args : List Value) {word : ℕ} {step : Step} →
+  pub input_steps : {before middle emitted after : Seen} {work : List Work} (args : List Value) {word : ℕ}
+      {step : Step} →
       may_call (denotations program) f.scope.comp.now Input args ≡ true → word ≡ next_input before.inputs →
       middle ≡ record before { inputs = drop 1 before.inputs } →
       emitted ≡ record middle { trace = middle.trace ++ In f.scope.comp.now word ∷ [] } →

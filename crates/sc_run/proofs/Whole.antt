@@ -1,16 +1,17 @@
 -- A run from its start to its end, which only adds events, so that it may be stopped at a number of them.
 use Rattle.sc_run.proofs.Common.{Again, Begun, Body as Body', Callee, Caller, Cell, End, Ended, EndsAs, EntryAt, Event}
-use Rattle.sc_run.proofs.Common.{EventsOut, First, Frame, IsPrefix, Go, Goes, Gone, IsStop, Leave, Left, List, Main}
-use Rattle.sc_run.proofs.Common.{Memory, None, Now, Nowhere, Option, Piece, ProgramTree, Reached, Rest, Run as Run'}
-use Rattle.sc_run.proofs.Common.{RunEnd, Seen, Some, SourceRun, Standing, Stands, State, Step, Steps, Stop, Stopped}
-use Rattle.sc_run.proofs.Common.{TypedGlobal, TypedSection, Value, Work, [], and_then, ap, arith, back_goes, back_own}
-use Rattle.sc_run.proofs.Common.{back_to, begun, bodies, body_acts, c_arith, call_own, does_now, done, done_goes}
-use Rattle.sc_run.proofs.Common.{earlier, entry_in, exit_word, first_blocks, first_state, follow_goes, found}
-use Rattle.sc_run.proofs.Common.{prefix_more, function, function_in, function_of, global_block, globals_of}
-use Rattle.sc_run.proofs.Common.{if◌then◌else◌, in_loop, in_order, le-leb, length, length-append, denotations, lt-ltb, map}
-use Rattle.sc_run.proofs.Common.{meaning, next_acts, refl, resume, returned, reverse, run_in, run_of, run_step, run_to}
-use Rattle.sc_run.proofs.Common.{seen_of, slice_get, stays, stopped_at, subst, suc, sym, take, take-append-le}
-use Rattle.sc_run.proofs.Common.{then_goes, within, ℕ, ◌<◌, ◌∙◌, ◌∷◌, ◌≡◌, ◌≤◌}
+use Rattle.sc_run.proofs.Common.{EventsOut, First, Frame, Go, Goes, Gone, IsStop, Leave, Left, List, Main, Memory, None}
+use Rattle.sc_run.proofs.Common.{Now, Nowhere, Option, Piece, ProgramTree, Reached, Rest, Run as Run', RunEnd, Seen}
+use Rattle.sc_run.proofs.Common.{Some, SourceRun, Standing, Stands, State, Step, Steps, Stop, Stopped, TypedGlobal}
+use Rattle.sc_run.proofs.Common.{TypedSection, Value, Work, [], and_then, ap, arith, back_goes, back_own, back_to}
+use Rattle.sc_run.proofs.Common.{begun, bodies, body_acts, c_arith, call_own, denotations, does_now, done, done_goes}
+use Rattle.sc_run.proofs.Common.{earlier, entry_in, exit_word, first_blocks, first_state, follow_goes, found, function}
+use Rattle.sc_run.proofs.Common.{function_in, function_of, global_block, globals_of, if◌then◌else◌, in_loop, in_order}
+use Rattle.sc_run.proofs.Common.{le-leb, length, length-append, lt-ltb, map, meaning, next_acts, prefix_more, refl}
+use Rattle.sc_run.proofs.Common.{resume, returned, reverse, run_in, run_of, run_step, run_to, seen_of, slice_get, stays}
+use Rattle.sc_run.proofs.Common.{stopped_at, subst, suc, sym, take, take-append-le, then_goes, within, ℕ, ◌<◌, ◌∙◌, ◌∷◌}
+use Rattle.sc_run.proofs.Common.{◌≡◌, ◌≤◌}
+use Rattle.sc_base.specs.Prelude.{IsPrefix}
 use Rattle.sc_run.proofs.Going.{block_goes, next_goes, loop_goes, closes_goes, result_goes_on}
 use Rattle.sc_run.proofs.Blank.{blank}
 use Rattle.sc_run.proofs.Calling.{frame_at, enter_is, begun_seen, frame_is}
@@ -134,7 +135,8 @@ module _ (program : ProgramTree) (inputs : List ℕ) (turns : ℕ) where
 
   module _ (callee : Callee) (number : ℕ) (after : Seen) (f : Frame) where
     pub begins : entry_in program program.interfaces.main Main ≡ Some number →
-        callee.comp.now ≡ program.interfaces.main → callee.number ≡ number → function (denotations program) callee.comp.now
+        callee.comp.now ≡ program.interfaces.main → callee.number ≡ number →
+        function (denotations program) callee.comp.now
         callee.number ≡ Some (function_of c_arith program.interfaces.main callee.structs.now callee.function.now) →
         Begun callee [] seen_first after f →
         Standing program (run_of c_arith program inputs turns).behaviour after [] f (λ n s. body_acts program n f tt s)
@@ -153,10 +155,12 @@ module _ (program : ProgramTree) (inputs : List ℕ) (turns : ℕ) where
           same : f ≡ frame_at program f callee [] Nowhere (length (at_start.memory callee.comp.now))
           same = frame_is program f callee [] Nowhere at_start first_seen_is b
 
-          called_is : run_in (denotations program) (bodies program (suc turns)) callee.comp.now callee.number [] back_own
+          called_is : run_in (denotations program) (bodies program (suc turns)) callee.comp.now callee.number []
+              back_own
               at_start ≡ main_does at_start
           called_is =
-              (λ i. run_in (denotations program) (bodies program (suc turns)) (here i) (place i) [] back_own at_start) ∙ ap
+              (λ i. run_in (denotations program) (bodies program (suc turns)) (here i) (place i) [] back_own at_start) ∙
+              ap
               (λ o. and_then (found o at_start) (λ number s. call_own (denotations program)
               (within (run_step (denotations program)) (suc turns)) program.interfaces.main number [] s)) (sym at)
 

@@ -1,13 +1,13 @@
 -- The names from below that several definitions of this crate cite, passed on from one place. Declares nothing.
 pub use Rattle.sc_event.specs.declared.event.Event.{Event}
 pub use Rattle.sc_event.specs.declared.event.Event.TheVariants.{Call, Ret}
-pub use Rattle.sc_core.specs.Prelude.{Acts, Block, Body, Break, Calls, Continue, Exit, Function, Left, Denotations, Memory}
-pub use Rattle.sc_core.specs.Prelude.{Next, Piece, Reached, Return, Run, State, Stopped, Ways, and_then, back_cross}
-pub use Rattle.sc_core.specs.Prelude.{back_own, block_does, blocks_for, body_does, c_arith, calls, cell_of, closed}
-pub use Rattle.sc_core.specs.Prelude.{crossing, done, entry_in, follow, function, function_of, in_loop, in_order, leave}
-pub use Rattle.sc_core.specs.Prelude.{denotations_of, loop, main_name, option_value, part_does, run_step, run_to, stmt_does}
-pub use Rattle.sc_core.specs.Prelude.{stopped_at, store_result, emit_event, test, variables, ways, with_blocks, within}
-pub use Rattle.sc_core.specs.Prelude.{word_in}
+pub use Rattle.sc_core.specs.Prelude.{Acts, Block, Body, Break, Calls, Continue, Denotations, Exit, Function, Left}
+pub use Rattle.sc_core.specs.Prelude.{Memory, Next, Piece, Reached, Return, Run, State, Stopped, Ways, and_then}
+pub use Rattle.sc_core.specs.Prelude.{back_cross, back_own, block_does, blocks_for, body_does, c_arith, calls, cell_of}
+pub use Rattle.sc_core.specs.Prelude.{closed, crossing, denotations_of, done, emit_event, entry_in, follow, function}
+pub use Rattle.sc_core.specs.Prelude.{function_of, in_loop, in_order, leave, loop, main_name, option_value, part_does}
+pub use Rattle.sc_core.specs.Prelude.{run_step, run_to, stmt_does, stopped_at, store_result, test, variables, ways}
+pub use Rattle.sc_core.specs.Prelude.{with_blocks, within, word_in}
 pub use Rattle.sc_core.specs.declared.program.ProgramTree.{ProgramTree}
 pub use Rattle.sc_core.specs.declared.run.RunEnd.{RunEnd}
 pub use Rattle.sc_core.specs.declared.stmt.TypedStmt.{TypedStmt}

@@ -1,7 +1,7 @@
 -- Helping: how a call begins, as it is seen.
 use Rattle.sc_run.specs.Common.{Acts, Block, Call, Callee, Frame, Memory, Piece, ProgramTree, State, Undef, Value}
-use Rattle.sc_run.specs.Common.{back_cross, back_own, blocks_for, body_does, c_arith, cell_of, here_of, emit_event, variables}
-use Rattle.sc_run.specs.Common.{with_blocks, word_in}
+use Rattle.sc_run.specs.Common.{back_cross, back_own, blocks_for, body_does, c_arith, cell_of, emit_event, here_of}
+use Rattle.sc_run.specs.Common.{variables, with_blocks, word_in}
 use Rattle.std.specs.Prelude.{◌≡◌, ℕ, ◌<◌, ◌^◌, ◌++◌, true, List, [], ◌∷◌, length, map, replicate, Option, None, Some}
 use Rattle.sc_run.specs.Seen.{Seen}
 use Rattle.sc_run.specs.Resume.{calls_in}

@@ -1,9 +1,9 @@
 -- Helping: what a run that has got somewhere does from there.
-use Rattle.sc_run.specs.Common.{Acts, Body, Break, Calls, Continue, Event, Exit, Frame, Function, Left, Denotations, Loop}
-use Rattle.sc_run.specs.Common.{Next, Piece, ProgramTree, Return, Run, RunEnd, State, TypedStmt, Value, Ways, and_then}
-use Rattle.sc_run.specs.Common.{back_cross, back_own, block_does, c_arith, calls, closed, done, follow, function_of}
-use Rattle.sc_run.specs.Common.{here_of, in_loop, in_order, leave, denotations_of, loop, main_name, part_does, run_step}
-use Rattle.sc_run.specs.Common.{run_to, stmt_does, stopped_at, store_result, test, ways, within}
+use Rattle.sc_run.specs.Common.{Acts, Body, Break, Calls, Continue, Denotations, Event, Exit, Frame, Function, Left}
+use Rattle.sc_run.specs.Common.{Loop, Next, Piece, ProgramTree, Return, Run, RunEnd, State, TypedStmt, Value, Ways}
+use Rattle.sc_run.specs.Common.{and_then, back_cross, back_own, block_does, c_arith, calls, closed, denotations_of}
+use Rattle.sc_run.specs.Common.{done, follow, function_of, here_of, in_loop, in_order, leave, loop, main_name}
+use Rattle.sc_run.specs.Common.{part_does, run_step, run_to, stmt_does, stopped_at, store_result, test, ways, within}
 use Rattle.std.specs.Prelude.{◌≡◌, ℕ, suc, ◌≤◌, ◌&&◌, ◌==◌, bytes_eq, List, [], ◌∷◌, reverse, Option, None, Some}
 use Rattle.std.specs.Prelude.{is_some}
 use Rattle.std.specs.Option.{option_copied}

@@ -1,12 +1,12 @@
 //! Calls: from their arguments to the first statement of what is called, and back (C11 6.5.2.2).
 
 ghost use Rattle.sc_run.specs.Prelude.{Advances, Begun, Steps, and_then, back_from, block_acts, bodies, body_acts};
-ghost use Rattle.sc_run.specs.Prelude.{c_arith, entry_from, function, function_of, kept_by, denotations, result_goes};
-ghost use Rattle.sc_run.specs.Prelude.{run_in, emitted_call, turn, word_in};
+ghost use Rattle.sc_run.specs.Prelude.{c_arith, denotations, emitted_call, entry_from, function, function_of, kept_by};
+ghost use Rattle.sc_run.specs.Prelude.{result_goes, run_in, turn, word_in};
 ghost use Rattle.std.specs.Prelude.{◌≡◌, ◌<◌, ◌^◌, ◌++◌, [], ◌∷◌, IfOk, OnOk, Some, map, length};
 
 use crate::leaves::return_to;
-use crate::machine::{Machine, init_all, make_blocks, store_at, take_turn, emit_event};
+use crate::machine::{Machine, emit_event, init_all, make_blocks, store_at, take_turn};
 use crate::plain::{done_first, exit_at_once};
 use crate::steps::go_on;
 use crate::work::{Callee, Frame, Leaving, Now, Run, Step, To, Work};

@@ -1,8 +1,8 @@
 //! What follows when control leaves statements (C11 6.8.5, 6.8.6).
 
-ghost use Rattle.sc_run.specs.Prelude.{Advances, State, Steps, back_value, block_acts, closes, ended_as, exit_of};
-ghost use Rattle.sc_run.specs.Prelude.{exit_word, follow, in_loop, in_order, kept_by, leave, left_by, loop_acts};
-ghost use Rattle.sc_run.specs.Prelude.{main_name, next_acts, emitted_return, variable_count, word_crossing};
+ghost use Rattle.sc_run.specs.Prelude.{Advances, State, Steps, back_value, block_acts, closes, emitted_return};
+ghost use Rattle.sc_run.specs.Prelude.{ended_as, exit_of, exit_word, follow, in_loop, in_order, kept_by, leave};
+ghost use Rattle.sc_run.specs.Prelude.{left_by, loop_acts, main_name, next_acts, variable_count, word_crossing};
 ghost use Rattle.std.specs.Prelude.{◌≡◌, ◌++◌, [], ◌∷◌, IfOk, OnOk, bytes_eq, ◌==◌, ◌&&◌};
 
 use crate::calls::{hand_back, word_in};

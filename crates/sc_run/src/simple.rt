@@ -1,7 +1,7 @@
 //! Calls in statements, and the statements that may stand in the head of a `for`.
 
 ghost use Rattle.sc_run.specs.Prelude.{Advances, Comes, Steps, and_then, assign, c_arith, call, calls_in, computed};
-ghost use Rattle.sc_run.specs.Prelude.{first_word, here_of, is_word, kept_by, denotations, may_call, next_input};
+ghost use Rattle.sc_run.specs.Prelude.{denotations, first_word, here_of, is_word, kept_by, may_call, next_input};
 ghost use Rattle.sc_run.specs.Prelude.{result_goes, simple_does, values, way_in};
 ghost use Rattle.sc_event.specs.Prelude.{imports, is_function, takes};
 ghost use Rattle.std.specs.Prelude.{◌≡◌, ◌&&◌, IfOk, length, map, drop};

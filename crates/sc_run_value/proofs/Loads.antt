@@ -1,6 +1,6 @@
 -- What the store of blocks gives and takes is what the memory does.
-use Rattle.sc_run_value.proofs.Common.{Blocks, Bool, Cause, Err, List, Ok, Option, Ptr, Result, Some, bind, cells_at, false}
-use Rattle.sc_run_value.proofs.Common.{if◌then◌else◌, is_live, load, loaded, refl, slice_get, true, typed, ◌≡◌}
+use Rattle.sc_run_value.proofs.Common.{Blocks, Bool, Cause, Err, List, Ok, Option, Ptr, Result, Some, bind, cells_at}
+use Rattle.sc_run_value.proofs.Common.{false, if◌then◌else◌, is_live, load, loaded, refl, slice_get, true, typed, ◌≡◌}
 use Rattle.sc_core.specs.declared.cause.Cause.TheVariants.{BadType, Dangling}
 use Rattle.sc_core.specs.declared.value.Cell.{Cell}
 use Rattle.sc_blocks.specs.Rows.{load_cell, or_cause, read_cell}

@@ -1,8 +1,9 @@
 -- What an expression gives, by what its parts give, and what is done at once, or not at all.
 use Rattle.sc_run_value.proofs.Common.{Blocks, Bool, Cause, Err, Here, List, Meant, Memory, None, Ok, Result, Some}
-use Rattle.sc_run_value.proofs.Common.{TypedExpr, Value, Ways, Word, ap, at_pointer, binary, bind, c_arith, decided, false}
-use Rattle.sc_run_value.proofs.Common.{fold-roll-TypedExpr, if◌then◌else◌, is_array, is_pointer, is_true, joined, load}
-use Rattle.sc_run_value.proofs.Common.{meant, meant_step, of_bool, refl, sym, term_step, true, wanted, ways, ℕ, ◌∙◌, ◌≡◌}
+use Rattle.sc_run_value.proofs.Common.{TypedExpr, Value, Ways, Word, ap, at_pointer, binary, bind, c_arith, decided}
+use Rattle.sc_run_value.proofs.Common.{false, fold-roll-TypedExpr, if◌then◌else◌, is_array, is_pointer, is_true, joined}
+use Rattle.sc_run_value.proofs.Common.{load, meant, meant_step, of_bool, refl, sym, term_step, true, wanted, ways, ℕ}
+use Rattle.sc_run_value.proofs.Common.{◌∙◌, ◌≡◌}
 use Rattle.sc_core.specs.declared.value.Want.TheVariants as want
 use Rattle.sc_run_value.specs.Assigning.{AssignedIf, HoldsIf, PutIf, StoredIf}
 use Rattle.sc_core.specs.declared.ty.Ty.{Ty}

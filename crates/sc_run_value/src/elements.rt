@@ -1,7 +1,7 @@
 //! Elements of arrays that are variables (C11 6.5.2.1), by a way that gives no cause.
 
-ghost use Rattle.sc_run_value.specs.Prelude.{Add, Blocks, Ptr, Word, at_pointer, bind, c_arith, here_of, is_unsigned, load};
-ghost use Rattle.sc_run_value.specs.Prelude.{number_of, target_cells, variable_at, ways};
+ghost use Rattle.sc_run_value.specs.Prelude.{Add, Blocks, Ptr, Word, at_pointer, bind, c_arith, here_of, is_unsigned};
+ghost use Rattle.sc_run_value.specs.Prelude.{load, number_of, target_cells, variable_at, ways};
 ghost use Rattle.std.specs.Prelude.{◌≡◌, ◌*ℤ◌, IfSome, Ok, false, pos};
 ghost use Rattle.sc_core.specs.declared.value.Want.TheVariants as want;
 

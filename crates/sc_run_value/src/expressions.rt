@@ -1,7 +1,7 @@
 //! Expressions (C11 6.5), by recursion on the tree, whose height is at most 256.
 
-ghost use Rattle.sc_run_value.specs.Prelude.{Add, applied, at_pointer, c_arith, decided, here_of, is_unsigned_op, joined};
-ghost use Rattle.sc_run_value.specs.Prelude.{literal, memory_of, values, variable_at, wanted, ways};
+ghost use Rattle.sc_run_value.specs.Prelude.{Add, applied, at_pointer, c_arith, decided, here_of, is_unsigned_op};
+ghost use Rattle.sc_run_value.specs.Prelude.{joined, literal, memory_of, values, variable_at, wanted, ways};
 ghost use Rattle.std.specs.Prelude.{◌≡◌, map, IfOk, IfSome, Ok};
 ghost use Rattle.sc_core.specs.declared.value.Want.TheVariants as want;
 

@@ -7,7 +7,7 @@ pub use Rattle.std.proofs.lemmas.Bool.{or_cases, or_left, or_right}
 pub use Rattle.std.specs.List.{list_all, range_with_len}
 pub use Rattle.sc_event.specs.declared.interface.Interfaces.{Interfaces}
 pub use Rattle.sc_core.proofs.Induction.{Each}
-pub use Rattle.sc_core.specs.Prelude.{Arith, Blocks, Break, Calls, Continue, Function, Here, Denotations, Next, Reached}
+pub use Rattle.sc_core.specs.Prelude.{Arith, Blocks, Break, Calls, Continue, Denotations, Function, Here, Next, Reached}
 pub use Rattle.sc_core.specs.Prelude.{Return, all_do, and_then, c_arith, choose, closed, frame_bound, functions_of}
 pub use Rattle.sc_core.specs.Prelude.{leave, load, roles_in, run_by, run_step, scripted_step, stopped_at, stored, total}
 pub use Rattle.sc_core.specs.Prelude.{wrapping}
@@ -17,20 +17,21 @@ pub use Rattle.sc_tac.specs.Common.{Entry, Event, Export, Main}
 pub use Rattle.sc_tac.specs.Prelude.{Ahead, CodeObeys, Codes, IsAssignment, IsClear, IsFunction, IsProgram, Lives}
 pub use Rattle.sc_tac.specs.Prelude.{PlacesAreClear, Point, Reading, Set, Share, Span, Temps, Trail, Within}
 pub use Rattle.sc_tac.specs.Prelude.{WrappedCodeAgrees, ahead_at, all_assigned_first, branch_step, branches, call_does}
-pub use Rattle.sc_tac.specs.Prelude.{calls_exports, calls_imports, calls_own, code_does, code_function, code_functions}
-pub use Rattle.sc_tac.specs.Prelude.{code_globals, code_denotations, code_meaning, code_meaning_by, code_step, code_wrapped}
-pub use Rattle.sc_tac.specs.Prelude.{constant_value, enters_by_words, entry_known, entry_weight, everywhere, from_here}
-pub use Rattle.sc_tac.specs.Prelude.{function_points, gets, has_call, has_elements, has_none, has_operands, has_words}
-pub use Rattle.sc_tac.specs.Prelude.{if_calls, in_body, in_head, in_next, interval_of, intervals_of, is_assigned_first}
-pub use Rattle.sc_tac.specs.Prelude.{is_entered, is_one, is_unsigned, is_used, known, live_across, live_at_start}
-pub use Rattle.sc_tac.specs.Prelude.{live_before, loop_points, names_own_global, names_own_object, names_own_temps}
-pub use Rattle.sc_tac.specs.Prelude.{no_temps, nothing_ahead, nothing_live, one_or_none, op_does, operated, or_first}
-pub use Rattle.sc_tac.specs.Prelude.{part_ahead, part_lives, passes_few, plain, plain_points, point, points, read}
-pub use Rattle.sc_tac.specs.Prelude.{read_all, reading_step, readings, received, return_does, returns_result}
-pub use Rattle.sc_tac.specs.Prelude.{round_first, row_first, row_fresh, row_points, same_entry, scripted_code_by}
-pub use Rattle.sc_tac.specs.Prelude.{scripted_code_meaning, second, some_hold, span_from, start_of, stmt_branches}
-pub use Rattle.sc_tac.specs.Prelude.{stmt_does, stmt_weight, store_does, stray_break, stray_continue, trail, trail_step}
-pub use Rattle.sc_tac.specs.Prelude.{weight, weight_step, with_parts, with_temp}
+pub use Rattle.sc_tac.specs.Prelude.{calls_exports, calls_imports, calls_own, code_denotations, code_does}
+pub use Rattle.sc_tac.specs.Prelude.{code_function, code_functions, code_globals, code_meaning, code_meaning_by}
+pub use Rattle.sc_tac.specs.Prelude.{code_step, code_wrapped, constant_value, enters_by_words, entry_known}
+pub use Rattle.sc_tac.specs.Prelude.{entry_weight, everywhere, from_here, function_points, gets, has_call, has_elements}
+pub use Rattle.sc_tac.specs.Prelude.{has_none, has_operands, has_words, if_calls, in_body, in_head, in_next}
+pub use Rattle.sc_tac.specs.Prelude.{interval_of, intervals_of, is_assigned_first, is_entered, is_one, is_unsigned}
+pub use Rattle.sc_tac.specs.Prelude.{is_used, known, live_across, live_at_start, live_before, loop_points}
+pub use Rattle.sc_tac.specs.Prelude.{names_own_global, names_own_object, names_own_temps, no_temps, nothing_ahead}
+pub use Rattle.sc_tac.specs.Prelude.{nothing_live, one_or_none, op_does, operated, or_first, part_ahead, part_lives}
+pub use Rattle.sc_tac.specs.Prelude.{passes_few, plain, plain_points, point, points, read, read_all, reading_step}
+pub use Rattle.sc_tac.specs.Prelude.{readings, received, return_does, returns_result, round_first, row_first, row_fresh}
+pub use Rattle.sc_tac.specs.Prelude.{row_points, same_entry, scripted_code_by, scripted_code_meaning, second, some_hold}
+pub use Rattle.sc_tac.specs.Prelude.{span_from, start_of, stmt_branches, stmt_does, stmt_weight, store_does}
+pub use Rattle.sc_tac.specs.Prelude.{stray_break, stray_continue, trail, trail_step, weight, weight_step, with_parts}
+pub use Rattle.sc_tac.specs.Prelude.{with_temp}
 pub use Rattle.sc_tac.specs.declared.function.TacFnTree.{TacFnTree}
 pub use Rattle.sc_tac.specs.declared.program.TacSection.{TacSection}
 pub use Rattle.sc_tac.specs.declared.program.TacTree.{TacTree}

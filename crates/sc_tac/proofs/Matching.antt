@@ -2,19 +2,19 @@
 use Rattle.sc_tac.proofs.Common.{Arith, Blocks, Break, Calls, CodeObeys, Codes, Continue, Each, Here, List, Main, Next}
 use Rattle.sc_tac.proofs.Common.{None, Option, Reached, Result, Return, Some, TacFnTree, TacSection, TacStmt, TacStmt-F}
 use Rattle.sc_tac.proofs.Common.{TacTree, Temps, WrappedCodeAgrees, [], and_then, c_arith, call_does, choose, closed}
-use Rattle.sc_tac.proofs.Common.{code_does, code_function, code_functions, code_globals, code_denotations, code_step}
+use Rattle.sc_tac.proofs.Common.{code_denotations, code_does, code_function, code_functions, code_globals, code_step}
 use Rattle.sc_tac.proofs.Common.{constant_value, false, fold-roll-TacStmt, functions_of, gets, is_unsigned, known}
 use Rattle.sc_tac.proofs.Common.{leave, load, map, map-TacStmt, no_temps, op_does, operated, read, read_all, received}
 use Rattle.sc_tac.proofs.Common.{refl, return_does, roles_in, roll-TacStmt, same_entry, second, start_of, stmt_does}
 use Rattle.sc_tac.proofs.Common.{store_does, stored, subst, sym, true, with_temp, wrapping, ℕ, ◌+◌, ◌∷◌, ◌≡◌}
-use Rattle.sc_core_laws.specs.Prelude.{FunctionsMatch, IsArithmetic, DenotationsMatch, Match, Never}
+use Rattle.sc_core_laws.specs.Prelude.{DenotationsMatch, FunctionsMatch, IsArithmetic, Match, Never}
 use Rattle.sc_core.specs.declared.cause.Cause.{Cause}
 use Rattle.sc_core.specs.declared.expr.CallTarget.{CallTarget}
 use Rattle.sc_core.specs.declared.expr.CallTarget.TheVariants.{Own, Cross, Input, Output}
 use Rattle.sc_core.specs.declared.value.Value.{Value}
 use Rattle.sc_core_laws.proofs.Expressions.{ArithKeeps, Keeps, alike, on_words_keep, one_keeps}
-use Rattle.sc_core_laws.proofs.InteractionTrees.{MatchWith, match_reached, match_then, match_computed, match_store, match_call}
-use Rattle.sc_core_laws.proofs.InteractionTrees.{match_if, match_leave, match_all, match_loop}
+use Rattle.sc_core_laws.proofs.InteractionTrees.{MatchWith, match_reached, match_then, match_computed, match_store}
+use Rattle.sc_core_laws.proofs.InteractionTrees.{match_call, match_if, match_leave, match_all, match_loop}
 use Rattle.sc_core_laws.proofs.Statements.{Pairs, meets_at, lists_at, itself_keeps, closed_matches}
 use Rattle.sc_core_laws.proofs.ProgramLaws.{wrapped_agrees, wrapping_agrees}
 use Rattle.sc_core_laws.proofs.Wrapping.{binary_fits, negated_fits}
@@ -211,7 +211,8 @@ module _ (Soft : Cause → Type 0) (ar br : Arith) (arith : ArithKeeps Soft ar b
   of_sections [] = tt
   of_sections (section ∷ sections) = (of_functions section.functions, of_sections sections)
 
-  pub denotations_match : (program : TacTree) → DenotationsMatch Soft (code_denotations ar program) (code_denotations br program)
+  pub denotations_match : (program : TacTree) →
+      DenotationsMatch Soft (code_denotations ar program) (code_denotations br program)
   denotations_match program = record {
     interfaces = refl;
     functions =

@@ -79,7 +79,8 @@ module _ (temps : ℕ) where
   module _ (reads : List ℕ) (calls : Bool) (assigned : Option ℕ)
       (all : list_all (λ t. nat_lt t temps) (one_or_none assigned ++ reads) ≡ true) where
     across_own : (lives : Lives) → OwnLives lives → Own (live_across reads calls assigned lives)
-    across_own lives own t is = own.following t (and_rest (not (is_one t (one_or_none assigned))) (lives.following t) is)
+    across_own lives own t is = own.following t
+        (and_rest (not (is_one t (one_or_none assigned))) (lives.following t) is)
 
     called : (b : Bool) (live : Set) → Own live → Each OwnPoint (if_calls b (point true live))
     called true live own = (own, tt)
@@ -239,4 +240,9 @@ module _ (temps : ℕ) where
       Each OwnPoint (points stmts nothing_live)
   points_own stmts all =
       row_own (map trail stmts) nothing_live (rows stmts (each_own stmts) all)
-      (record { following = λ t is. absurd (cc is); broken = λ t is. absurd (cc is); continued = λ t is. absurd (cc is) })
+      (record {
+        following = λ t is. absurd (cc is);
+        broken = λ t is. absurd (cc is);
+        continued =
+            λ t is. absurd (cc is);
+      })

@@ -1,12 +1,12 @@
 -- Functions and programs by plans, on which rules and meanings compute.
-use Rattle.sc_tac.proofs.Common.{Arith, Bool, Codes, Entry, Event, Function, Interfaces, Denotations, List, Main, Option}
-use Rattle.sc_tac.proofs.Common.{Reading, TacFnTree, TacSection, TacStmt-F, TacTree, TypedGlobal, []}
-use Rattle.sc_tac.proofs.Common.{all_assigned_first, all_do, and_then, ap, branch_step, branches, closed, code_function}
-use Rattle.sc_tac.proofs.Common.{code_functions, code_globals, code_denotations, code_meaning_by, code_step, codes}
-use Rattle.sc_tac.proofs.Common.{everywhere, frame_bound, has_none, is_assigned_first, list_all, map, no_temps, not}
-use Rattle.sc_tac.proofs.Common.{nothing_ahead, reading_step, refl, roles_in, row_first, row_fresh, run_by, run_step}
-use Rattle.sc_tac.proofs.Common.{same_entry, scripted_code_by, scripted_step, some_hold, stopped_at, suc, total, true}
-use Rattle.sc_tac.proofs.Common.{weight, weight_step, with_parts, zero, ℕ, ◌&&◌, ◌∷◌, ◌≡◌}
+use Rattle.sc_tac.proofs.Common.{Arith, Bool, Codes, Denotations, Entry, Event, Function, Interfaces, List, Main}
+use Rattle.sc_tac.proofs.Common.{Option, Reading, TacFnTree, TacSection, TacStmt-F, TacTree, TypedGlobal, []}
+use Rattle.sc_tac.proofs.Common.{all_assigned_first, all_do, and_then, ap, branch_step, branches, closed}
+use Rattle.sc_tac.proofs.Common.{code_denotations, code_function, code_functions, code_globals, code_meaning_by}
+use Rattle.sc_tac.proofs.Common.{code_step, codes, everywhere, frame_bound, has_none, is_assigned_first, list_all, map}
+use Rattle.sc_tac.proofs.Common.{no_temps, not, nothing_ahead, reading_step, refl, roles_in, row_first, row_fresh}
+use Rattle.sc_tac.proofs.Common.{run_by, run_step, same_entry, scripted_code_by, scripted_step, some_hold, stopped_at}
+use Rattle.sc_tac.proofs.Common.{suc, total, true, weight, weight_step, with_parts, zero, ℕ, ◌&&◌, ◌∷◌, ◌≡◌}
 use Rattle.sc_core.specs.declared.run.SourceRun.{SourceRun}
 use Rattle.sc_tac.proofs.Shapes.{Shape, stmts, rows, rows_are}
 
@@ -137,12 +137,14 @@ module _ (arith : Arith) (interfaces : Interfaces) (sheets : List Sheet) where
     abbrev pub quick_meaning : SourceRun
     quick_meaning =
         stopped_at events
-        (run_by quick_denotations (run_step quick_denotations) (code_globals (map section sheets)) inputs turns).behaviour
+        (run_by quick_denotations (run_step quick_denotations) (code_globals (map section sheets)) inputs
+        turns).behaviour
 
     pub meaning_is : code_meaning_by arith (program interfaces sheets) inputs turns events ≡ quick_meaning
     meaning_is =
         ap (λ denotations. stopped_at events
-        (run_by denotations (run_step denotations) (code_globals (map section sheets)) inputs turns).behaviour) denotations_are
+        (run_by denotations (run_step denotations) (code_globals (map section sheets)) inputs turns).behaviour)
+        denotations_are
 
     abbrev pub quick_scripted : (ℕ → Bool) → List Event → SourceRun
     quick_scripted set trace =

@@ -14,8 +14,8 @@ use Rattle.sc_tac.specs.declared.stmt.TacStmt.TheOpen as tac
 use Rattle.sc_tac.proofs.Shapes.{Shape, Done, Line, Fork, Cycle, stmts}
 use Rattle.sc_tac.proofs.Plans.{Plan, Sheet, function, section, program, weight_is, shape_passes, everywhere_is}
 use Rattle.sc_tac.proofs.Plans.{has_none_is, assigned_first_is, all_assigned_is}
-use Rattle.sc_tac.proofs.Runs.{word, output, give, only_main, main_with, skips_two, int_global, across_interfaces, asking}
-use Rattle.sc_tac.proofs.Runs.{answering, caller, callee, across}
+use Rattle.sc_tac.proofs.Runs.{word, output, give, only_main, main_with, skips_two, int_global, across_interfaces}
+use Rattle.sc_tac.proofs.Runs.{asking, answering, caller, callee, across}
 
 -- the loop with a `continue` keeps every rule
 pub the_loop_is_allowed : IsFunction (function (main_with 14 (1 ∷ []) 20 skips_two))

@@ -1,5 +1,5 @@
 -- The meaning of three-address code, by the combinators of programs' meaning.
-use Rattle.sc_tac.specs.Common.{Arith, Blocks, Break, Calls, Continue, Does, Entry, Event, Function, Here, Denotations}
+use Rattle.sc_tac.specs.Common.{Arith, Blocks, Break, Calls, Continue, Denotations, Does, Entry, Event, Function, Here}
 use Rattle.sc_tac.specs.Common.{Main, Memory, Next, Piece, Reached, Return, Run, State, Step, all_do, and_then}
 use Rattle.sc_tac.specs.Common.{applied_one, between, c_arith, choose, closed, computed, depth_in, frame_bound}
 use Rattle.sc_tac.specs.Common.{global_block, leave, load, loop, moved, moved_back, moved_on, on_words, roles_in}
@@ -208,7 +208,8 @@ code_runs arith program = run_step (code_denotations arith program)
 -- those of the compartments of a set perform their parts of a trace
 abbrev pub code_performs : Arith → TacTree → (ℕ → Bool) → List Event → Step
 code_performs arith program set trace =
-    scripted_step (code_denotations arith program) (roles_in program.interfaces.main set trace) (code_runs arith program)
+    scripted_step (code_denotations arith program) (roles_in program.interfaces.main set trace)
+    (code_runs arith program)
 
 module _ (arith : Arith) (program : TacTree) (inputs : List ℕ) (turns : ℕ) where
   abbrev pub code_run_by : Step → Run

@@ -2,7 +2,7 @@
 pub use Rattle.sc_event.specs.declared.event.Event.{Event}
 pub use Rattle.sc_event.specs.declared.row.Entry.{Entry}
 pub use Rattle.sc_event.specs.declared.row.Entry.TheVariants.{Export, Main}
-pub use Rattle.sc_core.specs.Prelude.{Arith, Blocks, Break, Calls, Continue, Does, Function, Here, Denotations, Memory}
+pub use Rattle.sc_core.specs.Prelude.{Arith, Blocks, Break, Calls, Continue, Denotations, Does, Function, Here, Memory}
 pub use Rattle.sc_core.specs.Prelude.{Next, Piece, Reached, Return, Run, State, Step, all_do, and_then, applied_one}
 pub use Rattle.sc_core.specs.Prelude.{between, c_arith, choose, closed, computed, depth_in, frame_bound, global_block}
 pub use Rattle.sc_core.specs.Prelude.{leave, load, loop, most_nodes, most_params, moved, moved_back, moved_on, on_words}

@@ -1,6 +1,6 @@
 -- Laws of code: what holds of all denotations that obey holds of those of code.
 use Rattle.sc_tac.specs.Common.{Arith, Event, c_arith, wrapping}
-use Rattle.sc_core_laws.specs.Prelude.{AgreesInDepth, IsArithmetic, DenotationsMatch, Obedient}
+use Rattle.sc_core_laws.specs.Prelude.{AgreesInDepth, DenotationsMatch, IsArithmetic, Obedient}
 use Rattle.std.specs.Prelude.{ℕ, Bool, List}
 use Rattle.sc_tac.specs.declared.program.TacTree.{TacTree}
 use Rattle.sc_tac.specs.Code.{code_denotations, code_run, scripted_code_run}

@@ -1,7 +1,7 @@
 -- What this crate's contracts, its proofs and the crates above cite, passed on from one place. Declares nothing.
 pub use Rattle.sc_tac.specs.Branches.{branch_step, branches, stmt_branches}
-pub use Rattle.sc_tac.specs.Code.{Codes, Temps, call_does, code_depth_by, code_does, code_function, code_functions}
-pub use Rattle.sc_tac.specs.Code.{code_globals, code_denotations, code_meaning, code_meaning_by, code_run, code_step}
+pub use Rattle.sc_tac.specs.Code.{Codes, Temps, call_does, code_denotations, code_depth_by, code_does, code_function}
+pub use Rattle.sc_tac.specs.Code.{code_functions, code_globals, code_meaning, code_meaning_by, code_run, code_step}
 pub use Rattle.sc_tac.specs.Code.{code_wrapped, compared, constant_value, first_blocks, function_entered, gets}
 pub use Rattle.sc_tac.specs.Code.{is_comparison, is_pointer, is_unsigned, known, no_temps, op_does, operated, read}
 pub use Rattle.sc_tac.specs.Code.{read_all, received, return_does, scripted_code_by, scripted_code_depth_by}

@@ -1,8 +1,8 @@
 -- Chains of texts: what stands in their texts, and that a run has one account.
 use Rattle.sc_top.proofs.Common.{Accepts, All-from_recursion, AllByRecursion, ArePerforming, Bool, CompileFault, Err}
 use Rattle.sc_top.proofs.Common.{Event, Explanation, IfOk, ImageParts, IsAccounted, IsChainFrom, IsExplained, IsNext}
-use Rattle.sc_top.proofs.Common.{IsSource, IsSplitInto, IsSummary, Link, List, MakeOptions, None, Ok, Option}
-use Rattle.sc_top.proofs.Common.{ProgramTree, Result, RunOptions, Some, SourceParts, MeansTrace, [], account, among, ap}
+use Rattle.sc_top.proofs.Common.{IsSource, IsSplitInto, IsSummary, Link, List, MakeOptions, MeansTrace, None, Ok}
+use Rattle.sc_top.proofs.Common.{Option, ProgramTree, Result, RunOptions, Some, SourceParts, [], account, among, ap}
 use Rattle.sc_top.proofs.Common.{ap₂, arith, comp_of, concat, false, if◌then◌else◌, joined, length, machine, map}
 use Rattle.sc_top.proofs.Common.{meaning, performing, performing_text, recomposed, recursion_from_All, refl}
 use Rattle.sc_top.proofs.Common.{replacement_of, subst, suc, summary_text, sym, take, text_after, text_for, true}

@@ -17,10 +17,10 @@ pub use Rattle.sc_core.specs.Prelude.{IsWellTyped, c_arith, main_fits, meaning, 
 pub use Rattle.sc_core.specs.declared.section.TypedFunction.{TypedFunction}
 pub use Rattle.sc_core.specs.declared.section.TypedSection.{TypedSection}
 pub use Rattle.sc_types.specs.Prelude.{Accepts, Fails, IsSource, IsSplitInto, SourceParts}
-pub use Rattle.sc_image.specs.Prelude.{BytesNameOneImage, IsComp, IsExport, IsImage, IsWellFormed, IsWord}
-pub use Rattle.sc_image.specs.Prelude.{TracesAreLegal, bad, bit, cause_number, cause_of, comp_bytes, export_bytes}
-pub use Rattle.sc_image.specs.Prelude.{exports_bytes, globals_bytes, image_bytes, import_bytes, imports_bytes}
-pub use Rattle.sc_image.specs.Prelude.{interfaces_of, machine, most_globals, name_bytes, stretch}
+pub use Rattle.sc_image.specs.Prelude.{BytesNameOneImage, IsComp, IsExport, IsImage, IsWellFormed, IsWord, bad, bit}
+pub use Rattle.sc_image.specs.Prelude.{cause_number, cause_of, comp_bytes, export_bytes, exports_bytes, globals_bytes}
+pub use Rattle.sc_image.specs.Prelude.{image_bytes, import_bytes, imports_bytes, interfaces_of, machine, most_globals}
+pub use Rattle.sc_image.specs.Prelude.{name_bytes, stretch}
 pub use Rattle.sc_image.specs.declared.parts.ImageParts.{ImageParts}
 pub use Rattle.sc_compile.specs.Prelude.{IsCompiled, above, built_image, code_bytes, data_bytes, first, found_in}
 pub use Rattle.sc_compile.specs.Prelude.{frame_bytes, image_of, large_code, large_data, large_frame, large_frames}
@@ -41,7 +41,7 @@ pub use Rattle.sc_top.specs.Prelude.{Answers, ArePerforming, Check, Command, Com
 pub use Rattle.sc_top.specs.Prelude.{HasImage, IsAccounted, IsAnswer, IsBounded, IsCompiling, IsExecuted, IsGood}
 pub use Rattle.sc_top.specs.Prelude.{IsGoodText, IsInput, IsMadeBy, IsMadeText, IsNamed, IsOutput, IsOutputCause}
 pub use Rattle.sc_top.specs.Prelude.{IsSummary, IsTextOutput, IsUndisturbed, IsUnfit, IsWhole, IsWithin, IsWithinLimit}
-pub use Rattle.sc_top.specs.Prelude.{Meaning, Refuses, Run, SameAnswer, Says, Status, Prints, Traffic, Wrote, account}
+pub use Rattle.sc_top.specs.Prelude.{Meaning, Prints, Refuses, Run, SameAnswer, Says, Status, Traffic, Wrote, account}
 pub use Rattle.sc_top.specs.Prelude.{bytes_of, cause_in, comp_of, compiles, limit_of, machine_run, machine_text, meant}
 pub use Rattle.sc_top.specs.Prelude.{of_compile_fault, output, own_text, owner_text, replacement_of, status_by}
 pub use Rattle.sc_top.specs.Prelude.{text_after}

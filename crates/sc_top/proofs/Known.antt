@@ -1,11 +1,12 @@
 -- The numbers of all events stand for something: in the meaning of a program, and where the machine runs an image.
 use Rattle.sc_top.proofs.Common.{All, All-map, Err, Event, IfOk, ImageParts, Interfaces, IsCompiled, IsExecuted}
 use Rattle.sc_top.proofs.Common.{IsKnown, IsSome, IsTrue, IsWellFormed, IsWellTyped, IsWord, List, Ok, ProgramTree}
-use Rattle.sc_top.proofs.Common.{Result, RunOptions, TracesAreLegal, TypedSection, [], and_parts, ap, arith, c_arith}
-use Rattle.sc_top.proofs.Common.{comp_at, false≢true, image_bytes, interfaces_of, legal as is_legal, length, length-map}
+use Rattle.sc_top.proofs.Common.{Result, RunOptions, TypedSection, [], and_parts, ap, arith, c_arith, comp_at}
+use Rattle.sc_top.proofs.Common.{false≢true, image_bytes, interfaces_of, legal as is_legal, length, length-map}
 use Rattle.sc_top.proofs.Common.{machine_run, machine_text, main_fits, map, meant, refl, run_text, sections_fit}
 use Rattle.sc_top.proofs.Common.{slice_get, subst, suc, sym, true, word_of, zero, ℕ, ℤ, ◌<◌, ◌∙◌, ◌∷◌, ◌≡◌}
 use Rattle.sc_core_laws.specs.Prelude.{TracesAreLegal as SourceTracesAreLegal}
+use Rattle.sc_image.specs.Prelude.{TracesAreLegal}
 use Rattle.sc_event.specs.declared.interface.Interface.{Interface}
 use Rattle.sc_event.proofs.Known.{legal_is_known}
 use Rattle.sc_word.proofs.Words.{word_of-lt}

@@ -1,6 +1,6 @@
 -- What was read and written so far, in pieces.
-use Rattle.sc_top.proofs.Common.{Adds, Err, Fetches, IsAtEnd, List, None, Ok, OnOk, Option, Result, Rose, Some, Takes}
-use Rattle.sc_top.proofs.Common.{Prints, Wrote, [], ap, append-nil, append_assoc, arith, drop, inl, inr, length}
+use Rattle.sc_top.proofs.Common.{Adds, Err, Fetches, IsAtEnd, List, None, Ok, OnOk, Option, Prints, Result, Rose, Some}
+use Rattle.sc_top.proofs.Common.{Takes, Wrote, [], ap, append-nil, append_assoc, arith, drop, inl, inr, length}
 use Rattle.sc_top.proofs.Common.{length-append, length-drop, refl, subst, sym, take, take-append-drop, take_all}
 use Rattle.sc_top.proofs.Common.{take_rest, ℕ, ⊎_elim, ◌++◌, ◌+◌, ◌-◌, ◌∙◌, ◌≡◌, ◌≤◌}
 use Rattle.std.proofs.Math.Seq.{take-add}
@@ -99,7 +99,7 @@ pub cut_short : (bytes : List ℕ) (a b c : Option (List ℕ)) (f g h count : �
 cut_short bytes a b c f g h count so_far same rose =
     record {
       prefix = take count bytes;
-      begins = record { rest = drop count bytes; joined = sym (take-append-drop count bytes) };
+      begins = record { more = drop count bytes; is = sym (take-append-drop count bytes) };
       part = subst (λ w. Adds a w (take count bytes)) (sym same) so_far.added;
       whole = inr (rose_since f g h so_far.counted rose);
     }
@@ -111,8 +111,8 @@ first_cut a b w w' f f' t rose =
     record {
       prefix = t.prefix;
       begins = record {
-        rest = t.begins.rest ++ b;
-        joined = ap (λ x. x ++ b) t.begins.joined ∙ append_assoc t.prefix _ b;
+        more = t.begins.more ++ b;
+        is = ap (λ x. x ++ b) t.begins.is ∙ append_assoc t.prefix _ b;
       };
       part = t.part;
       whole = inr rose;
@@ -125,8 +125,8 @@ then_printed a b w u w' f g f' added low t =
     record {
       prefix = a ++ t.prefix;
       begins = record {
-        rest = t.begins.rest;
-        joined = ap (λ x. a ++ x) t.begins.joined ∙ sym (append_assoc a t.prefix _);
+        more = t.begins.more;
+        is = ap (λ x. a ++ x) t.begins.is ∙ sym (append_assoc a t.prefix _);
       };
       part = Adds-more w u w' a t.prefix added t.part;
       whole = ⊎_elim (λ same. inl (ap (λ x. a ++ x) same)) (λ rose. inr (rose_since f g f' low rose)) t.whole;
@@ -183,7 +183,7 @@ pub printed_by : {T E : Type 0} (text : List ℕ) (r : Result T E) (w w' : Optio
 printed_by text (Ok value) w w' f f' wrote =
     record {
       prefix = text;
-      begins = record { rest = []; joined = sym (append-nil text) };
+      begins = record { more = []; is = sym (append-nil text) };
       part = wrote.ok;
       whole = inl refl;
     }

@@ -1,6 +1,7 @@
 -- What an answer says of the bytes that were read and written.
 use Rattle.sc_top.specs.Common.{Accepts, Adds, Command, Fails, IsAtEnd, IsImage, ProgramTree, Refusal, Rose, Takes, bad}
 use Rattle.sc_top.specs.Common.{cause_number, too_large}
+use Rattle.sc_base.specs.Prelude.{IsPrefix}
 use Rattle.std.specs.Prelude.{◌≡◌, ◌≢◌, ◌≤◌, ◌⊎◌, ◌+◌, ℕ, IsTrue, List, [], ◌++◌, length, Option, Some, None}
 use Rattle.std.specs.Prelude.{option_and_then}
 use Rattle.std.specs.Option.{option_map}
@@ -24,11 +25,6 @@ pub record Traffic : Type 0 where
   pub written_after : Option (List ℕ)
   pub write_faults : ℕ
   pub write_faults_after : ℕ
-
--- a text begins with this prefix
-pub record IsPrefix (prefix text : List ℕ) : Type 0 where
-  pub rest : List ℕ
-  pub joined : text ≡ prefix ++ rest
 
 -- these bytes are all that was left, and no more than the limit
 pub record IsWhole (limit : ℕ) (left left_after : Option (List ℕ)) (bytes : List ℕ) : Type 0 where

@@ -6,7 +6,7 @@ pub use Rattle.sc_chain.specs.Prelude.{IsExplained, IsFault}
 pub use Rattle.sc_top_words.specs.declared.command.Command.{Command}
 pub use Rattle.sc_top_words.specs.declared.command.Command.TheVariants.{Check, Compile, Exec, Explain, Meaning, Run}
 pub use Rattle.sc_top.specs.Answer.{Answers, FindsBad, IsAnswer, IsGood, IsGoodText, IsInput, IsSilent, IsUndisturbed}
-pub use Rattle.sc_top.specs.Answer.{IsUnfit, IsWhole, IsWithin, IsWithinLimit, Refuses, SameAnswer, Says, Prints}
+pub use Rattle.sc_top.specs.Answer.{IsUnfit, IsWhole, IsWithin, IsWithinLimit, Prints, Refuses, SameAnswer, Says}
 pub use Rattle.sc_top.specs.Answer.{Traffic, cause_in}
 pub use Rattle.sc_top.specs.Command.{limit_of}
 pub use Rattle.sc_top.specs.Failure.{IsInputCause, IsOutputCause, of_image_fault, of_read_fault, of_text_fault}

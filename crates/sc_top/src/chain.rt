@@ -10,8 +10,8 @@ use crate::text::read_source;
 use sc_base::{OutOfMemory, Text};
 use sc_chain::{ExplainFault, Explanation, Link, Replacement, recompose};
 use sc_core::Program;
-use sc_types::SourceText;
 use sc_top_words::RunOptions;
+use sc_types::SourceText;
 use sqlite_items::Items;
 use std::alloc::Global;
 

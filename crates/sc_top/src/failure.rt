@@ -11,8 +11,8 @@ use sc_compile::CompileFault;
 use sc_event::{CompId, Interfaces};
 use sc_image::ImageFault;
 use sc_lex::Refusal;
-use sc_types::TextFault;
 use sc_top_words::WordsFault;
+use sc_types::TextFault;
 
 /// Why a command has no output, or none that was written whole.
 #[derive(Clone, Copy)]

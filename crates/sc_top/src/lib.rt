@@ -10,12 +10,12 @@ mod laws;
 mod machine;
 mod make;
 mod output;
-mod status;
 mod printing;
+mod status;
 mod text;
 mod top;
 
 pub use laws::{images_are_within, one_answer, one_output};
-pub use status::{Status, TooLarge};
 pub use printing::print;
+pub use status::{Status, TooLarge};
 pub use top::secomp;

@@ -7,10 +7,10 @@ ghost use Rattle.std.specs.Prelude.{◌≡◌, [], None, IfOk};
 use sc_base::{OutOfMemory, Text};
 use sc_chain::{ExplainFault, Explanation, explain};
 use sc_lex::TextFault;
-use sc_report_made::made_texts_are_accepted;
 use sc_report::{make_text, summary_text};
-use sc_types::{SourceText, accepted_or_refused, one_program};
+use sc_report_made::made_texts_are_accepted;
 use sc_top_words::MakeOptions;
+use sc_types::{SourceText, accepted_or_refused, one_program};
 use std::alloc::Global;
 
 // How far the machine runs for a summary, without inputs.

@@ -10,11 +10,11 @@ use crate::machine::compiled_text;
 use sc_base::{OutOfMemory, Text};
 use sc_compile::compile;
 use sc_core::Program;
-use sc_image::{Image, write_image};
 use sc_core_laws::traces_are_legal;
+use sc_image::{Image, write_image};
 use sc_run::run_source;
-use sc_types::SourceText;
 use sc_top_words::{MeaningOptions, RunOptions};
+use sc_types::SourceText;
 use std::alloc::Global;
 
 /// The text as an accepted one.

@@ -1,4 +1,4 @@
-ghost use Rattle.sc_top.specs.Prelude.{Answers, Command, IsBounded, IsOutput, IsOutputCause, IsSilent, Says, Prints};
+ghost use Rattle.sc_top.specs.Prelude.{Answers, Command, IsBounded, IsOutput, IsOutputCause, IsSilent, Prints, Says};
 ghost use Rattle.sc_top.specs.Prelude.{status_by, status_text};
 ghost use Rattle.sc_top_words.specs.Prelude.{command};
 ghost use Rattle.std.specs.Prelude.{◌≡◌, ◌≢◌, ◌⊎◌, None, Some, map, IfOk, IfErr, IsErrOf};
@@ -17,8 +17,8 @@ use crate::printing::print;
 use crate::text::{check, compiled, meaning, run};
 use sc_base::Text;
 use sc_edge::{Sink, Source};
-use sc_types::{accepted_or_refused, one_phase, one_program};
 use sc_top_words::{Command, read_command};
+use sc_types::{accepted_or_refused, one_phase, one_program};
 use std::alloc::Global;
 
 /// Runs the program on its words, without its own name before them. A status other than `Done` is printed on `err`.

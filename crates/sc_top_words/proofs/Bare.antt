@@ -2,8 +2,8 @@
 use Rattle.sc_top_words.proofs.Common.{Bool, Form, List, None, Option, Setting, Some, Text, [], and_from, ap, arith}
 use Rattle.sc_top_words.proofs.Common.{begins_with_hyphen, bytes_eq, commands, cond, eqb-true, false, find, form_of}
 use Rattle.sc_top_words.proofs.Common.{has_value, is_among, is_bare, list_all, list_any, more, named, named_option, not}
-use Rattle.sc_top_words.proofs.Common.{option_and_then, option_map, options, or_parts, parsed, refl, same_text, settings}
-use Rattle.sc_top_words.proofs.Common.{subst, sym, true, true≢false, when_complete, ◌==◌, ◌∷◌, ◌≡◌}
+use Rattle.sc_top_words.proofs.Common.{option_and_then, option_map, options, or_parts, parsed, refl, same_text}
+use Rattle.sc_top_words.proofs.Common.{settings, subst, sym, true, true≢false, when_complete, ◌==◌, ◌∷◌, ◌≡◌}
 use Rattle.sc_base.proofs.Bools.{and_first}
 
 -- ---- what holds of each command holds of the command of a name
@@ -61,7 +61,8 @@ bare_fails form has (a ∷ []) following bare = go _ refl
     go false e = rw e refl
 bare_fails form has (a ∷ b ∷ []) following bare = go _ refl _ refl
   where
-    go : (x : Bool) → (a == 45) ≡ x → (y : Bool) → (b == 45) ≡ y → named_option form (named (a ∷ b ∷ [])) following ≡ None
+    go : (x : Bool) → (a == 45) ≡ x → (y : Bool) → (b == 45) ≡ y →
+        named_option form (named (a ∷ b ∷ [])) following ≡ None
     go true e true f = rw (e, f, has.0, has.1) refl
     go true e false f = rw (e, f) refl
     go false e y f = rw e refl

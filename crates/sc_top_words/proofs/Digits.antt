@@ -1,12 +1,12 @@
 -- Numbers as `parse` reads them, and lists cut at their commas.
 use Rattle.sc_top_words.proofs.Common.{Bool, Err, List, None, Ok, OkIff, Option, Result, Some, [], after_first}
-use Rattle.sc_top_words.proofs.Common.{all_ascii_digits, and_parts, ap, append_assoc, ap₂, arith, cond, eq-eqb, eqb-true}
-use Rattle.sc_top_words.proofs.Common.{false, first_piece, get_or, prepended, inl, inr, integer, integer_list, integers}
+use Rattle.sc_top_words.proofs.Common.{all_ascii_digits, and_parts, ap, append_assoc, ap₂, arith, cond, eq-eqb}
+use Rattle.sc_top_words.proofs.Common.{eqb-true, false, first_piece, get_or, inl, inr, integer, integer_list, integers}
 use Rattle.sc_top_words.proofs.Common.{is_comma, le-leb, leb-true, length, list_any, lt-leb, lt-ltb, ltb-true, nat_le}
 use Rattle.sc_top_words.proofs.Common.{nat_lt, neg_ℤ, number_within, onto_first, option_and_then, option_map, or_parts}
-use Rattle.sc_top_words.proofs.Common.{pieces, pieces_after, pos, position_or_len, refl, slice_index, suc, sym, true}
-use Rattle.sc_top_words.proofs.Common.{true≢false, w32, when_within, ℕ, ℤ, ◌&&◌, ◌++◌, ◌+◌, ◌<◌, ◌==◌, ◌||◌, ◌∙◌, ◌∷◌, ◌≡◌}
-use Rattle.sc_top_words.proofs.Common.{◌≢◌, ◌≤◌, ◌⊎◌}
+use Rattle.sc_top_words.proofs.Common.{pieces, pieces_after, pos, position_or_len, prepended, refl, slice_index, suc}
+use Rattle.sc_top_words.proofs.Common.{sym, true, true≢false, w32, when_within, ℕ, ℤ, ◌&&◌, ◌++◌, ◌+◌, ◌<◌, ◌==◌, ◌||◌}
+use Rattle.sc_top_words.proofs.Common.{◌∙◌, ◌∷◌, ◌≡◌, ◌≢◌, ◌≤◌, ◌⊎◌}
 use Rattle.std.specs.Result.{result_ok}
 use Rattle.std.specs.Str.Parse.{ParsesSigned, ParsesUnsigned, digits_value}
 use Rattle.std.proofs.lemmas.Iterator.Adapters.{option_map_id}
@@ -152,7 +152,8 @@ pub record IsReadUpTo (text : List ℕ) (count : ℕ) (done : List ℤ) (left : 
 
 -- the pieces that are left
 cut : (left : List ℕ) → ((pieces_after left ≡ None) × (pieces left ≡ first_piece left ∷ []))
-    ⊎ ((following : List ℕ) × (pieces_after left ≡ Some following) × (pieces left ≡ first_piece left ∷ pieces following))
+    ⊎ ((following : List ℕ) × (pieces_after left ≡ Some following) ×
+    (pieces left ≡ first_piece left ∷ pieces following))
 cut left = go _ refl
   where
     go : (b : Bool) → list_any is_comma left ≡ b → ((cond b (Some (after_first is_comma left)) None ≡ None) ×
@@ -207,7 +208,8 @@ goes_on text count done left next following is good some = elim (cut left) [
   | inr c ↦
       let same_some : Some c.0 ≡ Some following = sym c.1 ∙ some in
       let same : c.0 ≡ following = cc in
-      let parts : pieces left ≡ first_piece left ∷ pieces following = c.2 ∙ ap (λ x. first_piece left ∷ pieces x) same in
+      let parts : pieces left ≡ first_piece left ∷ pieces following = c.2 ∙
+      ap (λ x. first_piece left ∷ pieces x) same in
       let more : length (pieces left) ≡ suc _ = ap length parts in
       record {
         values = is.values ∙ (ap (option_map (λ xs. done ++ xs))

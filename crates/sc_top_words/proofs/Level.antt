@@ -1,13 +1,14 @@
 -- What a parse makes of the words after a command's name: the options that they give, or a fault.
-use Rattle.sc_top_words.proofs.Common.{Bool, Form, Held, Kinds, List, None, Option, Row, Rule, Setting, Shape, Some, Step}
-use Rattle.sc_top_words.proofs.Common.{Text, Waiting, Walk, [], after_flag, after_step, ap, append-nil, append_assoc, ap₂}
-use Rattle.sc_top_words.proofs.Common.{arg_by_id, begins_with_hyphen, bytes_eq_self, check_fault, codes, cond}
-use Rattle.sc_top_words.proofs.Common.{defaults_fault, each_once, false, finished, fold, has_option, has_row, has_value}
-use Rattle.sc_top_words.proofs.Common.{idle, is_among, is_bare, level_fault, list_all, long_fault, long_met, more}
-use Rattle.sc_top_words.proofs.Common.{name_and_value, named, named_option, not, nothing_held, option, option_and_then}
-use Rattle.sc_top_words.proofs.Common.{option_map_or, options, or_else, reacted, refl, rows_after, settings, settle_fault}
-use Rattle.sc_top_words.proofs.Common.{settled, short_of, step_fault, subst, sym, true, turn_fault, use_fault, used}
-use Rattle.sc_top_words.proofs.Common.{used_by_id, walk_fault, walked, when_complete, with_default, ℕ, ◌++◌, ◌∙◌, ◌∷◌, ◌≡◌}
+use Rattle.sc_top_words.proofs.Common.{Bool, Form, Held, Kinds, List, None, Option, Row, Rule, Setting, Shape, Some}
+use Rattle.sc_top_words.proofs.Common.{Step, Text, Waiting, Walk, [], after_flag, after_step, ap, append-nil}
+use Rattle.sc_top_words.proofs.Common.{append_assoc, ap₂, arg_by_id, begins_with_hyphen, bytes_eq_self, check_fault}
+use Rattle.sc_top_words.proofs.Common.{codes, cond, defaults_fault, each_once, false, finished, fold, has_option}
+use Rattle.sc_top_words.proofs.Common.{has_row, has_value, idle, is_among, is_bare, level_fault, list_all, long_fault}
+use Rattle.sc_top_words.proofs.Common.{long_met, more, name_and_value, named, named_option, not, nothing_held, option}
+use Rattle.sc_top_words.proofs.Common.{option_and_then, option_map_or, options, or_else, reacted, refl, rows_after}
+use Rattle.sc_top_words.proofs.Common.{settings, settle_fault, settled, short_of, step_fault, subst, sym, true}
+use Rattle.sc_top_words.proofs.Common.{turn_fault, use_fault, used, used_by_id, walk_fault, walked, when_complete}
+use Rattle.sc_top_words.proofs.Common.{with_default, ℕ, ◌++◌, ◌∙◌, ◌∷◌, ◌≡◌}
 use Rattle.std.proofs.lemmas.List.{map-append}
 use Rattle.clap.specs.declared.error.kind.ErrorKind.TheVariants as kind
 use Rattle.sc_top_words.proofs.Basics.{by_hyphens, first_fails, first_plain, first_not, not_empty, or_else_assoc}

@@ -1,8 +1,9 @@
 -- The arguments of a command as the parse reads them, and the argument of a name.
-use Rattle.sc_top_words.proofs.Common.{Bool, Form, List, None, Option, Rule, Shape, Some, Text, [], flag_rule, ap, ap₂}
-use Rattle.sc_top_words.proofs.Common.{arg_by_id, arg_by_index, arg_by_long, bytes_eq, codes, cond, false, find}
-use Rattle.sc_top_words.proofs.Common.{find-append, has_value, if◌then◌else◌, is_among, map, new_shape, option_or, or-false}
-use Rattle.sc_top_words.proofs.Common.{refl, same_text, sym, true, true≢false, valued_rule, ℕ, ◌++◌, ◌||◌, ◌∙◌, ◌∷◌, ◌≡◌}
+use Rattle.sc_top_words.proofs.Common.{Bool, Form, List, None, Option, Rule, Shape, Some, Text, [], ap, ap₂, arg_by_id}
+use Rattle.sc_top_words.proofs.Common.{arg_by_index, arg_by_long, bytes_eq, codes, cond, false, find, find-append}
+use Rattle.sc_top_words.proofs.Common.{flag_rule, has_value, if◌then◌else◌, is_among, map, new_shape, option_or}
+use Rattle.sc_top_words.proofs.Common.{or-false, refl, same_text, sym, true, true≢false, valued_rule, ℕ, ◌++◌, ◌||◌}
+use Rattle.sc_top_words.proofs.Common.{◌∙◌, ◌∷◌, ◌≡◌}
 use Rattle.clap.specs.declared.builder.value_parser.ValueParser.TheVariants as vp
 
 -- ---- the arguments as the parse reads them

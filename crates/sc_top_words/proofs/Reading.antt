@@ -1,11 +1,12 @@
 -- The command that a parse which succeeds comes to.
 use Rattle.sc_top_words.proofs.Common.{App, Bool, Box, ErrorKind, Form, HasMatchesOf, IsAmong, IsReading, List, None}
-use Rattle.sc_top_words.proofs.Common.{Option, Row, Setting, Some, Says, Text, [], ap, application, bytes_eq, codes}
-use Rattle.sc_top_words.proofs.Common.{command, command_with, commands, events, false, fault_of, first_of, first_value-rows}
-use Rattle.sc_top_words.proofs.Common.{flag_text, form_of, has_option, has_value, inputs, is_among, is_bare, is_simple}
-use Rattle.sc_top_words.proofs.Common.{limit, list_any, make_form, number_within, one_of, one_text-rows, option_and_then}
-use Rattle.sc_top_words.proofs.Common.{option_map, parsed, refl, rows_of, run, same_text, subcommand_of, subcommand_rows}
-use Rattle.sc_top_words.proofs.Common.{subcommand_rows_of, subst, sym, text_to_show, true, value_of, ◌∙◌, ◌≡◌}
+use Rattle.sc_top_words.proofs.Common.{Option, Row, Says, Setting, Some, Text, [], ap, application, bytes_eq, codes}
+use Rattle.sc_top_words.proofs.Common.{command, command_with, commands, events, false, fault_of, first_of}
+use Rattle.sc_top_words.proofs.Common.{first_value-rows, flag_text, form_of, has_option, has_value, inputs, is_among}
+use Rattle.sc_top_words.proofs.Common.{is_bare, is_simple, limit, list_any, make_form, number_within, one_of}
+use Rattle.sc_top_words.proofs.Common.{one_text-rows, option_and_then, option_map, parsed, refl, rows_of, run}
+use Rattle.sc_top_words.proofs.Common.{same_text, subcommand_of, subcommand_rows, subcommand_rows_of, subst, sym}
+use Rattle.sc_top_words.proofs.Common.{text_to_show, true, value_of, ◌∙◌, ◌≡◌}
 use Rattle.sc_top_words.specs.declared.command.Command.TheVariants.{Exec, Explain, Make, Meaning, Run}
 use Rattle.std.specs.Box.{box_value}
 use Rattle.clap.specs.Matches.{first_value, one_text, subcommand_name_of}

@@ -1,12 +1,12 @@
 -- The rows of the options that are given: what a use adds, what is found at the end, and what is checked there.
-use Rattle.sc_top_words.proofs.Common.{Bool, Form, Kinds, List, None, Option, Row, Rule, Setting, Some, Says, Text, []}
+use Rattle.sc_top_words.proofs.Common.{Bool, Form, Kinds, List, None, Option, Row, Rule, Says, Setting, Some, Text, []}
 use Rattle.sc_top_words.proofs.Common.{and-false, ap, append-nil, ap₂, at_row, bytes_eq, codes, cond, defaults_fault}
 use Rattle.sc_top_words.proofs.Common.{each_once, false, find, find-append, find-map, find_passes, flag_text, fold}
-use Rattle.sc_top_words.proofs.Common.{has_option, has_row, has_value, if◌then◌else◌, is_among, is_some, list_all, list_any}
-use Rattle.sc_top_words.proofs.Common.{list_any-append, map, more_values, not, option_and_then, option_map, option_map_or}
-use Rattle.sc_top_words.proofs.Common.{option_or, or-true, or_else, or_parts, refl, row_text, same_either_way, same_text}
-use Rattle.sc_top_words.proofs.Common.{slice_get, sym, true, true≢false, use_fault, used, with_default, with_values, ◌&&◌}
-use Rattle.sc_top_words.proofs.Common.{◌++◌, ◌||◌, ◌∙◌, ◌∷◌, ◌≡◌}
+use Rattle.sc_top_words.proofs.Common.{has_option, has_row, has_value, if◌then◌else◌, is_among, is_some, list_all}
+use Rattle.sc_top_words.proofs.Common.{list_any, list_any-append, map, more_values, not, option_and_then, option_map}
+use Rattle.sc_top_words.proofs.Common.{option_map_or, option_or, or-true, or_else, or_parts, refl, row_text}
+use Rattle.sc_top_words.proofs.Common.{same_either_way, same_text, slice_get, sym, true, true≢false, use_fault, used}
+use Rattle.sc_top_words.proofs.Common.{with_default, with_values, ◌&&◌, ◌++◌, ◌||◌, ◌∙◌, ◌∷◌, ◌≡◌}
 use Rattle.clap.specs.Facts.{explicit_source}
 use Rattle.clap.specs.Takes.{is_given}
 use Rattle.clap.specs.declared.builder.value_parser.Reading.TheVariants.{AsWritten}
@@ -270,7 +270,8 @@ repeated (o ∷ before) name value following has = go (bytes_eq o.0 name) refl (
   where
     go : (b : Bool) → bytes_eq o.0 name ≡ b → (has_option name before ≡ true →
         each_once (before ++ (name, value) ∷ following) ≡ false)
-        → (not (has_option o.0 (before ++ (name, value) ∷ following)) && each_once (before ++ (name, value) ∷ following)) ≡
+        → (not (has_option o.0 (before ++ (name, value) ∷ following)) && each_once
+        (before ++ (name, value) ∷ following)) ≡
         false
     go true e later =
         let turned : bytes_eq name o.0 ≡ true = same_either_way name o.0 ∙ e in

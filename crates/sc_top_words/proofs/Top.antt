@@ -1,14 +1,15 @@
 -- What a parse makes of all the words: the command's name and its options, or a fault.
-use Rattle.sc_top_words.proofs.Common.{App, Bool, Form, Held, Kinds, List, Names, None, Option, Row, Setting, Shape, Some}
-use Rattle.sc_top_words.proofs.Common.{Step, Says, Text, Walk, [], after_step, answers_to, ap, append-nil, append_assoc}
-use Rattle.sc_top_words.proofs.Common.{application, begins_with_hyphen, bytes_eq, check_fault, codes, commands, cond}
-use Rattle.sc_top_words.proofs.Common.{defaults_fault, entered, entered_fault, false, fault_of, find, find-map, find_passes}
-use Rattle.sc_top_words.proofs.Common.{finished, fold, form_of, idle, is_bare, is_simple, is_simple_and_free, is_some}
-use Rattle.sc_top_words.proofs.Common.{label_of, level_fault, list_all, map, names_of, new_shape, not, nothing_held}
-use Rattle.sc_top_words.proofs.Common.{option_and_then, option_map, option_map_or, options, or-false, or_else, other_fault}
-use Rattle.sc_top_words.proofs.Common.{parsed, refl, rows_after, rows_at, same_text, settle_fault, settled, short_of}
-use Rattle.sc_top_words.proofs.Common.{step_fault, subcommand_met, subcommand_of, subcommand_or_other, subst, sym, true}
-use Rattle.sc_top_words.proofs.Common.{turn_fault, walk_fault, walk_from, walked, ◌&&◌, ◌++◌, ◌∙◌, ◌∷◌, ◌≡◌}
+use Rattle.sc_top_words.proofs.Common.{App, Bool, Form, Held, Kinds, List, Names, None, Option, Row, Says, Setting}
+use Rattle.sc_top_words.proofs.Common.{Shape, Some, Step, Text, Walk, [], after_step, answers_to, ap, append-nil}
+use Rattle.sc_top_words.proofs.Common.{append_assoc, application, begins_with_hyphen, bytes_eq, check_fault, codes}
+use Rattle.sc_top_words.proofs.Common.{commands, cond, defaults_fault, entered, entered_fault, false, fault_of, find}
+use Rattle.sc_top_words.proofs.Common.{find-map, find_passes, finished, fold, form_of, idle, is_bare, is_simple}
+use Rattle.sc_top_words.proofs.Common.{is_simple_and_free, is_some, label_of, level_fault, list_all, map, names_of}
+use Rattle.sc_top_words.proofs.Common.{new_shape, not, nothing_held, option_and_then, option_map, option_map_or}
+use Rattle.sc_top_words.proofs.Common.{options, or-false, or_else, other_fault, parsed, refl, rows_after, rows_at}
+use Rattle.sc_top_words.proofs.Common.{same_text, settle_fault, settled, short_of, step_fault, subcommand_met}
+use Rattle.sc_top_words.proofs.Common.{subcommand_of, subcommand_or_other, subst, sym, true, turn_fault, walk_fault}
+use Rattle.sc_top_words.proofs.Common.{walk_from, walked, ◌&&◌, ◌++◌, ◌∙◌, ◌∷◌, ◌≡◌}
 use Rattle.clap.proofs.FaultLemmas.{stopped_fault}
 use Rattle.clap.proofs.SimpleLemmas.{label_first}
 use Rattle.clap.specs.declared.error.kind.ErrorKind.TheVariants as kind

@@ -1,15 +1,15 @@
 -- What this crate's contracts, its proofs and the crates above cite, passed on from one place. Declares nothing.
 pub use Rattle.clap.specs.Words.{app_of, found_of, kind_of}
-pub use Rattle.sc_top_words.specs.Application.{IsArgumentOf, IsCommandOf, IsReading, Says, flag_rule, application}
+pub use Rattle.sc_top_words.specs.Application.{IsArgumentOf, IsCommandOf, IsReading, Says, application, flag_rule}
 pub use Rattle.sc_top_words.specs.Application.{flag_text, shape_with, top, valued_rule}
-pub use Rattle.sc_top_words.specs.Numbers.{first_piece, prepended, integer, integer_list, is_comma, number, number_within}
-pub use Rattle.sc_top_words.specs.Numbers.{onto_first, pieces_after, when_within}
+pub use Rattle.sc_top_words.specs.Numbers.{first_piece, integer, integer_list, is_comma, number, number_within}
+pub use Rattle.sc_top_words.specs.Numbers.{onto_first, pieces_after, prepended, when_within}
 unfoldable pub use Rattle.sc_top_words.specs.Numbers.{integers, pieces}
 pub use Rattle.sc_top_words.specs.Options.{Form, Setting, Text, begins_with_hyphen, each_once, has_option, has_value}
-pub use Rattle.sc_top_words.specs.Options.{is_among, is_bare, more, name_and_value, named, named_option, options, value_of}
-pub use Rattle.sc_top_words.specs.Options.{when_complete}
+pub use Rattle.sc_top_words.specs.Options.{is_among, is_bare, more, name_and_value, named, named_option, options}
+pub use Rattle.sc_top_words.specs.Options.{value_of, when_complete}
 unfoldable pub use Rattle.sc_top_words.specs.Options.{settings}
 pub use Rattle.sc_top_words.specs.Usage.{usage_text}
-pub use Rattle.sc_top_words.specs.Words.{command_with, commands, events, explain, form_of, inputs, limit, make, make_form}
-pub use Rattle.sc_top_words.specs.Words.{meaning, parsed, run, text_to_show, with_values}
+pub use Rattle.sc_top_words.specs.Words.{command_with, commands, events, explain, form_of, inputs, limit, make}
+pub use Rattle.sc_top_words.specs.Words.{make_form, meaning, parsed, run, text_to_show, with_values}
 unfoldable pub use Rattle.sc_top_words.specs.Words.{command}

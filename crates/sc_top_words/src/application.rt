@@ -1,4 +1,4 @@
-ghost use Rattle.sc_top_words.specs.Prelude.{IsArgumentOf, IsCommandOf, flag_rule, app_of, application, make_form, top};
+ghost use Rattle.sc_top_words.specs.Prelude.{IsArgumentOf, IsCommandOf, app_of, application, flag_rule, make_form, top};
 ghost use Rattle.sc_top_words.specs.Prelude.{valued_rule, with_values};
 ghost use Rattle.std.specs.Prelude.{◌≡◌, ◌∷◌, [], codes, true, false, IfOk};
 

@@ -1,16 +1,16 @@
 -- A call by its name in a section is the call of its target in the program.
 use Rattle.sc_types.proofs.Common.{BaseTree, Bool, Callees, ExportLine, FunctionParam, FunctionTree, HeadTree}
 use Rattle.sc_types.proofs.Common.{ImportLine, List, None, Option, ParamTree, SectionTree, Some, TypeName, TypedParam}
-use Rattle.sc_types.proofs.Common.{[], agree, and_first, and_rest, ap, arith, base_of, base_scalar, bytes_eq, crosses}
-use Rattle.sc_types.proofs.Common.{export_at, false, functions_in, gives_int, head_crosses, head_of, if◌then◌else◌}
-use Rattle.sc_types.proofs.Common.{import_named, interface_of, interfaces_of, is_input, is_int, is_numbered, is_output}
-use Rattle.sc_types.proofs.Common.{is_some, length, list_all, list_any, map, nat_eq, nat_tests, not, number_of}
-use Rattle.sc_types.proofs.Common.{offering, offers, option_and_then, option_map, param_of, param_ty, promised}
-use Rattle.sc_types.proofs.Common.{proto_of, proto_signature, refl, result_crosses, result_of, result_ty, same_params}
-use Rattle.sc_types.proofs.Common.{same_result, same_type, scalar_of, scalar_ty, signature_by, signature_of, slice_get}
-use Rattle.sc_types.proofs.Common.{slice_get-map, starred, suc, sym, tags, takes_int, takes_nothing, true, type_of_name}
-use Rattle.sc_types.proofs.Common.{typed_function, typed_param, ℕ, ◌++◌, ◌+◌, ◌==◌, ◌||◌, ◌∙◌, ◌∷◌, ◌≡◌}
-use Rattle.sc_event.specs.Prelude.{comp_at}
+use Rattle.sc_types.proofs.Common.{[], agree, and_first, and_rest, ap, arith, base_of, base_scalar, bytes_eq, comp_at}
+use Rattle.sc_types.proofs.Common.{crosses, export_at, false, functions_in, gives_int, head_crosses, head_of}
+use Rattle.sc_types.proofs.Common.{if◌then◌else◌, import_named, interface_of, interfaces_of, is_input, is_int}
+use Rattle.sc_types.proofs.Common.{is_numbered, is_output, is_some, length, list_all, list_any, map, nat_eq, nat_tests}
+use Rattle.sc_types.proofs.Common.{not, number_of, offering, offers, option_and_then, option_map, param_of, param_ty}
+use Rattle.sc_types.proofs.Common.{promised, proto_of, proto_signature, refl, result_crosses, result_of, result_ty}
+use Rattle.sc_types.proofs.Common.{same_params, same_result, same_type, scalar_of, scalar_ty, signature_by}
+use Rattle.sc_types.proofs.Common.{signature_of, slice_get, slice_get-map, starred, suc, sym, tags, takes_int}
+use Rattle.sc_types.proofs.Common.{takes_nothing, true, type_of_name, typed_function, typed_param, ℕ, ◌++◌, ◌+◌, ◌==◌}
+use Rattle.sc_types.proofs.Common.{◌||◌, ◌∙◌, ◌∷◌, ◌≡◌}
 use Rattle.sc_types_interfaces.specs.Prelude.{same_base}
 use Rattle.sc_types_elab.proofs.Programs.{comp_at as elab_comp_at}
 use Rattle.sc_ast.specs.declared.types.BaseTree.TheVariants as base_tree

@@ -4,9 +4,9 @@ use Rattle.sc_types.proofs.Common.{among, arith, bytes_eq, concat, decls_from, e
 use Rattle.sc_types.proofs.Common.{function_names, functions_in, globals_in, head_fits, head_of, heads_in, import_names}
 use Rattle.sc_types.proofs.Common.{imported_agrees, imports_from, is_numbered, is_offered, is_plain, length}
 use Rattle.sc_types.proofs.Common.{list_any-append, main_holds, main_name, map, most_exports, most_nodes, nat_le, not}
-use Rattle.sc_types.proofs.Common.{proto_names, refl, same_text, section_lines, structs_in, true, ℕ, ◌&&◌, ◌++◌, ◌∷◌}
-use Rattle.sc_types.proofs.Common.{◌≡◌}
+use Rattle.sc_types.proofs.Common.{proto_names, refl, same_text, structs_in, true, ℕ, ◌&&◌, ◌++◌, ◌∷◌, ◌≡◌}
 use Rattle.sc_types_scope.specs.Prelude.{are_distinct}
+use Rattle.sc_types_interfaces.specs.Prelude.{section_lines}
 use Rattle.sc_types.specs.Counts as counts
 use Rattle.sc_types.proofs.Lookups.{rule_holds, prefix_empty, back_empty, no_lines, Each, Text, same_refl}
 use Rattle.sc_types.proofs.Lookups.{numbered_prefix}

@@ -4,9 +4,8 @@ use Rattle.sc_types.proofs.Common.{add-one, ap, append_assoc, arith, callees_of,
 use Rattle.sc_types.proofs.Common.{drop, drop-cons, drop-step, drop_all, filter_map, filter_map-append, get_or}
 use Rattle.sc_types.proofs.Common.{is_small, length, limited, line_beyond, line_of_text, lines_from, local_lines, map}
 use Rattle.sc_types.proofs.Common.{map-append, most_compartments, nat_le, nat_tests, noted_all, refl, refused_at}
-use Rattle.sc_types.proofs.Common.{slice_get, struct_in, structs_from, structs_in, suc, sym, type_in, unless}
-use Rattle.sc_types.proofs.Common.{with_lines, ℕ, ◌++◌, ◌+◌, ◌<◌, ◌∙◌, ◌∷◌, ◌≡◌, ◌≤◌}
-use Rattle.sc_types.specs.Prelude.{section_lines}
+use Rattle.sc_types.proofs.Common.{section_lines, slice_get, struct_in, structs_from, structs_in, suc, sym, type_in}
+use Rattle.sc_types.proofs.Common.{unless, with_lines, ℕ, ◌++◌, ◌+◌, ◌<◌, ◌∙◌, ◌∷◌, ◌≡◌, ◌≤◌}
 use Rattle.sc_types_scope.specs.declared.broken.BrokenLines.{BrokenLines}
 use Rattle.sc_types_scope.proofs.Lines.{done, with_lines-append, with_lines-nil, noted_all-append, step}
 use Rattle.sc_core.specs.declared.ty.Ty.TheVariants as ty

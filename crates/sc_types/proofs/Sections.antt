@@ -24,7 +24,8 @@ use Rattle.sc_types_interfaces.specs.Rules as interface_rules
 use Rattle.sc_types.specs.Counts as counts
 use Rattle.sc_types.proofs.Lookups.{or_not, back_empty, no_lines, Each, Text, same_refl, each_at, each_function}
 use Rattle.sc_types.proofs.Lookups.{FoundFunction, find_function}
-use Rattle.sc_types.proofs.Facts.{Fresh, fresh_distinct, ExportFacts, ImportFacts, DeclFacts, InterfaceFacts, CountFacts}
+use Rattle.sc_types.proofs.Facts.{Fresh, fresh_distinct, ExportFacts, ImportFacts, DeclFacts, InterfaceFacts}
+use Rattle.sc_types.proofs.Facts.{CountFacts}
 use Rattle.sc_types.proofs.Calls.{agreed_signature, own_signature, Offering, find_offering, found_export, export_is}
 
 -- Signatures are the same as themselves.

@@ -146,7 +146,8 @@ module _ (names : List Text) (self : Text) (after : List Text) (new : is_numbere
   -- in a small struct no offset stops
   exact : (offset : ℕ) (m : MemberTree) (members : List MemberTree) → cells_from every done
       (end offset m) members ≤ 1048576 → end offset m ≡ offset + cells_of done (type_of every m.ty)
-  exact offset m members small = let following = below _ members (end_within offset m) in omega (arith, small, following)
+  exact offset m members small = let following =
+      below _ members (end_within offset m) in omega (arith, small, following)
 
   member_is : (offset : ℕ) (m : MemberTree) (members : List MemberTree) → member_known names self m ≡ true →
       is_sized m.ty ≡ true → end offset m ≡ offset + cells_of done (type_of every m.ty) →

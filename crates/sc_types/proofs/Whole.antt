@@ -17,12 +17,12 @@ use Rattle.sc_types_scope.specs.Names as names
 use Rattle.sc_types_elab.specs.Sections as elab
 use Rattle.sc_types_interfaces.specs.Rules as interface_rules
 use Rattle.sc_types.specs.Counts as counts
-use Rattle.sc_types.proofs.Lookups.{rule_holds, prefix_empty, back_empty, map_empty, Each, each_empty, each_passes, find}
-use Rattle.sc_types.proofs.Lookups.{none_some, Text, any_found, each_at, each_function, same_sym, FoundFunction}
+use Rattle.sc_types.proofs.Lookups.{rule_holds, prefix_empty, back_empty, map_empty, Each, each_empty, each_passes}
+use Rattle.sc_types.proofs.Lookups.{find, none_some, Text, any_found, each_at, each_function, same_sym, FoundFunction}
 use Rattle.sc_types.proofs.Lookups.{find_function}
 use Rattle.sc_types.proofs.Structs.{AllSmall, structs_all_fit, structs_length}
-use Rattle.sc_types.proofs.Facts.{Fresh, fresh_distinct, DeclFacts, InterfaceFacts, interface_facts, decls_hold, CountFacts}
-use Rattle.sc_types.proofs.Facts.{count_facts}
+use Rattle.sc_types.proofs.Facts.{Fresh, fresh_distinct, DeclFacts, InterfaceFacts, interface_facts, decls_hold}
+use Rattle.sc_types.proofs.Facts.{CountFacts, count_facts}
 use Rattle.sc_types.proofs.Calls.{input_signature, length_snoc, own_signature, plus_none, plus_zero}
 use Rattle.sc_types.proofs.Callees as called
 use Rattle.sc_types.proofs.Functions.{small_from, After, functions_are, globals_are, structs_known}
@@ -85,7 +85,8 @@ module _ (sections : List SectionTree) where
 
   pub hold : interface_broken sections ≡ [] → (j : ℕ) (section : SectionTree) → slice_get sections j ≡ Some section →
       InterfaceFacts sections j section
-  hold h j section got = each_here (InterfaceFacts sections) _ j section (interfaces_each 0 [] _ (prefix_empty _ _ h)) got
+  hold h j section got = each_here (InterfaceFacts sections) _ j section (interfaces_each 0 [] _ (prefix_empty _ _ h))
+      got
 
   -- the rules of counts, by the section's number
   abbrev Counted : ℕ → SectionTree → Type 0

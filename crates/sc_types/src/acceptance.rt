@@ -7,10 +7,10 @@ ghost use Rattle.sc_lex.specs.declared.refusal.Refusal.{Refusal};
 use crate::counts::broken_count;
 use sc_ast::SectionTree;
 use sc_core::Program;
-use sc_types_elab::{broken_type, build_program};
-use sc_types_interfaces::{broken_interface, interfaces};
 use sc_lex::{Phase, Refusal};
 use sc_parse_read::{TextFault, Trees};
+use sc_types_elab::{broken_type, build_program};
+use sc_types_interfaces::{broken_interface, interfaces};
 use sc_types_scope::broken_name;
 use std::alloc::Global;
 

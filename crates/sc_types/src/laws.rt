@@ -6,7 +6,9 @@ ghost use Rattle.sc_lex.specs.declared.refusal.Phase.{Phase};
 ghost use Rattle.sc_lex.specs.declared.refusal.Phase.TheVariants.{Syntax};
 ghost use Rattle.sc_core.specs.declared.program.ProgramTree.{ProgramTree};
 
-use sc_parse_read::{one_phase as one_phase_of_reading, one_reading, read_or_fails, read_or_refused};
+use sc_parse_read::{
+    one_phase as one_phase_of_reading, one_reading, read_or_fails, read_or_refused,
+};
 
 /// A text is accepted as one program at most.
 pub fn one_program()

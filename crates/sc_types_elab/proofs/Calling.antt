@@ -1,11 +1,11 @@
 -- Tables of names give what the names of calls stand for.
 use Rattle.sc_types_elab.proofs.Common.{Bool, Callees, CallsIn, FunctionTree, HeadTree, Import, ImportLine, List, None}
-use Rattle.sc_types_elab.proofs.Common.{Option, SectionTree, Some, [], ap, arith, bytes_eq, called, called_head, callees_of}
-use Rattle.sc_types_elab.proofs.Common.{calling_heads, function_named, function_names, head_name, head_named, head_of}
-use Rattle.sc_types_elab.proofs.Common.{if◌then◌else◌, import_line_name, import_named, import_of, import_target, imported}
-use Rattle.sc_types_elab.proofs.Common.{imported_target, map, map_twice, option_and_then, option_map, or_first, or_first_own}
-use Rattle.sc_types_elab.proofs.Common.{position-cons, refl, signature_by, slice_get, struct_names, suc, sym, target_or, ℕ}
-use Rattle.sc_types_elab.proofs.Common.{◌++◌, ◌==◌, ◌∙◌, ◌∷◌, ◌≡◌}
+use Rattle.sc_types_elab.proofs.Common.{Option, SectionTree, Some, [], ap, arith, bytes_eq, called, called_head}
+use Rattle.sc_types_elab.proofs.Common.{callees_of, calling_heads, function_named, function_names, head_name}
+use Rattle.sc_types_elab.proofs.Common.{head_named, head_of, if◌then◌else◌, import_line_name, import_named, import_of}
+use Rattle.sc_types_elab.proofs.Common.{import_target, imported, imported_target, map, map_twice, option_and_then}
+use Rattle.sc_types_elab.proofs.Common.{option_map, or_first, or_first_own, position-cons, refl, signature_by}
+use Rattle.sc_types_elab.proofs.Common.{slice_get, struct_names, suc, sym, target_or, ℕ, ◌++◌, ◌==◌, ◌∙◌, ◌∷◌, ◌≡◌}
 use Rattle.sc_base.specs.Prelude.{number_of}
 use Rattle.std.proofs.lemmas.Cmp.{nat_list_eq_equiv}
 use Rattle.std.specs.Cmp.Lexicographic.{pointwise}

@@ -1,11 +1,11 @@
 -- The lines of a function: those of its locals, and those of its body.
-use Rattle.sc_types_elab.proofs.Common.{BrokenLines, ExprTree, FunctionScope, FunctionTree, GlobalTree, List, LocalTree, None}
-use Rattle.sc_types_elab.proofs.Common.{OnOk, Option, Result, SectionScope, SectionTree, Some, Stands, StandsIn, Suits, Ty}
-use Rattle.sc_types_elab.proofs.Common.{add-one, ap, arith, concat, drop, drop-step, drop_all, function_lines, get_or}
-use Rattle.sc_types_elab.proofs.Common.{global_lines, init_fits, init_goes, init_holds, is_sized, length, locals_from, map}
-use Rattle.sc_types_elab.proofs.Common.{on_ok, refl, scope_in, stmt_lines, subst, suc, sym, tags, then, type_of, typed_init}
-use Rattle.sc_types_elab.proofs.Common.{unless, visible, with_lines, with_lines-append, with_lines-nil, ℕ, ◌&&◌, ◌+◌, ◌<◌}
-use Rattle.sc_types_elab.proofs.Common.{◌∙◌, ◌≡◌, ◌≤◌}
+use Rattle.sc_types_elab.proofs.Common.{BrokenLines, ExprTree, FunctionScope, FunctionTree, GlobalTree, List, LocalTree}
+use Rattle.sc_types_elab.proofs.Common.{None, OnOk, Option, Result, SectionScope, SectionTree, Some, Stands, StandsIn}
+use Rattle.sc_types_elab.proofs.Common.{Suits, Ty, add-one, ap, arith, concat, drop, drop-step, drop_all}
+use Rattle.sc_types_elab.proofs.Common.{function_lines, get_or, global_lines, init_fits, init_goes, init_holds}
+use Rattle.sc_types_elab.proofs.Common.{is_sized, length, locals_from, map, on_ok, refl, scope_in, stmt_lines, subst}
+use Rattle.sc_types_elab.proofs.Common.{suc, sym, tags, then, type_of, typed_init, unless, visible, with_lines}
+use Rattle.sc_types_elab.proofs.Common.{with_lines-append, with_lines-nil, ℕ, ◌&&◌, ◌+◌, ◌<◌, ◌∙◌, ◌≡◌, ◌≤◌}
 use Rattle.sc_types_elab_expr.specs.Calls as calls
 use Rattle.sc_types_elab.proofs.Functions.{seen}
 use Rattle.sc_types_elab.proofs.Suiting.{suiting}

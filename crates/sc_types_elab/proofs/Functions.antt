@@ -1,10 +1,11 @@
 -- What stands for a function while it is built gives its typed form.
-use Rattle.sc_types_elab.proofs.Common.{ExprTree, FunctionScope, FunctionTree, List, LocalTree, None, Option, SectionScope}
-use Rattle.sc_types_elab.proofs.Common.{SectionTree, Some, Stands, StandsIn, Ty, TypedLocal, [], add-one, ap, called, drop}
-use Rattle.sc_types_elab.proofs.Common.{drop-step, get_or, going_to, length, local_in, local_variable, map, map-append, refl}
-use Rattle.sc_types_elab.proofs.Common.{stmt_in, subst, suc, tags, take, take-step, type_of, type_of_name, typed}
-use Rattle.sc_types_elab.proofs.Common.{typed_function, typed_init, typed_local, typed_locals, typed_param, typed_stmt}
-use Rattle.sc_types_elab.proofs.Common.{value_in, visible, visible_in, ℕ, ◌++◌, ◌+◌, ◌<◌, ◌∙◌, ◌∷◌, ◌≡◌}
+use Rattle.sc_types_elab.proofs.Common.{ExprTree, FunctionScope, FunctionTree, List, LocalTree, None, Option}
+use Rattle.sc_types_elab.proofs.Common.{SectionScope, SectionTree, Some, Stands, StandsIn, Ty, TypedLocal, [], add-one}
+use Rattle.sc_types_elab.proofs.Common.{ap, called, drop, drop-step, get_or, going_to, length, local_in, local_variable}
+use Rattle.sc_types_elab.proofs.Common.{map, map-append, refl, stmt_in, subst, suc, tags, take, take-step, type_of}
+use Rattle.sc_types_elab.proofs.Common.{type_of_name, typed, typed_function, typed_init, typed_local, typed_locals}
+use Rattle.sc_types_elab.proofs.Common.{typed_param, typed_stmt, value_in, visible, visible_in, ℕ, ◌++◌, ◌+◌, ◌<◌, ◌∙◌}
+use Rattle.sc_types_elab.proofs.Common.{◌∷◌, ◌≡◌}
 use Rattle.std.specs.Option.{option_map}
 use Rattle.sc_core.specs.declared.section.TypedFunction.{TypedFunction}
 use Rattle.sc_types_elab_stmt.proofs.Loops.{one_more, all_done}

@@ -1,6 +1,7 @@
 -- Loops that gather what is made of some items of a list.
-use Rattle.sc_types_elab.proofs.Common.{List, Option, [], ap, append-nil, append_assoc, drop, drop-step, drop_all, filter_map}
-use Rattle.sc_types_elab.proofs.Common.{get_or, length, map, map-append, refl, sym, ℕ, ◌++◌, ◌+◌, ◌<◌, ◌∙◌, ◌∷◌, ◌≡◌, ◌≤◌}
+use Rattle.sc_types_elab.proofs.Common.{List, Option, [], ap, append-nil, append_assoc, drop, drop-step, drop_all}
+use Rattle.sc_types_elab.proofs.Common.{filter_map, get_or, length, map, map-append, refl, sym, ℕ, ◌++◌, ◌+◌, ◌<◌, ◌∙◌}
+use Rattle.sc_types_elab.proofs.Common.{◌∷◌, ◌≡◌, ◌≤◌}
 use Rattle.std.proofs.lemmas.List.Elements.{filter_map-append}
 
 module _ {A B C : Type 0} (f : A → Option B) (g : B → C) where

@@ -1,8 +1,8 @@
 -- The lines of a text are those of its sections.
-use Rattle.sc_types_elab.proofs.Common.{BrokenLines, Callees, CallsIn, Decl, Import, List, Option, SectionTree, [], add-one}
-use Rattle.sc_types_elab.proofs.Common.{ap, called, callees_of, concat, decl_lines, drop, drop_all, get_or, length}
-use Rattle.sc_types_elab.proofs.Common.{line_of_text, map, noted, noted_all, noted_all-append, section_lines, struct_names}
-use Rattle.sc_types_elab.proofs.Common.{sym, with_lines, ℕ, ◌++◌, ◌+◌, ◌<◌, ◌∙◌, ◌≡◌, ◌≤◌}
+use Rattle.sc_types_elab.proofs.Common.{BrokenLines, Callees, CallsIn, Decl, Import, List, Option, SectionTree, []}
+use Rattle.sc_types_elab.proofs.Common.{add-one, ap, called, callees_of, concat, decl_lines, drop, drop_all, get_or}
+use Rattle.sc_types_elab.proofs.Common.{length, line_of_text, map, noted, noted_all, noted_all-append, section_lines}
+use Rattle.sc_types_elab.proofs.Common.{struct_names, sym, with_lines, ℕ, ◌++◌, ◌+◌, ◌<◌, ◌∙◌, ◌≡◌, ◌≤◌}
 use Rattle.std.proofs.Math.Seq.{drop-cons}
 use Rattle.sc_types_elab.proofs.Calling.{signatures_kept}
 use Rattle.sc_types_scope.proofs.Noted.{noted-none}

@@ -1,9 +1,9 @@
 -- Sections and their interfaces, one after another.
-use Rattle.sc_types_elab.proofs.Common.{IsSome, List, SectionTree, Some, [], add-one, ap, append_assoc, arith, callees_of}
-use Rattle.sc_types_elab.proofs.Common.{drop, drop-step, get_or, get_or_from_slice_get, import_of, interface_of}
-use Rattle.sc_types_elab.proofs.Common.{interfaces_from, interfaces_of, length, map, option_map, refl, same_Some}
-use Rattle.sc_types_elab.proofs.Common.{sections_from, slice_get, slice_get-get_or, slice_get_within, suc, sym, typed_section}
-use Rattle.sc_types_elab.proofs.Common.{zero, ℕ, ◌++◌, ◌+◌, ◌<◌, ◌∙◌, ◌∷◌, ◌≡◌}
+use Rattle.sc_types_elab.proofs.Common.{IsSome, List, SectionTree, Some, [], add-one, ap, append_assoc, arith}
+use Rattle.sc_types_elab.proofs.Common.{callees_of, drop, drop-step, get_or, get_or_from_slice_get, import_of}
+use Rattle.sc_types_elab.proofs.Common.{interface_of, interfaces_from, interfaces_of, length, map, option_map, refl}
+use Rattle.sc_types_elab.proofs.Common.{same_Some, sections_from, slice_get, slice_get-get_or, slice_get_within, suc}
+use Rattle.sc_types_elab.proofs.Common.{sym, typed_section, zero, ℕ, ◌++◌, ◌+◌, ◌<◌, ◌∙◌, ◌∷◌, ◌≡◌}
 use Rattle.sc_core.specs.declared.section.TypedSection.{TypedSection}
 use Rattle.sc_event.specs.declared.interface.Interface.{Interface}
 use Rattle.sc_event.specs.declared.interface.Interfaces.{Interfaces}

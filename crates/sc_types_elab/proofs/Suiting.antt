@@ -1,11 +1,11 @@
 -- What a function sees suits the scope that its statements are judged in.
-use Rattle.sc_types_elab.proofs.Common.{Bool, Found, FunctionTree, GlobalTree, List, None, Option, Scope, SectionTree, Some}
-use Rattle.sc_types_elab.proofs.Common.{StructTree, Suits, Ty, TypedStruct, Visible, [], ap, arith, bytes_eq, end_of_member}
-use Rattle.sc_types_elab.proofs.Common.{false, found_in, globals_in, has_member, is_type, list_any, map, map_twice}
-use Rattle.sc_types_elab.proofs.Common.{members_from, ne_eqb, no_ty, option_and_then, or_else, position, refl, same_base}
-use Rattle.sc_types_elab.proofs.Common.{same_ty, scope_in, slice_get, slice_get-map, starred, suc, sym, take, true, type_of}
-use Rattle.sc_types_elab.proofs.Common.{type_with, typed_struct, typed_structs, variable_ty, visible_in, zero, ℕ, ◌&&◌, ◌++◌}
-use Rattle.sc_types_elab.proofs.Common.{◌==◌, ◌∙◌, ◌∷◌, ◌≡◌}
+use Rattle.sc_types_elab.proofs.Common.{Bool, Found, FunctionTree, GlobalTree, List, None, Option, Scope, SectionTree}
+use Rattle.sc_types_elab.proofs.Common.{Some, StructTree, Suits, Ty, TypedStruct, Visible, [], ap, arith, bytes_eq}
+use Rattle.sc_types_elab.proofs.Common.{end_of_member, false, found_in, globals_in, has_member, is_type, list_any, map}
+use Rattle.sc_types_elab.proofs.Common.{map_twice, members_from, ne_eqb, no_ty, option_and_then, or_else, position}
+use Rattle.sc_types_elab.proofs.Common.{refl, same_base, same_ty, scope_in, slice_get, slice_get-map, starred, suc, sym}
+use Rattle.sc_types_elab.proofs.Common.{take, true, type_of, type_with, typed_struct, typed_structs, variable_ty}
+use Rattle.sc_types_elab.proofs.Common.{visible_in, zero, ℕ, ◌&&◌, ◌++◌, ◌==◌, ◌∙◌, ◌∷◌, ◌≡◌}
 use Rattle.sc_core.specs.declared.ty.BaseTy.{BaseTy}
 use Rattle.sc_core.specs.declared.section.TypedMember.{TypedMember}
 use Rattle.sc_core.specs.declared.section.TypedParam.{TypedParam}

@@ -1,6 +1,6 @@
 -- What a section's tables of calls hold.
-use Rattle.sc_types_elab.specs.Common.{Decl, FunctionTree, HeadTree, Import, ImportLine, SectionTree, Signature, StructTree}
-use Rattle.sc_types_elab.specs.Common.{functions_in, head_of, heads_in}
+use Rattle.sc_types_elab.specs.Common.{Decl, FunctionTree, HeadTree, Import, ImportLine, SectionTree, Signature}
+use Rattle.sc_types_elab.specs.Common.{StructTree, functions_in, head_of, heads_in}
 use Rattle.std.specs.Prelude.{◌≡◌, ℕ, List, ◌++◌, map}
 use Rattle.sc_types_elab.specs.Sections.{signature_by, import_target}
 use Rattle.sc_types_elab_expr.specs.declared.callees.Callees.{Callees}

@@ -14,9 +14,10 @@ pub use Rattle.sc_types_elab.specs.Sections.{base_of, called_head, callees_of, c
 pub use Rattle.sc_types_elab.specs.Sections.{function_lines, global_lines, global_variable, head_named, import_named}
 pub use Rattle.sc_types_elab.specs.Sections.{import_target, imported_target, init_holds, init_words, is_null, is_sized}
 pub use Rattle.sc_types_elab.specs.Sections.{local_holds, local_variable, locals_from, members_from, or_first, param_ty}
-pub use Rattle.sc_types_elab.specs.Sections.{program_of, result_of, scope_in, section_lines, sections_from, signature_by}
-pub use Rattle.sc_types_elab.specs.Sections.{struct_lines, structs, tags, type_of, type_of_name, type_with, typed_function}
-pub use Rattle.sc_types_elab.specs.Sections.{typed_global, typed_init, typed_local, typed_param, typed_section, typed_struct}
-pub use Rattle.sc_types_elab.specs.Sections.{types_broken, visible_in, visible_of, word_of_const}
+pub use Rattle.sc_types_elab.specs.Sections.{program_of, result_of, scope_in, section_lines, sections_from}
+pub use Rattle.sc_types_elab.specs.Sections.{signature_by, struct_lines, structs, tags, type_of, type_of_name}
+pub use Rattle.sc_types_elab.specs.Sections.{type_with, typed_function, typed_global, typed_init, typed_local}
+pub use Rattle.sc_types_elab.specs.Sections.{typed_param, typed_section, typed_struct, types_broken, visible_in}
+pub use Rattle.sc_types_elab.specs.Sections.{visible_of, word_of_const}
 unfoldable pub use Rattle.sc_types_elab.specs.Sections.{typed_locals, typed_structs}
 pub use Rattle.sc_types_elab.specs.Stands.{Stands, StandsIn, local_in}

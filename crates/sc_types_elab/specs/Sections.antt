@@ -2,8 +2,8 @@
 use Rattle.sc_types_elab.specs.Common.{Decl, FunctionTree, HeadTree, Import, ImportLine, LocalTree, Scope, SectionTree}
 use Rattle.sc_types_elab.specs.Common.{Signature, StructTree, TypedLocal, cells_of, function_named, function_names}
 use Rattle.sc_types_elab.specs.Common.{functions_in, globals_in, head_of, heads_in, import_of, init_fits, interfaces_of}
-use Rattle.sc_types_elab.specs.Common.{limited, line_of_text, number_or_zero, starred, stmt_lines, struct_names, structs_in}
-use Rattle.sc_types_elab.specs.Common.{typed_stmt, unless}
+use Rattle.sc_types_elab.specs.Common.{limited, line_of_text, number_or_zero, starred, stmt_lines, struct_names}
+use Rattle.sc_types_elab.specs.Common.{structs_in, typed_stmt, unless}
 use Rattle.sc_base.specs.Prelude.{number_of}
 use Rattle.sc_types_elab_expr.specs.Prelude.{Callees, Visible, going_to, target_or, typed}
 use Rattle.sc_core.specs.declared.expr.CallTarget.{CallTarget}

@@ -9,8 +9,8 @@ use crate::tree_ty::{type_of_name, type_of_result};
 use sc_ast::{Decl, FunctionHead, FunctionParam, HeadTree, ImportLine, ParamTree, SectionTree};
 use sc_base::{Name, NameList, OutOfMemory};
 use sc_core::{CallTarget, Ty};
-use sc_types_elab_expr::{Callees, Signature};
 use sc_event::Import;
+use sc_types_elab_expr::{Callees, Signature};
 use sqlite_items::Items;
 use std::alloc::Global;
 

@@ -1,7 +1,7 @@
 //! Globals and what they begin with.
 
-ghost use Rattle.sc_types_elab.specs.Prelude.{global_variable, globals_in, init_holds, init_words, is_null, typed_global};
-ghost use Rattle.sc_types_elab.specs.Prelude.{word_of_const};
+ghost use Rattle.sc_types_elab.specs.Prelude.{global_variable, globals_in, init_holds, init_words, is_null};
+ghost use Rattle.sc_types_elab.specs.Prelude.{typed_global, word_of_const};
 ghost use Rattle.std.specs.Prelude.{◌≡◌, ◌-◌, ◌%◌, ◌^◌, ◌++◌, ◌∷◌, [], map, IfOk};
 ghost use Rattle.sc_ast.specs.declared.section.InitTree;
 

@@ -1,7 +1,8 @@
 //! Sections.
 
-ghost use Rattle.sc_types_elab.specs.Prelude.{CallsIn, SectionTree, Stands, called, callees_of, functions_in, import_of};
-ghost use Rattle.sc_types_elab.specs.Prelude.{struct_name, struct_names, structs_in, typed_function, typed_section};
+ghost use Rattle.sc_types_elab.specs.Prelude.{CallsIn, SectionTree, Stands, called, callees_of, functions_in};
+ghost use Rattle.sc_types_elab.specs.Prelude.{import_of, struct_name, struct_names, structs_in, typed_function};
+ghost use Rattle.sc_types_elab.specs.Prelude.{typed_section};
 ghost use Rattle.std.specs.Prelude.{◌≡◌, ℕ, ◌++◌, ◌∷◌, [], List, map, IfOk, OnOk};
 
 use crate::calls::build_callees;
@@ -11,8 +12,8 @@ use crate::members::build_structs;
 use sc_ast::{Decl, SectionTree};
 use sc_base::{NameList, OutOfMemory};
 use sc_core::{TypedFunctions, TypedSection};
-use sc_types_elab_expr::SectionScope;
 use sc_event::Import;
+use sc_types_elab_expr::SectionScope;
 use sqlite_items::Items;
 use std::alloc::Global;
 

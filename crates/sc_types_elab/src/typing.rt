@@ -1,9 +1,9 @@
 //! The phase of types: the lines of a text at which its rules of types are broken.
 
-ghost use Rattle.sc_types_elab.specs.Prelude.{Scope, Stands, StandsIn, Suits, called, callees_of, decl_lines, function_lines};
-ghost use Rattle.sc_types_elab.specs.Prelude.{global_lines, init_goes, init_holds, is_sized, line_of_text, locals_from};
-ghost use Rattle.sc_types_elab.specs.Prelude.{noted_all, refused_at, section_lines, struct_lines, type_of, types_broken};
-ghost use Rattle.sc_types_elab.specs.Prelude.{unless, visible, with_lines};
+ghost use Rattle.sc_types_elab.specs.Prelude.{Scope, Stands, StandsIn, Suits, called, callees_of, decl_lines};
+ghost use Rattle.sc_types_elab.specs.Prelude.{function_lines, global_lines, init_goes, init_holds, is_sized};
+ghost use Rattle.sc_types_elab.specs.Prelude.{line_of_text, locals_from, noted_all, refused_at, section_lines};
+ghost use Rattle.sc_types_elab.specs.Prelude.{struct_lines, type_of, types_broken, unless, visible, with_lines};
 ghost use Rattle.std.specs.Prelude.{◌≡◌, ◌&&◌, [], length, map, OnOk, IfOk};
 ghost use Rattle.std.specs.List.{concat, list_all};
 ghost use Rattle.sc_ast.specs.declared.section.MemberTree.{MemberTree};

@@ -1,12 +1,12 @@
 -- What is judged of an expression by its parts is what is judged of the whole.
-use Rattle.sc_types_elab_expr.proofs.Common.{Bool, Err, Found, Global, IfOk, Judged, List, None, Ok, Option, Result, Scope}
-use Rattle.sc_types_elab_expr.proofs.Common.{Some, Suits, Ty, TypedExpr, TypedMember, TypedStruct, Visible, [], ap, arith}
-use Rattle.sc_types_elab_expr.proofs.Common.{binary_fits, bytes_eq, decayed, eq-eqb, false, found, has_member, is_address}
-use Rattle.sc_types_elab_expr.proofs.Common.{is_int, is_pointer, is_some, is_type, is_zero, judged, literal_fits}
-use Rattle.sc_types_elab_expr.proofs.Common.{member_named, member_of, member_offset, member_ty, no_ty, option_and_then}
-use Rattle.sc_types_elab_expr.proofs.Common.{pointer_to, position, refl, same_base, same_ty, slice_get, struct_of, suc, sym}
-use Rattle.sc_types_elab_expr.proofs.Common.{target, term_judged, true, unary_fits, variable_typed, zero, zero_step, ℕ, ◌&&◌}
-use Rattle.sc_types_elab_expr.proofs.Common.{◌==◌, ◌∙◌, ◌∷◌, ◌≡◌}
+use Rattle.sc_types_elab_expr.proofs.Common.{Bool, Err, Found, Global, IfOk, Judged, List, None, Ok, Option, Result}
+use Rattle.sc_types_elab_expr.proofs.Common.{Scope, Some, Suits, Ty, TypedExpr, TypedMember, TypedStruct, Visible, []}
+use Rattle.sc_types_elab_expr.proofs.Common.{ap, arith, binary_fits, bytes_eq, decayed, eq-eqb, false, found}
+use Rattle.sc_types_elab_expr.proofs.Common.{has_member, is_address, is_int, is_pointer, is_some, is_type, is_zero}
+use Rattle.sc_types_elab_expr.proofs.Common.{judged, literal_fits, member_named, member_of, member_offset, member_ty}
+use Rattle.sc_types_elab_expr.proofs.Common.{no_ty, option_and_then, pointer_to, position, refl, same_base, same_ty}
+use Rattle.sc_types_elab_expr.proofs.Common.{slice_get, struct_of, suc, sym, target, term_judged, true, unary_fits}
+use Rattle.sc_types_elab_expr.proofs.Common.{variable_typed, zero, zero_step, ℕ, ◌&&◌, ◌==◌, ◌∙◌, ◌∷◌, ◌≡◌}
 use Rattle.sc_core.specs.declared.ty.BaseTy.{BaseTy}
 use Rattle.sc_core.proofs.Judged.{judged_ty}
 use Rattle.std.specs.List.{list_any}

@@ -1,7 +1,7 @@
 -- Variables and members are found by their names' first places.
 use Rattle.sc_types_elab_expr.proofs.Common.{Found, List, None, Option, Some, Ty, TypedParam, TypedStruct, ap, bytes_eq}
-use Rattle.sc_types_elab_expr.proofs.Common.{found_in, member_named, member_names, option_and_then, option_map, placed, refl}
-use Rattle.sc_types_elab_expr.proofs.Common.{slice_get, sym, ℕ, ◌∙◌, ◌≡◌}
+use Rattle.sc_types_elab_expr.proofs.Common.{found_in, member_named, member_names, option_and_then, option_map, placed}
+use Rattle.sc_types_elab_expr.proofs.Common.{refl, slice_get, sym, ℕ, ◌∙◌, ◌≡◌}
 use Rattle.sc_base.specs.Prelude.{number_of}
 use Rattle.sc_core.specs.declared.expr.VarRef.{VarRef}
 use Rattle.std.proofs.lemmas.Option.{slice_get-map}

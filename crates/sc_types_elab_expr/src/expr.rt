@@ -1,6 +1,6 @@
-ghost use Rattle.sc_types_elab_expr.specs.Prelude.{Suits, beside, binary_typed, expr_in, going_to, is_zero, literal_typed};
-ghost use Rattle.sc_types_elab_expr.specs.Prelude.{member_offset, member_ty, no_ty, or_int, unary_ty, variable_typed};
-ghost use Rattle.sc_types_elab_expr.specs.Prelude.{visible};
+ghost use Rattle.sc_types_elab_expr.specs.Prelude.{Suits, beside, binary_typed, expr_in, going_to, is_zero};
+ghost use Rattle.sc_types_elab_expr.specs.Prelude.{literal_typed, member_offset, member_ty, no_ty, or_int, unary_ty};
+ghost use Rattle.sc_types_elab_expr.specs.Prelude.{variable_typed, visible};
 ghost use Rattle.sc_core.specs.Prelude.{Scope, decayed, is_address, judged, pointer_to, target};
 ghost use Rattle.std.specs.Prelude.{◌≡◌, ◌&&◌, true, false, is_some, IfOk};
 ghost use Rattle.sc_core.specs.declared.expr.TypedKind;

@@ -13,8 +13,8 @@ unfoldable pub use Rattle.sc_types_elab_expr.specs.Prelude.{expr_in}
 pub use Rattle.sc_types_elab_expr.specs.declared.scope.FunctionScope.{FunctionScope}
 pub use Rattle.sc_types_elab_expr.specs.declared.scope.SectionScope.{SectionScope}
 pub use Rattle.sc_types_elab_stmt.specs.Common.{CallTree, ExprTree, SimpleTree, StmtKind, StmtTree, Ty, TypedExpr}
-pub use Rattle.sc_types_elab_stmt.specs.Prelude.{all_go, assign_call_holds, assign_holds, call_holds, cond_holds, first_of}
-pub use Rattle.sc_types_elab_stmt.specs.Prelude.{goes_in, going_to_all, going_to_some, lines_at, params_of, part_lines}
-pub use Rattle.sc_types_elab_stmt.specs.Prelude.{rest_of, return_call_holds, return_value_holds, stmt_lines}
+pub use Rattle.sc_types_elab_stmt.specs.Prelude.{all_go, assign_call_holds, assign_holds, call_holds, cond_holds}
+pub use Rattle.sc_types_elab_stmt.specs.Prelude.{first_of, goes_in, going_to_all, going_to_some, lines_at, params_of}
+pub use Rattle.sc_types_elab_stmt.specs.Prelude.{part_lines, rest_of, return_call_holds, return_value_holds, stmt_lines}
 unfoldable pub use Rattle.sc_types_elab_stmt.specs.Prelude.{args_in, call_in, kind_in, part_in, returned_in, simple_in}
 unfoldable pub use Rattle.sc_types_elab_stmt.specs.Prelude.{stmt_in, value_in}

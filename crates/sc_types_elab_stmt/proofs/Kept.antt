@@ -1,8 +1,8 @@
 -- What the building of expressions and calls keeps.
 use Rattle.sc_types_elab_stmt.proofs.Common.{ExprTree, FunctionScope, IsTrue, List, Option, SectionScope, Ty, TypedExpr}
 use Rattle.sc_types_elab_stmt.proofs.Common.{Visible, [], ap, args_in, drop, drop-step, expr_in, first_of, get_or}
-use Rattle.sc_types_elab_stmt.proofs.Common.{going_to_some, length, refl, rest_of, rules, subst, sym, typed, visible, ℕ, ◌+◌}
-use Rattle.sc_types_elab_stmt.proofs.Common.{◌<◌, ◌∙◌, ◌∷◌, ◌≡◌}
+use Rattle.sc_types_elab_stmt.proofs.Common.{going_to_some, length, refl, rest_of, rules, subst, sym, typed, visible, ℕ}
+use Rattle.sc_types_elab_stmt.proofs.Common.{◌+◌, ◌<◌, ◌∙◌, ◌∷◌, ◌≡◌}
 use Rattle.sc_ast.specs.declared.expr.ExprTree.{ExprTree-F, out-ExprTree, roll-ExprTree, roll-out-ExprTree, the_lemmas}
 use Rattle.sc_ast.specs.Places as tree_place
 use Rattle.sc_core.specs.declared.expr.TypedExpr as exprs

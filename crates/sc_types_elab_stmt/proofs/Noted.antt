@@ -1,9 +1,10 @@
 -- What the lines of a statement's parts are.
-use Rattle.sc_types_elab_stmt.proofs.Common.{Bool, CallTree, Callees, Err, ExprTree, List, Ok, OnOk, Option, Result, Scope}
-use Rattle.sc_types_elab_stmt.proofs.Common.{SimpleTree, StmtKind, StmtTree, Ty, Visible, [], ap, arith, assign_call_holds}
-use Rattle.sc_types_elab_stmt.proofs.Common.{assign_holds, call_holds, concat, cond_holds, drop, drop-step, drop_all, get_or}
-use Rattle.sc_types_elab_stmt.proofs.Common.{length, lines_at, map, part_lines, return_call_holds, return_value_holds, rules}
-use Rattle.sc_types_elab_stmt.proofs.Common.{stmt_lines, sym, unless, with_lines, ℕ, ◌++◌, ◌+◌, ◌<◌, ◌∙◌, ◌≡◌, ◌≤◌}
+use Rattle.sc_types_elab_stmt.proofs.Common.{Bool, CallTree, Callees, Err, ExprTree, List, Ok, OnOk, Option, Result}
+use Rattle.sc_types_elab_stmt.proofs.Common.{Scope, SimpleTree, StmtKind, StmtTree, Ty, Visible, [], ap, arith}
+use Rattle.sc_types_elab_stmt.proofs.Common.{assign_call_holds, assign_holds, call_holds, concat, cond_holds, drop}
+use Rattle.sc_types_elab_stmt.proofs.Common.{drop-step, drop_all, get_or, length, lines_at, map, part_lines}
+use Rattle.sc_types_elab_stmt.proofs.Common.{return_call_holds, return_value_holds, rules, stmt_lines, sym, unless}
+use Rattle.sc_types_elab_stmt.proofs.Common.{with_lines, ℕ, ◌++◌, ◌+◌, ◌<◌, ◌∙◌, ◌≡◌, ◌≤◌}
 use Rattle.sc_types_scope.specs.declared.broken.BrokenLines.{BrokenLines}
 use Rattle.sc_types_scope.proofs.Lines.{with_lines-append, with_lines-nil}
 use Rattle.sc_ast.specs.declared.stmt.StmtTree as trees

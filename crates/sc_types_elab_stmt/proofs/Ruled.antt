@@ -1,9 +1,9 @@
 -- Arguments and parameters, one after another.
-use Rattle.sc_types_elab_stmt.proofs.Common.{Bool, Err, ExprTree, IfOk, Judged, List, Ok, Option, Result, Scope, Signature}
-use Rattle.sc_types_elab_stmt.proofs.Common.{Some, Ty, TypedExpr, Visible, [], add-one, all_go, all_go_into, ap, args_fit}
-use Rattle.sc_types_elab_stmt.proofs.Common.{arith, assign_fits, drop, false, get_or, goes_in, goes_into, going_to_all}
-use Rattle.sc_types_elab_stmt.proofs.Common.{is_target, judged, length, map, params_of, refl, suc, sym, true, typed, ℕ, ◌&&◌}
-use Rattle.sc_types_elab_stmt.proofs.Common.{◌+◌, ◌<◌, ◌∙◌, ◌∷◌, ◌≡◌, ◌≢◌}
+use Rattle.sc_types_elab_stmt.proofs.Common.{Bool, Err, ExprTree, IfOk, Judged, List, Ok, Option, Result, Scope}
+use Rattle.sc_types_elab_stmt.proofs.Common.{Signature, Some, Ty, TypedExpr, Visible, [], add-one, all_go, all_go_into}
+use Rattle.sc_types_elab_stmt.proofs.Common.{ap, args_fit, arith, assign_fits, drop, false, get_or, goes_in, goes_into}
+use Rattle.sc_types_elab_stmt.proofs.Common.{going_to_all, is_target, judged, length, map, params_of, refl, suc, sym}
+use Rattle.sc_types_elab_stmt.proofs.Common.{true, typed, ℕ, ◌&&◌, ◌+◌, ◌<◌, ◌∙◌, ◌∷◌, ◌≡◌, ◌≢◌}
 use Rattle.std.proofs.Math.Seq.{drop-cons}
 use Rattle.sc_core.proofs.Judged.{judged_ty}
 

@@ -1,7 +1,8 @@
 -- What statements are in a function's body, form by form.
-use Rattle.sc_types_elab_stmt.proofs.Common.{CallTree, ExprTree, FunctionScope, List, None, Option, SectionScope, SimpleTree}
-use Rattle.sc_types_elab_stmt.proofs.Common.{Some, StmtTree, args_in, call_in, called, expr_in, going_to_some, kind_in, map}
-use Rattle.sc_types_elab_stmt.proofs.Common.{params_of, part_in, refl, returned_in, rules, simple_in, stmt_in, value_in, ◌≡◌}
+use Rattle.sc_types_elab_stmt.proofs.Common.{CallTree, ExprTree, FunctionScope, List, None, Option, SectionScope}
+use Rattle.sc_types_elab_stmt.proofs.Common.{SimpleTree, Some, StmtTree, args_in, call_in, called, expr_in}
+use Rattle.sc_types_elab_stmt.proofs.Common.{going_to_some, kind_in, map, params_of, part_in, refl, returned_in, rules}
+use Rattle.sc_types_elab_stmt.proofs.Common.{simple_in, stmt_in, value_in, ◌≡◌}
 use Rattle.sc_ast.specs.declared.stmt.SimpleKind.TheVariants as simple_tree
 use Rattle.sc_ast.specs.declared.stmt.StmtTree as trees
 use Rattle.sc_ast.specs.declared.stmt.StmtKind as tree

@@ -4,10 +4,10 @@ pub use Rattle.sc_types_elab_expr.specs.Prelude.{Suits, called, visible}
 unfoldable pub use Rattle.sc_types_elab_expr.specs.Prelude.{expr_in}
 pub use Rattle.sc_types_elab_stmt.specs.Args.{first_of, rest_of}
 pub use Rattle.sc_types_elab_stmt.specs.Judging.{all_go, goes_in, init_goes, lines_at}
-unfoldable pub use Rattle.sc_types_elab_stmt.specs.Seen.{args_in, call_in, kind_in, part_in, returned_in, simple_in, stmt_in}
-unfoldable pub use Rattle.sc_types_elab_stmt.specs.Seen.{value_in}
-pub use Rattle.sc_types_elab_stmt.specs.Statements.{assign_call_holds, assign_holds, call_holds, cond_holds, going_to_all}
-pub use Rattle.sc_types_elab_stmt.specs.Statements.{going_to_some, kind_lines, kind_step, params_of, part_lines}
-pub use Rattle.sc_types_elab_stmt.specs.Statements.{return_call_holds, return_value_holds, simple_holds, stmt_lines}
-pub use Rattle.sc_types_elab_stmt.specs.Statements.{stmt_step, typed_call, typed_simple, typed_simple_kind, typed_stmt}
-pub use Rattle.sc_types_elab_stmt.specs.Statements.{typed_value}
+unfoldable pub use Rattle.sc_types_elab_stmt.specs.Seen.{args_in, call_in, kind_in, part_in, returned_in, simple_in}
+unfoldable pub use Rattle.sc_types_elab_stmt.specs.Seen.{stmt_in, value_in}
+pub use Rattle.sc_types_elab_stmt.specs.Statements.{assign_call_holds, assign_holds, call_holds, cond_holds}
+pub use Rattle.sc_types_elab_stmt.specs.Statements.{going_to_all, going_to_some, kind_lines, kind_step, params_of}
+pub use Rattle.sc_types_elab_stmt.specs.Statements.{part_lines, return_call_holds, return_value_holds, simple_holds}
+pub use Rattle.sc_types_elab_stmt.specs.Statements.{stmt_lines, stmt_step, typed_call, typed_simple, typed_simple_kind}
+pub use Rattle.sc_types_elab_stmt.specs.Statements.{typed_stmt, typed_value}

@@ -1,11 +1,11 @@
 -- Helping: what values and statements are in a function's body.
-use Rattle.sc_types_elab_stmt.specs.Common.{CallTree, ExprTree, SimpleKind, SimpleTree, StmtKind, StmtTree, Ty, TypedCall}
-use Rattle.sc_types_elab_stmt.specs.Common.{TypedExpr, TypedSimple, TypedSimpleKind, TypedStmt, TypedStmtKind, called}
-use Rattle.sc_types_elab_stmt.specs.Common.{fold-StmtKind, going_to, typed, visible}
+use Rattle.sc_types_elab_stmt.specs.Common.{CallTree, ExprTree, SimpleKind, SimpleTree, StmtKind, StmtTree, Ty}
+use Rattle.sc_types_elab_stmt.specs.Common.{TypedCall, TypedExpr, TypedSimple, TypedSimpleKind, TypedStmt}
+use Rattle.sc_types_elab_stmt.specs.Common.{TypedStmtKind, called, fold-StmtKind, going_to, typed, visible}
 use Rattle.std.specs.Prelude.{List, Option, map}
 use Rattle.std.specs.Option.{option_map}
-use Rattle.sc_types_elab_stmt.specs.Statements.{going_to_some, going_to_all, typed_call, typed_simple_kind, typed_simple}
-use Rattle.sc_types_elab_stmt.specs.Statements.{typed_stmt, kind_step, stmt_step}
+use Rattle.sc_types_elab_stmt.specs.Statements.{going_to_some, going_to_all, typed_call, typed_simple_kind}
+use Rattle.sc_types_elab_stmt.specs.Statements.{typed_simple, typed_stmt, kind_step, stmt_step}
 use Rattle.sc_types_elab_expr.specs.declared.scope.SectionScope.{SectionScope}
 use Rattle.sc_types_elab_expr.specs.declared.scope.FunctionScope.{FunctionScope}
 

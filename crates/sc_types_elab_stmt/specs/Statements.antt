@@ -1,9 +1,9 @@
 -- Statements with their types, and the lines of those that break the rules of types (C11 6.8).
-use Rattle.sc_types_elab_stmt.specs.Common.{CallTree, Callees, ExprTree, Judged, Scope, Signature, SimpleKind, SimpleTree}
-use Rattle.sc_types_elab_stmt.specs.Common.{StmtKind-F, StmtTree, StmtTree-F, Ty, TypedCall, TypedExpr, TypedSimple}
-use Rattle.sc_types_elab_stmt.specs.Common.{TypedSimpleKind, TypedStmt, TypedStmtKind, Visible, args_fit, assign_fits}
-use Rattle.sc_types_elab_stmt.specs.Common.{fold-StmtTree, going_to, is_scalar, is_target, judged, result_goes, returned_fits}
-use Rattle.sc_types_elab_stmt.specs.Common.{typed}
+use Rattle.sc_types_elab_stmt.specs.Common.{CallTree, Callees, ExprTree, Judged, Scope, Signature, SimpleKind}
+use Rattle.sc_types_elab_stmt.specs.Common.{SimpleTree, StmtKind-F, StmtTree, StmtTree-F, Ty, TypedCall, TypedExpr}
+use Rattle.sc_types_elab_stmt.specs.Common.{TypedSimple, TypedSimpleKind, TypedStmt, TypedStmtKind, Visible, args_fit}
+use Rattle.sc_types_elab_stmt.specs.Common.{assign_fits, fold-StmtTree, going_to, is_scalar, is_target, judged}
+use Rattle.sc_types_elab_stmt.specs.Common.{result_goes, returned_fits, typed}
 use Rattle.sc_base.specs.Prelude.{all_hold}
 use Rattle.sc_types_scope.specs.Prelude.{unless}
 use Rattle.std.specs.Prelude.{ℕ, Bool, false, ◌&&◌, not, List, [], ◌∷◌, ◌++◌, map, Option, Some, None, is_some}

@@ -1,8 +1,9 @@
 //! The rules of types on the parts of statements (C11 6.5.2.2, 6.5.16.1, 6.8), by what is judged of their expressions.
 
-ghost use Rattle.sc_types_elab_stmt.specs.Prelude.{Scope, Suits, all_go, assign_call_holds, assign_holds, call_holds, called};
-ghost use Rattle.sc_types_elab_stmt.specs.Prelude.{cond_holds, goes_in, init_goes, is_target, option_goes, result_goes};
-ghost use Rattle.sc_types_elab_stmt.specs.Prelude.{return_call_holds, return_value_holds, simple_holds, visible};
+ghost use Rattle.sc_types_elab_stmt.specs.Prelude.{Scope, Suits, all_go, assign_call_holds, assign_holds, call_holds};
+ghost use Rattle.sc_types_elab_stmt.specs.Prelude.{called, cond_holds, goes_in, init_goes, is_target, option_goes};
+ghost use Rattle.sc_types_elab_stmt.specs.Prelude.{result_goes, return_call_holds, return_value_holds, simple_holds};
+ghost use Rattle.sc_types_elab_stmt.specs.Prelude.{visible};
 ghost use Rattle.std.specs.Prelude.{◌≡◌, ◌&&◌, Some, IfOk};
 
 use crate::stmt::build_value;

@@ -1,6 +1,6 @@
-ghost use Rattle.sc_types_elab_stmt.specs.Prelude.{Scope, Suits, args_in, call_in, called, expr_in, first_of, going_to_some};
-ghost use Rattle.sc_types_elab_stmt.specs.Prelude.{judged, kind_in, params_of, part_in, rest_of, returned_in, simple_in};
-ghost use Rattle.sc_types_elab_stmt.specs.Prelude.{stmt_in, value_in, visible};
+ghost use Rattle.sc_types_elab_stmt.specs.Prelude.{Scope, Suits, args_in, call_in, called, expr_in, first_of};
+ghost use Rattle.sc_types_elab_stmt.specs.Prelude.{going_to_some, judged, kind_in, params_of, part_in, rest_of};
+ghost use Rattle.sc_types_elab_stmt.specs.Prelude.{returned_in, simple_in, stmt_in, value_in, visible};
 ghost use Rattle.std.specs.Prelude.{◌≡◌, ◌++◌, ◌∷◌, [], map, drop, IfOk};
 ghost use Rattle.sc_ast.specs.declared.stmt.StmtKind;
 ghost use Rattle.sc_core.specs.declared.stmt.TypedStmtKind;
@@ -11,7 +11,9 @@ use sc_core::{
     Ty, TypedCall, TypedExpr, TypedExprs, TypedPlace, TypedSimple, TypedSimpleKind, TypedStmt,
     TypedStmtKind, TypedStmts,
 };
-use sc_types_elab_expr::{Built, Callees, FunctionScope, SectionScope, Signature, build_expr, going_to};
+use sc_types_elab_expr::{
+    Built, Callees, FunctionScope, SectionScope, Signature, build_expr, going_to,
+};
 use sqlite_items::Items;
 use std::alloc::Global;
 

@@ -1,11 +1,12 @@
 -- Heads that agree, and what tables of heads allow.
-use Rattle.sc_types_interfaces.proofs.Common.{Agreements, Bool, HeadTree, List, None, Option, ParamTree, Some, Text, TypeName}
-use Rattle.sc_types_interfaces.proofs.Common.{[], added, added_beside, agree, agrees_first, agrees_with, all_added}
-use Rattle.sc_types_interfaces.proofs.Common.{all_numbered, allowed, among, and-true, ap, ap₂, arith, bytes_eq, cond}
-use Rattle.sc_types_interfaces.proofs.Common.{eqb-true, false, first_by_name, forbidden, if◌then◌else◌, is_numbered}
-use Rattle.sc_types_interfaces.proofs.Common.{list_any-append, nat_eq, nat_eq_equiv, nat_list_eq_equiv, no_heads, not}
-use Rattle.sc_types_interfaces.proofs.Common.{numbered, or-false, refl, same_base, same_params, same_result, same_text}
-use Rattle.sc_types_interfaces.proofs.Common.{same_type, sym, true, with_first, ◌&&◌, ◌++◌, ◌||◌, ◌∙◌, ◌∷◌, ◌≡◌}
+use Rattle.sc_types_interfaces.proofs.Common.{Agreements, Bool, HeadTree, List, None, Option, ParamTree, Some, Text}
+use Rattle.sc_types_interfaces.proofs.Common.{TypeName, [], added, added_beside, agree, agrees_first, agrees_with}
+use Rattle.sc_types_interfaces.proofs.Common.{all_added, all_numbered, allowed, among, and-true, ap, ap₂, arith}
+use Rattle.sc_types_interfaces.proofs.Common.{bytes_eq, cond, eqb-true, false, first_by_name, forbidden, if◌then◌else◌}
+use Rattle.sc_types_interfaces.proofs.Common.{is_numbered, list_any-append, nat_eq, nat_eq_equiv, nat_list_eq_equiv}
+use Rattle.sc_types_interfaces.proofs.Common.{no_heads, not, numbered, or-false, refl, same_base, same_params}
+use Rattle.sc_types_interfaces.proofs.Common.{same_result, same_text, same_type, sym, true, with_first, ◌&&◌, ◌++◌}
+use Rattle.sc_types_interfaces.proofs.Common.{◌||◌, ◌∙◌, ◌∷◌, ◌≡◌}
 use Rattle.std.proofs.lemmas.Bool.{and_parts}
 use Rattle.sc_ast.specs.declared.types.BaseTree.{BaseTree}
 use Rattle.sc_ast.specs.declared.types.BaseTree.TheVariants as base

@@ -22,20 +22,22 @@ pub use Rattle.sc_ast.specs.declared.types.TypeName.{TypeName}
 pub use Rattle.sc_types_scope.proofs.Lines.{noted_all-append, with_lines-append, with_lines-nil}
 pub use Rattle.sc_types_scope.specs.Prelude.{Text, among, defines_main, export_names, function_in, function_named}
 pub use Rattle.sc_types_scope.specs.Prelude.{function_names, functions_in, head_in, heads_in, import_names, import_of}
-pub use Rattle.sc_types_scope.specs.Prelude.{interface_of, interfaces_from, interfaces_of, line_of_text, main_from, main_name}
-pub use Rattle.sc_types_scope.specs.Prelude.{noted_all, number_or_zero, offered, offering, offers, promised, proto_names}
-pub use Rattle.sc_types_scope.specs.Prelude.{proto_of, refused_at, scalar_of, unless, with_lines}
+pub use Rattle.sc_types_scope.specs.Prelude.{interface_of, interfaces_from, interfaces_of, line_of_text, main_from}
+pub use Rattle.sc_types_scope.specs.Prelude.{main_name, noted_all, number_or_zero, offered, offering, offers, promised}
+pub use Rattle.sc_types_scope.specs.Prelude.{proto_names, proto_of, refused_at, scalar_of, unless, with_lines}
 pub use Rattle.sc_types_interfaces.specs.Common.{Decl, ExportLine, Function, HeadTree, ImportLine, Proto, SectionTable}
 pub use Rattle.sc_types_interfaces.specs.Common.{SectionTree}
-pub use Rattle.sc_types_interfaces.specs.Prelude.{HasFewExports, HasFewParams, IsWithinCounts, Placed, added, added_beside}
-pub use Rattle.sc_types_interfaces.specs.Prelude.{agree, agrees_first, agrees_with, all_added, all_numbered, all_placed}
-pub use Rattle.sc_types_interfaces.specs.Prelude.{allowed, decl_broken, decls_broken, environment_added, export_by, export_fits}
-pub use Rattle.sc_types_interfaces.specs.Prelude.{export_name, export_places, exports_broken, first_added, forbidden}
-pub use Rattle.sc_types_interfaces.specs.Prelude.{function_at, function_name, function_places, gives_int, head_added}
-pub use Rattle.sc_types_interfaces.specs.Prelude.{head_fits_by, import_added, import_by, import_fits, imported_by}
-pub use Rattle.sc_types_interfaces.specs.Prelude.{imports_added, imports_broken, input_head, input_name, int_type, interface_by}
-pub use Rattle.sc_types_interfaces.specs.Prelude.{interfaces_by, is_input, is_offered_by, is_output, lines_broken, main_by}
-pub use Rattle.sc_types_interfaces.specs.Prelude.{no_heads, offered_by, offering_number, offering_table, others_added}
-pub use Rattle.sc_types_interfaces.specs.Prelude.{output_head, output_name, promised_by, same_base, same_params, same_result}
-pub use Rattle.sc_types_interfaces.specs.Prelude.{same_type, section_broken, table_of, takes_int, takes_nothing}
+pub use Rattle.sc_types_interfaces.specs.Prelude.{HasFewExports, HasFewParams, IsWithinCounts, Placed, added}
+pub use Rattle.sc_types_interfaces.specs.Prelude.{added_beside, agree, agrees_first, agrees_with, all_added}
+pub use Rattle.sc_types_interfaces.specs.Prelude.{all_numbered, all_placed, allowed, decl_broken, decls_broken}
+pub use Rattle.sc_types_interfaces.specs.Prelude.{environment_added, export_by, export_fits, export_name, export_places}
+pub use Rattle.sc_types_interfaces.specs.Prelude.{exports_broken, first_added, forbidden, function_at, function_name}
+pub use Rattle.sc_types_interfaces.specs.Prelude.{function_places, gives_int, head_added, head_fits_by, import_added}
+pub use Rattle.sc_types_interfaces.specs.Prelude.{import_by, import_fits, imported_by, imports_added, imports_broken}
+pub use Rattle.sc_types_interfaces.specs.Prelude.{input_head, input_name, int_type, interface_by, interfaces_by}
+pub use Rattle.sc_types_interfaces.specs.Prelude.{is_input, is_offered_by, is_output, lines_broken, main_by, no_heads}
+pub use Rattle.sc_types_interfaces.specs.Prelude.{offered_by, offering_number, offering_table, others_added}
+pub use Rattle.sc_types_interfaces.specs.Prelude.{output_head, output_name, promised_by, same_base, same_params}
+pub use Rattle.sc_types_interfaces.specs.Prelude.{same_result, same_type, section_broken, table_of, takes_int}
+pub use Rattle.sc_types_interfaces.specs.Prelude.{takes_nothing}
 pub use Rattle.sc_types_interfaces.specs.declared.agreements.Agreements.{Agreements}

@@ -1,17 +1,19 @@
 -- The interfaces by tables of places are the interfaces of the sections.
-use Rattle.sc_types_interfaces.proofs.Common.{All, All-get_or, All-head, All-tail, Bool, Decl, ExportLine, FunctionParam}
-use Rattle.sc_types_interfaces.proofs.Common.{HasFewExports, HasFewParams, ImportLine, IsWithinCounts, List, None, Option}
-use Rattle.sc_types_interfaces.proofs.Common.{Placed, SectionTable, SectionTree, Some, Text, [], all_placed, ap, ap₂, arith}
-use Rattle.sc_types_interfaces.proofs.Common.{cond, export_by, export_name, export_names, export_places, false, first_by_name}
-use Rattle.sc_types_interfaces.proofs.Common.{function_at, function_in, function_name, function_named, function_names}
-use Rattle.sc_types_interfaces.proofs.Common.{function_places, functions_in, get_or_from_slice_get, if◌then◌else◌, import_by}
-use Rattle.sc_types_interfaces.proofs.Common.{import_of, inr, interface_by, interface_of, interfaces_by, interfaces_from}
-use Rattle.sc_types_interfaces.proofs.Common.{interfaces_of, is_some, length, length-map, main_by, main_from, main_name, map}
-use Rattle.sc_types_interfaces.proofs.Common.{min, nat_list_eq_equiv, number_of, number_or_zero, offered, offered_by}
-use Rattle.sc_types_interfaces.proofs.Common.{offering, option_and_then, option_map, pointwise, position-cons, promised}
-use Rattle.sc_types_interfaces.proofs.Common.{promised_by, proto_of, refl, same_text, scalar_of, slice_get, slice_get-map}
-use Rattle.sc_types_interfaces.proofs.Common.{slice_get_within, subst, suc, sym, table_of, take_all, true, with_first, ℕ}
-use Rattle.sc_types_interfaces.proofs.Common.{◌++◌, ◌+◌, ◌<◌, ◌==◌, ◌∙◌, ◌∷◌, ◌≡◌, ◌≤◌, ◌⊎◌}
+use Rattle.sc_types_interfaces.proofs.Common.{All, All-get_or, All-head, All-tail, Bool, Decl, ExportLine}
+use Rattle.sc_types_interfaces.proofs.Common.{FunctionParam, HasFewExports, HasFewParams, ImportLine, IsWithinCounts}
+use Rattle.sc_types_interfaces.proofs.Common.{List, None, Option, Placed, SectionTable, SectionTree, Some, Text, []}
+use Rattle.sc_types_interfaces.proofs.Common.{all_placed, ap, ap₂, arith, cond, export_by, export_name, export_names}
+use Rattle.sc_types_interfaces.proofs.Common.{export_places, false, first_by_name, function_at, function_in}
+use Rattle.sc_types_interfaces.proofs.Common.{function_name, function_named, function_names, function_places}
+use Rattle.sc_types_interfaces.proofs.Common.{functions_in, get_or_from_slice_get, if◌then◌else◌, import_by, import_of}
+use Rattle.sc_types_interfaces.proofs.Common.{inr, interface_by, interface_of, interfaces_by, interfaces_from}
+use Rattle.sc_types_interfaces.proofs.Common.{interfaces_of, is_some, length, length-map, main_by, main_from, main_name}
+use Rattle.sc_types_interfaces.proofs.Common.{map, min, nat_list_eq_equiv, number_of, number_or_zero, offered}
+use Rattle.sc_types_interfaces.proofs.Common.{offered_by, offering, option_and_then, option_map, pointwise}
+use Rattle.sc_types_interfaces.proofs.Common.{position-cons, promised, promised_by, proto_of, refl, same_text}
+use Rattle.sc_types_interfaces.proofs.Common.{scalar_of, slice_get, slice_get-map, slice_get_within, subst, suc, sym}
+use Rattle.sc_types_interfaces.proofs.Common.{table_of, take_all, true, with_first, ℕ, ◌++◌, ◌+◌, ◌<◌, ◌==◌, ◌∙◌, ◌∷◌}
+use Rattle.sc_types_interfaces.proofs.Common.{◌≡◌, ◌≤◌, ◌⊎◌}
 use Rattle.sc_event.specs.declared.interface.Scalar.{Scalar}
 use Rattle.sc_event.specs.declared.interface.Proto.{Proto}
 use Rattle.sc_event.specs.declared.interface.Import.{Import}

@@ -1,6 +1,7 @@
 -- The first 8 of a list.
-use Rattle.sc_types_interfaces.proofs.Common.{IfNone, List, None, Option, Some, ap, arith, false, is_some, length, length-map}
-use Rattle.sc_types_interfaces.proofs.Common.{length-take-le, map, sym, take, take-map, take_all, true, ℕ, ◌<◌, ◌∙◌, ◌≡◌, ◌≤◌}
+use Rattle.sc_types_interfaces.proofs.Common.{IfNone, List, None, Option, Some, ap, arith, false, is_some, length}
+use Rattle.sc_types_interfaces.proofs.Common.{length-map, length-take-le, map, sym, take, take-map, take_all, true, ℕ}
+use Rattle.sc_types_interfaces.proofs.Common.{◌<◌, ◌∙◌, ◌≡◌, ◌≤◌}
 
 pub prefix_done : {A B : Type 0} (f : A → B) (xs : List A) (ys : List B) (i : ℕ) → ys ≡ map f (take i xs) →
     length xs ≤ i → i ≤ 8 → ys ≡ take 8 (map f xs)

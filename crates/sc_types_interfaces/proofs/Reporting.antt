@@ -1,21 +1,23 @@
 -- The rules by tables are the rules.
-use Rattle.sc_types_interfaces.proofs.Common.{Agreements, Bool, Decl, ExportLine, Function, HeadTree, ImportLine, List, None}
-use Rattle.sc_types_interfaces.proofs.Common.{Option, ParamTree, Proto, SectionTable, SectionTree, Some, Text, TypeName, []}
-use Rattle.sc_types_interfaces.proofs.Common.{added, agree, agrees_first, agrees_with, all_added, all_numbered, allowed}
-use Rattle.sc_types_interfaces.proofs.Common.{among, and-false, and-true, ap, ap₂, arith, bytes_eq, decl_broken, decls_broken}
-use Rattle.sc_types_interfaces.proofs.Common.{defines_main, drop, drop-step, environment_added, export_names, exports_broken}
-use Rattle.sc_types_interfaces.proofs.Common.{false, filter_map-append, first_added, first_by_name, forbidden, function_names}
-use Rattle.sc_types_interfaces.proofs.Common.{get_or, gives_int, head_added, head_fits_by, head_in, head_of, heads_in}
-use Rattle.sc_types_interfaces.proofs.Common.{if◌then◌else◌, import_added, import_names, imported_by, imports_added}
-use Rattle.sc_types_interfaces.proofs.Common.{imports_broken, input_head, input_name, int_type, is_input, is_offered_by}
-use Rattle.sc_types_interfaces.proofs.Common.{is_output, is_some, length, length-map, line_of_text, lines_broken, list_all}
+use Rattle.sc_types_interfaces.proofs.Common.{Agreements, Bool, Decl, ExportLine, Function, HeadTree, ImportLine, List}
+use Rattle.sc_types_interfaces.proofs.Common.{None, Option, ParamTree, Proto, SectionTable, SectionTree, Some, Text}
+use Rattle.sc_types_interfaces.proofs.Common.{TypeName, [], added, agree, agrees_first, agrees_with, all_added}
+use Rattle.sc_types_interfaces.proofs.Common.{all_numbered, allowed, among, and-false, and-true, ap, ap₂, arith}
+use Rattle.sc_types_interfaces.proofs.Common.{bytes_eq, decl_broken, decls_broken, defines_main, drop, drop-step}
+use Rattle.sc_types_interfaces.proofs.Common.{environment_added, export_names, exports_broken, false, filter_map-append}
+use Rattle.sc_types_interfaces.proofs.Common.{first_added, first_by_name, forbidden, function_names, get_or, gives_int}
+use Rattle.sc_types_interfaces.proofs.Common.{head_added, head_fits_by, head_in, head_of, heads_in, if◌then◌else◌}
+use Rattle.sc_types_interfaces.proofs.Common.{import_added, import_names, imported_by, imports_added, imports_broken}
+use Rattle.sc_types_interfaces.proofs.Common.{input_head, input_name, int_type, is_input, is_offered_by, is_output}
+use Rattle.sc_types_interfaces.proofs.Common.{is_some, length, length-map, line_of_text, lines_broken, list_all}
 use Rattle.sc_types_interfaces.proofs.Common.{list_all-append, list_any, list_any-append, main_name, map, map-append}
-use Rattle.sc_types_interfaces.proofs.Common.{no_heads, not, noted_all, noted_all-append, numbered, offering, offering_number}
-use Rattle.sc_types_interfaces.proofs.Common.{offering_table, offers, option_and_then, option_map, or-false, others_added}
-use Rattle.sc_types_interfaces.proofs.Common.{output_head, output_name, proto_names, refl, refused_at, same_params}
-use Rattle.sc_types_interfaces.proofs.Common.{same_result, same_text, section_broken, slice_get, slice_get-map, slice_get_read}
-use Rattle.sc_types_interfaces.proofs.Common.{suc, sym, table_of, takes_int, takes_nothing, true, unless, ℕ, ◌&&◌, ◌++◌, ◌+◌}
-use Rattle.sc_types_interfaces.proofs.Common.{◌<◌, ◌==◌, ◌||◌, ◌∙◌, ◌∷◌, ◌≡◌, ◌≤◌}
+use Rattle.sc_types_interfaces.proofs.Common.{no_heads, not, noted_all, noted_all-append, numbered, offering}
+use Rattle.sc_types_interfaces.proofs.Common.{offering_number, offering_table, offers, option_and_then, option_map}
+use Rattle.sc_types_interfaces.proofs.Common.{or-false, others_added, output_head, output_name, proto_names, refl}
+use Rattle.sc_types_interfaces.proofs.Common.{refused_at, same_params, same_result, same_text, section_broken}
+use Rattle.sc_types_interfaces.proofs.Common.{slice_get, slice_get-map, slice_get_read, suc, sym, table_of, takes_int}
+use Rattle.sc_types_interfaces.proofs.Common.{takes_nothing, true, unless, ℕ, ◌&&◌, ◌++◌, ◌+◌, ◌<◌, ◌==◌, ◌||◌, ◌∙◌}
+use Rattle.sc_types_interfaces.proofs.Common.{◌∷◌, ◌≡◌, ◌≤◌}
 use Rattle.sc_types_interfaces.specs.Rules
 use Rattle.sc_types_interfaces.proofs.Allowing.{type_symm, is_numbered-numbered, all_numbered_same, allowed_forbidden}
 use Rattle.sc_types_interfaces.proofs.Allowing.{allowed_added, allowed_same}

@@ -1,10 +1,10 @@
 -- One turn of a loop.
-use Rattle.sc_types_interfaces.proofs.Common.{Agreements, Bool, Decl, ExportLine, ImportLine, List, ParamTree, SectionTable}
-use Rattle.sc_types_interfaces.proofs.Common.{Text, [], all_added, ap, arith, decl_broken, decls_broken, drop, drop-step}
-use Rattle.sc_types_interfaces.proofs.Common.{drop_all, export_fits, exports_broken, false, get_or, head_added, head_in}
-use Rattle.sc_types_interfaces.proofs.Common.{heads_in, import_fits, imports_broken, is_offered_by, length, numbered, refl}
-use Rattle.sc_types_interfaces.proofs.Common.{same_params, suc, sym, unless, with_lines, with_lines-append, with_lines-nil, ℕ}
-use Rattle.sc_types_interfaces.proofs.Common.{◌++◌, ◌+◌, ◌<◌, ◌∷◌, ◌≡◌, ◌≤◌}
+use Rattle.sc_types_interfaces.proofs.Common.{Agreements, Bool, Decl, ExportLine, ImportLine, List, ParamTree}
+use Rattle.sc_types_interfaces.proofs.Common.{SectionTable, Text, [], all_added, ap, arith, decl_broken, decls_broken}
+use Rattle.sc_types_interfaces.proofs.Common.{drop, drop-step, drop_all, export_fits, exports_broken, false, get_or}
+use Rattle.sc_types_interfaces.proofs.Common.{head_added, head_in, heads_in, import_fits, imports_broken, is_offered_by}
+use Rattle.sc_types_interfaces.proofs.Common.{length, numbered, refl, same_params, suc, sym, unless, with_lines}
+use Rattle.sc_types_interfaces.proofs.Common.{with_lines-append, with_lines-nil, ℕ, ◌++◌, ◌+◌, ◌<◌, ◌∷◌, ◌≡◌, ◌≤◌}
 use Rattle.sc_ast.specs.declared.section.Decl.TheVariants.{Struct}
 use Rattle.sc_types_scope.specs.declared.broken.BrokenLines.{BrokenLines}
 use Rattle.sc_types_interfaces.specs.declared.imports.Imported.{Imported}

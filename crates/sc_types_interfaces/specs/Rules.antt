@@ -1,8 +1,8 @@
 -- The rules of interfaces, and the lines of the sections that break them.
 use Rattle.sc_types_interfaces.specs.Common.{Decl, ExportLine, Function, HeadTree, ImportLine, Proto, SectionTree, Text}
 use Rattle.sc_types_interfaces.specs.Common.{all_hold, among, defines_main, environment, export_names, function_names}
-use Rattle.sc_types_interfaces.specs.Common.{head_of, heads_in, import_names, is_environment, is_new, line_of_text, main_name}
-use Rattle.sc_types_interfaces.specs.Common.{offering, proto_names, unless}
+use Rattle.sc_types_interfaces.specs.Common.{head_of, heads_in, import_names, is_environment, is_new, line_of_text}
+use Rattle.sc_types_interfaces.specs.Common.{main_name, offering, proto_names, unless}
 use Rattle.std.specs.Prelude.{ℕ, suc, Bool, true, false, not, ◌&&◌, ◌||◌, nat_eq, bytes_eq, codes, take, List, [], ◌∷◌}
 use Rattle.std.specs.Prelude.{◌++◌, map, Option, Some, None, is_some, if◌then◌else◌}
 use Rattle.std.specs.List.{list_all, list_any}

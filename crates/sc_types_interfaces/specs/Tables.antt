@@ -1,15 +1,15 @@
 -- Helping: the rules of interfaces by tables of the names that sections declare, in which a name is found at once.
 use Rattle.sc_types_interfaces.specs.Common.{Decl, ExportLine, Function, HeadTree, ImportLine, Proto, SectionTable}
-use Rattle.sc_types_interfaces.specs.Common.{SectionTree, Text, all_hold, among, export_names, first_by_name, function_names}
-use Rattle.sc_types_interfaces.specs.Common.{head_in, head_of, heads_in, import_names, is_environment, line_of_text}
-use Rattle.sc_types_interfaces.specs.Common.{main_name, numbered, proto_names, unless, with_first}
+use Rattle.sc_types_interfaces.specs.Common.{SectionTree, Text, all_hold, among, export_names, first_by_name}
+use Rattle.sc_types_interfaces.specs.Common.{function_names, head_in, head_of, heads_in, import_names, is_environment}
+use Rattle.sc_types_interfaces.specs.Common.{line_of_text, main_name, numbered, proto_names, unless, with_first}
 use Rattle.std.specs.Prelude.{ℕ, suc, Bool, true, not, ◌&&◌, ◌||◌, ◌==◌, bytes_eq, List, [], ◌∷◌, ◌++◌, map, slice_get}
 use Rattle.std.specs.Prelude.{Option, Some, None, is_some, if◌then◌else◌}
 use Rattle.std.specs.Option.{option_and_then}
 use Rattle.sc_types_interfaces.specs.declared.agreements.Agreements.{Agreements}
 use Rattle.sc_types_interfaces.specs.declared.imports.Imported.{Imported}
-use Rattle.sc_types_interfaces.specs.Rules.{agree, head_crosses, int_type, input_name, output_name, main_holds, export_fits}
-use Rattle.sc_types_interfaces.specs.Rules.{import_fits, environment_offers, name_fits}
+use Rattle.sc_types_interfaces.specs.Rules.{agree, head_crosses, int_type, input_name, output_name, main_holds}
+use Rattle.sc_types_interfaces.specs.Rules.{export_fits, import_fits, environment_offers, name_fits}
 
 -- names that are known, after these came too
 abbrev pub all_numbered : List Text → List Text → List Text
@@ -100,7 +100,8 @@ abbrev pub is_offered_by : List SectionTable → (importer : ℕ) → ImportLine
 is_offered_by tables importer line =
     if is_environment line then environment_offers line.name else is_some (offering_number importer line 0 tables)
 
-abbrev pub imports_broken : List SectionTable → (importer : ℕ) → (functions protos before : List Text) → List ImportLine →
+abbrev pub imports_broken : List SectionTable → (importer : ℕ) → (functions protos before : List Text) →
+    List ImportLine →
     List ℕ
 imports_broken tables importer functions protos before [] = []
 imports_broken tables importer functions protos before (line ∷ lines) =
@@ -163,7 +164,8 @@ head_added known (Some head) = added known head.name head
 abbrev pub decls_broken : SectionTable → Imported → (mains : Bool) → Agreements → List Decl → List ℕ
 decls_broken table imported mains known [] = []
 decls_broken table imported mains known (decl ∷ decls) =
-    decl_broken table imported mains known decl ++ decls_broken table imported mains (head_added known (head_in decl)) decls
+    decl_broken table imported mains known decl ++ decls_broken table imported mains (head_added known (head_in decl))
+    decls
 
 -- Sections.
 

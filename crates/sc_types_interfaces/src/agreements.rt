@@ -1,4 +1,5 @@
-ghost use Rattle.sc_types_interfaces.specs.Prelude.{added, agree, agrees_first, allowed, first_by_name, forbidden, no_heads};
+ghost use Rattle.sc_types_interfaces.specs.Prelude.{added, agree, agrees_first, allowed, first_by_name, forbidden};
+ghost use Rattle.sc_types_interfaces.specs.Prelude.{no_heads};
 ghost use Rattle.std.specs.Prelude.{◌≡◌, OnOk};
 ghost use Rattle.std.specs.Option.{option_copied, option_map};
 

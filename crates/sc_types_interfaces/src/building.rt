@@ -1,9 +1,9 @@
 //! The interfaces of a text whose sections keep the rules of interfaces and counts.
 
 ghost use Rattle.sc_types_interfaces.specs.Prelude.{IsWithinCounts, all_placed, export_by, export_name, export_places};
-ghost use Rattle.sc_types_interfaces.specs.Prelude.{first_by_name, function_at, function_name, function_places, import_by};
-ghost use Rattle.sc_types_interfaces.specs.Prelude.{interface_by, interfaces_by, interfaces_of, main_by, offered_by};
-ghost use Rattle.sc_types_interfaces.specs.Prelude.{option_placed, promised_by, scalar_of};
+ghost use Rattle.sc_types_interfaces.specs.Prelude.{first_by_name, function_at, function_name, function_places};
+ghost use Rattle.sc_types_interfaces.specs.Prelude.{import_by, interface_by, interfaces_by, interfaces_of, main_by};
+ghost use Rattle.sc_types_interfaces.specs.Prelude.{offered_by, option_placed, promised_by, scalar_of};
 ghost use Rattle.std.specs.Prelude.{◌≡◌, [], IfOk, OnOk, map, min, slice_get, take};
 ghost use Rattle.std.specs.Option.{option_and_then, option_copied, option_map};
 

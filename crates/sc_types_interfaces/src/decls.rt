@@ -1,5 +1,5 @@
-ghost use Rattle.sc_types_interfaces.specs.Prelude.{allowed, decl_broken, decls_broken, head_added, head_fits_by, head_in};
-ghost use Rattle.sc_types_interfaces.specs.Prelude.{no_heads, unless, with_lines};
+ghost use Rattle.sc_types_interfaces.specs.Prelude.{allowed, decl_broken, decls_broken, head_added, head_fits_by};
+ghost use Rattle.sc_types_interfaces.specs.Prelude.{head_in, no_heads, unless, with_lines};
 ghost use Rattle.std.specs.Prelude.{◌≡◌, ◌&&◌, OnOk};
 ghost use Rattle.sc_ast.specs.declared.section.Decl.TheVariants.{Proto, Function};
 

@@ -1,8 +1,8 @@
 //! The heads of functions and prototypes, and what their types are.
 
-ghost use Rattle.sc_types_interfaces.specs.Prelude.{agree, crosses, gives_int, head_crosses, is_int, is_main, main_holds};
-ghost use Rattle.sc_types_interfaces.specs.Prelude.{result_crosses, same_base, same_params, same_result, same_type};
-ghost use Rattle.sc_types_interfaces.specs.Prelude.{takes_nothing};
+ghost use Rattle.sc_types_interfaces.specs.Prelude.{agree, crosses, gives_int, head_crosses, is_int, is_main};
+ghost use Rattle.sc_types_interfaces.specs.Prelude.{main_holds, result_crosses, same_base, same_params, same_result};
+ghost use Rattle.sc_types_interfaces.specs.Prelude.{same_type, takes_nothing};
 ghost use Rattle.sc_ast.specs.Prelude.{head_of, param_of};
 ghost use Rattle.std.specs.Prelude.{◌≡◌, IfOk, map};
 ghost use Rattle.std.specs.List.{list_all};

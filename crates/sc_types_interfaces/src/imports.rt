@@ -1,7 +1,7 @@
-ghost use Rattle.sc_types_interfaces.specs.Prelude.{all_numbered, environment_added, first_added, import_added, import_fits};
-ghost use Rattle.sc_types_interfaces.specs.Prelude.{imported_by, imports_added, imports_broken, input_head, input_name};
-ghost use Rattle.sc_types_interfaces.specs.Prelude.{int_type, is_offered_by, no_heads, others_added, output_head};
-ghost use Rattle.sc_types_interfaces.specs.Prelude.{output_name, with_lines};
+ghost use Rattle.sc_types_interfaces.specs.Prelude.{all_numbered, environment_added, first_added, import_added};
+ghost use Rattle.sc_types_interfaces.specs.Prelude.{import_fits, imported_by, imports_added, imports_broken};
+ghost use Rattle.sc_types_interfaces.specs.Prelude.{input_head, input_name, int_type, is_offered_by, no_heads};
+ghost use Rattle.sc_types_interfaces.specs.Prelude.{others_added, output_head, output_name, with_lines};
 ghost use Rattle.std.specs.Prelude.{◌≡◌, [], IfOk, OnOk, map};
 ghost use Rattle.std.specs.Option.{option_copied};
 

@@ -1,10 +1,10 @@
-ghost use Rattle.sc_types_interfaces.specs.Prelude.{among, interface_broken, line_of_text, main_name, name_fits, noted_all};
-ghost use Rattle.sc_types_interfaces.specs.Prelude.{refused_at, section_broken, unless, with_lines};
+ghost use Rattle.sc_types_interfaces.specs.Prelude.{among, interface_broken, line_of_text, main_name, name_fits};
+ghost use Rattle.sc_types_interfaces.specs.Prelude.{noted_all, refused_at, section_broken, unless, with_lines};
 ghost use Rattle.std.specs.Prelude.{◌≡◌, ◌||◌, IfOk, OnOk, map};
 
 use crate::decls::decls_broken;
 use crate::exports::exports_broken;
-use crate::imports::{imports_of, imports_broken};
+use crate::imports::{imports_broken, imports_of};
 use crate::names::{is_environment_name, main_name};
 use crate::tables::{SectionTable, section_tables};
 use sc_ast::SectionTree;

@@ -1,7 +1,8 @@
 //! What a section declares, by tables in which a name is found at once.
 
-ghost use Rattle.sc_types_interfaces.specs.Prelude.{all_added, all_numbered, function_names, head_added, head_in, heads_in};
-ghost use Rattle.sc_types_interfaces.specs.Prelude.{no_heads, offering_number, offering_table, proto_names, table_of};
+ghost use Rattle.sc_types_interfaces.specs.Prelude.{all_added, all_numbered, function_names, head_added, head_in};
+ghost use Rattle.sc_types_interfaces.specs.Prelude.{heads_in, no_heads, offering_number, offering_table, proto_names};
+ghost use Rattle.sc_types_interfaces.specs.Prelude.{table_of};
 ghost use Rattle.std.specs.Prelude.{◌≡◌, [], IfOk, OnOk, map};
 ghost use Rattle.std.specs.Option.{option_copied};
 

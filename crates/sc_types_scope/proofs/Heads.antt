@@ -1,6 +1,6 @@
 -- The parameters of a function's head as those of a prototype.
-use Rattle.sc_types_scope.proofs.Common.{FunctionParam, List, ParamTree, Text, [], ap, base_known, list_all, map, refl, ◌&&◌}
-use Rattle.sc_types_scope.proofs.Common.{◌∷◌, ◌≡◌}
+use Rattle.sc_types_scope.proofs.Common.{FunctionParam, List, ParamTree, Text, [], ap, base_known, list_all, map, refl}
+use Rattle.sc_types_scope.proofs.Common.{◌&&◌, ◌∷◌, ◌≡◌}
 use Rattle.sc_ast.specs.Prelude.{param_of}
 
 pub params-known : (tags : List Text) (params : List FunctionParam) →

@@ -1,6 +1,6 @@
 -- Lines that are noted one after another.
-use Rattle.sc_types_scope.proofs.Common.{BrokenLines, List, Option, Text, [], among, ap, line_of_text, map, map-append, noted}
-use Rattle.sc_types_scope.proofs.Common.{noted_all, refl, sym, with_lines, ℕ, ◌++◌, ◌||◌, ◌∙◌, ◌∷◌, ◌≡◌}
+use Rattle.sc_types_scope.proofs.Common.{BrokenLines, List, Option, Text, [], among, ap, line_of_text, map, map-append}
+use Rattle.sc_types_scope.proofs.Common.{noted, noted_all, refl, sym, with_lines, ℕ, ◌++◌, ◌||◌, ◌∙◌, ◌∷◌, ◌≡◌}
 use Rattle.std.proofs.lemmas.List.Folds.{list_any-append}
 
 pub noted_all-append : (least : Option ℕ) (xs ys : List ℕ) →

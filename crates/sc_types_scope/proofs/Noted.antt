@@ -1,10 +1,11 @@
 -- The loops over locals, declarations and sections, one step further.
-use Rattle.sc_types_scope.proofs.Common.{Bool, BrokenLines, Decl, Function, FunctionTree, Global, List, LocalTree, Option}
-use Rattle.sc_types_scope.proofs.Common.{Proto, SectionTree, Struct, Text, [], all_in, ap, append-nil, append_assoc, arith}
-use Rattle.sc_types_scope.proofs.Common.{decl_lines, declared, drop, drop_all, false, filter_map, function_lines, get_or}
-use Rattle.sc_types_scope.proofs.Common.{head_of_known, known, length, lines_from, local_known, local_names, locals_from, map}
-use Rattle.sc_types_scope.proofs.Common.{map-append, names_broken, noted_all, param_names, refl, section_lines, stmt_lines}
-use Rattle.sc_types_scope.proofs.Common.{take, unless, with_decl, with_lines, ℕ, ◌++◌, ◌+◌, ◌<◌, ◌∙◌, ◌∷◌, ◌≡◌, ◌≤◌}
+use Rattle.sc_types_scope.proofs.Common.{Bool, BrokenLines, Decl, Function, FunctionTree, Global, List, LocalTree}
+use Rattle.sc_types_scope.proofs.Common.{Option, Proto, SectionTree, Struct, Text, [], all_in, ap, append-nil}
+use Rattle.sc_types_scope.proofs.Common.{append_assoc, arith, decl_lines, declared, drop, drop_all, false, filter_map}
+use Rattle.sc_types_scope.proofs.Common.{function_lines, get_or, head_of_known, known, length, lines_from, local_known}
+use Rattle.sc_types_scope.proofs.Common.{local_names, locals_from, map, map-append, names_broken, noted_all}
+use Rattle.sc_types_scope.proofs.Common.{param_names, refl, section_lines, stmt_lines, take, unless, with_decl}
+use Rattle.sc_types_scope.proofs.Common.{with_lines, ℕ, ◌++◌, ◌+◌, ◌<◌, ◌∙◌, ◌∷◌, ◌≡◌, ◌≤◌}
 use Rattle.std.proofs.lemmas.List.Elements.{filter_map-append}
 use Rattle.sc_types_scope.specs.declared.section_names.SectionNames.{SectionNames}
 use Rattle.sc_types_scope.proofs.Lines.{done, noted_all-append, with_lines-append}

@@ -1,6 +1,6 @@
 -- Names of which no two are the same, one more at the end.
-use Rattle.sc_types_scope.proofs.Common.{Bool, List, Text, [], among, ap, are_distinct, arith, false, nat_eq, not, refl, ◌&&◌}
-use Rattle.sc_types_scope.proofs.Common.{◌++◌, ◌||◌, ◌∙◌, ◌∷◌, ◌≡◌}
+use Rattle.sc_types_scope.proofs.Common.{Bool, List, Text, [], among, ap, are_distinct, arith, false, nat_eq, not, refl}
+use Rattle.sc_types_scope.proofs.Common.{◌&&◌, ◌++◌, ◌||◌, ◌∙◌, ◌∷◌, ◌≡◌}
 use Rattle.std.specs.Cmp.Lexicographic.{pointwise}
 use Rattle.std.proofs.lemmas.Cmp.{nat_list_eq_equiv}
 use Rattle.sc_types_scope.proofs.Lines.{among-append}

@@ -1,8 +1,8 @@
 -- The lines of a statement, by what it does.
-use Rattle.sc_types_scope.proofs.Common.{Bool, BrokenLines, Known, List, Option, [], add-one, all_in, ap, arith, body_lines}
-use Rattle.sc_types_scope.proofs.Common.{drop, drop-cons, drop_all, expr_known, false, get_or, length, map, part_lines, refl}
-use Rattle.sc_types_scope.proofs.Common.{rules, stmt_lines, suc, sym, true, unless, with_lines, ℕ, ◌++◌, ◌+◌, ◌<◌, ◌∙◌, ◌∷◌}
-use Rattle.sc_types_scope.proofs.Common.{◌≡◌, ◌≤◌}
+use Rattle.sc_types_scope.proofs.Common.{Bool, BrokenLines, Known, List, Option, [], add-one, all_in, ap, arith}
+use Rattle.sc_types_scope.proofs.Common.{body_lines, drop, drop-cons, drop_all, expr_known, false, get_or, length, map}
+use Rattle.sc_types_scope.proofs.Common.{part_lines, refl, rules, stmt_lines, suc, sym, true, unless, with_lines, ℕ}
+use Rattle.sc_types_scope.proofs.Common.{◌++◌, ◌+◌, ◌<◌, ◌∙◌, ◌∷◌, ◌≡◌, ◌≤◌}
 use Rattle.sc_ast.specs.declared.expr.ExprTree.{ExprTree}
 use Rattle.sc_ast.specs.declared.stmt.StmtTree.{StmtTree}
 use Rattle.sc_ast.specs.declared.stmt.StmtKind.{StmtKind, the_lemmas}

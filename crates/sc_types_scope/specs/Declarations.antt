@@ -1,6 +1,6 @@
 -- What a section declares, and the names that stand there.
-use Rattle.sc_types_scope.specs.Common.{Decl, ExportLine, Function, FunctionTree, Global, GlobalTree, HeadTree, ImportLine}
-use Rattle.sc_types_scope.specs.Common.{Proto, SectionTree, Struct, StructTree, head_of, is_numbered}
+use Rattle.sc_types_scope.specs.Common.{Decl, ExportLine, Function, FunctionTree, Global, GlobalTree, HeadTree}
+use Rattle.sc_types_scope.specs.Common.{ImportLine, Proto, SectionTree, Struct, StructTree, head_of, is_numbered}
 use Rattle.std.specs.Prelude.{ℕ, Bool, true, not, ◌&&◌, List, [], ◌∷◌, map, Option, Some, None}
 use Rattle.std.specs.List.{filter_map}
 

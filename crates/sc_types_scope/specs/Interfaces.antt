@@ -1,6 +1,6 @@
 -- What the sections of a text offer and use, as the interfaces of its program.
-use Rattle.sc_types_scope.specs.Common.{BaseTree, ExportLine, FunctionTree, HeadTree, ImportLine, ParamTree, SectionTree}
-use Rattle.sc_types_scope.specs.Common.{TypeName, all_hold, head_of, number_of}
+use Rattle.sc_types_scope.specs.Common.{BaseTree, ExportLine, FunctionTree, HeadTree, ImportLine, ParamTree}
+use Rattle.sc_types_scope.specs.Common.{SectionTree, TypeName, all_hold, head_of, number_of}
 use Rattle.std.specs.Prelude.{ℕ, zero, suc, Bool, not, ◌==◌, bytes_eq, codes, List, [], ◌∷◌, map, Option, Some, None}
 use Rattle.std.specs.Prelude.{if◌then◌else◌}
 use Rattle.std.specs.Option.{option_map, option_map_or}

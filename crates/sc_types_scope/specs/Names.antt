@@ -19,8 +19,8 @@ use Rattle.sc_ast.specs.declared.section.FunctionParam.{FunctionParam}
 use Rattle.sc_ast.specs.declared.section.LocalTree.{LocalTree}
 use Rattle.sc_types_scope.specs.Broken.{unless, line_of_text}
 use Rattle.sc_types_scope.specs.declared.section_names.SectionNames.{SectionNames}
-use Rattle.sc_types_scope.specs.Declarations.{Text, among, is_new, are_distinct, struct_names, global_names, proto_names}
-use Rattle.sc_types_scope.specs.Declarations.{function_names, import_names}
+use Rattle.sc_types_scope.specs.Declarations.{Text, among, is_new, are_distinct, struct_names, global_names}
+use Rattle.sc_types_scope.specs.Declarations.{proto_names, function_names, import_names}
 
 -- Bodies.
 

@@ -8,11 +8,11 @@ pub use Rattle.sc_types_scope.specs.Declarations.{import_names, is_new, proto_na
 pub use Rattle.sc_types_scope.specs.Declarations.{structs_in}
 pub use Rattle.sc_types_scope.specs.Interfaces.{base_scalar, defines_main, environment, function_named, import_of}
 pub use Rattle.sc_types_scope.specs.Interfaces.{interface_of, interfaces_from, interfaces_of, is_environment, main_from}
-pub use Rattle.sc_types_scope.specs.Interfaces.{main_name, number_or_zero, offered, offering, offers, promised, proto_of}
-pub use Rattle.sc_types_scope.specs.Interfaces.{scalar_of}
+pub use Rattle.sc_types_scope.specs.Interfaces.{main_name, number_or_zero, offered, offering, offers, promised}
+pub use Rattle.sc_types_scope.specs.Interfaces.{proto_of, scalar_of}
 pub use Rattle.sc_types_scope.specs.Names.{Known, all_in, base_known, body_lines, call_known, decl_lines, declared}
-pub use Rattle.sc_types_scope.specs.Names.{expr_known, function_lines, global_known, head_known, head_of_known, init_known}
-pub use Rattle.sc_types_scope.specs.Names.{is_callable, known, known_in, knows, lines_from, local_known, local_names}
-pub use Rattle.sc_types_scope.specs.Names.{locals_from, member_known, member_names, names_broken, param_names, part_lines}
-pub use Rattle.sc_types_scope.specs.Names.{pointed_known, proto_known, result_known, section_lines, simple_known, stmt_lines}
-pub use Rattle.sc_types_scope.specs.Names.{struct_known, with_decl}
+pub use Rattle.sc_types_scope.specs.Names.{expr_known, function_lines, global_known, head_known, head_of_known}
+pub use Rattle.sc_types_scope.specs.Names.{init_known, is_callable, known, known_in, knows, lines_from, local_known}
+pub use Rattle.sc_types_scope.specs.Names.{local_names, locals_from, member_known, member_names, names_broken}
+pub use Rattle.sc_types_scope.specs.Names.{param_names, part_lines, pointed_known, proto_known, result_known}
+pub use Rattle.sc_types_scope.specs.Names.{section_lines, simple_known, stmt_lines, struct_known, with_decl}

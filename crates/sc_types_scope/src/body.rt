@@ -1,7 +1,7 @@
 //! The bodies of functions.
 
-ghost use Rattle.sc_types_scope.specs.Prelude.{all_in, among, call_known, expr_known, is_callable, known, knows, part_lines};
-ghost use Rattle.sc_types_scope.specs.Prelude.{simple_known, stmt_lines, with_lines};
+ghost use Rattle.sc_types_scope.specs.Prelude.{all_in, among, call_known, expr_known, is_callable, known, knows};
+ghost use Rattle.sc_types_scope.specs.Prelude.{part_lines, simple_known, stmt_lines, with_lines};
 ghost use Rattle.std.specs.Prelude.{◌≡◌, ◌++◌, [], map};
 ghost use Rattle.std.specs.List.{list_all};
 

@@ -1,7 +1,8 @@
 //! Declarations.
 
 ghost use Rattle.sc_types_scope.specs.Prelude.{decl_lines, function_lines, global_known, head_of_known, init_known};
-ghost use Rattle.sc_types_scope.specs.Prelude.{local_known, locals_from, param_names, proto_known, struct_known, with_lines};
+ghost use Rattle.sc_types_scope.specs.Prelude.{local_known, locals_from, param_names, proto_known, struct_known};
+ghost use Rattle.sc_types_scope.specs.Prelude.{with_lines};
 ghost use Rattle.std.specs.Prelude.{◌≡◌, ◌++◌, [], ◌∷◌, map, OnOk, IfOk};
 ghost use Rattle.sc_ast.specs.declared.section.LocalTree.{LocalTree};
 

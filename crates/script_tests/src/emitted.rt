@@ -58,7 +58,10 @@ fn see(
     trace: &[Event],
     steps: u32,
 ) -> Result<Option<Seen>, Fail> {
-    let mut seen = Seen { complete: 0, blamed: 0 };
+    let mut seen = Seen {
+        complete: 0,
+        blamed: 0,
+    };
     for set in CompSet::all(alloc, source.program().interfaces().comps.len())? {
         let task = Task {
             program: source.program(),

@@ -2,7 +2,7 @@
 #![tactic(auto)]
 
 use sc_edge::{StdSink, StdSource};
-use sc_top::{Status, secomp, print};
+use sc_top::{Status, print, secomp};
 use std::env;
 use std::io::ErrorKind;
 use std::process::ExitCode;

@@ -1,8 +1,8 @@
 // Expressions and their trees.
 use sc_ast::print_section;
 use sc_base::Text;
-use sc_parse_expr::{Lexemes, SyntaxFault, lexemes, parse_expr, parse_unary};
 use sc_lex::{slices_in_order, tokens};
+use sc_parse_expr::{Lexemes, SyntaxFault, lexemes, parse_expr, parse_unary};
 use sc_parse_read::read_trees;
 use std::alloc::Global;
 use std::test::Fail;

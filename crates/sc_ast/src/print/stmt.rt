@@ -1,6 +1,6 @@
 //! Statements.
 
-ghost use Rattle.sc_ast.specs.Prelude.{assign_call_words, assign_words, after_else, blank, block_words, call_words};
+ghost use Rattle.sc_ast.specs.Prelude.{after_else, assign_call_words, assign_words, blank, block_words, call_words};
 ghost use Rattle.sc_ast.specs.Prelude.{chain_words, condition_words, deeper, else_words, expr_words, first_words};
 ghost use Rattle.sc_ast.specs.Prelude.{is_chain, kind_layout, layouts, line_of, lines_at, next_words, return_words};
 ghost use Rattle.sc_ast.specs.Prelude.{simple_words, stmt_layout, text_of, word};

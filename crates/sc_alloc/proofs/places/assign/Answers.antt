@@ -1,5 +1,5 @@
-use Rattle.sc_alloc.proofs.Common.{All, AreNumbered, ArePlaced, Placement, Interval, IsAssignment, IsPermutation, IsSparing}
-use Rattle.sc_alloc.proofs.Common.{List, ap, at_first, fold, map, scan_next, sorted_by, subst, sym, ◌∙◌, ◌≡◌, ◌≤◌}
+use Rattle.sc_alloc.proofs.Common.{All, AreNumbered, ArePlaced, Interval, IsAssignment, IsPermutation, IsSparing, List}
+use Rattle.sc_alloc.proofs.Common.{Placement, ap, at_first, fold, map, scan_next, sorted_by, subst, sym, ◌∙◌, ◌≡◌, ◌≤◌}
 use Rattle.sc_alloc.proofs.Assignment.{all_ordered, are_places, is_assignment, is_sparing, moved_to, numbered}
 use Rattle.sc_alloc.proofs.ByTemp.{by_temps, place_of, temp_of}
 use Rattle.sc_alloc.proofs.places.assign.Goals as goal

@@ -1,4 +1,4 @@
-use Rattle.sc_alloc.proofs.Common.{Placement, IsAt, IsScan, at_first, fold, map, scan_next, take, ◌≡◌}
+use Rattle.sc_alloc.proofs.Common.{IsAt, IsScan, Placement, at_first, fold, map, scan_next, take, ◌≡◌}
 use Rattle.sc_alloc.proofs.places.scan.Given as goal
 
 abbrev pub invariant-loop-interval : goal.invariant-loop-interval

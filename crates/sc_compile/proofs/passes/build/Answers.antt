@@ -1,4 +1,4 @@
-use Rattle.sc_compile.proofs.Common.{All, GlobalsAreWords, FitAll, IsLinkable, ap, subst, sym, ◌∙◌}
+use Rattle.sc_compile.proofs.Common.{All, FitAll, GlobalsAreWords, IsLinkable, ap, subst, sym, ◌∙◌}
 use Rattle.sc_compile.proofs.Building.{image_is, may_link, whole_compiled}
 use Rattle.sc_compile.proofs.Counted.{all_fit, sections_are}
 use Rattle.sc_compile.proofs.passes.build.Goals as goal

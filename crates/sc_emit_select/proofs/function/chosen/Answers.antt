@@ -1,4 +1,5 @@
-use Rattle.sc_emit_select.proofs.Common.{IfOk-weaker, arith, code_of, code_of_lines, false, function_lines, plan_of, ◌≡◌}
+use Rattle.sc_emit_select.proofs.Common.{IfOk-weaker, arith, code_of, code_of_lines, false, function_lines, plan_of}
+use Rattle.sc_emit_select.proofs.Common.{◌≡◌}
 use Rattle.sc_emit_select.proofs.Links.{far_code}
 use Rattle.sc_emit_select.proofs.function.chosen.Goals as goal
 

@@ -1,5 +1,5 @@
-use Rattle.sc_emit_select.proofs.Common.{CodeTree, IsCode, code_of, entry_weight, length, subst, sym, weight, ◌+◌, ◌∙◌, ◌≡◌}
-use Rattle.sc_emit_select.proofs.Common.{◌≤◌}
+use Rattle.sc_emit_select.proofs.Common.{CodeTree, IsCode, code_of, entry_weight, length, subst, sym, weight, ◌+◌, ◌∙◌}
+use Rattle.sc_emit_select.proofs.Common.{◌≡◌, ◌≤◌}
 use Rattle.sc_emit_select.proofs.Links.{function_code}
 use Rattle.sc_emit_select.proofs.Weights.{function_light}
 use Rattle.sc_emit_select.proofs.function.select.Goals as goal

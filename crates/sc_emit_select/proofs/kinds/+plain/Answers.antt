@@ -1,5 +1,5 @@
-use Rattle.sc_emit_select.proofs.Common.{all_plain, ap, arith, drop, map, refl, select, stmt_weight, suc, sym, weight, ◌&&◌}
-use Rattle.sc_emit_select.proofs.Common.{◌+◌, ◌∙◌, ◌≡◌, ◌≤◌}
+use Rattle.sc_emit_select.proofs.Common.{all_plain, ap, arith, drop, map, refl, select, stmt_weight, suc, sym, weight}
+use Rattle.sc_emit_select.proofs.Common.{◌&&◌, ◌+◌, ◌∙◌, ◌≡◌, ◌≤◌}
 use Rattle.sc_emit_select.proofs.Composition.{as_if, fork_heavier, no_heavier}
 use Rattle.sc_emit_select.proofs.Turning.{none_left, not_all_plain, plain_if, plain_so_far}
 use Rattle.sc_emit_select.proofs.kinds.+plain.Goals as goal

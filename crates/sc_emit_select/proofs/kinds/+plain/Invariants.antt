@@ -1,5 +1,5 @@
-use Rattle.sc_emit_select.proofs.Common.{FrameTree, List, Place, Plan, all_plain, drop, map, select, stmt_weight, weight}
-use Rattle.sc_emit_select.proofs.Common.{◌*◌, ◌+◌, ◌≡◌}
+use Rattle.sc_emit_select.proofs.Common.{FrameTree, List, Place, Plan, all_plain, drop, map, select, stmt_weight}
+use Rattle.sc_emit_select.proofs.Common.{weight, ◌*◌, ◌+◌, ◌≡◌}
 use Rattle.sc_emit_select.proofs.kinds.+plain.Given as goal
 
 -- what stands before this one is plain

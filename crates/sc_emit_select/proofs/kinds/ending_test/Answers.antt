@@ -1,5 +1,5 @@
-use Rattle.sc_emit_select.proofs.Common.{ap, arith, drop, ending_test, length, map, refl, select, suc, sym, ◌+◌, ◌-◌, ◌∙◌}
-use Rattle.sc_emit_select.proofs.Common.{◌≡◌}
+use Rattle.sc_emit_select.proofs.Common.{ap, arith, drop, ending_test, length, map, refl, select, suc, sym, ◌+◌, ◌-◌}
+use Rattle.sc_emit_select.proofs.Common.{◌∙◌, ◌≡◌}
 use Rattle.sc_emit_select.proofs.Turning.{some_last, test_at_last, test_after, test_refused}
 use Rattle.sc_emit_select.proofs.kinds.ending_test.Goals as goal
 

@@ -1,5 +1,5 @@
-use Rattle.sc_emit_select.proofs.Common.{Bool, None, Option, Some, ap, ap₂, if◌then◌else◌, is_break, map, refl, select, sym}
-use Rattle.sc_emit_select.proofs.Common.{ℕ, ◌&&◌, ◌∙◌}
+use Rattle.sc_emit_select.proofs.Common.{Bool, None, Option, Some, ap, ap₂, if◌then◌else◌, is_break, map, refl, select}
+use Rattle.sc_emit_select.proofs.Common.{sym, ℕ, ◌&&◌, ◌∙◌}
 use Rattle.sc_emit_select.proofs.Turning.{forked}
 use Rattle.sc_emit_select.proofs.kinds.test_of_fork.Goals as goal
 

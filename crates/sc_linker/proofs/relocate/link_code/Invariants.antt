@@ -1,5 +1,5 @@
-use Rattle.sc_linker.proofs.Common.{All, AreKnown, Fits, IsInstr, addresses_of, drop, length, linked, linked_from}
-use Rattle.sc_linker.proofs.Common.{map, take, word_of, ◌++◌, ◌≡◌, ◌≤◌}
+use Rattle.sc_linker.proofs.Common.{All, AreKnown, Fits, IsInstr, addresses_of, drop, length, linked, linked_from, map}
+use Rattle.sc_linker.proofs.Common.{take, word_of, ◌++◌, ◌≡◌, ◌≤◌}
 use Rattle.sc_linker.proofs.relocate.link_code.Given as goal
 
 -- the instructions from this one on stand at `pc`

@@ -1,4 +1,4 @@
-use Rattle.sc_parse.proofs.Common.{[], declaration_at, grouped, length, add_local, no_base, ◌+◌, ◌-◌, ◌≡◌}
+use Rattle.sc_parse.proofs.Common.{[], add_local, declaration_at, grouped, length, no_base, ◌+◌, ◌-◌, ◌≡◌}
 use Rattle.sc_parse.proofs.functions.locals_at.Given as goal
 
 -- what is read is what the rest of the loop reads

@@ -1,4 +1,4 @@
-use Rattle.sc_parse.proofs.Common.{following, length, add_local, separated, ◌+◌, ◌-◌, ◌≡◌}
+use Rattle.sc_parse.proofs.Common.{add_local, following, length, separated, ◌+◌, ◌-◌, ◌≡◌}
 use Rattle.sc_parse_expr.specs.declared.mark.Mark.TheVariants as mark
 use Rattle.sc_parse.proofs.functions.with_locals.Given as goal
 

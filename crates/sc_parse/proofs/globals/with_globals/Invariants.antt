@@ -1,4 +1,4 @@
-use Rattle.sc_parse.proofs.Common.{following, add_global, length, separated, ◌+◌, ◌-◌, ◌≡◌}
+use Rattle.sc_parse.proofs.Common.{add_global, following, length, separated, ◌+◌, ◌-◌, ◌≡◌}
 use Rattle.sc_parse_expr.specs.declared.mark.Mark.TheVariants as mark
 use Rattle.sc_parse.proofs.globals.with_globals.Given as goal
 

@@ -1,4 +1,4 @@
-use Rattle.sc_parse.proofs.Common.{begins_with, declaration_at, grouped, length, add_member, ◌+◌, ◌-◌, ◌≡◌}
+use Rattle.sc_parse.proofs.Common.{add_member, begins_with, declaration_at, grouped, length, ◌+◌, ◌-◌, ◌≡◌}
 use Rattle.sc_parse_expr.specs.declared.mark.Mark.TheVariants as mark
 use Rattle.sc_parse.proofs.members.member_lines.Given as goal
 

@@ -1,5 +1,5 @@
-use Rattle.sc_top_words.proofs.Common.{App, Form, IfOk-weaker, IsCommandOf, List, Shape, Text, [], ap, app_of, ap₂, codes}
-use Rattle.sc_top_words.proofs.Common.{false, make_form, shape_with, top, ◌++◌, ◌∙◌, ◌∷◌, ◌≡◌}
+use Rattle.sc_top_words.proofs.Common.{App, Form, IfOk-weaker, IsCommandOf, List, Shape, Text, [], ap, app_of, ap₂}
+use Rattle.sc_top_words.proofs.Common.{codes, false, make_form, shape_with, top, ◌++◌, ◌∙◌, ◌∷◌, ◌≡◌}
 use Rattle.sc_top_words.specs.Prelude.{with_values}
 use Rattle.clap.specs.Words.{AddsSubcommand, with_subcommand}
 use Rattle.clap.specs.declared.builder.command.Command.{Command}

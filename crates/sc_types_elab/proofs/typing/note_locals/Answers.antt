@@ -1,5 +1,5 @@
-use Rattle.sc_types_elab.proofs.Common.{StandsIn, ap, arith, called, get_or, length, refl, scope_in, subst, ◌+◌, ◌<◌, ◌∙◌}
-use Rattle.sc_types_elab.proofs.Common.{◌≡◌, ◌≤◌}
+use Rattle.sc_types_elab.proofs.Common.{StandsIn, ap, arith, called, get_or, length, refl, scope_in, subst, ◌+◌, ◌<◌}
+use Rattle.sc_types_elab.proofs.Common.{◌∙◌, ◌≡◌, ◌≤◌}
 use Rattle.sc_types_elab.proofs.Functions.{head_kept, more_stands}
 use Rattle.sc_types_elab.proofs.FunctionLines.{suits, local_noted, locals_noted}
 use Rattle.sc_types_elab.proofs.typing.note_locals.Goals as goal

@@ -6,7 +6,8 @@ pub loop-decl-preserved : goal.loop-decl-preserved
 loop-decl-preserved c =
     decls_turn c.args.table.now c.args.imported.now c.args.mains c.loop-decl.known c.decl_broken.new.known
     c.args.decls.now c.loop-decl.decl-index c.decl-item.result
-    c.loop-decl.lines c.decl_broken.new.lines _ c.loop-decl-test.true c.decl-item.is c.in_ok-decl_broken.ensures.reported
+    c.loop-decl.lines c.decl_broken.new.lines _ c.loop-decl-test.true c.decl-item.is
+    c.in_ok-decl_broken.ensures.reported
     c.in_ok-decl_broken.ensures.added c.loop-decl.invariant
 
 pub returns : goal.returns

@@ -1,4 +1,5 @@
-use Rattle.sc_types_interfaces.proofs.Common.{None, [], defines_main, drop, false, lines_broken, list_any, noted_all, ◌||◌, ◌≡◌}
+use Rattle.sc_types_interfaces.proofs.Common.{None, [], defines_main, drop, false, lines_broken, list_any, noted_all}
+use Rattle.sc_types_interfaces.proofs.Common.{◌||◌, ◌≡◌}
 use Rattle.sc_types_interfaces.proofs.phase.broken_interface.Given as goal
 
 abbrev pub invariant-loop-number : goal.invariant-loop-number

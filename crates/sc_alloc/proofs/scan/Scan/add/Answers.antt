@@ -1,4 +1,4 @@
-use Rattle.sc_alloc.proofs.Common.{AreFair, AreRegisters, AreSlots, Placement, List, heap_items, rules, subst, sym}
+use Rattle.sc_alloc.proofs.Common.{AreFair, AreRegisters, AreSlots, List, Placement, heap_items, rules, subst, sym}
 use Rattle.sc_alloc.proofs.Common.{with_place, ◌≡◌}
 use Rattle.sc_alloc.proofs.Choices.{fair_pushed}
 use Rattle.sc_alloc.proofs.scan.Scan.add.Goals as goal
@@ -13,7 +13,9 @@ returns-clause-rules c =
     let e : c.push.new.self ≡ with_place placements x place = search rules in
     record {
       fair = subst AreFair (sym e) (fair_pushed placements x place c.requires.rules.fair c.requires.begun chosen.fair);
-      registers = subst (λ (placements : List Placement). AreRegisters placements new.registers.lasts) (sym e) chosen.registers;
-      slots = subst (λ (placements : List Placement). AreSlots placements (heap_items new.slots.ends) new.slots.count) (sym e)
+      registers = subst (λ (placements : List Placement). AreRegisters placements new.registers.lasts) (sym e)
+          chosen.registers;
+      slots = subst (λ (placements : List Placement). AreSlots placements (heap_items new.slots.ends) new.slots.count)
+          (sym e)
           chosen.slots;
     }

@@ -1,10 +1,10 @@
-use Rattle.sc_emit_select.proofs.Common.{Fits, ap, arith, length, on_ok_weaker, plan_by, refl, select, stmt_weight, subst}
-use Rattle.sc_emit_select.proofs.Common.{sym, weight, ◌++◌, ◌+◌, ◌-◌, ◌<◌, ◌∙◌, ◌≡◌, ◌≤◌}
+use Rattle.sc_emit_select.proofs.Common.{Fits, ap, arith, length, on_ok_weaker, plan_by, refl, select, stmt_weight}
+use Rattle.sc_emit_select.proofs.Common.{subst, sym, weight, ◌++◌, ◌+◌, ◌-◌, ◌<◌, ◌∙◌, ◌≡◌, ◌≤◌}
 use Rattle.sc_emit_select.proofs.Composition.{as_if, as_loop, joined_by, cycle_heavier, fork_heavier, back_reaches}
 use Rattle.sc_emit_select.proofs.Composition.{body_reaches, cycle_written, first_reaches, choice_returns, skip_returns}
 use Rattle.sc_emit_select.proofs.Composition.{as_is, head_reaches, next_reaches, over_first, over_reaches, over_second}
-use Rattle.sc_emit_select.proofs.Composition.{second_fits, step_fits, step_lighter, step_reaches, unjoined_fits, as_written}
-use Rattle.sc_emit_select.proofs.Composition.{is_itself, is_nothing, is_both, none_written, step_written}
+use Rattle.sc_emit_select.proofs.Composition.{second_fits, step_fits, step_lighter, step_reaches, unjoined_fits}
+use Rattle.sc_emit_select.proofs.Composition.{as_written, is_itself, is_nothing, is_both, none_written, step_written}
 use Rattle.sc_emit_select.proofs.Rotating.{all_written, taken_by, prefix_lighter, cycle_fits, cycle_is, lines_reach}
 use Rattle.sc_emit_select.proofs.Rotating.{loop_fits, over_reaches as body_over, body_reaches as reaches_body}
 use Rattle.sc_emit_select.proofs.Rotating.{head_reaches as reaches_head, next_reaches as reaches_next, rotated_fits}

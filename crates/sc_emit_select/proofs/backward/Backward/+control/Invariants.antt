@@ -1,5 +1,5 @@
-use Rattle.sc_emit_select.proofs.Common.{Other, drop, in_turn, joined, map, plan_by, select, stmt_weight, weight, ◌*◌, ◌++◌}
-use Rattle.sc_emit_select.proofs.Common.{◌+◌, ◌≡◌}
+use Rattle.sc_emit_select.proofs.Common.{Other, drop, in_turn, joined, map, plan_by, select, stmt_weight, weight, ◌*◌}
+use Rattle.sc_emit_select.proofs.Common.{◌++◌, ◌+◌, ◌≡◌}
 use Rattle.sc_emit_select.proofs.backward.Backward.+control.Given as goal
 
 -- the statements from this one on are written

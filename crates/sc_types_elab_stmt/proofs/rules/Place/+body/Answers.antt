@@ -1,6 +1,6 @@
 use Rattle.sc_types_elab_stmt.proofs.Common.{called, stmt_lines, visible}
-use Rattle.sc_types_elab_stmt.proofs.Noted.{on_ok, noted-if, noted-while, noted-for, noted-empty, noted-break, noted-continue}
-use Rattle.sc_types_elab_stmt.proofs.Noted.{noted-next, noted-all}
+use Rattle.sc_types_elab_stmt.proofs.Noted.{on_ok, noted-if, noted-while, noted-for, noted-empty, noted-break}
+use Rattle.sc_types_elab_stmt.proofs.Noted.{noted-continue, noted-next, noted-all}
 use Rattle.sc_types_elab_stmt.proofs.rules.Place.+body.Goals as goal
 
 pub note_kind-returns-in_ok-note_stmts-in-If : goal.note_kind-returns-in_ok-note_stmts-in-If

@@ -1,4 +1,5 @@
-use Rattle.sc_types_elab_stmt.proofs.Common.{Scope, Suits, called, concat, drop, map, stmt_lines, visible, with_lines, ◌≡◌}
+use Rattle.sc_types_elab_stmt.proofs.Common.{Scope, Suits, called, concat, drop, map, stmt_lines, visible, with_lines}
+use Rattle.sc_types_elab_stmt.proofs.Common.{◌≡◌}
 use Rattle.sc_types_elab_stmt.proofs.rules.Place.+body.Given as goal
 
 abbrev pub invariant-note_stmts-loop-stmt : goal.invariant-note_stmts-loop-stmt
