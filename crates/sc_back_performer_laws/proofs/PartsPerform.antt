@@ -74,8 +74,8 @@ rows_numbered c number (Some at) (event ∷ later) few =
 
 module _ (olds : List SectionTree) (in_interfaces : interface_broken olds ≡ []) (in_counts : counts_broken olds ≡ [])
     (named : AllByRecursion IsNamed olds) where
-  abbrev interface_rules : Interfaces
-  interface_rules = interfaces_of olds
+  abbrev interfaces : Interfaces
+  interfaces = interfaces_of olds
 
   -- Sections at their places.
   module _ (number : ℕ) (old : SectionTree) (got : slice_get olds number ≡ Some old) where
@@ -105,7 +105,7 @@ module _ (olds : List SectionTree) (in_interfaces : interface_broken olds ≡ []
 
     imported_from : (lines : List ImportLine) → Each (ImportFacts olds number old) lines →
         Each (IsResolved olds number old) lines → AllByRecursion IsFromSo lines →
-        AllByRecursion (IsImported interface_rules) (map (import_of olds number) lines)
+        AllByRecursion (IsImported interfaces) (map (import_of olds number) lines)
     imported_from [] h r from = tt
     imported_from (a ∷ lines) h r from = (
       record {
@@ -130,7 +130,7 @@ module _ (olds : List SectionTree) (in_interfaces : interface_broken olds ≡ []
   none_from k (s ∷ rest) zero e = none_some s (sym e)
   none_from k (s ∷ rest) (suc j) e = none_from (suc k) rest j e
 
-  export_called : (to index : ℕ) (f : Proto) → export_at interface_rules to index ≡ Some f → IsCalled f
+  export_called : (to index : ℕ) (f : Proto) → export_at interfaces to index ≡ Some f → IsCalled f
   export_called to index f is = by (slice_get olds to) refl where
     by : (o : Option SectionTree) → slice_get olds to ≡ o → IsCalled f
     by None e =
@@ -141,21 +141,21 @@ module _ (olds : List SectionTree) (in_interfaces : interface_broken olds ≡ []
 
   -- Rows.
 
-  taken : (to index count : ℕ) → takes interface_rules to index count ≡ true →
-      (f : Proto) × (export_at interface_rules to index ≡ Some f) × IsCalled f
-  taken to index count h = by (export_at interface_rules to index) refl h where
-    by : (o : Option Proto) → export_at interface_rules to index ≡ o →
+  taken : (to index count : ℕ) → takes interfaces to index count ≡ true →
+      (f : Proto) × (export_at interfaces to index ≡ Some f) × IsCalled f
+  taken to index count h = by (export_at interfaces to index) refl h where
+    by : (o : Option Proto) → export_at interfaces to index ≡ o →
         option_map_or (λ found. length found.params == count) o false ≡ true →
-        (f : Proto) × (export_at interface_rules to index ≡ Some f) × IsCalled f
+        (f : Proto) × (export_at interfaces to index ≡ Some f) × IsCalled f
     by None e h = absurd (false≢true h)
     by (Some f) e h = (f, e, export_called to index f e)
 
-  spoken : (at : Standing) (event : Event) → may_perform interface_rules at event ≡ true → HasWords event →
-      IsSpoken interface_rules (action_of event)
+  spoken : (at : Standing) (event : Event) → may_perform interfaces at event ≡ true → HasWords event →
+      IsSpoken interfaces (action_of event)
   spoken at (Call from to index args) may words = (
     words,
-    taken to index (length args) (and_parts (imports interface_rules from (is_function to index))
-        (takes interface_rules to index (length args)) may).1,
+    taken to index (length args) (and_parts (imports interfaces from (is_function to index))
+        (takes interfaces to index (length args)) may).1,
   )
   spoken at (Ret from to None) may words = tt
   spoken at (Ret from to (Some value)) may words = words
@@ -164,24 +164,24 @@ module _ (olds : List SectionTree) (in_interfaces : interface_broken olds ≡ []
   spoken at (End comp value) may words = words
 
   rows_spoken : (c number : ℕ) (at : Option Standing) (trace : List Event) →
-      is_legal_from interface_rules at trace ≡ true →
+      is_legal_from interfaces at trace ≡ true →
       AllByRecursion HasWords trace →
-      AllByRecursion (λ row. IsSpoken interface_rules row.action) (rows_from c number at trace)
+      AllByRecursion (λ row. IsSpoken interfaces row.action) (rows_from c number at trace)
   rows_spoken c number at [] is words = tt
   rows_spoken c number None (event ∷ later) is words = tt
   rows_spoken c number (Some at) (event ∷ later) is words =
-      let parts = and_parts (is_allowed interface_rules at event)
-      (is_legal_from interface_rules (stands_after at event) later) is in
-      let allowed = and_parts (performer event == at.active.comp) (may_perform interface_rules at event) parts.0 in
+      let parts = and_parts (is_allowed interfaces at event)
+      (is_legal_from interfaces (stands_after at event) later) is in
+      let allowed = and_parts (performer event == at.active.comp) (may_perform interfaces at event) parts.0 in
       by (performer event == c) (spoken at event allowed.1 words.0)
       (rows_spoken c (suc number) (stands_after at event) later parts.1 words.1)
       (rows_spoken c number (stands_after at event) later parts.1 words.1) where
-        by : (mine : Bool) → IsSpoken interface_rules (action_of event) →
-            AllByRecursion (λ row. IsSpoken interface_rules row.action)
+        by : (mine : Bool) → IsSpoken interfaces (action_of event) →
+            AllByRecursion (λ row. IsSpoken interfaces row.action)
             (rows_from c (suc number) (stands_after at event) later) →
-            AllByRecursion (λ row. IsSpoken interface_rules row.action)
+            AllByRecursion (λ row. IsSpoken interfaces row.action)
             (rows_from c number (stands_after at event) later) →
-            AllByRecursion (λ row. IsSpoken interface_rules row.action) (if mine then record {
+            AllByRecursion (λ row. IsSpoken interfaces row.action) (if mine then record {
               entry = at.active.entry;
               number = number;
               action = action_of event;
@@ -195,7 +195,7 @@ module _ (olds : List SectionTree) (in_interfaces : interface_broken olds ≡ []
   there (x ∷ xs) zero low = (x, refl)
   there (x ∷ xs) (suc i) low = there xs i (omega (arith, low))
 
-  pub section_performs : (trace : List Event) → legal interface_rules trace ≡ true → All HasWords trace →
+  pub section_performs : (trace : List Event) → legal interfaces trace ≡ true → All HasWords trace →
       length trace ≤ 4096 → (comp : ℕ) → comp < length olds → PerformsPart (program_of olds) trace comp
   section_performs trace is_legal words few comp low =
       let at : (s : SectionTree) × (slice_get olds comp ≡ Some s) = there olds comp low in
@@ -206,15 +206,15 @@ module _ (olds : List SectionTree) (in_interfaces : interface_broken olds ≡ []
         can = record {
           name = names.name;
           exports = All-from_recursion IsCalled (map (proto_of at.0) at.0.exports) (exports_called comp at.0 at.1);
-          imports = All-from_recursion (IsImported interface_rules) (map (import_of olds comp) at.0.imports)
+          imports = All-from_recursion (IsImported interfaces) (map (import_of olds comp) at.0.imports)
               (imported_from comp at.0 at.1 at.0.imports (facts olds in_interfaces in_counts comp at.0 at.1).imports
               (all_resolved olds in_interfaces in_counts comp at.0 at.1)
               (recursion_from_All IsFromSo at.0.imports names.comps));
-          actions = All-from_recursion (λ row. IsSpoken interface_rules row.action)
-              (part interface_rules.main comp trace)
-              (rows_spoken comp 0 (at_start interface_rules.main) trace is_legal
+          actions = All-from_recursion (λ row. IsSpoken interfaces row.action)
+              (part interfaces.main comp trace)
+              (rows_spoken comp 0 (at_start interfaces.main) trace is_legal
               (recursion_from_All HasWords trace words));
-          numbered = rows_numbered comp 0 (at_start interface_rules.main) trace (omega (arith, few));
+          numbered = rows_numbered comp 0 (at_start interfaces.main) trace (omega (arith, few));
         };
       }
 

@@ -54,23 +54,23 @@ module _ (olds : List SectionTree) (in_interfaces : interface_broken olds ≡ []
     (is : IsPerformer (interfaces_of olds) number rows (interface_of olds number old))
     (new : SectionTree) (t : IsBackTree (interfaces_of olds) number rows (interface_of olds number old) new)
     (news : List SectionTree) (all : AreSeenAs olds news) (mains : Bool) where
-  abbrev interface_rules : Interfaces
-  interface_rules = interfaces_of olds
+  abbrev interfaces : Interfaces
+  interfaces = interfaces_of olds
 
   abbrev exports : List Proto
   exports = map (proto_of old) old.exports
 
   abbrev entries : List (Entry × Proto)
-  entries = entries_of interface_rules number (interface_of olds number old)
+  entries = entries_of interfaces number (interface_of olds number old)
 
   abbrev used : List (Import × Proto)
-  used = uses interface_rules (map (import_of olds number) old.imports)
+  used = uses interfaces (map (import_of olds number) old.imports)
 
   abbrev fact : InterfaceFacts olds number old
   fact = facts olds in_interfaces in_counts number old got
 
   abbrev here : Bool
-  here = number == interface_rules.main
+  here = number == interfaces.main
 
   own : function_names new.decls ≡ export_names old ++ (if here then main_name ∷ [] else [])
   own = own_names olds in_interfaces in_counts number old got rows is new t
@@ -118,7 +118,7 @@ module _ (olds : List SectionTree) (in_interfaces : interface_broken olds ≡ []
       ap (map {A = HeadTree} (λ head. head.name))
       (ap protos_in t.decls ∙ all_protos t.heads (counter_at t.counter_line) t.functions) ∙
       names_declared used t.heads t.are_heads ∙
-      sym (imports_named interface_rules number rows (interface_of olds number old) is new t) ∙
+      sym (imports_named interfaces number rows (interface_of olds number old) is new t) ∙
       alike_names old.imports new.imports alike
 
   all_declared : Each (λ a. among (proto_names new.decls) a.name ≡ true) old.imports
@@ -168,9 +168,9 @@ module _ (olds : List SectionTree) (in_interfaces : interface_broken olds ≡ []
 
   head_next : (a : ImportLine) (lines : List ImportLine) (r : IsResolved olds number old a) →
       IsAmong a old.imports → ((heads : List HeadTree) →
-      AreHeads (uses interface_rules (map (import_of olds number) lines)) heads →
+      AreHeads (uses interfaces (map (import_of olds number) lines)) heads →
       Each (DeclFacts news number new mains) (map decl.Proto heads)) → (heads : List HeadTree) →
-      HeadsBy ((import_of olds number a, r.f) ∷ uses interface_rules (map (import_of olds number) lines)) heads →
+      HeadsBy ((import_of olds number a, r.f) ∷ uses interfaces (map (import_of olds number) lines)) heads →
       Each (DeclFacts news number new mains) (map decl.Proto heads)
   head_next a lines r in_old rest [] h = absurd h
   head_next a lines r in_old rest (head ∷ heads) h = (
@@ -184,15 +184,15 @@ module _ (olds : List SectionTree) (in_interfaces : interface_broken olds ≡ []
 
   heads_hold : (lines : List ImportLine) → Each (IsResolved olds number old) lines →
       ((a : ImportLine) → IsAmong a lines → IsAmong a old.imports) → (heads : List HeadTree) →
-      AreHeads (uses interface_rules (map (import_of olds number) lines)) heads →
+      AreHeads (uses interfaces (map (import_of olds number) lines)) heads →
       Each (DeclFacts news number new mains) (map decl.Proto heads)
   heads_hold [] rs there heads h = head_none heads (heads_by [] heads h)
   heads_hold (a ∷ lines) rs there heads h =
       head_next a lines rs.0 (there a (first lines))
       (heads_hold lines rs.1 (λ c in_lines. there c (later a lines in_lines))) heads
-      (heads_by ((import_of olds number a, rs.0.f) ∷ uses interface_rules (map (import_of olds number) lines)) heads
+      (heads_by ((import_of olds number a, rs.0.f) ∷ uses interfaces (map (import_of olds number) lines)) heads
       (subst (λ o. AreHeads (use_of (import_of olds number a) o
-      (uses interface_rules (map (import_of olds number) lines))) heads)
+      (uses interfaces (map (import_of olds number) lines))) heads)
       rs.0.is h))
 
   -- Functions.
@@ -203,7 +203,7 @@ module _ (olds : List SectionTree) (in_interfaces : interface_broken olds ≡ []
       true
 
   functions_hold : (es : List (Entry × Proto)) (trees : List FunctionTree) →
-      AreFunctions interface_rules rows es trees →
+      AreFunctions interfaces rows es trees →
       Each (λ e. HoldsMain e.1) es → Each (DeclFacts news number new mains) (map decl.Function trees)
   functions_hold es trees no_functions h = tt
   functions_hold es trees (and_function entry f others more line close body done rest) h = (
@@ -244,7 +244,7 @@ module _ (olds : List SectionTree) (in_interfaces : interface_broken olds ≡ []
         ))
 
     distinct : are_distinct (entry_names entries ++ use_names used) ≡ true
-    distinct = distinct_names interface_rules number rows (interface_of olds number old) is
+    distinct = distinct_names interfaces number rows (interface_of olds number old) is
 
     distinct_back : are_distinct (use_names used ++ entry_names entries) ≡ true
     distinct_back =
@@ -261,7 +261,7 @@ module _ (olds : List SectionTree) (in_interfaces : interface_broken olds ≡ []
         map-append {A = HeadTree} (λ head. head.name) t.heads (heads_of t.functions) ∙
         ap₂ (λ a b. a ++ b) (names_declared used t.heads t.are_heads)
         (map_twice {A = FunctionTree} {B = HeadTree} (λ head. head.name) (λ tree. head_of tree.head) t.functions ∙
-        names_defined interface_rules rows entries t.functions t.are_functions)
+        names_defined interfaces rows entries t.functions t.are_functions)
 
     pub decls_new : decls_from news number new mains [] new.decls ≡ []
     decls_new =

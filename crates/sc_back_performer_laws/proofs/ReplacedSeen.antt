@@ -33,23 +33,23 @@ module _ (olds : List SectionTree) (in_interfaces : interface_broken olds ≡ []
     (interface_of olds number old))
     (new : SectionTree) (t : IsBackTree (interfaces_of olds) number rows
     (interface_of olds number old) new) where
-  abbrev interface_rules : Interfaces
-  interface_rules = interfaces_of olds
+  abbrev interfaces : Interfaces
+  interfaces = interfaces_of olds
 
   abbrev exports : List Proto
   exports = map (proto_of old) old.exports
 
   abbrev entries : List (Entry × Proto)
-  entries = entries_of interface_rules number (interface_of olds number old)
+  entries = entries_of interfaces number (interface_of olds number old)
 
   abbrev used : List (Import × Proto)
-  used = uses interface_rules (map (import_of olds number) old.imports)
+  used = uses interfaces (map (import_of olds number) old.imports)
 
   abbrev fact : InterfaceFacts olds number old
   fact = facts olds in_interfaces in_counts number old got
 
   distinct : are_distinct (entry_names entries ++ use_names used) ≡ true
-  distinct = distinct_names interface_rules number rows (interface_of olds number old) is
+  distinct = distinct_names interfaces number rows (interface_of olds number old) is
 
   own_distinct : are_distinct (entry_names entries) ≡ true
   own_distinct = prefix_distinct (entry_names entries) (use_names used) distinct
@@ -66,7 +66,7 @@ module _ (olds : List SectionTree) (in_interfaces : interface_broken olds ≡ []
       promised e.1.name (function_named e.1.name t.functions) ≡ e.1
   entry_promised e there =
       let m : IsMade e.1 t.functions =
-      made interface_rules rows entries t.functions t.are_functions own_distinct e there in
+      made interfaces rows entries t.functions t.are_functions own_distinct e there in
       ap (promised e.1.name) m.found ∙ made_promised e.1 m.line m.close m.body
 
   protos_same : map (proto_of new) new.exports ≡ map (proto_of old) old.exports
@@ -75,16 +75,16 @@ module _ (olds : List SectionTree) (in_interfaces : interface_broken olds ≡ []
       sym (map_twice (λ name. promised name (function_named name t.functions)) (λ line. line.name) new.exports) ∙
       ap (map (λ name. promised name (function_named name t.functions))) t.exports ∙
       promised_same t.functions exports (each_export
-      (λ f. promised f.name (function_named f.name t.functions) ≡ f) 0 exports (main_entries interface_rules number)
+      (λ f. promised f.name (function_named f.name t.functions) ≡ f) 0 exports (main_entries interfaces number)
       entry_promised)
 
   -- imports
 
   alike_next : (line : ImportLine) (lines : List ImportLine) (r : IsResolved olds number old line) →
-      ((others : List ImportLine) → AreImports interface_rules
-      (uses interface_rules (map (import_of olds number) lines)) others →
+      ((others : List ImportLine) → AreImports interfaces
+      (uses interfaces (map (import_of olds number) lines)) others →
       AreAlike lines others) → (others : List ImportLine) →
-      ImportsBy interface_rules ((import_of olds number line, r.f) ∷ uses interface_rules
+      ImportsBy interfaces ((import_of olds number line, r.f) ∷ uses interfaces
       (map (import_of olds number) lines)) others →
       AreAlike (line ∷ lines) others
   alike_next line lines r rest [] h = absurd h
@@ -96,20 +96,20 @@ module _ (olds : List SectionTree) (in_interfaces : interface_broken olds ≡ []
     rest others h.1,
   )
 
-  alike_none : (others : List ImportLine) → ImportsBy interface_rules [] others → AreAlike [] others
+  alike_none : (others : List ImportLine) → ImportsBy interfaces [] others → AreAlike [] others
   alike_none [] h = tt
   alike_none (b ∷ others) h = absurd h
 
   alike_from : (lines : List ImportLine) → Each (IsResolved olds number old) lines → (others : List ImportLine) →
-      AreImports interface_rules (uses interface_rules (map (import_of olds number) lines)) others →
+      AreImports interfaces (uses interfaces (map (import_of olds number) lines)) others →
       AreAlike lines others
-  alike_from [] rs others h = alike_none others (imports_by interface_rules [] others h)
+  alike_from [] rs others h = alike_none others (imports_by interfaces [] others h)
   alike_from (line ∷ lines) rs others h =
       alike_next line lines rs.0 (alike_from lines rs.1) others
-      (imports_by interface_rules ((import_of olds number line, rs.0.f) ∷ uses interface_rules
+      (imports_by interfaces ((import_of olds number line, rs.0.f) ∷ uses interfaces
       (map (import_of olds number) lines)) others
-      (subst (λ o. AreImports interface_rules (use_of (import_of olds number line) o
-      (uses interface_rules (map (import_of olds number) lines))) others) rs.0.is h))
+      (subst (λ o. AreImports interfaces (use_of (import_of olds number line) o
+      (uses interfaces (map (import_of olds number) lines))) others) rs.0.is h))
 
   pub imports_alike : AreAlike old.imports new.imports
   imports_alike =
@@ -118,7 +118,7 @@ module _ (olds : List SectionTree) (in_interfaces : interface_broken olds ≡ []
   -- main
 
   new_names : function_names new.decls ≡ entry_names entries
-  new_names = functions_named interface_rules number rows (interface_of olds number old) is new t
+  new_names = functions_named interfaces number rows (interface_of olds number old) is new t
 
   entry_names_are : (b : Bool) (index : ℕ) (fs : List Proto) →
       entry_names (entries_from index fs ++ (if b then (Main, main_proto) ∷ [] else [])) ≡
@@ -128,10 +128,10 @@ module _ (olds : List SectionTree) (in_interfaces : interface_broken olds ≡ []
   entry_names_are b index (f ∷ fs) = ap (λ x. f.name ∷ x) (entry_names_are b (suc index) fs)
 
   pub own_names : function_names new.decls ≡
-      export_names old ++ (if number == interface_rules.main then main_name ∷ [] else [])
+      export_names old ++ (if number == interfaces.main then main_name ∷ [] else [])
   own_names =
-      new_names ∙ entry_names_are (number == interface_rules.main) 0 exports ∙
-      ap (λ ns. ns ++ (if number == interface_rules.main then main_name ∷ [] else [])) (exports_named old old.exports)
+      new_names ∙ entry_names_are (number == interfaces.main) 0 exports ∙
+      ap (λ ns. ns ++ (if number == interfaces.main then main_name ∷ [] else [])) (exports_named old old.exports)
 
   no_export_main : (lines : List ExportLine) → Each (ExportFacts olds number old) lines →
       among (map {A = ExportLine} (λ line. line.name) lines) main_name ≡ false
@@ -146,7 +146,7 @@ module _ (olds : List SectionTree) (in_interfaces : interface_broken olds ≡ []
     by true h = refl
     by false h = h
 
-  main_same : (b : Bool) → (number == interface_rules.main) ≡ b →
+  main_same : (b : Bool) → (number == interfaces.main) ≡ b →
       among (export_names old ++ (if b then main_name ∷ [] else [])) main_name ≡ defines_main old
   main_same true here =
       among_last (export_names old) main_name ∙ sym (main_here olds in_interfaces in_counts number old got here)
@@ -180,11 +180,11 @@ module _ (olds : List SectionTree) (in_interfaces : interface_broken olds ≡ []
       (none_named t.heads head (ap (λ ns. among ns head.name) (names_declared used t.heads t.are_heads) ∙
       is_false (among (use_names used) head.name) (λ imported. false≢true
       (sym (apart (entry_names entries) (use_names used) head.name distinct imported) ∙ own_there))))
-      (functions_agree interface_rules rows head entries t.functions t.are_functions agree_at)) where
+      (functions_agree interfaces rows head entries t.functions t.are_functions agree_at)) where
         own_there : among (entry_names entries) head.name ≡ true
         own_there =
             ap (λ ns. among ns head.name) (sym new_names ∙ own_names) ∙
-            among_prefix (export_names old) (if number == interface_rules.main then main_name ∷ [] else []) head.name
+            among_prefix (export_names old) (if number == interfaces.main then main_name ∷ [] else []) head.name
             there
 
         all_exports : Each (Agrees head) exports
@@ -201,7 +201,7 @@ module _ (olds : List SectionTree) (in_interfaces : interface_broken olds ≡ []
             ap (among (export_names old)) (sym (ap (λ f. f.name) is_main) ∙ named) ∙ there))
 
         agree_at : (e : Entry × Proto) → IsAmong e entries → Agrees head e.1
-        agree_at e among_them = by e (entry_is (number == interface_rules.main) 0 exports e among_them)
+        agree_at e among_them = by e (entry_is (number == interfaces.main) 0 exports e among_them)
 
   pub seen : IsSeenAs old new
   seen = record {
@@ -209,6 +209,6 @@ module _ (olds : List SectionTree) (in_interfaces : interface_broken olds ≡ []
     exports = exports_same;
     imports = imports_alike;
     protos = protos_same;
-    main = ap (λ ns. among ns main_name) own_names ∙ main_same (number == interface_rules.main) refl;
+    main = ap (λ ns. among ns main_name) own_names ∙ main_same (number == interfaces.main) refl;
     agrees = agrees_too;
   }

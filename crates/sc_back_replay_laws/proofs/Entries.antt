@@ -84,8 +84,8 @@ entry_named program c (Export index) proto is =
     ap (λ o. place_of_export o (slice_get program.sections c)) is
 
 module _ (program : ProgramTree) (typed : IsWellTyped program) where
-  abbrev interface_fitting : Interfaces
-  interface_fitting = program.interfaces
+  abbrev interfaces : Interfaces
+  interfaces = program.interfaces
 
   -- the function that an entry leads to
   pub record Leads (c : ℕ) (entry : Entry) (proto : Proto) : Type 0 where
@@ -96,7 +96,7 @@ module _ (program : ProgramTree) (typed : IsWellTyped program) where
     pub there : slice_get section.functions number ≡ Some item
     pub entered : entry_in program c entry ≡ Some number
 
-  leads_by : (c : ℕ) (entry : Entry) (proto : Proto) → proto_of interface_fitting c entry ≡ Some proto →
+  leads_by : (c : ℕ) (entry : Entry) (proto : Proto) → proto_of interfaces c entry ≡ Some proto →
       (section : TypedSection) → slice_get program.sections c ≡ Some section →
       list_any {X = TypedFunction} (λ f. bytes_eq f.name proto.name) section.functions ≡ true → Leads c entry proto
   leads_by c entry proto known section is any =
@@ -112,9 +112,9 @@ module _ (program : ProgramTree) (typed : IsWellTyped program) where
       }
 
   -- a known entry leads to a function
-  pub leads : (c : ℕ) (entry : Entry) (proto : Proto) → proto_of interface_fitting c entry ≡ Some proto →
+  pub leads : (c : ℕ) (entry : Entry) (proto : Proto) → proto_of interfaces c entry ≡ Some proto →
       Leads c entry proto
-  leads c Main proto known = by (c == interface_fitting.main) refl known where
+  leads c Main proto known = by (c == interfaces.main) refl known where
     at_main : (o : Option TypedSection) → slice_get program.sections c ≡ o → main_fits o ≡ true →
         main_name ≡ proto.name → Leads c Main proto
     at_main None is fits same = absurd (false≢true fits)
@@ -124,12 +124,12 @@ module _ (program : ProgramTree) (typed : IsWellTyped program) where
         (any_along {A = TypedFunction} (λ f. is_main f && same_signature (signature_of f) main_signature) is_main
         (λ f k. and_first (is_main f) _ k) section.functions fits))
 
-    by : (b : Bool) → (c == interface_fitting.main) ≡ b → (if b then Some main_proto else None) ≡ Some proto →
+    by : (b : Bool) → (c == interfaces.main) ≡ b → (if b then Some main_proto else None) ≡ Some proto →
         Leads c Main proto
     by true is h =
         let same : main_proto ≡ proto = cc in
         at_main (slice_get program.sections c) refl
-        (subst (λ n. main_fits (slice_get program.sections n) ≡ true) (sym (eqb-true c interface_fitting.main is))
+        (subst (λ n. main_fits (slice_get program.sections n) ≡ true) (sym (eqb-true c interfaces.main is))
         (main_so program typed))
         (ap named same)
     by false is h = absurd (cc)
@@ -141,21 +141,21 @@ module _ (program : ProgramTree) (typed : IsWellTyped program) where
       (λ f. bytes_eq f.name proto.name) (λ f k. and_first (bytes_eq f.name proto.name) _ k) e.section.functions e.named)
 
   -- NAMES OF ENTRIES DIFFER
-  main_is : (c : ℕ) (proto : Proto) → proto_of interface_fitting c Main ≡ Some proto → proto.name ≡ main_name
-  main_is c proto known = by (c == interface_fitting.main) known where
+  main_is : (c : ℕ) (proto : Proto) → proto_of interfaces c Main ≡ Some proto → proto.name ≡ main_name
+  main_is c proto known = by (c == interfaces.main) known where
     by : (b : Bool) → (if b then Some main_proto else None) ≡ Some proto → proto.name ≡ main_name
     by true h = let same : main_proto ≡ proto = cc in sym (ap named same)
     by false h = absurd (cc)
 
-  no_main : (c index : ℕ) (proto : Proto) → export_at interface_fitting c index ≡ Some proto → proto.name ≡ main_name →
+  no_main : (c index : ℕ) (proto : Proto) → export_at interfaces c index ≡ Some proto → proto.name ≡ main_name →
       ⊥
   no_main c index proto known same =
       let e = exported program typed c index proto known in
       false≢true (sym (ap not (subst (λ name. bytes_eq proto.name name ≡ true) same (bytes_eq_self proto.name))) ∙
       and_first (not (bytes_eq proto.name main_name)) _ (and_rest (is_plain_name proto.name) _ e.fits))
 
-  pub one_entry : (c : ℕ) (entry other : Entry) (p q : Proto) → proto_of interface_fitting c entry ≡ Some p →
-      proto_of interface_fitting c other ≡ Some q → p.name ≡ q.name → other ≡ entry
+  pub one_entry : (c : ℕ) (entry other : Entry) (p q : Proto) → proto_of interfaces c entry ≡ Some p →
+      proto_of interfaces c other ≡ Some q → p.name ≡ q.name → other ≡ entry
   one_entry c Main Main p q is js same = refl
   one_entry c Main (Export j) p q is js same = absurd (no_main c j q js (sym same ∙ main_is c p is))
   one_entry c (Export i) Main p q is js same = absurd (no_main c i p is (same ∙ main_is c q js))
@@ -174,7 +174,7 @@ module _ (program : ProgramTree) (typed : IsWellTyped program) where
     pub there : slice_get section.functions number ≡ Some item
     pub name : item.name ≡ proto.name
 
-  called_so : (c number : ℕ) (entry : Entry) (proto : Proto) → proto_of interface_fitting c entry ≡ Some proto →
+  called_so : (c number : ℕ) (entry : Entry) (proto : Proto) → proto_of interfaces c entry ≡ Some proto →
       entry_in program c entry ≡ Some number → Called c number proto
   called_so c number entry proto known is =
       by (slice_get program.sections c) refl (sym (entry_named program c entry proto known) ∙ is) where
@@ -194,12 +194,12 @@ module _ (program : ProgramTree) (typed : IsWellTyped program) where
 
   -- no other entry leads to the same function
   pub apart : (c : ℕ) (entry other : Entry) (number : ℕ) → entry_in program c entry ≡ Some number →
-      IsSome (proto_of interface_fitting c entry) → IsSome (proto_of interface_fitting c other) → (other ≡ entry → ⊥) →
+      IsSome (proto_of interfaces c entry) → IsSome (proto_of interfaces c other) → (other ≡ entry → ⊥) →
       is_number number (entry_in program c other) ≡ false
   apart c entry other number is known known' ne =
-      by_protos (proto_of interface_fitting c entry) refl known (proto_of interface_fitting c other) refl known' where
-        by_number : (p q : Proto) → proto_of interface_fitting c entry ≡ Some p →
-            proto_of interface_fitting c other ≡ Some q →
+      by_protos (proto_of interfaces c entry) refl known (proto_of interfaces c other) refl known' where
+        by_number : (p q : Proto) → proto_of interfaces c entry ≡ Some p →
+            proto_of interfaces c other ≡ Some q →
             (o : Option ℕ) → entry_in program c other ≡ o → is_number number o ≡ false
         by_number p q ps qs None js = refl
         by_number p q ps qs (Some n) js =
@@ -212,8 +212,8 @@ module _ (program : ProgramTree) (typed : IsWellTyped program) where
             let item : a.item ≡ b.item = cc (a.there, there, same) in
             one_entry c entry other p q ps qs (sym a.name ∙ ap name_of item ∙ b.name)))
 
-        by_protos : (o : Option Proto) → proto_of interface_fitting c entry ≡ o → IsSome o → (o' : Option Proto) →
-            proto_of interface_fitting c other ≡ o' → IsSome o' → is_number number (entry_in program c other) ≡ false
+        by_protos : (o : Option Proto) → proto_of interfaces c entry ≡ o → IsSome o → (o' : Option Proto) →
+            proto_of interfaces c other ≡ o' → IsSome o' → is_number number (entry_in program c other) ≡ false
         by_protos None ps some o' qs some' = absurd (false≢true some)
         by_protos (Some p) ps some None qs some' = absurd (false≢true some')
         by_protos (Some p) ps some (Some q) qs some' = by_number p q ps qs (entry_in program c other) refl

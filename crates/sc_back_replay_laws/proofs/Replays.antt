@@ -29,19 +29,19 @@ counter_block structs counter is =
     ap (λ type. core.global_block (struct_zeros [] structs) (record counter { ty = type })) is.word ∙
     ap (λ init. core.global_block (struct_zeros [] structs) (record counter { ty = ty.Unsigned; init = init })) is.zero
 
-first_blocks_are : (interface_fitting : Interfaces) (c : ℕ) (rows : List Row) (section : TypedSection) →
-    IsReplaced interface_fitting c rows section → first_blocks (Some section) ≡ counting 0 ∷ []
-first_blocks_are interface_fitting c rows section is =
+first_blocks_are : (interfaces : Interfaces) (c : ℕ) (rows : List Row) (section : TypedSection) →
+    IsReplaced interfaces c rows section → first_blocks (Some section) ≡ counting 0 ∷ []
+first_blocks_are interfaces c rows section is =
     ap (map (global_block (struct_zeros [] section.structs))) is.globals ∙
     ap (λ block. block ∷ []) (counter_block section.structs is.counter is.counts)
 
 module _ (program other : ProgramTree) (set : ℕ → Bool) (trace : List Event)
     (replay : IsReplay program other set trace) where
-  abbrev interface_fitting : Interfaces
-  interface_fitting = program.interfaces
+  abbrev interfaces : Interfaces
+  interfaces = program.interfaces
 
   abbrev roles : Roles
-  roles = roles_in interface_fitting.main set trace
+  roles = roles_in interfaces.main set trace
 
   abbrev L : Denotations
   L = denotations_of c_arith program
@@ -57,39 +57,39 @@ module _ (program other : ProgramTree) (set : ℕ → Bool) (trace : List Event)
   kept_functions c clear =
       functions_are c_arith other c ∙
       ap (λ i. option_map_or (functions_in c_arith i.main) (slice_get other.sections c) []) r.interfaces ∙
-      ap (λ o. option_map_or (functions_in c_arith interface_fitting.main) o []) (r.kept c clear) ∙
+      ap (λ o. option_map_or (functions_in c_arith interfaces.main) o []) (r.kept c clear) ∙
       sym (functions_are c_arith program c)
 
   kept_entries : (c : ℕ) (entry : Entry) → set c ≡ false → M.entered c entry ≡ L.entered c entry
   kept_entries c Main clear = ap (place_named main_name) (r.kept c clear)
   kept_entries c (Export index) clear =
       ap (λ i. place_of_export (export_at i c index) (slice_get other.sections c)) r.interfaces ∙
-      ap (place_of_export (export_at interface_fitting c index)) (r.kept c clear)
+      ap (place_of_export (export_at interfaces c index)) (r.kept c clear)
 
   -- what performs
   does_text : (structs : List TypedStruct) (f : TypedFunction) → f.locals ≡ [] → (c : ℕ) (by : Calls) (first : ℕ)
       (s : State) →
-      (function_of c_arith interface_fitting.main structs f).does by (at c first) s ≡
+      (function_of c_arith interfaces.main structs f).does by (at c first) s ≡
       and_then (block_does c_arith structs (at c first) (length f.params) by f.body tt s)
-      (λ left s. closed left.exit (is_some f.result) (c == interface_fitting.main && bytes_eq f.name main_name)
+      (λ left s. closed left.exit (is_some f.result) (c == interfaces.main && bytes_eq f.name main_name)
       f.close_line
       (at c first) s)
   does_text structs f locals c by first s =
       ap (λ ls. and_then (follow in_order
       (all_do (inits_do c_arith structs (at c first) (length f.params) 0 ls) tt s)
       (block_does c_arith structs (at c first) (length f.params) by f.body))
-      (λ left s. closed left.exit (is_some f.result) (c == interface_fitting.main && bytes_eq f.name main_name)
+      (λ left s. closed left.exit (is_some f.result) (c == interfaces.main && bytes_eq f.name main_name)
       f.close_line
       (at c first) s)) locals
 
-  performed_by : (c : ℕ) (entry : Entry) (proto : Proto) → proto_of interface_fitting c entry ≡ Some proto →
+  performed_by : (c : ℕ) (entry : Entry) (proto : Proto) → proto_of interfaces c entry ≡ Some proto →
       (section : TypedSection) → slice_get other.sections c ≡ Some section →
-      Performs interface_fitting entry proto (part interface_fitting.main c trace) section → Performed roles L M c entry
+      Performs interfaces entry proto (part interfaces.main c trace) section → Performed roles L M c entry
   performed_by c entry proto known section is p =
       let own : Leads program replay.typed c entry proto = entries.leads program replay.typed c entry proto known in
       record {
         number = own.number;
-        f = function_of c_arith interface_fitting.main own.section.structs own.item;
+        f = function_of c_arith interfaces.main own.section.structs own.item;
         entered = own.entered;
         there = function_is c_arith program c own.number own.section own.item own.is own.there;
         number' = p.number;
@@ -97,7 +97,7 @@ module _ (program other : ProgramTree) (set : ℕ → Bool) (trace : List Event)
             (subst (λ i. proto_of i c entry ≡ Some proto) (sym r.interfaces) known) ∙
             ap (place_named proto.name) is ∙ p.named;
         performer = record {
-          item = function_of c_arith interface_fitting.main section.structs p.function;
+          item = function_of c_arith interfaces.main section.structs p.function;
           is = function_is c_arith other c p.number section p.function is p.is ∙
               ap (λ i. Some (function_of c_arith i.main section.structs p.function)) r.interfaces;
           structs = section.structs;
@@ -106,28 +106,28 @@ module _ (program other : ProgramTree) (set : ℕ → Bool) (trace : List Event)
           stmts = p.function.body;
           text = p.body;
           close = λ first left s. closed left.exit (is_some p.function.result)
-              (c == interface_fitting.main && bytes_eq p.function.name main_name) p.function.close_line (at c first) s;
+              (c == interfaces.main && bytes_eq p.function.name main_name) p.function.close_line (at c first) s;
           closes = λ first v s. refl;
           does = does_text section.structs p.function p.locals c;
         };
       }
 
-  performed : (c : ℕ) (entry : Entry) → set c ≡ true → IsSome (proto_of interface_fitting c entry) →
+  performed : (c : ℕ) (entry : Entry) → set c ≡ true → IsSome (proto_of interfaces c entry) →
       Performed roles L M c entry
-  performed c entry performs known = by (proto_of interface_fitting c entry) refl known where
-    replaced : HasReplaced interface_fitting c (part interface_fitting.main c trace) (slice_get other.sections c)
+  performed c entry performs known = by (proto_of interfaces c entry) refl known where
+    replaced : HasReplaced interfaces c (part interfaces.main c trace) (slice_get other.sections c)
     replaced = r.replaced c performs
 
-    by : (o : Option Proto) → proto_of interface_fitting c entry ≡ o → IsSome o → Performed roles L M c entry
+    by : (o : Option Proto) → proto_of interfaces c entry ≡ o → IsSome o → Performed roles L M c entry
     by None is some = absurd (false≢true some)
     by (Some proto) is some =
         performed_by c entry proto is replaced.section replaced.is (replaced.replaced.functions entry proto is)
 
   -- exports lead to functions
-  leads_so : (to index : ℕ) → IsSome (export_at interface_fitting to index) →
+  leads_so : (to index : ℕ) → IsSome (export_at interfaces to index) →
       leads L to (L.entered to (Export index)) ≡ true
-  leads_so to index known = by (export_at interface_fitting to index) refl known where
-    by : (o : Option Proto) → export_at interface_fitting to index ≡ o → IsSome o →
+  leads_so to index known = by (export_at interfaces to index) refl known where
+    by : (o : Option Proto) → export_at interfaces to index ≡ o → IsSome o →
         leads L to (L.entered to (Export index)) ≡ true
     by None is some = absurd (false≢true some)
     by (Some proto) is some =
@@ -156,7 +156,7 @@ module _ (program other : ProgramTree) (set : ℕ → Bool) (trace : List Event)
       let replaced = r.replaced c performs in (
         [],
         ap first_blocks replaced.is ∙
-            first_blocks_are interface_fitting c (part interface_fitting.main c trace) replaced.section
+            first_blocks_are interfaces c (part interfaces.main c trace) replaced.section
             replaced.replaced,
       )
 

@@ -26,47 +26,47 @@ suits (param ∷ params) (word ∷ words) same small = (small.0, suits params wo
 module _ (L : Denotations)
     (leads_so : (to index : ℕ) → IsSome (export_at L.interfaces to index) →
     leads L to (L.entered to (Export index)) ≡ true) where
-  abbrev interface_fitting : Interfaces
-  interface_fitting = L.interfaces
+  abbrev interfaces : Interfaces
+  interfaces = L.interfaces
 
   taken_suits : (to index : ℕ) (words : List ℕ) → AllByRecursion IsWord words →
-      takes interface_fitting to index (length words) ≡ true →
-      IsSome (export_at interface_fitting to index) × Suit (params_at interface_fitting to index) words
-  taken_suits to index words small = by (export_at interface_fitting to index) where
+      takes interfaces to index (length words) ≡ true →
+      IsSome (export_at interfaces to index) × Suit (params_at interfaces to index) words
+  taken_suits to index words small = by (export_at interfaces to index) where
     by : (o : Option Proto) → option_map_or (λ found. length found.params == length words) o false ≡ true →
         IsSome o × Suit (option_map_or (λ proto. proto.params) o []) words
     by None h = absurd (false≢true h)
     by (Some proto) h = (refl, suits proto.params words (eqb-true (length proto.params) (length words) h) small)
 
   call_may : (from to index : ℕ) (words : List ℕ) → AllByRecursion IsWord words →
-      (imports interface_fitting from (is_function to index) && takes interface_fitting to index (length words)) ≡
+      (imports interfaces from (is_function to index) && takes interfaces to index (length words)) ≡
       true →
-      (may_call L from (Cross to index) (map (λ w. Word w) words) ≡ true) × Suit (params_at interface_fitting to index)
+      (may_call L from (Cross to index) (map (λ w. Word w) words) ≡ true) × Suit (params_at interfaces to index)
       words
   call_may from to index words small h =
-      let parts = and_parts (imports interface_fitting from (is_function to index))
-      (takes interface_fitting to index (length words)) h in
+      let parts = and_parts (imports interfaces from (is_function to index))
+      (takes interfaces to index (length words)) h in
       let suit = taken_suits to index words small parts.1 in (
-        and_from (imports interface_fitting from (is_function to index)) _ parts.0
-            (and_from (takes interface_fitting to index (length (map (λ w. Word w) words))) _
-            (ap (takes interface_fitting to index) (length-map words (λ w. Word w)) ∙ parts.1)
+        and_from (imports interfaces from (is_function to index)) _ parts.0
+            (and_from (takes interfaces to index (length (map (λ w. Word w) words))) _
+            (ap (takes interfaces to index) (length-map words (λ w. Word w)) ∙ parts.1)
             (and_from (list_all is_word (map (λ w. Word w) words)) _ (words_are words) (leads_so to index suit.0))),
         suit.1,
       )
 
-  may_act : (at : Standing) (event : Event) → may_perform interface_fitting at event ≡ true → HasWords event →
+  may_act : (at : Standing) (event : Event) → may_perform interfaces at event ≡ true → HasWords event →
       MayAct L (performer event) (action_of event)
   may_act at (Call from to index args) may words =
       call_may from to index args (recursion_from_All IsWord args words) may
   may_act at (Ret from to None) may words = tt
   may_act at (Ret from to (Some value)) may words = words
-  may_act at (Out comp value) may words = (and_from (imports interface_fitting comp is_output) true may refl, words)
+  may_act at (Out comp value) may words = (and_from (imports interfaces comp is_output) true may refl, words)
   may_act at (In comp value) may words = may
   may_act at (End comp value) may words = words
 
   -- ENTRIES of functions that were entered
   abbrev IsEntered : Activation → Type 0
-  IsEntered a = IsSome (proto_of interface_fitting a.comp a.entry)
+  IsEntered a = IsSome (proto_of interfaces a.comp a.entry)
 
   record AreEntered (at : Standing) : Type 0 where
     pub active : IsEntered at.active
@@ -76,12 +76,12 @@ module _ (L : Denotations)
   StandsEntered None = Unit {0}
   StandsEntered (Some at) = AreEntered at
 
-  entered_after : (at : Standing) (event : Event) → may_perform interface_fitting at event ≡ true → HasWords event →
+  entered_after : (at : Standing) (event : Event) → may_perform interfaces at event ≡ true → HasWords event →
       AreEntered at → StandsEntered (stands_after at event)
   entered_after at (Call from to index args) may words known =
       record {
         active = (taken_suits to index args (recursion_from_All IsWord args words) (and_parts
-            (imports interface_fitting from (is_function to index)) (takes interface_fitting to index (length args))
+            (imports interfaces from (is_function to index)) (takes interfaces to index (length args))
             may).1).0;
         waiting = (known.active, known.waiting);
       }
@@ -95,14 +95,14 @@ module _ (L : Denotations)
 
   -- ROWS
   fair_from : (c number : ℕ) (at : Option Standing) (trace : List Event) → StandsEntered at →
-      is_legal_from interface_fitting at trace ≡ true → AllByRecursion HasWords trace →
+      is_legal_from interfaces at trace ≡ true → AllByRecursion HasWords trace →
       Fair L c number (rows_from c number at trace)
   fair_from c number at [] known is words = tt
   fair_from c number None (event ∷ later) known is words = tt
   fair_from c number (Some at) (event ∷ later) known is words =
-      let parts = and_parts (is_allowed interface_fitting at event)
-      (is_legal_from interface_fitting (stands_after at event) later) is in
-      let allowed = and_parts (performer event == at.active.comp) (may_perform interface_fitting at event) parts.0 in
+      let parts = and_parts (is_allowed interfaces at event)
+      (is_legal_from interfaces (stands_after at event) later) is in
+      let allowed = and_parts (performer event == at.active.comp) (may_perform interfaces at event) parts.0 in
       let next = entered_after at event allowed.1 words.0 known in
       by (eqb-true (performer event) at.active.comp allowed.0) (may_act at event allowed.1 words.0)
       (performer event == c) refl
@@ -122,7 +122,7 @@ module _ (L : Denotations)
             let same : performer event ≡ c = eqb-true (performer event) c is in (
               record {
                 numbered = refl;
-                known = subst (λ n. IsSome (proto_of interface_fitting n at.active.entry)) (sym own ∙ same)
+                known = subst (λ n. IsSome (proto_of interfaces n at.active.entry)) (sym own ∙ same)
                     known.active;
                 may = subst (λ n. MayAct L n (action_of event)) same may;
               },
@@ -130,11 +130,11 @@ module _ (L : Denotations)
             )
         by own may false is more less = less
 
-  pub part_fair : (c : ℕ) (trace : List Event) → legal interface_fitting trace ≡ true → All HasWords trace →
-      Fair L c 0 (part interface_fitting.main c trace)
+  pub part_fair : (c : ℕ) (trace : List Event) → legal interfaces trace ≡ true → All HasWords trace →
+      Fair L c 0 (part interfaces.main c trace)
   part_fair c trace is words =
-      fair_from c 0 (at_start interface_fitting.main) trace (record {
+      fair_from c 0 (at_start interfaces.main) trace (record {
         active = ap (λ b. is_some (if b then Some main_proto else None))
-            (eq-eqb interface_fitting.main interface_fitting.main refl);
+            (eq-eqb interfaces.main interfaces.main refl);
         waiting = tt;
       }) is (recursion_from_All HasWords trace words)

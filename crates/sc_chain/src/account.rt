@@ -85,7 +85,8 @@ fn run_image(
 ) -> Result<MachineRun, OutOfMemory>
     ensures trace { IfOk result (λ observed. observed.trace ≡
         (machine image (map word_of inputs.now) steps events).state.trace) }
-    ensures stop { IfOk result (λ observed. observed.stop ≡ (machine image (map word_of inputs.now) steps events).stop) }
+    ensures stop { IfOk result (λ observed. observed.stop ≡
+        (machine image (map word_of inputs.now) steps events).stop) }
     ensures few { IfOk result (λ observed. length observed.trace ≤ events) }
 {
     // An image is well formed.

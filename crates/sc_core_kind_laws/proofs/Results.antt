@@ -210,16 +210,16 @@ module _ (arith : Arith) (program : ProgramTree) (typed : is_well_typed program 
   abbrev L : Denotations
   L = denotations_of arith program
 
-  abbrev interface_fitting : Interfaces
-  interface_fitting = program.interfaces
+  abbrev interfaces : Interfaces
+  interfaces = program.interfaces
 
   -- DENOTED FUNCTIONS
   denoted_function : (comp : ℕ) (section : TypedSection) → slice_get program.sections comp ≡ Some section → (n : ℕ) →
-      function L comp n ≡ option_map (function_of arith interface_fitting.main section.structs)
+      function L comp n ≡ option_map (function_of arith interfaces.main section.structs)
       (slice_get section.functions n)
   denoted_function comp section is n =
-      ap (λ fs. slice_get fs n) (index_map (functions_in arith interface_fitting.main) program.sections comp section is)
-      ∙ slice_get-map (function_of arith interface_fitting.main section.structs) section.functions n
+      ap (λ fs. slice_get fs n) (index_map (functions_in arith interfaces.main) program.sections comp section is)
+      ∙ slice_get-map (function_of arith interfaces.main section.structs) section.functions n
 
   -- a function with its section and its interface
   record Whole (comp n : ℕ) (f : TypedFunction) : Type 0 where
@@ -235,9 +235,9 @@ module _ (arith : Arith) (program : ProgramTree) (typed : is_well_typed program 
     by (Some section) is h = record { section = section; is = is; item = h }
 
   function_is : (comp n : ℕ) (f : TypedFunction) (w : Whole comp n f) →
-      function L comp n ≡ Some (function_of arith interface_fitting.main w.section.structs f)
+      function L comp n ≡ Some (function_of arith interfaces.main w.section.structs f)
   function_is comp n f w = denoted_function comp w.section w.is n ∙
-      ap (option_map (function_of arith interface_fitting.main w.section.structs)) w.item
+      ap (option_map (function_of arith interfaces.main w.section.structs)) w.item
 
   -- what functions that don't perform do, if it returns, returns a value of the result's kind
   abbrev BodyGood : Body → Type 0
@@ -246,7 +246,7 @@ module _ (arith : Arith) (program : ProgramTree) (typed : is_well_typed program 
       function_at program here.comp number ≡ Some f → (s : State) →
       Lasting (λ v. returns_kind f.result v ≡ true) (body number here s)
 
-  leads_so : (to index : ℕ) (proto : Proto) → export_at interface_fitting to index ≡ Some proto →
+  leads_so : (to index : ℕ) (proto : Proto) → export_at interfaces to index ≡ Some proto →
       leads L to (entry_in program to (Export index)) ≡ true
   leads_so to index proto h =
       let at = exported program typed to index proto h in
@@ -256,23 +256,24 @@ module _ (arith : Arith) (program : ProgramTree) (typed : is_well_typed program 
       let first = first_of {A = TypedFunction} (λ f. bytes_eq f.name proto.name) at.section.functions any in
       let entry : entry_in program to (Export index) ≡ Some first.number =
       (λ i. place_of_export (h i) (at.is i)) ∙ first.found in
-      let there : function L to first.number ≡ Some (function_of arith interface_fitting.main at.section.structs first.item) =
+      let there : function L to first.number ≡
+      Some (function_of arith interfaces.main at.section.structs first.item) =
       denoted_function to at.section at.is first.number ∙
-      ap (option_map (function_of arith interface_fitting.main at.section.structs)) first.is in
+      ap (option_map (function_of arith interfaces.main at.section.structs)) first.is in
       ap (leads L to) entry ∙ ap is_some there
 
   module _ (body : Body) (good : BodyGood body) (comp : ℕ) (plain : roles.scripted comp ≡ false)
       (section : TypedSection) (is : slice_get program.sections comp ≡ Some section) where
-    place : ForSection interface_fitting interface_fitting.comps comp section
-    place = for_section interface_fitting 0 interface_fitting.comps program.sections (sections_so program typed) comp
+    place : ForSection interfaces interfaces.comps comp section
+    place = for_section interfaces 0 interfaces.comps program.sections (sections_so program typed) comp
         section is
 
     abbrev callable : Callable
-    callable = callable_in interface_fitting place.interface section
+    callable = callable_in interfaces place.interface section
 
     -- an import of the compartment
     imports_so : (p q : Import → Bool) → ((x : Import) → p x ≡ true → q x ≡ true) →
-        list_any p place.interface.imports ≡ true → imports interface_fitting comp q ≡ true
+        list_any p place.interface.imports ≡ true → imports interfaces comp q ≡ true
     imports_so p q on h =
         ap (λ (o : Option Interface). list_any q (option_map_or (λ found. found.imports) o [])) place.is ∙
         any_along p q on place.interface.imports h
@@ -288,9 +289,9 @@ module _ (arith : Arith) (program : ProgramTree) (typed : is_well_typed program 
         let f = map_of signature_of (slice_get section.functions n) signature
         (sym (slice_get-map signature_of section.functions n) ∙ h) in
         let at : function_at program comp n ≡ Some f.item = ap (λ o. slice_get (section_functions o) n) is ∙ f.is in
-        let there : function L comp n ≡ Some (function_of arith interface_fitting.main section.structs f.item) =
+        let there : function L comp n ≡ Some (function_of arith interfaces.main section.structs f.item) =
         denoted_function comp section is n ∙
-        ap (option_map (function_of arith interface_fitting.main section.structs)) f.is in
+        ap (option_map (function_of arith interfaces.main section.structs)) f.is in
         record {
           may = ap is_some there;
           comes = lasting_then Any (λ v. returns_kind signature.result v ≡ true) (turn s)
@@ -312,22 +313,22 @@ module _ (arith : Arith) (program : ProgramTree) (typed : is_well_typed program 
         Good (Cross to index) signature args s
     cross_good to index signature h args kinds s =
         let test = allowed_so (list_any (same_import (import.Function to index)) place.interface.imports)
-        (option_signature proto_signature (export_at interface_fitting to index)) signature h in
-        let proto = signature_made proto_signature (export_at interface_fitting to index) signature test.is in
+        (option_signature proto_signature (export_at interfaces to index)) signature h in
+        let proto = signature_made proto_signature (export_at interfaces to index) signature test.is in
         let own : have_kinds (map scalar_ty proto.item.params) args ≡ true =
         subst (λ x. have_kinds x.params args ≡ true) (sym proto.gives) kinds in
         let count : length proto.item.params ≡ length args =
         sym (length-map proto.item.params scalar_ty) ∙ kinds_length (map scalar_ty proto.item.params) args own in
         let back : (v : Option Value) → returns_kind signature.result
-        (option_value (crossing (export_at interface_fitting to index) v)) ≡ true =
-        λ v. subst (λ x. returns_kind x.result (option_value (crossing (export_at interface_fitting to index) v)) ≡
+        (option_value (crossing (export_at interfaces to index) v)) ≡ true =
+        λ v. subst (λ x. returns_kind x.result (option_value (crossing (export_at interfaces to index) v)) ≡
         true) proto.gives (subst (λ o. returns_kind (result_ty proto.item.result) (option_value (crossing o v)) ≡
         true) (sym proto.is) (crossed_kind proto.item.result v)) in
         record {
-          may = and_from (imports interface_fitting comp (is_function to index)) _
+          may = and_from (imports interfaces comp (is_function to index)) _
               (imports_so (same_import (import.Function to index)) (is_function to index)
               (function_imported to index) test.test)
-              (and_from (takes interface_fitting to index (length args)) _
+              (and_from (takes interfaces to index (length args)) _
               (ap (λ (o : Option Proto). option_map_or (λ found. length found.params == length args) o false) proto.is ∙
               eq-eqb (length proto.item.params) (length args) count)
               (and_from (list_all is_word args) _ (words_of_kinds proto.item.params args own)
@@ -361,7 +362,7 @@ module _ (arith : Arith) (program : ProgramTree) (typed : is_well_typed program 
         (Some (record { params = ty.Int ∷ []; result = None })) signature h in
         let same : record { params = ty.Int ∷ []; result = None } ≡ signature = cc test.is in
         record {
-          may = and_from (imports interface_fitting comp is_output) _
+          may = and_from (imports interfaces comp is_output) _
               (imports_so (same_import import.Output) is_output output_imported test.test)
               (one_word args (subst (λ (x : Signature). have_kinds x.params args ≡ true) (sym same) kinds));
           comes = subst (λ (x : Signature). Lasting (λ v. returns_kind x.result v ≡ true)
@@ -385,21 +386,21 @@ module _ (arith : Arith) (program : ProgramTree) (typed : is_well_typed program 
 
     -- `main` of the main compartment is of type `int`
     main_int : (n : ℕ) (f : TypedFunction) → slice_get section.functions n ≡ Some f →
-        (comp == interface_fitting.main && bytes_eq f.name main_name) ≡ true →
+        (comp == interfaces.main && bytes_eq f.name main_name) ≡ true →
         returns_kind f.result (Some (Word 0)) ≡ true
     main_int n f item h =
-        let here : comp ≡ interface_fitting.main =
-        eqb-true comp interface_fitting.main (and_first (comp == interface_fitting.main) _ h) in
-        let own : slice_get program.sections interface_fitting.main ≡ Some section =
+        let here : comp ≡ interfaces.main =
+        eqb-true comp interfaces.main (and_first (comp == interfaces.main) _ h) in
+        let own : slice_get program.sections interfaces.main ≡ Some section =
         subst (λ c. slice_get program.sections c ≡ Some section) here is in
         let any : main_fits (Some section) ≡ true = subst (λ o. main_fits o ≡ true) own (main_so program typed) in
-        let names = are_distinct (map (import_name interface_fitting) place.interface.imports ++
+        let names = are_distinct (map (import_name interfaces) place.interface.imports ++
         map {A = TypedFunction} (λ f. f.name) section.functions) in
-        let distinct = own_names_differ (map (import_name interface_fitting) place.interface.imports) section.functions
+        let distinct = own_names_differ (map (import_name interfaces) place.interface.imports) section.functions
         (and_first names _ place.placed.interface_fitting) in
         let signature = named_so main_name (λ f. same_signature (signature_of f)
         (record { params = []; result = Some ty.Int })) section.functions distinct any n f item
-        (and_rest (comp == interface_fitting.main) _ h) in
+        (and_rest (comp == interfaces.main) _ h) in
         int_returned f.result (and_rest (same_types (signature_of f).params []) _ signature)
 
     function_body : (n : ℕ) (f : TypedFunction) → slice_get section.functions n ≡ Some f →
@@ -416,9 +417,9 @@ module _ (arith : Arith) (program : ProgramTree) (typed : is_well_typed program 
         (and_rest (nat_le (length f.params) most_params) _ fits))))
 
     does_same : (n : ℕ) (f : TypedFunction) → slice_get section.functions n ≡ Some f → (first : ℕ) (s : State) →
-        Same (λ v. returns_kind f.result v ≡ true) ((function_of arith interface_fitting.main section.structs f).does
+        Same (λ v. returns_kind f.result v ≡ true) ((function_of arith interfaces.main section.structs f).does
         (calls L body) (record { comp = comp; first = first }) s)
-        ((function_of arith interface_fitting.main section.structs f).does (called L body)
+        ((function_of arith interfaces.main section.structs f).does (called L body)
         (record { comp = comp; first = first }) s)
     does_same n f item first s =
         let here : Here = record { comp = comp; first = first } in
@@ -426,13 +427,13 @@ module _ (arith : Arith) (program : ProgramTree) (typed : is_well_typed program 
         (body_does arith section.structs here (length f.params) (calls L body) f tt s)
         (body_does arith section.structs here (length f.params) (called L body) f tt s)
         (λ left s. closed left.exit (is_some f.result)
-        (comp == interface_fitting.main && bytes_eq f.name main_name) f.close_line here s)
+        (comp == interfaces.main && bytes_eq f.name main_name) f.close_line here s)
         (λ left s. closed left.exit (is_some f.result)
-        (comp == interface_fitting.main && bytes_eq f.name main_name) f.close_line here s)
+        (comp == interfaces.main && bytes_eq f.name main_name) f.close_line here s)
         (body_same arith section.structs here (length f.params) (scope_of section f) callable f.result
         (calls L body) (called L body) calls_fit f (function_body n f item) tt s) (λ left ok t.
         closed_same arith section.structs here (length f.params) (scope_of section f) callable f.result (calls L body)
-        (called L body) calls_fit left.exit (comp == interface_fitting.main && bytes_eq f.name main_name) f.close_line t
+        (called L body) calls_fit left.exit (comp == interfaces.main && bytes_eq f.name main_name) f.close_line t
         ok
         (main_int n f item))
 
@@ -442,9 +443,9 @@ module _ (arith : Arith) (program : ProgramTree) (typed : is_well_typed program 
       lasting_then (λ g. function L here.comp number ≡ Some g) (λ v. returns_kind f.result v ≡ true)
       (found (function L here.comp number) s) (λ g s. g.does (calls L body) here s)
       (found_lasting (function L here.comp number) s) (λ g is t.
-      let two : Some (function_of arith interface_fitting.main w.section.structs f) ≡ Some g =
+      let two : Some (function_of arith interfaces.main w.section.structs f) ≡ Some g =
       sym (function_is here.comp number f w) ∙ is in
-      let same : function_of arith interface_fitting.main w.section.structs f ≡ g = cc two in
+      let same : function_of arith interfaces.main w.section.structs f ≡ g = cc two in
       subst (λ (x : Function). Lasting (λ v. returns_kind f.result v ≡ true) (x.does (calls L body) here t)) same
       (does_same body good here.comp plain w.section w.is number f w.item here.first t).good)
 
@@ -468,10 +469,10 @@ module _ (arith : Arith) (program : ProgramTree) (typed : is_well_typed program 
     pub is : slice_get program.sections comp ≡ Some section
     pub f : TypedFunction
     pub item : slice_get section.functions n ≡ Some f
-    pub same : function_of arith interface_fitting.main section.structs f ≡ g
+    pub same : function_of arith interfaces.main section.structs f ≡ g
 
   no_functions : (sections : List TypedSection) (comp : ℕ) → slice_get sections comp ≡ None →
-      slice_index_or (map (functions_in arith interface_fitting.main) sections) comp [] ≡ []
+      slice_index_or (map (functions_in arith interfaces.main) sections) comp [] ≡ []
   no_functions [] comp h = refl
   no_functions (x ∷ xs) zero h = absurd (cc)
   no_functions (x ∷ xs) (suc comp) h = no_functions xs comp h
@@ -483,7 +484,7 @@ module _ (arith : Arith) (program : ProgramTree) (typed : is_well_typed program 
         let none : ◌≡◌ {A = Option Function} None (Some g) =
         sym (ap (λ fs. slice_get fs n) (no_functions program.sections comp is)) ∙ h in absurd (cc none)
     by (Some section) is =
-        let made = map_of (function_of arith interface_fitting.main section.structs) (slice_get section.functions n) g
+        let made = map_of (function_of arith interfaces.main section.structs) (slice_get section.functions n) g
         (sym (denoted_function comp section is n) ∙ h) in
         record { section = section; is = is; f = made.item; item = made.is; same = made.gives }
 
@@ -504,7 +505,7 @@ module _ (arith : Arith) (program : ProgramTree) (typed : is_well_typed program 
       (within_good n number here f plain h s)
 
   pub crosses_itself : (n index number : ℕ) (here : Here) (proto : Proto) → roles.scripted here.comp ≡ false →
-      export_at interface_fitting here.comp index ≡ Some proto →
+      export_at interfaces here.comp index ≡ Some proto →
       entry_in program here.comp (Export index) ≡ Some number →
       (s t : State) (v : Option Value) → its_bodies n number here s ≡ Reached v t →
       option_value (crossing (Some proto) v) ≡ v

@@ -192,33 +192,34 @@ main_not_called functions ps index name fits is = by (slice_get ps index) refl w
       refl
 
 module _ (program : ProgramTree) (typed : is_well_typed program ≡ true) where
-  abbrev interface_fitting : Interfaces
-  interface_fitting = program.interfaces
+  abbrev program_interfaces : Interfaces
+  program_interfaces = program.interfaces
 
   abbrev sections : List TypedSection
   sections = program.sections
 
   one_main : mains_in sections ≡ 1
   one_main =
-      eqb-true (mains_in sections) 1 (and_rest (main_fits (slice_get sections interface_fitting.main)) _
+      eqb-true (mains_in sections) 1 (and_rest (main_fits (slice_get sections program_interfaces.main)) _
       (mains_so program typed))
 
   -- a section that defines `main` is the main one
   pub main_there : (comp : ℕ) (section : TypedSection) → slice_get sections comp ≡ Some section →
-      list_any is_main section.functions ≡ true → comp ≡ interface_fitting.main
+      list_any is_main section.functions ≡ true → comp ≡ program_interfaces.main
   main_there comp section is h =
-      by (slice_get sections interface_fitting.main) refl (main_so program typed) where
-        by : (o : Option TypedSection) → slice_get sections interface_fitting.main ≡ o → main_fits o ≡ true →
-            comp ≡ interface_fitting.main
+      by (slice_get sections program_interfaces.main) refl (main_so program typed) where
+        by : (o : Option TypedSection) → slice_get sections program_interfaces.main ≡ o → main_fits o ≡ true →
+            comp ≡ program_interfaces.main
         by None at fits = absurd (false≢true fits)
         by (Some own) at fits =
-            mains_apart sections comp interface_fitting.main section own is h at
+            mains_apart sections comp program_interfaces.main section own is h at
             (any_along {A = TypedFunction} _ is_main
             (λ f k. and_first (is_main f) _ k) own.functions fits) one_main
 
   module _ (comp : ℕ) (section : TypedSection) (is : slice_get sections comp ≡ Some section) where
-    pub place : ForSection interface_fitting interface_fitting.comps comp section
-    place = for_section interface_fitting 0 interface_fitting.comps sections (sections_so program typed) comp section is
+    pub place : ForSection program_interfaces program_interfaces.comps comp section
+    place = for_section program_interfaces 0 program_interfaces.comps sections (sections_so program typed) comp section
+        is
 
     abbrev exports : List Proto
     exports = place.interface.exports
@@ -226,55 +227,55 @@ module _ (program : ProgramTree) (typed : is_well_typed program ≡ true) where
     pub export_names : are_distinct (map name_of exports) ≡ true
     export_names =
         and_first (are_distinct (map name_of exports))
-        _ (and_rest (are_distinct (map (import_name interface_fitting) place.interface.imports ++ map
+        _ (and_rest (are_distinct (map (import_name program_interfaces) place.interface.imports ++ map
         {A = TypedFunction}
         (λ f. f.name) section.functions)) _ place.placed.interface_fitting)
 
     pub exports_so : list_all (export_fits section.functions) exports ≡ true
     exports_so =
         and_first (list_all (export_fits section.functions) exports) _ (and_rest (are_distinct (map name_of exports))
-        _ (and_rest (are_distinct (map (import_name interface_fitting) place.interface.imports ++ map
+        _ (and_rest (are_distinct (map (import_name program_interfaces) place.interface.imports ++ map
         {A = TypedFunction}
         (λ f. f.name) section.functions)) _ place.placed.interface_fitting))
 
     -- a function is entered by an export exactly where it is called so
-    pub export_of : (index : ℕ) (name : List ℕ) → same_entry (Export index) (entry_of interface_fitting comp name)
-        ≡ called_so name (export_at interface_fitting comp index)
+    pub export_of : (index : ℕ) (name : List ℕ) → same_entry (Export index) (entry_of program_interfaces comp name)
+        ≡ called_so name (export_at program_interfaces comp index)
     export_of index name =
-        by (comp == interface_fitting.main && bytes_eq name main_name) refl
+        by (comp == program_interfaces.main && bytes_eq name main_name) refl
         ∙ sym (ap (λ (o : Option Interface). called_so name (option_and_then (λ found. slice_get found.exports index)
         o)) place.is) where
-          by : (b : Bool) → (comp == interface_fitting.main && bytes_eq name main_name) ≡ b →
-              same_entry (Export index) (if b then Some Main else export_called interface_fitting comp name)
+          by : (b : Bool) → (comp == program_interfaces.main && bytes_eq name main_name) ≡ b →
+              same_entry (Export index) (if b then Some Main else export_called program_interfaces comp name)
               ≡ called_so name (slice_get exports index)
           by true own =
               sym (main_not_called section.functions exports index name exports_so
-              (and_rest (comp == interface_fitting.main) _ own))
+              (and_rest (comp == program_interfaces.main) _ own))
           by false own =
               ap (λ (o : Option Interface). same_entry (Export index)
               (option_map Export (position {X = Proto} (λ proto. bytes_eq name proto.name) (exports_of o)))) place.is
               ∙ export_is name exports index export_names
 
     abbrev entered : Entry → TypedFunction → Bool
-    entered entry f = same_entry entry (entry_of interface_fitting comp f.name)
+    entered entry f = same_entry entry (entry_of program_interfaces comp f.name)
 
     main_placed : position (λ (f : TypedFunction). bytes_eq f.name main_name) section.functions
         ≡ position (entered Main) section.functions
-    main_placed = by (comp == interface_fitting.main) refl where
-      along : (b : Bool) → (comp == interface_fitting.main) ≡ b →
+    main_placed = by (comp == program_interfaces.main) refl where
+      along : (b : Bool) → (comp == program_interfaces.main) ≡ b →
           position (entered Main) section.functions ≡ position (λ (f : TypedFunction). b && bytes_eq f.name main_name)
           section.functions
       along b own =
-          ap (λ p. position p section.functions) (λ i f. (main_is interface_fitting comp f.name
+          ap (λ p. position p section.functions) (λ i f. (main_is program_interfaces comp f.name
           ∙ ap (λ b. b && bytes_eq f.name main_name) own) i)
 
-      nowhere : (b : Bool) → list_any is_main section.functions ≡ b → (comp == interface_fitting.main) ≡ false →
+      nowhere : (b : Bool) → list_any is_main section.functions ≡ b → (comp == program_interfaces.main) ≡ false →
           list_any is_main section.functions ≡ false
       nowhere true h other = absurd (false≢true
-          (sym other ∙ eq-eqb comp interface_fitting.main (main_there comp section is h)))
+          (sym other ∙ eq-eqb comp program_interfaces.main (main_there comp section is h)))
       nowhere false h other = h
 
-      by : (b : Bool) → (comp == interface_fitting.main) ≡ b →
+      by : (b : Bool) → (comp == program_interfaces.main) ≡ b →
           position (λ (f : TypedFunction). bytes_eq f.name main_name) section.functions ≡ position (entered Main)
           section.functions
       by true own = sym (along true own)
@@ -282,7 +283,7 @@ module _ (program : ProgramTree) (typed : is_well_typed program ≡ true) where
           position_never is_main section.functions (nowhere (list_any is_main section.functions) refl own)
           ∙ sym (along false own ∙ position_never (λ f. false) section.functions (never section.functions))
 
-    export_placed : (index : ℕ) (o : Option Proto) → export_at interface_fitting comp index ≡ o →
+    export_placed : (index : ℕ) (o : Option Proto) → export_at program_interfaces comp index ≡ o →
         place_of_export o (Some section) ≡ position (entered (Export index)) section.functions
     export_placed index o at =
         by o ∙ sym (ap (λ p. position p section.functions) (λ i f. (export_of index f.name ∙ ap (called_so f.name) at)
@@ -293,24 +294,24 @@ module _ (program : ProgramTree) (typed : is_well_typed program ≡ true) where
           by (Some proto) = refl
 
     in_section : (entry : Entry) → position (entered entry) section.functions ≡ function_entered entry
-        (Some (lowered_section interface_fitting comp section))
+        (Some (lowered_section program_interfaces comp section))
     in_section entry =
-        sym (position_map (lowered_function interface_fitting comp section.structs)
+        sym (position_map (lowered_function program_interfaces comp section.structs)
         (λ (f : TacFnTree). same_entry entry f.entry)
         section.functions)
 
     section_entered : (entry : Entry) →
-        entry_in program comp entry ≡ function_entered entry (Some (lowered_section interface_fitting comp section))
+        entry_in program comp entry ≡ function_entered entry (Some (lowered_section program_interfaces comp section))
     section_entered Main = ap (place_named main_name) is ∙ main_placed ∙ in_section Main
     section_entered (Export index) =
-        ap (place_of_export (export_at interface_fitting comp index)) is ∙
-        export_placed index (export_at interface_fitting comp index) refl
+        ap (place_of_export (export_at program_interfaces comp index)) is ∙
+        export_placed index (export_at program_interfaces comp index) refl
         ∙ in_section (Export index)
 
   nothing_entered : (entry : Entry) (comp : ℕ) → slice_get sections comp ≡ None → entry_in program comp entry ≡ None
   nothing_entered Main comp is = ap (place_named main_name) is
-  nothing_entered (Export index) comp is = ap (place_of_export (export_at interface_fitting comp index)) is
-      ∙ by (export_at interface_fitting comp index) where
+  nothing_entered (Export index) comp is = ap (place_of_export (export_at program_interfaces comp index)) is
+      ∙ by (export_at program_interfaces comp index) where
         by : (o : Option Proto) → place_of_export o None ≡ None
         by None = refl
         by (Some proto) = refl
@@ -318,16 +319,16 @@ module _ (program : ProgramTree) (typed : is_well_typed program ≡ true) where
   -- an entry leads to the same function
   pub entered_same : (comp : ℕ) (entry : Entry) →
       entry_in program comp entry ≡ function_entered entry
-      (slice_get (lowered_sections interface_fitting 0 sections) comp)
+      (slice_get (lowered_sections program_interfaces 0 sections) comp)
   entered_same comp entry =
       by (slice_get sections comp) refl ∙
-      sym (ap (function_entered entry) (first_at interface_fitting sections comp)) where
+      sym (ap (function_entered entry) (first_at program_interfaces sections comp)) where
         by : (o : Option TypedSection) → slice_get sections comp ≡ o →
-            entry_in program comp entry ≡ function_entered entry (option_map (lowered_section interface_fitting comp)
+            entry_in program comp entry ≡ function_entered entry (option_map (lowered_section program_interfaces comp)
             (slice_get sections comp))
         by None is =
             nothing_entered entry comp is
-            ∙ sym (ap (λ o. function_entered entry (option_map (lowered_section interface_fitting comp) o)) is)
+            ∙ sym (ap (λ o. function_entered entry (option_map (lowered_section program_interfaces comp) o)) is)
         by (Some section) is =
             section_entered comp section is entry
-            ∙ sym (ap (λ o. function_entered entry (option_map (lowered_section interface_fitting comp) o)) is)
+            ∙ sym (ap (λ o. function_entered entry (option_map (lowered_section program_interfaces comp) o)) is)

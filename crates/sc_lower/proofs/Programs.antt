@@ -77,55 +77,55 @@ results_there (Some t) None h = absurd (false≢true h)
 results_there (Some t) (Some u) h = refl
 
 module _ (program : ProgramTree) (typed : is_well_typed program ≡ true) where
-  abbrev interface_fitting : Interfaces
-  interface_fitting = program.interfaces
+  abbrev interfaces : Interfaces
+  interfaces = program.interfaces
 
   -- a test of each section of the code
   numbered_all : (test : ℕ → TacSection → Bool) (k : ℕ) (sections : List TypedSection) →
       ((i : ℕ) (section : TypedSection) → slice_get sections i ≡ Some section →
-      test (k + i) (lowered_section interface_fitting (k + i) section) ≡ true) →
-      numbered test k (lowered_sections interface_fitting k sections) ≡ true
+      test (k + i) (lowered_section interfaces (k + i) section) ≡ true) →
+      numbered test k (lowered_sections interfaces k sections) ≡ true
   numbered_all test k [] h = refl
   numbered_all test k (x ∷ xs) h =
       let here : k + 0 ≡ k = omega numbers in
-      and_from (test k (lowered_section interface_fitting k x)) _
-      (subst (λ n. test n (lowered_section interface_fitting n x) ≡ true) here
+      and_from (test k (lowered_section interfaces k x)) _
+      (subst (λ n. test n (lowered_section interfaces n x) ≡ true) here
       (h 0 x refl))
       (numbered_all test (suc k) xs (λ i section at. subst
-      (λ n. test n (lowered_section interface_fitting n section) ≡ true)
+      (λ n. test n (lowered_section interfaces n section) ≡ true)
       (next k i) (h (suc i) section at))) where
         next : (k i : ℕ) → k + suc i ≡ suc k + i
         next k i = omega numbers
 
   each_section : (test : ℕ → TacSection → Bool) →
       ((comp : ℕ) (section : TypedSection) → slice_get program.sections comp ≡ Some section →
-      test comp (lowered_section interface_fitting comp section) ≡ true) →
-      numbered test 0 (lowered_sections interface_fitting 0 program.sections) ≡ true
+      test comp (lowered_section interfaces comp section) ≡ true) →
+      numbered test 0 (lowered_sections interfaces 0 program.sections) ≡ true
   each_section test h =
       numbered_all test 0 program.sections
-      (λ i section at. subst (λ n. test n (lowered_section interface_fitting n section) ≡ true)
+      (λ i section at. subst (λ n. test n (lowered_section interfaces n section) ≡ true)
       (first i) (h i section at)) where
         first : (i : ℕ) → i ≡ 0 + i
         first i = omega numbers
 
   lowered_length : (k : ℕ) (sections : List TypedSection) →
-      length (lowered_sections interface_fitting k sections) ≡ length sections
+      length (lowered_sections interfaces k sections) ≡ length sections
   lowered_length k [] = refl
   lowered_length k (x ∷ xs) = ap suc (lowered_length (suc k) xs)
 
   fit_length : (k : ℕ) (comps : List Interface) (sections : List TypedSection) →
-      sections_fit interface_fitting k comps sections ≡ true → length sections ≡ length comps
+      sections_fit interfaces k comps sections ≡ true → length sections ≡ length comps
   fit_length k [] [] h = refl
   fit_length k [] (y ∷ ys) h = absurd (false≢true h)
   fit_length k (x ∷ xs) [] h = absurd (false≢true h)
   fit_length k (x ∷ xs) (y ∷ ys) h =
       ap suc (fit_length (suc k) xs ys
-      (and_rest (interface_fits interface_fitting k x y) _ (and_rest (section_fits interface_fitting k x y)
+      (and_rest (interface_fits interfaces k x y) _ (and_rest (section_fits interfaces k x y)
       _ h)))
 
   module _ (comp : ℕ) (section : TypedSection) (is : slice_get program.sections comp ≡ Some section) where
     abbrev lowered : TacSection
-    lowered = lowered_section interface_fitting comp section
+    lowered = lowered_section interfaces comp section
 
     abbrev interface : Interface
     interface = (place_of program typed comp section is).interface
@@ -135,18 +135,18 @@ module _ (program : ProgramTree) (typed : is_well_typed program ≡ true) where
 
     -- an entry by which functions of one name are entered
     entered : (entry : Entry) (name : List ℕ) (params : ℕ) (result : Bool) →
-        ((f : TypedFunction) → same_entry entry (entry_of interface_fitting comp f.name) ≡ bytes_eq f.name name) →
+        ((f : TypedFunction) → same_entry entry (entry_of interfaces comp f.name) ≡ bytes_eq f.name name) →
         list_any {X = TypedFunction} (λ f. bytes_eq f.name name) section.functions ≡ true →
         ((n : ℕ) (f : TypedFunction) → slice_get section.functions n ≡ Some f → bytes_eq f.name name ≡ true →
         (length f.params == params && beq (is_some f.result) result) ≡ true) →
         is_entered entry params result lowered ≡ true
     entered entry name params result so any head =
         and_from _ _ (eq-eqb _ 1 (count_made (λ (f : TacFnTree). same_entry entry f.entry)
-        (lowered_function interface_fitting comp section.structs) section.functions ∙
+        (lowered_function interfaces comp section.structs) section.functions ∙
         ap (λ p. count p section.functions)
         (λ i f. so f i) ∙ named_once name section.functions distinct any))
-        (all_made _ (lowered_function interface_fitting comp section.structs) section.functions
-        (λ n f item. implies (same_entry entry (entry_of interface_fitting comp f.name))
+        (all_made _ (lowered_function interfaces comp section.structs) section.functions
+        (λ n f item. implies (same_entry entry (entry_of interfaces comp f.name))
         (length f.params == params && beq
         (is_some f.result) result) (λ k. head n f item (sym (so f) ∙ k))))
 
@@ -160,7 +160,7 @@ module _ (program : ProgramTree) (typed : is_well_typed program ≡ true) where
         (results_there f.result result (and_rest (same_types (signature_of f).params types) _ h)))
 
     -- an export
-    export_entered : (index : ℕ) (proto : Proto) → export_at interface_fitting comp index ≡ Some proto →
+    export_entered : (index : ℕ) (proto : Proto) → export_at interfaces comp index ≡ Some proto →
         export_fits section.functions proto ≡ true →
         is_entered (Export index) (length proto.params) (is_some proto.result) lowered ≡ true
     export_entered index proto at fits =
@@ -182,38 +182,38 @@ module _ (program : ProgramTree) (typed : is_well_typed program ≡ true) where
 
     exports_at : (k : ℕ) (protos : List Proto) →
         ((i : ℕ) (proto : Proto) → slice_get protos i ≡ Some proto →
-        export_at interface_fitting comp (k + i) ≡ Some proto) →
+        export_at interfaces comp (k + i) ≡ Some proto) →
         list_all (export_fits section.functions) protos ≡ true → are_entered k protos lowered ≡ true
     exports_at k [] at fits = refl
     exports_at k (proto ∷ protos) at fits =
         let here : k + 0 ≡ k = omega numbers in
-        and_from _ _ (export_entered k proto (ap (export_at interface_fitting comp) (sym here) ∙ at 0 proto refl)
+        and_from _ _ (export_entered k proto (ap (export_at interfaces comp) (sym here) ∙ at 0 proto refl)
         (and_first (export_fits section.functions proto) _ fits))
-        (exports_at (suc k) protos (λ i p is. ap (export_at interface_fitting comp) (next k i) ∙ at (suc i) p is)
+        (exports_at (suc k) protos (λ i p is. ap (export_at interfaces comp) (next k i) ∙ at (suc i) p is)
         (and_rest (export_fits section.functions proto) _ fits)) where
           next : (k i : ℕ) → suc k + i ≡ k + suc i
           next k i = omega numbers
 
-    all_entered : exports_entered (comp_at interface_fitting comp) lowered ≡ true
+    all_entered : exports_entered (comp_at interfaces comp) lowered ≡ true
     all_entered =
         ap (λ o. exports_entered o lowered) (place_of program typed comp section is).is
         ∙ exports_at 0 interface.exports (λ i proto at. by i proto at) (exports_fit program typed interface section
         (place_of program typed comp section is).placed) where
           by : (i : ℕ) (proto : Proto) → slice_get interface.exports i ≡ Some proto →
-              export_at interface_fitting comp (0 + i) ≡ Some proto
+              export_at interfaces comp (0 + i) ≡ Some proto
           by i proto at =
               let same : 0 + i ≡ i = omega numbers in
-              ap (export_at interface_fitting comp) same
+              ap (export_at interfaces comp) same
               ∙ ap (λ (o : Option Interface). option_and_then (λ found. slice_get found.exports i) o)
               (place_of program typed comp section is).is ∙ at
 
     -- `main`
-    is_main_entered : comp ≡ interface_fitting.main → main_fits (Some section) ≡ true →
+    is_main_entered : comp ≡ interfaces.main → main_fits (Some section) ≡ true →
         is_entered Main 0 true lowered ≡ true
     is_main_entered here any =
         entered Main main_name 0 true
-        (λ f. main_is interface_fitting comp f.name ∙
-        ap (λ b. b && bytes_eq f.name main_name) (eq-eqb comp interface_fitting.main here))
+        (λ f. main_is interfaces comp f.name ∙
+        ap (λ b. b && bytes_eq f.name main_name) (eq-eqb comp interfaces.main here))
         (any_along {A = TypedFunction} (λ f. is_main f && same_signature (signature_of f)
         (record { params = []; result = Some ty.Int })) is_main (λ f k. and_first (is_main f) _ k) section.functions
         any)
@@ -224,40 +224,40 @@ module _ (program : ProgramTree) (typed : is_well_typed program ≡ true) where
     -- entries
     export_known : (name : List ℕ) (o : Option ℕ) →
         position {X = Proto} (λ proto. bytes_eq name proto.name) interface.exports ≡ o →
-        entry_known interface_fitting comp (option_map Export o) ≡ true
+        entry_known interfaces comp (option_map Export o) ≡ true
     export_known name None at = refl
     export_known name (Some i) at =
         ap (λ (o : Option Interface). is_some (option_and_then (λ found. slice_get found.exports i) o))
         (place_of program typed comp section is).is
         ∙ ap is_some (found_passes (λ (proto : Proto). bytes_eq name proto.name) interface.exports i at).is
 
-    known : (name : List ℕ) → entry_known interface_fitting comp (entry_of interface_fitting comp name) ≡ true
-    known name = by (comp == interface_fitting.main && bytes_eq name main_name) refl where
-      by : (b : Bool) → (comp == interface_fitting.main && bytes_eq name main_name) ≡ b →
-          entry_known interface_fitting comp (if b then Some Main else export_called interface_fitting comp name) ≡ true
-      by true own = and_first (comp == interface_fitting.main) _ own
+    known : (name : List ℕ) → entry_known interfaces comp (entry_of interfaces comp name) ≡ true
+    known name = by (comp == interfaces.main && bytes_eq name main_name) refl where
+      by : (b : Bool) → (comp == interfaces.main && bytes_eq name main_name) ≡ b →
+          entry_known interfaces comp (if b then Some Main else export_called interfaces comp name) ≡ true
+      by true own = and_first (comp == interfaces.main) _ own
       by false own =
-          ap (λ (o : Option Interface). entry_known interface_fitting comp
+          ap (λ (o : Option Interface). entry_known interfaces comp
           (option_map Export (position {X = Proto} (λ proto. bytes_eq name proto.name) (exports_of o))))
           (place_of program typed comp section is).is
           ∙ export_known name (position {X = Proto} (λ proto. bytes_eq name proto.name) interface.exports) refl
 
-  main_so : main_entered (slice_get (lowered_sections interface_fitting 0 program.sections) interface_fitting.main) ≡
+  main_so : main_entered (slice_get (lowered_sections interfaces 0 program.sections) interfaces.main) ≡
       true
-  main_so = ap main_entered (first_at interface_fitting program.sections interface_fitting.main) ∙
-      by (slice_get program.sections interface_fitting.main)
-      refl (and_first (main_fits (slice_get program.sections interface_fitting.main)) _ (mains_so program typed)) where
-        by : (o : Option TypedSection) → slice_get program.sections interface_fitting.main ≡ o → main_fits o ≡ true →
-            main_entered (option_map (lowered_section interface_fitting interface_fitting.main) o) ≡ true
+  main_so = ap main_entered (first_at interfaces program.sections interfaces.main) ∙
+      by (slice_get program.sections interfaces.main)
+      refl (and_first (main_fits (slice_get program.sections interfaces.main)) _ (mains_so program typed)) where
+        by : (o : Option TypedSection) → slice_get program.sections interfaces.main ≡ o → main_fits o ≡ true →
+            main_entered (option_map (lowered_section interfaces interfaces.main) o) ≡ true
         by None at h = absurd (false≢true h)
-        by (Some section) at h = is_main_entered interface_fitting.main section at refl h
+        by (Some section) at h = is_main_entered interfaces.main section at refl h
 
   pub program_kept : IsProgram (lowered_program program)
   program_kept = record {
-    sections = lowered_length 0 program.sections ∙ fit_length 0 interface_fitting.comps program.sections
+    sections = lowered_length 0 program.sections ∙ fit_length 0 interfaces.comps program.sections
         (sections_so program typed);
     numbers =
-        each_section _ (λ comp section is. all_made _ (lowered_function interface_fitting comp section.structs)
+        each_section _ (λ comp section is. all_made _ (lowered_function interfaces comp section.structs)
         section.functions
         (λ n f item. eq-eqb comp comp refl));
     globals = each_section _ (λ comp section is. globals_named program typed comp section is);
@@ -267,7 +267,7 @@ module _ (program : ProgramTree) (typed : is_well_typed program ≡ true) where
     exported = each_section _ (λ comp section is. all_entered comp section is);
     main_there = main_so;
     entries =
-        each_section _ (λ comp section is. all_made _ (lowered_function interface_fitting comp section.structs)
+        each_section _ (λ comp section is. all_made _ (lowered_function interfaces comp section.structs)
         section.functions
         (λ n f item. known comp section is f.name));
   }

@@ -254,8 +254,8 @@ small_locals scope locals h k d within =
     (AllPass-from_list_all (local_fits scope) locals h k d within))
 
 module _ (program : ProgramTree) (typed : is_well_typed program ≡ true) where
-  abbrev interface_fitting : Interfaces
-  interface_fitting = program.interfaces
+  abbrev interfaces : Interfaces
+  interfaces = program.interfaces
 
   -- what a function of a section fits
   pub record Fitting (callable : Callable) (section : TypedSection) (f : TypedFunction) : Type 0 where
@@ -280,38 +280,38 @@ module _ (program : ProgramTree) (typed : is_well_typed program ≡ true) where
             _ (and_rest (list_all (local_fits (scope_of section f)) f.locals) _ later);
       }
 
-  functions_fit : (interface : Interface) (section : TypedSection) → Placed interface_fitting interface section →
-      list_all (function_fits (callable_in interface_fitting interface section) section) section.functions ≡ true
+  functions_fit : (interface : Interface) (section : TypedSection) → Placed interfaces interface section →
+      list_all (function_fits (callable_in interfaces interface section) section) section.functions ≡ true
   functions_fit interface section placed =
-      and_first (list_all (function_fits (callable_in interface_fitting interface section) section) section.functions)
+      and_first (list_all (function_fits (callable_in interfaces interface section) section) section.functions)
       _ (and_rest (list_all (global_fits section.structs) section.globals)
       _ (and_rest (structs_fit section.structs 0 section.structs) _ placed.fits))
 
-  pub function_at : (interface : Interface) (section : TypedSection) → Placed interface_fitting interface section →
+  pub function_at : (interface : Interface) (section : TypedSection) → Placed interfaces interface section →
       (n : ℕ) (f : TypedFunction) → slice_get section.functions n ≡ Some f →
-      Fitting (callable_in interface_fitting interface section) section f
+      Fitting (callable_in interfaces interface section) section f
   function_at interface section placed n f item =
-      fitting (callable_in interface_fitting interface section) section f
-      (all_at (function_fits (callable_in interface_fitting interface section) section) section.functions
+      fitting (callable_in interfaces interface section) section f
+      (all_at (function_fits (callable_in interfaces interface section) section) section.functions
       (functions_fit interface section placed) n f item)
 
   abbrev pub names : Interface → TypedSection → Bool
   names interface section =
-      are_distinct (map (import_name interface_fitting) interface.imports ++ map {A = TypedFunction} (λ f. f.name)
+      are_distinct (map (import_name interfaces) interface.imports ++ map {A = TypedFunction} (λ f. f.name)
       section.functions)
 
-  pub exports_fit : (interface : Interface) (section : TypedSection) → Placed interface_fitting interface section →
+  pub exports_fit : (interface : Interface) (section : TypedSection) → Placed interfaces interface section →
       list_all (export_fits section.functions) interface.exports ≡ true
   exports_fit interface section placed =
       and_first (list_all (export_fits section.functions) interface.exports)
       _ (and_rest (are_distinct (map {A = Proto} (λ p. p.name) interface.exports)) _ (and_rest (names interface section)
       _ placed.interface_fitting))
 
-  few_exported : (interface : Interface) (section : TypedSection) → Placed interface_fitting interface section →
+  few_exported : (interface : Interface) (section : TypedSection) → Placed interfaces interface section →
       length interface.exports ≤ most_exports
   few_exported interface section placed =
       leb-true (length interface.exports) most_exports (and_first (nat_le (length interface.exports) most_exports)
-      _ (and_rest (list_all (import_fits interface_fitting placed.number) interface.imports)
+      _ (and_rest (list_all (import_fits interfaces placed.number) interface.imports)
       _ (and_rest (list_all (export_fits section.functions) interface.exports)
       _ (and_rest (are_distinct (map {A = Proto} (λ p. p.name) interface.exports)) _ (and_rest (names interface section)
       _ placed.interface_fitting)))))
@@ -323,7 +323,7 @@ module _ (program : ProgramTree) (typed : is_well_typed program ≡ true) where
   any_headed functions proto h =
       and_rest (not (bytes_eq proto.name main_name)) _ (and_rest (is_plain_name proto.name) _ h)
 
-  proto_few : (interface : Interface) (section : TypedSection) → Placed interface_fitting interface section →
+  proto_few : (interface : Interface) (section : TypedSection) → Placed interfaces interface section →
       (proto : Proto) →
       export_fits section.functions proto ≡ true → length proto.params ≤ most_params
   proto_few interface section placed proto h =
@@ -340,29 +340,29 @@ module _ (program : ProgramTree) (typed : is_well_typed program ≡ true) where
       subst (λ m. m ≤ most_params) (sym count) (function_at interface section placed one.number passing.item
       passing.is).few
 
-  export_few : (to index : ℕ) (proto : Proto) → export_at interface_fitting to index ≡ Some proto →
+  export_few : (to index : ℕ) (proto : Proto) → export_at interfaces to index ≡ Some proto →
       length proto.params ≤ most_params
   export_few to index proto h =
-      let found : After {A = Interface} (λ i. slice_get i.exports index) (comp_at interface_fitting to) proto =
-      following (λ i. slice_get i.exports index) (comp_at interface_fitting to) proto h in
-      let place = for_interface interface_fitting 0 interface_fitting.comps program.sections (sections_so program typed)
+      let found : After {A = Interface} (λ i. slice_get i.exports index) (comp_at interfaces to) proto =
+      following (λ i. slice_get i.exports index) (comp_at interfaces to) proto h in
+      let place = for_interface interfaces 0 interfaces.comps program.sections (sections_so program typed)
       to found.item
       found.is in
       proto_few found.item place.section place.placed proto (all_at (export_fits place.section.functions)
       found.item.exports (exports_fit found.item place.section place.placed) index proto found.gives)
 
   module _ (comp : ℕ) (section : TypedSection) (is : slice_get program.sections comp ≡ Some section) where
-    pub place : ForSection interface_fitting interface_fitting.comps comp section
-    place = for_section interface_fitting 0 interface_fitting.comps program.sections (sections_so program typed) comp
+    pub place : ForSection interfaces interfaces.comps comp section
+    place = for_section interfaces 0 interfaces.comps program.sections (sections_so program typed) comp
         section is
 
     abbrev pub callable : Callable
-    callable = callable_in interface_fitting place.interface section
+    callable = callable_in interfaces place.interface section
 
     -- the names of its functions differ
     pub distinct_names : are_distinct (map {A = TypedFunction} (λ f. f.name) section.functions) ≡ true
     distinct_names =
-        own_names_differ (map (import_name interface_fitting) place.interface.imports) section.functions
+        own_names_differ (map (import_name interfaces) place.interface.imports) section.functions
         (and_first (names place.interface section) _ place.placed.interface_fitting)
 
     -- calls take at most 8 arguments
@@ -374,7 +374,7 @@ module _ (program : ProgramTree) (typed : is_well_typed program ≡ true) where
         subst (λ m. m ≤ most_params) (sym (length-map f.params (λ p. p.ty)) ∙ ap (λ (s : Signature). length s.params)
         same) (function_at place.interface section place.placed n f at).few
 
-    cross_few : (o : Option Proto) (to index : ℕ) (signature : Signature) → export_at interface_fitting to index ≡ o →
+    cross_few : (o : Option Proto) (to index : ℕ) (signature : Signature) → export_at interfaces to index ≡ o →
         option_signature proto_signature o ≡ Some signature → length signature.params ≤ most_params
     cross_few None to index signature at h = absurd (cc)
     cross_few (Some proto) to index signature at h =
@@ -391,9 +391,9 @@ module _ (program : ProgramTree) (typed : is_well_typed program ≡ true) where
         ∙ h)))
     call_few (target.Cross to index) signature dest at h count =
         le-leb (length at) most_params (subst (λ m. m ≤ most_params) (sym count)
-        (cross_few (export_at interface_fitting to index) to index signature refl
+        (cross_few (export_at interfaces to index) to index signature refl
         (found_allowed (list_any (same_import (import.Function to index)) place.interface.imports)
-        (option_signature proto_signature (export_at interface_fitting to index)) signature h)))
+        (option_signature proto_signature (export_at interfaces to index)) signature h)))
     call_few target.Input signature dest at h count = refl
     call_few target.Output signature dest at h count = refl
 
@@ -585,11 +585,11 @@ module _ (program : ProgramTree) (typed : is_well_typed program ≡ true) where
       abbrev others : List ℕ
       others = map {A = TypedLocal} (λ l. cells_of section.structs l.ty) f.locals
 
-      main_enters : (comp == interface_fitting.main) ≡ true → bytes_eq f.name main_name ≡ true →
+      main_enters : (comp == interfaces.main) ≡ true → bytes_eq f.name main_name ≡ true →
           passes_words (length f.params) (parameters ++ others) ≡ true
       main_enters here called =
-          let own : comp ≡ interface_fitting.main = eqb-true comp interface_fitting.main here in
-          let there : slice_get program.sections interface_fitting.main ≡ Some section =
+          let own : comp ≡ interfaces.main = eqb-true comp interfaces.main here in
+          let there : slice_get program.sections interfaces.main ≡ Some section =
           subst (λ c. slice_get program.sections c ≡ Some section) own is in
           let any : main_fits (Some section) ≡ true =
           subst (λ o. main_fits o ≡ true) there (main_so program typed) in
@@ -612,14 +612,14 @@ module _ (program : ProgramTree) (typed : is_well_typed program ≡ true) where
           words_pass section.structs f.params found.item.params others
           (and_first (same_types (signature_of f).params (proto_signature found.item).params) _ same)
 
-      words_enter : enters_by_words (entry_of interface_fitting comp f.name) (length f.params)
+      words_enter : enters_by_words (entry_of interfaces comp f.name) (length f.params)
           (variables section.structs f) ≡ true
-      words_enter = by (comp == interface_fitting.main && bytes_eq f.name main_name) refl where
-        by : (b : Bool) → (comp == interface_fitting.main && bytes_eq f.name main_name) ≡ b →
-            enters_by_words (if b then Some Main else export_called interface_fitting comp f.name) (length f.params)
+      words_enter = by (comp == interfaces.main && bytes_eq f.name main_name) refl where
+        by : (b : Bool) → (comp == interfaces.main && bytes_eq f.name main_name) ≡ b →
+            enters_by_words (if b then Some Main else export_called interfaces comp f.name) (length f.params)
             (parameters ++ others) ≡ true
-        by true own = main_enters (and_first (comp == interface_fitting.main) _ own)
-            (and_rest (comp == interface_fitting.main) _ own)
+        by true own = main_enters (and_first (comp == interfaces.main) _ own)
+            (and_rest (comp == interfaces.main) _ own)
         by false own =
             ap (λ (o : Option Interface). enters_by_words
             (option_map Export (position {X = Proto} (λ proto. bytes_eq f.name proto.name) (exports_of o)))
@@ -650,12 +650,12 @@ module _ (program : ProgramTree) (typed : is_well_typed program ≡ true) where
             by : (a b c : ℕ) → b ≡ a → a ≤ b + c
             by a b c h = omega (numbers, h)
 
-      few_exports : length (exports_of (comp_at interface_fitting comp)) ≤ most_exports
+      few_exports : length (exports_of (comp_at interfaces comp)) ≤ most_exports
       few_exports =
           subst (λ (o : Option Interface). length (exports_of o) ≤ most_exports) (sym place.is)
           (few_exported place.interface section place.placed)
 
-      pub function_kept : IsFunction (lowered_function interface_fitting comp section.structs f)
+      pub function_kept : IsFunction (lowered_function interfaces comp section.structs f)
       function_kept = record {
         few_params = fits.few;
         few_nodes = few_nodes;
@@ -679,7 +679,7 @@ module _ (program : ProgramTree) (typed : is_well_typed program ≡ true) where
             (all_assigned scope callable f.result section.structs elements f.locals f.body inits fits.body temps);
       }
 
-      pub lowerable : IsLowerable interface_fitting comp section.structs f
+      pub lowerable : IsLowerable interfaces comp section.structs f
       lowerable = record {
         kept = function_kept;
         few_params = fits.few;

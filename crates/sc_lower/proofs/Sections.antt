@@ -62,11 +62,11 @@ is_allowed false o signature h = absurd (cc)
 
 module _ (program : ProgramTree) (typed : is_well_typed program ≡ true) (comp : ℕ) (section : TypedSection)
     (is : slice_get program.sections comp ≡ Some section) where
-  abbrev interface_fitting : Interfaces
-  interface_fitting = program.interfaces
+  abbrev interfaces : Interfaces
+  interfaces = program.interfaces
 
   abbrev lowered : TacSection
-  lowered = lowered_section interface_fitting comp section
+  lowered = lowered_section interfaces comp section
 
   abbrev may : Callable
   may = callable program typed comp section is
@@ -76,7 +76,7 @@ module _ (program : ProgramTree) (typed : is_well_typed program ≡ true) (comp 
 
   -- globals
   globals_passed : (temps : ℕ) (f : TypedFunction) →
-      PassedBy temps (scope_of section f) (names_own_global interface_fitting comp lowered)
+      PassedBy temps (scope_of section f) (names_own_global interfaces comp lowered)
   globals_passed temps f = record {
     constant = λ d c word lt. refl;
     one = λ d o x two ld lx. refl;
@@ -89,7 +89,7 @@ module _ (program : ProgramTree) (typed : is_well_typed program ≡ true) (comp 
   }
 
   own_passed : (temps : ℕ) (f : TypedFunction) →
-      PassedBy temps (scope_of section f) (calls_own interface_fitting comp lowered)
+      PassedBy temps (scope_of section f) (calls_own interfaces comp lowered)
   own_passed temps f = record {
     constant = λ d c word lt. refl;
     one = λ d o x two ld lx. refl;
@@ -101,7 +101,7 @@ module _ (program : ProgramTree) (typed : is_well_typed program ≡ true) (comp 
   }
 
   exports_passed : (temps : ℕ) (f : TypedFunction) →
-      PassedBy temps (scope_of section f) (calls_exports interface_fitting comp lowered)
+      PassedBy temps (scope_of section f) (calls_exports interfaces comp lowered)
   exports_passed temps f = record {
     constant = λ d c word lt. refl;
     one = λ d o x two ld lx. refl;
@@ -113,7 +113,7 @@ module _ (program : ProgramTree) (typed : is_well_typed program ≡ true) (comp 
   }
 
   imports_passed : (temps : ℕ) (f : TypedFunction) →
-      PassedBy temps (scope_of section f) (calls_imports interface_fitting comp lowered)
+      PassedBy temps (scope_of section f) (calls_imports interfaces comp lowered)
   imports_passed temps f = record {
     constant = λ d c word lt. refl;
     one = λ d o x two ld lx. refl;
@@ -125,7 +125,7 @@ module _ (program : ProgramTree) (typed : is_well_typed program ≡ true) (comp 
   }
 
   call_globals : (to : CallTarget) (dest : Option ℕ) (at : List ℕ) →
-      names_own_global interface_fitting comp lowered (call_layer to dest at) ≡ true
+      names_own_global interfaces comp lowered (call_layer to dest at) ≡ true
   call_globals (target.Own n) dest at = refl
   call_globals (target.Cross to index) dest at = refl
   call_globals target.Input dest at = refl
@@ -136,7 +136,7 @@ module _ (program : ProgramTree) (typed : is_well_typed program ≡ true) (comp 
       (es : List TypedExpr) → slice_get section.functions n ≡ o → option_map signature_of o ≡ Some signature →
       all_go_into signature.params (map (judged scope) es) ≡ true → length at ≡ length signature.params →
       (is_some dest ≡ true → is_some signature.result ≡ true) →
-      own_call_fits (option_map (lowered_function interface_fitting comp section.structs) o) dest (length at) ≡ true
+      own_call_fits (option_map (lowered_function interfaces comp section.structs) o) dest (length at) ≡ true
   own_fits scope None n signature dest at es item h goes count results = absurd (cc)
   own_fits scope (Some g) n signature dest at es item h goes count results =
       let same : signature_of g ≡ signature = cc in
@@ -155,10 +155,10 @@ module _ (program : ProgramTree) (typed : is_well_typed program ≡ true) (comp 
       (es : List TypedExpr) → target_signature may to ≡ Some signature →
       all_go_into signature.params (map (judged scope) es) ≡ true → length at ≡ length signature.params →
       (is_some dest ≡ true → is_some signature.result ≡ true) →
-      calls_own interface_fitting comp lowered (call_layer to dest at) ≡ true
+      calls_own interfaces comp lowered (call_layer to dest at) ≡ true
   call_own_fits scope (target.Own n) signature dest at es h goes count results =
       ap (λ o. own_call_fits o dest (length at))
-      (slice_get-map (lowered_function interface_fitting comp section.structs)
+      (slice_get-map (lowered_function interfaces comp section.structs)
       section.functions n)
       ∙ own_fits scope (slice_get section.functions n) n signature dest at es refl
       (sym (slice_get-map signature_of section.functions n) ∙ h) goes count results
@@ -182,31 +182,31 @@ module _ (program : ProgramTree) (typed : is_well_typed program ≡ true) (comp 
   call_exports_fit : (to : CallTarget) (signature : Signature) (dest : Option ℕ) (at : List ℕ) →
       target_signature may to ≡ Some signature → length at ≡ length signature.params →
       (is_some dest ≡ true → is_some signature.result ≡ true) →
-      calls_exports interface_fitting comp lowered (call_layer to dest at)
+      calls_exports interfaces comp lowered (call_layer to dest at)
       ≡ true
   call_exports_fit (target.Own n) signature dest at h count results = refl
   call_exports_fit (target.Cross to index) signature dest at h count results =
-      cross_fits (export_at interface_fitting to index) signature dest at
+      cross_fits (export_at interfaces to index) signature dest at
       (found_allowed (list_any (same_import (import.Function to index)) interface.imports)
-      (option_signature proto_signature (export_at interface_fitting to index)) signature h) count results
+      (option_signature proto_signature (export_at interfaces to index)) signature h) count results
   call_exports_fit target.Input signature dest at h count results = refl
   call_exports_fit target.Output signature dest at h count results = refl
 
   -- only what is imported is called
   imports_so : (p q : Import → Bool) → ((x : Import) → p x ≡ true → q x ≡ true) → list_any p interface.imports ≡ true →
-      imports interface_fitting comp q ≡ true
+      imports interfaces comp q ≡ true
   imports_so p q on h =
       ap (λ (o : Option Interface). list_any q (option_map_or (λ found. found.imports) o []))
       (place_of program typed comp section is).is ∙ any_along p q on interface.imports h
 
   call_imports_fit : (to : CallTarget) (signature : Signature) (dest : Option ℕ) (at : List ℕ) →
       target_signature may to ≡ Some signature →
-      calls_imports interface_fitting comp lowered (call_layer to dest at) ≡ true
+      calls_imports interfaces comp lowered (call_layer to dest at) ≡ true
   call_imports_fit (target.Own n) signature dest at h = refl
   call_imports_fit (target.Cross to index) signature dest at h =
       imports_so (same_import (import.Function to index)) (is_function to index) (function_imported to index)
       (is_allowed (list_any (same_import (import.Function to index)) interface.imports)
-      (option_signature proto_signature (export_at interface_fitting to index)) signature h)
+      (option_signature proto_signature (export_at interfaces to index)) signature h)
   call_imports_fit target.Input signature dest at h =
       imports_so (same_import import.Input) is_input input_imported
       (is_allowed (list_any (same_import import.Input) interface.imports)
@@ -217,9 +217,9 @@ module _ (program : ProgramTree) (typed : is_well_typed program ≡ true) (comp 
       (Some (record { params = ty.Int ∷ []; result = None })) signature h)
 
   -- the statements of a section
-  pub globals_named : in_section (names_own_global interface_fitting comp lowered) lowered ≡ true
-  globals_named = all_made _ (lowered_function interface_fitting comp section.structs) section.functions (λ n f item.
-      all program typed comp section is n f item (names_own_global interface_fitting comp lowered) (record {
+  pub globals_named : in_section (names_own_global interfaces comp lowered) lowered ≡ true
+  globals_named = all_made _ (lowered_function interfaces comp section.structs) section.functions (λ n f item.
+      all program typed comp section is n f item (names_own_global interfaces comp lowered) (record {
         exprs = globals_passed _ f;
         store = λ q v lq lv. refl;
         cycle = λ a b c. refl;
@@ -229,9 +229,9 @@ module _ (program : ProgramTree) (typed : is_well_typed program ≡ true) (comp 
         returned = λ v there below. refl;
       }))
 
-  pub own_called : in_section (calls_own interface_fitting comp lowered) lowered ≡ true
-  own_called = all_made _ (lowered_function interface_fitting comp section.structs) section.functions (λ n f item.
-      all program typed comp section is n f item (calls_own interface_fitting comp lowered) (record {
+  pub own_called : in_section (calls_own interfaces comp lowered) lowered ≡ true
+  own_called = all_made _ (lowered_function interfaces comp section.structs) section.functions (λ n f item.
+      all program typed comp section is n f item (calls_own interfaces comp lowered) (record {
         exprs = own_passed _ f;
         store = λ q v lq lv. refl;
         cycle = λ a b c. refl;
@@ -242,9 +242,9 @@ module _ (program : ProgramTree) (typed : is_well_typed program ≡ true) (comp 
         returned = λ v there below. refl;
       }))
 
-  pub exports_called : in_section (calls_exports interface_fitting comp lowered) lowered ≡ true
-  exports_called = all_made _ (lowered_function interface_fitting comp section.structs) section.functions (λ n f item.
-      all program typed comp section is n f item (calls_exports interface_fitting comp lowered) (record {
+  pub exports_called : in_section (calls_exports interfaces comp lowered) lowered ≡ true
+  exports_called = all_made _ (lowered_function interfaces comp section.structs) section.functions (λ n f item.
+      all program typed comp section is n f item (calls_exports interfaces comp lowered) (record {
         exprs = exports_passed _ f;
         store = λ q v lq lv. refl;
         cycle = λ a b c. refl;
@@ -255,9 +255,9 @@ module _ (program : ProgramTree) (typed : is_well_typed program ≡ true) (comp 
         returned = λ v there below. refl;
       }))
 
-  pub imports_called : in_section (calls_imports interface_fitting comp lowered) lowered ≡ true
-  imports_called = all_made _ (lowered_function interface_fitting comp section.structs) section.functions (λ n f item.
-      all program typed comp section is n f item (calls_imports interface_fitting comp lowered) (record {
+  pub imports_called : in_section (calls_imports interfaces comp lowered) lowered ≡ true
+  imports_called = all_made _ (lowered_function interfaces comp section.structs) section.functions (λ n f item.
+      all program typed comp section is n f item (calls_imports interfaces comp lowered) (record {
         exprs = imports_passed _ f;
         store = λ q v lq lv. refl;
         cycle = λ a b c. refl;

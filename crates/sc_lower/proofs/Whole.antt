@@ -73,8 +73,8 @@ no_functions f (x ∷ xs) zero h = absurd (cc)
 no_functions f (x ∷ xs) (suc i) h = no_functions f xs i h
 
 module _ (arith : Arith) (program : ProgramTree) (typed : is_well_typed program ≡ true) where
-  abbrev interface_fitting : Interfaces
-  interface_fitting = program.interfaces
+  abbrev interfaces : Interfaces
+  interfaces = program.interfaces
 
   abbrev L : Denotations
   L = denotations_of arith program
@@ -83,30 +83,30 @@ module _ (arith : Arith) (program : ProgramTree) (typed : is_well_typed program 
   M = code_denotations arith (lowered_program program)
 
   abbrev lowered : List TacSection
-  lowered = lowered_sections interface_fitting 0 program.sections
+  lowered = lowered_sections interfaces 0 program.sections
 
   abbrev tree_function : List TypedStruct → TypedFunction → Function
-  tree_function = function_of arith interface_fitting.main
+  tree_function = function_of arith interfaces.main
 
   abbrev tac_function : ℕ → List TypedStruct → TypedFunction → Function
-  tac_function comp structs f = code_function arith (lowered_function interface_fitting comp structs f)
+  tac_function comp structs f = code_function arith (lowered_function interfaces comp structs f)
 
   -- CALLERS
   functions_alike : (comp : ℕ) (structs : List TypedStruct) (fs : List TypedFunction) →
       map shell (map (tree_function structs) fs)
-      ≡ map shell (map (code_function arith) (map (lowered_function interface_fitting comp structs) fs))
+      ≡ map shell (map (code_function arith) (map (lowered_function interfaces comp structs) fs))
   functions_alike comp structs [] = refl
   functions_alike comp structs (f ∷ fs) = λ i. shell (tree_function structs f) ∷ functions_alike comp structs fs i
 
   sections_alike : (k : ℕ) (sections : List TypedSection) →
-      map (map shell) (map (functions_in arith interface_fitting.main) sections)
-      ≡ map (map shell) (map (code_functions arith) (lowered_sections interface_fitting k sections))
+      map (map shell) (map (functions_in arith interfaces.main) sections)
+      ≡ map (map shell) (map (code_functions arith) (lowered_sections interfaces k sections))
   sections_alike k [] = refl
   sections_alike k (x ∷ xs) = λ i. functions_alike k x.structs x.functions i ∷ sections_alike (suc k) xs i
 
   alike : hollow L ≡ hollow M
   alike = λ i. record {
-    interfaces = interface_fitting;
+    interfaces = interfaces;
     functions = sections_alike 0 program.sections i;
     entered = λ comp entry. entered_same program typed comp entry i;
   }
@@ -128,22 +128,22 @@ module _ (arith : Arith) (program : ProgramTree) (typed : is_well_typed program 
   module _ (comp : ℕ) (section : TypedSection) (is : slice_get program.sections comp ≡ Some section) where
     tree_at : (n : ℕ) → function L comp n ≡ option_map (tree_function section.structs) (slice_get section.functions n)
     tree_at n =
-        ap (λ fs. slice_get fs n) (index_map (functions_in arith interface_fitting.main) program.sections comp section
+        ap (λ fs. slice_get fs n) (index_map (functions_in arith interfaces.main) program.sections comp section
         is)
         ∙ slice_get-map (tree_function section.structs) section.functions n
 
     code_at : (n : ℕ) →
         function M comp n ≡ option_map (code_function arith)
-        (option_map (lowered_function interface_fitting comp section.structs)
+        (option_map (lowered_function interfaces comp section.structs)
         (slice_get section.functions n))
     code_at n =
         ap (λ fs. slice_get fs n) (index_map (code_functions arith) lowered comp
-        (lowered_section interface_fitting comp section)
-        (first_at interface_fitting program.sections comp ∙
-        ap (option_map (lowered_section interface_fitting comp)) is))
+        (lowered_section interfaces comp section)
+        (first_at interfaces program.sections comp ∙
+        ap (option_map (lowered_section interfaces comp)) is))
         ∙ slice_get-map (code_function arith)
-        (map (lowered_function interface_fitting comp section.structs) section.functions) n
-        ∙ ap (option_map (code_function arith)) (slice_get-map (lowered_function interface_fitting comp section.structs)
+        (map (lowered_function interfaces comp section.structs) section.functions) n
+        ∙ ap (option_map (code_function arith)) (slice_get-map (lowered_function interfaces comp section.structs)
         section.functions n)
 
     section_both : (n : ℕ) → Both comp n
@@ -152,7 +152,7 @@ module _ (arith : Arith) (program : ProgramTree) (typed : is_well_typed program 
       by None item =
           Nowhere (tree_at n ∙ ap (option_map (tree_function section.structs)) item)
           (code_at n ∙ ap (λ o. option_map (code_function arith)
-          (option_map (lowered_function interface_fitting comp section.structs) o)) item)
+          (option_map (lowered_function interfaces comp section.structs) o)) item)
       by (Some f) item = Somewhere (record {
         section = section;
         is = is;
@@ -161,7 +161,7 @@ module _ (arith : Arith) (program : ProgramTree) (typed : is_well_typed program 
         tree = tree_at n ∙ ap (option_map (tree_function section.structs)) item;
         code =
             code_at n ∙ ap (λ o. option_map (code_function arith)
-            (option_map (lowered_function interface_fitting comp section.structs) o)) item;
+            (option_map (lowered_function interfaces comp section.structs) o)) item;
       })
 
   both_at : (comp n : ℕ) → Both comp n
@@ -169,10 +169,10 @@ module _ (arith : Arith) (program : ProgramTree) (typed : is_well_typed program 
     by : (o : Option TypedSection) → slice_get program.sections comp ≡ o → Both comp n
     by None is =
         Nowhere (ap (λ fs. slice_get fs n)
-        (no_functions (functions_in arith interface_fitting.main) program.sections comp is))
+        (no_functions (functions_in arith interfaces.main) program.sections comp is))
         (ap (λ fs. slice_get fs n) (no_functions (code_functions arith) lowered comp
-        (first_at interface_fitting program.sections comp ∙
-        ap (option_map (lowered_section interface_fitting comp)) is)))
+        (first_at interfaces program.sections comp ∙
+        ap (option_map (lowered_section interfaces comp)) is)))
     by (Some section) is = section_both comp section is n
 
   -- BODIES
@@ -188,12 +188,12 @@ module _ (arith : Arith) (program : ProgramTree) (typed : is_well_typed program 
     module _ (body other : Body) (bodies : BodiesAgree body other) (gives : Gives body) (comp : ℕ)
         (section : TypedSection) (is : slice_get program.sections comp ≡ Some section) (plain : scripted comp
         ≡ false) where
-      place : ForSection interface_fitting interface_fitting.comps comp section
-      place = for_section interface_fitting 0 interface_fitting.comps program.sections (sections_so program typed) comp
+      place : ForSection interfaces interfaces.comps comp section
+      place = for_section interfaces 0 interfaces.comps program.sections (sections_so program typed) comp
           section is
 
       abbrev callable : Callable
-      callable = callable_in interface_fitting place.interface section
+      callable = callable_in interfaces place.interface section
 
       own_answers : (n : ℕ) (args : List Value) (s : State) →
           Lasting (λ v. answers (promises (target_signature callable (Own n))) v ≡ true)
@@ -227,12 +227,12 @@ module _ (arith : Arith) (program : ProgramTree) (typed : is_well_typed program 
       called_answers (Cross to index) args s =
           let b = list_any (same_import (import.Function to index)) place.interface.imports in
           let G : Option Value → Type 0 =
-          λ v. answers (promises (allowed b (option_signature proto_signature (export_at interface_fitting to index))))
+          λ v. answers (promises (allowed b (option_signature proto_signature (export_at interfaces to index))))
           v ≡ true in
           lasting_then G (turn s) (λ _ s. call_cross L body comp to index args s) (λ _ s.
           lasting_then G (found (L.entered to (Export index)) s) _ (λ n s.
           lasting_then G (found (function L to n) _) _ (λ g s.
-          lasting_then G (body n _ _) _ (λ v t. crossing_answers b (export_at interface_fitting to index) v))))
+          lasting_then G (body n _ _) _ (λ v t. crossing_answers b (export_at interfaces to index) v))))
       called_answers Input args s = some_answers (promises (target_signature callable Input)) _ refl
       called_answers Output args s = output_answers (list_any (same_import import.Output) place.interface.imports)
 
@@ -284,8 +284,8 @@ module _ (arith : Arith) (program : ProgramTree) (typed : is_well_typed program 
           code_does arith here (calls M other) (body_code section.structs f 0).code no_temps s in
           subst (λ m. BackMatches (is_some f.result) ((tree_function section.structs f).does (calls L body) here s)
           (and_then code (λ left s. closed left.exit (is_some f.result) m 0 here s)))
-          (sym (main_is interface_fitting comp f.name))
-          (close_matches (is_some f.result) (comp == interface_fitting.main && bytes_eq f.name main_name) f.close_line
+          (sym (main_is interfaces comp f.name))
+          (close_matches (is_some f.result) (comp == interfaces.main && bytes_eq f.name main_name) f.close_line
           here
           (body_does arith section.structs here (length f.params) (calls L body) f tt s) code
           (body_matches arith section.structs here (scope_of section f) callable (calls L body) (calls M other) f
@@ -354,26 +354,26 @@ module _ (arith : Arith) (program : ProgramTree) (typed : is_well_typed program 
     globals_same : globals_of program.sections ≡ code_globals lowered
     globals_same =
         λ i comp. (by comp (slice_get program.sections comp)
-        ∙ sym (ap code_blocks (first_at interface_fitting program.sections comp))) i where
+        ∙ sym (ap code_blocks (first_at interfaces program.sections comp))) i where
           by : (comp : ℕ) (o : Option TypedSection) →
-              first_blocks o ≡ code_blocks (option_map (lowered_section interface_fitting comp) o)
+              first_blocks o ≡ code_blocks (option_map (lowered_section interfaces comp) o)
           by comp None = refl
           by comp (Some section) = refl
 
     start_found : (o p : Option ℕ) (turns : ℕ) (s : State) → o ≡ p →
         PiecesAgree (and_then (found o s)
-        (λ number s. call_own L (within tree_step (suc turns)) interface_fitting.main number []
+        (λ number s. call_own L (within tree_step (suc turns)) interfaces.main number []
         s))
-        (and_then (found p s) (λ number s. call_own M (within code_step (suc turns)) interface_fitting.main number []
+        (and_then (found p s) (λ number s. call_own M (within code_step (suc turns)) interfaces.main number []
         s))
     start_found o p turns s is =
         subst (λ p. PiecesAgree (and_then (found o s)
-        (λ number s. call_own L (within tree_step (suc turns)) interface_fitting.main
+        (λ number s. call_own L (within tree_step (suc turns)) interfaces.main
         number [] s)) (and_then (found p s)
-        (λ number s. call_own M (within code_step (suc turns)) interface_fitting.main number []
+        (λ number s. call_own M (within code_step (suc turns)) interfaces.main number []
         s))) is
         (then_agree _ _ _ _ (itself (found o s)) (λ number s. own_alike L M alike (within tree_step (suc turns))
-        (within code_step (suc turns)) (within_both (suc turns)).agree interface_fitting.main number [] s))
+        (within code_step (suc turns)) (within_both (suc turns)).agree interfaces.main number [] s))
 
     runs_alike : (inputs : List ℕ) (turns : ℕ) →
         RunsAgree (run_by L tree_step (globals_of program.sections) inputs turns)
@@ -381,10 +381,10 @@ module _ (arith : Arith) (program : ProgramTree) (typed : is_well_typed program 
     runs_alike inputs turns =
         subst (λ globals. RunsAgree (run_by L tree_step (globals_of program.sections) inputs turns)
         (run_by M code_step globals inputs turns)) globals_same
-        (run_agree interface_fitting.main _ _
-        (start_found (L.entered interface_fitting.main Main) (M.entered interface_fitting.main Main) turns
+        (run_agree interfaces.main _ _
+        (start_found (L.entered interfaces.main Main) (M.entered interfaces.main Main) turns
         (first_state (globals_of program.sections) inputs turns)
-        (entered_same program typed interface_fitting.main Main)))
+        (entered_same program typed interfaces.main Main)))
 
   abbrev nobody : Roles
   nobody = record { scripted = λ comp. false; rows = λ comp. [] }
@@ -396,7 +396,7 @@ module _ (arith : Arith) (program : ProgramTree) (typed : is_well_typed program 
   scripted_kept : (inputs : List ℕ) (turns : ℕ) (set : ℕ → Bool) (trace : List Event) →
       RunsAgree (scripted_run_of arith program inputs turns set trace)
       (scripted_code_run arith (lowered_program program) inputs turns set trace)
-  scripted_kept inputs turns set trace = runs_alike (roles_in interface_fitting.main set trace) inputs turns
+  scripted_kept inputs turns set trace = runs_alike (roles_in interfaces.main set trace) inputs turns
 
 pub keeps_meaning : KeepsMeaning
 keeps_meaning = record {

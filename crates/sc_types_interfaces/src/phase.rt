@@ -60,7 +60,8 @@ fn next_least(
     least: Option<u32>,
 ) -> Result<Option<u32>, OutOfMemory>
     ensures { IfOk result (λ later. later ≡ noted_all least
-        (map (line_of_text section.now.line) (section_broken tables.now number table.now mains before.now section.now))) }
+        (map (line_of_text section.now.line)
+        (section_broken tables.now number table.now mains before.now section.now))) }
 {
     let mut lines = BrokenLines {
         start: section.line,

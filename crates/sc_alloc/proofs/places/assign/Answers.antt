@@ -62,7 +62,8 @@ returns-clause-places c =
     let sorted : c.as_slice-2.result.now ≡ sorted_by (λ (x : Interval). x.first) c.args.intervals.now =
     c.as_slice-2.ensures.value ∙ c.in_ok-order.ensures.sorted ∙
     ap (sorted_by (λ (x : Interval). x.first)) c.as_slice.ensures.list in
-    let scanned : placements ≡ (fold scan_next at_first (sorted_by (λ (x : Interval). x.first) c.args.intervals.now)).placements =
+    let scanned : placements ≡ (fold scan_next at_first
+    (sorted_by (λ (x : Interval). x.first) c.args.intervals.now)).placements =
     c.in_ok-placements.ensures.places ∙ ap (λ order. (fold scan_next at_first order).placements) sorted in
     c.new.ensures ∙
     by_temps c.args.intervals.now placements c.as_slice.ensures.rules
