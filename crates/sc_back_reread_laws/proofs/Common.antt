@@ -41,7 +41,7 @@ pub use Rattle.sc_ast.specs.declared.section.FunctionTree.{FunctionTree}
 pub use Rattle.sc_ast.specs.declared.section.ImportLine.{ImportLine}
 pub use Rattle.sc_ast.specs.declared.stmt.StmtTree.{StmtTree}
 pub use Rattle.sc_parse_expr.specs.Prelude.{fourth_word, ident_in, import_of, keyword_of, mark_of, most_open, number_in}
-pub use Rattle.sc_parse_expr.specs.Prelude.{open_after, open_past, or_unused, symbol_of, third_word}
+pub use Rattle.sc_parse_expr.specs.Prelude.{open_after, open_after_mark, or_unused, symbol_of, third_word}
 pub use Rattle.sc_parse_expr.specs.declared.lexeme.Lexeme.{Lexeme}
 pub use Rattle.sc_parse_expr.specs.declared.lexeme.Symbol.{Symbol}
 pub use Rattle.sc_parse.specs.Prelude.{Grouped, IsParsed, SpellsDecl, SpellsDirectives, SpellsFunction, SpellsHead}

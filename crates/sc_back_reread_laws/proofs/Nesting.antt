@@ -2,7 +2,7 @@
 use Rattle.sc_back_reread_laws.proofs.Common.{IsTrue, Lexeme, List, Number, Piece, Symbol, [], ap, append_assoc, arith}
 use Rattle.sc_back_reread_laws.proofs.Common.{binary_text, blank, codes, fits, indent, is_ident, joined_symbols}
 use Rattle.sc_back_reread_laws.proofs.Common.{literal_says, literal_text, map, max, most_open, name_says, newline}
-use Rattle.sc_back_reread_laws.proofs.Common.{open_after, open_past, refl, subst, suc, sym, symbols, word, word_symbol}
+use Rattle.sc_back_reread_laws.proofs.Common.{open_after, open_after_mark, refl, subst, suc, sym, symbols, word, word_symbol}
 use Rattle.sc_back_reread_laws.proofs.Common.{ℕ, ◌++◌, ◌+◌, ◌-◌, ◌∙◌, ◌∷◌, ◌≡◌, ◌≤◌}
 use Rattle.sc_base.specs.declared.op.BinaryOp.{BinaryOp}
 use Rattle.sc_base.specs.declared.op.BinaryOp.TheVariants as binary
@@ -115,7 +115,7 @@ even_step count = ap (λ s. open_after s count) (tables.lone_says tables.plus_pl
 pub even_binary : (op : BinaryOp) → Even (word_symbol (binary_text op))
 even_binary op count = ap (λ s. open_after s count) (tables.binary_says op) ∙ by op
   where
-    by : (op : BinaryOp) → open_past (tables.binary_mark op) count ≡ count
+    by : (op : BinaryOp) → open_after_mark (tables.binary_mark op) count ≡ count
     by binary.OrElse = refl
     by _ = refl
 

@@ -16,7 +16,7 @@ use Rattle.sc_base.specs.declared.op.BinaryOp.TheVariants as op
 use Rattle.sc_core.specs.declared.stmt.TypedStmtKind.TheOpen as layer
 use Rattle.sc_core.specs.declared.ty.Ty.TheVariants as ty
 use Rattle.sc_tac.specs.declared.stmt.TacStmt.TheOpen as tac
-use Rattle.sc_tac.proofs.Runs.{lone}
+use Rattle.sc_tac.proofs.Runs.{only_main}
 use Rattle.sc_tac.proofs.Shapes.{stmts as tac_stmts, Shape as TacShape}
 use Rattle.sc_lower.proofs.Shapes.{form, form_is, lines_code, lines_are}
 use Rattle.sc_lower.proofs.Rows.{out, store}
@@ -55,7 +55,7 @@ main_of l =
 
 abbrev pub program_of : Looped → ProgramTree
 program_of l = record {
-  interfaces = lone;
+  interfaces = only_main;
   sections = record { structs = []; globals = global_of ty.Int ∷ []; functions = main_of l ∷ [] } ∷ [];
 }
 
@@ -102,7 +102,7 @@ module _ (l : Looped) where
 
   abbrev pub denotations : Function → Denotations
   denotations f = record {
-    interfaces = lone;
+    interfaces = only_main;
     functions = (f ∷ []) ∷ [];
     entered = (denotations_of c_arith (program_of l)).entered;
   }
@@ -146,22 +146,22 @@ module _ (l : Looped) (x : TacShape) where
     cells = [];
     frame_size = frame_bound [] (nodes (main_of l));
     does = λ by here s. and_then (all_do (rows Codes (code_step c_arith here by) x) no_temps s)
-        (λ left s. closed left.exit true (same_entry Main (entry_of lone 0 (codes "main"))) 0 here s);
+        (λ left s. closed left.exit true (same_entry Main (entry_of only_main 0 (codes "main"))) 0 here s);
   }
 
-  quick_code_is : Emits → code_function c_arith (lowered_function lone 0 [] (main_of l)) ≡ quick_code
+  quick_code_is : Emits → code_function c_arith (lowered_function only_main 0 [] (main_of l)) ≡ quick_code
   quick_code_is h = λ i. record {
     cells = [];
     frame_size = frame_bound [] (nodes (main_of l));
     does = λ by here s. and_then (all_do ((ap (λ parts. map (stmt_does c_arith here by)
         (both (just []) (in_turn parts) 0).code) (looped_code_is l)
         ∙ ap (map (stmt_does c_arith here by)) h ∙ rows_are Codes (code_step c_arith here by) x) i) no_temps s)
-        (λ left s. closed left.exit true (same_entry Main (entry_of lone 0 (codes "main"))) 0 here s);
+        (λ left s. closed left.exit true (same_entry Main (entry_of only_main 0 (codes "main"))) 0 here s);
   }
 
   abbrev pub code_in : Function → Denotations
   code_in f = record {
-    interfaces = lone;
+    interfaces = only_main;
     functions = (f ∷ []) ∷ [];
     entered = (code_denotations c_arith (lowered_program (program_of l))).entered;
   }

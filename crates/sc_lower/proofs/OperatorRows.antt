@@ -11,7 +11,7 @@ use Rattle.sc_core.specs.declared.ty.BaseTy.TheVariants as base
 use Rattle.sc_core.specs.declared.ty.Ty.TheVariants as ty
 use Rattle.sc_tac.specs.declared.stmt.TacOp.TheVariants as tacop
 use Rattle.sc_tac.specs.declared.stmt.TacStmt.TheOpen as tac
-use Rattle.sc_tac.proofs.Runs.{lone}
+use Rattle.sc_tac.proofs.Runs.{only_main}
 use Rattle.sc_tac.proofs.Shapes.{Shape as TacShape}
 use Rattle.sc_lower.proofs.Plans.{AllEmit, lowered_is}
 use Rattle.sc_lower.proofs.Rows.{BothMean, a, member, move, one_op, out, p, pair, place, pointer_fetched, sheet, store}
@@ -60,14 +60,14 @@ pub of_int_emit : AllEmit of_int ((of_int_code ∷ []) ∷ [])
 unfolding roll-TacStmt denote.Hole.Carrier.roll
 of_int_emit = ((refl, tt), tt)
 
-pub of_int_mean : BothMean lone of_int [] 0 20 (record {
+pub of_int_mean : BothMean only_main of_int [] 0 20 (record {
   trace =
       Out 0 15 ∷ Out 0 14 ∷ Out 0 1 ∷ Out 0 104 ∷ Out 0 1 ∷ Out 0 16 ∷ Out 0 10 ∷ Out 0 39 ∷ Out 0 4 ∷ Out 0 1 ∷
       Out 0 0 ∷ Out 0 1 ∷ Out 0 0 ∷ Out 0 1 ∷ Out 0 0 ∷ Out 0 1 ∷ End 0 0 ∷ [];
   end = Ended;
 })
 of_int_mean =
-    (lowered_is c_arith lone of_int ((of_int_code ∷ []) ∷ []) of_int_emit [] 0 20, by_plan lone of_int [] 0 20)
+    (lowered_is c_arith only_main of_int ((of_int_code ∷ []) ∷ []) of_int_emit [] 0 20, by_plan only_main of_int [] 0 20)
 
 -- the same of `unsigned int x = 4294967293;`
 abbrev pub of_unsigned : List Sheet
@@ -84,7 +84,7 @@ pub of_unsigned_emit : AllEmit of_unsigned ((of_unsigned_code ∷ []) ∷ [])
 unfolding roll-TacStmt denote.Hole.Carrier.roll
 of_unsigned_emit = ((refl, tt), tt)
 
-pub of_unsigned_mean : BothMean lone of_unsigned [] 0 20 (record {
+pub of_unsigned_mean : BothMean only_main of_unsigned [] 0 20 (record {
   trace =
       Out 0 4294967295 ∷ Out 0 4294967294 ∷ Out 0 1 ∷ Out 0 4294967272 ∷ Out 0 536870911 ∷ Out 0 0 ∷
       Out 0 4294967290 ∷ Out 0 4294967287 ∷ Out 0 1431655764 ∷ Out 0 1 ∷
@@ -92,8 +92,8 @@ pub of_unsigned_mean : BothMean lone of_unsigned [] 0 20 (record {
   end = Ended;
 })
 of_unsigned_mean = (
-  lowered_is c_arith lone of_unsigned ((of_unsigned_code ∷ []) ∷ []) of_unsigned_emit [] 0 20,
-  by_plan lone of_unsigned [] 0 20,
+  lowered_is c_arith only_main of_unsigned ((of_unsigned_code ∷ []) ∷ []) of_unsigned_emit [] 0 20,
+  by_plan only_main of_unsigned [] 0 20,
 )
 
 -- those whose result hangs on the sign, of `int x = -13;`
@@ -111,14 +111,14 @@ pub below_zero_emit : AllEmit below_zero ((below_zero_code ∷ []) ∷ [])
 unfolding roll-TacStmt denote.Hole.Carrier.roll
 below_zero_emit = ((refl, tt), tt)
 
-pub below_zero_mean : BothMean lone below_zero [] 0 10 (record {
+pub below_zero_mean : BothMean only_main below_zero [] 0 10 (record {
   trace =
       Out 0 4294967294 ∷ Out 0 4294967257 ∷ Out 0 4294967292 ∷ Out 0 4294967295 ∷ Out 0 1 ∷ Out 0 0 ∷ End 0 0 ∷ [];
   end = Ended;
 })
 below_zero_mean = (
-  lowered_is c_arith lone below_zero ((below_zero_code ∷ []) ∷ []) below_zero_emit [] 0 10,
-  by_plan lone below_zero [] 0 10,
+  lowered_is c_arith only_main below_zero ((below_zero_code ∷ []) ∷ []) below_zero_emit [] 0 10,
+  by_plan only_main below_zero [] 0 10,
 )
 
 abbrev pub u : Shape
@@ -146,13 +146,13 @@ pub with_one_emit : AllEmit with_one ((with_one_code ∷ []) ∷ [])
 unfolding roll-TacStmt denote.Hole.Carrier.roll
 with_one_emit = ((refl, tt), tt)
 
-pub with_one_mean : BothMean lone with_one [] 0 10 (record {
+pub with_one_mean : BothMean only_main with_one [] 0 10 (record {
   trace = Out 0 7 ∷ Out 0 4294967295 ∷ Out 0 1 ∷ Out 0 4294967294 ∷ End 0 0 ∷ [];
   end = Ended;
 })
 with_one_mean = (
-  lowered_is c_arith lone with_one ((with_one_code ∷ []) ∷ []) with_one_emit [] 0 10,
-  by_plan lone with_one [] 0 10,
+  lowered_is c_arith only_main with_one ((with_one_code ∷ []) ∷ []) with_one_emit [] 0 10,
+  by_plan only_main with_one [] 0 10,
 )
 
 abbrev pub truth : ℕ → ℕ → TacShape
@@ -181,10 +181,10 @@ pub logic_emit : AllEmit logic ((logic_code ∷ []) ∷ [])
 unfolding roll-TacStmt denote.Hole.Carrier.roll
 logic_emit = ((refl, tt), tt)
 
-pub logic_mean : BothMean lone logic [] 0 10
+pub logic_mean : BothMean only_main logic [] 0 10
     (record { trace = Out 0 0 ∷ Out 0 1 ∷ Out 0 0 ∷ Out 0 1 ∷ End 0 0 ∷ []; end = Ended })
 logic_mean =
-    (lowered_is c_arith lone logic ((logic_code ∷ []) ∷ []) logic_emit [] 0 10, by_plan lone logic [] 0 10)
+    (lowered_is c_arith only_main logic ((logic_code ∷ []) ∷ []) logic_emit [] 0 10, by_plan only_main logic [] 0 10)
 
 -- `output(p o a);` for each operator, where the locals are `int a[3]` and `int *p`
 abbrev pub orders : List BinaryOp → Lines → Lines
@@ -211,13 +211,13 @@ pub of_pointers_emit : AllEmit of_pointers ((of_pointers_code ∷ []) ∷ [])
 unfolding roll-TacStmt denote.Hole.Carrier.roll
 of_pointers_emit = ((refl, tt), tt)
 
-pub of_pointers_mean : BothMean lone of_pointers [] 0 10 (record {
+pub of_pointers_mean : BothMean only_main of_pointers [] 0 10 (record {
   trace = Out 0 0 ∷ Out 0 1 ∷ Out 0 0 ∷ Out 0 1 ∷ Out 0 0 ∷ Out 0 1 ∷ End 0 0 ∷ [];
   end = Ended;
 })
 of_pointers_mean = (
-  lowered_is c_arith lone of_pointers ((of_pointers_code ∷ []) ∷ []) of_pointers_emit [] 0 10,
-  by_plan lone of_pointers [] 0 10,
+  lowered_is c_arith only_main of_pointers ((of_pointers_code ∷ []) ∷ []) of_pointers_emit [] 0 10,
+  by_plan only_main of_pointers [] 0 10,
 )
 
 abbrev pub pair_pointer : Ty
@@ -256,6 +256,6 @@ pub steps_emit : AllEmit steps ((steps_code ∷ []) ∷ [])
 unfolding roll-TacStmt denote.Hole.Carrier.roll
 steps_emit = ((refl, tt), tt)
 
-pub steps_mean : BothMean lone steps [] 0 10 (record { trace = Out 0 8 ∷ Out 0 1 ∷ End 0 0 ∷ []; end = Ended })
+pub steps_mean : BothMean only_main steps [] 0 10 (record { trace = Out 0 8 ∷ Out 0 1 ∷ End 0 0 ∷ []; end = Ended })
 steps_mean =
-    (lowered_is c_arith lone steps ((steps_code ∷ []) ∷ []) steps_emit [] 0 10, by_plan lone steps [] 0 10)
+    (lowered_is c_arith only_main steps ((steps_code ∷ []) ∷ []) steps_emit [] 0 10, by_plan only_main steps [] 0 10)

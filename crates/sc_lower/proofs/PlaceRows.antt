@@ -12,7 +12,7 @@ use Rattle.sc_core.specs.declared.ty.BaseTy.TheVariants as base
 use Rattle.sc_core.specs.declared.ty.Ty.TheVariants as ty
 use Rattle.sc_tac.specs.declared.stmt.TacOp.TheVariants as tacop
 use Rattle.sc_tac.specs.declared.stmt.TacStmt.TheOpen as tac
-use Rattle.sc_tac.proofs.Runs.{lone}
+use Rattle.sc_tac.proofs.Runs.{only_main}
 use Rattle.sc_tac.proofs.Shapes.{Shape as TacShape}
 use Rattle.sc_lower.proofs.Plans.{AllEmit, lowered_is}
 use Rattle.sc_lower.proofs.Rows.{BothMean, a, move, one_op, out, pair, place, pointer_fetched, sheet, store, two_op}
@@ -111,12 +111,12 @@ pub places_emit : AllEmit places ((places_code ∷ []) ∷ [])
 unfolding roll-TacStmt denote.Hole.Carrier.roll
 places_emit = ((refl, tt), tt)
 
-pub places_mean : BothMean lone places [] 0 10 (record {
+pub places_mean : BothMean only_main places [] 0 10 (record {
   trace = Out 0 7 ∷ Out 0 5 ∷ Out 0 6 ∷ Out 0 7 ∷ Out 0 4 ∷ Out 0 7 ∷ End 0 6 ∷ [];
   end = Ended;
 })
 places_mean =
-    (lowered_is c_arith lone places ((places_code ∷ []) ∷ []) places_emit [] 0 10, by_plan lone places [] 0 10)
+    (lowered_is c_arith only_main places ((places_code ∷ []) ∷ []) places_emit [] 0 10, by_plan only_main places [] 0 10)
 
 abbrev pub x : Shape
 x = Var int_pointer (Param 1)
@@ -153,10 +153,10 @@ pub parameters_emit : AllEmit parameters (parameters_code ∷ [])
 unfolding roll-TacStmt denote.Hole.Carrier.roll
 parameters_emit = ((refl, (refl, tt)), tt)
 
-pub parameters_mean : BothMean lone parameters [] 1 10 (record { trace = Out 0 7 ∷ End 0 8 ∷ []; end = Ended })
+pub parameters_mean : BothMean only_main parameters [] 1 10 (record { trace = Out 0 7 ∷ End 0 8 ∷ []; end = Ended })
 parameters_mean = (
-  lowered_is c_arith lone parameters (parameters_code ∷ []) parameters_emit [] 1 10,
-  by_plan lone parameters [] 1 10,
+  lowered_is c_arith only_main parameters (parameters_code ∷ []) parameters_emit [] 1 10,
+  by_plan only_main parameters [] 1 10,
 )
 
 -- CALLS

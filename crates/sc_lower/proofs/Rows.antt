@@ -16,7 +16,7 @@ use Rattle.sc_core.specs.declared.ty.Ty.TheVariants as ty
 use Rattle.sc_tac.specs.declared.stmt.Constant.TheVariants as constant
 use Rattle.sc_tac.specs.declared.stmt.TacOp.TheVariants as tacop
 use Rattle.sc_tac.specs.declared.stmt.TacStmt.TheOpen as tac
-use Rattle.sc_tac.proofs.Runs.{lone}
+use Rattle.sc_tac.proofs.Runs.{only_main}
 use Rattle.sc_tac.proofs.Shapes.{Shape as TacShape}
 use Rattle.sc_lower.proofs.Plans.{AllEmit, lowered_is}
 
@@ -65,13 +65,13 @@ pub signs_emit : AllEmit signs ((signs_code ∷ []) ∷ [])
 unfolding roll-TacStmt denote.Hole.Carrier.roll
 signs_emit = ((refl, tt), tt)
 
-pub signs_mean : BothMean lone signs [] 0 10 (record {
+pub signs_mean : BothMean only_main signs [] 0 10 (record {
   trace = Out 0 4294967289 ∷ Out 0 0 ∷ Out 0 4294967288 ∷ End 0
       3 ∷ [];
   end = Ended;
 })
 signs_mean =
-    (lowered_is c_arith lone signs ((signs_code ∷ []) ∷ []) signs_emit [] 0 10, by_plan lone signs [] 0 10)
+    (lowered_is c_arith only_main signs ((signs_code ∷ []) ∷ []) signs_emit [] 0 10, by_plan only_main signs [] 0 10)
 
 abbrev pub u : Shape
 u = Var ty.Unsigned (Local 0)
@@ -115,9 +115,9 @@ pub choices_emit : AllEmit choices ((choices_code ∷ []) ∷ [])
 unfolding roll-TacStmt denote.Hole.Carrier.roll
 choices_emit = ((refl, tt), tt)
 
-pub choices_mean : BothMean lone choices [] 0 10 (record { trace = Out 0 1 ∷ Out 0 4 ∷ End 0 0 ∷ []; end = Ended })
+pub choices_mean : BothMean only_main choices [] 0 10 (record { trace = Out 0 1 ∷ Out 0 4 ∷ End 0 0 ∷ []; end = Ended })
 choices_mean =
-    (lowered_is c_arith lone choices ((choices_code ∷ []) ∷ []) choices_emit [] 0 10, by_plan lone choices [] 0 10)
+    (lowered_is c_arith only_main choices ((choices_code ∷ []) ∷ []) choices_emit [] 0 10, by_plan only_main choices [] 0 10)
 
 -- `for (i = 0; i < 4; i = i + 1) { if (i == 2) continue; output(i); } while (1) { ; break; } return i;`
 abbrev pub loops : List Sheet
@@ -143,12 +143,12 @@ pub loops_emit : AllEmit loops ((loops_code ∷ []) ∷ [])
 unfolding roll-TacStmt denote.Hole.Carrier.roll
 loops_emit = ((refl, tt), tt)
 
-pub loops_mean : BothMean lone loops [] 5 10 (record {
+pub loops_mean : BothMean only_main loops [] 5 10 (record {
   trace = Out 0 0 ∷ Out 0 1 ∷ Out 0 3 ∷ End 0 4 ∷ [];
   end = Ended;
 })
 loops_mean =
-    (lowered_is c_arith lone loops ((loops_code ∷ []) ∷ []) loops_emit [] 5 10, by_plan lone loops [] 5 10)
+    (lowered_is c_arith only_main loops ((loops_code ∷ []) ∷ []) loops_emit [] 5 10, by_plan only_main loops [] 5 10)
 
 abbrev pub a : Shape
 a = Var (ints 3) (Local 0)
@@ -201,11 +201,11 @@ pub pointers_emit : AllEmit pointers ((pointers_code ∷ []) ∷ [])
 unfolding roll-TacStmt denote.Hole.Carrier.roll
 pointers_emit = ((refl, tt), tt)
 
-pub pointers_mean : BothMean lone pointers [] 0 10
+pub pointers_mean : BothMean only_main pointers [] 0 10
     (record { trace = Out 0 9 ∷ Out 0 1 ∷ Out 0 1 ∷ Out 0 1 ∷ Out 0 0 ∷ End 0 0 ∷ []; end = Ended })
 pointers_mean = (
-  lowered_is c_arith lone pointers ((pointers_code ∷ []) ∷ []) pointers_emit [] 0 10,
-  by_plan lone pointers [] 0
+  lowered_is c_arith only_main pointers ((pointers_code ∷ []) ∷ []) pointers_emit [] 0 10,
+  by_plan only_main pointers [] 0
       10,
 )
 
@@ -253,9 +253,9 @@ pub members_emit : AllEmit members ((members_code ∷ []) ∷ [])
 unfolding roll-TacStmt denote.Hole.Carrier.roll
 members_emit = ((refl, tt), tt)
 
-pub members_mean : BothMean lone members [] 0 10 (record { trace = Out 0 3 ∷ Out 0 3 ∷ End 0 0 ∷ []; end = Ended })
+pub members_mean : BothMean only_main members [] 0 10 (record { trace = Out 0 3 ∷ Out 0 3 ∷ End 0 0 ∷ []; end = Ended })
 members_mean =
-    (lowered_is c_arith lone members ((members_code ∷ []) ∷ []) members_emit [] 0 10, by_plan lone members [] 0 10)
+    (lowered_is c_arith only_main members ((members_code ∷ []) ∷ []) members_emit [] 0 10, by_plan only_main members [] 0 10)
 
 -- `int f(int a) { return a + a; }`, `void h(void) { return; }`, `int k(int a) { return f(a); }`, and
 -- `int x; x = input(); x = k(x); h(); output(x); return x;`
@@ -286,13 +286,13 @@ pub helpers_emit : AllEmit helpers (helpers_code ∷ [])
 unfolding roll-TacStmt denote.Hole.Carrier.roll
 helpers_emit = ((refl, (refl, (refl, (refl, tt)))), tt)
 
-pub helpers_mean : BothMean lone helpers (21 ∷ []) 3 10 (record {
+pub helpers_mean : BothMean only_main helpers (21 ∷ []) 3 10 (record {
   trace = In 0 21 ∷ Out 0 42 ∷ End 0 42 ∷ [];
   end = Ended;
 })
 helpers_mean = (
-  lowered_is c_arith lone helpers (helpers_code ∷ []) helpers_emit (21 ∷ []) 3 10,
-  by_plan lone helpers (21 ∷ []) 3
+  lowered_is c_arith only_main helpers (helpers_code ∷ []) helpers_emit (21 ∷ []) 3 10,
+  by_plan only_main helpers (21 ∷ []) 3
       10,
 )
 
@@ -333,15 +333,15 @@ pub too_large_emit : AllEmit too_large ((too_large_code ∷ []) ∷ [])
 unfolding roll-TacStmt denote.Hole.Carrier.roll
 too_large_emit = ((refl, tt), tt)
 
-pub too_large_is_blamed : code_meaning (lowered_program (program lone too_large)) [] 0 10 ≡ record {
+pub too_large_is_blamed : code_meaning (lowered_program (program only_main too_large)) [] 0 10 ≡ record {
   trace = [];
   end = Blamed 0 Overflow 0;
 }
-too_large_is_blamed = lowered_is c_arith lone too_large ((too_large_code ∷ []) ∷ []) too_large_emit [] 0 10
+too_large_is_blamed = lowered_is c_arith only_main too_large ((too_large_code ∷ []) ∷ []) too_large_emit [] 0 10
 
-pub too_large_was_blamed : meaning (program lone too_large) [] 0 10 ≡ record { trace = []; end = Blamed 0 Overflow 3 }
-too_large_was_blamed = by_plan lone too_large [] 0 10
+pub too_large_was_blamed : meaning (program only_main too_large) [] 0 10 ≡ record { trace = []; end = Blamed 0 Overflow 3 }
+too_large_was_blamed = by_plan only_main too_large [] 0 10
 
-pub too_large_wraps : code_wrapped (lowered_program (program lone too_large)) [] 0 10
+pub too_large_wraps : code_wrapped (lowered_program (program only_main too_large)) [] 0 10
     ≡ record { trace = End 0 2147483648 ∷ []; end = Ended }
-too_large_wraps = lowered_is wrapping lone too_large ((too_large_code ∷ []) ∷ []) too_large_emit [] 0 10
+too_large_wraps = lowered_is wrapping only_main too_large ((too_large_code ∷ []) ∷ []) too_large_emit [] 0 10
