@@ -1,0 +1,652 @@
+"""What a definition or a contract cites, by name and import: the reader of .antt and .rt files for tools/trusted.py.
+
+A name in a term is bound there (by a pattern, a `λ`, a `let`, a typed parameter, a field before it), or the imports of
+its file say what it is; one that is neither is an error. No kit is needed: of its names only the module is known.
+"""
+import collections
+import functools
+import glob
+import os
+import re
+
+PIECE = r'(?:«[^»]*»|[^\s(){}.;,@"«»]+)'
+STRING = r'"(?:\\.|[^"\\])*"'
+TOKEN = rf"(?P<string>{STRING})|(?P<word>{PIECE}(?:\.{PIECE})*|\.{PIECE}(?:\.{PIECE})*)|(?P<mark>[(){{}}.;,@])"
+ANTT = re.compile(rf"(?P<skip>\s+|--[^\n]*|\{{-.*?-\}})|{TOKEN}", re.S)
+RUST = re.compile(rf"(?P<skip>\s+|//[^\n]*|/\*.*?\*/|b?'(?:\\[^']*.|[^'\\])')|{TOKEN}", re.S)
+# The words of antt that no file declares, and those of Rust.
+BUILT_IN = set("→ × ↦ = | : [ ] ← _ ⊥ ¬ Unit tt absurd Type Prim where record elim as in let do λ data".split())
+OF_RUST = set("Self Some None Ok Err Option Result String Vec Box Drop Clone Copy Fn FnMut FnOnce Iterator Default From Into"
+              " PartialEq Eq PartialOrd Ord Hash Debug Display bool u8 u16 u32 u64 usize i8 i16 i32 i64 isize".split())
+MODIFIERS = {"abbrev", "pub", "private", "unfoldable", "opaque"}
+
+Kit = collections.namedtuple("Kit", "crate word")
+
+
+class Unresolved(Exception):
+    """A name that is neither bound nor imported."""
+
+
+class Node:
+    """A word of a text, or what stands in a pair of brackets."""
+
+    def __init__(self, text, line, column, first):
+        self.text, self.line, self.column, self.first = text, line, column, first
+        self.items, self.end = None, line
+
+
+def nodes_of(text, lexer):
+    """The words of a text, with a node for each pair of brackets."""
+    top, line, begins, place = [], 1, 0, 0
+    stack, fresh = [top], True
+    while place < len(text):
+        found = lexer.match(text, place)
+        if not found:
+            raise Unresolved(f"{line}: can't read {text[place:place + 20]!r}")
+        word = found[0]
+        if not found["skip"]:
+            node = Node(word, line, place - begins, fresh)
+            fresh = False
+            if word in ("(", "{"):
+                node.items = []
+                stack[-1].append(node)
+                stack.append(node.items)
+            elif word in (")", "}"):
+                stack.pop()
+                stack[-1][-1].end = line
+            else:
+                stack[-1].append(node)
+        if "\n" in word:
+            line += word.count("\n")
+            begins, fresh = place + word.rindex("\n") + 1, True
+        place = found.end()
+    return top
+
+
+def split(nodes, marks=(",", ";")):
+    """The parts of a row between commas or semicolons."""
+    parts = [[]]
+    for node in nodes:
+        if node.items is None and node.text in marks:
+            parts.append([])
+        else:
+            parts[-1].append(node)
+    return [part for part in parts if part]
+
+
+def at_word(nodes, *words):
+    """The place of the first of these words in a row, or None."""
+    return next((at for at, node in enumerate(nodes) if node.items is None and node.text in words), None)
+
+
+def words_in(nodes):
+    """All words of a row, those in brackets too."""
+    for node in nodes:
+        yield from [node.text.strip("«»")] if node.items is None else words_in(node.items)
+
+
+def chunks(nodes):
+    """The rows that begin in the column of the first."""
+    rows = []
+    for node in nodes:
+        if node.first and node.column <= nodes[0].column:
+            rows.append([])
+        rows[-1].append(node)
+    return rows
+
+
+class Walk:
+    """What a term cites: each free word, with its line."""
+
+    def __init__(self, scope):
+        self.scope, self.found = scope, []
+
+    def term(self, nodes, bound):
+        """Notes what a row cites, and gives what is bound at its end."""
+        bound, waiting, at = set(bound), [], 0
+        while at < len(nodes):
+            node = nodes[at]
+            at += 1
+            bound |= {name for column, name in waiting if node.first and node.column <= column}
+            if node.items is not None:
+                bound |= self.group(node, bound)
+            elif node.text == "λ":
+                end = at + at_word(nodes[at:], ".")
+                bound |= self.binders(nodes[at:end], bound)
+                at = end + 1
+            elif node.text == "let":
+                at = self.let(nodes, at, bound)
+            elif at < len(nodes) and nodes[at].text == "←":
+                waiting.append((node.column, node.text))
+                at += 1
+            else:
+                self.cite(node, bound)
+        return bound
+
+    def let(self, nodes, at, bound):
+        """Notes a `let`, binds its name, and gives the place behind its `in`."""
+        value = at + at_word(nodes[at:], "=")
+        depth, end = 1, value
+        while depth:
+            end += 1
+            depth += {"let": 1, "in": -1}.get(nodes[end].text, 0)
+        name = at + (at_word(nodes[at:value], ":") or value - at)
+        self.term(nodes[name + 1:value], bound)
+        self.term(nodes[value + 1:end], bound)
+        bound |= set(words_in(nodes[at:name]))
+        return end + 1
+
+    def binders(self, nodes, bound):
+        """The names that a row of patterns without constructors binds."""
+        names = set()
+        for node in nodes:
+            typed = node.items is not None and at_word(node.items, ":") is not None
+            names |= self.group(node, bound) if typed else set(words_in([node]))
+        return names
+
+    def group(self, node, bound):
+        """Notes what stands in brackets, and gives the names that it binds for what follows."""
+        names = set()
+        for part in split(node.items):
+            colon = at_word(part, ":")
+            if colon:
+                self.term(part[colon + 1:], bound)
+                names |= set(words_in(part[:colon]))
+            elif node.text == "{" and len(part) > 1 and part[1].text == "=":
+                self.term(part[2:], bound)
+            else:
+                self.term(part, bound)
+        return names
+
+    def patterns(self, nodes, bound):
+        """Notes the constructors on the left of an equation, and binds all else."""
+        for node in nodes:
+            if node.items is not None:
+                for part in split(node.items):
+                    named = node.text == "{" and len(part) > 1 and part[1].text == "="
+                    self.patterns(part[2:] if named else part, bound)
+            elif "." in node.text or self.scope.is_constructor(node.text):
+                self.cite(node, bound)
+            elif node.text not in BUILT_IN:
+                bound.add(node.text.strip("«»"))
+
+    def cite(self, node, bound):
+        """Notes a word that isn't bound."""
+        text = node.text
+        if text == "do":
+            self.found.append(("◌>>=◌", node.line))
+        elif text[0] not in ".\"0123456789" and text.split(".")[0].strip("«»") not in bound | BUILT_IN:
+            self.found.append((text, node.line))
+
+
+class Scope:
+    """The names that imports bring, and those that a file declares."""
+
+    def __init__(self, repository, outer=None, rust=None):
+        self.repository, self.outer, self.rust = repository, outer, rust
+        self.own, self.names, self.modules, self.parts = {}, {}, {}, collections.defaultdict(set)
+
+    def use(self, nodes):
+        """Takes an import in."""
+        path = nodes[0].text.rstrip(".").rstrip(";")
+        other = nodes[2].text if len(nodes) > 2 and nodes[1].text == "as" else None
+        group = next((node for node in nodes if node.items is not None), None)
+        if group is None:
+            self.modules[other or path.split(".")[-1]] = path
+            return
+        for part in split(group.items):
+            name = part[0].text.strip("«»")
+            self.names[part[2].text if len(part) > 2 else name] = (path, name)
+
+    def operators(self):
+        """Makes the parts of operators lead to them."""
+        for name in [*self.own, *self.names]:
+            for part in name.split("◌") if "◌" in name else []:
+                self.parts[part].add(name)
+
+    def is_constructor(self, word):
+        """Whether a word in a pattern stands for itself; of the kit's names it is told by how it is spelled."""
+        if word in self.own:
+            return word in self.own[word].constructors
+        if word in self.names:
+            module, name = self.names[word]
+            thing = self.repository.find(module, name)
+            return not name.islower() or name in ("true", "false", "zero", "suc", "pos", "negsuc") if isinstance(
+                thing, Kit) else name in thing.constructors
+        return word in self.parts or bool(self.outer and self.outer.is_constructor(word))
+
+    def look(self, word):
+        """What a word stands for, or nothing."""
+        head, *rest = [piece.strip("«»") for piece in re.findall(PIECE, word)]
+        if head in self.own:
+            return [self.own[head]]
+        if head in self.names:
+            return [self.repository.find(*self.names[head])]
+        if head in self.modules:
+            return [self.repository.find(self.modules[head], rest[0] if rest else "")]
+        part = head.strip("◌")
+        if part in self.parts:
+            return [it for name in sorted(self.parts[part]) for it in self.look(name)]
+        found = self.outer.look(word) if self.outer else []
+        return found or ([it for it in [self.rust.resolve(head)] if it] if self.rust else [])
+
+
+class Thing:
+    """A definition: where it stands, and the terms of which it is made."""
+
+    def __init__(self, file, name, kind, nodes):
+        self.file, self.name, self.kind = file, name, kind
+        self.line, self.spans, self.parts = nodes[0].line, [], []
+        self.constructors, self.types, self.is_public = set(), [], False
+        self.extend(nodes)
+
+    def extend(self, nodes):
+        """Counts these lines as its own."""
+        self.spans.append((nodes[0].line, max(node.end for node in nodes)))
+
+    def lines(self):
+        """How many lines it has."""
+        return sum(end - begin + 1 for begin, end in self.spans)
+
+    def comment(self):
+        """The first sentence above it."""
+        rows, at = self.file.rows, self.line - 2
+        while at >= 0 and re.match(r" *(#\[|infix)", rows[at]):
+            at -= 1
+        found = []
+        while at >= 0 and re.match(r" *(--|///?)( |$)", rows[at]):
+            found.insert(0, re.sub(r"^ *(--|///?) ?", "", rows[at]).strip())
+            at -= 1
+        return re.split(r"\.(?: |$)", " ".join(found), maxsplit=1)[0]
+
+    @functools.lru_cache(None)
+    def cited(self):
+        """What it cites directly."""
+        targets = {}
+        for scope, note in self.parts:
+            walk = Walk(scope)
+            note(walk)
+            for word, line in walk.found:
+                there = scope.look(word)
+                if not there and word.split(".")[0] not in OF_RUST:
+                    raise Unresolved(f"{self.file.path}:{line}: can't tell what {word} is")
+                targets.update(dict.fromkeys(there))
+        for name in self.types:
+            targets[self.file.resolve(name, self.line)] = None
+        return [it for it in targets if it not in (self, None)]
+
+
+class Antt:
+    """A file of definitions."""
+
+    def __init__(self, repository, path):
+        self.path = path
+        with open(f"{repository.top}/{path}", encoding="utf-8") as it:
+            text = it.read()
+        self.rows, self.scope = text.split("\n"), Scope(repository)
+        self.crate = path.split("/")[1]
+        self.block(nodes_of(text, ANTT), [])
+        self.scope.operators()
+
+    def block(self, nodes, around):
+        """Reads the rows of a block, within the parameters of the modules around it."""
+        last = None
+        for row in chunks(nodes):
+            words = [node.text for node in row]
+            rest = next(at for at, word in enumerate(words) if word not in MODIFIERS)
+            if words[rest] == "use":
+                self.scope.use(row[rest + 1:])
+            elif words[rest] in ("module", "mutual"):
+                where = words.index("where") if words[rest] == "module" else rest
+                self.block(row[where + 1:], [*around, row[rest + 2:where]])
+            elif words[rest] in ("record", "data"):
+                self.declare(row, row[rest + 1:], words[rest], around)
+            elif words[rest] not in ("mod", "ruleset") and not words[rest].startswith("infix"):
+                equal, colon = at_word(row, "="), at_word(row, ":")
+                if rest or colon and not equal:
+                    kind = "definition" if {"abbrev", "unfoldable"} & set(words[:rest]) else "lemma"
+                    last = self.add(row, row[rest].text, kind)
+                    self.note(last, around, lambda walk, bound, row=row[rest + 1:]: walk.term(row, bound))
+                elif last.kind != "lemma":
+                    last.extend(row)
+                    self.equation(last, around, row, equal)
+
+    def equation(self, thing, around, row, equal):
+        """Notes an equation of what was declared last."""
+        parts = thing.name.strip("«»").split("◌")
+        left = [node for node in row[:equal] if node.text not in (thing.name, *parts)]
+        if len(left) == equal:
+            raise Unresolved(f"{self.path}:{row[0].line}: an equation of something else than {thing.name}")
+
+        def read(walk, bound):
+            walk.patterns(left, bound)
+            where = at_word(row, "where") or len(row)
+            inner = chunks(row[where + 1:])
+            bound |= {it[0].text for it in inner}
+            walk.term(row[equal + 1:where], bound)
+            for it in inner:
+                inside, at = set(bound), at_word(it, "=") or 0
+                walk.patterns(it[1:at], inside)
+                walk.term(it[at + 1:], inside)
+
+        self.note(thing, around, read)
+
+    def add(self, row, name, kind):
+        """Adds a definition."""
+        thing = self.scope.own[name.strip("«»")] = Thing(self, name.strip("«»"), kind, row)
+        return thing
+
+    def note(self, thing, around, read):
+        """Adds a part of a definition, which is read where the parameters of its modules are bound."""
+
+        def bind(walk):
+            bound = set()
+            for header in around:
+                bound = walk.term(header, bound)
+            read(walk, bound)
+
+        thing.parts.append((self.scope, bind))
+
+    def declare(self, row, body, kind, around):
+        """Adds a record with its fields, or a data type with its constructors."""
+        thing = self.add(row, body[0].text, kind)
+        where = at_word(body, "where") or len(body)
+        fields = [[node for node in field if node.text != "pub"] for field in chunks(body[where + 1:])]
+        if kind == "data":
+            thing.constructors = {field[0].text.strip("«»") for field in fields}
+            self.scope.own.update(dict.fromkeys(thing.constructors, thing))
+
+        def read(walk, bound):
+            bound = walk.term(body[1:where], bound)
+            for field in fields:
+                walk.term(field[1:], bound)
+                bound |= {field[0].text.strip("«»")} if kind == "record" else set()
+
+        self.note(thing, around, read)
+
+
+IDENT = re.compile(r"(?:[A-Za-z_]\w*::)*[A-Za-z_]\w*")
+KEYWORDS = ("fn", "struct", "enum", "trait", "impl", "type", "const", "static", "use", "mod", "ghost")
+CLAUSES = ("requires", "ensures", "requires*", "ensures*")
+
+
+def is_clause(row, at):
+    """Whether a pair of braces holds a clause or a ghost member, and not a body."""
+    before = ["", "", "", *(node.text if node.items is None else "{" for node in row[:at])]
+    clause = before[-1] in CLAUSES or before[-2] in CLAUSES and before[-1] != "{"
+    return clause or before[-2] == "ghost" or before[-3] == "ghost" and before[-1] == "="
+
+
+def items_of(nodes):
+    """The items of a file, an `impl` or a trait."""
+    row, depth = [], 0
+    for node in nodes:
+        row.append(node)
+        text = node.text if node.items is None and node.text[0] != '"' else ""
+        depth += text.count("[") - text.count("]")
+        braces = node.items is not None and node.text == "{"
+        if text == ";" and depth <= 0 or braces and not is_clause(row, len(row) - 1) and at_word(row, "use") is None:
+            yield row
+            row = []
+
+
+def types_in(nodes, generics):
+    """The types and constants that a row of Rust names."""
+    for word in words_in(nodes):
+        for path in IDENT.findall("" if word[0] == '"' else word):
+            ours = path.split("::")[0] not in generics | OF_RUST
+            if path.split("::")[-1][0].isupper() and ours:
+                yield path
+
+
+def generics_of(nodes):
+    """The parameters in `<..>` at the beginning of a row, up to the first brackets."""
+    text = ""
+    for node in nodes:
+        if node.items is not None:
+            break
+        text += " " + node.text
+    return set(re.findall(r"[<,]\s*(?:const )?([A-Za-z_]\w*)", text))
+
+
+class Rust:
+    """A file of code: its items as contracts see them."""
+
+    def __init__(self, repository, path):
+        self.repository, self.path, self.crate = repository, path, path.split("/")[1]
+        with open(f"{repository.top}/{path}", encoding="utf-8") as it:
+            text = it.read()
+        self.rows, self.items, self.uses, self.models, self.open = text.split("\n"), {}, {}, {}, set()
+        self.scope = Scope(repository, rust=self)
+        for row in self.within(nodes_of(text, RUST), self.scope):
+            self.item(row)
+        for name, (scope, groups) in self.models.items():
+            thing = self.items[name]
+            thing.types = []
+            thing.extend(groups)
+            thing.parts = [(scope, lambda walk, it=it: walk.term(it.items, {"Self"})) for it in groups]
+
+    def within(self, nodes, scope):
+        """The items of a row but for its ghost imports, which the scope takes."""
+        rows = []
+        for row in items_of(nodes):
+            at = at_word(row, *KEYWORDS)
+            if at is not None and row[at].text == "ghost" and row[at + 1].text == "use":
+                scope.use(row[at + 2:])
+            elif at is not None:
+                at -= 0 if "const" != row[at].text or row[at + 1].text != "fn" else -1
+                rows.append((row, at))
+        scope.operators()
+        return rows
+
+    def item(self, found):
+        """Reads an item of the file."""
+        row, at = found
+        word, is_public = row[at].text, self.is_public(row, at)
+        if word == "use":
+            self.imported(row[at + 1:], [], is_public)
+        elif word == "mod" and is_public:
+            self.open.add(row[at + 1].text)
+        elif word == "impl":
+            self.impl(row, at)
+        elif word == "fn":
+            thing = self.function(row, at, self.scope, "", set())
+            self.items[thing.name] = thing
+        elif word not in ("mod", "ghost"):
+            name = IDENT.match(row[at + 1].text)[0]
+            thing = self.items[name] = Thing(self, name, {"type": "alias"}.get(word, word), row[at:])
+            thing.is_public = is_public
+            getattr(self, word if word in ("enum", "trait") else "plain")(thing, row[at + 1:])
+
+    @staticmethod
+    def is_public(row, at):
+        """Whether an item is `pub`, and not only in a part."""
+        pub = at_word(row[:at], "pub")
+        return pub is not None and row[pub + 1].items is None
+
+    def plain(self, thing, row):
+        """A struct, an alias or a constant: the types in it."""
+        generics = generics_of(row) | {thing.name}
+        thing.types = list(types_in(row, generics))
+
+    def enum(self, thing, row):
+        """An enum: its variants, and the types in them."""
+        generics = generics_of(row) | {thing.name}
+        for part in split(row[-1].items):
+            name = next(node for node in part if node.items is None and node.text[0].isupper())
+            thing.constructors.add(name.text)
+            thing.types += types_in([node for node in part if node.items is not None], generics)
+
+    def trait(self, thing, row):
+        """A trait: its ghost members, and the contracts of its functions."""
+        scope = Scope(self.repository, self.scope, self)
+        inside = self.within(row[-1].items, scope)
+        members = {it[at + 1].text.rstrip(":") for it, at in inside if it[at].text == "ghost"}
+        for it, at in inside:
+            if it[at].text == "ghost":
+                group = next(node for node in it if node.items is not None)
+                thing.parts.append((scope, lambda walk, group=group: walk.term(group.items, members | {"Self"})))
+            elif it[at].text == "fn":
+                function = self.function(it, at, scope, "", members | generics_of(row))
+                thing.parts += function.parts
+                thing.types += [name for name in function.types if name != thing.name]
+
+    def impl(self, row, at):
+        """The functions of an `impl`, or what a model says."""
+        head = " ".join(node.text for node in row[at:-1] if node.items is None)
+        found = re.search(r"([A-Za-z_]\w*)(?:<[^<>]*>)? for ([A-Za-z_]\w*)", head)
+        bare = re.sub(r"^impl(<[^<>]*(<[^<>]*>[^<>]*)*>)? *", "", head)
+        owner = found[2] if found else IDENT.match(bare)[0]
+        scope = Scope(self.repository, self.scope, self)
+        for it, place in self.within(row[-1].items, scope):
+            if it[place].text == "fn":
+                thing = self.function(it, place, scope, owner, generics_of(row[at:]))
+                thing.is_public |= bool(found)
+                self.items.setdefault(thing.name, thing)
+            elif found and found[1] == "Model" and it[place + 1].text in ("Value", "view", "invariant"):
+                group = next(node for node in it if node.items is not None)
+                self.models.setdefault(owner, (scope, []))[1].append(group)
+
+    def function(self, row, at, scope, owner, bound):
+        """A function: the types that it names, and its clauses."""
+        name = IDENT.match(row[at + 1].text)[0]
+        head = next(place for place in range(at, len(row)) if row[place].items is not None and row[place].text == "(")
+        ends = [place for place in range(at, len(row)) if row[place].text in ("{", ";")]
+        clauses = [place for place in ends if row[place].items is not None and is_clause(row, place)]
+        body = ends[-1] if ends[-1] not in clauses else len(row)
+        thing = Thing(self, f"{owner}::{name}" if owner else name, "function", row[at:body])
+        thing.is_public = self.is_public(row, at)
+        generics = generics_of(row[at + 1:]) | bound
+        first = clauses[0] if clauses else body
+        thing.types = [*([owner] if owner else []), *types_in(row[at + 2:first], generics)]
+        names = {"self", "Self", "result", *generics}
+        for part in split(row[head].items):
+            colon = next((place for place, node in enumerate(part) if node.text.endswith(":")), len(part) - 1)
+            names |= {word.rstrip(":") for word in words_in(part[:colon + 1])}
+        names |= {row[place - 1].text.rstrip(":") for place in clauses if row[place - 2].text == "ghost"}
+        for place in clauses:
+            thing.parts.append((scope, lambda walk, it=row[place].items: walk.term(it, names)))
+        return thing
+
+    def imported(self, nodes, before, is_public):
+        """Takes a `use` of Rust in."""
+        for part in split(nodes):
+            path = before + [it for it in part[0].text.split("::") if it] if part[0].items is None else before
+            if part[-1].items is not None:
+                self.imported(part[-1].items, path, is_public)
+            else:
+                self.uses[part[2].text if len(part) > 2 else path[-1]] = (path, is_public)
+
+    def resolve(self, path, line=None):
+        """What a path of Rust names: a thing, a word of the kit, or None for a word of the language."""
+        if path in self.items:
+            return self.items[path]
+        head, *rest = path.split("::")
+        if head in self.uses:
+            return self.repository.rust_path(self, self.uses[head][0] + rest)
+        if rest:
+            return self.repository.rust_path(self, [head, *rest])
+        if line:
+            raise Unresolved(f"{self.path}:{line}: can't tell what {path} is")
+        return None
+
+
+class Repository:
+    """The files of a repository, read as they are wanted."""
+
+    def __init__(self, top):
+        self.top, self.crates = top, []
+        with open(f"{top}/crates.txt", encoding="utf-8") as it:
+            self.crates = [row.split(":")[0] for row in it if re.match(r"\w+:", row)]
+        self.rank = {crate: at for at, crate in enumerate(self.crates)}
+
+    def files(self, crate, part, end):
+        """The paths of a crate's files."""
+        found = glob.glob(f"{self.top}/crates/{crate}/{part}/**/*{end}", recursive=True)
+        return sorted(os.path.relpath(path, self.top) for path in found)
+
+    @functools.lru_cache(None)
+    def antt(self, path):
+        return Antt(self, path)
+
+    @functools.lru_cache(None)
+    def rust(self, path):
+        return Rust(self, path)
+
+    def library(self, crate):
+        return self.rust(f"crates/{crate}/src/lib.rt")
+
+    def child(self, file, name):
+        """The file of a module below a file of code, or nothing."""
+        top = re.sub(r"/(lib|mod)\.rt$|\.rt$", "", file.path)
+        found = [path for path in (f"{top}/{name}.rt", f"{top}/{name}/mod.rt") if os.path.exists(f"{self.top}/{path}")]
+        return self.rust(found[0]) if found else None
+
+    def rust_path(self, file, path):
+        """What a path of Rust names, seen from a file."""
+        head, *rest = path
+        if head == "crate":
+            file = self.library(file.crate)
+        elif head in self.rank:
+            file = self.library(head)
+        elif head not in ("self", "super"):
+            inside = self.child(file, head)
+            if not inside:
+                return file.items.get("::".join(path)) or Kit(head, "::".join(rest))
+            file = inside
+        for at, name in enumerate(rest):
+            inside = self.child(file, name) if name.islower() else None
+            if not inside or at == len(rest) - 1:
+                return file.resolve(name) or file.items.get("::".join(rest[at:]))
+            file = inside
+        return None
+
+    @functools.lru_cache(None)
+    def find(self, module, name):
+        """What a module of specs/ or proofs/ means by a name."""
+        steps = module.split(".")[1:]
+        if steps[0] not in self.rank:
+            return Kit(steps[0], ".".join(steps[1:]))
+        if steps[2] not in ("declared", "contracts"):
+            path = f"crates/{'/'.join(steps)}.antt"
+            found = self.antt(path).scope.look(name) if os.path.exists(f"{self.top}/{path}") else []
+        else:
+            at = next((at for at, step in enumerate(steps) if at > 2 and step[0].isupper()), len(steps))
+            path = f"crates/{steps[0]}/src/{'/'.join(steps[3:at]) or 'lib'}.rt"
+            file, step = self.rust(path), steps[at] if at < len(steps) else name
+            # what is generated of a derived trait is called by both names: it belongs to the type
+            owners = [it for it in file.items if step.startswith(it)] if steps[2] == "contracts" else []
+            found = [file.resolve(step) or file.items.get(max(owners, key=len, default=""))]
+        if not found or found[0] is None:
+            raise Unresolved(f"{module}: has no {name}")
+        return found[0]
+
+    @functools.lru_cache(None)
+    def public(self, crate):
+        """The public functions of a crate by their paths, and its public traits."""
+        lib = self.library(crate)
+        seen = [(name, lib.resolve(name)) for name, (_, is_public) in lib.uses.items() if is_public]
+        seen += [(name, thing) for name, thing in lib.items.items() if thing.is_public]
+        for name in lib.open:
+            seen += [(name, thing) for name, thing in self.child(lib, name).items.items() if thing.is_public]
+        ours = {id(thing): name for name, thing in seen if isinstance(thing, Thing) and thing.file.crate == crate}
+        found = {name: thing for name, thing in seen if id(thing) in ours and thing.kind in ("function", "trait")}
+        for path in self.files(crate, "src", ".rt"):
+            for name, thing in self.rust(path).items.items():
+                owner = self.rust(path).resolve(name.split("::")[0]) if "::" in name else None
+                if id(owner) in ours and thing.is_public:
+                    found[f"{ours[id(owner)]}::{name.split('::')[1]}"] = thing
+        return found
+
+
+def reached(roots):
+    """What is cited by these, directly or not, in the order in which it is met."""
+    order = dict.fromkeys(roots)
+    waiting = collections.deque(roots)
+    while waiting:
+        for thing in waiting.popleft().cited():
+            if thing not in order:
+                order[thing] = None
+                if isinstance(thing, Thing):
+                    waiting.append(thing)
+    return list(order)
