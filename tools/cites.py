@@ -15,7 +15,7 @@ TOKEN = rf"(?P<string>{STRING})|(?P<word>{PIECE}(?:\.{PIECE})*|\.{PIECE}(?:\.{PI
 ANTT = re.compile(rf"(?P<skip>\s+|--[^\n]*|\{{-.*?-\}})|{TOKEN}", re.S)
 RUST = re.compile(rf"(?P<skip>\s+|//[^\n]*|/\*.*?\*/|b?'(?:\\[^']*.|[^'\\])')|{TOKEN}", re.S)
 # The words of antt that no file declares, and those of Rust.
-BUILT_IN = set("→ × ↦ = | : [ ] ← _ ⊥ ¬ Unit tt absurd Type Prim where record elim as in let do λ data".split())
+BUILT_IN = set("𝓛 → × ↦ = | : [ ] ← _ ⊥ ¬ Unit tt absurd Type Prim where record elim as in let do λ data".split())
 OF_RUST = set("Self Some None Ok Err Option Result String Vec Box Drop Clone Copy Fn FnMut FnOnce Iterator Default From Into"
               " PartialEq Eq PartialOrd Ord Hash Debug Display bool u8 u16 u32 u64 usize i8 i16 i32 i64 isize".split())
 MODIFIERS = {"abbrev", "pub", "private", "unfoldable", "opaque"}
@@ -420,17 +420,17 @@ class Rust:
         self.scope = Scope(repository, rust=self)
         for row in self.within(nodes_of(text, RUST), self.scope):
             self.item(row)
-        for name, (scope, groups) in self.models.items():
+        for name, (scope, bound, groups) in self.models.items():
             thing = self.items[name]
             thing.types = []
             thing.extend(groups)
-            thing.parts = [(scope, lambda walk, it=it: walk.term(it.items, {"Self"})) for it in groups]
+            thing.parts = [(scope, lambda walk, it=it, bound=bound: walk.term(it.items, bound)) for it in groups]
 
     def within(self, nodes, scope):
         """The items of a row but for its ghost imports, which the scope takes."""
         rows = []
         for row in items_of(nodes):
-            at = at_word(row, *KEYWORDS)
+            at = next((at for at, node in enumerate(row) if node.text in KEYWORDS or node.text.startswith("impl<")), None)
             if at is not None and row[at].text == "ghost" and row[at + 1].text == "use":
                 scope.use(row[at + 2:])
             elif at is not None:
@@ -447,7 +447,7 @@ class Rust:
             self.imported(row[at + 1:], [], is_public)
         elif word == "mod" and is_public:
             self.open.add(row[at + 1].text)
-        elif word == "impl":
+        elif word.startswith("impl"):
             self.impl(row, at)
         elif word == "fn":
             thing = self.function(row, at, self.scope, "", set())
@@ -465,9 +465,15 @@ class Rust:
         return pub is not None and row[pub + 1].items is None
 
     def plain(self, thing, row):
-        """A struct, an alias or a constant: the types in it."""
+        """A struct, an alias or a constant: the types in it, and what its ghost fields say."""
         generics = generics_of(row) | {thing.name}
-        thing.types = list(types_in(row, generics))
+        inside = split(row[-1].items or [])
+        ghosts = [part for part in inside if at_word(part, "ghost") is not None]
+        fields = generics | {node.text.rstrip(":") for part in inside for node in part if node.text.endswith(":")}
+        for part in ghosts:
+            thing.parts.append((self.scope, lambda walk, it=part[-1].items: walk.term(it, fields)))
+        rest = [node for part in inside if part not in ghosts for node in part]
+        thing.types = list(types_in([*(row[:-1] if row[-1].items else row), *rest], generics))
 
     def enum(self, thing, row):
         """An enum: its variants, and the types in them."""
@@ -505,7 +511,7 @@ class Rust:
                 self.items.setdefault(thing.name, thing)
             elif found and found[1] == "Model" and it[place + 1].text in ("Value", "view", "invariant"):
                 group = next(node for node in it if node.items is not None)
-                self.models.setdefault(owner, (scope, []))[1].append(group)
+                self.models.setdefault(owner, (scope, generics_of(row[at:]) | {"Self"}, []))[2].append(group)
 
     def function(self, row, at, scope, owner, bound):
         """A function: the types that it names, and its clauses."""
