@@ -9,15 +9,16 @@ usage, at the top of the repository:
   tools/trusted.py --terms     prints the words in the names of what is reached, by count
 
 It begins at the contract of sc_top::secomp and then at those of the public functions that README.md and docs/PROOFS.md
-name; tools/cites.py says what cites what. Types of the code count as contracts see them: by their fields, or by the
-`Value`, `view` and `invariant` of an `impl Model`. Proofs don't count.
+name. tools/cites.py and tools/cites_code.py say what cites what. Types of the code count as contracts see them: by
+their fields, or by the `Value`, `view` and `invariant` of an `impl Model`. Proofs don't count.
 """
 import collections
 import os
 import re
 import sys
 
-from cites import Kit, Repository, Thing, Unresolved
+from cites import Kit, Unresolved
+from cites_code import Repository
 
 HEADLINE = ("sc_top", "secomp")
 TARGET = "docs/TRUSTED.md"
@@ -36,14 +37,15 @@ prover checks them against these definitions.
 follows each name by the imports of its file. A type of the code counts as contracts see it: a struct by its fields, or,
 where it has a model (`impl Model`), by what that says. A trait counts with the contracts of its functions.
 
-Read from the top: the contract of `{function}` at {place}, then the definitions of each crate in the order of
-the tables. In a table the files stand in the order in which they are met, and each file is to be read from its top.
-Places are from the crate's folder on, and for the other calls from `crates/` on. The last column is what the source says
-above the definition, up to the first full stop.
+Read from the top: the contract of `{function}` at {place}, then the definitions of each crate in
+the order of the tables. In a table the files stand in the order in which they are met, and each file is to be read from
+its top. Places are from the crate's folder on, and for the other calls from `crates/` on. The last column is what the
+source says above the definition, up to the first full stop.
 """
 
 
 def read(path):
+    """The text of a file."""
     with open(path, encoding="utf-8") as it:
         return it.read()
 
@@ -162,8 +164,9 @@ def document(repository):
         known = f" It reaches {len(before):,} of those that stand above at other calls, too." if before else ""
         rows += [f"### {name}", "", f"{counted(new)}.{known}", "", *table(repository, new, "crates")]
     rows += ["### Calls that add nothing but their own contract", "",
-             "Each with how many of the definitions that stand above at other calls it reaches, if it does.", "", *bare, ""]
-    rows += ["## The kit", "", f"In all {counted(reach.things)}, which stand on these modules and types of the kit:", ""]
+             "Each with how many of the definitions that stand above at other calls it reaches, if it does.", ""]
+    rows += [*bare, "", "## The kit", ""]
+    rows += [f"In all {counted(reach.things)}, which stand on these modules and types of the kit:", ""]
     return "\n".join([*rows, *kit_rows(reach.words), ""])
 
 
@@ -216,6 +219,7 @@ def terms(repository):
 
 
 def main(words):
+    """Writes, compares or prints."""
     repository = Repository(os.path.dirname(os.path.dirname(os.path.realpath(__file__))))
     prints = {"--helping": helping, "--twice": twice, "--terms": terms}
     target = f"{repository.top}/{TARGET}"

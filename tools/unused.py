@@ -84,7 +84,7 @@ class Repository:
         found = [path for path in glob.glob(f"{self.crates}/**/*", recursive=True) if "/out/" not in path]
         self.files = {self.module(path): File(path) for path in found if path.endswith(".antt")}
         self.code = "\n".join(read(path) for path in found if path.endswith((".rt", ".edit")))
-        pages = [os.path.join(top, "README.md"), *glob.glob(f"{top}/docs/*.md")]
+        pages = [os.path.join(top, "README.md"), *glob.glob(f"{top}/docs/[!T]*.md"), f"{top}/docs/TUTORIAL.md"]
         quoted = [part for page in pages for part in re.findall("`([^`]*)`", read(page))]
         self.documents = set(CODE_WORD.findall(" ".join(quoted)))
         self.reached, self.left = set(), []
