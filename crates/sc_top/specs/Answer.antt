@@ -80,7 +80,8 @@ cause_in bytes = option_map cause_number (bad bytes)
 
 abbrev pub IsBadIn : Intake → List ℕ → (cause : ℕ) → Type 0
 IsBadIn (Image limit) bytes cause = cause_in bytes ≡ Some cause
-IsBadIn _ bytes cause = ⊥
+IsBadIn (Text limit) bytes cause = ⊥
+IsBadIn Nothing bytes cause = ⊥
 
 abbrev pub FindsBad : Command → List ℕ → (cause : ℕ) → Type 0
 FindsBad command bytes cause = IsBadIn (intake command) bytes cause
