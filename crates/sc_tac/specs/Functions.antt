@@ -32,7 +32,21 @@ is_machine_word constant.Null = true
 -- a constant of a statement is one
 abbrev pub has_words : TacStmt-F Bool → Bool
 has_words (tac.Const dest value) = is_machine_word value
-has_words _ = true
+has_words (tac.Copy dest from) = true
+has_words (tac.Op dest op left right) = true
+has_words (tac.ObjectPlace dest object) = true
+has_words (tac.GlobalPlace dest global) = true
+has_words (tac.Load dest place pointer) = true
+has_words (tac.Store place value) = true
+has_words (tac.If cond first second) = true
+has_words (tac.Loop head body next) = true
+has_words tac.Break = true
+has_words tac.Continue = true
+has_words (tac.CallOwn dest function args) = true
+has_words (tac.CallCross dest comp index args) = true
+has_words (tac.Input dest) = true
+has_words (tac.Output value) = true
+has_words (tac.Return value) = true
 
 -- an element has a cell at least, and few
 abbrev pub counts_elements : TacOp → Bool

@@ -68,7 +68,8 @@ pub record HasBegun (command : Command) (traffic : Traffic) (bytes : List ℕ) :
 -- a text fails a phase, at a line
 abbrev pub FailsIn : Intake → List ℕ → Refusal → Type 0
 FailsIn (Text limit) bytes refusal = Fails bytes refusal.phase refusal.line
-FailsIn _ bytes refusal = ⊥
+FailsIn (Image limit) bytes refusal = ⊥
+FailsIn Nothing bytes refusal = ⊥
 
 abbrev pub Refuses : Command → List ℕ → Refusal → Type 0
 Refuses command bytes refusal = FailsIn (intake command) bytes refusal
@@ -79,7 +80,8 @@ cause_in bytes = option_map cause_number (bad bytes)
 
 abbrev pub IsBadIn : Intake → List ℕ → (cause : ℕ) → Type 0
 IsBadIn (Image limit) bytes cause = cause_in bytes ≡ Some cause
-IsBadIn _ bytes cause = ⊥
+IsBadIn (Text limit) bytes cause = ⊥
+IsBadIn Nothing bytes cause = ⊥
 
 abbrev pub FindsBad : Command → List ℕ → (cause : ℕ) → Type 0
 FindsBad command bytes cause = IsBadIn (intake command) bytes cause
@@ -126,7 +128,10 @@ IsAnswer command bytes (Refused refusal) = IsWithin command bytes × Refuses com
 IsAnswer command bytes (TooLarge fault) = IsWithin command bytes × IsUnfit command bytes fault
 IsAnswer command bytes (TooLong limit) = (limit_of command ≡ Some limit) × (limit + 1 ≤ length bytes)
 IsAnswer command bytes (BadImage cause) = IsWithin command bytes × FindsBad command bytes cause
-IsAnswer command bytes _ = ⊥
+IsAnswer command bytes Usage = ⊥
+IsAnswer command bytes ReadFault = ⊥
+IsAnswer command bytes WriteFault = ⊥
+IsAnswer command bytes OutOfMemory = ⊥
 
 -- good input: a text that is accepted, whose program fits where it is compiled; the bytes of an image; for a command
 -- that reads nothing whatever is there

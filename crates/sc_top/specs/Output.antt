@@ -37,10 +37,13 @@ pub record HasImage (program : ProgramTree) (image : ImageParts) : Type 0 where
 
 -- the commands that compile
 abbrev pub compiles : Command → Bool
+compiles commands.Check = false
+compiles (commands.Meaning options) = false
 compiles commands.Compile = true
 compiles (commands.Run options) = true
+compiles (commands.Exec options) = false
 compiles (commands.Explain options show) = true
-compiles _ = false
+compiles (commands.Make options) = false
 
 -- what a command writes for the program of a text and its image, where the text is all that it reads and that is no
 -- account
@@ -49,7 +52,9 @@ output commands.Check program image = check_text program.interfaces
 output (commands.Meaning options) program image = meaning_text program.interfaces (meant options program)
 output commands.Compile program image = image_bytes image
 output (commands.Run options) program image = machine_text program.interfaces options image
-output command program image = []
+output (commands.Exec options) program image = []
+output (commands.Explain options show) program image = []
+output (commands.Make options) program image = []
 
 -- the bytes are an accepted text, with an image where the command compiles, and this is the output for them
 pub record IsTextOutput (command : Command) (bytes text : List ℕ) : Type 0 where
@@ -118,4 +123,7 @@ abbrev pub IsOutput : Command → List ℕ → List ℕ → Type 0
 IsOutput (commands.Explain options show) bytes text = IsAccounted options show bytes text
 IsOutput (commands.Exec options) bytes text = IsExecuted options bytes text
 IsOutput (commands.Make options) bytes text = IsMade options text
-IsOutput command bytes text = IsTextOutput command bytes text
+IsOutput commands.Check bytes text = IsTextOutput commands.Check bytes text
+IsOutput (commands.Meaning options) bytes text = IsTextOutput (commands.Meaning options) bytes text
+IsOutput commands.Compile bytes text = IsTextOutput commands.Compile bytes text
+IsOutput (commands.Run options) bytes text = IsTextOutput (commands.Run options) bytes text

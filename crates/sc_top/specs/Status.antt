@@ -72,7 +72,11 @@ own_text (Refused refusal) = refusal_text refusal
 own_text (TooLarge fault) = large_text fault
 own_text (TooLong limit) = decimal limit ++ codes "\n"
 own_text (BadImage cause) = decimal cause ++ codes "\n"
-own_text _ = []
+own_text Done = []
+own_text Usage = []
+own_text ReadFault = []
+own_text WriteFault = []
+own_text OutOfMemory = []
 
 -- what is written of a status to standard error
 abbrev pub status_text : Status → List ℕ
