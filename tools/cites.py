@@ -247,17 +247,6 @@ class Thing:
         """How many lines it has."""
         return sum(end - begin + 1 for begin, end in self.spans)
 
-    def comment(self):
-        """The first sentence above it."""
-        rows, at = self.file.rows, self.line - 2
-        while at >= 0 and re.match(r" *(#\[|infix)", rows[at]):
-            at -= 1
-        found = []
-        while at >= 0 and re.match(r" *(--|///?)( |$)", rows[at]):
-            found.insert(0, re.sub(r"^ *(--|///?) ?", "", rows[at]).strip())
-            at -= 1
-        return re.split(r"\.(?: |$)", " ".join(found), maxsplit=1)[0]
-
     @functools.lru_cache(None)
     def cited(self):
         """What it cites directly."""

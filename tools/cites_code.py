@@ -140,7 +140,7 @@ class Rust:
                 thing.types += [name for name in function.types if name != thing.name]
 
     def impl(self, row, at):
-        """The functions of an `impl`, or what a model says."""
+        """The functions of an `impl`, or what contracts see in place of a type: the `Value` of its model."""
         head = " ".join(node.text for node in row[at:-1] if node.items is None)
         found = re.search(r"([A-Za-z_]\w*)(?:<[^<>]*>)? for ([A-Za-z_]\w*)", head)
         bare = re.sub(r"^impl(<[^<>]*(<[^<>]*>[^<>]*)*>)? *", "", head)
@@ -151,7 +151,7 @@ class Rust:
                 thing = self.function(it, place, scope, owner, generics_of(row[at:]))
                 thing.is_public |= bool(found)
                 self.items.setdefault(thing.name, thing)
-            elif found and found[1] == "Model" and it[place + 1].text in ("Value", "view", "invariant"):
+            elif found and found[1] == "Model" and it[place + 1].text == "Value":
                 group = next(node for node in it if node.items is not None)
                 self.models.setdefault(owner, (scope, generics_of(row[at:]) | {"Self"}, []))[2].append(group)
 

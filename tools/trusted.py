@@ -3,7 +3,7 @@
 
 usage, at the top of the repository:
   tools/trusted.py             writes docs/TRUSTED.md
-  tools/trusted.py --check     status 1 where docs/TRUSTED.md isn't what would be written
+  tools/trusted.py --check     status 1 where docs/TRUSTED.md isn't what would be written, or --helping prints a file
   tools/trusted.py --helping   prints the files of specs/ whose `-- Helping:` should be added or removed
   tools/trusted.py --twice     prints the names that several files define, of those that are reached
   tools/trusted.py --terms     prints the words in the names of what is reached, by count
@@ -22,25 +22,25 @@ from cites_code import Repository
 
 HEADLINE = ("sc_top", "secomp")
 TARGET = "docs/TRUSTED.md"
+IMAGE = "image_of"
 DOCUMENTS = ("README.md", "docs/PROOFS.md")
 INNER = re.compile(r"sc_emit_|.*_laws$|sc_types_|sc_parse_|sc_run_value$")
 PASSING = ("Prelude.antt", "Common.antt", "Lib.antt")
 HEAD = """# What has to be read
 
 To believe what a contract of this repository claims, trust the prover and read the definitions that the contract cites,
-and those that they cite, down to the words of the kit. This file lists them: first all that the contract of
-`{headline}` reaches, which is the claim about the whole program, and then what each other public call that
-[`README.md`](../README.md) and [`PROOFS.md`](PROOFS.md) name reaches beside that. Code and proofs aren't in it: the
-prover checks them against these definitions.
+and those that they cite, down to the words of the kit. This file lists them: what the contract of `{headline}`
+reaches, which is the claim about the whole program; apart from it what only the name of the compiled image stands on;
+and what the other public calls that [`README.md`](../README.md) and [`PROOFS.md`](PROOFS.md) name reach beside that.
+Code and proofs aren't in it: the prover checks them against these definitions.
 
-`tools/trusted.py` writes this file from the sources, and `tools/trusted.py --check` says whether it is up to date. It
-follows each name by the imports of its file. A type of the code counts as contracts see it: a struct by its fields, or,
-where it has a model (`impl Model`), by what that says. A trait counts with the contracts of its functions.
+`tools/trusted.py` writes this file from the sources, and `tools/trusted.py --check` says whether it is up to date; the
+gate runs it. It follows each name by the imports of its file. A type of the code counts as contracts see it: a struct
+by its fields, or, where it has a model (`impl Model`), by the type of its values. A trait counts with the contracts of
+its functions. Files of `specs/` headed `Helping` only model code: no public call's contract reaches them.
 
-Read from the top: the contract of `{function}` at {place}, then the definitions of each crate in
-the order of the tables. In a table the files stand in the order in which they are met, and each file is to be read from
-its top. Places are from the crate's folder on, and for the other calls from `crates/` on. The last column is what the
-source says above the definition, up to the first full stop.
+Read from the top: the contract of `{function}` at {place}, then the definitions of each crate in the order of the
+tables. The number after a definition is its line.
 """
 
 
@@ -56,20 +56,21 @@ class Reach:
     def __init__(self):
         self.things, self.words = {}, {}
 
-    def take(self, root):
-        """Adds what a call reaches, and gives what is new of it and what was there."""
-        new, old, waiting, seen = [], [], collections.deque([root]), {root}
+    def take(self, root, closed=None):
+        """Adds what a call reaches, and gives what is new of it. What a name that is closed stands on is left out."""
+        new, waiting, seen = [], collections.deque([root]), {root}
         while waiting:
             thing = waiting.popleft()
-            (old if thing in self.things else new).append(thing)
-            for it in thing.cited():
+            if thing not in self.things:
+                new.append(thing)
+            for it in thing.cited() if thing.name != closed else ():
                 if isinstance(it, Kit):
                     self.words[it] = None
                 elif it not in seen:
                     seen.add(it)
                     waiting.append(it)
         self.things.update(dict.fromkeys(new))
-        return new, old
+        return new
 
 
 def named_calls(repository, text):
@@ -108,23 +109,19 @@ def other_calls(repository):
     return {call: repository.public(call[0])[call[1]] for call in calls if call != HEADLINE}
 
 
-def table(repository, things, folder):
-    """A table of definitions, from the top down, with their places from this folder on."""
-    files = list(dict.fromkeys(thing.file.path for thing in things))
-    rows = ["| definition | kind | place | what it is |", "|---|---|---|---|"]
-    for thing in sorted(things, key=lambda it: (-repository.rank[it.file.crate], files.index(it.file.path), it.line)):
-        comment = thing.comment().replace("|", "\\|")
-        place = os.path.relpath(thing.file.path, folder)
-        rows.append(f"| `{thing.name}` | {thing.kind} | `{place}:{thing.line}` | {comment} |".replace("|  |", "| |"))
-    return [*rows, ""]
-
-
 def tables(repository, things):
-    """A table for each crate, from the top down."""
+    """A table for each crate, from the top down: its files in the order in which they are met, with the definitions."""
     rows = []
     for crate in sorted({thing.file.crate for thing in things}, key=repository.rank.get, reverse=True):
-        ours = [thing for thing in things if thing.file.crate == crate]
-        rows += [f"### `{crate}`", "", *table(repository, ours, f"crates/{crate}")]
+        files = collections.OrderedDict()
+        for thing in things:
+            if thing.file.crate == crate:
+                files.setdefault(thing.file.path, []).append(thing)
+        rows += [f"**`{crate}`**", "", "| file | definitions |", "|---|---|"]
+        for path, inside in files.items():
+            names = ", ".join(f"`{it.name}` {it.line}" for it in sorted(inside, key=lambda it: it.line))
+            rows.append(f"| `{os.path.relpath(path, 'crates/' + crate)}` | {names} |")
+        rows.append("")
     return rows
 
 
@@ -147,25 +144,19 @@ def kit_rows(words):
 def document(repository):
     """The text of docs/TRUSTED.md."""
     reach, root = Reach(), repository.public(HEADLINE[0])[HEADLINE[1]]
-    headline, _ = reach.take(root)
+    headline = reach.take(root, IMAGE)
     rows = HEAD.format(headline="::".join(HEADLINE), function=HEADLINE[1],
                        place=f"`{root.file.path}:{root.line}`").split("\n")
     rows += [f"## `{'::'.join(HEADLINE)}`", "", f"{counted(headline)}.", "", *tables(repository, headline)]
-    rows += ["## The other calls", "", "Of each call what neither the headline nor a call before it reaches.", ""]
-    bare = []
-    for call, thing in other_calls(repository).items():
-        new, old = reach.take(thing)
-        before = [it for it in old if it not in headline and it != thing]
-        name = f"`{'::'.join(call)}`"
-        if len(new) < 2:
-            place = f"`{thing.file.path}:{thing.line}`"
-            bare.append(f"- {name}, {place}" + (f": {len(before)} above" if before else ""))
-            continue
-        known = f" It reaches {len(before):,} of those that stand above at other calls, too." if before else ""
-        rows += [f"### {name}", "", f"{counted(new)}.{known}", "", *table(repository, new, "crates")]
-    rows += ["### Calls that add nothing but their own contract", "",
-             "Each with how many of the definitions that stand above at other calls it reaches, if it does.", ""]
-    rows += [*bare, "", "## The kit", ""]
+    image = reach.take(root)
+    rows += [f"## What `{IMAGE}` stands on", "",
+             f"{counted(image)}, which nobody has to read: that three commands speak of one image is all that the name",
+             "says, and what the image does is `IsCompiled`, by the contract of `sc_compile::compile`.", "",
+             *tables(repository, image)]
+    calls = other_calls(repository)
+    others = [thing for call in calls.values() for thing in reach.take(call)]
+    rows += ["## The other calls", "", f"{counted(others)} beside these, for the contracts of:", ""]
+    rows += [", ".join(f"`{'::'.join(call)}`" for call in calls) + ".", "", *tables(repository, others), "## The kit", ""]
     rows += [f"In all {counted(reach.things)}, which stand on these modules and types of the kit:", ""]
     return "\n".join([*rows, *kit_rows(reach.words), ""])
 
@@ -184,7 +175,7 @@ def everything(repository, inner):
 
 def tests(repository):
     """The crates that only test."""
-    return re.findall(r"^(\w+):", read(f"{repository.top}/crates.txt").split("# Tests alone")[1], re.M)
+    return re.findall(r"^(\w+):", read(f"{repository.top}/crates.txt").split("# Tests")[1], re.M)
 
 
 def helping(repository):
@@ -237,6 +228,8 @@ def main(words):
             it.write(text)
     elif not os.path.exists(target) or read(target) != text:
         raise SystemExit(f"{TARGET} isn't what the sources give: run tools/trusted.py")
+    elif any(helping(repository)):
+        raise SystemExit("the heads of some files of specs/ are wrong: tools/trusted.py --helping says which")
 
 
 if __name__ == "__main__":
