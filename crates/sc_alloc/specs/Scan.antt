@@ -1,4 +1,4 @@
--- What a linear scan keeps, of the intervals that got a place so far, in the order in which they begin.
+-- Helping: what a linear scan keeps, of the intervals that got a place so far, in the order in which they begin.
 use Rattle.sc_alloc.specs.Common.{Interval, Place, Placement, Register, Slot, is_place, register_count}
 use Rattle.std.specs.Prelude.{◌≡◌, ◌≢◌, ◌≤◌, ◌<◌, ◌==◌, ℕ, suc, max, Bool, true, false, List, length, All, Option, None}
 use Rattle.std.specs.Prelude.{Some, MatchOption, slice_get, IsTrue}

@@ -1,4 +1,4 @@
--- Helping: rows one by one, and a section in two parts.
+-- Rows one by one, and a section in two parts.
 use Rattle.sc_back.specs.Common.{Entry, Export, Interface, Interfaces, Main, Row, Scalar}
 use Rattle.std.specs.Prelude.{ℕ, suc, ◌<◌, ◌^◌, ◌++◌, if◌then◌else◌, codes, List, [], flat_map, Option, None, Some}
 use Rattle.sc_back.specs.Text.{export_text, functions_text, import_text, is_of, main_text, proto_text, row_text}

@@ -1,4 +1,4 @@
--- Helping: the trees of a text and those of the text in which some sections are replaced by ones that perform.
+-- The trees of a text and those of the text in which some sections are replaced by ones that perform.
 use Rattle.sc_back.specs.Common.{Action, Call, End, Import, In, Interface, Interfaces, Out, Proto, Ret, Row}
 use Rattle.sc_back.specs.Common.{SectionTree, comp_at, export_at, is_name}
 use Rattle.sc_ast.specs.Prelude.{SameButLines, is_ident}

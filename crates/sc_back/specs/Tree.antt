@@ -1,4 +1,4 @@
--- Helping: the tree that the text of a performing section is read as, lines aside.
+-- The tree that the text of a performing section is read as, lines aside.
 use Rattle.sc_back.specs.Common.{Action, Entry, Import, Interface, Interfaces, Proto, Row, Scalar, SectionTree}
 use Rattle.sc_back.specs.Common.{export_at}
 use Rattle.std.specs.Prelude.{ℕ, suc, ◌-◌, ◌^◌, ◌==◌, nat_le, true, false, if◌then◌else◌, codes, List, [], ◌∷◌, ◌++◌}

@@ -1,4 +1,4 @@
--- Names in trees that were read are identifiers.
+-- Helping: names in trees that were read are identifiers.
 use Rattle.sc_back_reread_laws.specs.Common.{Reads, SectionTree, is_ident}
 use Rattle.sc_base.specs.Prelude.{is_name}
 use Rattle.sc_types_scope.specs.Prelude.{function_names, heads_in}

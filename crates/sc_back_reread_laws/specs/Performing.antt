@@ -1,4 +1,4 @@
--- The text of a section that performs is read as its tree.
+-- Helping: the text of a section that performs is read as its tree.
 use Rattle.sc_back_reread_laws.specs.Common.{CanPerform, Interface, Interfaces, IsCut, Row, SameButLines, SectionTree}
 use Rattle.sc_back_reread_laws.specs.Common.{back_text, back_tree, comp_at}
 use Rattle.sc_parse.specs.Prelude.{IsParsed, lexemes_of}

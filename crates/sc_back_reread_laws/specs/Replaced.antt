@@ -1,4 +1,5 @@
--- Texts in which sections are replaced by ones that perform are split and read as before, the replaced sections aside.
+-- Helping: texts in which sections are replaced by ones that perform are split and read as before, the replaced
+-- sections aside.
 use Rattle.sc_back_reread_laws.specs.Common.{AllBecome, CanPerform, Interface, Interfaces, IsSplit, Reads, Row}
 use Rattle.sc_back_reread_laws.specs.Common.{SectionTree, back_text, comp_at, new_texts}
 use Rattle.std.specs.Prelude.{◌≡◌, ◌<◌, ℕ, Bool, true, List, ◌++◌, length, map, Option, None, Some, if◌then◌else◌}

@@ -1,4 +1,4 @@
--- Helping: rows of blocks as a memory, and loads and stores of single cells (C11 6.2.4, 6.5.3.2, 6.5.6).
+-- Rows of blocks as a memory, and loads and stores of single cells (C11 6.2.4, 6.5.3.2, 6.5.6).
 use Rattle.sc_core.specs.Prelude.{Block, Blocks, Memory, bind, cells_at, ended, is_live}
 use Rattle.std.specs.Prelude.{ℕ, Bool, true, false, if◌then◌else◌, nat_lt, List, [], length, map, Option, None, Some}
 use Rattle.std.specs.Prelude.{Result, Ok, Err, slice_get, slice_set, slice_index_or}

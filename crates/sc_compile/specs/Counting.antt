@@ -1,4 +1,4 @@
--- Sizes as they are counted on lowered code.
+-- Helping: sizes as they are counted on lowered code.
 use Rattle.sc_compile.specs.Common.{CodeTooLarge, CompileFault, DataTooLarge, FrameTooLarge, TacFnTree, TacSection}
 use Rattle.sc_compile.specs.Common.{TypedGlobal, cells_of, frame_bound, most_globals, stretch, total}
 use Rattle.std.specs.Prelude.{ℕ, ◌+◌, ◌*◌, ◌^◌, ◌<◌, List, ◌++◌, map, flat_map, All, Option}

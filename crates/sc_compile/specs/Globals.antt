@@ -1,4 +1,4 @@
--- What globals are declared with.
+-- Helping: what globals are declared with.
 use Rattle.sc_compile.specs.Common.{TypedGlobal, TypedSection}
 use Rattle.std.specs.Prelude.{◌<◌, ◌^◌, All}
 

@@ -1,4 +1,4 @@
--- What the passes give of a program's functions.
+-- Helping: what the passes give of a program's functions.
 use Rattle.sc_compile.specs.Common.{IsEmitted, IsWhole, ProgramTree, TacFnTree, TacSection, assigned, frame_bound}
 use Rattle.sc_compile.specs.Common.{frame_of, functions_in, intervals_of, lowered_program, stretch}
 use Rattle.std.specs.Prelude.{◌≡◌, ◌≤◌, ◌*◌, ℕ, All, Some, slice_get}

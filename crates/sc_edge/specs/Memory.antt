@@ -1,4 +1,4 @@
--- Helping: what a source and a sink in memory are, and what each call makes of them.
+-- What a source and a sink in memory are, and what each call makes of them.
 use Rattle.std.specs.Prelude.{ℕ, ◌+◌, min, List, ◌++◌, drop}
 
 -- one more, up to the end of a u64, where a count stays

@@ -1,4 +1,4 @@
--- Helping: what a contract sees of the adapters of std's readers and writers.
+-- What a contract sees of the adapters of std's readers and writers.
 use Rattle.std.specs.Prelude.{ℕ}
 use Rattle.sc_edge.specs.declared.standard.StdSource.{StdSource}
 use Rattle.sc_edge.specs.declared.standard.StdSink.{StdSink}

@@ -1,4 +1,4 @@
--- What the prologue of a function does, and its epilogue.
+-- Helping: what the prologue of a function does, and its epilogue.
 use Rattle.sc_emit_hart.specs.Common.{ImageParts, Instr, Memory, Traps, Walks, address_scratch, frame_taken, moved_by}
 use Rattle.sc_emit_hart.specs.Common.{ra, sp, step}
 use Rattle.sc_emit_hart.specs.Hart.{Registers, World, at}

@@ -1,4 +1,4 @@
--- What holds of code and of words in memory.
+-- Helping: what holds of code and of words in memory.
 use Rattle.sc_emit_hart.specs.Common.{ImageParts, Instr, IsInstr, Memory, code_of, code_start, word_of}
 use Rattle.std.specs.Prelude.{◌≡◌, ℕ, ◌+◌, ◌*◌, ◌^◌, ◌<◌, List, ◌++◌, length, map, All}
 use Rattle.sc_emit_hart.specs.Code.{CodeAt}

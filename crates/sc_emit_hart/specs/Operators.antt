@@ -1,4 +1,4 @@
--- What the code of an operator computes of two words.
+-- Helping: what the code of an operator computes of two words.
 use Rattle.sc_emit_hart.specs.Common.{address_scratch, bytes_of, first_scratch, second_scratch}
 use Rattle.sc_word.specs.Prelude.{add_word, div_word, mul_word, sub_word}
 use Rattle.sc_core.specs.Prelude.{negated_word, on_all_words, truth}

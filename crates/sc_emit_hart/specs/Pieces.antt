@@ -1,4 +1,4 @@
--- What straight code does wherever it stands, an instruction a step: to the registers and to memory.
+-- Helping: what straight code does wherever it stands, an instruction a step: to the registers and to memory.
 use Rattle.sc_emit_hart.specs.Common.{ImageParts, Instr, Memory, Walks, sp}
 use Rattle.sc_emit_hart.specs.Code.{CodeAt}
 use Rattle.sc_emit_hart.specs.Words.{Owned, put_word}

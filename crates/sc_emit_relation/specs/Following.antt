@@ -1,4 +1,4 @@
--- A piece of code follows what statements do: what it is to stand at its start, and what it gives.
+-- Helping: a piece of code follows what statements do: what it is to stand at its start, and what it gives.
 use Rattle.sc_emit_relation.specs.Common.{Break, CodeAt, Codes, Continue, Exit, Fetches, Goes, IsClear, Jalr, Left}
 use Rattle.sc_emit_relation.specs.Common.{Lives, Next, Piece, Place, Plan, Reached, Return, Set, State as Meant}
 use Rattle.sc_emit_relation.specs.Common.{Stopped, Temps, Trail, Value, a0, ahead_at, completed, low_after, ra}

@@ -1,4 +1,4 @@
--- What an operator of three-address code asks for.
+-- Helping: what an operator of three-address code asks for.
 use Rattle.std.specs.Prelude.{ℕ, ◌^◌, ◌<◌}
 use Rattle.sc_tac.specs.declared.stmt.TacOp.{TacOp}
 use Rattle.sc_tac.specs.declared.stmt.TacOp.TheVariants as tacop

@@ -1,5 +1,5 @@
--- What functions do, with all that they call, is followed by their code; what those of compartments that perform do, by
--- whatever code these have.
+-- Helping: what functions do, with all that they call, is followed by their code; what those of compartments that
+-- perform do, by whatever code these have.
 use Rattle.sc_emit_run_laws.specs.Common.{AreFloors, ArePassed, Begins, CallGives, CallStands, Calls, Cross, Crossing}
 use Rattle.sc_emit_run_laws.specs.Common.{Emits, Event, FunctionGives, Goes, ImageParts, IsBase, Joint, Leads, Main}
 use Rattle.sc_emit_run_laws.specs.Common.{Overflows, Piece, Reached, Roles, Setting, Settled, Standpoint}

@@ -1,4 +1,4 @@
--- What the jumps of code need: distances that a JAL can hold.
+-- Helping: what the jumps of code need: distances that a JAL can hold.
 use Rattle.sc_emit_select.specs.Common.{FrameTree, Place, TacStmt, everywhere, passes_few}
 use Rattle.std.specs.Prelude.{◌<◌, ℕ, ◌+◌, List, IsTrue, [], ◌∷◌}
 use Rattle.sc_emit_select.specs.declared.roles.Role.{Role}

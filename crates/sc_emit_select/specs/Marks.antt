@@ -1,4 +1,4 @@
--- A mark for each temporary.
+-- Helping: a mark for each temporary.
 use Rattle.sc_emit_select.specs.Common.{is_one}
 use Rattle.std.specs.Prelude.{ℕ, Bool, ◌||◌, List, slice_get, ◌≡◌}
 use Rattle.std.specs.Option.{option_map}

@@ -1,4 +1,4 @@
--- Helping: the calls of other compartments that haven't returned, as contracts see them.
+-- The calls of other compartments that haven't returned, as contracts see them.
 use Rattle.sc_image.specs.Prelude.{Crossing}
 use Rattle.std.specs.Prelude.{ℕ, List}
 use Rattle.sc_gate.specs.declared.entry.CrossEntry.{CrossEntry}

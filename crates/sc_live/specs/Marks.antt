@@ -1,4 +1,5 @@
--- Where temporaries are used among the last points of a function's code. A point is named by how many points follow it.
+-- Helping: where temporaries are used among the last points of a function's code. A point is named by how many points
+-- follow it.
 use Rattle.sc_tac.specs.Prelude.{Point, Set, is_one, is_used}
 use Rattle.std.specs.Prelude.{ℕ, Bool, false, if◌then◌else◌, nat_le, min, List, [], ◌∷◌, length, Option, None, Some}
 use Rattle.std.specs.Option.{option_map}

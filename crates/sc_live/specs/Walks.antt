@@ -1,4 +1,4 @@
--- What is known on the way back through a function's code.
+-- Helping: what is known on the way back through a function's code.
 use Rattle.sc_tac.specs.Prelude.{Lives, Point, Set, Trail, ahead_at, is_used, live_before, row_points, trail}
 use Rattle.std.specs.Prelude.{◌≡◌, ◌<◌, ℕ, suc, ◌-◌, if◌then◌else◌, List, ◌++◌, map, length, Some, slice_get}
 use Rattle.sc_tac.specs.declared.interval.Interval.{Interval}

@@ -1,4 +1,4 @@
--- What lowering hands back, as the definitions have it.
+-- Helping: what lowering hands back, as the definitions have it.
 use Rattle.sc_lower.specs.Common.{Interfaces, IsFunction, Ty, TypedFunction, TypedLocal, TypedStruct, cells_of, comp_at}
 use Rattle.sc_lower.specs.Common.{most_cells, most_exports, most_nodes, most_params, nodes}
 use Rattle.std.specs.Prelude.{◌≡◌, ◌≤◌, ℕ, List, length, Some, slice_get}

@@ -1,4 +1,4 @@
--- What instructions change, as the state that it stands for.
+-- Helping: what instructions change, as the state that it stands for.
 use Rattle.sc_machine.specs.Common.{Goes, ImageParts, Memory, Outcome, State, Traps, start_memory, written}
 use Rattle.std.specs.Prelude.{◌≡◌, ◌+◌, ◌<◌, ◌≤◌, ℕ, All, length, is_some, vec_capacity, Result, Ok, Err, OnErr}
 use Rattle.sc_base.specs.declared.stop.TrapReason.{TrapReason}

@@ -1,4 +1,4 @@
--- What is called, and what passes in the registers.
+-- Helping: what is called, and what passes in the registers.
 use Rattle.sc_machine.specs.Common.{ImageParts, cleared_for_call, cleared_for_return, comp_of_code, export_at, gate}
 use Rattle.sc_machine.specs.Common.{may_call, params_of, ra, sp, written}
 use Rattle.std.specs.Prelude.{◌≡◌, ◌<◌, ◌≤◌, ℕ, suc, Bool, true, List, [], ◌∷◌, All, length, Some}

@@ -1,4 +1,4 @@
--- A compartment of an image, and what is looked up of it.
+-- Helping: a compartment of an image, and what is looked up of it.
 use Rattle.sc_machine.specs.Common.{ImageParts, IsWellFormed, code_of, code_start, data_start, globals_of, most_globals}
 use Rattle.sc_machine.specs.Common.{stack_size, stretch}
 use Rattle.std.specs.Prelude.{◌≡◌, ◌+◌, ◌*◌, ◌<◌, ◌≤◌, ℕ, List, length}

@@ -1,5 +1,5 @@
--- The memory of a start, as the machine makes it: zeros in each region of data, and then the bytes that some begin
--- with.
+-- Helping: the memory of a start, as the machine makes it: zeros in each region of data, and then the bytes that some
+-- begin with.
 use Rattle.sc_machine.specs.Common.{Filled, Memory, data_with, most_globals}
 use Rattle.sc_store.specs.Prelude.{written}
 use Rattle.std.specs.Prelude.{ℕ, suc, ◌≤◌, List, [], ◌∷◌, ◌++◌, length, map}

@@ -1,4 +1,4 @@
--- Helping: reading an expression from the start of a list, where the brackets and the levels of height are limited.
+-- Reading an expression from the start of a list, where the brackets and the levels of height are limited.
 use Rattle.sc_parse_expr.specs.Common.{ExprTree, level_of, loosest_level, unary_level}
 use Rattle.std.specs.Prelude.{ℕ, zero, suc, ◌+◌, ◌-◌, max, nat_le, List, [], ◌∷◌, Option, Some, None, if◌then◌else◌}
 use Rattle.std.specs.Option.{option_map}

@@ -1,4 +1,4 @@
--- What it means that printed declarations read back.
+-- Helping: what it means that printed declarations read back.
 use Rattle.sc_parse_print_laws.specs.Common.{Decl, Grouped, IsCut, Lexeme, SpellsDecl, Token, decl_words, lexeme_of}
 use Rattle.sc_parse_print_laws.specs.Common.{lineless_decl, text_of}
 use Rattle.std.specs.Prelude.{◌≡◌, ℕ, List, map}

@@ -1,4 +1,4 @@
--- Sections that are printed without empty lines.
+-- Helping: sections that are printed without empty lines.
 use Rattle.sc_parse_print_laws.specs.Common.{Decl, IsCut, Piece, SectionTree, Symbol, Token, decl_words, export_words}
 use Rattle.sc_parse_print_laws.specs.Common.{heading_words, import_words, symbol_of, text_of}
 use Rattle.std.specs.Prelude.{◌≡◌, ℕ, List, ◌++◌, map, drop}

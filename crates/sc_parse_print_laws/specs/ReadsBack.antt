@@ -1,4 +1,4 @@
--- What it means that printed texts read back.
+-- Helping: what it means that printed texts read back.
 use Rattle.sc_parse_print_laws.specs.Common.{ExprTree, IsCut, Lexeme, Spells, Token, expr_words, lexeme_of}
 use Rattle.sc_parse_print_laws.specs.Common.{loosest_level, text_of}
 use Rattle.std.specs.Prelude.{◌≡◌, ℕ, List, map}

@@ -1,4 +1,4 @@
--- What it means that printed statements read back.
+-- Helping: what it means that printed statements read back.
 use Rattle.sc_parse_print_laws.specs.Common.{IsCut, Lexeme, SpellsStmts, StmtTree, Token, layouts, lexeme_of}
 use Rattle.sc_parse_print_laws.specs.Common.{lineless_stmts, lines_at, text_of}
 use Rattle.std.specs.Prelude.{◌≡◌, ℕ, List, map}

@@ -1,4 +1,4 @@
--- What printed words say.
+-- Helping: what printed words say.
 use Rattle.sc_parse_print_laws.specs.Common.{Piece, Symbol, kind_of, or_unused, says, word}
 use Rattle.std.specs.Prelude.{List, [], ◌∷◌, ℕ}
 use Rattle.std.specs.List.{flat_map}

@@ -1,4 +1,4 @@
--- Helping: the first bad item of a list.
+-- The first bad item of a list.
 use Rattle.std.specs.Prelude.{List, ◌∷◌}
 
 -- An item is bad, and each one before it is good.

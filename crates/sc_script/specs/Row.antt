@@ -1,4 +1,4 @@
--- The row of one event.
+-- Helping: the row of one event.
 use Rattle.sc_event.specs.Prelude.{action_of, performer}
 use Rattle.std.specs.Prelude.{ℕ, ◌==◌, List, [], ◌∷◌, if◌then◌else◌}
 use Rattle.sc_event.specs.declared.event.Event.{Event}

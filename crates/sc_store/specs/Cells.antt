@@ -1,4 +1,4 @@
--- Helping: how bytes stand on the pages of a pool.
+-- How bytes stand on the pages of a pool.
 use Rattle.std.specs.Prelude.{◌≡◌, ℕ, ◌+◌, ◌-◌, ◌/◌, ◌%◌, ◌&&◌, nat_le, nat_lt, if◌then◌else◌, List, length, Option}
 use Rattle.std.specs.Prelude.{Some, None, IsSome, slice_index, slice_index_or}
 use Rattle.sc_pool.specs.Pages.{Pages, page_of}

@@ -1,4 +1,4 @@
--- Helping: how a flat store keeps its bytes: those of each region in a list of their own.
+-- How a flat store keeps its bytes: those of each region in a list of their own.
 use Rattle.std.specs.Prelude.{◌≡◌, ℕ, ◌+◌, ◌-◌, Bool, ◌&&◌, nat_le, nat_lt, if◌then◌else◌, List, [], ◌∷◌, map, length}
 use Rattle.std.specs.Prelude.{slice_index, EachIndex, None, Some}
 use Rattle.std.specs.Option.{option_or}

@@ -1,4 +1,4 @@
--- What a section's tables of calls hold.
+-- Helping: what a section's tables of calls hold.
 use Rattle.sc_types_elab.specs.Common.{Decl, FunctionTree, HeadTree, Import, ImportLine, SectionTree, Signature}
 use Rattle.sc_types_elab.specs.Common.{StructTree, functions_in, head_of, heads_in}
 use Rattle.std.specs.Prelude.{◌≡◌, ℕ, List, ◌++◌, map}

@@ -1,4 +1,4 @@
--- What the names of calls stand for by a section's tables.
+-- Helping: what the names of calls stand for by a section's tables.
 use Rattle.sc_types_elab_expr.specs.Common.{CallTarget, Own, number_of}
 use Rattle.std.specs.Prelude.{ℕ, List, Option, Some, None, slice_get}
 use Rattle.std.specs.Option.{option_and_then}
