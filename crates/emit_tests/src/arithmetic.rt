@@ -1,5 +1,5 @@
-//! What operators give on words, by C's rules, and where C gives no result by those of the machine: results are taken
-//! modulo 2 ^ 32 and shift counts modulo 32; a quotient by zero is all ones, and its remainder is the dividend.
+// What operators give on words, by C's rules, and where C gives no result by those of the machine: results are taken
+// modulo 2 ^ 32 and shift counts modulo 32; a quotient by zero is all ones, and its remainder is the dividend.
 use sc_base::BinaryOp;
 use sc_event::Scalar;
 
@@ -24,10 +24,16 @@ fn quotient(scalar: Scalar, left: u32, right: u32) -> u32 {
 }
 
 fn remainder(scalar: Scalar, left: u32, right: u32) -> u32 {
-    quotient(scalar, left, right)
-        .wrapping_mul(right)
-        .wrapping_neg()
-        .wrapping_add(left)
+    if right == 0 {
+        return left;
+    }
+    match scalar {
+        Scalar::Int => left
+            .cast_signed()
+            .wrapping_rem(right.cast_signed())
+            .cast_unsigned(),
+        Scalar::Unsigned => left % right,
+    }
 }
 
 fn shifted_right(scalar: Scalar, left: u32, count: u32) -> u32 {
