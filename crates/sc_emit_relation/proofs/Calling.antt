@@ -150,7 +150,7 @@ module _ (T : Setting) (formed : IsWellFormed T.image) (inputs : All IsWord T.in
         inputs = begins.settled.inputs;
         steady = walks_steady T.image T.inputs formed inputs n _ _ enters.walks begins.settled.steady;
         came = came_by T n _ _ enters.walks begins.settled.came;
-        frame_fits = depth_opened;
+        depth = depth_opened;
         timed = timed_opened (length x.meant.trace) P.comp f.frame_size x.meant.frames begins.settled.timed;
       }
 

@@ -114,10 +114,10 @@ next_told n [] change one h = one
 next_told n (Opened timed c size ∷ changes) change one h = (h.0, next_told n changes change one h.1)
 next_told n (Closed timed c size ∷ changes) change one h = (h.0, next_told n changes change one h.1)
 
-pub timed_opened : (n comp depth : ℕ) (changes : List FrameChange) → AllBefore (suc n) changes →
+pub timed_opened : (n comp size : ℕ) (changes : List FrameChange) → AllBefore (suc n) changes →
     AllBefore (suc n) (changes ++ Opened n comp size ∷ [])
-timed_opened n comp depth changes h = next_told n changes (Opened n comp size) (omega arith, tt) h
+timed_opened n comp size changes h = next_told n changes (Opened n comp size) (omega arith, tt) h
 
-pub timed_closed : (n comp depth : ℕ) (changes : List FrameChange) → AllBefore (suc n) changes →
+pub timed_closed : (n comp size : ℕ) (changes : List FrameChange) → AllBefore (suc n) changes →
     AllBefore (suc n) (changes ++ Closed n comp size ∷ [])
-timed_closed n comp depth changes h = next_told n changes (Closed n comp size) (omega arith, tt) h
+timed_closed n comp size changes h = next_told n changes (Closed n comp size) (omega arith, tt) h
