@@ -3,8 +3,8 @@
 
 A session is a line `$ ./secomp WORDS < FILE` in a block that is indented by four spaces, with what the program writes
 below it. The sessions of each document below are written, with the texts that they read, to
-crates/example_tests/src/sessions.rt, whose tests run them over the program. With --check nothing is written, and the
-status is 1 where that file isn't what the documents and the examples give.
+crates/command_tests/src/examples/sessions.rt, whose tests run them over the program. With --check nothing is written,
+and the status is 1 where that file isn't what the documents and the examples give.
 
 What follows `> NAME` is kept as NAME. It is known from the document too: `tail -n N NAME` shows its last section,
 and all before is as in FILE. What follows `| examples/draw` is drawn here, and compared with the next block
@@ -15,7 +15,7 @@ import subprocess
 import sys
 
 DOCUMENTS = {"TUTORIAL": "docs/TUTORIAL.md", "EXAMPLES": "examples/README.md", "EXPLAIN": "docs/EXPLAIN.md"}
-TARGET = "crates/example_tests/src/sessions.rt"
+TARGET = "crates/command_tests/src/examples/sessions.rt"
 COMMAND = re.compile(r"\./secomp (.*?) < (\S+)(?: > (\S+)| \| (examples/draw))?$")
 HEADING = "#pragma compartment "
 
@@ -128,7 +128,7 @@ def module():
         "".join(f"            Input::{variant(path)} => {constant(path)},\n" for path in paths),
     )
     constants = [f'\nconst {constant(path)}: &[u8] = b"{literal(texts[path])}";\n' for path in paths]
-    head = "// What the documents show, written from them by tools/sessions.py.\nuse crate::runs::Session;\n"
+    head = "// What the documents show, written from them by tools/sessions.py.\nuse crate::examples::runs::Session;\n"
     return "".join([head, inputs, *constants, *lists])
 
 

@@ -1,11 +1,10 @@
-//! Three-address code, and what a compartment does in a trace. This crate has only tests.
+//! Three-address code, what a compartment does in a trace, and where the values of functions lie. This crate has only
+//! tests.
 #![tactic(auto)]
 
 #[cfg(test)]
 mod code;
 #[cfg(test)]
-mod lowering;
-#[cfg(test)]
 mod parts;
 #[cfg(test)]
-mod speed;
+mod places;

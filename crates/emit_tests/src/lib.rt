@@ -1,7 +1,9 @@
-//! The machine code of three-address code, run by the machine over places that the tests choose, beside what the code
-//! means. This crate has only tests.
+//! The machine code of three-address code, run by the machine over places that the tests choose. Its events are
+//! written by hand, and for operators computed. This crate has only tests.
 #![tactic(auto)]
 
+#[cfg(test)]
+mod arithmetic;
 #[cfg(test)]
 mod images;
 #[cfg(test)]

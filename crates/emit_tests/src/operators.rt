@@ -4,9 +4,9 @@
 ghost use Rattle.emit_tests.specs.Made.{operating, operation, operations};
 ghost use Rattle.std.specs.Prelude.{◌≡◌, [], ◌∷◌, IfOk, Some, codes};
 
+use crate::arithmetic::binary;
 use crate::placing::{Choice, FIRST_SLOTS};
-use crate::runs::agreed_outputs;
-use code_runs::CodeTask;
+use crate::runs::{Task, emits};
 use sc_base::{BinaryOp, Name, OutOfMemory};
 use sc_core::{TypedGlobals, TypedStructs};
 use sc_event::{
@@ -175,45 +175,56 @@ const OPERATORS: [BinaryOp; 18] = [
 ];
 
 // Pairs of operands: of each sign, equal and different, and those for which C gives no result to some operators.
-const OPERANDS: [i32; 16] = [
-    7,
-    3,
-    -7,
-    3,
-    3,
-    -7,
-    -9,
-    -9,
-    0,
-    0,
-    5,
-    0,
-    i32::MIN,
-    -1,
-    0x1234_5678,
-    36,
+const PAIRS: [(i32, i32); 8] = [
+    (7, 3),
+    (-7, 3),
+    (3, -7),
+    (-9, -9),
+    (0, 0),
+    (5, 0),
+    (i32::MIN, -1),
+    (0x1234_5678, 36),
 ];
 
 // Each pair is two inputs and an output.
 const EVENTS: u32 = 24;
 
-const PAIRS: usize = 8;
+const KINDS: &[u8] = b"iioiioiioiioiioiioiioiio";
 
-const TURNS: u32 = 100;
-
-// Whether the machine outputs what an operator means on each pair, wherever its operands and results lie.
-fn agrees(alloc: Global, op: BinaryOp, scalar: Scalar, choices: &[Choice]) -> Result<bool, Fail> {
-    let program = program(alloc, op, scalar)?;
-    let task = CodeTask {
-        program: &program,
-        inputs: &OPERANDS,
-        turns: TURNS,
-        events: EVENTS,
-    };
-    match agreed_outputs(alloc, &task, choices)? {
-        None => Ok(false),
-        Some(output_words) => Ok(output_words.len() == PAIRS),
+// What is read.
+fn inputs(alloc: Global) -> Result<Vec<i32>, OutOfMemory> {
+    let mut inputs = Vec::new(alloc);
+    for (left, right) in PAIRS {
+        inputs.push(left)?;
+        inputs.push(right)?;
     }
+    Ok(inputs)
+}
+
+// Each pair, and what the operator gives on it.
+fn words(alloc: Global, op: BinaryOp, scalar: Scalar) -> Result<Vec<u32>, OutOfMemory> {
+    let mut words = Vec::new(alloc);
+    for (left, right) in PAIRS {
+        let (left, right) = (left.cast_unsigned(), right.cast_unsigned());
+        words.push(left)?;
+        words.push(right)?;
+        words.push(binary(op, scalar, left, right))?;
+    }
+    Ok(words)
+}
+
+// Whether the machine outputs what an operator gives on each pair, wherever its operands and results lie.
+fn is_right(alloc: Global, op: BinaryOp, scalar: Scalar, choices: &[Choice]) -> Result<bool, Fail> {
+    let program = program(alloc, op, scalar)?;
+    let (inputs, words) = (inputs(alloc)?, words(alloc, op, scalar)?);
+    let task = Task {
+        program: &program,
+        inputs: inputs.as_slice(),
+        events: EVENTS,
+        kinds: KINDS,
+        words: words.as_slice(),
+    };
+    emits(alloc, &task, choices)
 }
 
 #[test]
@@ -221,7 +232,7 @@ fn operators_give_what_they_mean(rt: HostRuntime) -> Result<(), Fail> {
     let choices = choices(rt.alloc())?;
     for op in OPERATORS {
         for scalar in [Scalar::Int, Scalar::Unsigned] {
-            assert!(rt; agrees(rt.alloc(), op, scalar, choices.as_slice())?);
+            assert!(rt; is_right(rt.alloc(), op, scalar, choices.as_slice())?);
         }
     }
     Ok(())

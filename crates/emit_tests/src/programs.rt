@@ -1,7 +1,6 @@
 // Programs whose statements are of each kind, over each kind of place.
 use crate::placing::{Choice, FIRST_SLOTS};
-use crate::runs::agreed_outputs;
-use code_runs::CodeTask;
+use crate::runs::{Task, emits};
 use sc_base::OutOfMemory;
 use sc_lower::lower;
 use sc_tac::Place::{self, Register, Slot};
@@ -9,12 +8,10 @@ use sc_types::SourceText;
 use std::alloc::Global;
 use std::test::Fail;
 
-const TURNS: u32 = 10_000;
-
 const EVENTS: u32 = 1_000;
 
-/// A text, its inputs, what it outputs and gives.
-type Case = (&'static [u8], &'static [i32], &'static [u32]);
+/// A text, its inputs, the kinds of its events (call, return, input, output, end), and their words.
+type Case = (&'static [u8], &'static [i32], &'static [u8], &'static [u32]);
 
 // Both parts of `If`s, also inside of each other; each way out of a loop, and loops inside of each other.
 const CONTROL: Case = (
@@ -65,7 +62,10 @@ int main(void) {
 }
 ",
     &[9],
-    &[0, 1, 2, 3, 2, 21, 23, 300, 31, 32, 400, 41, 42, 43, 1, 0, 9],
+    b"iooooooooooooooooe",
+    &[
+        9, 0, 1, 2, 3, 2, 21, 23, 300, 31, 32, 400, 41, 42, 43, 1, 0, 9,
+    ],
 );
 
 // Calls of the own compartment, with no argument or up to eight, with a result, without one, or with one that nobody
@@ -109,10 +109,12 @@ int main(void) {
 }
 ",
     &[],
+    b"ooooe",
     &[87_654_321, 5, 55, 7, 0],
 );
 
-// Calls across, with arguments, with and without a result, and back into the compartment that waits.
+// Calls across, with arguments, with and without a result, and back into the compartment that waits: `keep`, export 1
+// of compartment 1, twice, and then `sum` with digits, which calls `twice` with -4; then both of these with zeros.
 const ACROSS: Case = (
     b"#pragma compartment M
 #pragma export twice
@@ -153,8 +155,16 @@ int sum(int a, int b, int c, int d, int e, int f, int g, int h) {
 }
 ",
     &[],
-    &[370, 2, 370],
+    b"crcrccrroccrroe",
+    &[
+        1, 1, 7, 1, 1, 8, 1, 0, 1, 2, 3, 4, 5, 6, 7, 8, 0, 0, MINUS_4, MINUS_8, 370, 370, 1, 0, 0,
+        0, 0, 0, 0, 0, 0, 0, 0, 0, 0, 0, 378, 2, 370,
+    ],
 );
+
+const MINUS_4: u32 = 0xffff_fffc;
+
+const MINUS_8: u32 = 0xffff_fff8;
 
 // Inputs, also such that nobody takes, and outputs.
 const ENVIRONMENT: Case = (
@@ -177,7 +187,17 @@ int main(void) {
 }
 ",
     &[-5, 6, 2_147_483_647],
-    &[0xffff_fffb, 0x7fff_ffff, 0, 0xffff_fffb],
+    b"iiiooioe",
+    &[
+        0xffff_fffb,
+        6,
+        0x7fff_ffff, // what is read
+        0xffff_fffb,
+        0x7fff_ffff,
+        0, // read after the last input
+        0,
+        0xffff_fffb,
+    ],
 );
 
 // Places of objects and globals, arrays, structs, pointers to each, and all that is computed with pointers.
@@ -253,6 +273,7 @@ int main(void) {
 }
 ",
     &[],
+    b"oooooooooooooooooooooe",
     &[
         2,
         1,
@@ -317,21 +338,25 @@ int main(void) {
 }
 ",
     &[0, 7, -2048],
+    b"ioooooooioooooooiooooooooooooooooooe",
     &[
+        0, // read
         0,
         0,
         1,
         u32::MAX,
         0,
         1,
-        u32::MAX, //
+        u32::MAX,
+        7, // read
         0xffff_fff9,
         7,
         0,
         0xffff_fff8,
         0xffff_fff9,
         0,
-        0xffff_fff8, //
+        0xffff_fff8,
+        0xffff_f800, // read
         2_048,
         0xffff_f800,
         0,
@@ -374,27 +399,25 @@ fn choices(alloc: Global) -> Result<Vec<Choice>, OutOfMemory> {
     Ok(choices)
 }
 
-fn agrees(alloc: Global, case: Case, choices: &[Choice]) -> Result<bool, Fail> {
-    let (text, inputs, words) = case;
+fn is_right(alloc: Global, case: Case, choices: &[Choice]) -> Result<bool, Fail> {
+    let (text, inputs, kinds, words) = case;
     let source = SourceText::read(alloc, text)?;
     let code = lower(alloc, source.program())?;
-    let task = CodeTask {
+    let task = Task {
         program: code.tree(),
         inputs,
-        turns: TURNS,
         events: EVENTS,
+        kinds,
+        words,
     };
-    match agreed_outputs(alloc, &task, choices)? {
-        None => Ok(false),
-        Some(output_words) => Ok(output_words.as_slice() == words),
-    }
+    emits(alloc, &task, choices)
 }
 
 #[test]
 fn statements_do_what_they_mean(rt: HostRuntime) -> Result<(), Fail> {
     let choices = choices(rt.alloc())?;
     for case in [CONTROL, OWN, ACROSS, ENVIRONMENT, POINTERS, WORDS] {
-        assert!(rt; agrees(rt.alloc(), case, choices.as_slice())?);
+        assert!(rt; is_right(rt.alloc(), case, choices.as_slice())?);
     }
     Ok(())
 }

@@ -1,22 +1,30 @@
-// Runs of programs of code on the machine, and their traces beside what the code means.
+// Runs of programs of code on the machine, and the words of their events.
 use crate::images::image_by;
 use crate::placing::Choice;
-use code_runs::{CodeTask, run_code};
+use sc_base::OutOfMemory;
 use sc_event::Event;
 use sc_image::read_image;
 use sc_machine::Machine;
 use sc_store::FlatStore;
+use sc_tac::TacTree;
 use std::alloc::Global;
 use std::test::Fail;
 
 const STEPS: u32 = 100_000;
 
+/// A program of code, its inputs, how many events there are at most; and of all events of its run the kinds and the
+/// words.
+#[derive(Clone, Copy)]
+pub struct Task<'a> {
+    pub program: &'a TacTree,
+    pub inputs: &'a [i32],
+    pub events: u32,
+    pub kinds: &'a [u8],
+    pub words: &'a [u32],
+}
+
 // The machine after a run of a program whose temporaries lie by such a choice, if there is an image of it.
-fn run_by(
-    alloc: Global,
-    task: &CodeTask,
-    choice: Choice,
-) -> Result<Option<Machine<FlatStore>>, Fail> {
+fn run_by(alloc: Global, task: &Task, choice: Choice) -> Result<Option<Machine<FlatStore>>, Fail> {
     let Some(bytes) = image_by(alloc, task.program, choice)? else {
         return Ok(None);
     };
@@ -30,38 +38,74 @@ fn run_by(
     Ok(Some(machine))
 }
 
-// Whether the machine emits these events where the temporaries lie by such a choice.
-fn agrees(alloc: Global, task: &CodeTask, meant: &[Event], choice: Choice) -> Result<bool, Fail> {
-    match run_by(alloc, task, choice)? {
-        None => Ok(false),
-        Some(machine) => Ok(machine.trace() == meant),
-    }
+// What is seen of a trace: the first letters of the events' kinds, and their words.
+#[derive(Drop)]
+struct Seen {
+    kinds: Vec<u8>,
+    words: Vec<u32>,
 }
 
-/// What a program of code outputs and ends with, if the machine emits all that the code means, wherever the temporaries
-/// lie.
-pub fn agreed_outputs(
-    alloc: Global,
-    task: &CodeTask,
-    choices: &[Choice],
-) -> Result<Option<Vec<u32>>, Fail> {
-    let meant = run_code(alloc, task)?;
-    for choice in choices {
-        if !agrees(alloc, task, meant.trace.as_slice(), *choice)? {
-            return Ok(None);
-        }
-    }
-    Ok(Some(output_words(alloc, meant.trace.as_slice())?))
-}
-
-// The words that are output, and that the run ends with.
-fn output_words(alloc: Global, trace: &[Event]) -> Result<Vec<u32>, Fail> {
-    let mut words = Vec::new(alloc);
-    for event in trace {
+impl Seen {
+    // The letter, and the word that crosses. A call has first the numbers of the compartment that is called and of its
+    // export, and then the arguments.
+    fn append(&mut self, event: &Event) -> Result<(), OutOfMemory> {
         match event {
-            Event::Out { value, .. } | Event::End { value, .. } => words.push(*value)?,
-            _ => (),
+            Event::Call {
+                to,
+                index,
+                args,
+                ..
+            } => {
+                self.kinds.push(b'c')?;
+                self.words.push(u32::from(to.number()))?;
+                self.words.push(u32::from(*index))?;
+                self.words.extend_from_slice(args.as_slice())?;
+            }
+            Event::Ret { value, .. } => {
+                self.kinds.push(b'r')?;
+                if let Some(word) = value {
+                    self.words.push(*word)?;
+                }
+            }
+            Event::In { value, .. } => self.append_word(b'i', *value)?,
+            Event::Out { value, .. } => self.append_word(b'o', *value)?,
+            Event::End { value, .. } => self.append_word(b'e', *value)?,
+        }
+        Ok(())
+    }
+
+    fn append_word(&mut self, kind: u8, word: u32) -> Result<(), OutOfMemory> {
+        self.kinds.push(kind)?;
+        self.words.push(word)?;
+        Ok(())
+    }
+}
+
+fn seen_in(alloc: Global, trace: &[Event]) -> Result<Seen, OutOfMemory> {
+    let mut seen = Seen {
+        kinds: Vec::new(alloc),
+        words: Vec::new(alloc),
+    };
+    for event in trace {
+        seen.append(event)?;
+    }
+    Ok(seen)
+}
+
+fn emits_by(alloc: Global, task: &Task, choice: Choice) -> Result<bool, Fail> {
+    let Some(machine) = run_by(alloc, task, choice)? else {
+        return Ok(false);
+    };
+    let seen = seen_in(alloc, machine.trace())?;
+    Ok(seen.kinds.as_slice() == task.kinds && seen.words.as_slice() == task.words)
+}
+
+/// Whether the machine emits these events, wherever the temporaries lie.
+pub fn emits(alloc: Global, task: &Task, choices: &[Choice]) -> Result<bool, Fail> {
+    for choice in choices {
+        if !emits_by(alloc, task, *choice)? {
+            return Ok(false);
         }
     }
-    Ok(words)
+    Ok(true)
 }

@@ -1,9 +1,7 @@
-//! Images, and machines that run them. This crate has only tests.
+//! Images, machines that run them, and the pages and stores below. This crate has only tests.
 #![tactic(auto)]
 
 #[cfg(test)]
-mod gates;
+mod pages;
 #[cfg(test)]
-mod images;
-#[cfg(test)]
-mod machines;
+mod runs;

@@ -6,7 +6,7 @@
 mod calls;
 mod expressions;
 mod memory;
-pub mod pointers;
+mod pointers;
 mod run;
 mod script;
 mod set;
@@ -14,9 +14,5 @@ mod task;
 mod words;
 mod zeros;
 
-pub use memory::Memory;
-pub use run::Halt;
 pub use set::CompSet;
 pub use task::{Task, run_task};
-pub use words::{is_true, truth};
-pub use zeros::begin_section;

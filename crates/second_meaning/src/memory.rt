@@ -12,7 +12,7 @@ struct Variable {
 
 /// The variables, in the order in which they were made.
 #[derive(Drop)]
-pub struct Memory {
+pub(crate) struct Memory {
     variables: Vec<Variable>,
 }
 
@@ -35,19 +35,19 @@ fn pointer_of(place: Value) -> Result<Pointer, Cause> {
 
 impl Memory {
     /// No variable yet.
-    pub fn new(alloc: Global) -> Memory {
+    pub(crate) fn new(alloc: Global) -> Memory {
         Memory {
             variables: Vec::new(alloc),
         }
     }
 
     /// The number of the next variable.
-    pub fn len(&self) -> usize {
+    pub(crate) fn len(&self) -> usize {
         self.variables.len()
     }
 
     /// Makes a variable of these cells.
-    pub fn begin(&mut self, cells: Vec<Cell>) -> Result<(), OutOfMemory> {
+    pub(crate) fn begin(&mut self, cells: Vec<Cell>) -> Result<(), OutOfMemory> {
         self.variables.push(Variable {
             is_live: true,
             cells,
@@ -56,7 +56,7 @@ impl Memory {
     }
 
     /// Ends the variables of these numbers.
-    pub fn end(&mut self, first: usize, following: usize) {
+    pub(crate) fn end(&mut self, first: usize, following: usize) {
         for number in first..following {
             if let Some(variable) = self.variables.get_mut(number) {
                 variable.is_live = false;
@@ -72,7 +72,7 @@ impl Memory {
     }
 
     /// How many cells the variable has that a pointer leads to.
-    pub fn cells_after(&self, pointer: Pointer) -> Result<usize, Cause> {
+    pub(crate) fn cells_after(&self, pointer: Pointer) -> Result<usize, Cause> {
         match self.variables.get(pointer.block as usize) {
             Some(variable) if variable.is_live => Ok(variable.cells.len()),
             _ => Err(Cause::Dangling),
@@ -90,7 +90,7 @@ impl Memory {
     }
 
     /// What is at a place, where a pointer or an integer is wanted.
-    pub fn load(&self, place: Value, wants_pointer: bool) -> Result<Value, Cause> {
+    pub(crate) fn load(&self, place: Value, wants_pointer: bool) -> Result<Value, Cause> {
         match self.cell_at(pointer_of(place)?)? {
             Cell::Undef => Err(Cause::Indeterminate),
             Cell::Ptr(pointer) if !self.is_live(pointer) => Err(Cause::Dangling),
@@ -102,7 +102,7 @@ impl Memory {
     }
 
     /// Stores a value at a place.
-    pub fn store(&mut self, place: Value, value: Value) -> Result<(), Cause> {
+    pub(crate) fn store(&mut self, place: Value, value: Value) -> Result<(), Cause> {
         let pointer = pointer_of(place)?;
         let _old = self.cell_at(pointer)?;
         if let Some(variable) = self.variables.get_mut(pointer.block as usize) {

@@ -5,7 +5,7 @@ use sc_base::BinaryOp;
 use sc_core::{Cause, Pointer, Value};
 
 /// The place `by` cells after another, of the same variable or one past its end.
-pub fn moved(memory: &Memory, place: Value, by: i64) -> Result<Value, Cause> {
+pub(crate) fn moved(memory: &Memory, place: Value, by: i64) -> Result<Value, Cause> {
     let pointer = match place {
         Value::Word(_) => return Err(Cause::BadType),
         Value::Null => return Err(Cause::NullUse),
@@ -26,7 +26,7 @@ pub fn moved(memory: &Memory, place: Value, by: i64) -> Result<Value, Cause> {
 }
 
 /// The whole number that an index stands for.
-pub fn number_of(unsigned: bool, word: u32) -> i64 {
+pub(crate) fn number_of(unsigned: bool, word: u32) -> i64 {
     if unsigned {
         word as i64
     } else {
@@ -35,7 +35,12 @@ pub fn number_of(unsigned: bool, word: u32) -> i64 {
 }
 
 /// The place `elements` elements of `cells` cells after another.
-pub fn moved_on(memory: &Memory, place: Value, cells: u32, elements: i64) -> Result<Value, Cause> {
+pub(crate) fn moved_on(
+    memory: &Memory,
+    place: Value,
+    cells: u32,
+    elements: i64,
+) -> Result<Value, Cause> {
     let by = (cells as i64)
         .checked_mul(elements)
         .ok_or(Cause::OutOfBounds)?;
@@ -89,7 +94,7 @@ fn in_elements(cells: u32, by: i64) -> Result<Value, Cause> {
 }
 
 /// An operator between two pointers to elements of `cells` cells.
-pub fn between(
+pub(crate) fn between(
     memory: &Memory,
     op: BinaryOp,
     cells: u32,

@@ -13,7 +13,7 @@ use std::alloc::{AllocError, AllocFailed, Global};
 
 /// Why a run goes no further: it has come to the end that it keeps, or memory is missing.
 #[derive(Clone, Copy)]
-pub enum Halt {
+pub(crate) enum Halt {
     End,
     OutOfMemory,
 }

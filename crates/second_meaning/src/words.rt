@@ -3,7 +3,7 @@ use sc_base::{BinaryOp, UnaryOp};
 use sc_core::{Cause, Value};
 
 /// Whether a condition holds.
-pub fn is_true(value: Value) -> bool {
+pub(crate) fn is_true(value: Value) -> bool {
     match value {
         Value::Word(word) => word != 0,
         Value::Null => false,
@@ -12,7 +12,7 @@ pub fn is_true(value: Value) -> bool {
 }
 
 /// `int` 1 or 0.
-pub fn truth(holds: bool) -> Value {
+pub(crate) fn truth(holds: bool) -> Value {
     Value::Word(u32::from(holds))
 }
 

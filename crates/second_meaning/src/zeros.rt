@@ -1,7 +1,9 @@
 //! The cells with which globals begin (C11 6.7.9p10).
 use crate::memory::Memory;
 use sc_base::OutOfMemory;
-use sc_core::{BaseTy, Cell, Ty, TypedGlobal, TypedMember, TypedSections, TypedStruct};
+use sc_core::{
+    BaseTy, Cell, Ty, TypedGlobal, TypedMember, TypedSection, TypedSections, TypedStruct,
+};
 use std::alloc::Global;
 
 // The zeros of the structs that stand first.
@@ -98,15 +100,13 @@ fn global_cells(
     Ok(cells)
 }
 
-/// Makes the globals of a section with these structs.
-pub fn begin_section(
+fn begin_section(
     alloc: Global,
     memory: &mut Memory,
-    structs: &[TypedStruct],
-    globals: &[TypedGlobal],
+    section: &TypedSection,
 ) -> Result<(), OutOfMemory> {
-    let known = struct_zeros(alloc, structs)?;
-    for global in globals {
+    let known = struct_zeros(alloc, section.structs.as_slice())?;
+    for global in section.globals.as_slice() {
         memory.begin(global_cells(alloc, &known, global)?)?;
     }
     Ok(())
@@ -121,8 +121,7 @@ pub(crate) fn begin_globals(
     let mut firsts = Vec::new(alloc);
     for section in sections.as_slice() {
         firsts.push(memory.len())?;
-        let (structs, globals) = (&section.structs, &section.globals);
-        begin_section(alloc, memory, structs.as_slice(), globals.as_slice())?;
+        begin_section(alloc, memory, section)?;
     }
     Ok(firsts)
 }

@@ -1,17 +1,9 @@
-//! From bytes to trees and back: tokens, sections, expressions, trees and their texts. This crate has only tests.
+//! From bytes to trees and back, and texts that are accepted or refused. This crate has only tests.
 #![tactic(auto)]
 
 #[cfg(test)]
-mod expressions;
+mod again;
 #[cfg(test)]
-mod leaves;
+mod syntax;
 #[cfg(test)]
-mod printing;
-#[cfg(test)]
-mod sections;
-#[cfg(test)]
-mod texts;
-#[cfg(test)]
-mod tokens;
-#[cfg(test)]
-mod words;
+mod trees;

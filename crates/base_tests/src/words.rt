@@ -1,0 +1,4 @@
+// Arithmetic on words, and the words of instructions.
+
+mod arithmetic;
+mod instructions;

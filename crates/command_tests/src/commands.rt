@@ -1,0 +1,11 @@
+// Runs of the whole program in memory.
+
+mod blame;
+mod check;
+mod compiled;
+mod exec;
+mod machine;
+mod meaning;
+mod refusal;
+mod runs;
+mod words;

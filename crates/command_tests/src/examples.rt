@@ -1,0 +1,4 @@
+// The sessions that the documents show, run in memory.
+
+mod runs;
+mod sessions;

@@ -1,0 +1,746 @@
+// What the documents show, written from them by tools/sessions.py.
+use crate::examples::runs::Session;
+
+// The texts that are read.
+#[derive(Clone, Copy)]
+pub(crate) enum Input {
+    Endless,
+    Full,
+    Messages,
+    Reentry,
+    Refused,
+    Seven,
+    Store,
+    Two,
+    Text1,
+}
+
+impl Input {
+    pub(crate) fn text(self) -> &'static [u8] {
+        match self {
+            Input::Endless => ENDLESS_TEXT,
+            Input::Full => FULL_TEXT,
+            Input::Messages => MESSAGES_TEXT,
+            Input::Reentry => REENTRY_TEXT,
+            Input::Refused => REFUSED_TEXT,
+            Input::Seven => SEVEN_TEXT,
+            Input::Store => STORE_TEXT,
+            Input::Two => TWO_TEXT,
+            Input::Text1 => TEXT1_TEXT,
+        }
+    }
+}
+
+const ENDLESS_TEXT: &[u8] = b"#pragma compartment Main
+#pragma import Env output
+void output(int v);
+int main(void) {
+  int n = 0;
+  while (1) {
+    output(n);
+    n = (n + 1) % 3;
+  }
+}
+";
+
+const FULL_TEXT: &[u8] = b"#pragma compartment Main
+#pragma import Sum up_to
+#pragma import Env output
+int up_to(int n);
+void output(int v);
+int main(void) {
+  int r;
+  r = up_to(10);
+  output(r);
+  r = up_to(1000);
+  output(r);
+  return 0;
+}
+#pragma compartment Sum
+#pragma export up_to
+int up_to(int n) {
+  int r;
+  int terms[200];
+  if (n == 0) {
+    return 0;
+  }
+  terms[0] = n;
+  r = up_to(n - 1);
+  return r + terms[0];
+}
+";
+
+const MESSAGES_TEXT: &[u8] = b"// A service that answers messages.
+// Main acts on them, Store has the key, Log tells what was done, and Parser reads.
+// A message is pairs of a field and what it holds, up to field 0: field 1 is the kind, and field 2 a number.
+// Kind 1 asks whether the number is the key. Kind 2 makes it the key, if the sender is trusted. Kind 0 ends.
+#pragma compartment Main
+#pragma import Parser next_kind
+#pragma import Parser number
+#pragma import Store is_key
+#pragma import Store set_key
+#pragma import Log note
+int next_kind(void);
+int number(void);
+int is_key(int guess);
+void set_key(int new_key);
+void note(int kind, int answer);
+
+int act(int kind) {
+  int value;
+  int answer = 0;
+  value = number();
+  if (kind == 1) {
+    answer = is_key(value);
+  } else if (kind == 2) {
+    set_key(value);
+  }
+  return answer;
+}
+
+int main(void) {
+  int kind;
+  int answer;
+  kind = next_kind();
+  while (kind != 0) {
+    answer = act(kind);
+    note(kind, answer);
+    kind = next_kind();
+  }
+  return 0;
+}
+#pragma compartment Store
+#pragma export is_key
+#pragma export set_key
+int key = 7341;
+
+int is_key(int guess) {
+  return guess == key;
+}
+
+void set_key(int new_key) {
+  key = new_key;
+}
+#pragma compartment Log
+#pragma export note
+#pragma import Env output
+void output(int v);
+int lines;
+
+void note(int kind, int answer) {
+  lines = (lines + 1) & 255;
+  output(kind * 10 + answer);
+}
+#pragma compartment Parser
+#pragma export next_kind
+#pragma export number
+#pragma import Env input
+int input(void);
+int fields[3];
+int trusted;
+
+int next_kind(void) {
+  int field;
+  fields[1] = 0;
+  fields[2] = 0;
+  field = input();
+  while (field != 0) {
+    fields[field] = input();
+    field = input();
+  }
+  if (fields[1] == 2 && !trusted) {
+    return 9;
+  }
+  return fields[1];
+}
+
+int number(void) {
+  return fields[2];
+}
+";
+
+const REENTRY_TEXT: &[u8] = b"#pragma compartment Main
+#pragma import A f
+#pragma import Env output
+int f(int i);
+void output(int v);
+int main(void) {
+  int r;
+  r = f(2);
+  output(r);
+  return 0;
+}
+#pragma compartment A
+#pragma export f
+#pragma export h
+#pragma import B g
+int g(int v);
+int x[2];
+int y;
+int f(int i) {
+  int r;
+  x[i] = 5;
+  r = g(y);
+  return r + y;
+}
+int h(int v) {
+  y = y + v;
+  return y;
+}
+#pragma compartment B
+#pragma export g
+#pragma import A h
+int h(int v);
+int g(int v) {
+  int r;
+  r = h(v + 1);
+  return r;
+}
+";
+
+const REFUSED_TEXT: &[u8] = b"#pragma compartment Main
+#pragma import Net put
+int put(int, int);
+int main(void) {
+  int *p;
+  p = 7;
+  return put(1, 2);
+}
+#pragma compartment Net
+#pragma export put
+int put(int i, int v) { return i + v; }
+";
+
+const SEVEN_TEXT: &[u8] = b"#pragma compartment Main
+#pragma import Env output
+void output(int v);
+int main(void) {
+  output(7);
+  return 0;
+}
+";
+
+const STORE_TEXT: &[u8] = b"#pragma compartment Main
+#pragma import Net put
+#pragma import Env output
+int put(int i, int v);
+void output(int v);
+int main(void) {
+  int r;
+  r = put(4, 9);
+  output(r);
+  return 0;
+}
+#pragma compartment Net
+#pragma export put
+int buf[4];
+int key;
+int put(int i, int v) {
+  buf[i] = v;
+  return key;
+}
+";
+
+const TWO_TEXT: &[u8] = b"#pragma compartment Main
+#pragma import A f
+#pragma import B g
+#pragma import Env output
+int f(int i);
+int g(int i);
+void output(int v);
+int main(void) {
+  int r;
+  r = f(2);
+  output(r);
+  r = g(2);
+  output(r);
+  return 0;
+}
+#pragma compartment A
+#pragma export f
+int x[2];
+int y;
+int f(int i) {
+  x[i] = 5;
+  return y;
+}
+#pragma compartment B
+#pragma export g
+int x[2];
+int y;
+int g(int i) {
+  x[i] = 5;
+  return y;
+}
+";
+
+const TEXT1_TEXT: &[u8] = b"// A service that answers messages.
+// Main acts on them, Store has the key, Log tells what was done, and Parser reads.
+// A message is pairs of a field and what it holds, up to field 0: field 1 is the kind, and field 2 a number.
+// Kind 1 asks whether the number is the key. Kind 2 makes it the key, if the sender is trusted. Kind 0 ends.
+#pragma compartment Main
+#pragma import Parser next_kind
+#pragma import Parser number
+#pragma import Store is_key
+#pragma import Store set_key
+#pragma import Log note
+int next_kind(void);
+int number(void);
+int is_key(int guess);
+void set_key(int new_key);
+void note(int kind, int answer);
+
+int act(int kind) {
+  int value;
+  int answer = 0;
+  value = number();
+  if (kind == 1) {
+    answer = is_key(value);
+  } else if (kind == 2) {
+    set_key(value);
+  }
+  return answer;
+}
+
+int main(void) {
+  int kind;
+  int answer;
+  kind = next_kind();
+  while (kind != 0) {
+    answer = act(kind);
+    note(kind, answer);
+    kind = next_kind();
+  }
+  return 0;
+}
+#pragma compartment Store
+#pragma export is_key
+#pragma export set_key
+int key = 7341;
+
+int is_key(int guess) {
+  return guess == key;
+}
+
+void set_key(int new_key) {
+  key = new_key;
+}
+#pragma compartment Log
+#pragma export note
+#pragma import Env output
+void output(int v);
+int lines;
+
+void note(int kind, int answer) {
+  lines = (lines + 1) & 255;
+  output(kind * 10 + answer);
+}
+#pragma compartment Parser
+#pragma export next_kind
+#pragma export number
+#pragma import Env input
+int input(void);
+unsigned int bt_n;
+int next_kind(void) {
+  if (bt_n == 0u) { bt_n = 1u; input(); }
+  if (bt_n == 1u) { bt_n = 2u; input(); }
+  if (bt_n == 2u) { bt_n = 3u; input(); }
+  if (bt_n == 3u) { bt_n = 4u; input(); }
+  if (bt_n == 4u) { bt_n = 5u; input(); }
+  if (bt_n == 5u) { bt_n = 6u; input(); }
+  if (bt_n == 6u) { bt_n = 7u; input(); }
+  if (bt_n == 7u) { bt_n = 8u; return 2; }
+  if (bt_n == 9u) { bt_n = 10u; input(); }
+  if (bt_n == 10u) { bt_n = 11u; return 0; }
+  while (1) { }
+}
+int number(void) {
+  if (bt_n == 8u) { bt_n = 9u; return 99; }
+  while (1) { }
+}
+";
+
+// Of docs/TUTORIAL.md.
+pub(crate) const TUTORIAL: &[Session] = &[
+    Session {
+        words: "check",
+        input: Input::Messages,
+        want: b"compartment Main
+import Parser next_kind int
+import Parser number int
+import Store is_key int int
+import Store set_key void int
+import Log note void int int
+compartment Store
+export is_key int int
+export set_key void int
+compartment Log
+export note void int int
+import Env output void int
+compartment Parser
+export next_kind int
+export number int
+import Env input int
+main Main
+",
+    },
+    Session {
+        words: "meaning --in 1,1,2,555,0",
+        input: Input::Messages,
+        want: b"call Main Parser next_kind
+in Parser 1
+in Parser 1
+in Parser 2
+in Parser 555
+in Parser 0
+ret Parser Main 1
+call Main Parser number
+ret Parser Main 555
+call Main Store is_key 555
+ret Store Main 0
+call Main Log note 1 0
+out Log 10
+ret Log Main
+call Main Parser next_kind
+in Parser 0
+ret Parser Main 0
+end Main 0
+stop ended
+",
+    },
+    Session {
+        words: "explain --in 1,1,2,555,0",
+        input: Input::Messages,
+        want: b"call Main Parser next_kind
+in Parser 1
+in Parser 1
+in Parser 2
+in Parser 555
+in Parser 0
+ret Parser Main 1
+call Main Parser number
+ret Parser Main 555
+call Main Store is_key 555
+ret Store Main 0
+call Main Log note 1 0
+out Log 10
+ret Log Main
+call Main Parser next_kind
+in Parser 0
+ret Parser Main 0
+end Main 0
+stop ended
+chain 0
+",
+    },
+    Session {
+        words: "meaning --in 3,1,1,2,2,99,0",
+        input: Input::Messages,
+        want: b"call Main Parser next_kind
+in Parser 3
+in Parser 1
+stop blamed Parser OutOfBounds 15
+",
+    },
+    Session {
+        words: "run --in 3,1,1,2,2,99,0",
+        input: Input::Messages,
+        want: b"call Main Parser next_kind
+in Parser 3
+in Parser 1
+in Parser 1
+in Parser 2
+in Parser 2
+in Parser 99
+in Parser 0
+ret Parser Main 2
+call Main Parser number
+ret Parser Main 99
+call Main Store set_key 99
+ret Store Main
+call Main Log note 2 0
+out Log 20
+ret Log Main
+call Main Parser next_kind
+in Parser 0
+ret Parser Main 0
+end Main 0
+stop ended
+",
+    },
+    Session {
+        words: "explain --in 3,1,1,2,2,99,0",
+        input: Input::Messages,
+        want: b"call Main Parser next_kind
+in Parser 3
+in Parser 1
+in Parser 1
+in Parser 2
+in Parser 2
+in Parser 99
+in Parser 0
+ret Parser Main 2
+call Main Parser number
+ret Parser Main 99
+call Main Store set_key 99
+ret Store Main
+call Main Log note 2 0
+out Log 20
+ret Log Main
+call Main Parser next_kind
+in Parser 0
+ret Parser Main 0
+end Main 0
+stop ended
+chain 1
+replace Parser after 3 OutOfBounds line 15
+",
+    },
+    Session {
+        words: "explain --show 1 --in 3,1,1,2,2,99,0",
+        input: Input::Messages,
+        want: b"// A service that answers messages.
+// Main acts on them, Store has the key, Log tells what was done, and Parser reads.
+// A message is pairs of a field and what it holds, up to field 0: field 1 is the kind, and field 2 a number.
+// Kind 1 asks whether the number is the key. Kind 2 makes it the key, if the sender is trusted. Kind 0 ends.
+#pragma compartment Main
+#pragma import Parser next_kind
+#pragma import Parser number
+#pragma import Store is_key
+#pragma import Store set_key
+#pragma import Log note
+int next_kind(void);
+int number(void);
+int is_key(int guess);
+void set_key(int new_key);
+void note(int kind, int answer);
+
+int act(int kind) {
+  int value;
+  int answer = 0;
+  value = number();
+  if (kind == 1) {
+    answer = is_key(value);
+  } else if (kind == 2) {
+    set_key(value);
+  }
+  return answer;
+}
+
+int main(void) {
+  int kind;
+  int answer;
+  kind = next_kind();
+  while (kind != 0) {
+    answer = act(kind);
+    note(kind, answer);
+    kind = next_kind();
+  }
+  return 0;
+}
+#pragma compartment Store
+#pragma export is_key
+#pragma export set_key
+int key = 7341;
+
+int is_key(int guess) {
+  return guess == key;
+}
+
+void set_key(int new_key) {
+  key = new_key;
+}
+#pragma compartment Log
+#pragma export note
+#pragma import Env output
+void output(int v);
+int lines;
+
+void note(int kind, int answer) {
+  lines = (lines + 1) & 255;
+  output(kind * 10 + answer);
+}
+#pragma compartment Parser
+#pragma export next_kind
+#pragma export number
+#pragma import Env input
+int input(void);
+unsigned int bt_n;
+int next_kind(void) {
+  if (bt_n == 0u) { bt_n = 1u; input(); }
+  if (bt_n == 1u) { bt_n = 2u; input(); }
+  if (bt_n == 2u) { bt_n = 3u; input(); }
+  if (bt_n == 3u) { bt_n = 4u; input(); }
+  if (bt_n == 4u) { bt_n = 5u; input(); }
+  if (bt_n == 5u) { bt_n = 6u; input(); }
+  if (bt_n == 6u) { bt_n = 7u; input(); }
+  if (bt_n == 7u) { bt_n = 8u; return 2; }
+  if (bt_n == 9u) { bt_n = 10u; input(); }
+  if (bt_n == 10u) { bt_n = 11u; return 0; }
+  while (1) { }
+}
+int number(void) {
+  if (bt_n == 8u) { bt_n = 9u; return 99; }
+  while (1) { }
+}
+",
+    },
+    Session {
+        words: "explain --in 3,1,1,2,2,99,0",
+        input: Input::Text1,
+        want: b"call Main Parser next_kind
+in Parser 3
+in Parser 1
+in Parser 1
+in Parser 2
+in Parser 2
+in Parser 99
+in Parser 0
+ret Parser Main 2
+call Main Parser number
+ret Parser Main 99
+call Main Store set_key 99
+ret Store Main
+call Main Log note 2 0
+out Log 20
+ret Log Main
+call Main Parser next_kind
+in Parser 0
+ret Parser Main 0
+end Main 0
+stop ended
+chain 0
+",
+    },
+    Session {
+        words: "explain --in=-524288,5,0",
+        input: Input::Messages,
+        want: b"call Main Parser next_kind
+in Parser -524288
+in Parser 5
+stop trap owner 0x0130006c
+chain 0
+",
+    },
+];
+
+// Of examples/README.md.
+pub(crate) const EXAMPLES: &[Session] = &[
+    Session {
+        words: "explain",
+        input: Input::Seven,
+        want: b"out Main 7
+end Main 0
+stop ended
+chain 0
+",
+    },
+    Session {
+        words: "explain",
+        input: Input::Store,
+        want: b"call Main Net put 4 9
+ret Net Main 9
+out Main 9
+end Main 0
+stop ended
+chain 1
+replace Net after 1 OutOfBounds line 6
+",
+    },
+    Session {
+        words: "explain",
+        input: Input::Two,
+        want: b"call Main A f 2
+ret A Main 5
+out Main 5
+call Main B g 2
+ret B Main 5
+out Main 5
+end Main 0
+stop ended
+chain 2
+replace A after 1 OutOfBounds line 6
+replace B after 4 OutOfBounds line 6
+",
+    },
+    Session {
+        words: "explain",
+        input: Input::Reentry,
+        want: b"call Main A f 2
+call A B g 5
+call B A h 6
+ret A B 11
+ret B A 11
+ret A Main 22
+out Main 22
+end Main 0
+stop ended
+chain 1
+replace A after 1 OutOfBounds line 10
+",
+    },
+    Session {
+        words: "meaning",
+        input: Input::Full,
+        want: b"call Main Sum up_to 10
+ret Sum Main 55
+out Main 55
+call Main Sum up_to 1000
+ret Sum Main 500500
+out Main 500500
+end Main 0
+stop ended
+",
+    },
+    Session {
+        words: "explain",
+        input: Input::Full,
+        want: b"call Main Sum up_to 10
+ret Sum Main 55
+out Main 55
+call Main Sum up_to 1000
+stop trap owner 0x01100008
+chain 0
+",
+    },
+    Session {
+        words: "explain --events 5",
+        input: Input::Endless,
+        want: b"out Main 0
+out Main 1
+out Main 2
+out Main 0
+out Main 1
+stop events
+chain 0
+",
+    },
+    Session {
+        words: "meaning --turns 2",
+        input: Input::Endless,
+        want: b"out Main 0
+out Main 1
+stop turns
+",
+    },
+    Session {
+        words: "check",
+        input: Input::Refused,
+        want: b"secomp: refused types line 6
+",
+    },
+];
+
+// Of docs/EXPLAIN.md.
+pub(crate) const EXPLAIN: &[Session] = &[Session {
+    words: "explain",
+    input: Input::Store,
+    want: b"call Main Net put 4 9
+ret Net Main 9
+out Main 9
+end Main 0
+stop ended
+chain 1
+replace Net after 1 OutOfBounds line 6
+",
+}];

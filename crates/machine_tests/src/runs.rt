@@ -1,0 +1,5 @@
+// Images, the cross stack, and machines.
+
+mod gates;
+mod images;
+mod machines;

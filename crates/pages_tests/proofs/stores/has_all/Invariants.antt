@@ -1,5 +1,0 @@
-use Rattle.std.proofs.Common.{◌+◌, ◌<◌, ℕ, IsSome}
-use Rattle.pages_tests.proofs.stores.has_all.Given as goal
-
-abbrev pub invariant-loop-k : goal.invariant-loop-k
-invariant-loop-k g l = (j : ℕ) → j < l.k → IsSome (g.S.Store.bytes l.store (l.at + j))
