@@ -197,6 +197,7 @@ def judge(seeds, program):
 
 
 def main():
+    """Compares the texts of the seeds that the words name; the exit status."""
     options = argparse.ArgumentParser(description=__doc__.split("\n")[0])
     options.add_argument("--texts", type=int, default=200)
     options.add_argument("--seed", type=int, default=1)
@@ -207,6 +208,8 @@ def main():
     if absent:
         print("outsider: compared nothing: %s isn't on the path" % " and ".join(absent))
         return 0
+    if not os.access(words.secomp, os.X_OK):
+        options.error("%s isn't there; build the program first, or name one with --secomp" % words.secomp)
     seeds = range(words.seed, words.seed + words.texts)
     batches = [seeds[i:i + BATCH] for i in range(0, len(seeds), BATCH)]
     summary = Summary(words.keep)

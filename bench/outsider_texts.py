@@ -271,6 +271,7 @@ class Body(Expressions):
         self.declared, self.loops = {}, 0
 
     def add(self, line):
+        """Adds a line, and sometimes one that says nothing."""
         self.lines.append("  " * self.depth + line)
         if self.draw.chance(0.03):
             self.lines += self.draw.pick([[""], ["  ;"], ["  // x = 1 / 0;"], ["  /* two", "     lines */"]])
@@ -289,6 +290,7 @@ class Body(Expressions):
         return self.draw.pick([each.name for each in self.scalars] + [element])
 
     def assign(self):
+        """An assignment."""
         place, _ = self.place()
         self.add("%s = %s;" % (place, self.value()))
 
@@ -366,6 +368,7 @@ class Body(Expressions):
         return function, "%s(%s)" % (function.name, ", ".join(self.value() for _ in function.parameters))
 
     def call(self):
+        """A call, its result kept or not."""
         function, text = self.invocation()
         if function is None:
             return self.output()
@@ -382,6 +385,7 @@ class Body(Expressions):
         return self.add((self.target() + " = " if self.draw.chance(0.8) else "") + "input();")
 
     def leave(self):
+        """A return on a condition."""
         self.add("if (%s) {" % self.condition())
         self.add("  return%s;" % (" " + self.value() if self.result != "void" else ""))
         self.add("}")
