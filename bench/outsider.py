@@ -206,7 +206,7 @@ def main():
     words = options.parse_args()
     absent = [name for name in ("gcc", "clang") if not shutil.which(name)]
     if absent:
-        print("outsider: compared nothing: %s isn't on the path" % " and ".join(absent))
+        print("outsider: compared nothing, for want of %s on the path" % " and ".join(absent))
         return 0
     if not os.access(words.secomp, os.X_OK):
         options.error("%s isn't there; build the program first, or name one with --secomp" % words.secomp)
