@@ -2,6 +2,13 @@ use Rattle.sc_top.proofs.Common.{ap, codes, decimal, refl, rules, sym, ◌++◌}
 use Rattle.sc_top.proofs.Streams.{cut_wrote, then_wrote}
 use Rattle.sc_top.proofs.printing.write_refusal.Goals as goal
 
+pub returns-in_err-write_text : goal.returns-in_err-write_text
+returns-in_err-write_text g c =
+    let word = c.in_err-write_text.ensures in
+    let line = codes " line " ++ (decimal c.args.refusal.now.line ++ codes "\n") in
+    cut_wrote _ c.phase_word.result.now line _ _ _ _ _ (ap (λ w. w ++ line) (sym c.phase_word.ensures)) (search rules)
+    word.err word.fault word.counted
+
 pub returns-in_err-write_text-2 : goal.returns-in_err-write_text-2
 returns-in_err-write_text-2 g c =
     let word = c.in_ok-write_text.ensures in
