@@ -1,5 +1,5 @@
-//! Names, events, blocks, sources and sinks, and words and instructions, as one sees them from outside. This crate has
-//! only tests.
+//! Names, events, blocks, zones, sources and sinks, and words and instructions, as one sees them from outside. This
+//! crate has only tests.
 #![tactic(auto)]
 
 #[cfg(test)]
@@ -12,3 +12,5 @@ mod event;
 mod names;
 #[cfg(test)]
 mod words;
+#[cfg(test)]
+mod zone;
