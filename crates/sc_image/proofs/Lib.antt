@@ -6,6 +6,7 @@ pub mod Words
 pub mod Memory
 pub mod Cases
 pub mod Reached
+pub mod Agree
 pub mod Isolation
 pub mod Enters
 pub mod Fields
