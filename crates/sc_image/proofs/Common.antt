@@ -47,33 +47,33 @@ pub use Rattle.sc_image.specs.Common.{Entry, Event, EventsOut, Export, Fence, Il
 pub use Rattle.sc_image.specs.Common.{LoadOp, Lui, Main, Misaligned, NoImport, Op, OpImm, OpOp, Out, Owner, Region, Ret}
 pub use Rattle.sc_image.specs.Common.{Shift, ShiftOp, StepsOut, Stop, Store, StoreOp, Trap, TrapReason, Upper}
 pub use Rattle.sc_image.specs.Common.{little_bytes, little_number}
-pub use Rattle.sc_image.specs.Prelude.{Adds, AgreeFor, AreSilent, BadOrImage, BytesNameOneImage, Crossing, Emits}
-pub use Rattle.sc_image.specs.Prelude.{EmittingComposes, Entered, EntersByEvent, Fails, FitsItsFields, FollowsFromOwn}
-pub use Rattle.sc_image.specs.Prelude.{Goes, GoesOnSame, ImageInMemory, IsAt, IsByte, IsCall, IsChain, IsComp}
-pub use Rattle.sc_image.specs.Prelude.{IsDistinct, IsEntry, IsImage, IsImport, IsReached, IsSilent, IsSilentFor}
-pub use Rattle.sc_image.specs.Prelude.{IsSteady, IsWellFormed, IsWord, KeepsWords, Kept, LeavesData, LeavesOthers}
-pub use Rattle.sc_image.specs.Prelude.{LegalByWords, LooksSame, OpenCall, Outcome, Own, Point, Read, Run, Running}
-pub use Rattle.sc_image.specs.Prelude.{RunsAreSteady, RunsAt, State, StepsByInstruction, StepsEmit, StretchesCompose}
-pub use Rattle.sc_image.specs.Prelude.{TracesAreLegal, Traps, Waits, Walks, a0, a7, activates, after, after_outcome}
-pub use Rattle.sc_image.specs.Prelude.{after_step, after_steps, are_distinct, arguments, bad, bit, by_owner, byte_at}
-pub use Rattle.sc_image.specs.Prelude.{bytes_at, bytes_in_version, call_of, called, calls, cause_of, code_bytes}
-pub use Rattle.sc_image.specs.Prelude.{code_of, code_start, comp_bytes, comp_of_code, comp_of_data, compares}
-pub use Rattle.sc_image.specs.Prelude.{comps_keep, computed, continued, count_read, data_of, data_regions, data_start}
-pub use Rattle.sc_image.specs.Prelude.{data_with, emits_entry, ended, execute, export_at, export_bytes, export_called}
-pub use Rattle.sc_image.specs.Prelude.{exports_bytes, exports_keep, exports_of, extended, flags, gate, given_back}
-pub use Rattle.sc_image.specs.Prelude.{gives, globals_bytes, globals_of, has_result, if_decoded, if_fetched, if_good}
-pub use Rattle.sc_image.specs.Prelude.{image_bytes, image_of, import_bytes, import_of, imports_bytes, imports_keep}
-pub use Rattle.sc_image.specs.Prelude.{input, input_at, inputs_in, interface_of, interfaces_of, is_argument, is_end}
-pub use Rattle.sc_image.specs.Prelude.{is_ended, is_entry, is_import, is_result, is_same_import, is_same_name}
-pub use Rattle.sc_image.specs.Prelude.{jalr_target, jump, jump_by, keeps_rules, kept, kept_by, kept_from, later}
-pub use Rattle.sc_image.specs.Prelude.{latest_call, leaves, load_by, load_size, loaded, machine, may_call, may_input}
-pub use Rattle.sc_image.specs.Prelude.{may_output, most_globals, name_bytes, next, number_at, number_that}
-pub use Rattle.sc_image.specs.Prelude.{observation_at, observation_of, on_registers, open_after, open_calls, output}
-pub use Rattle.sc_image.specs.Prelude.{own, own_at, params_of, proto_of, ra, refused, reg, returned, returned_to}
-pub use Rattle.sc_image.specs.Prelude.{saved_sp, shift_on_registers, sp, stack_size, stack_top, stack_tops, start, step}
-pub use Rattle.sc_image.specs.Prelude.{stops_or, store_by, store_size, stretch, then_on, unless, unless_stopped}
-pub use Rattle.sc_image.specs.Prelude.{version, walk, with_pc, with_stored, without_latest, word_interface}
-pub use Rattle.sc_image.specs.Prelude.{word_interfaces, word_proto, written, ◌>>=◌}
+pub use Rattle.sc_image.specs.Prelude.{Adds, AgreeFor, AreSilent, BadOrImage, BytesNameOneImage, CallsComeBack}
+pub use Rattle.sc_image.specs.Prelude.{ComesBack, Crossing, Emits, EmittingComposes, Entered, EntersByEvent, Fails}
+pub use Rattle.sc_image.specs.Prelude.{FitsItsFields, FollowsFromOwn, Goes, GoesOnSame, HasCalled, ImageInMemory, IsAt}
+pub use Rattle.sc_image.specs.Prelude.{IsByte, IsCall, IsChain, IsComp, IsDistinct, IsEntry, IsImage, IsImport}
+pub use Rattle.sc_image.specs.Prelude.{IsReached, IsSilent, IsSilentFor, IsSteady, IsWellFormed, IsWord, KeepsWords}
+pub use Rattle.sc_image.specs.Prelude.{Kept, LeavesData, LeavesOthers, LegalByWords, LooksSame, OpenCall, Outcome, Own}
+pub use Rattle.sc_image.specs.Prelude.{Point, Read, Run, Running, RunsAreSteady, RunsAt, State, StaysAbove}
+pub use Rattle.sc_image.specs.Prelude.{StepsByInstruction, StepsEmit, StretchesCompose, TracesAreLegal, Traps, Waits}
+pub use Rattle.sc_image.specs.Prelude.{Walks, a0, a7, activates, after, after_outcome, after_step, after_steps}
+pub use Rattle.sc_image.specs.Prelude.{are_distinct, arguments, bad, bit, by_owner, byte_at, bytes_at, bytes_in_version}
+pub use Rattle.sc_image.specs.Prelude.{call_of, called, calls, cause_of, code_bytes, code_of, code_start, comp_bytes}
+pub use Rattle.sc_image.specs.Prelude.{comp_of_code, comp_of_data, compares, comps_keep, computed, continued}
+pub use Rattle.sc_image.specs.Prelude.{count_read, data_of, data_regions, data_start, data_with, emits_entry, ended}
+pub use Rattle.sc_image.specs.Prelude.{execute, export_at, export_bytes, export_called, exports_bytes, exports_keep}
+pub use Rattle.sc_image.specs.Prelude.{exports_of, extended, flags, gate, given_back, gives, globals_bytes, globals_of}
+pub use Rattle.sc_image.specs.Prelude.{has_result, if_decoded, if_fetched, if_good, image_bytes, image_of, import_bytes}
+pub use Rattle.sc_image.specs.Prelude.{import_of, imports_bytes, imports_keep, input, input_at, inputs_in, interface_of}
+pub use Rattle.sc_image.specs.Prelude.{interfaces_of, is_argument, is_end, is_ended, is_entry, is_import, is_result}
+pub use Rattle.sc_image.specs.Prelude.{is_same_import, is_same_name, jalr_target, jump, jump_by, keeps_rules, kept}
+pub use Rattle.sc_image.specs.Prelude.{kept_by, kept_from, later, latest_call, leaves, load_by, load_size, loaded}
+pub use Rattle.sc_image.specs.Prelude.{machine, may_call, may_input, may_output, most_globals, name_bytes, next}
+pub use Rattle.sc_image.specs.Prelude.{number_at, number_that, observation_at, observation_of, on_registers, open_after}
+pub use Rattle.sc_image.specs.Prelude.{open_calls, output, own, own_at, params_of, proto_of, ra, refused, reg, returned}
+pub use Rattle.sc_image.specs.Prelude.{returned_to, saved_sp, shift_on_registers, sp, stack_size, stack_top, stack_tops}
+pub use Rattle.sc_image.specs.Prelude.{start, step, stops_or, store_by, store_size, stretch, then_on, unless}
+pub use Rattle.sc_image.specs.Prelude.{unless_stopped, version, walk, with_pc, with_stored, without_latest}
+pub use Rattle.sc_image.specs.Prelude.{word_interface, word_interfaces, word_proto, written, ◌>>=◌}
 unfoldable pub use Rattle.sc_image.specs.Prelude.{are_data, code_at, comp_at, comp_name_at, execute_by, exports_at}
 unfoldable pub use Rattle.sc_image.specs.Prelude.{fields_at, globals_at, image_in_version, import_at, imports_at}
 unfoldable pub use Rattle.sc_image.specs.Prelude.{name_at, parts_in_version, run, start_memory, step_by, stopped}

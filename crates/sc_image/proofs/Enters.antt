@@ -11,6 +11,7 @@ use Rattle.sc_image.proofs.Common.{option_map_or, own, params_of, position-Some,
 use Rattle.sc_image.proofs.Common.{saved_sp, slice_get, slice_get-get_or, slice_get_cases, slice_get_within, sp, step}
 use Rattle.sc_image.proofs.Common.{subst, suc, sym, true, unwrap_or, written, zero, ℕ, ⊎_elim, ◌++◌, ◌+◌, ◌-◌, ◌<◌}
 use Rattle.sc_image.proofs.Common.{◌==◌, ◌∙◌, ◌∷◌, ◌≡◌, ◌≢◌, ◌≤◌}
+use Rattle.sc_image.proofs.Events.{no_event, that_event}
 use Rattle.sc_image.proofs.Cases.{crossing_to, step_of}
 use Rattle.sc_image.proofs.Words.{comp_found, no_export}
 
@@ -200,43 +201,34 @@ module _ (image : ImageParts) (inputs : List ℕ) (state : State) (d : ℕ) (for
   Activated outcome = observation_of state outcome ≡ Adds (event ∷ []) →
       ((after_outcome state outcome).active ≡ d) × ((after_outcome state outcome).trace ≡ state.trace ++ event ∷ [])
 
-  no_event : Adds (drop (length state.trace) state.trace) ≡ Adds (event ∷ []) → ⊥
-  no_event emits =
-      let none = ap Adds (sym (drop-length state.trace)) ∙ emits in cc none
-
-  that_event : (one : Event) → Adds (drop (length state.trace) (state.trace ++ one ∷ [])) ≡ Adds (event ∷ []) →
-      one ≡ event
-  that_event one emits =
-      let same = ap Adds (sym (drop-append_seam state.trace (one ∷ []))) ∙ emits in cc same
-
   activates_that : (one : Event) → one ≡ event → activates d one ≡ true
   activates_that one same = ap (activates d) same ∙ activating
 
   return_activates : (cross : List Crossing) → Activated (Goes (returned image state cross))
   return_activates [] emits =
-      let never = activates_that _ (that_event _ emits) in cc never
+      let never = activates_that _ (that_event state.trace _ event emits) in cc never
   return_activates (x ∷ xs) emits =
       let one = Ret _ _ _ in
-      let same = that_event one emits in
+      let same = that_event state.trace one event emits in
       (eqb-true _ d (activates_that one same), ap (λ e. state.trace ++ e ∷ []) same)
 
   pub step_activates : Activated (step image inputs state)
   step_activates = step_of image inputs formed state Activated (record {
     same = λ a owned. refl;
     traps = λ reason emits. cc emits;
-    quiet = λ regs pc moves emits. absurd (no_event emits);
-    stores = λ op a word allowed emits. absurd (no_event emits);
+    quiet = λ regs pc moves emits. absurd (no_event state.trace event emits);
+    stores = λ op a word allowed emits. absurd (no_event state.trace event emits);
     calls = λ to index target at may emits.
         let one : Event = Call state.active to index (arguments (params_of image to index) state.regs) in
-        let same : one ≡ event = that_event one emits in
+        let same : one ≡ event = that_event state.trace one event emits in
         (eqb-true to d (activates_that one same), ap (λ e. state.trace ++ e ∷ []) same);
     returns = return_activates state.cross;
     outputs = λ may emits.
         let one : Event = Out state.active (reg state a0) in
-        let never : false ≡ true = activates_that one (that_event one emits) in cc never;
+        let never : false ≡ true = activates_that one (that_event state.trace one event emits) in cc never;
     reads = λ may emits.
         let one : Event = In state.active (input_at inputs state.input) in
-        let never : false ≡ true = activates_that one (that_event one emits) in cc never;
+        let never : false ≡ true = activates_that one (that_event state.trace one event emits) in cc never;
   })
 
 pub enters_by_event : EntersByEvent

@@ -15,6 +15,7 @@ use Rattle.sc_image.proofs.Common.{◌∙◌, ◌∷◌, ◌≡◌, ◌≢◌, �
 use Rattle.sc_image.proofs.Cases.{crossing_to, step_of, standing, step_both}
 use Rattle.sc_image.proofs.Memory.{allowed_data, data_bounds, few_globals}
 use Rattle.sc_image.proofs.Reached.{called_other, step_steady}
+use Rattle.sc_image.proofs.Events.{loud}
 use Rattle.sc_image.proofs.Agree.{IsInLatest, own_agree, step_agree}
 use Rattle.std.specs.Prelude.{slice_get}
 
@@ -160,11 +161,6 @@ leaves_data image inputs state d formed differ =
     step_leaves image inputs state d formed (λ same. differ (sym same))
 
 -- A silent step leaves who is active, the open calls and the inputs as they are.
-
--- an event is no silence
-loud : (trace : List Event) (event : Event) → Adds (drop (length trace) (trace ++ event ∷ [])) ≡ Adds [] → ⊥
-loud trace event silent =
-    let some = ap Adds (sym (drop-append_seam trace _)) ∙ silent in cc some
 
 pub record Stays (before after : State) : Type 0 where
   pub active : after.active ≡ before.active
@@ -365,7 +361,7 @@ running_of : (c active : ℕ) (running : Running) → active ≡ c →
     (if nat_eq active c then Some running else None) ≡ Some running
 running_of c active running same = rw (eq-eqb active c same) refl
 
-in_latest : (image : ImageParts) (state : State) → IsSteady image state → IsInLatest state
+pub in_latest : (image : ImageParts) (state : State) → IsSteady image state → IsInLatest state
 in_latest image state steady x xs is =
     let chain : IsChain (length image.comps) state.active (x ∷ xs) = subst (IsChain _ _) is steady.chain in chain.0
 

@@ -7,8 +7,10 @@ pub mod Memory
 pub mod Cases
 pub mod Reached
 pub mod Agree
+pub mod Events
 pub mod Isolation
 pub mod Enters
+pub mod Returning
 pub mod Fields
 pub mod FileFields
 pub mod Traces

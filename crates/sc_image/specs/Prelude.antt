@@ -23,6 +23,7 @@ pub use Rattle.sc_image.specs.Reading.{Fails, Gives, Read, bad, bytes_at, cause_
 pub use Rattle.sc_image.specs.Reading.{mark_at, number_at, number_that, ◌>>=◌}
 unfoldable pub use Rattle.sc_image.specs.Reading.{code_at, comp_at, comp_name_at, exports_at, fields_at, globals_at}
 unfoldable pub use Rattle.sc_image.specs.Reading.{image_in_version, import_at, imports_at, name_at, parts_in_version}
+pub use Rattle.sc_image.specs.Returning.{CallsComeBack, ComesBack, HasCalled, StaysAbove}
 pub use Rattle.sc_image.specs.RoundTrip.{BadOrImage, BytesNameOneImage, IsImage}
 pub use Rattle.sc_image.specs.Rules.{are_distinct, comps_keep, exports_keep, imports_keep, is_entry, is_import}
 pub use Rattle.sc_image.specs.Rules.{is_same_import, is_same_name, keeps_rules}

@@ -1,7 +1,7 @@
 //! Laws of images and of the machine that runs them. Each law is the contract of a function with nothing to do, for the
 //! proofs of callers.
 
-ghost use Rattle.sc_image.specs.Prelude.{BadOrImage, BytesNameOneImage, EmittingComposes, EntersByEvent};
+ghost use Rattle.sc_image.specs.Prelude.{BadOrImage, BytesNameOneImage, CallsComeBack, EmittingComposes, EntersByEvent};
 ghost use Rattle.sc_image.specs.Prelude.{FollowsFromOwn, ImageInMemory, LeavesData, LeavesOthers, LegalByWords};
 ghost use Rattle.sc_image.specs.Prelude.{RunsAreSteady, StepsByInstruction, StepsEmit, StretchesCompose};
 ghost use Rattle.sc_image.specs.Prelude.{TracesAreLegal};
@@ -60,6 +60,12 @@ pub fn follows_from_own()
 #[tactic(auto, using(crate::proofs::Enters::enters_by_event))]
 pub fn enters_by_event()
     ensures { EntersByEvent }
+{}
+
+/// A call keeps the caller's stack pointer. The step that closes the call is a return of the callee,
+/// and the caller goes on behind its call, with that stack pointer.
+pub fn calls_come_back()
+    ensures { CallsComeBack }
 {}
 
 /// Stretches of a run follow one another, and a run goes along them.
