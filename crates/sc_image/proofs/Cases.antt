@@ -1,6 +1,5 @@
--- What a step can come to, in two states at once that a compartment can't distinguish: the same registers, pc, inputs
--- and events, and the same bytes at its addresses. A relation between the outcomes holds if it holds of each kind of
--- outcome.
+-- What a step can come to, in two states at once that a compartment can't distinguish: the same registers and pc, and the
+-- same bytes at its addresses. A relation between the outcomes holds if it holds of each kind of outcome.
 use Rattle.sc_image.proofs.Common.{Auipc, BadCall, BadJump, Bool, Branch, Breakpoint, Crossing, Ebreak, Ecall, Export}
 use Rattle.sc_image.proofs.Common.{Fence, Goes, HasWord, HoldsBytes, Illegal, ImageParts, Instr, IsWellFormed, IsWord}
 use Rattle.sc_image.proofs.Common.{Jal, Jalr, List, Load, LoadOp, Lui, Memory, Misaligned, NoImport, None, Op, OpImm}
@@ -12,8 +11,7 @@ use Rattle.sc_image.proofs.Common.{length, length-set, load_of-same, load_size, 
 use Rattle.sc_image.proofs.Common.{nat_eq, next, not, on_registers, output, params_of, ra, refl, refused, reg, returned}
 use Rattle.sc_image.proofs.Common.{saved_sp, set, shift_on_registers, slice_index, sll_word-lt, sp, sra_word-lt}
 use Rattle.sc_image.proofs.Common.{srl_word-lt, step, step_by, store_size, subst, true, unless, with_pc, with_stored}
-use Rattle.sc_image.proofs.Common.{word_at, word_of-lt, written, ℕ, ◌%◌, ◌+◌, ◌==◌, ◌≡◌}
-use Rattle.sc_word.specs.Prelude.{word_of}
+use Rattle.sc_image.proofs.Common.{word_at, word_of, word_of-lt, written, ℕ, ◌%◌, ◌+◌, ◌==◌, ◌≡◌}
 use Rattle.rv_code.specs.declared.instr.ShiftOp.TheVariants.{Slli, Srli, Srai}
 use Rattle.rv_code.proofs.OneEach.{HasWord-decoded}
 use Rattle.sc_image.proofs.Words.{AreWords, written_words, written_zero, computed_word, loaded_word, in_code}
@@ -51,10 +49,13 @@ AtNext P (Traps reason) = Unit {0}
 
 -- The two states.
 
-module _ (image : ImageParts) (inputs : List ℕ) (formed : IsWellFormed image) (one : State) (saved' : List ℕ)
-    (memory' : Memory) (cross' : List Crossing) where
-  abbrev pub other : State
-  other = record one { saved = saved'; memory = memory'; cross = cross' }
+-- the second state, where it has the registers, the pc and the active compartment of the first
+abbrev pub standing : (one rest : State) → State
+standing one rest = record rest { regs = one.regs; pc = one.pc; active = one.active }
+
+module _ (image : ImageParts) (inputs inputs' : List ℕ) (formed : IsWellFormed image) (one rest : State) where
+  abbrev other : State
+  other = standing one rest
 
   -- the registers and the pc after a step that changes nothing else
   pub record Moves (regs' : List ℕ) (pc' : ℕ) : Type 0 where
@@ -65,7 +66,7 @@ module _ (image : ImageParts) (inputs : List ℕ) (formed : IsWellFormed image) 
 
   -- a relation that holds of each kind of outcome
   pub record Cases (P : Outcome → Outcome → Type 0) : Type 0 where
-    pub same : (a : ℕ) → are_data image one.active a 1 ≡ true → one.memory a ≡ memory' a
+    pub same : (a : ℕ) → are_data image one.active a 1 ≡ true → one.memory a ≡ rest.memory a
     pub traps : (reason : TrapReason) → P (Traps reason) (Traps reason)
     pub quiet : (regs' : List ℕ) (pc' : ℕ) → Moves regs' pc' →
         P (Goes (record one { regs = regs'; pc = pc' })) (Goes (record other { regs = regs'; pc = pc' }))
@@ -75,11 +76,11 @@ module _ (image : ImageParts) (inputs : List ℕ) (formed : IsWellFormed image) 
     pub calls : (to index target : ℕ) → export_at image to target ≡ Some index →
         may_call image one.active to index ≡ true → P (Goes (called one to index (params_of image to index) target))
         (Goes (called other to index (params_of image to index) target))
-    pub returns : P (Goes (returned image one one.cross)) (Goes (returned image other cross'))
+    pub returns : P (Goes (returned image one one.cross)) (Goes (returned image other rest.cross))
     pub outputs : may_output image one.active ≡ true → P (Goes (with_pc (output one) (one.pc + 4)))
         (Goes (with_pc (output other) (one.pc + 4)))
     pub reads : may_input image one.active ≡ true → P (Goes (with_pc (input inputs one) (one.pc + 4)))
-        (Goes (with_pc (input inputs other) (one.pc + 4)))
+        (Goes (with_pc (input inputs' other) (one.pc + 4)))
 
   module _ (P : Outcome → Outcome → Type 0) (h : Cases P) where
     either : (b : Bool) (x x' y y' : Outcome) → P x x' → P y y' → P (if b then x else y) (if b then x' else y')
@@ -139,7 +140,7 @@ module _ (image : ImageParts) (inputs : List ℕ) (formed : IsWellFormed image) 
 
     loaded_same : (op : LoadOp) (a : ℕ) → refused image one.active (load_size op) a ≡ None →
         loaded one op a ≡ loaded other op a
-    loaded_same op a allowed = ap (extended op) (load_of-same one.memory memory' a _
+    loaded_same op a allowed = ap (extended op) (load_of-same one.memory rest.memory a _
         (λ k within. h.same _ (one_of image one.active a _ k (allowed_data image one.active _ a allowed) within)))
 
     load_both : (op : LoadOp) (rd a : ℕ) (why : Option TrapReason) → refused image one.active (load_size op) a ≡ why →
@@ -155,7 +156,7 @@ module _ (image : ImageParts) (inputs : List ℕ) (formed : IsWellFormed image) 
     store_both op a word None is = h.stores op a word is
 
     execute_both : (instr : Instr) (word : ℕ) → HasWord instr word →
-        P (execute image inputs one instr) (execute image inputs other instr)
+        P (execute image inputs one instr) (execute image inputs' other instr)
     unfolding execute_by
     execute_both (Upper Lui rd imm) word has = gives_both rd imm (λ here w bytes. has.instr.1.word)
     execute_both (Upper Auipc rd imm) word has = gives_both rd _ (λ here w bytes. add_word-lt one.pc imm)
@@ -177,17 +178,17 @@ module _ (image : ImageParts) (inputs : List ℕ) (formed : IsWellFormed image) 
     execute_both Ebreak word has = h.traps Breakpoint
 
     decoded_both : (word : ℕ) (instr : Option Instr) → IsWord word → decoded word ≡ instr →
-        P (if_decoded (by_owner image inputs) one instr) (if_decoded (by_owner image inputs) other instr)
+        P (if_decoded (by_owner image inputs) one instr) (if_decoded (by_owner image inputs') other instr)
     decoded_both word None bits is = h.traps Illegal
     decoded_both word (Some instr) bits is = execute_both instr word (HasWord-decoded word instr bits is)
 
     fetched_both : (word : Option ℕ) → word_at image one.active one.pc ≡ word →
-        P (if_fetched (by_owner image inputs) one word) (if_fetched (by_owner image inputs) other word)
+        P (if_fetched (by_owner image inputs) one word) (if_fetched (by_owner image inputs') other word)
     fetched_both None at = h.traps BadJump
     fetched_both (Some word) at = decoded_both word _ (in_code image formed one.active one.pc word at).bits refl
 
     -- the step
-    pub step_both : P (step image inputs one) (step image inputs other)
+    pub step_both : P (step image inputs one) (step image inputs' other)
     unfolding step_by
     step_both = fetched_both _ refl
 
@@ -195,7 +196,7 @@ module _ (image : ImageParts) (inputs : List ℕ) (formed : IsWellFormed image) 
 module _ (image : ImageParts) (inputs : List ℕ) (formed : IsWellFormed image) (state : State)
     (P : Outcome → Type 0) where
   abbrev pub OneCases : Type 0
-  OneCases = Cases image inputs formed state state.saved state.memory state.cross (λ x y. P x)
+  OneCases = Cases image inputs inputs formed state state (λ x y. P x)
 
   pub step_of : OneCases → P (step image inputs state)
-  step_of h = step_both image inputs formed state _ _ _ _ h
+  step_of h = step_both image inputs inputs formed state _ _ h

@@ -38,6 +38,7 @@ pub use Rattle.sc_word.proofs.Below.{add_word-lt, div_word-lt, divu_word-lt, mul
 pub use Rattle.sc_word.proofs.Below.{mulhu_word-lt, rem_word-lt, remu_word-lt, sll_word-lt, slt_word-lt, sltu_word-lt}
 pub use Rattle.sc_word.proofs.Below.{sra_word-lt, srl_word-lt, sub_word-lt}
 pub use Rattle.sc_word.proofs.Words.{word_of-lt}
+pub use Rattle.sc_word.specs.Prelude.{add_word, word_of}
 pub use Rattle.rv_code.specs.Prelude.{HasWord, decoded}
 pub use Rattle.sc_store.proofs.Words.{load_of-same, stored-apart}
 pub use Rattle.sc_store.specs.Prelude.{HoldsBytes, Memory, byte_of, is_in, load_of, stored}
@@ -46,12 +47,13 @@ pub use Rattle.sc_image.specs.Common.{Entry, Event, EventsOut, Export, Fence, Il
 pub use Rattle.sc_image.specs.Common.{LoadOp, Lui, Main, Misaligned, NoImport, Op, OpImm, OpOp, Out, Owner, Region, Ret}
 pub use Rattle.sc_image.specs.Common.{Shift, ShiftOp, StepsOut, Stop, Store, StoreOp, Trap, TrapReason, Upper}
 pub use Rattle.sc_image.specs.Common.{little_bytes, little_number}
-pub use Rattle.sc_image.specs.Prelude.{Adds, AreSilent, BadOrImage, BytesNameOneImage, Crossing, Emits}
-pub use Rattle.sc_image.specs.Prelude.{EmittingComposes, Entered, EntersByEvent, Fails, FitsItsFields, FollowsFromOwn}
-pub use Rattle.sc_image.specs.Prelude.{Goes, GoesOnSame, ImageInMemory, IsAt, IsByte, IsCall, IsChain, IsComp}
-pub use Rattle.sc_image.specs.Prelude.{IsDistinct, IsEntry, IsImage, IsImport, IsReached, IsSilent, IsSteady}
-pub use Rattle.sc_image.specs.Prelude.{IsWellFormed, IsWord, KeepsWords, Kept, LeavesOthers, LegalByWords, LooksSame}
-pub use Rattle.sc_image.specs.Prelude.{OpenCall, Outcome, Own, Read, Run, Running, RunsAreSteady, State}
+pub use Rattle.sc_image.specs.Prelude.{Adds, AgreeFor, AreSilent, BadOrImage, BytesNameOneImage, CallsComeBack}
+pub use Rattle.sc_image.specs.Prelude.{ComesBack, Crossing, Emits, EmittingComposes, Entered, EntersByEvent, Fails}
+pub use Rattle.sc_image.specs.Prelude.{FitsItsFields, FollowsFromOwn, Goes, GoesOnSame, HasCalled, ImageInMemory, IsAt}
+pub use Rattle.sc_image.specs.Prelude.{IsByte, IsCall, IsChain, IsComp, IsDistinct, IsEntry, IsImage, IsImport}
+pub use Rattle.sc_image.specs.Prelude.{IsReached, IsSilent, IsSilentFor, IsSteady, IsWellFormed, IsWord, KeepsWords}
+pub use Rattle.sc_image.specs.Prelude.{Kept, LeavesData, LeavesOthers, LegalByWords, LooksSame, OpenCall, Outcome, Own}
+pub use Rattle.sc_image.specs.Prelude.{Point, Read, Run, Running, RunsAreSteady, RunsAt, State, StaysAbove}
 pub use Rattle.sc_image.specs.Prelude.{StepsByInstruction, StepsEmit, StretchesCompose, TracesAreLegal, Traps, Waits}
 pub use Rattle.sc_image.specs.Prelude.{Walks, a0, a7, activates, after, after_outcome, after_step, after_steps}
 pub use Rattle.sc_image.specs.Prelude.{are_distinct, arguments, bad, bit, by_owner, byte_at, bytes_at, bytes_in_version}
@@ -63,14 +65,15 @@ pub use Rattle.sc_image.specs.Prelude.{exports_of, extended, flags, gate, given_
 pub use Rattle.sc_image.specs.Prelude.{has_result, if_decoded, if_fetched, if_good, image_bytes, image_of, import_bytes}
 pub use Rattle.sc_image.specs.Prelude.{import_of, imports_bytes, imports_keep, input, input_at, inputs_in, interface_of}
 pub use Rattle.sc_image.specs.Prelude.{interfaces_of, is_argument, is_end, is_ended, is_entry, is_import, is_result}
-pub use Rattle.sc_image.specs.Prelude.{is_same_import, is_same_name, jalr_target, jump, keeps_rules, kept, kept_by}
-pub use Rattle.sc_image.specs.Prelude.{kept_from, leaves, load_size, loaded, machine, may_call, may_input, may_output}
-pub use Rattle.sc_image.specs.Prelude.{most_globals, name_bytes, next, number_at, number_that, observation_of}
-pub use Rattle.sc_image.specs.Prelude.{on_registers, open_after, open_calls, output, own, params_of, proto_of, ra}
-pub use Rattle.sc_image.specs.Prelude.{refused, reg, returned, returned_to, saved_sp, shift_on_registers, sp}
-pub use Rattle.sc_image.specs.Prelude.{stack_size, stack_top, stack_tops, start, step, stops_or, store_size, stretch}
-pub use Rattle.sc_image.specs.Prelude.{then_on, unless, unless_stopped, version, walk, with_pc, with_stored}
-pub use Rattle.sc_image.specs.Prelude.{without_latest, word_interface, word_interfaces, word_proto, written, ◌>>=◌}
+pub use Rattle.sc_image.specs.Prelude.{is_same_import, is_same_name, jalr_target, jump, jump_by, keeps_rules, kept}
+pub use Rattle.sc_image.specs.Prelude.{kept_by, kept_from, later, latest_call, leaves, load_by, load_size, loaded}
+pub use Rattle.sc_image.specs.Prelude.{machine, may_call, may_input, may_output, most_globals, name_bytes, next}
+pub use Rattle.sc_image.specs.Prelude.{number_at, number_that, observation_at, observation_of, on_registers, open_after}
+pub use Rattle.sc_image.specs.Prelude.{open_calls, output, own, own_at, params_of, proto_of, ra, refused, reg, returned}
+pub use Rattle.sc_image.specs.Prelude.{returned_to, saved_sp, shift_on_registers, sp, stack_size, stack_top, stack_tops}
+pub use Rattle.sc_image.specs.Prelude.{start, step, stops_or, store_by, store_size, stretch, then_on, unless}
+pub use Rattle.sc_image.specs.Prelude.{unless_stopped, version, walk, with_pc, with_stored, without_latest}
+pub use Rattle.sc_image.specs.Prelude.{word_interface, word_interfaces, word_proto, written, ◌>>=◌}
 unfoldable pub use Rattle.sc_image.specs.Prelude.{are_data, code_at, comp_at, comp_name_at, execute_by, exports_at}
 unfoldable pub use Rattle.sc_image.specs.Prelude.{fields_at, globals_at, image_in_version, import_at, imports_at}
 unfoldable pub use Rattle.sc_image.specs.Prelude.{name_at, parts_in_version, run, start_memory, step_by, stopped}

@@ -11,6 +11,7 @@ use Rattle.sc_image.proofs.Common.{option_map_or, own, params_of, position-Some,
 use Rattle.sc_image.proofs.Common.{saved_sp, slice_get, slice_get-get_or, slice_get_cases, slice_get_within, sp, step}
 use Rattle.sc_image.proofs.Common.{subst, suc, sym, true, unwrap_or, written, zero, ℕ, ⊎_elim, ◌++◌, ◌+◌, ◌-◌, ◌<◌}
 use Rattle.sc_image.proofs.Common.{◌==◌, ◌∙◌, ◌∷◌, ◌≡◌, ◌≢◌, ◌≤◌}
+use Rattle.sc_image.proofs.Events.{no_event, that_event}
 use Rattle.sc_image.proofs.Cases.{crossing_to, step_of}
 use Rattle.sc_image.proofs.Words.{comp_found, no_export}
 
@@ -79,11 +80,14 @@ few_params image d index formed = ⊎_elim (λ at.
     ((formed.comps d found.0 found.1).exports index at.0 within).params) (λ none. rw none.1 (omega arith))
     (slice_get_cases (exports_of image d) index).1
 
-abbrev entry_of : ImageParts → (c index : ℕ) → ℕ
-entry_of image c index = option_map_or (λ export. export.entry) (slice_get (exports_of image c) index) 0
+abbrev entry_of : List ExportPart → (index : ℕ) → ℕ
+entry_of exports index = option_map_or (λ export. export.entry) (slice_get exports index) 0
+
+abbrev words_of : List ExportPart → (index : ℕ) → ℕ
+words_of exports index = option_map_or (λ export. export.params) (slice_get exports index) 0
 
 entry_is : (image : ImageParts) (c target index : ℕ) → export_at image c target ≡ Some index →
-    entry_of image c index ≡ target
+    entry_of (exports_of image c) index ≡ target
 entry_is image c target index at =
     let first = position-Some (λ (export : ExportPart). export.entry == target)
     (exports_of image c) index no_export at in
@@ -100,19 +104,19 @@ by_return before value (Waits pc sp_then ∷ rest) = record {
 }
 by_return before value _ = before
 
-abbrev entered : ImageParts → ℕ → Own → Event → Own
-entered image d before (Call from to index args) = record {
+abbrev entered : List ExportPart → Own → Event → Own
+entered exports before (Call from to index args) = record {
   bytes = before.bytes;
   saved = before.saved;
   calls = Entered before.saved ∷ before.calls;
   running =
       Some (record {
-        regs = written (written (regs_by (params_of image to index) args) ra gate) sp before.saved;
-        pc = entry_of image to index;
+        regs = written (written (regs_by (words_of exports index) args) ra gate) sp before.saved;
+        pc = entry_of exports index;
       });
 }
-entered image d before (Ret from to value) = by_return before value before.calls
-entered image d before _ = before
+entered exports before (Ret from to value) = by_return before value before.calls
+entered exports before _ = before
 
 -- the last event
 last_same : (trace : List Event) (one other : Event) → trace ++ one ∷ [] ≡ trace ++ other ∷ [] → one ≡ other
@@ -125,22 +129,26 @@ module _ (image : ImageParts) (inputs : List ℕ) (state : State) (d : ℕ) (for
   abbrev Enters : Outcome → Type 0
   Enters outcome = (after_outcome state outcome).active ≡ d → (event : Event) →
       (after_outcome state outcome).trace ≡ state.trace ++ event ∷ [] →
-      own image (after_outcome state outcome) d ≡ entered image d (own image state d) event
+      own image (after_outcome state outcome) d ≡ entered (exports_of image d) (own image state d) event
 
   -- a call
   enters_call : (to index target : ℕ) → export_at image to target ≡ Some index → to ≡ d →
       own image (called state to index (params_of image to index) target) d ≡
-      entered image d (own image state d) (Call state.active to index (arguments (params_of image to index) state.regs))
+      entered (exports_of image d) (own image state d) (Call state.active to index (arguments (params_of image to index) state.regs))
   enters_call to index target at active =
       let kept_is : kept_by d (crossing_to state to index) ≡ Entered (saved_sp state d) ∷ [] =
       rw (ne_eqb state.active d differ, eq-eqb to d active) (ap (λ k. Entered (saved_sp state k) ∷ []) active) in
       let calls = ap (λ k. k ++ flat_map (kept_by d) state.cross) kept_is in
       let saved = get_or-set_other _ _ d _ 0 (λ same. differ (sym same)) in
-      let regs = arguments_same (params_of image to index) _ h.regs in
+      let regs : kept (is_argument (params_of image to index)) state.regs ≡
+      regs_by (params_of image d index) (arguments (params_of image to index) state.regs) =
+      arguments_same (params_of image to index) _ h.regs ∙
+      ap (λ k. regs_by (params_of image k index) (arguments (params_of image to index) state.regs)) active in
+      let entry = sym (entry_is image to target index at) ∙ ap (λ k. entry_of (exports_of image k) index) active in
       let runs : (if nat_eq to d then Some _ else None) ≡ Some _ =
       rw (eq-eqb to d active) (λ i. Some (record {
         regs = written (written (regs i) ra gate) sp (saved_sp state (active i));
-        pc = sym (entry_is image to target index at) i;
+        pc = entry i;
       })) in
       λ i. record { bytes = data_of image d state.memory; saved = saved i; calls = calls i; running = runs i }
 
@@ -168,7 +176,7 @@ module _ (image : ImageParts) (inputs : List ℕ) (state : State) (d : ℕ) (for
         calls = flat_map (kept_by d) xs;
         running = runs i;
       } in
-      subst (λ e. own image after d ≡ entered image d (own image state d) e) is_event (first ∙ before)
+      subst (λ e. own image after d ≡ entered (exports_of image d) (own image state d) e) is_event (first ∙ before)
 
   pub step_enters : Enters (step image inputs state)
   step_enters = step_of image inputs formed state Enters (record {
@@ -178,7 +186,7 @@ module _ (image : ImageParts) (inputs : List ℕ) (state : State) (d : ℕ) (for
     stores = λ op a word allowed active event same. absurd (differ active);
     calls = λ to index target at may active event same.
         subst (λ e. own image (called state to index (params_of image to index) target) d ≡
-        entered image d (own image state d) e) (last_same state.trace (Call _ to index _) event same)
+        entered (exports_of image d) (own image state d) e) (last_same state.trace (Call _ to index _) event same)
         (enters_call to index target at active);
     returns = enters_return state.cross refl;
     outputs = λ may active event same. absurd (differ active);
@@ -193,49 +201,40 @@ module _ (image : ImageParts) (inputs : List ℕ) (state : State) (d : ℕ) (for
   Activated outcome = observation_of state outcome ≡ Adds (event ∷ []) →
       ((after_outcome state outcome).active ≡ d) × ((after_outcome state outcome).trace ≡ state.trace ++ event ∷ [])
 
-  no_event : Adds (drop (length state.trace) state.trace) ≡ Adds (event ∷ []) → ⊥
-  no_event emits =
-      let none = ap Adds (sym (drop-length state.trace)) ∙ emits in cc none
-
-  that_event : (one : Event) → Adds (drop (length state.trace) (state.trace ++ one ∷ [])) ≡ Adds (event ∷ []) →
-      one ≡ event
-  that_event one emits =
-      let same = ap Adds (sym (drop-append_seam state.trace (one ∷ []))) ∙ emits in cc same
-
   activates_that : (one : Event) → one ≡ event → activates d one ≡ true
   activates_that one same = ap (activates d) same ∙ activating
 
   return_activates : (cross : List Crossing) → Activated (Goes (returned image state cross))
   return_activates [] emits =
-      let never = activates_that _ (that_event _ emits) in cc never
+      let never = activates_that _ (that_event state.trace _ event emits) in cc never
   return_activates (x ∷ xs) emits =
       let one = Ret _ _ _ in
-      let same = that_event one emits in
+      let same = that_event state.trace one event emits in
       (eqb-true _ d (activates_that one same), ap (λ e. state.trace ++ e ∷ []) same)
 
   pub step_activates : Activated (step image inputs state)
   step_activates = step_of image inputs formed state Activated (record {
     same = λ a owned. refl;
     traps = λ reason emits. cc emits;
-    quiet = λ regs pc moves emits. absurd (no_event emits);
-    stores = λ op a word allowed emits. absurd (no_event emits);
+    quiet = λ regs pc moves emits. absurd (no_event state.trace event emits);
+    stores = λ op a word allowed emits. absurd (no_event state.trace event emits);
     calls = λ to index target at may emits.
         let one : Event = Call state.active to index (arguments (params_of image to index) state.regs) in
-        let same : one ≡ event = that_event one emits in
+        let same : one ≡ event = that_event state.trace one event emits in
         (eqb-true to d (activates_that one same), ap (λ e. state.trace ++ e ∷ []) same);
     returns = return_activates state.cross;
     outputs = λ may emits.
         let one : Event = Out state.active (reg state a0) in
-        let never : false ≡ true = activates_that one (that_event one emits) in cc never;
+        let never : false ≡ true = activates_that one (that_event state.trace one event emits) in cc never;
     reads = λ may emits.
         let one : Event = In state.active (input_at inputs state.input) in
-        let never : false ≡ true = activates_that one (that_event one emits) in cc never;
+        let never : false ≡ true = activates_that one (that_event state.trace one event emits) in cc never;
   })
 
 pub enters_by_event : EntersByEvent
-enters_by_event image d formed = (
-  entered image d,
-  λ inputs state event h differ emits activating.
+enters_by_event d = (
+  entered,
+  λ image inputs state event formed h differ emits activating.
       let after = step_activates image inputs state d formed event activating emits in
       step_enters image inputs state d formed h (λ e. differ (sym e)) after.0 event after.1,
 )

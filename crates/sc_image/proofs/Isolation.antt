@@ -1,18 +1,23 @@
 -- A step leaves what belongs to other compartments, and what a compartment does follows from its own parts.
 use Rattle.sc_image.proofs.Common.{Adds, All, AreSilent, Bool, Call, Crossing, End, Entered, Event, FollowsFromOwn}
-use Rattle.sc_image.proofs.Common.{Goes, GoesOnSame, ImageParts, IsChain, IsSilent, IsSteady, IsWellFormed, IsWord}
-use Rattle.sc_image.proofs.Common.{LeavesOthers, List, LooksSame, Memory, None, OpenCall, Outcome, Ret, Running, Some}
-use Rattle.sc_image.proofs.Common.{State, Waits, [], a0, activates, after_outcome, after_step, after_steps, ap, ap₂}
-use Rattle.sc_image.proofs.Common.{are_data, arguments, arith, byte_of, call_of, called, data_of, drop}
-use Rattle.sc_image.proofs.Common.{drop-append_seam, emits_entry, eq-eqb, false, flat_map, get_or, get_or-set_other}
-use Rattle.sc_image.proofs.Common.{get_or-set_same, given_back, has_result, if◌then◌else◌, input, inputs_in, kept_by}
-use Rattle.sc_image.proofs.Common.{length, map, nat_eq, nat_le, nat_lt, ne_eqb, observation_of, output, own, params_of}
-use Rattle.sc_image.proofs.Common.{refl, reg, returned, returned_to, saved_sp, set, sp, step, store_size, stored}
-use Rattle.sc_image.proofs.Common.{stored-apart, subst, suc, sym, true, with_pc, with_stored, zero, ℕ, ◌&&◌, ◌++◌, ◌+◌}
-use Rattle.sc_image.proofs.Common.{◌-◌, ◌<◌, ◌==◌, ◌||◌, ◌↔◌, ◌∙◌, ◌∷◌, ◌≡◌, ◌≢◌, ◌≤◌}
-use Rattle.sc_image.proofs.Cases.{crossing_to, step_of, other, step_both}
+use Rattle.sc_image.proofs.Common.{Goes, GoesOnSame, ImageParts, In, IsChain, IsSilent, IsSilentFor, IsSteady}
+use Rattle.sc_image.proofs.Common.{IsWellFormed, IsWord, LeavesData, LeavesOthers, List, LooksSame, Memory, None}
+use Rattle.sc_image.proofs.Common.{OpenCall, Out, Outcome, Point, Ret, Running, RunsAt, Some, State, Waits, [], a0}
+use Rattle.sc_image.proofs.Common.{activates, after_outcome, after_step, after_steps, ap, ap₂, are_data, arguments}
+use Rattle.sc_image.proofs.Common.{arith, byte_of, call_of, called, data_of, drop, drop-append_seam, drop-length}
+use Rattle.sc_image.proofs.Common.{emits_entry, eq-eqb, false, flat_map, get_or, get_or-set_other, get_or-set_same}
+use Rattle.sc_image.proofs.Common.{given_back, has_result, if◌then◌else◌, input, input_at, inputs_in, kept_by, later}
+use Rattle.sc_image.proofs.Common.{latest_call, length, map, nat_eq, nat_le, nat_lt, ne_eqb, observation_at}
+use Rattle.sc_image.proofs.Common.{observation_of, output, own, own_at, params_of, refl, reg, returned, returned_to}
+use Rattle.sc_image.proofs.Common.{saved_sp, set, sp, step, store_size, stored, stored-apart, subst, suc, sym, true}
+use Rattle.sc_image.proofs.Common.{with_pc, with_stored, written, zero, ℕ, ◌&&◌, ◌++◌, ◌+◌, ◌-◌, ◌<◌, ◌==◌, ◌||◌, ◌↔◌}
+use Rattle.sc_image.proofs.Common.{◌∙◌, ◌∷◌, ◌≡◌, ◌≢◌, ◌≤◌}
+use Rattle.sc_image.proofs.Cases.{crossing_to, step_of, standing, step_both}
 use Rattle.sc_image.proofs.Memory.{allowed_data, data_bounds, few_globals}
 use Rattle.sc_image.proofs.Reached.{called_other, step_steady}
+use Rattle.sc_image.proofs.Events.{loud}
+use Rattle.sc_image.proofs.Agree.{IsInLatest, own_agree, step_agree}
+use Rattle.std.specs.Prelude.{slice_get}
 
 -- The compartments' addresses are apart.
 
@@ -127,12 +132,65 @@ leaves_others image inputs state d formed h differ none =
     let other : state.active ≢ d = λ same. differ (sym same) in
     step_keeps image inputs state d formed h other (step_elsewhere image inputs state d formed other none)
 
--- What a compartment does follows from its own parts and the events before.
+-- Whoever is active after a step, it leaves the data of those that weren't before.
 
--- an event is no silence
-loud : (trace : List Event) (event : Event) → Adds (drop (length trace) (trace ++ event ∷ [])) ≡ Adds [] → ⊥
-loud trace event silent =
-    let some = ap Adds (sym (drop-append_seam trace _)) ∙ silent in cc some
+module _ (image : ImageParts) (inputs : List ℕ) (state : State) (d : ℕ) (formed : IsWellFormed image)
+    (differ : state.active ≢ d) where
+  abbrev DataAfter : Outcome → Type 0
+  DataAfter outcome = data_of image d (after_outcome state outcome).memory ≡ data_of image d state.memory
+
+  return_leaves : (cross : List Crossing) → DataAfter (Goes (returned image state cross))
+  return_leaves [] = refl
+  return_leaves (x ∷ xs) = refl
+
+  pub step_leaves : DataAfter (step image inputs state)
+  step_leaves = step_of image inputs formed state DataAfter (record {
+    same = λ a owned. refl;
+    traps = λ reason. refl;
+    quiet = λ regs pc moves. refl;
+    stores = λ op a word allowed. data_kept image state.active d a (store_size op) word state.memory formed differ
+        (allowed_data image state.active (store_size op) a allowed);
+    calls = λ to index target at may. refl;
+    returns = return_leaves _;
+    outputs = λ may. refl;
+    reads = λ may. refl;
+  })
+
+pub leaves_data : LeavesData
+leaves_data image inputs state d formed differ =
+    step_leaves image inputs state d formed (λ same. differ (sym same))
+
+-- A silent step leaves who is active, the open calls and the inputs as they are.
+
+pub record Stays (before after : State) : Type 0 where
+  pub active : after.active ≡ before.active
+  pub cross : after.cross ≡ before.cross
+  pub input : after.input ≡ before.input
+
+module _ (image : ImageParts) (inputs : List ℕ) (state : State) (formed : IsWellFormed image) where
+  abbrev StaysSilent : Outcome → Type 0
+  StaysSilent outcome = observation_of state outcome ≡ Adds [] → Stays state (after_outcome state outcome)
+
+  same_stays : Stays state state
+  same_stays = record { active = refl; cross = refl; input = refl }
+
+  loud_return : (cross : List Crossing) → StaysSilent (Goes (returned image state cross))
+  loud_return [] silent = absurd (loud state.trace (End state.active (reg state a0)) silent)
+  loud_return (x ∷ xs) silent = absurd (loud state.trace (Ret state.active x.caller _) silent)
+
+  pub silent_stays : StaysSilent (step image inputs state)
+  silent_stays = step_of image inputs formed state StaysSilent (record {
+    same = λ a owned. refl;
+    traps = λ reason silent. same_stays;
+    quiet = λ regs pc moves silent. record { active = refl; cross = refl; input = refl };
+    stores = λ op a word allowed silent. record { active = refl; cross = refl; input = refl };
+    calls = λ to index target at may silent. absurd (loud state.trace (Call state.active to index _) silent);
+    returns = loud_return state.cross;
+    outputs = λ may silent. absurd (loud state.trace (Out state.active (reg state a0)) silent);
+    reads = λ may silent. absurd (loud state.trace (In state.active _) silent);
+  })
+
+-- What a compartment does follows from its own parts, the call that it is in and the input to come.
 
 -- The bytes of one compartment.
 
@@ -156,198 +214,238 @@ stored_same image c a size word memory memory' same = λ i x. stored_at image c 
 pub record Follow (image : ImageParts) (c : ℕ) (s t : State) (x x' : Outcome) : Type 0 where
   pub emits : observation_of s x ≡ observation_of t x'
   pub parts : own image (after_outcome s x) c ≡ own image (after_outcome t x') c
-  pub traces : (after_outcome s x).trace ≡ (after_outcome t x').trace
-  pub stays : observation_of s x ≡ Adds [] → ((after_outcome s x).active ≡ c) × ((after_outcome t x').active ≡ c)
 
 -- the saved sp of the compartment that is left
 saved_left : (image : ImageParts) (state : State) (sp : ℕ) → IsSteady image state →
     get_or (set state.saved state.active sp) state.active 0 ≡ sp
 saved_left image state sp h = get_or-set_same state.saved state.active sp 0 (omega (arith, h.saved, h.active))
 
--- Two such states, which differ in what belongs to others.
+-- the event that is added to either trace
+added : (trace trace' : List Event) (event event' : Event) → event ≡ event' →
+    Adds (drop (length trace) (trace ++ event ∷ [])) ≡ Adds (drop (length trace') (trace' ++ event' ∷ []))
+added trace trace' event event' same =
+    ap Adds (drop-append_seam trace (event ∷ []) ∙ ap (λ e. e ∷ []) same ∙ sym (drop-append_seam trace' (event' ∷ [])))
 
-module _ (image : ImageParts) (inputs : List ℕ) (formed : IsWellFormed image) (left : State) (saved' : List ℕ)
-    (memory' : Memory) (cross' : List Crossing) where
+nothing_added : (trace trace' : List Event) → Adds (drop (length trace) trace) ≡ Adds (drop (length trace') trace')
+nothing_added trace trace' = ap Adds (drop-length trace ∙ sym (drop-length trace'))
+
+-- Two such states, of images that agree for the compartment, here with the step of the first image in both.
+
+module _ (image image' : ImageParts) (inputs inputs' : List ℕ) (formed : IsWellFormed image) (left rest : State) where
   abbrev c : ℕ
   c = left.active
 
   abbrev right : State
-  right = other image inputs formed left saved' memory' cross'
+  right = standing left rest
 
-  module _ (h : LooksSame image left.active left right) where
-    bytes_same : data_of image c left.memory ≡ data_of image c memory'
-    bytes_same = ap (λ o. o.bytes) h.own_parts
+  module _ (steady : IsSteady image left) (steady' : IsSteady image' right) (parts : own image left c ≡ own image right c)
+      (call : latest_call left ≡ latest_call right) (read : input_at inputs left.input ≡ input_at inputs' rest.input)
+    where
+      bytes_same : data_of image c left.memory ≡ data_of image c rest.memory
+      bytes_same = ap (λ o. o.bytes) parts
 
-    calls_same : flat_map (kept_by c) left.cross ≡ flat_map (kept_by c) cross'
-    calls_same = ap (λ o. o.calls) h.own_parts
+      calls_same : flat_map (kept_by c) left.cross ≡ flat_map (kept_by c) rest.cross
+      calls_same = ap (λ o. o.calls) parts
 
-    shapes_same : map call_of left.cross ≡ map call_of cross'
-    shapes_same = h.one_steady.calls ∙ sym h.other_steady.calls
+      -- these registers and this pc, these bytes and these events, with the compartment still active
+      on : (regs' regs'' : List ℕ) (pc' place place' : ℕ) (more more' : List Event) (bytes : Memory → Memory) →
+          regs' ≡ regs'' → Adds (drop (length left.trace) more) ≡ Adds (drop (length rest.trace) more') →
+          data_of image c (bytes left.memory) ≡ data_of image c (bytes rest.memory) → Follow image c left right
+          (Goes (record left { regs = regs'; pc = pc'; memory = bytes left.memory; input = place; trace = more }))
+          (Goes (record right { regs = regs''; pc = pc'; memory = bytes rest.memory; input = place'; trace = more' }))
+      on regs' regs'' pc' place place' more more' bytes alike adds same = record {
+        emits = adds;
+        parts = λ i. record {
+          bytes = same i;
+          saved = (parts i).saved;
+          calls = calls_same i;
+          running = if nat_eq c c then Some (record { regs = alike i; pc = pc' }) else None;
+        };
+      }
 
-    -- the same registers and pc, and perhaps one event more, with the compartment still active
-    on : (regs' : List ℕ) (pc' place' : ℕ) (more : List Event) (bytes : Memory → Memory) →
-        data_of image c (bytes left.memory) ≡ data_of image c (bytes memory') → Follow image c left right
-        (Goes (record left { regs = regs'; pc = pc'; memory = bytes left.memory; input = place'; trace = more }))
-        (Goes (record right { regs = regs'; pc = pc'; memory = bytes memory'; input = place'; trace = more }))
-    on regs' pc' place' more bytes same = record {
-      emits = refl;
-      parts = λ i. record {
-        bytes = same i;
-        saved = (h.own_parts i).saved;
-        calls = calls_same i;
-        running = if nat_eq c c then Some (record { regs = regs'; pc = pc' }) else None;
-      };
-      traces = refl;
-      stays = λ silent. (refl, refl);
-    }
+      -- a call
+      kept_of_caller : (to : ℕ) (crossing : Crossing) → crossing.caller ≡ c → crossing.callee ≢ c →
+          kept_by c crossing ≡ Waits crossing.pc crossing.sp ∷ []
+      kept_of_caller to crossing caller callee = rw (eq-eqb _ c caller, ne_eqb _ c callee) refl
 
-    -- a call
-    kept_of_caller : (to : ℕ) (crossing : Crossing) → crossing.caller ≡ c → crossing.callee ≢ c →
-        kept_by c crossing ≡ Waits crossing.pc crossing.sp ∷ []
-    kept_of_caller to crossing caller callee = rw (eq-eqb _ c caller, ne_eqb _ c callee) refl
+      calls_on : (to index params target : ℕ) → c ≢ to → Follow image c left right
+          (Goes (called left to index params target)) (Goes (called right to index params target))
+      calls_on to index params target differ =
+          let to_other : to ≢ c = λ same. differ (sym same) in
+          let kept = ap₂ (λ k ks. k ++ ks) (kept_of_caller to (crossing_to left to index) refl to_other ∙
+          sym (kept_of_caller to (crossing_to right to index) refl to_other)) calls_same in
+          let sps = saved_left image left _ steady ∙ sym (saved_left image' right _ steady') in
+          let event : Event = Call c to index (arguments params left.regs) in
+          record {
+            emits = added left.trace rest.trace event event refl;
+            parts = λ i. record {
+              bytes = bytes_same i;
+              saved = sps i;
+              calls = kept i;
+              running = idle_both to to c (record { regs = (called left to index params target).regs; pc = target })
+                  (record { regs = (called right to index params target).regs; pc = target }) to_other to_other i;
+            };
+          }
 
-    calls_on : (to index params target : ℕ) → c ≢ to → Follow image c left right
-        (Goes (called left to index params target)) (Goes (called right to index params target))
-    calls_on to index params target differ =
-        let to_other : to ≢ c = λ same. differ (sym same) in
-        let kept = ap₂ (λ k ks. k ++ ks) (kept_of_caller to (crossing_to left to index) refl to_other ∙
-        sym (kept_of_caller to (crossing_to right to index) refl to_other)) calls_same in
-        let sps = saved_left image left _ h.one_steady ∙ sym (saved_left image right _ h.other_steady) in
-        record {
-          emits = refl;
-          parts = λ i. record {
-            bytes = bytes_same i;
-            saved = sps i;
-            calls = kept i;
-            running = idle_both to to c (record { regs = (called left to index params target).regs; pc = target })
-                (record { regs = (called right to index params target).regs; pc = target }) to_other to_other i;
-          };
-          traces = refl;
-          stays = λ silent. absurd (loud left.trace (Call c to index (arguments params left.regs)) silent);
-        }
+      -- a return
+      kept_of_callee : (crossing : Crossing) → crossing.caller ≢ c → crossing.callee ≡ c →
+          kept_by c crossing ≡ Entered crossing.saved ∷ []
+      kept_of_callee crossing caller callee = rw (ne_eqb _ c caller, eq-eqb _ c callee) refl
 
-    -- a return
-    kept_of_callee : (crossing : Crossing) → crossing.caller ≢ c → crossing.callee ≡ c →
-        kept_by c crossing ≡ Entered crossing.saved ∷ []
-    kept_of_callee crossing caller callee = rw (ne_eqb _ c caller, eq-eqb _ c callee) refl
+      returns_on : (x x' : Crossing) (xs xs' : List Crossing) → left.cross ≡ x ∷ xs → rest.cross ≡ x' ∷ xs' →
+          Follow image c left right (Goes (returned image left (x ∷ xs))) (Goes (returned image right (x' ∷ xs')))
+      returns_on x x' xs xs' is is' =
+          let chain : IsChain (length image.comps) c (x ∷ xs) = subst (IsChain _ c) is steady.chain in
+          let chain' : IsChain (length image'.comps) c (x' ∷ xs') = subst (IsChain _ c) is' steady'.chain in
+          let caller : x.caller ≢ c = λ same. chain.1 (same ∙ sym chain.0) in
+          let caller' : x'.caller ≢ c = λ same. chain'.1 (same ∙ sym chain'.0) in
+          let latest : Some (call_of x) ≡ Some (call_of x') =
+          sym (ap (λ cross. slice_get (map call_of cross) 0) is) ∙ call ∙
+          ap (λ cross. slice_get (map call_of cross) 0) is' in
+          let first : call_of x ≡ call_of x' = cc latest in
+          let numbers : Entered x.saved ∷ flat_map (kept_by c) xs ≡ Entered x'.saved ∷ flat_map (kept_by c) xs' =
+          ap (λ k. k ++ flat_map (kept_by c) xs) (sym (kept_of_callee x caller chain.0)) ∙
+          sym (ap (flat_map (kept_by c)) is) ∙ calls_same ∙ ap (flat_map (kept_by c)) is' ∙
+          ap (λ k. k ++ flat_map (kept_by c) xs') (kept_of_callee x' caller' chain'.0) in
+          let kept : x.saved ≡ x'.saved = cc numbers in
+          let rests : flat_map (kept_by c) xs ≡ flat_map (kept_by c) xs' = cc numbers in
+          let event = λ (o : OpenCall). Ret c o.caller (given_back (has_result image o.callee o.entry) left) in
+          let after = returned_to (has_result image x.callee x.entry) left x xs in
+          let after' = returned_to (has_result image x'.callee x'.entry) right x' xs' in
+          let sps = saved_left image left _ steady ∙ kept ∙ sym (saved_left image' right _ steady') in
+          record {
+            emits = added left.trace rest.trace (event (call_of x)) (event (call_of x')) (ap event first);
+            parts = λ i. record {
+              bytes = bytes_same i;
+              saved = sps i;
+              calls = rests i;
+              running = idle_both x.caller x'.caller c (record { regs = after.regs; pc = after.pc })
+                  (record { regs = after'.regs; pc = after'.pc }) caller caller' i;
+            };
+          }
 
-    returns_on : (x x' : Crossing) (xs xs' : List Crossing) → left.cross ≡ x ∷ xs → cross' ≡ x' ∷ xs' →
-        Follow image c left right (Goes (returned image left (x ∷ xs))) (Goes (returned image right (x' ∷ xs')))
-    returns_on x x' xs xs' is is' =
-        let chain : IsChain (length image.comps) c (x ∷ xs) = subst (IsChain _ c) is h.one_steady.chain in
-        let chain' : IsChain (length image.comps) c (x' ∷ xs') = subst (IsChain _ c) is' h.other_steady.chain in
-        let caller : x.caller ≢ c = λ same. chain.1 (same ∙ sym chain.0) in
-        let caller' : x'.caller ≢ c = λ same. chain'.1 (same ∙ sym chain'.0) in
-        let shapes : call_of x ∷ map call_of xs ≡ call_of x' ∷ map call_of xs' =
-        sym (ap (map call_of) is) ∙ shapes_same ∙ ap (map call_of) is' in
-        let first : call_of x ≡ call_of x' = cc shapes in
-        let numbers : Entered x.saved ∷ flat_map (kept_by c) xs ≡ Entered x'.saved ∷ flat_map (kept_by c) xs' =
-        ap (λ k. k ++ flat_map (kept_by c) xs) (sym (kept_of_callee x caller chain.0)) ∙
-        sym (ap (flat_map (kept_by c)) is) ∙ calls_same ∙ ap (flat_map (kept_by c)) is' ∙
-        ap (λ k. k ++ flat_map (kept_by c) xs') (kept_of_callee x' caller' chain'.0) in
-        let kept : x.saved ≡ x'.saved = cc numbers in
-        let rest : flat_map (kept_by c) xs ≡ flat_map (kept_by c) xs' = cc numbers in
-        let event = λ (o : OpenCall). Ret c o.caller (given_back (has_result image o.callee o.entry) left) in
-        let after = returned_to (has_result image x.callee x.entry) left x xs in
-        let after' = returned_to (has_result image x'.callee x'.entry) right x' xs' in
-        let sps = saved_left image left _ h.one_steady ∙ kept ∙ sym (saved_left image right _ h.other_steady) in
-        record {
-          emits = ap (λ o. Adds (drop (length left.trace) (left.trace ++ event o ∷ []))) first;
-          parts = λ i. record {
-            bytes = bytes_same i;
-            saved = sps i;
-            calls = rest i;
-            running = idle_both x.caller x'.caller c (record { regs = after.regs; pc = after.pc })
-                (record { regs = after'.regs; pc = after'.pc }) caller caller' i;
-          };
-          traces = ap (λ o. left.trace ++ event o ∷ []) first;
-          stays = λ silent. absurd (loud left.trace (event (call_of x)) silent);
-        }
+      returns_both : (xs xs' : List Crossing) → left.cross ≡ xs → rest.cross ≡ xs' →
+          Follow image c left right (Goes (returned image left xs)) (Goes (returned image right xs'))
+      returns_both (x ∷ xs) (x' ∷ xs') is is' = returns_on x x' xs xs' is is'
+      returns_both [] [] is is' =
+          let event : Event = End c (reg left a0) in
+          on left.regs left.regs left.pc left.input rest.input _ _ (λ m. m) refl
+          (added left.trace rest.trace event event refl) bytes_same
+      returns_both xs xs' is is' =
+          let never = sym (ap (λ cross. slice_get (map call_of cross) 0) is) ∙ call ∙
+          ap (λ cross. slice_get (map call_of cross) 0) is' in cc never
 
-    returns_both : (xs xs' : List Crossing) → left.cross ≡ xs → cross' ≡ xs' →
-        Follow image c left right (Goes (returned image left xs)) (Goes (returned image right xs'))
-    returns_both (x ∷ xs) (x' ∷ xs') is is' = returns_on x x' xs xs' is is'
-    returns_both [] [] is is' =
-        on left.regs left.pc left.input (left.trace ++ End c (reg left a0) ∷ []) (λ m. m) bytes_same
-    returns_both xs xs' is is' =
-        let never = sym (ap (map call_of) is) ∙ shapes_same ∙ ap (map call_of) is' in cc never
+      pub follow : Follow image c left right (step image inputs left) (step image inputs' right)
+      follow = step_both image inputs inputs' formed left rest (Follow image c left right) (record {
+        same = λ a owned. same_at image c a left.memory rest.memory bytes_same owned;
+        traps = λ reason. record { emits = refl; parts = parts };
+        quiet = λ regs' pc' same. on regs' regs' pc' left.input rest.input left.trace rest.trace (λ m. m) refl
+            (nothing_added left.trace rest.trace) bytes_same;
+        stores = λ op a word allowed. on left.regs left.regs (left.pc + 4) left.input rest.input left.trace rest.trace
+            (λ m. stored m a (store_size op) word) refl (nothing_added left.trace rest.trace)
+            (stored_same image c a _ word left.memory rest.memory
+            (λ b owned. same_at image c b left.memory rest.memory bytes_same owned));
+        calls = λ to index target at may. calls_on to index _ target (called_other image c to index formed may);
+        returns = returns_both left.cross rest.cross refl refl;
+        outputs = λ may.
+            let event : Event = Out c (reg left a0) in
+            on left.regs left.regs _ left.input rest.input _ _ (λ m. m) refl
+            (added left.trace rest.trace event event refl) bytes_same;
+        reads = λ may. on _ _ _ _ _ _ _ (λ m. m) (ap (written left.regs a0) read)
+            (added left.trace rest.trace (In c _) (In c _) (ap (In c) read)) bytes_same;
+      })
 
-    follow : Follow image c left right (step image inputs left) (step image inputs right)
-    follow = step_both image inputs formed left saved' memory' cross' (Follow image c left right) (record {
-      same = λ a owned. same_at image c a left.memory memory' bytes_same owned;
-      traps = λ reason. record { emits = refl; parts = h.own_parts; traces = refl; stays = λ silent. cc silent };
-      quiet = λ regs' pc' same. on regs' pc' left.input left.trace (λ m. m) bytes_same;
-      stores = λ op a word allowed. on left.regs (left.pc + 4) left.input left.trace
-          (λ m. stored m a (store_size op) word) (stored_same image c a _ word left.memory memory'
-          (λ b owned. same_at image c b left.memory memory' bytes_same owned));
-      calls = λ to index target at may. calls_on to index _ target (called_other image c to index formed may);
-      returns = returns_both left.cross cross' refl refl;
-      outputs = λ may. on left.regs _ left.input _ (λ m. m) bytes_same;
-      reads = λ may. on _ _ _ _ (λ m. m) bytes_same;
-    })
-
--- Any two states.
+-- Any two points.
 
 running_of : (c active : ℕ) (running : Running) → active ≡ c →
     (if nat_eq active c then Some running else None) ≡ Some running
 running_of c active running same = rw (eq-eqb active c same) refl
 
-module _ (image : ImageParts) (inputs : List ℕ) (formed : IsWellFormed image) (all : All IsWord inputs) where
-  abbrev Next : (c : ℕ) (s t : State) → Type 0
-  Next c s t = Follow image c s t (step image inputs s) (step image inputs t)
+pub in_latest : (image : ImageParts) (state : State) → IsSteady image state → IsInLatest state
+in_latest image state steady x xs is =
+    let chain : IsChain (length image.comps) state.active (x ∷ xs) = subst (IsChain _ _) is steady.chain in chain.0
 
-  -- the second has the registers, pc, inputs and events of the first
-  written_alike : (s t : State) → LooksSame image s.active s t →
-      t ≡ record s { saved = t.saved; memory = t.memory; cross = t.cross }
-  written_alike s t h =
-      let runs : Some (record { regs = t.regs; pc = t.pc }) ≡ Some (record { regs = s.regs; pc = s.pc }) =
-      sym (running_of s.active _ _ h.other_active) ∙ ap (λ o. o.running) (sym h.own_parts) ∙
-      running_of s.active _ _ refl in
-      let same : ◌≡◌ {A = Running} _ _ = cc runs in
-      let input : t.input ≡ s.input = h.other_steady.input ∙ ap inputs_in (sym h.trace) ∙ sym h.one_steady.input in
-      λ i. record t {
-        regs = (same i).regs;
-        pc = (same i).pc;
-        active = h.other_active i;
-        input = input i;
-        trace = sym h.trace i;
-      }
+-- what comes next at two points, each with its own image
+pub record NextSame (c : ℕ) (one other : Point) : Type 0 where
+  pub emits : observation_at one ≡ observation_at other
+  pub parts : own_at (later 1 one) c ≡ own_at (later 1 other) c
 
-  next_active : (s t : State) → LooksSame image s.active s t → Next s.active s t
-  next_active s t h =
-      let same = written_alike s t h in
-      subst (Next s.active s) (sym same) (follow image inputs formed s t.saved t.memory t.cross
-      (subst (LooksSame image s.active s) same h))
+abbrev at : Point → State → Point
+at point state = record point { state = state }
 
-  next_same : (c : ℕ) (s t : State) → LooksSame image c s t → Next c s t
-  next_same c s t h = subst (λ c. LooksSame image c s t → Next c s t) h.one_active (next_active s t) h
+next_written : (one there : Point) →
+    LooksSame one.state.active one (at there (standing one.state there.state)) →
+    NextSame one.state.active one (at there (standing one.state there.state))
+next_written one there h =
+    let c = one.state.active in
+    let right = standing one.state there.state in
+    let same = step_agree one.image there.image there.inputs right h.images
+    (in_latest there.image right h.other_runs.steady) in
+    let agree = own_agree c one.image there.image h.images in
+    let parts : own one.image one.state c ≡ own one.image right c = h.own_parts ∙ sym (agree right) in
+    let n = follow one.image there.image one.inputs there.inputs h.one_runs.formed one.state there.state
+    h.one_runs.steady h.other_runs.steady parts h.call h.input in
+    record {
+      emits = n.emits ∙ ap (observation_of right) same;
+      parts = n.parts ∙ ap (λ x. own one.image (after_outcome right x) c) same ∙
+          agree (after_step there.image there.inputs right);
+    }
 
-  alike_after : (c : ℕ) (s t : State) → LooksSame image c s t → IsSilent image inputs s →
-      LooksSame image c (after_step image inputs s) (after_step image inputs t)
-  alike_after c s t h silent =
-      let n = next_same c s t h in
-      let stays = n.stays silent in
-      record {
-        one_steady = step_steady image inputs s formed all h.one_steady;
-        other_steady = step_steady image inputs t formed all h.other_steady;
-        trace = n.traces;
-        one_active = stays.0;
-        other_active = stays.1;
-        own_parts = n.parts;
-      }
+-- the second has the registers and the pc of the first
+written_alike : (one there : Point) → LooksSame one.state.active one there →
+    there.state ≡ standing one.state there.state
+written_alike one there h =
+    let c = one.state.active in
+    let t = there.state in
+    let runs : Some (record { regs = t.regs; pc = t.pc }) ≡ Some (record { regs = one.state.regs; pc = one.state.pc }) =
+    sym (running_of c t.active _ h.other_runs.active) ∙ ap (λ o. o.running) (sym h.own_parts) ∙ running_of c _ _ refl in
+    let same : ◌≡◌ {A = Running} _ _ = cc runs in
+    λ i. record t { regs = (same i).regs; pc = (same i).pc; active = h.other_runs.active i }
 
-  goes_on : (c steps : ℕ) (s t : State) → LooksSame image c s t →
-      (AreSilent image inputs steps s ↔ AreSilent image inputs steps t) × (AreSilent image inputs steps s →
-      GoesOnSame image inputs c (after_steps image inputs steps s) (after_steps image inputs steps t))
-  goes_on c zero s t h =
-      let n = next_same c s t h in
-      (((λ p. tt), (λ p. tt)), λ p. record { own_parts = h.own_parts; next = n.emits; later_parts = n.parts })
-  goes_on c (suc steps) s t h =
-      let n = next_same c s t h in
-      let later = λ (silent : IsSilent image inputs s). goes_on c steps _ _ (alike_after c s t h silent) in (
-        ((λ p. (sym n.emits ∙ p.0, (later p.0).0.0 p.1)), (λ p. (n.emits ∙ p.0, (later (n.emits ∙ p.0)).0.1 p.1))),
-        λ p. (later p.0).1 p.1,
-      )
+next_active : (one there : Point) → LooksSame one.state.active one there → NextSame one.state.active one there
+next_active one there h =
+    let c = one.state.active in
+    let same = written_alike one there h in
+    subst (λ t. NextSame c one (at there t)) (sym same)
+    (next_written one there (subst (λ t. LooksSame c one (at there t)) same h))
+
+next_same : (c : ℕ) (one there : Point) → LooksSame c one there → NextSame c one there
+next_same c one there h =
+    subst (λ c. LooksSame c one there → NextSame c one there) h.one_runs.active (next_active one there) h
+
+runs_after : (c : ℕ) (point : Point) → RunsAt c point →
+    Stays point.state (after_step point.image point.inputs point.state) → RunsAt c (later 1 point)
+runs_after c point h stays = record {
+  formed = h.formed;
+  inputs = h.inputs;
+  steady = step_steady point.image point.inputs point.state h.formed h.inputs h.steady;
+  active = stays.active ∙ h.active;
+}
+
+alike_after : (c : ℕ) (one there : Point) → LooksSame c one there → IsSilent one.image one.inputs one.state →
+    LooksSame c (later 1 one) (later 1 there)
+alike_after c one there h silent =
+    let n = next_same c one there h in
+    let stays = silent_stays one.image one.inputs one.state h.one_runs.formed silent in
+    let stays' = silent_stays there.image there.inputs there.state h.other_runs.formed (sym n.emits ∙ silent) in
+    record {
+      one_runs = runs_after c one h.one_runs stays;
+      other_runs = runs_after c there h.other_runs stays';
+      images = h.images;
+      own_parts = n.parts;
+      call = ap (λ cross. slice_get (map call_of cross) 0) stays.cross ∙ h.call ∙
+          sym (ap (λ cross. slice_get (map call_of cross) 0) stays'.cross);
+      input = ap (input_at one.inputs) stays.input ∙ h.input ∙ sym (ap (input_at there.inputs) stays'.input);
+    }
 
 pub follows_from_own : FollowsFromOwn
-follows_from_own image inputs c s t steps formed all looks = goes_on image inputs formed all c steps s t looks
+follows_from_own c one there zero h =
+    let n = next_same c one there h in
+    (((λ p. tt), (λ p. tt)), λ p. record { own_parts = h.own_parts; next = n.emits; later_parts = n.parts })
+follows_from_own c one there (suc steps) h =
+    let n = next_same c one there h in
+    let next = λ (silent : IsSilent one.image one.inputs one.state). follows_from_own c (later 1 one) (later 1 there)
+    steps (alike_after c one there h silent) in (
+      ((λ p. (sym n.emits ∙ p.0, (next p.0).0.0 p.1)), (λ p. (n.emits ∙ p.0, (next (n.emits ∙ p.0)).0.1 p.1))),
+      λ p. (next p.0).1 p.1,
+    )

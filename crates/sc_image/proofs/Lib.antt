@@ -6,8 +6,11 @@ pub mod Words
 pub mod Memory
 pub mod Cases
 pub mod Reached
+pub mod Agree
+pub mod Events
 pub mod Isolation
 pub mod Enters
+pub mod Returning
 pub mod Fields
 pub mod FileFields
 pub mod Traces

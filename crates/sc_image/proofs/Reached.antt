@@ -26,7 +26,7 @@ open_more trace event = fold-append _ [] trace _
 read_more : (trace : List Event) (event : Event) → inputs_in (trace ++ event ∷ []) ≡ count_read (inputs_in trace) event
 read_more trace event = fold-append _ 0 trace _
 
-length-kept : (keeps : ℕ → Bool) (r : ℕ) (regs : List ℕ) → length (kept_from keeps r regs) ≡ length regs
+pub length-kept : (keeps : ℕ → Bool) (r : ℕ) (regs : List ℕ) → length (kept_from keeps r regs) ≡ length regs
 length-kept keeps r [] = refl
 length-kept keeps r (word ∷ words) = ap suc (length-kept keeps _ words)
 

@@ -1,14 +1,18 @@
--- What isolates the compartments of an image: three laws of the machine's steps.
-use Rattle.sc_image.specs.Common.{Call, End, Event, In, Out, Ret, TrapReason}
+-- What isolates the compartments of an image: laws of the machine's steps.
+use Rattle.sc_image.specs.Common.{Call, End, Entry, Event, In, Out, Ret, TrapReason}
 use Rattle.std.specs.Prelude.{◌≡◌, ◌≢◌, ◌↔◌, ℕ, zero, suc, Bool, true, false, ◌==◌, List, [], ◌∷◌, length, drop, All}
 use Rattle.std.specs.List.{list_any}
+use Rattle.sc_image.specs.declared.parts.ExportPart.{ExportPart}
 use Rattle.sc_image.specs.declared.parts.ImageParts.{ImageParts}
+use Rattle.sc_image.specs.Calls.{export_at, exports_of, has_result, may_call, may_input, may_output, params_of}
+use Rattle.sc_image.specs.Cross.{input_at}
+use Rattle.sc_image.specs.Layout.{are_data, word_at}
 use Rattle.sc_image.specs.WellFormed.{IsWord, IsWellFormed}
 use Rattle.sc_image.specs.State.{State, start}
 use Rattle.sc_image.specs.Step.{Outcome, Goes, Traps, step}
 use Rattle.sc_image.specs.Machine.{machine}
-use Rattle.sc_image.specs.Own.{Own, own}
-use Rattle.sc_image.specs.Steady.{IsSteady}
+use Rattle.sc_image.specs.Own.{Own, data_of, own}
+use Rattle.sc_image.specs.Steady.{IsSteady, latest_call}
 
 -- a run with these inputs comes to this state
 abbrev pub IsReached : ImageParts → List ℕ → State → Type 0
@@ -70,40 +74,95 @@ LeavesOthers =
     d ≢ state.active → emits_entry d (observation image inputs state) ≡ false →
     own image (after_step image inputs state) d ≡ own image state d
 
--- Two states that a compartment can't distinguish: it is active in both, with the same events before and the same own
--- parts. So the same calls are open. All that belongs to others may differ: their data, their saved sps and their
--- numbers on the cross stack.
-pub record LooksSame (image : ImageParts) (c : ℕ) (one other : State) : Type 0 where
-  pub one_steady : IsSteady image one
-  pub other_steady : IsSteady image other
-  pub trace : one.trace ≡ other.trace
-  pub one_active : one.active ≡ c
-  pub other_active : other.active ≡ c
-  pub own_parts : own image one c ≡ own image other c
+-- A step leaves the data of every compartment but the active one as they were, also of one that it makes active.
+abbrev pub LeavesData : Type 0
+LeavesData =
+    (image : ImageParts) (inputs : List ℕ) (state : State) (d : ℕ) → IsWellFormed image → d ≢ state.active →
+    data_of image d (after_step image inputs state).memory ≡ data_of image d state.memory
 
--- after any number of silent steps from both, the compartment's own parts are the same, and so is what comes next
-pub record GoesOnSame (image : ImageParts) (inputs : List ℕ) (c : ℕ) (one other : State) : Type 0 where
-  pub own_parts : own image one c ≡ own image other c
-  pub next : observation image inputs one ≡ observation image inputs other
-  pub later_parts : own image (after_step image inputs one) c ≡ own image (after_step image inputs other) c
+-- What a compartment does.
 
--- What a compartment does until the next event, and that event, follow from its own parts and the events before.
+-- a state that a run of an image with these inputs may go on from
+pub record Point : Type 0 where
+  pub image : ImageParts
+  pub inputs : List ℕ
+  pub state : State
+
+abbrev pub observation_at : Point → Observation
+observation_at point = observation point.image point.inputs point.state
+
+abbrev pub own_at : Point → (c : ℕ) → Own
+own_at point c = own point.image point.state c
+
+-- the point that is `steps` steps later
+abbrev pub later : (steps : ℕ) → Point → Point
+later steps point = record point { state = after_steps point.image point.inputs steps point.state }
+
+abbrev pub next_input : Point → ℕ
+next_input point = input_at point.inputs point.state.input
+
+-- `steps` steps from a point on are silent
+abbrev pub IsSilentFor : (steps : ℕ) → Point → Type 0
+IsSilentFor steps point = AreSilent point.image point.inputs steps point.state
+
+-- compartment c is active at the point
+pub record RunsAt (c : ℕ) (point : Point) : Type 0 where
+  pub formed : IsWellFormed point.image
+  pub inputs : All IsWord point.inputs
+  pub steady : IsSteady point.image point.state
+  pub active : point.state.active ≡ c
+
+-- Two images that agree in what a step asks while compartment c is active. All else of the others may differ: their
+-- code, data, imports and names, and which of their functions give a word back.
+pub record AgreeFor (c : ℕ) (one other : ImageParts) : Type 0 where
+  -- of c: its code, its addresses of data, what it may call, and which of its functions give a word back
+  pub code : (address : ℕ) → word_at one c address ≡ word_at other c address
+  pub owned : (address size : ℕ) → are_data one c address size ≡ are_data other c address size
+  pub reads : may_input one c ≡ may_input other c
+  pub writes : may_output one c ≡ may_output other c
+  pub imports : (to index : ℕ) → may_call one c to index ≡ may_call other c to index
+  pub results : (entry : Entry) → has_result one c entry ≡ has_result other c entry
+  -- where the exports of all compartments begin
+  pub entries : (to address : ℕ) → export_at one to address ≡ export_at other to address
+  -- how many words the exports take that c may call
+  pub params : (to index : ℕ) → may_call one c to index ≡ true → params_of one to index ≡ params_of other to index
+
+-- Two points that a compartment can't distinguish: it is active at both, in images that agree for it, with the same own
+-- parts, the same caller and function of its in the latest call that is open, and the same input to come.
+-- All else may differ: what belongs to others, the calls that were open before, and the whole history of events and
+-- inputs.
+pub record LooksSame (c : ℕ) (one other : Point) : Type 0 where
+  pub one_runs : RunsAt c one
+  pub other_runs : RunsAt c other
+  pub images : AgreeFor c one.image other.image
+  pub own_parts : own_at one c ≡ own_at other c
+  pub call : latest_call one.state ≡ latest_call other.state
+  pub input : next_input one ≡ next_input other
+
+-- the compartment's own parts are the same at both points, and so is what comes next
+pub record GoesOnSame (c : ℕ) (one other : Point) : Type 0 where
+  pub own_parts : own_at one c ≡ own_at other c
+  pub next : observation_at one ≡ observation_at other
+  pub later_parts : own_at (later 1 one) c ≡ own_at (later 1 other) c
+
+-- What a compartment does until the next event, and that event, follow from its own parts, the call that it is in, the
+-- input to come, and what the image says to it.
 abbrev pub FollowsFromOwn : Type 0
 FollowsFromOwn =
-    (image : ImageParts) (inputs : List ℕ) (c : ℕ) (one other : State) (steps : ℕ) → IsWellFormed image →
-    All IsWord inputs → LooksSame image c one other →
-    (AreSilent image inputs steps one ↔ AreSilent image inputs steps other) ×
-    (AreSilent image inputs steps one →
-    GoesOnSame image inputs c (after_steps image inputs steps one) (after_steps image inputs steps other))
+    (c : ℕ) (one other : Point) (steps : ℕ) → LooksSame c one other →
+    (IsSilentFor steps one ↔ IsSilentFor steps other) ×
+    (IsSilentFor steps one → GoesOnSame c (later steps one) (later steps other))
 
--- What belongs to a compartment that an event makes active follows from what belonged to it before and that event.
+-- What belongs to a compartment that an event makes active follows from what belonged to it before, that event, and
+-- the functions that it offers.
 abbrev pub EntersByEvent : Type 0
 EntersByEvent =
-    (image : ImageParts) (d : ℕ) → IsWellFormed image →
-    (entered : Own → Event → Own) ×
-    ((inputs : List ℕ) (state : State) (event : Event) → IsSteady image state → d ≢ state.active →
+    (d : ℕ) →
+    (entered : List ExportPart → Own → Event → Own) ×
+    ((image : ImageParts) (inputs : List ℕ) (state : State) (event : Event) → IsWellFormed image →
+    IsSteady image state → d ≢ state.active →
     observation image inputs state ≡ Adds (event ∷ []) → activates d event ≡ true →
-    own image (after_step image inputs state) d ≡ entered (own image state d) event)
+    own image (after_step image inputs state) d ≡ entered (exports_of image d) (own image state d) event)
 
 -- The start is steady, each step from a steady state leads to one, and so every state that a run reaches is steady.
 pub record RunsAreSteady : Type 0 where

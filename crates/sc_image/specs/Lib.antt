@@ -11,6 +11,7 @@ pub mod Machine
 pub mod Own
 pub mod Steady
 pub mod Isolation
+pub mod Returning
 pub mod Walks
 pub mod Emitting
 pub mod Rules

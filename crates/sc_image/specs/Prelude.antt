@@ -9,9 +9,10 @@ pub use Rattle.sc_image.specs.Cross.{input_at, is_argument, is_result, kept, kep
 pub use Rattle.sc_image.specs.Emitting.{Emits, EmittingComposes, IsCall, StepsEmit}
 pub use Rattle.sc_image.specs.Interfaces.{LegalByWords, TracesAreLegal, import_of, interface_of, interfaces_of}
 pub use Rattle.sc_image.specs.Interfaces.{proto_of, word_interface, word_interfaces, word_proto}
-pub use Rattle.sc_image.specs.Isolation.{Adds, AreSilent, EntersByEvent, FollowsFromOwn, GoesOnSame, IsReached}
-pub use Rattle.sc_image.specs.Isolation.{IsSilent, LeavesOthers, LooksSame, RunsAreSteady, activates, after_outcome}
-pub use Rattle.sc_image.specs.Isolation.{after_step, after_steps, emits_entry, observation_of}
+pub use Rattle.sc_image.specs.Isolation.{Adds, AgreeFor, AreSilent, EntersByEvent, FollowsFromOwn, GoesOnSame}
+pub use Rattle.sc_image.specs.Isolation.{IsReached, IsSilent, IsSilentFor, LeavesData, LeavesOthers, LooksSame, Point}
+pub use Rattle.sc_image.specs.Isolation.{RunsAreSteady, RunsAt, activates, after_outcome, after_step, after_steps}
+pub use Rattle.sc_image.specs.Isolation.{emits_entry, later, observation_at, observation_of, own_at}
 pub use Rattle.sc_image.specs.Layout.{Filled, code_of, code_start, comp_of_code, comp_of_data, data_regions, data_start}
 pub use Rattle.sc_image.specs.Layout.{data_with, gate, globals_of, most_globals, stack_size, stack_top, stretch}
 unfoldable pub use Rattle.sc_image.specs.Layout.{are_data, word_at}
@@ -22,6 +23,7 @@ pub use Rattle.sc_image.specs.Reading.{Fails, Gives, Read, bad, bytes_at, cause_
 pub use Rattle.sc_image.specs.Reading.{mark_at, number_at, number_that, ◌>>=◌}
 unfoldable pub use Rattle.sc_image.specs.Reading.{code_at, comp_at, comp_name_at, exports_at, fields_at, globals_at}
 unfoldable pub use Rattle.sc_image.specs.Reading.{image_in_version, import_at, imports_at, name_at, parts_in_version}
+pub use Rattle.sc_image.specs.Returning.{CallsComeBack, ComesBack, HasCalled, StaysAbove}
 pub use Rattle.sc_image.specs.RoundTrip.{BadOrImage, BytesNameOneImage, IsImage}
 pub use Rattle.sc_image.specs.Rules.{are_distinct, comps_keep, exports_keep, imports_keep, is_entry, is_import}
 pub use Rattle.sc_image.specs.Rules.{is_same_import, is_same_name, keeps_rules}
@@ -29,11 +31,11 @@ pub use Rattle.sc_image.specs.State.{Crossing, State, a0, a7, byte_at, ra, reg, 
 pub use Rattle.sc_image.specs.State.{with_pc, written}
 unfoldable pub use Rattle.sc_image.specs.State.{start_memory}
 pub use Rattle.sc_image.specs.Steady.{IsChain, IsSteady, KeepsWords, OpenCall, call_of, count_read, inputs_in}
-pub use Rattle.sc_image.specs.Steady.{open_after, open_calls, without_latest}
+pub use Rattle.sc_image.specs.Steady.{latest_call, open_after, open_calls, without_latest}
 pub use Rattle.sc_image.specs.Step.{Goes, Outcome, Traps, by_owner, calls, compares, computed, environment_call}
 pub use Rattle.sc_image.specs.Step.{execute, export_called, extended, gives, if_decoded, if_fetched, jalr_target, jump}
-pub use Rattle.sc_image.specs.Step.{leaves, load, load_size, loaded, next, on_registers, refused, shift_on_registers}
-pub use Rattle.sc_image.specs.Step.{step, store, store_size, unless, with_stored}
+pub use Rattle.sc_image.specs.Step.{jump_by, leaves, load, load_by, load_size, loaded, next, on_registers, refused}
+pub use Rattle.sc_image.specs.Step.{shift_on_registers, step, store, store_by, store_size, unless, with_stored}
 unfoldable pub use Rattle.sc_image.specs.Step.{execute_by, step_by}
 pub use Rattle.sc_image.specs.Walks.{ImageInMemory, IsAt, StepsByInstruction, StretchesCompose, Walks, then_on, walk}
 pub use Rattle.sc_image.specs.WellFormed.{IsByte, IsComp, IsDistinct, IsEntry, IsExport, IsImport, IsWellFormed, IsWord}

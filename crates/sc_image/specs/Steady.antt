@@ -3,7 +3,7 @@
 -- They differ from one another in all that a compartment may hold: its data, its registers, and its numbers on the
 -- cross stack.
 use Rattle.sc_image.specs.Common.{Call, End, Entry, Event, Export, HoldsBytes, In, Out, Ret}
-use Rattle.std.specs.Prelude.{◌≡◌, ◌≢◌, ℕ, suc, ◌<◌, List, [], ◌∷◌, length, map, fold, All}
+use Rattle.std.specs.Prelude.{◌≡◌, ◌≢◌, ℕ, suc, ◌<◌, List, [], ◌∷◌, length, map, fold, All, slice_get, Option}
 use Rattle.sc_image.specs.declared.parts.ImageParts.{ImageParts}
 use Rattle.sc_image.specs.WellFormed.{IsWord}
 use Rattle.sc_image.specs.State.{State, Crossing, reg, saved_sp}
@@ -32,6 +32,10 @@ open_calls trace = fold open_after [] trace
 
 abbrev pub call_of : Crossing → OpenCall
 call_of crossing = record { caller = crossing.caller; callee = crossing.callee; entry = crossing.entry }
+
+-- the latest call that is open, if one is
+abbrev pub latest_call : State → Option OpenCall
+latest_call state = slice_get (map call_of state.cross) 0
 
 -- how many inputs a trace has read
 abbrev pub count_read : ℕ → Event → ℕ

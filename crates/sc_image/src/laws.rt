@@ -1,9 +1,10 @@
 //! Laws of images and of the machine that runs them. Each law is the contract of a function with nothing to do, for the
 //! proofs of callers.
 
-ghost use Rattle.sc_image.specs.Prelude.{BadOrImage, BytesNameOneImage, EmittingComposes, EntersByEvent};
-ghost use Rattle.sc_image.specs.Prelude.{FollowsFromOwn, ImageInMemory, LeavesOthers, LegalByWords, RunsAreSteady};
-ghost use Rattle.sc_image.specs.Prelude.{StepsByInstruction, StepsEmit, StretchesCompose, TracesAreLegal};
+ghost use Rattle.sc_image.specs.Prelude.{BadOrImage, BytesNameOneImage, CallsComeBack, EmittingComposes, EntersByEvent};
+ghost use Rattle.sc_image.specs.Prelude.{FollowsFromOwn, ImageInMemory, LeavesData, LeavesOthers, LegalByWords};
+ghost use Rattle.sc_image.specs.Prelude.{RunsAreSteady, StepsByInstruction, StepsEmit, StretchesCompose};
+ghost use Rattle.sc_image.specs.Prelude.{TracesAreLegal};
 
 /// Bytes are those of one image at most.
 #[tactic(auto, using(crate::proofs::Whole::one_image_each))]
@@ -43,17 +44,28 @@ pub fn leaves_others()
     ensures { LeavesOthers }
 {}
 
-/// What a compartment does until the next event, and that event, follow from its own parts and the
-/// events before: the two states may differ in all that belongs to others.
+/// A step leaves the data of every compartment but the active one, also of one that it makes active.
+pub fn leaves_data()
+    ensures { LeavesData }
+{}
+
+/// What a compartment does until the next event, and that event, follow from its own parts, the call
+/// that it is in and the input to come, in all images that say the same to it.
 pub fn follows_from_own()
     ensures { FollowsFromOwn }
 {}
 
 /// What belongs to a compartment that a call or a return makes active follows from what belonged to
-/// it before and from that event.
+/// it before, from that event and from its exports.
 #[tactic(auto, using(crate::proofs::Enters::enters_by_event))]
 pub fn enters_by_event()
     ensures { EntersByEvent }
+{}
+
+/// A call keeps the caller's stack pointer. The step that closes the call is a return of the callee,
+/// and the caller goes on behind its call, with that stack pointer.
+pub fn calls_come_back()
+    ensures { CallsComeBack }
 {}
 
 /// Stretches of a run follow one another, and a run goes along them.
