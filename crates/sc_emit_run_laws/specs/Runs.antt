@@ -21,8 +21,8 @@ abbrev pub KeepsTo : List Event → SourceRun → Type 0
 KeepsTo trace run = IsPrefix trace run.trace ⊎ (IsBlamed run.end × IsPrefix run.trace trace)
 
 -- a stack is full: the machine stands trapped where a function's frame has no room, and has emitted a prefix of the
--- trace of the run, stopped at `events` events. In that run the depth of the same compartment exceeds a stack's size, and
--- does so at a moment with exactly as many events as the machine has emitted
+-- trace of the run, stopped at `events` events. In that run the depth of the same compartment is more than a stack's
+-- size, and is so at a moment with exactly as many events as the machine has emitted
 pub record StackIsFull (image : ImageParts) (machine : MachineRun) (run : Run) (events : ℕ) : Type 0 where
   pub stop : machine.stop ≡ Trap Owner machine.state.pc
   pub lacks : LacksRoom image machine.state
