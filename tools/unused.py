@@ -4,7 +4,8 @@ nor anything else that they cite.
 
 usage: tools/unused.py [REPO]     prints FILE NAME LINES, and the sum
 
-Answers and invariants of functions count as cited, as do the files of EXAMPLES, which compute what the definitions say.
+Answers and invariants of functions count as cited, as do the files of EXAMPLES, which compute what the definitions say,
+and files with a line INSTANCE at their head, which show that premises can be met.
 Names are distinguished by file and import; a name that a contract writes stands for each definition so called in specs/.
 """
 import glob
@@ -14,6 +15,7 @@ import sys
 
 EXAMPLES = re.compile(
     r"(Examples?|Rows|Causes|Texts|Accounts|Known|Typed|Refusals|Runs|Seven|Computed|Small|Names|Calling)\.antt$")
+INSTANCE = "-- An instance:"
 WORD = re.compile(r"[^\s(){}\[\];,`\".]+")
 CODE_WORD = re.compile(r"[A-Za-z_◌][\w◌'′-]*")
 HEAD = re.compile(r"(?:(?:pub|abbrev|private|unfoldable|opaque)\s+)*(?:(?:record|data|ruleset)\s+)?([^\s(){}\[\];,]+)")
@@ -26,7 +28,9 @@ class File:
     def __init__(self, path):
         self.words, self.lines, self.names, self.modules = {}, {}, {}, {}
         self.sections, self.open, self.last = [(0, set())], None, None
-        for line in open(path, encoding="utf-8").read().split("\n"):
+        lines = open(path, encoding="utf-8").read().split("\n")
+        self.is_instance = any(line.startswith(INSTANCE) for line in lines)
+        for line in lines:
             if line.strip() and not line.strip().startswith("-- "):
                 self.take(len(line) - len(line.lstrip()), line.strip())
 
@@ -113,7 +117,8 @@ class Repository:
         proofs = {path.replace("::", ".") for path in re.findall(r"proofs::([\w:]+)", self.code)}
         for module, file in self.files.items():
             parts = module.split(".")
-            whole = parts[1] == "proofs" and (len(parts) > 3 or EXAMPLES.search(f"{parts[-1]}.antt"))
+            shown = file.is_instance or EXAMPLES.search(f"{parts[-1]}.antt")
+            whole = parts[1] == "proofs" and (len(parts) > 3 or shown)
             for name in file.words:
                 by_code = name in cited if parts[1] == "specs" else ".".join([*parts[2:], name]) in proofs
                 if whole or by_code or name in self.documents or name.startswith(("infix", "◌")):

@@ -2,10 +2,10 @@
 use Rattle.sc_compile.proofs.Common.{AgreesInDepth, All, AreEmitted, AreNamed, Arith, EachEmits, Event}
 use Rattle.sc_compile.proofs.Common.{ForwardSimulation, GlobalsAreWords, ImageParts, IsBuilt, IsCompiled, IsFunction}
 use Rattle.sc_compile.proofs.Common.{IsLinkable, IsLinked, IsWellTyped, IsWhole, IsWord, List, None, ProgramTree, Run}
-use Rattle.sc_compile.proofs.Common.{SimulatesRun, addresses_at, all_codes, arith, built_image, c_arith, code_run, inl}
-use Rattle.sc_compile.proofs.Common.{inr, keeps_meaning, keeps_rules, lowered_program, machine, outcomes_simulate}
+use Rattle.sc_compile.proofs.Common.{SimulatesRun, addresses_at, all_codes, arith, built_image, c_arith, code_run}
+use Rattle.sc_compile.proofs.Common.{keeps_meaning, keeps_rules, lowered_program, machine, outcomes_simulate}
 use Rattle.sc_compile.proofs.Common.{program_nodes, refl, run_of, same, same_run, subst, suc, too_large}
-use Rattle.sc_compile.proofs.Common.{wrapped_code_agrees, wrapping, ℕ, ⊎_elim, ◌*◌, ◌≡◌}
+use Rattle.sc_compile.proofs.Common.{wrapped_code_agrees, wrapping, ℕ, ◌*◌, ◌≡◌}
 use Rattle.sc_emit_run_laws.proofs.Whole.{scripts_simulate, simulates}
 use Rattle.sc_compile.proofs.Allowed.{allowed}
 use Rattle.sc_compile.proofs.Linkable.{is_linkable}
@@ -69,10 +69,7 @@ module _ (program : ProgramTree) (typed : IsWellTyped program) (named : AreNamed
   all_by : (arith' : Arith) → ((inputs : List ℕ) (turns : ℕ) → All IsWord inputs →
       SimulatesRun image inputs (turn_pays * suc turns) turns (run_of arith' program inputs turns)) →
       ForwardSimulation arith' program image
-  all_by arith' observed inputs turns events are =
-      ⊎_elim (λ prefix. inl prefix)
-      (λ full. inr (record { stop = full.stop; deep = full.deep; trace = full.trace }))
-      ((observed inputs turns are).forward events)
+  all_by arith' observed inputs turns events are = (observed inputs turns are).forward events
 
   emits_c : (inputs : List ℕ) (turns : ℕ) → All IsWord inputs →
       SimulatesRun image inputs (turn_pays * suc turns) turns (run_of c_arith program inputs turns)

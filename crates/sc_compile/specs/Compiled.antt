@@ -1,7 +1,7 @@
 -- What an image does, and what its program means.
-use Rattle.sc_compile.specs.Common.{Arith, ImageParts, IsBlamed, IsWord, ProgramTree, Run, TypedSection, branches}
-use Rattle.sc_compile.specs.Common.{c_arith, depth_by, is_branch, is_ebreak, machine, meaning, meaning_by, nodes}
-use Rattle.sc_compile.specs.Common.{scripted_meaning, stack_size, total, wrapping}
+use Rattle.sc_compile.specs.Common.{Arith, ImageParts, IsBlamed, IsWord, ProgramTree, StackIsFull, TypedSection}
+use Rattle.sc_compile.specs.Common.{branches, c_arith, is_branch, is_ebreak, machine, meaning, meaning_by, nodes}
+use Rattle.sc_compile.specs.Common.{run_of, scripted_meaning, total, wrapping}
 use Rattle.sc_base.specs.Prelude.{IsPrefix}
 use Rattle.sc_event.specs.Prelude.{legal}
 use Rattle.sc_core_laws.specs.Prelude.{IsBlamedOutside, Set}
@@ -11,8 +11,6 @@ use Rattle.std.specs.Prelude.{◌≡◌, ℕ, suc, ◌*◌, ◌<◌, ◌≤◌, 
 use Rattle.std.specs.Prelude.{Some, slice_get}
 use Rattle.std.specs.List.{count_by}
 use Rattle.rv_code.specs.declared.instr.Instr.{Instr}
-use Rattle.sc_base.specs.declared.stop.Stop.TheVariants.{Trap}
-use Rattle.sc_base.specs.declared.stop.TrapReason.TheVariants.{Owner}
 use Rattle.sc_event.specs.declared.event.Event.{Event}
 use Rattle.sc_core.specs.declared.run.SourceRun.{SourceRun}
 
@@ -20,20 +18,13 @@ use Rattle.sc_core.specs.declared.run.SourceRun.{SourceRun}
 abbrev pub program_nodes : ProgramTree → ℕ
 program_nodes program = total (map {A = TypedSection} (λ section. total (map nodes section.functions)) program.sections)
 
--- the machine stands trapped in a compartment whose stack depth, by `depth`, is more than a stack's size, and has
--- emitted a prefix of this trace
-pub record StackIsFull (run : Run) (depth : ℕ → ℕ) (meant : SourceRun) : Type 0 where
-  pub stop : run.stop ≡ Trap Owner run.state.pc
-  pub deep : stack_size < depth run.state.active
-  pub trace : IsPrefix run.state.trace meant.trace
-
 -- Within 24 steps a node for each turn, and for the start, the machine emits all that the program emits in this
 -- arithmetic, wherever that run is stopped and however it ends. The one exception is a full stack.
 abbrev pub ForwardSimulation : Arith → ProgramTree → ImageParts → Type 0
 ForwardSimulation arith program image = (inputs : List ℕ) (turns events : ℕ) → All IsWord inputs →
     let run = machine image inputs (24 * program_nodes program * suc turns) events in
     let meant = meaning_by arith program inputs turns events in
-    IsPrefix meant.trace run.state.trace ⊎ StackIsFull run (depth_by arith program inputs turns events) meant
+    IsPrefix meant.trace run.state.trace ⊎ StackIsFull image run (run_of arith program inputs turns) events
 
 -- In any number of steps the machine emits nothing that the program doesn't emit in as many turns, unless the program
 -- is blamed and the machine has emitted all of its trace.

@@ -1,10 +1,19 @@
 -- The premises can be met: a function that names nothing and makes no call is the only one of an image, and is followed
 -- from the start of a run.
-use Rattle.sc_emit.proofs.Common.{Addresses, All, Bool, CallTarget, CodeTree, ImageParts, IsWord, Joint, List, None}
-use Rattle.sc_emit.proofs.Common.{Registers, Setting, State as Meant, TacFnTree, [], calls_only, code_start, false}
-use Rattle.sc_emit.proofs.Common.{gate, if◌then◌else◌, length, linked, map, names_only, not, stack_top, start}
-use Rattle.sc_emit.proofs.Common.{start_memory, true, ℕ, ◌==◌, ◌∷◌, ◌≡◌}
+-- An instance: nothing cites it.
+use Rattle.sc_emit.proofs.Common.{Addresses, All, Bool, CallTarget, Calls, CodeTree, FunctionGives, ImageParts}
+use Rattle.sc_emit.proofs.Common.{IsWellFormed, IsWord, Joint, List, None, Overflows, Registers, Setting, Standpoint}
+use Rattle.sc_emit.proofs.Common.{State as Meant, Stopped, TacFnTree, [], ap, append-nil, arith, calls_only}
+use Rattle.sc_emit.proofs.Common.{code_function, code_start, emits_here, false, gate, if◌then◌else◌, inl, length}
+use Rattle.sc_emit.proofs.Common.{linked, map, names_only, ne_eqb, not, refl, runs_with, stack_top, start, start_memory}
+use Rattle.sc_emit.proofs.Common.{sym, true, wrapping, ℕ, ◌==◌, ◌∙◌, ◌∷◌, ◌≡◌, ◌⊎◌}
 use Rattle.rv_code.specs.Prelude.{IsInstr, word_of}
+use Rattle.sc_core.specs.declared.run.RunEnd.TheVariants.{TurnsOut}
+use Rattle.sc_core_laws.proofs.Growing.{no_turn}
+use Rattle.sc_emit.specs.Emission.{CodeFollows, IsPlaced}
+use Rattle.sc_emit_hart.proofs.Fetching.{code_is_fetched}
+use Rattle.sc_emit_relation.specs.Prelude.{CallsFollow}
+use Rattle.sc_image.proofs.Reached.{runs_are_steady}
 use Rattle.sc_tac.specs.Prelude.{everywhere}
 use Rattle.sc_image.specs.declared.parts.CompPart.{CompPart}
 
@@ -47,6 +56,9 @@ module _ (comp : CompPart) (inputs : List ℕ) (words : All IsWord inputs) (turn
     gives = λ k. no_value;
   }
 
+  abbrev P : Standpoint
+  P = record { comp = 0; cross = []; bound = stack_top 0; floor = stack_top }
+
   abbrev first_regs : Registers
   first_regs r = if r == 1 then gate else (if r == 2 then stack_top 0 else 0)
 
@@ -63,3 +75,76 @@ module _ (comp : CompPart) (inputs : List ℕ) (words : All IsWord inputs) (turn
     saved = stack_top 0 ∷ [];
     input = 0;
   }
+
+  -- calls that are never made may do anything, as to end the run
+  abbrev no_calls : Calls
+  no_calls from target args s = Stopped TurnsOut s
+
+  no_calls_follow : CallsFollow T no_calls
+  no_calls_follow = record {
+    answers = λ from target args s h. tt;
+    goes = λ from target args s. no_turn s;
+    follow = λ P x target args honest makes settled base at passed stands. inl (emits_here T P x 1);
+  }
+
+  module _ (formed : IsWellFormed image) where
+    is_placed : IsPlaced T 0 (code_start 0) f code
+    is_placed = record {
+      image = formed;
+      inputs = words;
+      function = never;
+      entry = never_entry;
+      global = never;
+      names = names;
+      calls = calls;
+      reached = record {
+        functions = λ number h. cc h;
+        entries = λ to index h. cc h;
+        globals = λ number h. cc h;
+        places = λ number h. cc h;
+      };
+      words = rw alone refl;
+      paid = omega arith;
+      stands = code_is_fetched image 0 (linked none (code_start 0) code) [] [] instrs
+          (its ∙ sym (append-nil (map word_of (linked none (code_start 0) code))));
+    }
+
+    -- the function is followed from the start
+    pub followed : CodeFollows f code →
+        FunctionGives T P x (length code.instrs) gate (runs_with T no_calls 0 (code_function wrapping f) [] first_meant)
+        ⊎ Overflows T P x (length code.instrs) (runs_with T no_calls 0 (code_function wrapping f) [] first_meant)
+    followed follows =
+        follows T 0 (code_start 0) is_placed no_calls no_calls_follow P x [] gate refl (sym alone)
+        (record {
+          honest = refl;
+          settled = record {
+            blocks = record {
+              there = λ k b cells h live. cc live;
+              placed = λ k b a cells h live e. cc live;
+              holds = λ k b a i cells c h live e get. cc live;
+              apart = λ k b c a d xs ys h l m p q n. cc l;
+              known = λ k b a e. cc e;
+            };
+            globals = λ k number h l. absurd (omega (arith, l));
+            saved = λ k n h. (let never : true ≡ false = sym (ap not (ne_eqb k 0 n)) ∙ h in cc never);
+            inputs = refl;
+            steady = runs_are_steady.first image formed;
+            came = record { steps = 0; walks = record { by = refl } };
+            depth = λ k h. omega arith;
+            timed = tt;
+          };
+          base = record {
+            floor = refl;
+            aligned = omega arith;
+            high = omega arith;
+            floors = record {
+              aligned = λ k honest. omega arith;
+              low = λ k honest. omega arith;
+              high = λ k honest. omega arith;
+            };
+          };
+          pc = refl;
+          sp = refl;
+          ra = refl;
+          passed = λ i v e. cc e;
+        })

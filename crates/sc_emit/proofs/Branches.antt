@@ -10,18 +10,19 @@ use Rattle.sc_emit.proofs.Common.{code_of, cond, copied, count_by, cycle, each_b
 use Rattle.sc_emit.proofs.Common.{epilogue, everywhere, false, first_scratch, fold-roll-TacStmt, followed, fork}
 use Rattle.sc_emit.proofs.Common.{fork_keeps, frame_taken, function_lines, has_known_jumps, has_no_ebreak}
 use Rattle.sc_emit.proofs.Common.{if◌then◌else◌, in_order, in_turn, is_branch, is_ebreak, is_known_jump, is_near}
-use Rattle.sc_emit.proofs.Common.{is_short, joined, jump_back, jump_over, keep, kept, length, list_all, list_all-append}
-use Rattle.sc_emit.proofs.Common.{list_all-map, list_all_along, load_from, load_word, loading, loop_begins, map}
-use Rattle.sc_emit.proofs.Common.{map-TacStmt, moved_by, nat_lt, neg_ℤ, not, object_offset, object_read, object_store}
-use Rattle.sc_emit.proofs.Common.{op_code, operand, operation, pass, past, place_of, place_of_global, plain, plainly}
-use Rattle.sc_emit.proofs.Common.{plan_of, pos, prologue, put, ra, receive, refl, register_of, result_register, return}
-use Rattle.sc_emit.proofs.Common.{role_first, role_of_load, role_of_operation, role_of_return, role_of_store}
-use Rattle.sc_emit.proofs.Common.{role_to_next, rotated, second_operand, second_scratch, select, select_all}
-use Rattle.sc_emit.proofs.Common.{select_step, short_code, short_form, short_operation, short_return, skipping}
-use Rattle.sc_emit.proofs.Common.{slot_offset, sp, stmt_branches, stmt_induction, store_arguments, store_to, store_word}
-use Rattle.sc_emit.proofs.Common.{straight, straightly, sub_word, subst, suc, sum_by-append, sym, take, take_second}
-use Rattle.sc_emit.proofs.Common.{taken, test_stmt, testing, total, true, turning_by, unary_code, word_of_constant}
-use Rattle.sc_emit.proofs.Common.{zero, ℕ, ◌&&◌, ◌*◌, ◌++◌, ◌+◌, ◌==◌, ◌∙◌, ◌∷◌, ◌≡◌, ◌≤◌}
+use Rattle.sc_emit.proofs.Common.{is_short, is_some, joined, jump_back, jump_over, keep, kept, length, list_all}
+use Rattle.sc_emit.proofs.Common.{list_all-append, list_all-map, list_all_along, load_from, load_word, loading}
+use Rattle.sc_emit.proofs.Common.{loop_begins, map, map-TacStmt, moved_by, nat_lt, neg_ℤ, not, object_offset}
+use Rattle.sc_emit.proofs.Common.{object_read, object_store, op_code, operand, operation, pass, past, place_of}
+use Rattle.sc_emit.proofs.Common.{place_of_global, plain, plainly, plan_of, pos, prologue, put, ra, receive, refl}
+use Rattle.sc_emit.proofs.Common.{register_of, result_register, return, role_first, role_of_load, role_of_operation}
+use Rattle.sc_emit.proofs.Common.{role_of_return, role_of_store, role_to_next, rotated, second_operand, second_scratch}
+use Rattle.sc_emit.proofs.Common.{select, select_all, select_step, short_code, short_form, short_operation}
+use Rattle.sc_emit.proofs.Common.{short_return, skipping, slot_offset, sp, stmt_branches, stmt_induction}
+use Rattle.sc_emit.proofs.Common.{store_arguments, store_to, store_word, straight, straightly, sub_word, subst, suc}
+use Rattle.sc_emit.proofs.Common.{sum_by-append, sym, take, take_second, taken, test_stmt, testing, total, true}
+use Rattle.sc_emit.proofs.Common.{turning_by, unary_code, word_of_constant, zero, ℕ, ◌&&◌, ◌*◌, ◌++◌, ◌+◌, ◌==◌, ◌||◌}
+use Rattle.sc_emit.proofs.Common.{◌∙◌, ◌∷◌, ◌≡◌, ◌≤◌}
 use Rattle.sc_emit_select.specs.Prelude.{Piece}
 use Rattle.rv_code.specs.declared.instr.OpOp.TheVariants.{Mul}
 use Rattle.sc_base.specs.declared.op.BinaryOp.{BinaryOp}
@@ -453,8 +454,18 @@ module _ (test : Line → Bool) (mild : IsMild test) (frame : FrameTree) (places
   }
 
 -- BRANCHES AND EBREAKS
+-- what refers to something neither branches nor jumps within its function
+abbrev pub refers_straight : Line → Bool
+refers_straight line = not (is_some line.target) || is_straight line.instr
+
+straight_refers : (line : Line) → is_straight line.instr ≡ true → refers_straight line ≡ true
+straight_refers line h = by (is_some line.target) (is_straight line.instr) h where
+  by : (b c : Bool) → c ≡ true → (not b || c) ≡ true
+  by true c h = h
+  by false c h = refl
+
 abbrev is_sound_line : Line → Bool
-is_sound_line line = is_sound line.instr
+is_sound_line line = is_sound line.instr && refers_straight line
 
 -- at most `most` branches, and all sound
 record IsShaped (most : ℕ) (piece : Piece) : Type 0 where
@@ -462,13 +473,16 @@ record IsShaped (most : ℕ) (piece : Piece) : Type 0 where
   sound : PassesAll is_sound_line piece
 
 sound_mild : IsMild is_sound_line
-sound_mild = record { mild = λ instr h. h }
+sound_mild = record { mild = λ instr h. and_from (is_sound instr) (refers_straight (plain instr)) h refl }
 
 straight_shaped : (lines : List Line) → StraightLines lines → IsShaped 0 (straight lines)
 straight_shaped lines h = record {
   few = λ b c. omega (arith, straight_count lines h);
   sound = record {
-    passes = λ b c. list_all_along is_straight_line is_sound_line (λ line h. straight_sound line.instr h) lines h;
+    passes = λ b c.
+        list_all_along is_straight_line is_sound_line
+        (λ line h. and_from (is_sound line.instr) (refers_straight line) (straight_sound line.instr h)
+        (straight_refers line h)) lines h;
   };
 }
 
@@ -753,7 +767,17 @@ all_sound : (f : TacFnTree) (places : List Place) (frame : FrameTree) →
 all_sound f places frame =
     let plan : Plan = plan_of f (is_near f places frame) in
     list_all-map is_sound (λ line. line.instr) (function_lines frame places plan f) ∙
-    function_passes frame places plan is_sound_line sound_mild f (body_shaped frame places plan f.body).sound
+    list_all_along is_sound_line (λ line. is_sound line.instr)
+    (λ line h. and_first (is_sound line.instr) (refers_straight line) h) (function_lines frame places plan f)
+    (function_passes frame places plan is_sound_line sound_mild f (body_shaped frame places plan f.body).sound)
+
+pub all_refer : (f : TacFnTree) (places : List Place) (frame : FrameTree) →
+    list_all refers_straight (function_lines frame places (plan_of f (is_near f places frame)) f) ≡ true
+all_refer f places frame =
+    let plan : Plan = plan_of f (is_near f places frame) in
+    list_all_along is_sound_line refers_straight
+    (λ line h. and_rest (is_sound line.instr) (refers_straight line) h) (function_lines frame places plan f)
+    (function_passes frame places plan is_sound_line sound_mild f (body_shaped frame places plan f.body).sound)
 
 pub no_ebreak : (f : TacFnTree) (places : List Place) (frame : FrameTree) →
     has_no_ebreak (code_of f places frame) ≡ true

@@ -92,7 +92,7 @@ pub use Rattle.sc_emit_select.specs.Prelude.{unary_code, upper_part, word_of_con
 pub use Rattle.sc_emit_select.specs.declared.operators.ShortForm.{ShortForm}
 pub use Rattle.sc_emit_select.specs.declared.roles.Role.{Role}
 pub use Rattle.sc_emit_select.specs.declared.roles.Role.TheVariants.{Applies, Loads, Operates, Other, Places, Sets}
-pub use Rattle.sc_emit_hart.proofs.Fetching.{back_at, prefix_at}
+pub use Rattle.sc_emit_hart.proofs.Fetching.{back_at, moved_to, prefix_at}
 pub use Rattle.sc_emit_hart.proofs.Frames.{leaves_frame, overflows, takes_frame}
 pub use Rattle.sc_emit_hart.proofs.Inside.{IsInside, code_inside}
 pub use Rattle.sc_emit_hart.proofs.Loading.{loads_long, loads_number, moves, moves_on}

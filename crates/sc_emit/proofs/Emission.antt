@@ -19,6 +19,7 @@ use Rattle.sc_emit.proofs.Branches.{few_branches, known_jumps, no_ebreak}
 use Rattle.sc_emit.proofs.Functions.{in_call, BodyFollows, code_follows}
 use Rattle.sc_emit.proofs.Operands.{ArePlaced}
 use Rattle.sc_emit.proofs.Returns.{brace_returns}
+use Rattle.sc_emit.proofs.Repeating.{repeats_by_rounds}
 use Rattle.sc_emit.proofs.Rounds.{few_back, has_rounds}
 use Rattle.sc_emit.proofs.Statements.{body_follows}
 use Rattle.sc_emit.proofs.Targets.{targets_named}
@@ -161,6 +162,7 @@ module _ (f : TacFnTree) (places : List Place) (frame : FrameTree) (rules : IsFu
     follows = follows;
     enters = enters;
     rounds = has_rounds f places frame;
+    repeats = repeats_by_rounds f places frame;
     light = light;
     short = omega (arith, light, rules.light);
     back_edges = few_back f places frame;

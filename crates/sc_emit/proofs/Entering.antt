@@ -7,18 +7,19 @@ use Rattle.sc_emit.proofs.Common.{Registers, Setting, Some, Standpoint, Store, S
 use Rattle.sc_emit.proofs.Common.{Walks, World, [], a0, add_word, all_at, ap, are_data, arith, at, back_at, begun}
 use Rattle.sc_emit.proofs.Common.{cases_eq, cases_lt, computes, data_start, eq-eqb, false, frame_taken, globals_of}
 use Rattle.sc_emit.proofs.Common.{in_row, inl, inr, is_there, last, le-leb, le-ltb, length, length-append, look_at}
-use Rattle.sc_emit.proofs.Common.{moved_by, moves_on, nat_le, nat_lt, object_inside, object_there, objects_apart}
-use Rattle.sc_emit.proofs.Common.{overflows, overflows_entering, own_beside, own_inside, pos, prefix_at, prologue}
-use Rattle.sc_emit.proofs.Common.{put_word, ra, refl, refused, same_Some, slice_get, sp, stack_size, stack_top, step}
-use Rattle.sc_emit.proofs.Common.{store_arguments, store_word, stores_word, sub_word, subst, suc, sym, takes_frame}
-use Rattle.sc_emit.proofs.Common.{true, unless, unwrap_or, word, word_of-lt, word_of-unsigned_sub, zero, ℕ, ⊎_elim, ◌%◌}
-use Rattle.sc_emit.proofs.Common.{◌*◌, ◌++◌, ◌+◌, ◌-◌, ◌<◌, ◌^◌, ◌∙◌, ◌∷◌, ◌≡◌, ◌≢◌, ◌≤◌, ◌⊎◌}
+use Rattle.sc_emit.proofs.Common.{moved_by, moved_to, moves_on, nat_le, nat_lt, object_inside, object_there}
+use Rattle.sc_emit.proofs.Common.{objects_apart, overflows, overflows_entering, own_beside, own_inside, pos, prefix_at}
+use Rattle.sc_emit.proofs.Common.{prologue, put_word, ra, refl, refused, same_Some, slice_get, sp, stack_size}
+use Rattle.sc_emit.proofs.Common.{stack_top, step, store_arguments, store_word, stores_word, sub_word, subst, suc, sym}
+use Rattle.sc_emit.proofs.Common.{takes_frame, true, unless, unwrap_or, word, word_of-lt, word_of-unsigned_sub, zero, ℕ}
+use Rattle.sc_emit.proofs.Common.{⊎_elim, ◌%◌, ◌*◌, ◌++◌, ◌+◌, ◌-◌, ◌<◌, ◌^◌, ◌∙◌, ◌∷◌, ◌≡◌, ◌≢◌, ◌≤◌, ◌⊎◌}
 use Rattle.sc_store.specs.Prelude.{stored}
 use Rattle.sc_image.specs.Prelude.{Goes}
 use Rattle.sc_base.specs.declared.stop.TrapReason.TheVariants.{Owner}
 use Rattle.sc_image.proofs.Memory.{few_globals}
 use Rattle.sc_image.proofs.Running.{steps_by_instruction}
 use Rattle.sc_emit_hart.proofs.Words.{word_same, word_apart}
+use Rattle.sc_emit_hart.specs.Prelude.{LacksRoom}
 
 -- Arguments, each into its variable.
 
@@ -199,6 +200,7 @@ module _ (image : ImageParts) (formed : IsWellFormed image) (inputs : List ℕ) 
     -- sp goes below 0
     wraps : regs sp < bytes → FrameOverflows image inputs world bytes regs memory pc
     wraps less =
+        let small : regs sp < 2 ^ 32 = omega (arith, less, few) in
         let bottom : ℕ = regs sp + 2 ^ 32 - bytes in
         let down : List Instr = moved_by sp sp (sub_word 0 bytes) in
         let first : Computes image inputs world down (7 ∷ []) regs memory sp bottom =
@@ -213,6 +215,8 @@ module _ (image : ImageParts) (formed : IsWellFormed image) (inputs : List ℕ) 
           following = pc + 4 * length down;
           after = first.after;
           walks = first.does.walks pc (prefix_at image world.active pc down (Store Sw sp ra (pos 0) ∷ []) code);
+          last = omega (arith, all);
+          lowered = omega (arith, first.result, less, few, small);
           traps =
               beyond_traps (pc + 4 * length down) first.after memory bottom
               (back_at image world.active pc down (Store Sw sp ra (pos 0) ∷ []) code).0
@@ -239,6 +243,30 @@ module _ (T : Setting) (formed : IsWellFormed T.image) (inputs : All IsWord T.in
   known : P.comp < 32
   known = omega (arith, begins.settled.steady.active, formed.few_comps)
 
+  frame_code : CodeAt T.image P.comp x.pc (frame_taken frame.bytes)
+  frame_code = prefix_at T.image P.comp x.pc (frame_taken frame.bytes) (store_arguments frame places params 0) code
+
+  -- there is no room for the frame
+  lacks : (o : FrameOverflows T.image T.inputs world frame.bytes x.regs x.bytes x.pc) →
+      P.bound < data_start P.comp + frame.bytes → LacksRoom T.image (at o.following o.after x.bytes world)
+  lacks o low =
+      let down : List Instr = moved_by sp sp (sub_word 0 frame.bytes) in
+      let all : length (frame_taken frame.bytes) ≡ length down + 1 =
+      length-append down (Store Sw sp ra (pos 0) ∷ []) in
+      record {
+        stores = (moved_to T.image P.comp (x.pc + 4 * length down) o.following (Store Sw sp ra (pos 0) ∷ [])
+            (omega (arith, all, o.last))
+            (back_at T.image P.comp x.pc down (Store Sw sp ra (pos 0) ∷ []) frame_code)).0;
+        bytes = frame.bytes;
+        begins = x.pc;
+        code = frame_code;
+        last = o.last;
+        sp_before = x.regs sp;
+        inside = omega (arith, begins.sp, begins.base.floor, begins.base.floors.low P.comp begins.honest);
+        lowered = o.lowered;
+        below = omega (arith, begins.sp, low);
+      }
+
   -- The frame doesn't fit: the machine stands trapped at the store of ra.
   pub overflows_below : (budget : ℕ) (piece : Piece (Option Value)) → frame.bytes ≤ 2 ^ 31 →
       P.bound < data_start P.comp + frame.bytes → length (frame_taken frame.bytes) ≤ budget →
@@ -247,11 +275,10 @@ module _ (T : Setting) (formed : IsWellFormed T.image) (inputs : All IsWord T.in
       let o : FrameOverflows T.image T.inputs world frame.bytes x.regs x.bytes x.pc =
       goes_below T.image formed T.inputs world known x.regs x.bytes frame.bytes few whole.bytes
       (omega (arith, begins.sp, begins.base.aligned)) x.pc
-      (prefix_at T.image P.comp x.pc (frame_taken frame.bytes) (store_arguments frame places params 0) code)
-      (omega (arith, begins.sp, low)) in
+      frame_code (omega (arith, begins.sp, low)) in
       overflows_entering T formed inputs P f args address ra_is x begins frame o.steps budget
-      (at o.following o.after x.bytes world) piece roomy low o.walks o.traps refl refl (omega (arith, o.few, enough))
-      grown
+      (at o.following o.after x.bytes world) piece roomy low o.walks o.traps (lacks o low) refl refl
+      (omega (arith, o.few, enough)) grown
 
   module _ (low : ℕ) (bound_is : P.bound ≡ low + frame.bytes) (start : data_start P.comp ≤ low)
       (long : length args ≡ params) (few : params ≤ 8) (there : params ≤ length f.cells)

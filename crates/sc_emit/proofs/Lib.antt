@@ -11,6 +11,8 @@ pub mod Environment
 pub mod Functions
 pub mod Gaps
 pub mod Heads
+pub mod Leading
+pub mod LoopCode
 pub mod Needed
 pub mod Operands
 pub mod Operations
@@ -18,6 +20,7 @@ pub mod Pairs
 pub mod Passing
 pub mod Plain
 pub mod Reading
+pub mod Repeating
 pub mod Returned
 pub mod Returns
 pub mod Rounds

@@ -10,6 +10,7 @@ use Rattle.sc_tac.specs.declared.function.TacFnTree.{TacFnTree}
 use Rattle.sc_emit.specs.Naming.{calls_only, AreReached}
 use Rattle.sc_emit.specs.Shapes.{code_back_edges, code_branches, has_known_jumps, has_no_ebreak, loops, names_only}
 use Rattle.sc_emit.specs.Layout.{HasRounds}
+use Rattle.sc_emit.specs.Repeating.{RepeatsByRounds}
 
 -- the linked code of a function stands at an address of a compartment, all that it names is where it can be reached, it
 -- makes the calls that may be made, its parameters are words, and a turn pays for it
@@ -44,8 +45,9 @@ pub record IsEmitted (f : TacFnTree) (frame : FrameTree) (code : CodeTree) : Typ
   -- no more instructions than the function weighs
   pub light : length code.instrs ≤ entry_weight f.params + weight f.body
   pub short : length code.instrs < 24 * f.nodes
-  -- no instruction is executed twice within one call without an iteration between: all lead on, but for one a loop, and
-  -- else calls return to the instruction after them, or the call ends
+  -- no call executes an instruction twice but that a loop around it begins a further round in between
+  pub repeats : RepeatsByRounds f code
+  -- at most one instruction a loop leads back; all others lead on, are calls, or end the call
   pub back_edges : code_back_edges code ≤ loops f.body
   pub jumps : IsTrue (has_known_jumps code)
   -- a branch at most for each `If`

@@ -57,6 +57,8 @@ module _ (image : ImageParts) (inputs : List ℕ) (world : World) (memory : Memo
         following = pc + 4 * length down;
         after = first.after;
         walks = first.does.walks pc (prefix_at image world.active pc down last code);
+        last = omega (arith, all);
+        lowered = omega (arith, first.result, sum, below);
         traps =
             sw_traps image inputs (pc + 4 * length down) first.after memory world 2 1 (pos 0) bottom (omega arith)
             (omega arith) (back_at image world.active pc down last code).0

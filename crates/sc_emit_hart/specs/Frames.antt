@@ -3,7 +3,7 @@ use Rattle.sc_emit_hart.specs.Common.{ImageParts, Instr, Memory, Traps, Walks, a
 use Rattle.sc_emit_hart.specs.Common.{ra, sp, step}
 use Rattle.sc_emit_hart.specs.Hart.{Registers, World, at}
 use Rattle.sc_emit_hart.specs.Words.{put_word, word}
-use Rattle.std.specs.Prelude.{◌≡◌, ℕ, ◌+◌, ◌<◌, List, [], ◌∷◌, length, pos}
+use Rattle.std.specs.Prelude.{◌≡◌, ℕ, ◌+◌, ◌*◌, ◌%◌, ◌^◌, ◌<◌, List, [], ◌∷◌, length, pos}
 use Rattle.rv_code.specs.declared.instr.Instr.TheVariants.{Load}
 use Rattle.rv_code.specs.declared.instr.LoadOp.TheVariants.{Lw}
 use Rattle.sc_base.specs.declared.stop.TrapReason.TheVariants.{Owner}
@@ -28,6 +28,8 @@ module _ (image : ImageParts) (inputs : List ℕ) (world : World) (bytes : ℕ) 
     pub following : ℕ
     pub after : Registers
     pub walks : Walks image inputs steps (at pc regs memory world) (at following after memory world)
+    pub last : following + 4 ≡ pc + 4 * length (frame_taken bytes)
+    pub lowered : (after sp + bytes) % 2 ^ 32 ≡ regs sp
     pub traps : step image inputs (at following after memory world) ≡ Traps Owner
 
   -- ra is loaded from the bottom of the frame, above which sp comes

@@ -6,4 +6,5 @@ pub mod Laws
 pub mod Words
 pub mod Pieces
 pub mod Frames
+pub mod FullStacks
 pub mod Operators

@@ -78,6 +78,8 @@ module _ (T : Setting) (formed : IsWellFormed T.image) (inputs : All IsWord T.in
       floors = record {
         aligned = λ k honest. at_floor (λ a. a % 4 ≡ 0) k
             (λ e. omega (arith, begins.base.aligned, bound_is, whole.bytes)) (begins.base.floors.aligned k honest);
+        low = λ k honest. at_floor (λ a. data_start k ≤ a) k
+            (λ e. subst (λ j. data_start j ≤ low) (sym e) start) (begins.base.floors.low k honest);
         high = λ k honest. at_floor (λ a. a ≤ stack_top k) k
             (λ e. subst (λ j. low ≤ stack_top j) (sym e) (omega (arith, begins.base.high, bound_is)))
             (begins.base.floors.high k honest);

@@ -307,6 +307,7 @@ module _ (T : Setting) (R : Running) where
     reached = o.reached;
     run = o.run;
     traps = o.traps;
+    lacks = o.lacks;
     honest = o.honest;
     begun = o.begun;
     trace = o.trace;

@@ -126,6 +126,7 @@ module _ (T : Setting) (P : Standpoint) where
     reached = o.reached;
     run = then_go T.image T.inputs l.run o.run;
     traps = o.traps;
+    lacks = o.lacks;
     honest = o.honest;
     begun = o.begun;
     trace = o.trace;
@@ -142,6 +143,7 @@ module _ (T : Setting) (P : Standpoint) where
     reached = o.reached;
     run = o.run;
     traps = o.traps;
+    lacks = o.lacks;
     honest = o.honest;
     begun = o.begun;
     trace = o.trace;

@@ -20,6 +20,7 @@ pub record Activation : Type 0 where
 -- the floor of each compartment that runs its code is a word of its stack, or the top of it
 pub record AreFloors (performs : ℕ → Bool) (floor : ℕ → ℕ) : Type 0 where
   pub aligned : (k : ℕ) → performs k ≡ false → floor k % 4 ≡ 0
+  pub low : (k : ℕ) → performs k ≡ false → data_start k ≤ floor k
   pub high : (k : ℕ) → performs k ≡ false → floor k ≤ stack_top k
 
 -- the offsets of the words that a frame keeps for itself: the return address and the slots

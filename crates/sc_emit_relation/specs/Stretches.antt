@@ -2,6 +2,7 @@
 use Rattle.sc_emit_relation.specs.Common.{Addresses, AllBefore, CallTarget, Cell, Crossing, Grown, ImageParts, IsSteady}
 use Rattle.sc_emit_relation.specs.Common.{Memory, Piece, Registers, State as Meant, Traps, Value, Walks, at, last}
 use Rattle.sc_emit_relation.specs.Common.{stack_depth, stack_size, stack_top, step, word}
+use Rattle.sc_emit_hart.specs.Prelude.{LacksRoom}
 use Rattle.sc_store.specs.Prelude.{Memory as Bytes}
 use Rattle.sc_image.specs.Prelude.{State}
 use Rattle.std.specs.Prelude.{◌≡◌, ◌≢◌, ℕ, suc, ◌+◌, ◌*◌, ◌<◌, ◌≤◌, Bool, false, List, length, drop, Option, None, Some}
@@ -108,12 +109,13 @@ module _ (T : Setting) where
     pub costs : Costs steps budget 0 x.meant meant
 
   -- the one exception: a call has begun whose frame goes below its stack, and the machine stands trapped at its first
-  -- store. The meaning goes on from there
+  -- store, with sp below all data. The meaning goes on from there
   pub record Overflows {V : Type 0} (P : Standpoint) (x : Joint) (budget : ℕ) (piece : Piece V) : Type 0 where
     pub steps : ℕ
     pub reached : State
     pub run : Walks T.image T.inputs steps (machine P x) reached
     pub traps : step T.image T.inputs reached ≡ Traps Owner
+    pub lacks : LacksRoom T.image reached
     pub honest : T.performs reached.active ≡ false
     pub begun : Meant
     pub trace : reached.trace ≡ begun.trace

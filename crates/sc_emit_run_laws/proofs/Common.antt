@@ -89,7 +89,7 @@ pub use Rattle.sc_emit_run_laws.specs.Common.{Output, Own, Owner, Proto, TacFnTr
 pub use Rattle.sc_emit_run_laws.specs.Prelude.{BodiesFollow, Departs, EntersBy, Finishes, GivesResults, HasCode}
 pub use Rattle.sc_emit_run_laws.specs.Prelude.{HasEmitted, IsBlamed, IsBuilt, IsFull, IsLinked, IsRun, IsUnknown}
 pub use Rattle.sc_emit_run_laws.specs.Prelude.{KeepsTo, OutcomesSimulate, PerformersDo, PerformersFollow, Reaches}
-pub use Rattle.sc_emit_run_laws.specs.Prelude.{ScriptsSimulate, Simulates, SimulatesRun, Stands, TrapsFull}
+pub use Rattle.sc_emit_run_laws.specs.Prelude.{ScriptsSimulate, Simulates, SimulatesRun, Stands, StackIsFull}
 pub use Rattle.sc_emit_run_laws.specs.Prelude.{UnknownComes, UnknownGives, bodies, calls_of, departing, entered_by}
 pub use Rattle.sc_emit_run_laws.specs.Prelude.{finishes, functions_in, functions_or_none, gives, gives_result, is_full}
 pub use Rattle.sc_emit_run_laws.specs.Prelude.{makes, nobody, promises_result, ran, setting, stands}

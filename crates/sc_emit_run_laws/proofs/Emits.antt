@@ -3,7 +3,7 @@ use Rattle.sc_emit_run_laws.proofs.Common.{AgreesInDepth, AgreesUntilBlame, AllB
 use Rattle.sc_emit_run_laws.proofs.Common.{End, Ended, Event, EventsOut, Finishes, FrameChange, Goes, ImageParts}
 use Rattle.sc_emit_run_laws.proofs.Common.{IsBlamed, IsFull, IsPrefix, IsStop, IsWellFormed, List, None, Opened}
 use Rattle.sc_emit_run_laws.proofs.Common.{OutcomesSimulate, Owner, Reaches, Run, RunEnd, RunsAgree, RunsUntilBlame}
-use Rattle.sc_emit_run_laws.proofs.Common.{SimulatesRun, SourceRun, Stands, Traps, TrapsFull, TurnsOut, [], ap, arith}
+use Rattle.sc_emit_run_laws.proofs.Common.{SimulatesRun, SourceRun, StackIsFull, Stands, Traps, TurnsOut, [], ap, arith}
 use Rattle.sc_emit_run_laws.proofs.Common.{before_more, blamed, blamed_run, deepest, deepest_is_reached, depth_after}
 use Rattle.sc_emit_run_laws.proofs.Common.{depth_in, drop, ended, false, finishes, inl, inr, is_full, leb-false}
 use Rattle.sc_emit_run_laws.proofs.Common.{leb-true, length, length-append, lt-leb, ltb-false, ltb-true, nat_le, nat_lt}
@@ -13,18 +13,25 @@ use Rattle.sc_emit_run_laws.proofs.Common.{steps_emit, stopped, stopped_at, subs
 use Rattle.sc_emit_run_laws.proofs.Common.{take_prefixes, trace_is, true, without_line, zero, ℕ, ⊎_elim, ◌++◌, ◌+◌, ◌-◌}
 use Rattle.sc_emit_run_laws.proofs.Common.{◌<◌, ◌∙◌, ◌∷◌, ◌≡◌, ◌≤◌, ◌⊎◌}
 use Rattle.sc_image.specs.Prelude.{State, a0, machine}
-use Rattle.sc_emit_run_laws.specs.Prelude.{Outcome}
+use Rattle.sc_emit_run_laws.specs.Prelude.{ExceedsStack, Moment, Outcome}
 use Rattle.std.proofs.Common.{take_all}
 use Rattle.sc_base.specs.declared.stop.Stop.TheVariants.{Ended as EndedStop, Trap}
 use Rattle.sc_emit_run_laws.proofs.Along.{Along, along, prefix_taken, not_over, run_prefix}
 
 -- FRAMES
 
+-- the first of changes that were all made after a moment
+from_first : (n : ℕ) (xs ys : List FrameChange) → AllFrom n (xs ++ ys) → AllFrom n xs
+from_first n [] ys late = tt
+from_first n (Opened timed c size ∷ xs) ys late = (late.0, from_first n xs ys late.1)
+from_first n (Closed timed c size ∷ xs) ys late = (late.0, from_first n xs ys late.1)
+
 -- changes that were made before a moment stand before those that were made after it
-earlier_first : (n m : ℕ) → n ≤ m → (xs ys more less : List FrameChange) → xs ++ more ≡ ys ++ less →
-    AllBefore n xs → AllFrom m less → IsPrefix xs ys
-earlier_first n m le [] ys more less is before late = record { more = ys; is = refl }
-earlier_first n m le (x ∷ xs) [] more less is before late = absurd (never x is before) where
+earlier_first : (n m k : ℕ) → n ≤ m → (xs ys more less : List FrameChange) → xs ++ more ≡ ys ++ less →
+    AllBefore n xs → AllFrom m less → AllFrom k more → (prefix : IsPrefix xs ys) × AllFrom k prefix.more
+earlier_first n m k le [] ys more less is before late after =
+    (record { more = ys; is = refl }, from_first k ys less (subst (AllFrom k) is after))
+earlier_first n m k le (x ∷ xs) [] more less is before late after = absurd (never x is before) where
   never : (x : FrameChange) → x ∷ (xs ++ more) ≡ less → AllBefore n (x ∷ xs) → ⊥
   never (Opened timed c size) is before =
       let later : AllFrom m (Opened timed c size ∷ (xs ++ more)) = subst (AllFrom m) (sym is) late in
@@ -32,16 +39,17 @@ earlier_first n m le (x ∷ xs) [] more less is before late = absurd (never x is
   never (Closed timed c size) is before =
       let later : AllFrom m (Closed timed c size ∷ (xs ++ more)) = subst (AllFrom m) (sym is) late in
       omega (arith, le, before.0, later.0)
-earlier_first n m le (x ∷ xs) (y ∷ ys) more less is before late =
+earlier_first n m k le (x ∷ xs) (y ∷ ys) more less is before late after =
     let first : x ≡ y = cc in
     let rest : xs ++ more ≡ ys ++ less = cc in
-    on first (earlier_first n m le xs ys more less rest (tail x before) late) where
+    on first (earlier_first n m k le xs ys more less rest (tail x before) late after) where
       tail : (x : FrameChange) → AllBefore n (x ∷ xs) → AllBefore n xs
       tail (Opened timed c size) before = before.1
       tail (Closed timed c size) before = before.1
 
-      on : x ≡ y → IsPrefix xs ys → IsPrefix (x ∷ xs) (y ∷ ys)
-      on first prefix = record { more = prefix.more; is = (λ i. sym first i ∷ prefix.is i) }
+      on : x ≡ y → (prefix : IsPrefix xs ys) × AllFrom k prefix.more →
+          (prefix : IsPrefix (x ∷ xs) (y ∷ ys)) × AllFrom k prefix.more
+      on first prefix = (record { more = prefix.0.more; is = (λ i. sym first i ∷ prefix.0.is i) }, prefix.1)
 
 -- TRACES
 take_within : {A : Type 0} (n : ℕ) (xs more : List A) → n ≤ length xs → take n xs ≡ take n (xs ++ more)
@@ -291,23 +299,27 @@ module _ (image : ImageParts) (inputs : List ℕ) (formed : IsWellFormed image) 
           uncovered bound f.place events run.behaviour.trace f.trace steps (ltb-false f.place.steps steps is)
 
     -- the run's depth at that moment
-    full_deep : (one : Run) → IsPrefix f.frames one.frames → length stuck.trace < events →
-        stack_size < depth_in one events stuck.active
-    full_deep one prefix short =
-        let there : depth_after stuck.active 0 f.frames ≤ deepest events stuck.active 0 (f.frames ++ prefix.more) =
-        deepest_is_reached events stuck.active f.frames prefix.more
-        (before_more (suc (length stuck.trace)) events (omega (arith, short)) f.frames f.before) in
-        subst (λ changes. stack_size < deepest events stuck.active 0 changes) (sym prefix.is)
-        (omega (arith, f.deep, there))
+    full_deep : (one : Run) → (there : ExceedsStack one (length stuck.trace) stuck.active) →
+        length stuck.trace < events → stack_size < depth_in one events stuck.active
+    full_deep one there short =
+        let made : List FrameChange = there.moment.made in
+        let reached : depth_after stuck.active 0 made ≤
+        deepest events stuck.active 0 (made ++ there.moment.prefix.more) =
+        deepest_is_reached events stuck.active made there.moment.prefix.more
+        (before_more (suc (length stuck.trace)) events (omega (arith, short)) made there.moment.before) in
+        subst (λ changes. stack_size < deepest events stuck.active 0 changes) (sym there.moment.prefix.is)
+        (omega (arith, there.deep, reached))
 
-    full_traps : (one : Run) → IsPrefix f.frames one.frames → IsPrefix stuck.trace one.behaviour.trace → (steps : ℕ) →
-        length stuck.trace < events →
+    full_traps : (one : Run) → ExceedsStack one (length stuck.trace) stuck.active →
+        IsPrefix stuck.trace one.behaviour.trace → (steps : ℕ) → length stuck.trace < events →
         machine image inputs steps events ≡ record { state = stuck; stop = Trap Owner stuck.pc } →
-        TrapsFull (machine image inputs steps events) one events
-    full_traps one frames trace steps short is =
-        subst (λ r. TrapsFull r one events) (sym is) (record {
+        StackIsFull image (machine image inputs steps events) one events
+    full_traps one exceeds trace steps short is =
+        subst (λ r. StackIsFull image r one events) (sym is) (record {
           stop = refl;
-          deep = full_deep one frames short;
+          lacks = f.lacks;
+          deep = full_deep one exceeds short;
+          exceeds = exceeds;
           trace = subst (IsPrefix stuck.trace) (sym (trace_is events one.behaviour))
               (prefix_taken events stuck.trace one.behaviour.trace trace (omega (arith, short)));
         })
@@ -335,7 +347,7 @@ module _ (image : ImageParts) (inputs : List ℕ) (formed : IsWellFormed image) 
         (prefix_same (take events run.behaviour.trace)))
 
     own_forward : Outcome image inputs bound turns run → (events : ℕ) →
-        IsPrefix (cut events) (seen bound events) ⊎ TrapsFull (machine image inputs bound events) run events
+        IsPrefix (cut events) (seen bound events) ⊎ StackIsFull image (machine image inputs bound events) run events
     own_forward (finishes f) events =
         inl (equal_cut events (seen bound events) (finish_is bound turns run f events bound f.place.within))
     own_forward (stands f) events =
@@ -343,7 +355,7 @@ module _ (image : ImageParts) (inputs : List ℕ) (formed : IsWellFormed image) 
         inl (as_cut events (seen bound events) (stand_emits bound turns run f events bound (omega (arith, within))))
     own_forward (is_full f) events =
         ⊎_elim (λ is. inl (equal_cut events (seen bound events) is))
-        (λ there. inr (full_traps bound turns run f events run f.prefix f.trace bound there.0 there.1))
+        (λ there. inr (full_traps bound turns run f events run f.exceeds f.trace bound there.0 there.1))
         (full_emits bound turns run f events bound f.place.within)
 
     own_backward : Outcome image inputs bound turns run → (steps events : ℕ) → steps ≤ turns →
@@ -376,11 +388,11 @@ module _ (image : ImageParts) (inputs : List ℕ) (formed : IsWellFormed image) 
       blamed_trap : length fixed.trace < events →
           machine image inputs bound events ≡ record { state = fixed; stop = Trap Owner fixed.pc } →
           IsPrefix (stopped_at events one.behaviour).trace (machine image inputs bound events).state.trace
-          ⊎ TrapsFull (machine image inputs bound events) one events
+          ⊎ StackIsFull image (machine image inputs bound events) one events
       blamed_trap short is = by (nat_le (length one.behaviour.trace) (length fixed.trace)) refl where
         by : (b : Bool) → nat_le (length one.behaviour.trace) (length fixed.trace) ≡ b →
             IsPrefix (stopped_at events one.behaviour).trace (machine image inputs bound events).state.trace
-            ⊎ TrapsFull (machine image inputs bound events) one events
+            ⊎ StackIsFull image (machine image inputs bound events) one events
         by true b =
             let less : length one.behaviour.trace ≤ length fixed.trace =
             leb-true (length one.behaviour.trace) (length fixed.trace) b in
@@ -391,15 +403,22 @@ module _ (image : ImageParts) (inputs : List ℕ) (formed : IsWellFormed image) 
         by false b =
             let more : length fixed.trace < length one.behaviour.trace =
             leb-false (length one.behaviour.trace) (length fixed.trace) b in
+            let at : Moment other (length fixed.trace) = f.exceeds.moment in
+            let earlier : (prefix : IsPrefix at.made one.frames) × AllFrom (length fixed.trace) prefix.more =
+            earlier_first (suc (length fixed.trace)) (length one.behaviour.trace) (length fixed.trace)
+            (omega (arith, more)) at.made one.frames at.prefix.more frames.more (sym at.prefix.is ∙ frames.is)
+            at.before late at.after in
             inr (full_traps bound turns other f events one
-            (earlier_first (suc (length fixed.trace)) (length one.behaviour.trace) (omega (arith, more)) f.frames
-            one.frames f.prefix.more frames.more (sym f.prefix.is ∙ frames.is) f.before late)
+            (record {
+              moment = record { made = at.made; prefix = earlier.0; before = at.before; after = earlier.1 };
+              deep = f.exceeds.deep;
+            })
             (shorter_first fixed.trace one.behaviour.trace other.behaviour.trace f.trace trace (omega (arith, more)))
             bound short is)
 
     blamed_forward : Outcome image inputs bound turns other → (events : ℕ) →
         IsPrefix (stopped_at events one.behaviour).trace (machine image inputs bound events).state.trace
-        ⊎ TrapsFull (machine image inputs bound events) one events
+        ⊎ StackIsFull image (machine image inputs bound events) one events
     blamed_forward (finishes f) events =
         inl (cuts events _ (equal_cut bound turns other events (machine image inputs bound events).state.trace
         (finish_is bound turns other f events bound f.place.within)))
@@ -416,7 +435,7 @@ module _ (image : ImageParts) (inputs : List ℕ) (formed : IsWellFormed image) 
       (outcome : Outcome image inputs bound turns other) where
     forward : RunsUntilBlame one other → (events : ℕ) →
         IsPrefix (stopped_at events one.behaviour).trace (machine image inputs bound events).state.trace
-        ⊎ TrapsFull (machine image inputs bound events) one events
+        ⊎ StackIsFull image (machine image inputs bound events) one events
     forward (same_run is) events =
         own_forward bound turns one (subst (Outcome image inputs bound turns) is outcome) events
     forward (blamed_run comp cause line ends soft prefix frames late) events =
@@ -471,6 +490,17 @@ blamed_too end EventsOut is h = absurd h
 
 module _ (image : ImageParts) (inputs : List ℕ) (bound turns : ℕ) (run other : Run) (agree : RunsAgree run other)
     (observed : SimulatesRun image inputs bound turns other) where
+  exceeds_too : (at comp : ℕ) → ExceedsStack other at comp → ExceedsStack run at comp
+  exceeds_too at comp there = record {
+    moment = record {
+      made = there.moment.made;
+      prefix = record { more = there.moment.prefix.more; is = agree.frames ∙ there.moment.prefix.is };
+      before = there.moment.before;
+      after = there.moment.after;
+    };
+    deep = there.deep;
+  }
+
   pub emits_too : SimulatesRun image inputs bound turns run
   emits_too = record {
     forward = λ events. ⊎_elim
@@ -478,6 +508,9 @@ module _ (image : ImageParts) (inputs : List ℕ) (bound turns : ℕ) (run other
         (sym (agree.behaviour events).trace) h))
         (λ h. inr (record {
           stop = h.stop;
+          lacks = h.lacks;
+          exceeds = exceeds_too (length (machine image inputs bound events).state.trace)
+              (machine image inputs bound events).state.active h.exceeds;
           deep = subst
               (λ changes. stack_size < deepest events (machine image inputs bound events).state.active 0 changes)
               (sym agree.frames) h.deep;

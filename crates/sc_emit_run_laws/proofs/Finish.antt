@@ -205,14 +205,20 @@ module _ (program : TacTree) (image : ImageParts) (turn_pays : ℕ) (built : IsB
       place = reaches over.steps budget 0 over.reached over.begun less over.run over.costs
           (prefix_endless over.reached.trace (last whole).trace emits_prefix no_end);
       traps = over.traps;
+      lacks = over.lacks;
       trace = prefix_more over.reached.trace (last whole).trace (run_to main whole).behaviour.trace emits_prefix
           (run_prefix main whole);
-      frames = over.begun.frames;
-      prefix = record { more = over.grown.frames.more; is = frames_are main whole ∙ over.grown.frames.is };
-      before = subst (λ (t : List Event). AllBefore (suc (length t)) over.begun.frames) (sym over.trace) over.timed;
-      following = subst (λ (t : List Event). AllFrom (length t) over.grown.frames.more) (sym over.trace)
-          over.grown.late;
-      deep = over.deep;
+      exceeds = record {
+        moment = record {
+          made = over.begun.frames;
+          prefix = record { more = over.grown.frames.more; is = frames_are main whole ∙ over.grown.frames.is };
+          before = subst (λ (t : List Event). AllBefore (suc (length t)) over.begun.frames) (sym over.trace)
+              over.timed;
+          after = subst (λ (t : List Event). AllFrom (length t) over.grown.frames.more) (sym over.trace)
+              over.grown.late;
+        };
+        deep = over.deep;
+      };
     }
 
   outcome_by : (budget : ℕ) → budget < turn_pays → (piece : Piece (Option Value)) → whole ≡ piece →

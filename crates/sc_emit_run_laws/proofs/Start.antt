@@ -186,7 +186,11 @@ module _ (program : TacTree) (image : ImageParts) (inputs : List ℕ) (performs 
     floor = refl;
     aligned = omega arith;
     high = omega arith;
-    floors = record { aligned = λ k honest. omega arith; high = λ k honest. omega arith };
+    floors = record {
+      aligned = λ k honest. omega arith;
+      low = λ k honest. omega arith;
+      high = λ k honest. omega arith;
+    };
   }
 
   main_honest : performs image.main ≡ false → T.performs image.main ≡ false

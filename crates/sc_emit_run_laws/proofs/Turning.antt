@@ -55,6 +55,7 @@ module _ (T : Setting) (P Q : Standpoint) (x y : Joint) where
           reached = o.reached;
           run = then_go T.image T.inputs goes.walks o.run;
           traps = o.traps;
+          lacks = o.lacks;
           honest = o.honest;
           begun = o.begun;
           trace = o.trace;

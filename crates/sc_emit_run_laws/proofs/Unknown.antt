@@ -65,6 +65,7 @@ module _ (T : Setting) (never : AllHonest T → ⊥) (P : Standpoint) where
     reached = o.reached;
     run = o.run;
     traps = o.traps;
+    lacks = o.lacks;
     honest = o.honest;
     begun = o.begun;
     trace = o.trace;

@@ -22,6 +22,7 @@ pub use Rattle.sc_tac.specs.Prelude.{cross_call_fits, function_entered, own_call
 pub use Rattle.sc_tac.specs.declared.function.TacFnTree.{TacFnTree}
 pub use Rattle.sc_tac.specs.declared.program.TacTree.{TacTree}
 pub use Rattle.sc_emit_select.specs.Prelude.{Addresses, a0, linked, sp}
+pub use Rattle.sc_emit_hart.specs.Prelude.{LacksRoom}
 pub use Rattle.sc_emit_relation.specs.Prelude.{AreFloors, ArePassed, Begins, CallGives, CallStands, Emits}
 pub use Rattle.sc_emit_relation.specs.Prelude.{FunctionGives, InCell, IsAddress, IsBase, Joint, Leads, Overflows}
 pub use Rattle.sc_emit_relation.specs.Prelude.{Placed, Setting, Settled, Standpoint}

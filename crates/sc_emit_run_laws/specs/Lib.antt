@@ -2,6 +2,7 @@ pub mod Common
 pub mod Prelude
 pub mod Bodies
 pub mod Linked
+pub mod Moments
 pub mod Outcomes
 pub mod Results
 pub mod Runs

@@ -1,9 +1,9 @@
 -- What the machine does from its start, beside a run of code.
-use Rattle.sc_emit_run_laws.specs.Common.{AllBefore, AllFrom, Ended, FrameChange, Goes, ImageParts, IsPrefix, IsStop}
-use Rattle.sc_emit_run_laws.specs.Common.{Owner, Run, Traps, TurnsOut, Walks, depth_after, ended, has_no_end}
-use Rattle.sc_emit_run_laws.specs.Common.{stack_size, start, step}
+use Rattle.sc_emit_run_laws.specs.Common.{Ended, Goes, ImageParts, IsPrefix, IsStop, LacksRoom, Owner, Run, Traps}
+use Rattle.sc_emit_run_laws.specs.Common.{TurnsOut, Walks, ended, has_no_end, start, step}
 use Rattle.sc_image.specs.Prelude.{State}
-use Rattle.std.specs.Prelude.{◌≡◌, ℕ, suc, ◌<◌, ◌≤◌, true, List, length}
+use Rattle.std.specs.Prelude.{◌≡◌, ℕ, ◌<◌, ◌≤◌, true, List, length}
+use Rattle.sc_emit_run_laws.specs.Moments.{ExceedsStack}
 
 -- the machine reaches a state within a bound on steps, and no end was emitted on the way
 pub record Reaches (image : ImageParts) (inputs : List ℕ) (bound : ℕ) : Type 0 where
@@ -28,16 +28,14 @@ module _ (image : ImageParts) (inputs : List ℕ) (bound turns : ℕ) (run : Run
     pub end : IsStop run.behaviour.end
     pub spent : run.behaviour.end ≡ TurnsOut → turns ≤ place.steps
 
-  -- the machine stands trapped, since a stack is full: at that moment the run's frames were that deep, too
+  -- the machine stands trapped, since a stack has no room for a frame: at a moment of the run with as many events its
+  -- frames were too deep, too
   pub record IsFull : Type 0 where
     pub place : Reaches image inputs bound
     pub traps : step image inputs place.reached ≡ Traps Owner
+    pub lacks : LacksRoom image place.reached
     pub trace : IsPrefix place.reached.trace run.behaviour.trace
-    pub frames : List FrameChange
-    pub prefix : IsPrefix frames run.frames
-    pub before : AllBefore (suc (length place.reached.trace)) frames
-    pub following : AllFrom (length place.reached.trace) prefix.more
-    pub deep : stack_size < depth_after place.reached.active 0 frames
+    pub exceeds : ExceedsStack run (length place.reached.trace) place.reached.active
 
   pub data Outcome : Type 0 where
     finishes : Finishes → Outcome

@@ -4,7 +4,8 @@ pub use Rattle.sc_emit_run_laws.specs.Bodies.{PerformersFollow, UnknownComes, Un
 pub use Rattle.sc_emit_run_laws.specs.Bodies.{entered_by, ran}
 pub use Rattle.sc_emit_run_laws.specs.Linked.{EntersBy, GlobalStands, HasCode, IsLinked, functions_in}
 pub use Rattle.sc_emit_run_laws.specs.Linked.{functions_or_none, gives, gives_result, makes, promises_result, setting}
+pub use Rattle.sc_emit_run_laws.specs.Moments.{ExceedsStack, Moment}
 pub use Rattle.sc_emit_run_laws.specs.Outcomes.{Finishes, IsFull, Outcome, Reaches, Stands, finishes, is_full, stands}
 pub use Rattle.sc_emit_run_laws.specs.Results.{GivesResults, bodies}
-pub use Rattle.sc_emit_run_laws.specs.Runs.{IsBlamed, KeepsTo, OutcomesSimulate, SimulatesRun, TrapsFull}
+pub use Rattle.sc_emit_run_laws.specs.Runs.{IsBlamed, KeepsTo, OutcomesSimulate, SimulatesRun, StackIsFull}
 pub use Rattle.sc_emit_run_laws.specs.Simulation.{IsBuilt, ScriptsSimulate, Simulates, nobody}

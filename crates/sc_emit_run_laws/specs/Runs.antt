@@ -1,12 +1,13 @@
 -- The traces of the machine's runs beside a program's run, wherever either is stopped.
 use Rattle.sc_emit_run_laws.specs.Common.{AgreesInDepth, Blamed, Ended, Event, EventsOut, ImageParts, IsPrefix}
-use Rattle.sc_emit_run_laws.specs.Common.{IsWellFormed, IsWord, Owner, Run, RunsAgree, TurnsOut, depth_in, machine}
-use Rattle.sc_emit_run_laws.specs.Common.{stack_size, stopped_at}
+use Rattle.sc_emit_run_laws.specs.Common.{IsWellFormed, IsWord, LacksRoom, Owner, Run, RunsAgree, TurnsOut, depth_in}
+use Rattle.sc_emit_run_laws.specs.Common.{machine, stack_size, stopped_at}
 use Rattle.sc_image.specs.Prelude.{Run as MachineRun}
-use Rattle.std.specs.Prelude.{◌≡◌, ℕ, ◌<◌, ◌≤◌, ◌⊎◌, List, All}
+use Rattle.std.specs.Prelude.{◌≡◌, ℕ, ◌<◌, ◌≤◌, ◌⊎◌, List, length, All}
 use Rattle.sc_base.specs.declared.stop.Stop.TheVariants.{Trap}
 use Rattle.sc_core.specs.declared.run.RunEnd.{RunEnd}
 use Rattle.sc_core.specs.declared.run.SourceRun.{SourceRun}
+use Rattle.sc_emit_run_laws.specs.Moments.{ExceedsStack}
 use Rattle.sc_emit_run_laws.specs.Outcomes.{Outcome}
 
 abbrev pub IsBlamed : RunEnd → Type 0
@@ -19,18 +20,21 @@ IsBlamed EventsOut = ⊥
 abbrev pub KeepsTo : List Event → SourceRun → Type 0
 KeepsTo trace run = IsPrefix trace run.trace ⊎ (IsBlamed run.end × IsPrefix run.trace trace)
 
--- the machine stands trapped in a compartment whose stack depth in the run, stopped at `events` events, is more than a
--- stack's size; it has emitted a prefix of the run's trace
-pub record TrapsFull (machine : MachineRun) (run : Run) (events : ℕ) : Type 0 where
+-- a stack is full: the machine stands trapped where a function's frame has no room, and has emitted a prefix of the
+-- trace of the run, stopped at `events` events. In that run the depth of the same compartment is more than a stack's
+-- size, and is so at a moment with exactly as many events as the machine has emitted
+pub record StackIsFull (image : ImageParts) (machine : MachineRun) (run : Run) (events : ℕ) : Type 0 where
   pub stop : machine.stop ≡ Trap Owner machine.state.pc
-  pub deep : stack_size < depth_in run events machine.state.active
+  pub lacks : LacksRoom image machine.state
   pub trace : IsPrefix machine.state.trace (stopped_at events run.behaviour).trace
+  pub deep : stack_size < depth_in run events machine.state.active
+  pub exceeds : ExceedsStack run (length machine.state.trace) machine.state.active
 
 pub record SimulatesRun (image : ImageParts) (inputs : List ℕ) (bound turns : ℕ) (run : Run) : Type 0 where
   -- within the bound on steps the machine emits all that the run emits, or it stands trapped since a stack is full
   pub forward : (events : ℕ) →
       IsPrefix (stopped_at events run.behaviour).trace (machine image inputs bound events).state.trace
-      ⊎ TrapsFull (machine image inputs bound events) run events
+      ⊎ StackIsFull image (machine image inputs bound events) run events
   -- in no more steps than the run had turns it emits nothing else, unless the run is blamed and it emitted all of that
   pub backward : (steps events : ℕ) → steps ≤ turns →
       IsPrefix (machine image inputs steps events).state.trace (stopped_at events run.behaviour).trace
