@@ -13,6 +13,7 @@ pub mod Functions
 pub mod Globals
 pub mod Imported
 pub mod Instrs
+pub mod Interfaces
 pub mod Jumps
 pub mod Linked
 pub mod Loaded

@@ -1,17 +1,19 @@
 -- The image of a program, from the codes of its functions.
 use Rattle.sc_linker.specs.Common.{Addresses, Cell, CodeTree, ImageParts, Instr, Interface, Jal, Main, ProgramTree}
-use Rattle.sc_linker.specs.Common.{Proto, TypedSection, entry_in, first_blocks, imports, is_input, is_output, linked}
-use Rattle.sc_linker.specs.Common.{place_named, word_of}
+use Rattle.sc_linker.specs.Common.{Proto, TypedSection, comp_at, entry_in, first_blocks, imports, is_input, is_output}
+use Rattle.sc_linker.specs.Common.{linked, place_named, word_of}
 use Rattle.std.specs.Prelude.{ℕ, suc, pos, ◌+◌, ◌*◌, ◌-ℤ◌, List, [], ◌∷◌, ◌++◌, length, map, flat_map, Option, None}
 use Rattle.std.specs.Prelude.{Some, is_some}
 use Rattle.byteorder.specs.Endian.{little_bytes}
 use Rattle.sc_event.specs.declared.interface.Import.{Import}
 use Rattle.sc_event.specs.declared.interface.Import.TheVariants as import
+use Rattle.sc_event.specs.declared.interface.Interfaces.{Interfaces}
 use Rattle.sc_core.specs.declared.value.Cell.TheVariants as cell
 use Rattle.sc_image.specs.declared.parts.CompPart.{CompPart}
 use Rattle.sc_image.specs.declared.parts.ExportPart.{ExportPart}
 use Rattle.sc_image.specs.declared.parts.ImportPart.{ImportPart}
-use Rattle.sc_linker.specs.Layout.{addresses_at, codes_at, entry_address, exports_at, section_at}
+use Rattle.sc_linker.specs.Layout.{addresses_at, codes_at, entry_address, exports_at, exports_in, section_addresses}
+use Rattle.sc_linker.specs.Layout.{section_at}
 
 module _ (addresses : Addresses) where
   -- where a function begins; every entry of a program leads to one
@@ -64,25 +66,32 @@ cell_word (cell.Ptr p) = 0
 abbrev pub global_words : TypedSection → List ℕ
 global_words section = flat_map (λ block. map cell_word block.cells) (first_blocks (Some section))
 
+-- a section's code: its entries, then the codes of its functions
+abbrev pub section_code : (comp : ℕ) → List Proto → TypedSection → List CodeTree → List Instr
+section_code comp exports section codes =
+    let addresses = section_addresses comp (length exports) section codes in
+    entry_jumps addresses comp 0 section exports ++
+    linked_codes addresses (entry_address comp (length exports)) codes
+
+-- a compartment's part of the image, of its interface, its section and the codes of that section's functions
+abbrev pub linked_part : Interfaces → (comp : ℕ) → Interface → TypedSection → List CodeTree → CompPart
+linked_part interfaces comp interface section codes = record {
+  name = interface.name;
+  input = imports interfaces comp is_input;
+  output = imports interfaces comp is_output;
+  exports = export_parts comp 0 interface.exports;
+  imports = flat_map import_part interface.imports;
+  code = map word_of (section_code comp (exports_in (comp_at interfaces comp)) section codes);
+  globals = flat_map (little_bytes 4) (global_words section);
+}
+
 module _ (program : ProgramTree) (codes : List CodeTree) where
-  -- a compartment's code: its entries, then the codes of its functions
   abbrev pub comp_code : (comp : ℕ) → List Instr
-  comp_code comp =
-      let exports = exports_at program comp in
-      let addresses = addresses_at program codes comp in
-      entry_jumps addresses comp 0 (section_at program comp) exports ++
-      linked_codes addresses (entry_address comp (length exports)) (codes_at program codes comp)
+  comp_code comp = section_code comp (exports_at program comp) (section_at program comp) (codes_at program codes comp)
 
   abbrev pub comp_part : (comp : ℕ) → Interface → CompPart
-  comp_part comp interface = record {
-    name = interface.name;
-    input = imports program.interfaces comp is_input;
-    output = imports program.interfaces comp is_output;
-    exports = export_parts comp 0 interface.exports;
-    imports = flat_map import_part interface.imports;
-    code = map word_of (comp_code comp);
-    globals = flat_map (little_bytes 4) (global_words (section_at program comp));
-  }
+  comp_part comp interface =
+      linked_part program.interfaces comp interface (section_at program comp) (codes_at program codes comp)
 
   -- compartments from this number on
   abbrev pub comp_parts : (comp : ℕ) → List Interface → List CompPart

@@ -14,6 +14,7 @@ use Rattle.sc_event.specs.declared.interface.Interfaces.{Interfaces}
 use Rattle.sc_core.specs.declared.section.TypedFunction.{TypedFunction}
 use Rattle.sc_core.specs.declared.value.Cell.TheVariants as cell
 use Rattle.sc_linker.specs.Image.{cell_word, linked_image}
+use Rattle.sc_linker.specs.Interfaces.{HasInterfaces}
 use Rattle.sc_linker.specs.Layout.{addresses_at, codes_at, entry_address, section_at}
 use Rattle.sc_linker.specs.Linkable.{IsLinkable}
 
@@ -127,6 +128,8 @@ pub record LinkedImagesHold : Type 0 where
       IsLinkable program codes → FunctionsStand program codes
   pub entries : (program : ProgramTree) (codes : List CodeTree) → IsWellTyped program → All IsWhole codes →
       IsLinkable program codes → EntriesStand program codes
+  pub interfaces : (program : ProgramTree) (codes : List CodeTree) →
+      HasInterfaces program.interfaces (linked_image program codes)
   pub imports : (program : ProgramTree) (codes : List CodeTree) → IsWellTyped program → ImportsStand program codes
   pub globals : (program : ProgramTree) (codes : List CodeTree) → IsWellTyped program →
       GlobalsAreWords program.sections → IsLinkable program codes → GlobalsStand program codes

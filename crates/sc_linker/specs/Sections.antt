@@ -8,8 +8,7 @@ use Rattle.std.specs.List.{list_all}
 use Rattle.sc_tac.specs.declared.machine_code.Relocation.{Relocation}
 use Rattle.sc_tac.specs.declared.machine_code.Target.{Target}
 use Rattle.sc_linker.specs.declared.layout.SectionLayout.{SectionLayout}
-use Rattle.sc_linker.specs.Layout.{cells, entry_address, instructions, section_addresses}
-use Rattle.sc_linker.specs.Image.{entry_jumps, linked_codes}
+use Rattle.sc_linker.specs.Layout.{cells, entry_address, instructions}
 
 -- where things of these sizes in words begin that stand one after the other from an address on
 abbrev pub starts : (address : ℕ) → (sizes : List ℕ) → List ℕ
@@ -75,13 +74,6 @@ with_jump pc to instr = instr
 abbrev pub with_upper : (address : ℕ) → Instr → Instr
 with_upper address (Upper op rd imm) = Upper op rd (upper_part address)
 with_upper address instr = instr
-
--- a compartment's code, by its section
-abbrev pub section_code : (comp : ℕ) → List Proto → TypedSection → List CodeTree → List Instr
-section_code comp exports section codes =
-    let addresses = section_addresses comp (length exports) section codes in
-    entry_jumps addresses comp 0 section exports ++
-    linked_codes addresses (entry_address comp (length exports)) codes
 
 -- a section whose code can be linked
 pub record CanBeLinked (comp : ℕ) (exports : List Proto) (section : TypedSection) (codes : List CodeTree) : Type 0 where
