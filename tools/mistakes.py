@@ -1,0 +1,134 @@
+#!/usr/bin/env python3
+"""Tests tools/why: `mistakes.py`, at the top of the repository. For each mistake that C programmers make here, the reason
+that it must name first, and at which line. The last line counts them.
+"""
+import os
+import subprocess
+import sys
+import tempfile
+
+# Where a mistake stands in a text: in main, between the functions, or as the whole text.
+MAIN = "#pragma compartment Main\nint main(void) {\n@\n  return 0;\n}\n"
+FILE = "#pragma compartment Main\n@\nint main(void) {\n  return 0;\n}\n"
+TWO = ("#pragma compartment Main\n#pragma import Net put\n@\nint main(void) {\n  return 0;\n}\n"
+       "#pragma compartment Net\n#pragma export put\nint put(int i) { return i; }\n")
+
+# A template, what stands at its @, the line that is named, and a part of the reason.
+MISTAKES = [
+    (MAIN, "  int c; c = 'a';", 3, "character constant"),
+    (MAIN, '  int *s; s = "text";', 3, "a string"),
+    (FILE, "#define SIZE 4", 2, "macro"),
+    (FILE, "#undef SIZE", 2, "macro"),
+    (FILE, "#include <stdio.h>", 2, "#include"),
+    (FILE, "#ifdef DEBUG", 2, "preprocessing"),
+    (FILE, "#if 1", 2, "preprocessing"),
+    (FILE, "#endif", 2, "preprocessing"),
+    (FILE, "#pragma once", 2, "the pragmas are"),
+    (FILE, " #pragma export f", 2, "first column"),
+    (FILE, "#pragma import Net", 2, "a section and a function"),
+    (FILE, "#pragma import Net a b", 2, "a line for each"),
+    (FILE, "#pragma export a b", 2, "a line for each"),
+    (FILE, "#pragma export", 2, "names a function"),
+    (FILE, "#pragma compartment", 2, "has a name"),
+    (FILE, "#pragma compartment A B", 2, "nothing stands behind"),
+    (FILE, "#pragma compartment 1A", 2, "begins with a letter"),
+    (FILE, "#pragma compartment  A", 2, "one blank"),
+    (MAIN, "  int a; a = 1 ? 2 : 3;", 3, "?:"),
+    (MAIN, "  int a; a = 08;", 3, "octal"),
+    (MAIN, "  int a; a = 0b101;", 3, "binary"),
+    (MAIN, "  unsigned int a; a = 1UL;", 3, "suffixes"),
+    (MAIN, "  int a; a = 10L;", 3, "suffixes"),
+    (MAIN, "  int a; a = 0xffLL;", 3, "suffixes"),
+    (MAIN, "  int a; a = 4294967296u;", 3, "at most 2147483647"),
+    (MAIN, "  int a; a = 3000000000;", 3, "at most 2147483647"),
+    (MAIN, "  int a; a = 1e3;", 3, "floating point"),
+    (MAIN, "again: ;", 3, "a colon"),
+    (FILE, "struct S { int a : 3; };", 2, "a colon"),
+    (MAIN, "  int a; a = 1 + \\\n  2;", 3, "lines that go on"),
+    (MAIN, "  int a@; ", 3, "no use for"),
+    (MAIN, "  int größe;", 3, "outside ASCII"),
+    (FILE, "int " + "n" * 64 + ";", 2, "63 characters"),
+    (FILE, "int f(int a, ...);", 2, "any number of arguments"),
+    (FILE, "char c;", 2, "of types there are"),
+    (FILE, "short s;", 2, "of types there are"),
+    (FILE, "long n;", 2, "of types there are"),
+    (FILE, "float x;", 2, "of types there are"),
+    (FILE, "double x;", 2, "of types there are"),
+    (MAIN, "  goto out;", 3, "no goto"),
+    (MAIN, "  switch (1) {\n  }", 3, "no switch"),
+    (MAIN, "  do { } while (1);", 3, "no do loop"),
+    (FILE, "typedef int word;", 2, "no typedef"),
+    (FILE, "enum E { A };", 2, "no enum"),
+    (FILE, "union U { int a; };", 2, "no union"),
+    (FILE, "static int a;", 2, "storage classes"),
+    (FILE, "const int a = 1;", 2, "storage classes"),
+    (FILE, "extern int a;", 2, "storage classes"),
+    (FILE, "inline int f(void) { return 1; }", 2, "storage classes"),
+    (FILE, "volatile int a;", 2, "storage classes"),
+    (MAIN, "  int a; a = sizeof(int);", 3, "sizeof"),
+    (MAIN, "  int *p; p = malloc(4);", 3, "heap"),
+    (MAIN, "  for (int i = 0; i < 3; i++) { }", 3, "start of the function"),
+    (MAIN, "  int a; a = (int)3u;", 3, "no casts"),
+    (MAIN, "  unsigned int a; int b; b = 1; a = (unsigned int)b;", 3, "no casts"),
+    (FILE, "int a[2][3];", 2, "one dimension"),
+    (FILE, "int (*f)(int);", 2, "pointers to functions"),
+    (MAIN, "  ;\n  int late;", 4, "start of the function"),
+    (FILE, "struct { int a; } s;", 2, "has a tag"),
+    (FILE, "struct S { int a; } s;", 2, "defined by itself"),
+    (FILE, "int a[2] = {};", 2, "at least one constant"),
+    (FILE, "int a[];", 2, "has its length"),
+    (FILE, "int a[0];", 2, "at least one element"),
+    (FILE, "int n; int a[n];", 2, "one integer"),
+    (FILE, "int f(int a) { return a; }\nint g(void) {\n  int x;\n  x = f(1) + 2;\n  return x;\n}", 5, "no part of an expression"),
+    (FILE, "int f(int a) { return a; }\nint g(void) {\n  int x;\n  x = 2 * f(1);\n  return x;\n}", 5, "no part of an expression"),
+    (FILE, "int f(int a) { return a; }\nint g(void) {\n  if (f(1)) { }\n  return 0;\n}", 4, "no part of an expression"),
+    (MAIN, "  int a, b; a = b = 1;", 3, "one assignment"),
+    (MAIN, "  int a, b; a = 1; b = a++;", 3, "++ and --"),
+    (MAIN, "  if (1) return 1;", 3, "in braces"),
+    (MAIN, "  while (0)\n    ;", 3, "in braces"),
+    (MAIN, "  if (1) { } else return 1;", 3, "body of else"),
+    (FILE, "int f() { return 1; }", 2, "(void)"),
+    (MAIN, "  int a; a = 1;\n  a;", 4, "no statement"),
+    (MAIN, "  int a; a = 1\n  a = 2;", 3, "a ; is missing"),
+    (MAIN, "  break;", 3, "in a loop"),
+    (MAIN, "  continue;", 3, "in a loop"),
+    (MAIN, "  x = 1;", 3, "declared before"),
+    (MAIN, "  int a; int a;", 3, "declared before it is used, and once"),
+    (MAIN, "  f(1);", 3, "defined or imported"),
+    (FILE, "struct S s;", 2, "the struct is defined"),
+    (MAIN, "  int *p; p = 7;", 3, "what is assigned"),
+    (MAIN, "  int a; int *p; p = 0; a = p;", 3, "what is assigned"),
+    (MAIN, "  int a[3]; int *p; p = &a;", 3, "whole array"),
+    (MAIN, "  int a; a = 1; a = a[0];", 3, "pointers go into"),
+    (MAIN, "  return;", 3, "return has a value"),
+    (FILE, "void f(void) { return 1; }", 2, "return has a value"),
+    (TWO, "int f(void) {\n  int a;\n  a = put(1);\n  return a;\n}", 5, "wants its prototype"),
+    (TWO, "int put(unsigned int i);", 3, "declarations of the function agree"),
+    (TWO, "", 2, "exported there"),
+    (FILE, "#pragma export f", 2, "defined in this section"),
+    (FILE, "#pragma import Log write\nvoid write(int v);", 2, "exported there"),
+    (FILE, "int f(int a, int b, int c, int d, int e, int g, int h, int i, int j);", 2, "too many"),
+    (FILE, "int a[2000000];", 2, "too many"),
+]
+
+
+def main():
+    passed = failed = 0
+    with tempfile.TemporaryDirectory() as folder:
+        path = os.path.join(folder, "text.c")
+        for template, part, line, reason in MISTAKES:
+            with open(path, "w", encoding="utf-8") as it:
+                it.write(template.replace("@", part, 1))
+            ran = subprocess.run(["tools/why", path], capture_output=True, text=True, check=False)
+            first = ran.stdout.split("\n")[0]
+            if first.startswith(f"{path}:{line}: ") and reason in first:
+                passed += 1
+            else:
+                failed += 1
+                print(f"{part!r}: wanted line {line}, {reason!r}, and came {first.replace(path, 'text.c')!r}")
+    print(f"{passed} passed, {failed} failed")
+    return 1 if failed else 0
+
+
+if __name__ == "__main__":
+    sys.exit(main())
