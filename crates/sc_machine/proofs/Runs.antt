@@ -2,13 +2,15 @@
 use Rattle.sc_machine.proofs.Common.{Bool, Err, Goes, ImageParts, IsTrue, List, None, Ok, Option, Outcome, Result, Run}
 use Rattle.sc_machine.proofs.Common.{Some, State, Traps, [], add-zero, add_assoc, ap, continued, false≢true, fold}
 use Rattle.sc_machine.proofs.Common.{is_ok, length, machine, outcome_of, refl, run, run_goes, run_more, run_traps, step}
-use Rattle.sc_machine.proofs.Common.{stopped, stops_or, suc, sum, sym, unwrap_or, ℕ, ◌+◌, ◌<◌, ◌∙◌, ◌∷◌, ◌≡◌}
+use Rattle.sc_machine.proofs.Common.{stopped, stops_or, suc, sum, sym, unwrap_or, ℕ, ◌++◌, ◌+◌, ◌<◌, ◌∙◌, ◌∷◌, ◌≡◌}
 use Rattle.sc_base.specs.declared.stop.TrapReason.{TrapReason}
 use Rattle.sc_event.specs.declared.event.Event.{Event}
 use Rattle.sc_base.specs.declared.stop.Stop.{Stop}
-use Rattle.std.proofs.lemmas.List.Sums.{sum_by-cons}
+use Rattle.std.proofs.Common.{zero-add}
+use Rattle.std.proofs.lemmas.List.Sums.{fold-append, sum_by-cons}
 use Rattle.sc_base.specs.declared.stop.Stop.TheVariants.{StepsOut, Trap}
-use Rattle.sc_machine.specs.Calls.{calls}
+use Rattle.sc_image.specs.Prelude.{start}
+use Rattle.sc_machine.specs.Calls.{calls, loaded}
 use Rattle.sc_image.proofs.Stretches.{has_room}
 
 -- a run that isn't stopped has room for another event
@@ -42,17 +44,31 @@ module _ (image : ImageParts) (inputs : List ℕ) (events : ℕ) (state : State)
 
 -- Calls.
 
-module _ (image : ImageParts) (inputs : List ℕ) (events : ℕ) (state : State) where
-  later_calls : (n : ℕ) (more : List ℕ) → fold (λ earlier m. continued (run image inputs events m) earlier)
+module _ (image : ImageParts) (inputs : List ℕ) (events : ℕ) where
+  later_calls : (n : ℕ) (more : List ℕ) (state : State) → fold (λ earlier m. continued (run image inputs events m) earlier)
       (run image inputs events n state) more ≡ run image inputs events (n + sum more) state
-  later_calls n [] = ap (λ k. run image inputs events k state) (sym (add-zero n))
-  later_calls n (m ∷ more) = ap (λ r. fold (λ earlier m. continued (run image inputs events m) earlier) r more)
-      (sym (run_more image inputs events m n state)) ∙ later_calls (n + m) more ∙
+  later_calls n [] state = ap (λ k. run image inputs events k state) (sym (add-zero n))
+  later_calls n (m ∷ more) state =
+      ap (λ r. fold (λ earlier m. continued (run image inputs events m) earlier) r more)
+      (sym (run_more image inputs events m n state)) ∙ later_calls (n + m) more state ∙
       ap (λ k. run image inputs events k state) (add_assoc n m _ ∙ ap (λ k. n + k) (sym (sum_by-cons _ m more)))
 
-pub any_calls : (image : ImageParts) (inputs : List ℕ) (events first : ℕ) (more : List ℕ) →
-    calls image inputs events (first ∷ more) ≡ machine image inputs (first + sum more) events
-any_calls image inputs events first more = later_calls image inputs events _ first more
+  -- one more call
+  pub called_again : (steps : ℕ) (old new : Run) → new ≡ continued (run image inputs events steps) old →
+      (earlier : List ℕ) → old ≡ calls image inputs events earlier →
+      new ≡ calls image inputs events (earlier ++ steps ∷ [])
+  called_again steps old new is earlier made = is ∙ ap (continued (run image inputs events steps)) made ∙
+      sym (fold-append _ (loaded image) earlier (steps ∷ []))
+
+  pub sum_of_calls : (steps : ℕ) (old new : Run) → new ≡ continued (run image inputs events steps) old →
+      (earlier : List ℕ) → old ≡ calls image inputs events earlier →
+      new ≡ machine image inputs (sum earlier + steps) events
+  sum_of_calls steps old new is [] made = is ∙ ap (continued (run image inputs events steps)) made ∙
+      ap (λ k. run image inputs events k (start image)) (sym (zero-add steps))
+  sum_of_calls steps old new is (first ∷ more) made =
+      is ∙ ap (continued (run image inputs events steps)) (made ∙ later_calls first more (start image)) ∙
+      sym (run_more image inputs events steps (first + sum more) (start image)) ∙
+      ap (λ k. run image inputs events (k + steps) (start image)) (sym (sum_by-cons _ first more))
 
 -- Instructions that answer whether they were executed, and what the hart is after them.
 

@@ -9,7 +9,6 @@ mod execute;
 mod hart;
 mod here;
 mod jump;
-mod laws;
 mod loading;
 mod machine;
 mod memory;
@@ -19,7 +18,6 @@ mod quick;
 mod returning;
 mod run;
 
-pub use laws::any_calls;
 pub use machine::{LoadFault, Machine};
 pub use own_view::OwnView;
 pub use sc_base::{Stop, TrapReason};

@@ -1,14 +1,15 @@
 //! Machines, and their runs in pieces.
 #![tactic(auto, unfolding(sc_image::specs::Step::execute_by))]
 
-ghost use Rattle.std.specs.Prelude.{◌≡◌, ◌<◌, ◌↔◌, length, map, IfOk, IfErr, IsSome, IsTrue};
+ghost use Rattle.std.specs.Prelude.{◌≡◌, ◌<◌, ◌↔◌, ◌+◌, ℕ, List, [], ◌∷◌, ◌++◌, sum, length, map, IfOk, IfErr, IsSome};
+ghost use Rattle.std.specs.Prelude.{IsTrue};
 ghost use Rattle.sc_word.specs.Word.{word_of};
 ghost use Rattle.sc_image.specs.Layout.{are_data};
 ghost use Rattle.sc_image.specs.Own.{data_of};
 ghost use Rattle.sc_image.specs.State.{reg, saved_sp, start_memory};
-ghost use Rattle.sc_image.specs.Machine.{run, continued};
+ghost use Rattle.sc_image.specs.Machine.{run, machine, continued};
 ghost use Rattle.sc_machine.specs.Progress.{state_of, run_of};
-ghost use Rattle.sc_machine.specs.Calls.{loaded};
+ghost use Rattle.sc_machine.specs.Calls.{IsCalled, loaded};
 
 use crate::hart::Hart;
 use crate::here::Here;
@@ -109,10 +110,16 @@ impl<S: Store> Machine<S> {
     }
 
     /// Goes on for at most `steps` steps, and says why it stopped. A run that stopped for another reason than
-    /// `StepsOut` stays so: the answer is the same, and nothing changes.
+    /// `StepsOut` stays so: the answer is the same, and nothing changes. However a run is cut into calls, it is the
+    /// run of all their steps, up to its first such stop.
+    #[tactic(auto, using(crate::proofs::Runs::called_again, crate::proofs::Runs::sum_of_calls))]
     pub fn run(&mut self, steps: u32) -> Stop
         ensures run { run_of S.bytes self.new ≡ continued (run self.old.image self.old.inputs self.old.events steps)
             (run_of S.bytes self.old) }
+        ensures again { (earlier : List ℕ) → IsCalled S.bytes self.old earlier →
+            IsCalled S.bytes self.new (earlier ++ steps ∷ []) }
+        ensures any_calls { (earlier : List ℕ) → IsCalled S.bytes self.old earlier → run_of S.bytes self.new ≡
+            machine self.old.image self.old.inputs (sum earlier + steps) self.old.events }
         ensures answer { result ≡ self.new.stop }
         ensures image { self.new.image ≡ self.old.image }
         ensures inputs { self.new.inputs ≡ self.old.inputs }
