@@ -262,7 +262,10 @@ module _ (T : Setting) (formed : IsWellFormed T.image) (inputs : All IsWord T.in
         code = frame_code;
         last = o.last;
         sp_before = x.regs sp;
-        inside = omega (arith, begins.sp, begins.base.floor, begins.base.floors.low P.comp begins.honest);
+        inside = (
+          omega (arith, begins.sp, begins.base.floor, begins.base.floors.low P.comp begins.honest),
+          omega (arith, begins.sp, begins.base.high),
+        );
         lowered = o.lowered;
         below = omega (arith, begins.sp, low);
       }

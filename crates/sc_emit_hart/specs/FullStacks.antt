@@ -1,5 +1,5 @@
 -- A stack that has no room for one more frame.
-use Rattle.sc_emit_hart.specs.Common.{ImageParts, State, data_start, frame_taken, ra, reg, sp}
+use Rattle.sc_emit_hart.specs.Common.{ImageParts, State, data_start, frame_taken, ra, reg, sp, stack_top}
 use Rattle.std.specs.Prelude.{◌≡◌, ℕ, ◌+◌, ◌*◌, ◌%◌, ◌^◌, ◌<◌, ◌≤◌, length, pos}
 use Rattle.rv_code.specs.declared.instr.Instr.TheVariants.{Store}
 use Rattle.rv_code.specs.declared.instr.StoreOp.TheVariants.{Sw}
@@ -16,6 +16,6 @@ pub record LacksRoom (image : ImageParts) (s : State) : Type 0 where
   pub last : s.pc + 4 ≡ begins + 4 * length (frame_taken bytes)
   -- sp before it
   pub sp_before : ℕ
-  pub inside : data_start s.active ≤ sp_before
+  pub inside : (data_start s.active ≤ sp_before) × (sp_before ≤ stack_top s.active)
   pub lowered : (reg s sp + bytes) % 2 ^ 32 ≡ sp_before
   pub below : sp_before < data_start s.active + bytes
