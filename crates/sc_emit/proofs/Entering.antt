@@ -258,11 +258,11 @@ module _ (T : Setting) (formed : IsWellFormed T.image) (inputs : All IsWord T.in
             (omega (arith, all, o.last))
             (back_at T.image P.comp x.pc down (Store Sw sp ra (pos 0) ∷ []) frame_code)).0;
         bytes = frame.bytes;
-        begins = x.pc;
-        code = frame_code;
-        last = o.last;
         sp_before = x.regs sp;
-        inside = omega (arith, begins.sp, begins.base.floor, begins.base.floors.low P.comp begins.honest);
+        inside = (
+          omega (arith, begins.sp, begins.base.floor, begins.base.floors.low P.comp begins.honest),
+          omega (arith, begins.sp, begins.base.high),
+        );
         lowered = o.lowered;
         below = omega (arith, begins.sp, low);
       }
@@ -271,13 +271,15 @@ module _ (T : Setting) (formed : IsWellFormed T.image) (inputs : All IsWord T.in
   pub overflows_below : (budget : ℕ) (piece : Piece (Option Value)) → frame.bytes ≤ 2 ^ 31 →
       P.bound < data_start P.comp + frame.bytes → length (frame_taken frame.bytes) ≤ budget →
       Grown (begun P.comp f args x.meant) (last piece) → Overflows T P x budget piece
+  unfolding lacks
   overflows_below budget piece few low enough grown =
       let o : FrameOverflows T.image T.inputs world frame.bytes x.regs x.bytes x.pc =
       goes_below T.image formed T.inputs world known x.regs x.bytes frame.bytes few whole.bytes
       (omega (arith, begins.sp, begins.base.aligned)) x.pc
       frame_code (omega (arith, begins.sp, low)) in
       overflows_entering T formed inputs P f args address ra_is x begins frame o.steps budget
-      (at o.following o.after x.bytes world) piece roomy low o.walks o.traps (lacks o low) refl refl
+      (at o.following o.after x.bytes world) piece roomy low o.walks o.traps (lacks o low)
+      (record { begins = x.pc; code = frame_code; last = o.last }) refl refl
       (omega (arith, o.few, enough)) grown
 
   module _ (low : ℕ) (bound_is : P.bound ≡ low + frame.bytes) (start : data_start P.comp ≤ low)

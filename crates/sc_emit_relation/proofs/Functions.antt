@@ -8,7 +8,7 @@ use Rattle.sc_emit_relation.proofs.Common.{length, machine, more, reached, seen_
 use Rattle.sc_emit_relation.proofs.Common.{stack_size, step, subst, sym, then_from, then_go, ℕ, ⊎_elim, ◌+◌, ◌<◌, ◌∙◌}
 use Rattle.sc_emit_relation.proofs.Common.{◌≡◌, ◌≤◌, ◌⊎◌}
 use Rattle.sc_image.specs.Prelude.{State}
-use Rattle.sc_emit_hart.specs.Prelude.{LacksRoom}
+use Rattle.sc_emit_hart.specs.Prelude.{LacksRoom, TakesLast}
 use Rattle.sc_base.specs.declared.stop.TrapReason.TheVariants.{Owner}
 use Rattle.sc_emit_relation.proofs.Ending.{timed_opened}
 use Rattle.sc_emit_relation.proofs.Calling.{activated, entered, Enters, is_left, too_deep}
@@ -26,15 +26,16 @@ module _ (T : Setting) (formed : IsWellFormed T.image) (inputs : All IsWord T.in
   pub overflows_entering : (frame : FrameTree) (steps budget : ℕ) (stands : State) (piece : Piece (Option Value)) →
       frame.bytes ≤ f.frame_size → P.bound < data_start P.comp + frame.bytes →
       Walks T.image T.inputs steps (machine P x) stands → step T.image T.inputs stands ≡ Traps Owner →
-      LacksRoom T.image stands →
+      (lacks : LacksRoom T.image stands) → TakesLast T.image lacks.bytes stands →
       stands.active ≡ P.comp → stands.trace ≡ x.meant.trace → steps ≤ budget →
       Grown (begun P.comp f args x.meant) (last piece) → Overflows T P x budget piece
-  overflows_entering frame steps budget stands piece roomy low walks traps lacks active trace few grown = record {
+  overflows_entering frame steps budget stands piece roomy low walks traps lacks taken active trace few grown = record {
     steps = steps;
     reached = stands;
     run = walks;
     traps = traps;
     lacks = lacks;
+    taken = taken;
     honest = ap T.performs active ∙ begins.honest;
     begun = begun P.comp f args x.meant;
     trace = trace;
@@ -92,6 +93,7 @@ module _ (T : Setting) (formed : IsWellFormed T.image) (inputs : All IsWord T.in
       run = then_go T.image T.inputs enters.walks o.run;
       traps = o.traps;
       lacks = o.lacks;
+      taken = o.taken;
       honest = o.honest;
       begun = o.begun;
       trace = o.trace;

@@ -308,6 +308,7 @@ module _ (T : Setting) (R : Running) where
     run = o.run;
     traps = o.traps;
     lacks = o.lacks;
+    taken = o.taken;
     honest = o.honest;
     begun = o.begun;
     trace = o.trace;

@@ -127,6 +127,7 @@ module _ (T : Setting) (P : Standpoint) where
     run = then_go T.image T.inputs l.run o.run;
     traps = o.traps;
     lacks = o.lacks;
+    taken = o.taken;
     honest = o.honest;
     begun = o.begun;
     trace = o.trace;
@@ -144,6 +145,7 @@ module _ (T : Setting) (P : Standpoint) where
     run = o.run;
     traps = o.traps;
     lacks = o.lacks;
+    taken = o.taken;
     honest = o.honest;
     begun = o.begun;
     trace = o.trace;

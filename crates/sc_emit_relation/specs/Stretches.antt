@@ -2,7 +2,7 @@
 use Rattle.sc_emit_relation.specs.Common.{Addresses, AllBefore, CallTarget, Cell, Crossing, Grown, ImageParts, IsSteady}
 use Rattle.sc_emit_relation.specs.Common.{Memory, Piece, Registers, State as Meant, Traps, Value, Walks, at, last}
 use Rattle.sc_emit_relation.specs.Common.{stack_depth, stack_size, stack_top, step, word}
-use Rattle.sc_emit_hart.specs.Prelude.{LacksRoom}
+use Rattle.sc_emit_hart.specs.Prelude.{LacksRoom, TakesLast}
 use Rattle.sc_store.specs.Prelude.{Memory as Bytes}
 use Rattle.sc_image.specs.Prelude.{State}
 use Rattle.std.specs.Prelude.{◌≡◌, ◌≢◌, ℕ, suc, ◌+◌, ◌*◌, ◌<◌, ◌≤◌, Bool, false, List, length, drop, Option, None, Some}
@@ -116,6 +116,7 @@ module _ (T : Setting) where
     pub run : Walks T.image T.inputs steps (machine P x) reached
     pub traps : step T.image T.inputs reached ≡ Traps Owner
     pub lacks : LacksRoom T.image reached
+    pub taken : TakesLast T.image lacks.bytes reached
     pub honest : T.performs reached.active ≡ false
     pub begun : Meant
     pub trace : reached.trace ≡ begun.trace

@@ -56,6 +56,7 @@ module _ (T : Setting) (P Q : Standpoint) (x y : Joint) where
           run = then_go T.image T.inputs goes.walks o.run;
           traps = o.traps;
           lacks = o.lacks;
+          taken = o.taken;
           honest = o.honest;
           begun = o.begun;
           trace = o.trace;

@@ -66,6 +66,7 @@ module _ (T : Setting) (never : AllHonest T → ⊥) (P : Standpoint) where
     run = o.run;
     traps = o.traps;
     lacks = o.lacks;
+    taken = o.taken;
     honest = o.honest;
     begun = o.begun;
     trace = o.trace;
