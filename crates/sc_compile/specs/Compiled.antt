@@ -1,4 +1,5 @@
 -- What an image does, and what its program means.
+use Rattle.sc_core.specs.Prelude.{instrs_a_node}
 use Rattle.sc_compile.specs.Common.{Arith, ImageParts, IsBlamed, IsWord, ProgramTree, Run, TypedSection, branches}
 use Rattle.sc_compile.specs.Common.{c_arith, depth_by, is_branch, is_ebreak, machine, meaning, meaning_by, nodes}
 use Rattle.sc_compile.specs.Common.{scripted_meaning, stack_size, total, wrapping}
@@ -27,11 +28,11 @@ pub record StackIsFull (run : Run) (depth : ℕ → ℕ) (meant : SourceRun) : T
   pub deep : stack_size < depth run.state.active
   pub trace : IsPrefix run.state.trace meant.trace
 
--- Within 24 steps a node for each turn, and for the start, the machine emits all that the program emits in this
+-- Within some steps a node for each turn, and for the start, the machine emits all that the program emits in this
 -- arithmetic, wherever that run is stopped and however it ends. The one exception is a full stack.
 abbrev pub ForwardSimulation : Arith → ProgramTree → ImageParts → Type 0
 ForwardSimulation arith program image = (inputs : List ℕ) (turns events : ℕ) → All IsWord inputs →
-    let run = machine image inputs (24 * program_nodes program * suc turns) events in
+    let run = machine image inputs (instrs_a_node * program_nodes program * suc turns) events in
     let meant = meaning_by arith program inputs turns events in
     IsPrefix meant.trace run.state.trace ⊎ StackIsFull run (depth_by arith program inputs turns events) meant
 

@@ -1,4 +1,5 @@
 -- What the code of a function keeps.
+use Rattle.sc_core.specs.Prelude.{instrs_a_node}
 use Rattle.sc_emit.specs.Common.{CodeTree, FunctionFollows, Setting, branches, code_function, entry_weight, everywhere}
 use Rattle.sc_emit.specs.Common.{frame_taken, linked, passes_words, refers_only, weight, wrapping}
 use Rattle.sc_base.specs.Prelude.{IsPrefix}
@@ -43,7 +44,7 @@ pub record IsEmitted (f : TacFnTree) (frame : FrameTree) (code : CodeTree) : Typ
   pub rounds : HasRounds f.body code.instrs
   -- no more instructions than the function weighs
   pub light : length code.instrs ≤ entry_weight f.params + weight f.body
-  pub short : length code.instrs < 24 * f.nodes
+  pub short : length code.instrs < instrs_a_node * f.nodes
   -- no instruction is executed twice within one call without an iteration between: all lead on, but for one a loop, and
   -- else calls return to the instruction after them, or the call ends
   pub back_edges : code_back_edges code ≤ loops f.body
