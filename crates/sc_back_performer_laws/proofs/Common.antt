@@ -16,7 +16,8 @@ pub use Rattle.std.specs.Option.{option_and_then, option_map, option_map_or}
 pub use Rattle.sc_base.proofs.Bools.{and_first, and_rest, implied, implies}
 pub use Rattle.sc_base.proofs.Lists.{get_after, map_twice, position-cons}
 pub use Rattle.sc_base.proofs.Texts.{bytes_eq_self, same_either_way, same_text}
-pub use Rattle.sc_base.specs.Prelude.{all_hold, is_name, number_of}
+pub use Rattle.sc_base.specs.Prelude.{IsWord, IsWordOrNone, Text, all_hold, is_name, most_compartments, most_exports}
+pub use Rattle.sc_base.specs.Prelude.{number_of}
 pub use Rattle.sc_base.specs.declared.op.BinaryOp.TheVariants.{Equal, Sub}
 pub use Rattle.sc_base.specs.declared.op.UnaryOp.TheVariants.{Minus}
 pub use Rattle.sc_event.specs.Prelude.{Activation, Standing, action_of, at_start, awaits, export_at, fits_result}
@@ -50,7 +51,7 @@ pub use Rattle.sc_ast.specs.declared.section.StructTree.{StructTree}
 pub use Rattle.sc_ast.specs.declared.stmt.StmtKind.{StmtKind, StmtKind-F, fold-roll-StmtKind, out-StmtKind}
 pub use Rattle.sc_ast.specs.declared.stmt.StmtKind.{out-roll-StmtKind, roll-StmtKind, roll-out-StmtKind}
 pub use Rattle.sc_ast.specs.declared.stmt.StmtTree.{StmtTree}
-pub use Rattle.sc_types_scope.specs.Prelude.{Known, Text, among, are_distinct, base_known, base_scalar, body_lines}
+pub use Rattle.sc_types_scope.specs.Prelude.{Known, among, are_distinct, base_known, base_scalar, body_lines}
 pub use Rattle.sc_types_scope.specs.Prelude.{call_known, declared, defines_main, environment, export_names, expr_known}
 pub use Rattle.sc_types_scope.specs.Prelude.{function_named, function_names, functions_in, global_known, globals_in}
 pub use Rattle.sc_types_scope.specs.Prelude.{head_in, head_of_known, heads_in, import_names, import_of, interface_of}
@@ -67,9 +68,8 @@ pub use Rattle.sc_types_interfaces.specs.Prelude.{is_output, is_plain, lines_fro
 pub use Rattle.sc_types_interfaces.specs.Prelude.{output_name, result_crosses, same_base, same_params, same_result}
 pub use Rattle.sc_types_interfaces.specs.Prelude.{same_type, section_lines}
 pub use Rattle.sc_core.specs.Prelude.{Scope, all_go_into, args_fit, assign_fits, expr_nodes, goes_into, is_scalar}
-pub use Rattle.sc_core.specs.Prelude.{judged, local_nodes, most_compartments, most_exports, most_nodes, most_params}
-pub use Rattle.sc_core.specs.Prelude.{nodes, place_judged, proto_signature, result_ty, scalar_ty, stmt_nodes, total}
-pub use Rattle.sc_core.specs.Prelude.{value_judged}
+pub use Rattle.sc_core.specs.Prelude.{judged, local_nodes, most_nodes, most_params, nodes, place_judged}
+pub use Rattle.sc_core.specs.Prelude.{proto_signature, result_ty, scalar_ty, stmt_nodes, total, value_judged}
 pub use Rattle.sc_core.specs.declared.expr.TypedExpr.{TypedExpr}
 pub use Rattle.sc_core.specs.declared.expr.VarRef.TheVariants.{Param}
 pub use Rattle.sc_core.specs.declared.section.TypedFunction.{TypedFunction}
@@ -100,8 +100,8 @@ pub use Rattle.sc_back.specs.Prelude.{unlined, value_tree, value_trees}
 pub use Rattle.sc_back_replay_laws.specs.Replay.{HasReplaced, Performs}
 pub use Rattle.sc_back_replay_laws.specs.Texts.{IsPerforming, calls_out, counter, counter_is, ends, int_expr, least_int}
 pub use Rattle.sc_back_replay_laws.specs.Texts.{minus, or_int, performs, skips, stmt_at, waits, word_expr, word_exprs}
-pub use Rattle.sc_back_performer_laws.specs.Common.{Event, HasWords, Interface, Interfaces, IsRecomposed, IsReplaced}
-pub use Rattle.sc_back_performer_laws.specs.Common.{IsWord, Row, SectionTree, proto_of}
+pub use Rattle.sc_back_performer_laws.specs.Common.{Event, HasWords, Interface, Interfaces, IsRecomposed, PerformsRows}
+pub use Rattle.sc_back_performer_laws.specs.Common.{Row, SectionTree, proto_of}
 pub use Rattle.sc_back_performer_laws.specs.Laws.{CountsHold, LegalRowsFit, NamesHold, RowsPerform, TypesHold}
-pub use Rattle.sc_back_performer_laws.specs.Performer.{FitsRow, IsImportedAs, IsPerformer, IsUsable, IsWordOrNone}
-pub use Rattle.sc_back_performer_laws.specs.Performer.{MayDo, all_of, defined, names_of, used}
+pub use Rattle.sc_back_performer_laws.specs.Performer.{FitsRow, IsImportedAs, IsPerformer, IsUsable, MayDo, all_of}
+pub use Rattle.sc_back_performer_laws.specs.Performer.{defined, names_of, used}

@@ -1,7 +1,7 @@
 -- A performing section with its types performs its rows.
 use Rattle.sc_back_performer_laws.proofs.Common.{AllByRecursion, Bool, Callees, Entry, Export, FunctionTree, Import}
 use Rattle.sc_back_performer_laws.proofs.Common.{Interface, Interfaces, IsImportedAs, IsPerformer, IsPerforming}
-use Rattle.sc_back_performer_laws.proofs.Common.{IsReplaced, IsUsable, List, Main, None, Option, Performs, Proto, Row}
+use Rattle.sc_back_performer_laws.proofs.Common.{IsUsable, List, Main, None, Option, Performs, PerformsRows, Proto, Row}
 use Rattle.sc_back_performer_laws.proofs.Common.{RowsPerform, SectionTree, Some, StmtTree, TypedFunction, [], among, ap}
 use Rattle.sc_back_performer_laws.proofs.Common.{ap₂, are_distinct, arith, bytes_eq, bytes_eq_self, callees_of, cond}
 use Rattle.sc_back_performer_laws.proofs.Common.{false, filter, if◌then◌else◌, import_of, imported, inl, inr, is_of}
@@ -207,7 +207,7 @@ module _ (interfaces : Interfaces) (comp : ℕ) (rows : List Row) (interface : I
             (entry_holds (entry, f) all (entries_usable interfaces comp rows interface is) there);
       }
 
-  replaced : IsReplaced interfaces comp rows (typed_section section callees)
+  replaced : PerformsRows interfaces comp rows (typed_section section callees)
   replaced = record {
     counter = typed_global [] (counter_at t.counter_line);
     globals = λ i. map (typed_global (no_tags interfaces comp rows interface is section t i))

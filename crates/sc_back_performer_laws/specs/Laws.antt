@@ -1,6 +1,7 @@
 -- The rules that a section keeps which performs a compartment's part of a trace.
-use Rattle.sc_back_performer_laws.specs.Common.{Event, HasWords, Interface, Interfaces, IsReplaced, Row, SameButLines}
-use Rattle.sc_back_performer_laws.specs.Common.{SectionTree, back_tree, callees_of, legal, part, typed_section}
+use Rattle.sc_back_performer_laws.specs.Common.{Event, HasWords, Interface, Interfaces, PerformsRows, Row, SameButLines}
+use Rattle.sc_back_performer_laws.specs.Common.{SectionTree, back_tree, callees_of, legal, most_events, part}
+use Rattle.sc_back_performer_laws.specs.Common.{typed_section}
 use Rattle.std.specs.Prelude.{◌≡◌, ◌≤◌, ℕ, List, [], All, length, true}
 use Rattle.sc_types_scope.specs.Names as names
 use Rattle.sc_types_elab.specs.Sections as types
@@ -26,7 +27,7 @@ RowsPerform = (interfaces : Interfaces) (comp : ℕ) (rows : List Row) (interfac
     (section : SectionTree) → IsPerformer interfaces comp rows interface →
     SameButLines section (back_tree interfaces comp rows interface) → (sections : List SectionTree) (number : ℕ) →
     All (IsImportedAs sections number interfaces) interface.imports →
-    IsReplaced interfaces comp rows (typed_section section (callees_of sections number section))
+    PerformsRows interfaces comp rows (typed_section section (callees_of sections number section))
 
 -- it holds no more than a program may, wherever it stands in a text
 abbrev pub CountsHold : Type 0
@@ -38,6 +39,6 @@ CountsHold = (interfaces : Interfaces) (comp : ℕ) (rows : List Row) (interface
 -- the rows of a part of a legal trace that isn't too long are such as a section can perform
 abbrev pub LegalRowsFit : Type 0
 LegalRowsFit = (interfaces : Interfaces) (trace : List Event) (comp : ℕ) → legal interfaces trace ≡ true →
-    All HasWords trace → length trace ≤ 4096 →
+    All HasWords trace → length trace ≤ most_events →
     All (FitsRow interfaces comp) (part interfaces.main comp trace) ×
-    (length (part interfaces.main comp trace) ≤ 4096)
+    (length (part interfaces.main comp trace) ≤ most_events)

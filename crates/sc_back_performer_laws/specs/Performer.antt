@@ -1,7 +1,8 @@
 -- What the section that performs a compartment's part of a trace needs, so that it keeps the rules of its language.
-use Rattle.sc_back_performer_laws.specs.Common.{Interface, Interfaces, IsWord, Row, SectionTree, Text, are_distinct}
-use Rattle.sc_back_performer_laws.specs.Common.{comp_at, fits_result, import_of, imported, imports, is_function}
-use Rattle.sc_back_performer_laws.specs.Common.{is_input, is_output, main_proto, owner_name, proto_of, takes}
+use Rattle.sc_back_performer_laws.specs.Common.{Interface, Interfaces, IsWord, IsWordOrNone, Row, SectionTree, Text}
+use Rattle.sc_back_performer_laws.specs.Common.{are_distinct, comp_at, fits_result, import_of, imported, imports}
+use Rattle.sc_back_performer_laws.specs.Common.{is_function, is_input, is_output, main_proto, most_events, most_exports}
+use Rattle.sc_back_performer_laws.specs.Common.{owner_name, proto_of, takes}
 use Rattle.sc_types_interfaces.specs.Prelude.{is_plain}
 use Rattle.std.specs.Prelude.{◌≡◌, ℕ, suc, ◌≤◌, ◌==◌, true, if◌then◌else◌, List, [], ◌∷◌, ◌++◌, length, map, All}
 use Rattle.std.specs.Prelude.{Option, Some, None}
@@ -37,10 +38,6 @@ pub record IsUsable (proto : Proto) : Type 0 where
 
 -- Rows.
 
-abbrev pub IsWordOrNone : Option ℕ → Type 0
-IsWordOrNone None = Unit {0}
-IsWordOrNone (Some word) = IsWord word
-
 -- a function of a compartment with this result may do an action of these words
 abbrev pub MayDo : Interfaces → (comp : ℕ) → Option Scalar → Action → Type 0
 MayDo interfaces comp result (Call to index args) =
@@ -62,9 +59,9 @@ pub record IsPerformer (interfaces : Interfaces) (comp : ℕ) (rows : List Row) 
   pub there : comp_at interfaces comp ≡ Some interface
   pub distinct : are_distinct (names_of (all_of interfaces comp interface)) ≡ true
   pub usable : All IsUsable (all_of interfaces comp interface)
-  pub few_exports : length interface.exports ≤ 4096
-  pub few_imports : length interface.imports ≤ 4096
-  pub few_rows : length rows ≤ 4096
+  pub few_exports : length interface.exports ≤ most_exports
+  pub few_imports : length interface.imports ≤ most_exports
+  pub few_rows : length rows ≤ most_events
   pub rows_fit : All (FitsRow interfaces comp) rows
 
 -- an import leads there from a text's section of this number

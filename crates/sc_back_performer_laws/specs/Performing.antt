@@ -1,7 +1,6 @@
 -- What lets the sections of a set be written so that they perform their parts of a trace.
 use Rattle.sc_back_performer_laws.specs.Common.{CanPerform, Event, Interface, IsTyped, ProgramTree, SectionTree}
-use Rattle.sc_back_performer_laws.specs.Common.{comp_at, heads_in, is_ident, part}
-use Rattle.sc_base.specs.Prelude.{is_name}
+use Rattle.sc_back_performer_laws.specs.Common.{comp_at, heads_in, is_ident, is_name, part}
 use Rattle.std.specs.Prelude.{◌≡◌, ℕ, ◌<◌, IsTrue, List, length, All, Some}
 use Rattle.sc_ast.specs.declared.section.HeadTree.{HeadTree}
 use Rattle.sc_ast.specs.declared.section.ImportLine.{ImportLine}

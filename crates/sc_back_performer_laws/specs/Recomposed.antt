@@ -1,13 +1,13 @@
 -- The sections of a text in which those of some compartments are replaced by ones that perform their parts of a trace.
 use Rattle.sc_back_performer_laws.specs.Common.{AllBecome, Event, HasWords, IsRecomposed, IsTyped, ProgramTree}
-use Rattle.sc_back_performer_laws.specs.Common.{SectionTree, legal, part, program_of}
+use Rattle.sc_back_performer_laws.specs.Common.{SectionTree, legal, most_events, part, program_of}
 use Rattle.std.specs.Prelude.{◌≡◌, ℕ, ◌<◌, ◌≤◌, Bool, true, List, length, All}
 
 -- a trace that is not too long, which the interfaces allow, with values of 32 bits
 pub record IsPerformable (program : ProgramTree) (trace : List Event) : Type 0 where
   pub is_legal : legal program.interfaces trace ≡ true
   pub words : All HasWords trace
-  pub few : length trace ≤ 4096
+  pub few : length trace ≤ most_events
 
 -- the sections of a program, and those that come of them where the compartments of a set perform a trace
 pub record AreRecomposed (olds news : List SectionTree) (program : ProgramTree) (set : ℕ → Bool)

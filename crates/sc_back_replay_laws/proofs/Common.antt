@@ -8,6 +8,7 @@ pub use Rattle.std.proofs.lemmas.Bool.{and_from, and_parts, both_ways, cases_eq,
 pub use Rattle.std.specs.List.{AllByRecursion, list_all, list_any}
 pub use Rattle.std.specs.Option.{option_map, option_map_or}
 pub use Rattle.sc_base.proofs.Bools.{and_first, and_rest}
+pub use Rattle.sc_base.specs.Prelude.{IsPrefix, IsWord}
 pub use Rattle.sc_event.specs.Prelude.{Activation, Standing, action_of, at_start, count_of, export_at, imports}
 pub use Rattle.sc_event.specs.Prelude.{is_allowed, is_function, is_input, is_legal_from, is_output, legal, may_perform}
 pub use Rattle.sc_event.specs.Prelude.{part, performer, resumed, rows_from, stands_after, takes}
@@ -56,8 +57,8 @@ pub use Rattle.sc_core_laws.proofs.Related.{Kept, KeptAt, RelatedCalls, RelatedD
 pub use Rattle.sc_core_laws.proofs.Related.{related_functions}
 pub use Rattle.sc_core_laws.proofs.Rows.{counts_its_own}
 pub use Rattle.sc_core_laws.specs.Prelude.{Goes, Gone, Grown, IsFixed, Meets, Never, Obedient, now}
-pub use Rattle.sc_back_replay_laws.specs.Replay.{HasReplaced, HasWords, IsCounter, IsRecomposed, IsReplaced, IsReplay}
-pub use Rattle.sc_back_replay_laws.specs.Replay.{IsWord, Performs, TextsPerform, main_proto, proto_of}
+pub use Rattle.sc_back_replay_laws.specs.Replay.{HasReplaced, HasWords, IsCounter, IsRecomposed, IsReplay, Performs}
+pub use Rattle.sc_back_replay_laws.specs.Replay.{PerformsRows, TextsPerform, main_proto, proto_of}
 pub use Rattle.sc_back_replay_laws.specs.Texts.{IsPerforming, action_kind, calls_out, counter, counter_is, ends}
 pub use Rattle.sc_back_replay_laws.specs.Texts.{int_expr, least_int, literal, minus, or_int, params_at, row_kind, skips}
 pub use Rattle.sc_back_replay_laws.specs.Texts.{stmt_at, waits, word_expr, word_exprs}

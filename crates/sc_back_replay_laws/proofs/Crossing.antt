@@ -1,12 +1,11 @@
 -- Calls across in both runs, once their functions are found.
 use Rattle.sc_back_replay_laws.proofs.Common.{Body, BodyGoes, Bool, Call, Denotations, Event, Export, Function, Gone}
-use Rattle.sc_back_replay_laws.proofs.Common.{Here, Interfaces, List, None, Option, Piece, Reached, Ret, Roles, Some}
-use Rattle.sc_back_replay_laws.proofs.Common.{State, Stopped, Value, [], and_then, ap, arith, back_cross, back_goes}
-use Rattle.sc_back_replay_laws.proofs.Common.{begun, call_cross, count_of, counts_its_own, crossed, crossing, done}
-use Rattle.sc_back_replay_laws.proofs.Common.{emit_event, export_at, false, filter, found, if◌then◌else◌, length, map}
-use Rattle.sc_back_replay_laws.proofs.Common.{option_value, performer, refl, run_goes, run_in, subst, suc, sym, true}
-use Rattle.sc_back_replay_laws.proofs.Common.{word_in, ℕ, ◌++◌, ◌<◌, ◌==◌, ◌∷◌, ◌≡◌, ◌≤◌}
-use Rattle.sc_base.specs.Prelude.{IsPrefix}
+use Rattle.sc_back_replay_laws.proofs.Common.{Here, Interfaces, IsPrefix, List, None, Option, Piece, Reached, Ret}
+use Rattle.sc_back_replay_laws.proofs.Common.{Roles, Some, State, Stopped, Value, [], and_then, ap, arith, back_cross}
+use Rattle.sc_back_replay_laws.proofs.Common.{back_goes, begun, call_cross, count_of, counts_its_own, crossed, crossing}
+use Rattle.sc_back_replay_laws.proofs.Common.{done, emit_event, export_at, false, filter, found, if◌then◌else◌, length}
+use Rattle.sc_back_replay_laws.proofs.Common.{map, option_value, performer, refl, run_goes, run_in, subst, suc, sym}
+use Rattle.sc_back_replay_laws.proofs.Common.{true, word_in, ℕ, ◌++◌, ◌<◌, ◌==◌, ◌∷◌, ◌≡◌, ◌≤◌}
 use Rattle.sc_back_replay_laws.proofs.Near.{Both, Firsts, Near, NearBy, Reaches, Returns, Emitted, ahead, both_so}
 use Rattle.sc_back_replay_laws.proofs.Near.{both_then, counts, firsts, near_begun, near_done, near_emitted, reached}
 use Rattle.sc_back_replay_laws.proofs.Near.{stopped, emitted_ahead, emitted_other}

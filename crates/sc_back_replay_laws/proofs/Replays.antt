@@ -1,7 +1,7 @@
 -- Programs whose other form performs parts of a trace by texts mean what the scripted meaning says.
 use Rattle.sc_back_replay_laws.proofs.Common.{Blamed, Blocks, Bool, Calls, Cause, Denotations, Entry, Event, Export}
-use Rattle.sc_back_replay_laws.proofs.Common.{HasReplaced, Interfaces, IsCounter, IsRecomposed, IsReplaced, IsReplay}
-use Rattle.sc_back_replay_laws.proofs.Common.{IsSome, List, Main, None, Option, Performs, ProgramTree, Proto, Roles}
+use Rattle.sc_back_replay_laws.proofs.Common.{HasReplaced, Interfaces, IsCounter, IsRecomposed, IsReplay, IsSome, List}
+use Rattle.sc_back_replay_laws.proofs.Common.{Main, None, Option, Performs, PerformsRows, ProgramTree, Proto, Roles}
 use Rattle.sc_back_replay_laws.proofs.Common.{Row, Some, State, TextsPerform, TypedFunction, TypedSection, TypedStruct}
 use Rattle.sc_back_replay_laws.proofs.Common.{[], all_do, and_then, ap, block_does, bytes_eq, c_arith, closed}
 use Rattle.sc_back_replay_laws.proofs.Common.{denotations_of, export_at, false, false≢true, first_blocks, follow}
@@ -30,7 +30,7 @@ counter_block structs counter is =
     ap (λ init. core.global_block (struct_zeros [] structs) (record counter { ty = ty.Unsigned; init = init })) is.zero
 
 first_blocks_are : (interfaces : Interfaces) (c : ℕ) (rows : List Row) (section : TypedSection) →
-    IsReplaced interfaces c rows section → first_blocks (Some section) ≡ counting 0 ∷ []
+    PerformsRows interfaces c rows section → first_blocks (Some section) ≡ counting 0 ∷ []
 first_blocks_are interfaces c rows section is =
     ap (map (global_block (struct_zeros [] section.structs))) is.globals ∙
     ap (λ block. block ∷ []) (counter_block section.structs is.counter is.counts)

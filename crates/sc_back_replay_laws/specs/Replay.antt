@@ -1,4 +1,5 @@
 -- Programs in which the sections of some compartments are replaced by ones that perform their parts of a trace.
+use Rattle.sc_base.specs.Prelude.{IsWord}
 use Rattle.sc_event.specs.Prelude.{export_at, legal, part}
 use Rattle.sc_core.specs.Prelude.{IsWellTyped, main_name, meaning, place_named, scripted_meaning}
 use Rattle.std.specs.Prelude.{◌≡◌, ℕ, ◌<◌, ◌^◌, ◌==◌, if◌then◌else◌, Bool, true, false, List, [], ◌∷◌, Option, Some}
@@ -45,7 +46,7 @@ pub record Performs (interfaces : Interfaces) (entry : Entry) (proto : Proto) (r
   pub body : IsPerforming interfaces entry proto.result rows function.body
 
 -- a section whose functions perform the rows of its compartment, each those of its entry
-pub record IsReplaced (interfaces : Interfaces) (comp : ℕ) (rows : List Row) (section : TypedSection) : Type 0 where
+pub record PerformsRows (interfaces : Interfaces) (comp : ℕ) (rows : List Row) (section : TypedSection) : Type 0 where
   pub counter : TypedGlobal
   pub globals : section.globals ≡ counter ∷ []
   pub counts : IsCounter counter
@@ -57,7 +58,7 @@ pub record HasReplaced (interfaces : Interfaces) (comp : ℕ) (rows : List Row) 
     Type 0 where
   pub section : TypedSection
   pub is : found ≡ Some section
-  pub replaced : IsReplaced interfaces comp rows section
+  pub replaced : PerformsRows interfaces comp rows section
 
 -- PROGRAMS
 -- the other program has the sections of the program, but those of a set, which perform their parts of a trace
@@ -66,9 +67,6 @@ pub record IsRecomposed (program other : ProgramTree) (set : ℕ → Bool) (trac
   pub kept : (comp : ℕ) → set comp ≡ false → slice_get other.sections comp ≡ slice_get program.sections comp
   pub replaced : (comp : ℕ) → set comp ≡ true → HasReplaced program.interfaces comp
       (part program.interfaces.main comp trace) (slice_get other.sections comp)
-
-abbrev pub IsWord : ℕ → Type 0
-IsWord word = word < 2 ^ 32
 
 -- the values of an event are words of 32 bits
 abbrev pub HasWords : Event → Type 0

@@ -14,7 +14,7 @@ pub use Rattle.std.specs.Fmt.{signed_decimal}
 unfoldable pub use Rattle.std.specs.Fmt.{digits}
 pub use Rattle.std.specs.List.{AllByRecursion, AllZip, concat, filter, filter_map, flat_map, join_by, list_all}
 pub use Rattle.std.specs.Option.{option_and_then, option_map, option_or}
-pub use Rattle.sc_base.specs.Prelude.{is_digit, is_name_byte, is_nondigit, name_of, signed_text}
+pub use Rattle.sc_base.specs.Prelude.{IsWord, IsWordOrNone, is_digit, is_name_byte, is_nondigit, name_of, signed_text}
 unfoldable pub use Rattle.sc_base.specs.Prelude.{is_name, is_reserved}
 pub use Rattle.sc_event.specs.declared.interface.Import.{Import}
 pub use Rattle.sc_event.specs.declared.interface.Proto.{Proto}
@@ -58,16 +58,16 @@ pub use Rattle.sc_parse_print_laws.proofs.Whole.{exports_lined, imports_lined, s
 pub use Rattle.sc_parse_print_laws.specs.Prelude.{are_kept, is_kept, is_kept_decl, is_kept_stmt, kept_export}
 pub use Rattle.sc_parse_print_laws.specs.Prelude.{kept_function, kept_head, kept_import, kept_param, kept_section}
 pub use Rattle.sc_parse_print_laws.specs.Prelude.{piece_symbols, symbols, word_symbol}
-pub use Rattle.sc_parse_read.specs.Reading.{IsRead, Part, part_of}
+pub use Rattle.sc_parse_read.specs.Reading.{IsRead, TextPart, part_of}
 pub use Rattle.sc_back.specs.Prelude.{AllBecome, AreNumbered, Becomes, CanPerform, IsCalled, IsImported, IsSpoken}
-pub use Rattle.sc_back.specs.Prelude.{IsWord, IsWordOrNone, action_kind, action_text, all_functions, back_text}
-pub use Rattle.sc_back.specs.Prelude.{back_tree, body_tree, call_kind, call_text, counter, counter_name, export_line}
-pub use Rattle.sc_back.specs.Prelude.{export_text, function_head, function_params, function_text, function_tree}
-pub use Rattle.sc_back.specs.Prelude.{function_trees, functions_text, head_text, import_head, import_text, imported}
-pub use Rattle.sc_back.specs.Prelude.{input_proto, is_of, joined, kept, literal, main_proto, main_text, main_trees}
-pub use Rattle.sc_back.specs.Prelude.{new_text, new_texts, output_proto, owner_name, param_name, param_text}
-pub use Rattle.sc_back.specs.Prelude.{param_texts, params_text, proto_head, proto_params, proto_text, replaced}
-pub use Rattle.sc_back.specs.Prelude.{result_text, return_kind, return_text, row_kind, row_text, section_text}
-pub use Rattle.sc_back.specs.Prelude.{type_name, unlined, value_text, value_texts, value_tree, value_trees}
+pub use Rattle.sc_back.specs.Prelude.{action_kind, action_text, all_functions, back_text, back_tree, body_tree}
+pub use Rattle.sc_back.specs.Prelude.{call_kind, call_text, counter, counter_name, export_line, export_text}
+pub use Rattle.sc_back.specs.Prelude.{function_head, function_params, function_text, function_tree, function_trees}
+pub use Rattle.sc_back.specs.Prelude.{functions_text, head_text, import_head, import_text, imported, input_proto, is_of}
+pub use Rattle.sc_back.specs.Prelude.{joined, kept, literal, main_proto, main_text, main_trees, new_text, new_texts}
+pub use Rattle.sc_back.specs.Prelude.{output_proto, owner_name, param_name, param_text, param_texts, params_text}
+pub use Rattle.sc_back.specs.Prelude.{proto_head, proto_params, proto_text, replaced, result_text, return_kind}
+pub use Rattle.sc_back.specs.Prelude.{return_text, row_kind, row_text, section_text, type_name, unlined, value_text}
+pub use Rattle.sc_back.specs.Prelude.{value_texts, value_tree, value_trees}
 pub use Rattle.sc_back_reread_laws.specs.Common.{Interface, Interfaces, Row, SectionTree}
 pub use Rattle.sc_back_reread_laws.specs.Performing.{IsParsedAs, IsReadAs, PerformingTextsAreRead}

@@ -1,10 +1,10 @@
 -- Names in trees that were read are identifiers: they come from symbols, which tokens say.
 use Rattle.sc_back_reread_laws.proofs.Common.{All-from_recursion, AllByRecursion, AllZip, Bool, Decl, FunctionTree}
-use Rattle.sc_back_reread_laws.proofs.Common.{Grouped, ImportLine, IsRead, IsTrue, Lexeme, List, None, Option, Part}
+use Rattle.sc_back_reread_laws.proofs.Common.{Grouped, ImportLine, IsRead, IsTrue, Lexeme, List, None, Option}
 use Rattle.sc_back_reread_laws.proofs.Common.{SectionTree, Some, SpellsDecl, SpellsDirectives, SpellsFunction}
-use Rattle.sc_back_reread_laws.proofs.Common.{SpellsHead, SpellsSection, Symbol, Token, TokenKind, [], and_from, ap}
-use Rattle.sc_back_reread_laws.proofs.Common.{begins_heading, drop, false, fourth_word, get_or, head_of, ident_in}
-use Rattle.sc_back_reread_laws.proofs.Common.{ident_of, if◌then◌else◌, import_of, is_blank, is_ident, is_name}
+use Rattle.sc_back_reread_laws.proofs.Common.{SpellsHead, SpellsSection, Symbol, TextPart, Token, TokenKind, []}
+use Rattle.sc_back_reread_laws.proofs.Common.{and_from, ap, begins_heading, drop, false, fourth_word, get_or, head_of}
+use Rattle.sc_back_reread_laws.proofs.Common.{ident_in, ident_of, if◌then◌else◌, import_of, is_blank, is_ident, is_name}
 use Rattle.sc_back_reread_laws.proofs.Common.{is_reserved, keyword_of, lexemes_of, map, mark_of, name_of, not}
 use Rattle.sc_back_reread_laws.proofs.Common.{number_in, only_name, option_and_then, option_map, or_unused, refl}
 use Rattle.sc_back_reread_laws.proofs.Common.{slice_index, slice_range, subst, third_word, true, ℕ, ◌&&◌, ◌++◌, ◌∷◌}
@@ -205,11 +205,11 @@ section_named line _ _ g (spell.section {ts = ts} {us = us} {exports = exports} 
       functions = All-from_recursion _ _ (functions_named ds named);
     }
 
-read_named : (text : List ℕ) (part : Part) (tree : SectionTree) → IsRead text part tree → IsNamedSection tree
+read_named : (text : List ℕ) (part : TextPart) (tree : SectionTree) → IsRead text part tree → IsNamedSection tree
 read_named text part tree r =
     section_named _ (lexemes_of part.bytes r.tokens) tree (all_good part.bytes r.tokens) r.parsed.spelled
 
-all_named : (text : List ℕ) (parts : List Part) (trees : List SectionTree) → AllZip (IsRead text) parts trees →
+all_named : (text : List ℕ) (parts : List TextPart) (trees : List SectionTree) → AllZip (IsRead text) parts trees →
     AllByRecursion IsNamedSection trees
 all_named text [] [] h = tt
 all_named text [] (t ∷ trees) h = absurd h

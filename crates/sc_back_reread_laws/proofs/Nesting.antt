@@ -2,8 +2,8 @@
 use Rattle.sc_back_reread_laws.proofs.Common.{IsTrue, Lexeme, List, Number, Piece, Symbol, [], ap, append_assoc, arith}
 use Rattle.sc_back_reread_laws.proofs.Common.{binary_text, blank, codes, fits, indent, is_ident, joined_symbols}
 use Rattle.sc_back_reread_laws.proofs.Common.{literal_says, literal_text, map, max, most_open, name_says, newline}
-use Rattle.sc_back_reread_laws.proofs.Common.{open_after, open_after_mark, refl, subst, suc, sym, symbols, word, word_symbol}
-use Rattle.sc_back_reread_laws.proofs.Common.{ℕ, ◌++◌, ◌+◌, ◌-◌, ◌∙◌, ◌∷◌, ◌≡◌, ◌≤◌}
+use Rattle.sc_back_reread_laws.proofs.Common.{open_after, open_after_mark, refl, subst, suc, sym, symbols, word}
+use Rattle.sc_back_reread_laws.proofs.Common.{word_symbol, ℕ, ◌++◌, ◌+◌, ◌-◌, ◌∙◌, ◌∷◌, ◌≡◌, ◌≤◌}
 use Rattle.sc_base.specs.declared.op.BinaryOp.{BinaryOp}
 use Rattle.sc_base.specs.declared.op.BinaryOp.TheVariants as binary
 use Rattle.sc_parse_expr.specs.declared.mark.Keyword.{Keyword}

@@ -1,10 +1,10 @@
 -- Texts with replaced sections are split and read.
 use Rattle.sc_back_reread_laws.proofs.Common.{AllBecome, AllZip, Becomes, Bool, Interfaces, IsCut, IsParsed, IsRead}
-use Rattle.sc_back_reread_laws.proofs.Common.{IsReadAs, Lexeme, List, None, Option, Part, Row, Section, SectionTree}
-use Rattle.sc_back_reread_laws.proofs.Common.{Some, SpellsSection, Token, [], ap, arith, back_text, back_tree, concat}
-use Rattle.sc_back_reread_laws.proofs.Common.{false, if◌then◌else◌, inl, inr, kept, length, lexemes_of, line_at, map}
-use Rattle.sc_back_reread_laws.proofs.Common.{new_text, new_texts, part_of, refl, replaced, section_text, subst, suc}
-use Rattle.sc_back_reread_laws.proofs.Common.{sym, true, ℕ, ◌++◌, ◌+◌, ◌<◌, ◌∙◌, ◌∷◌, ◌≡◌, ◌≤◌, ◌⊎◌}
+use Rattle.sc_back_reread_laws.proofs.Common.{IsReadAs, Lexeme, List, None, Option, Row, Section, SectionTree, Some}
+use Rattle.sc_back_reread_laws.proofs.Common.{SpellsSection, TextPart, Token, [], ap, arith, back_text, back_tree}
+use Rattle.sc_back_reread_laws.proofs.Common.{concat, false, if◌then◌else◌, inl, inr, kept, length, lexemes_of, line_at}
+use Rattle.sc_back_reread_laws.proofs.Common.{map, new_text, new_texts, part_of, refl, replaced, section_text, subst}
+use Rattle.sc_back_reread_laws.proofs.Common.{suc, sym, true, ℕ, ◌++◌, ◌+◌, ◌<◌, ◌∙◌, ◌∷◌, ◌≡◌, ◌≤◌, ◌⊎◌}
 use Rattle.sc_parse.specs.Sections as spell
 use Rattle.sc_parse_read.proofs.Splits.{same_parts, same_preamble}
 use Rattle.sc_back_reread_laws.specs.Replaced.{IsPerformer, IsReplacement, ReplacedTextsAreRead, texts_of}
@@ -92,7 +92,7 @@ module _ (interfaces : Interfaces) (rows : ℕ → List Row) (set : ℕ → Bool
       read : IsRead new (part_of s) tree
       becomes : Becomes interfaces rows set comp old tree
 
-    read_one : (comp : ℕ) (found : Option (List ℕ)) → Change comp found → (old : Part) (tree : SectionTree) →
+    read_one : (comp : ℕ) (found : Option (List ℕ)) → Change comp found → (old : TextPart) (tree : SectionTree) →
         IsRead text old tree → (s : Section) → s.bytes.now ≡ new_text found old.bytes → Again comp s tree
     read_one comp _ (stays e) old tree r s same =
         let line : ℕ = line_at new s.start in
@@ -141,7 +141,7 @@ module _ (interfaces : Interfaces) (rows : ℕ → List Row) (set : ℕ → Bool
         record { trees = one.tree ∷ rest.trees; read = (one.read, rest.read); become = (one.becomes, rest.become) }
 
 -- each section that is read is cut
-pub cuts_of : (text : List ℕ) (parts : List Part) (trees : List SectionTree) → AllZip (IsRead text) parts trees →
+pub cuts_of : (text : List ℕ) (parts : List TextPart) (trees : List SectionTree) → AllZip (IsRead text) parts trees →
     (cuts : List (List Token)) × AllZip (λ part tokens. IsCut part.bytes tokens) parts cuts
 cuts_of text [] trees h = ([], tt)
 cuts_of text (p ∷ parts) [] h = absurd h

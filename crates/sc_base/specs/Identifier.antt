@@ -1,4 +1,5 @@
 -- Identifiers (C11 6.4.2.1).
+use Rattle.sc_base.specs.Limits.{most_name_bytes}
 use Rattle.std.specs.Prelude.{ℕ, Bool, false, ◌&&◌, ◌||◌, ◌==◌, nat_le, nat_lt, List, [], ◌∷◌, length, Option, Some}
 use Rattle.std.specs.Prelude.{None, if◌then◌else◌}
 use Rattle.std.specs.List.{list_all}
@@ -19,10 +20,10 @@ is_nondigit byte = byte == 95 || (is_between 65 90 byte || is_between 97 122 byt
 abbrev pub is_name_byte : ℕ → Bool
 is_name_byte byte = is_nondigit byte || is_digit byte
 
--- a nondigit and fewer than 63 nondigits and digits after it
+-- a nondigit, and nondigits and digits after it, not too many for a name
 unfoldable pub is_name : List ℕ → Bool
 is_name [] = false
-is_name (first ∷ rest) = is_nondigit first && (list_all is_name_byte rest && nat_lt (length rest) 63)
+is_name (first ∷ rest) = is_nondigit first && (list_all is_name_byte rest && nat_lt (length rest) most_name_bytes)
 
 -- the text as a name, if it is one
 abbrev pub name_of : List ℕ → Option (List ℕ)

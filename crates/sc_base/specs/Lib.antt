@@ -3,9 +3,11 @@ pub mod Filled
 pub mod FirstByName
 pub mod Identifier
 pub mod Levels
+pub mod Limits
 pub mod Numbering
 pub mod Places
 pub mod Prefix
 pub mod Reserved
 pub mod Rules
+pub mod Text
 pub mod Word

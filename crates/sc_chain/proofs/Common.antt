@@ -10,7 +10,7 @@ pub use Rattle.std.specs.List.{AllByRecursion, concat, list_any}
 pub use Rattle.sc_base.specs.declared.stop.Stop.{Stop}
 pub use Rattle.sc_event.specs.Prelude.{Standing, action_of, at_start, legal, part, performer, rows_from, stands_after}
 pub use Rattle.sc_event.specs.declared.row.Row.{Row}
-pub use Rattle.sc_parse_read.specs.Reading.{Part, Reads, part_of}
+pub use Rattle.sc_parse_read.specs.Reading.{TextPart, Reads, part_of}
 pub use Rattle.sc_word.specs.Prelude.{word_of}
 pub use Rattle.sc_core.specs.Prelude.{IsWellTyped, c_arith, meaning, scripted_meaning}
 pub use Rattle.sc_core.specs.declared.run.SourceRun.{SourceRun}

@@ -1,6 +1,6 @@
 -- What is read of a text in which compartments perform.
 use Rattle.sc_chain.proofs.Common.{Accepts, All, AllByRecursion, Bool, Event, HasWords, Interfaces, IsReplaced}
-use Rattle.sc_chain.proofs.Common.{IsSource, IsSplitInto, List, None, Option, Part, ProgramTree, Replacement, Some}
+use Rattle.sc_chain.proofs.Common.{IsSource, IsSplitInto, List, None, Option, TextPart, ProgramTree, Replacement, Some}
 use Rattle.sc_chain.proofs.Common.{SourceParts, [], among, ap, ap₂, concat, eqb-true, false, if◌then◌else◌, joined}
 use Rattle.sc_chain.proofs.Common.{legal, length, list_any, map, meaning, new_text, new_texts, part_of, performing}
 use Rattle.sc_chain.proofs.Common.{performing_text, recomposed, recursion_from_All, refl, replacement_of, subst, suc}
@@ -52,7 +52,7 @@ within_all count (one ∷ comps) h comp own = by (one == comp) refl own (within_
 -- a text is split in one way
 
 part_bytes : (sections : List Section) →
-    map (λ section. section.bytes.now) sections ≡ map (λ (part : Part). part.bytes) (map part_of sections)
+    map (λ section. section.bytes.now) sections ≡ map (λ (part : TextPart). part.bytes) (map part_of sections)
 part_bytes [] = refl
 part_bytes (section ∷ sections) = ap (λ rest. section.bytes.now ∷ rest) (part_bytes sections)
 
@@ -60,7 +60,7 @@ one_split : (text preamble other : List ℕ) (sections others : List (List ℕ))
     IsSplitInto text other others → (preamble ≡ other) × (sections ≡ others)
 one_split text preamble other sections others a b = (
   same_preamble a.split b.split,
-  a.bytes ∙ part_bytes a.found ∙ ap (map (λ (part : Part). part.bytes)) (same_parts a.split b.split) ∙
+  a.bytes ∙ part_bytes a.found ∙ ap (map (λ (part : TextPart). part.bytes)) (same_parts a.split b.split) ∙
       sym (part_bytes b.found) ∙ sym b.bytes,
 )
 

@@ -1,5 +1,6 @@
 //! The account of a run of the machine.
 
+ghost use Rattle.sc_base.specs.Prelude.{most_events};
 ghost use Rattle.sc_chain.specs.Prelude.{IsChain, IsExplained, IsFault, IsNextOf, legal};
 ghost use Rattle.sc_word.specs.Prelude.{word_of};
 ghost use Rattle.sc_core.specs.Prelude.{scripted_meaning};
@@ -106,7 +107,7 @@ fn next_link(
     trace: &[Event],
     run: &SourceRun,
 ) -> Result<Option<Link>, OutOfMemory>
-    requires { length trace.now ≤ 4096 }
+    requires { length trace.now ≤ most_events }
     ensures { IfOk result (IsNextOf interfaces.now trace.now run.now) }
 {
     let RunEnd::Blamed { comp, cause, line } = run.end else {
@@ -135,7 +136,7 @@ fn chain(
     trace: &[Event],
 ) -> Result<Links, OutOfMemory>
     requires allowed { legal source.now.program.interfaces trace.now ≡ true }
-    requires few { length trace.now ≤ 4096 }
+    requires few { length trace.now ≤ most_events }
     requires scripted { (set : ℕ → Bool) → EmitsOrIsBlamed (length source.now.program.sections) set trace.now
         (scripted_meaning source.now.program set trace.now (map word_of inputs.now) steps (length trace.now)) }
     ensures { IfOk result (IsChain source.now (map word_of inputs.now) steps trace.now) }
@@ -166,7 +167,7 @@ pub fn explain(
     steps: u32,
     events: u32,
 ) -> Result<Explanation, ExplainFault>
-    requires few { events ≤ 4096 }
+    requires few { events ≤ most_events }
     ensures explained { IfOk result (IsExplained source.now (map word_of inputs.now) steps events) }
     ensures allowed { IfOk result (λ explanation. legal source.now.program.interfaces explanation.trace ≡ true) }
     ensures fault { IfErr result (IsFault source.now.program) }

@@ -5,6 +5,7 @@ use sc_compile::CompileFault;
 use sc_core::Cause;
 use sc_event::{CompId, Trace};
 use sqlite_items::Items;
+use thiserror::Error;
 
 /// A compartment that was blamed after `after` events of the trace, why, and at which line of its section; and the text
 /// that stands in the place of that section from there on.
@@ -29,8 +30,10 @@ pub struct Explanation {
 }
 
 /// Why there is no explanation: the program is too large, as its compiler says, or memory ran out.
-#[derive(Clone, Copy)]
+#[derive(Clone, Copy, Debug, Error)]
 pub enum ExplainFault {
+    #[error("{0}")]
     CompileFault(CompileFault),
+    #[error("out of memory")]
     OutOfMemory,
 }

@@ -1,10 +1,12 @@
 //! Texts in which compartments perform their parts of a trace.
 
+ghost use Rattle.sc_base.specs.Prelude.{most_events};
 ghost use Rattle.sc_chain.specs.Prelude.{Accepts, IsReplaced, IsSource, among, legal, part, performing_text};
 ghost use Rattle.sc_chain.specs.Prelude.{recomposed, replacement_of};
 ghost use Rattle.std.specs.Prelude.{◌≡◌, ◌<◌, ◌≤◌, ◌^◌, true, length, map, All, IfOk};
 ghost use Rattle.sc_core.specs.declared.program.ProgramTree.{ProgramTree};
-ghost use Rattle.sc_back_replay_laws.specs.Replay.{HasWords, IsWord};
+ghost use Rattle.sc_back_replay_laws.specs.Replay.{HasWords};
+ghost use Rattle.sc_base.specs.Prelude.{IsWord};
 
 use crate::composed::{Replacement, recompose};
 use sc_back::back_section;
@@ -55,7 +57,7 @@ pub(crate) fn performing_text(
     trace: &[Event],
     comp: CompId,
 ) -> Result<Text, OutOfMemory>
-    requires { length trace.now ≤ 4096 }
+    requires { length trace.now ≤ most_events }
     ensures { IfOk result (λ text. text ≡ performing_text interfaces.now trace.now comp) }
 {
     let script = part(alloc, trace, interfaces.main, comp)?;
@@ -69,7 +71,7 @@ fn replacements(
     trace: &[Event],
     comps: &[CompId],
 ) -> Result<Items<Replacement>, OutOfMemory>
-    requires { length trace.now ≤ 4096 }
+    requires { length trace.now ≤ most_events }
     ensures { IfOk result (λ items. items ≡ map (replacement_of interfaces.now trace.now) comps.now) }
 {
     let mut items = Items::new(alloc);
@@ -101,7 +103,7 @@ pub fn replaced(
     comps: &[CompId],
 ) -> Result<SourceText, OutOfMemory>
     requires allowed { legal source.now.program.interfaces trace.now ≡ true }
-    requires few { length trace.now ≤ 4096 }
+    requires few { length trace.now ≤ most_events }
     requires known { All (λ comp. comp < length source.now.program.interfaces.comps) comps.now }
     ensures accepted { (program : ProgramTree) × Accepts (recomposed source.now trace.now (among comps.now)) program }
     ensures source { IfOk result IsSource }

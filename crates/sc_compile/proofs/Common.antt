@@ -73,5 +73,6 @@ pub use Rattle.sc_compile.specs.Prelude.{AreEmitted, BeginAsWords, BeginsAsWords
 pub use Rattle.sc_compile.specs.Prelude.{EmitsSo, FitAll, ForwardSimulation, HasNoTests, IsCompiled, IsCounted, above}
 pub use Rattle.sc_compile.specs.Prelude.{all_codes, built_image, cells_in, code_bytes, counted_all, counted_code}
 pub use Rattle.sc_compile.specs.Prelude.{counted_data, counted_frame, counted_frames, data_bytes, first, found_in}
-pub use Rattle.sc_compile.specs.Prelude.{function_code, large_code, large_data, large_frame, large_frames, most_frame}
+pub use Rattle.sc_compile.specs.Prelude.{function_code, large_code, large_data, large_frame, large_frames}
+pub use Rattle.sc_core.specs.Prelude.{most_code, most_frame}
 pub use Rattle.sc_compile.specs.Prelude.{program_nodes, section_codes, test_word, too_large}

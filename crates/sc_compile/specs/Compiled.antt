@@ -1,4 +1,5 @@
 -- What an image does, and what its program means.
+use Rattle.sc_core.specs.Prelude.{instrs_a_node}
 use Rattle.sc_compile.specs.Common.{Arith, ImageParts, IsBlamed, IsWord, ProgramTree, StackIsFull, TypedSection}
 use Rattle.sc_compile.specs.Common.{branches, c_arith, is_branch, is_ebreak, machine, meaning, meaning_by, nodes}
 use Rattle.sc_compile.specs.Common.{run_of, scripted_meaning, total, wrapping}
@@ -22,7 +23,7 @@ program_nodes program = total (map {A = TypedSection} (λ section. total (map no
 -- arithmetic, wherever that run is stopped and however it ends. The one exception is a full stack.
 abbrev pub ForwardSimulation : Arith → ProgramTree → ImageParts → Type 0
 ForwardSimulation arith program image = (inputs : List ℕ) (turns events : ℕ) → All IsWord inputs →
-    let run = machine image inputs (24 * program_nodes program * suc turns) events in
+    let run = machine image inputs (instrs_a_node * program_nodes program * suc turns) events in
     let meant = meaning_by arith program inputs turns events in
     IsPrefix meant.trace run.state.trace ⊎ StackIsFull image run (run_of arith program inputs turns) events
 

@@ -1,8 +1,9 @@
 -- Helping: sizes as they are counted on lowered code.
+use Rattle.sc_core.specs.Prelude.{bytes_a_node, most_code, most_frame}
 use Rattle.sc_compile.specs.Common.{CodeTooLarge, CompileFault, DataTooLarge, FrameTooLarge, TacFnTree, TacSection}
-use Rattle.sc_compile.specs.Common.{TypedGlobal, cells_of, frame_bound, most_globals, stretch, total}
+use Rattle.sc_compile.specs.Common.{TypedGlobal, cells_of, frame_bound, most_globals, total}
 use Rattle.std.specs.Prelude.{ℕ, ◌+◌, ◌*◌, ◌^◌, ◌<◌, List, ◌++◌, map, flat_map, All, Option}
-use Rattle.sc_compile.specs.Sizes.{above, first, found_in, most_frame}
+use Rattle.sc_compile.specs.Sizes.{above, first, found_in}
 
 abbrev pub cells_in : TacSection → ℕ
 cells_in section = total (map {A = TypedGlobal} (λ g. cells_of section.structs g.ty) section.globals)
@@ -21,7 +22,8 @@ abbrev pub counted_frames : (comp : ℕ) → TacSection → List CompileFault
 counted_frames comp section = flat_map (counted_frame comp) section.functions
 
 abbrev pub counted_code : (comp : ℕ) → TacSection → List CompileFault
-counted_code comp section = above stretch (96 * nodes_in section) (CodeTooLarge comp (96 * nodes_in section))
+counted_code comp section =
+    above most_code (bytes_a_node * nodes_in section) (CodeTooLarge comp (bytes_a_node * nodes_in section))
 
 abbrev pub counted_all : List TacSection → Option CompileFault
 counted_all sections =

@@ -1,13 +1,13 @@
 -- Helping: what the passes give of a program's functions.
+use Rattle.sc_core.specs.Prelude.{bytes_a_node, most_code, most_frame}
 use Rattle.sc_compile.specs.Common.{IsEmitted, IsWhole, ProgramTree, TacFnTree, TacSection, assigned, frame_bound}
-use Rattle.sc_compile.specs.Common.{frame_of, functions_in, intervals_of, lowered_program, stretch}
+use Rattle.sc_compile.specs.Common.{frame_of, functions_in, intervals_of, lowered_program}
 use Rattle.std.specs.Prelude.{◌≡◌, ◌≤◌, ◌*◌, ℕ, All, Some, slice_get}
 use Rattle.sc_compile.specs.Image.{all_codes, function_code}
-use Rattle.sc_compile.specs.Sizes.{most_frame}
 
 -- a function that isn't too large
 pub record Fits (f : TacFnTree) : Type 0 where
-  pub code : 96 * f.nodes ≤ stretch
+  pub code : bytes_a_node * f.nodes ≤ most_code
   pub frame : frame_bound f.objects f.nodes ≤ most_frame
 
 abbrev pub FitAll : TacSection → Type 0

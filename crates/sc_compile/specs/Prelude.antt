@@ -9,4 +9,4 @@ pub use Rattle.sc_compile.specs.Image.{IsFault, all_codes, built_image, function
 pub use Rattle.sc_compile.specs.Image.{unless_large}
 pub use Rattle.sc_compile.specs.Passes.{AreEmitted, EachEmits, EmitsAll, EmitsSo, FitAll, Fits}
 pub use Rattle.sc_compile.specs.Sizes.{above, code_bytes, data_bytes, first, found_in, frame_bytes, large_code}
-pub use Rattle.sc_compile.specs.Sizes.{large_data, large_frame, large_frames, most_frame, too_large}
+pub use Rattle.sc_compile.specs.Sizes.{large_data, large_frame, large_frames, too_large}

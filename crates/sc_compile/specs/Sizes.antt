@@ -1,14 +1,12 @@
 -- What of a program is too large to be compiled: first the globals of a section, then the frame of a function, then the
 -- code of a section.
+use Rattle.sc_core.specs.Prelude.{most_code, most_frame}
 use Rattle.sc_compile.specs.Common.{CodeTooLarge, CompileFault, DataTooLarge, FrameTooLarge, ProgramTree, TypedGlobal}
-use Rattle.sc_compile.specs.Common.{TypedSection, cells_of, code_bound, frame_bound, most_globals, nodes, stretch}
+use Rattle.sc_compile.specs.Common.{TypedSection, cells_of, code_bound, frame_bound, most_globals, nodes}
 use Rattle.sc_compile.specs.Common.{total, variables}
 use Rattle.std.specs.Prelude.{ℕ, suc, ◌*◌, nat_lt, if◌then◌else◌, List, [], ◌∷◌, ◌++◌, map, flat_map, Option, None}
 use Rattle.std.specs.Prelude.{Some}
 use Rattle.sc_core.specs.declared.section.TypedFunction.{TypedFunction}
-
-abbrev pub most_frame : ℕ
-most_frame = 32768
 
 -- this fault, where a size is above its limit
 abbrev pub above : (limit size : ℕ) → CompileFault → List CompileFault
@@ -37,7 +35,7 @@ large_frames comp section = flat_map (large_frame comp section) section.function
 
 abbrev pub large_code : (comp : ℕ) → TypedSection → List CompileFault
 large_code comp section =
-    above stretch (code_bytes section) (CodeTooLarge comp (code_bytes section))
+    above most_code (code_bytes section) (CodeTooLarge comp (code_bytes section))
 
 -- what is found in sections, from this number on
 abbrev pub found_in : {A : Type 0} → (ℕ → A → List CompileFault) → ℕ → List A → List CompileFault

@@ -1,5 +1,6 @@
 //! What of a program is too large to be compiled, found on its lowered code.
 
+ghost use Rattle.sc_base.specs.Prelude.{most_compartments};
 ghost use Rattle.sc_compile.specs.Prelude.{IsCounted, cells_in, cells_of, counted_all, counted_code, counted_data};
 ghost use Rattle.sc_compile.specs.Prelude.{counted_frame, counted_frames, first, found_in, frame_bound, nodes_in};
 ghost use Rattle.sc_compile.specs.Prelude.{total};
@@ -21,6 +22,9 @@ const MOST_FRAME: u64 = 32_768;
 
 /// The most bytes of a section's code.
 const MOST_CODE: u64 = 1_048_576;
+
+/// Bytes of code for each node.
+const BYTES_A_NODE: u64 = 96;
 
 fn cells(structs: &[TypedStruct], globals: &[TypedGlobal]) -> u64
     requires { total (map {A = TypedGlobal} (λ g. cells_of structs.now g.ty) globals.now) < 2 ^ 60 }
@@ -99,7 +103,7 @@ fn check_code(comp: CompId, section: &TacSection) -> Result<(), CompileFault>
     ensures none { IfOk result (λ _. counted_code comp section.now ≡ []) }
     ensures found { IfErr result (λ fault. first (counted_code comp section.now) ≡ Some fault) }
 {
-    let bound = 96 * nodes(section.functions.as_slice());
+    let bound = BYTES_A_NODE * nodes(section.functions.as_slice());
     if bound > MOST_CODE {
         return Err(CompileFault::CodeTooLarge { comp, bound });
     }
@@ -107,7 +111,7 @@ fn check_code(comp: CompId, section: &TacSection) -> Result<(), CompileFault>
 }
 
 fn check_all_data(sections: &[TacSection]) -> Result<(), CompileFault>
-    requires few { length sections.now ≤ 32 }
+    requires few { length sections.now ≤ most_compartments }
     requires counted { All IsCounted sections.now }
     ensures none { IfOk result (λ _. found_in counted_data 0 sections.now ≡ []) }
     ensures found { IfErr result (λ fault. first (found_in counted_data 0 sections.now) ≡ Some fault) }
@@ -119,7 +123,7 @@ fn check_all_data(sections: &[TacSection]) -> Result<(), CompileFault>
 }
 
 fn check_all_frames(sections: &[TacSection]) -> Result<(), CompileFault>
-    requires few { length sections.now ≤ 32 }
+    requires few { length sections.now ≤ most_compartments }
     requires counted { All IsCounted sections.now }
     ensures none { IfOk result (λ _. found_in counted_frames 0 sections.now ≡ []) }
     ensures found { IfErr result (λ fault. first (found_in counted_frames 0 sections.now) ≡ Some fault) }
@@ -131,7 +135,7 @@ fn check_all_frames(sections: &[TacSection]) -> Result<(), CompileFault>
 }
 
 fn check_all_code(sections: &[TacSection]) -> Result<(), CompileFault>
-    requires few { length sections.now ≤ 32 }
+    requires few { length sections.now ≤ most_compartments }
     requires counted { All IsCounted sections.now }
     ensures none { IfOk result (λ _. found_in counted_code 0 sections.now ≡ []) }
     ensures found { IfErr result (λ fault. first (found_in counted_code 0 sections.now) ≡ Some fault) }
@@ -145,7 +149,7 @@ fn check_all_code(sections: &[TacSection]) -> Result<(), CompileFault>
 /// Whether all of a program fits, by its lowered code: else what of it is too large first, data before frames before
 /// code.
 pub fn check_sizes(sections: &[TacSection]) -> Result<(), CompileFault>
-    requires few { length sections.now ≤ 32 }
+    requires few { length sections.now ≤ most_compartments }
     requires counted { All IsCounted sections.now }
     ensures none { IfOk result (λ _. counted_all sections.now ≡ None) }
     ensures found { IfErr result (λ fault. counted_all sections.now ≡ Some fault) }

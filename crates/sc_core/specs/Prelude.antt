@@ -1,4 +1,5 @@
 -- What this crate's contracts, its proofs and the crates above cite, passed on from one place. Declares nothing.
+pub use Rattle.sc_base.specs.Prelude.{most_compartments, most_exports, most_height}
 pub use Rattle.sc_core.specs.Calls.{Body, Denotations, Function, Step, back_cross, back_own, begun, blocks_for}
 pub use Rattle.sc_core.specs.Calls.{call_cross, call_own, called, calls, crossed, crossing, done, first_word, found}
 pub use Rattle.sc_core.specs.Calls.{function, functions_of, is_word, leads, may_call, next_input, option_value}
@@ -20,8 +21,9 @@ pub use Rattle.sc_core.specs.Memory.{Block, Blocks, Memory, bind, cell_of, cells
 pub use Rattle.sc_core.specs.Memory.{loaded, store, with_blocks, with_cell}
 pub use Rattle.sc_core.specs.Run.{reaches, stopped_at}
 pub use Rattle.sc_core.specs.Scripts.{Roles, acts, asks, is_number, performs, roles_in, rows_left, scripted_step}
-pub use Rattle.sc_core.specs.Sizes.{call_nodes, code_bound, expr_nodes, frame_bound, init_nodes, kind_nodes}
-pub use Rattle.sc_core.specs.Sizes.{local_nodes, nodes, part_nodes, simple_nodes, stmt_nodes, term_nodes, total}
+pub use Rattle.sc_core.specs.Sizes.{bytes_a_node, call_nodes, code_bound, expr_nodes, frame_bound, init_nodes}
+pub use Rattle.sc_core.specs.Sizes.{instrs_a_node, kind_nodes, local_nodes, most_code, most_frame, nodes, part_nodes}
+pub use Rattle.sc_core.specs.Sizes.{simple_nodes, stmt_nodes, term_nodes, total}
 pub use Rattle.sc_core.specs.Tree.{Acts, Meant, Ways, applied, assign, assign_call, at_place, at_pointer, binary}
 pub use Rattle.sc_core.specs.Tree.{block_does, call, call_statement, evaluated, is_unsigned_op, kind_step, literal}
 pub use Rattle.sc_core.specs.Tree.{meant, meant_step, part_does, simple_does, stmt_does, stmt_step, store_at}
@@ -46,7 +48,6 @@ pub use Rattle.sc_core.specs.WellTyped.{export_fits, export_name, export_names, 
 pub use Rattle.sc_core.specs.WellTyped.{has_distinct_names, has_few_compartments, has_fitting_sections, has_main}
 pub use Rattle.sc_core.specs.WellTyped.{import_fits, import_name, init_height, interface_fits, is_main, is_plain_name}
 pub use Rattle.sc_core.specs.WellTyped.{is_well_typed, local_fits, main_fits, main_signature, mains_in, members_fit}
-pub use Rattle.sc_core.specs.WellTyped.{most_cells, most_compartments, most_exports, most_height, most_nodes}
-pub use Rattle.sc_core.specs.WellTyped.{most_params, params_fit, passed_fits, result_fits, same_results, same_signature}
-pub use Rattle.sc_core.specs.WellTyped.{same_types, scope_of, section_fits, sections_fit, starred_within, struct_fits}
-pub use Rattle.sc_core.specs.WellTyped.{structs_fit, type_within, variable_fits, words_fit}
+pub use Rattle.sc_core.specs.WellTyped.{most_cells, most_nodes, most_params, params_fit, passed_fits, result_fits}
+pub use Rattle.sc_core.specs.WellTyped.{same_results, same_signature, same_types, scope_of, section_fits, sections_fit}
+pub use Rattle.sc_core.specs.WellTyped.{starred_within, struct_fits, structs_fit, type_within, variable_fits, words_fit}

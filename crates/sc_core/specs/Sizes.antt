@@ -74,10 +74,26 @@ local_nodes local = suc (init_nodes local.init)
 abbrev pub nodes : TypedFunction → ℕ
 nodes f = suc (length f.params) + total (map local_nodes f.locals) + total (map stmt_nodes f.body)
 
+-- bytes of a function's frame: two frames fit into a stack
+abbrev pub most_frame : ℕ
+most_frame = 32768
+
+-- bytes of a compartment's code: a jump reaches over all of it
+abbrev pub most_code : ℕ
+most_code = 1048576
+
+-- a function has fewer instructions than this for each node
+abbrev pub instrs_a_node : ℕ
+instrs_a_node = 24
+
+-- bytes of code for each node
+abbrev pub bytes_a_node : ℕ
+bytes_a_node = 96
+
 -- the bytes that the frame of a function takes at most, by the cells of its variables and its nodes
 abbrev pub frame_bound : List ℕ → ℕ → ℕ
 frame_bound cells nodes = 64 + 4 * (total cells + nodes)
 
 -- the bytes that the code of functions takes at most, by the nodes of each
 abbrev pub code_bound : List ℕ → ℕ
-code_bound nodes = 96 * total nodes
+code_bound nodes = bytes_a_node * total nodes

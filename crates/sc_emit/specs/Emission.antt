@@ -1,4 +1,5 @@
 -- What the code of a function keeps.
+use Rattle.sc_core.specs.Prelude.{instrs_a_node}
 use Rattle.sc_emit.specs.Common.{CodeTree, FunctionFollows, Setting, branches, code_function, entry_weight, everywhere}
 use Rattle.sc_emit.specs.Common.{frame_taken, linked, passes_words, refers_only, weight, wrapping}
 use Rattle.sc_base.specs.Prelude.{IsPrefix}
@@ -44,7 +45,7 @@ pub record IsEmitted (f : TacFnTree) (frame : FrameTree) (code : CodeTree) : Typ
   pub rounds : HasRounds f.body code.instrs
   -- no more instructions than the function weighs
   pub light : length code.instrs ≤ entry_weight f.params + weight f.body
-  pub short : length code.instrs < 24 * f.nodes
+  pub short : length code.instrs < instrs_a_node * f.nodes
   -- no call executes an instruction twice but that a loop around it begins a further round in between
   pub repeats : RepeatsByRounds f code
   -- at most one instruction a loop leads back; all others lead on, are calls, or end the call

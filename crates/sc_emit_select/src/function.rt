@@ -1,5 +1,6 @@
 //! The code of a function.
 
+ghost use Rattle.sc_core.specs.Prelude.{bytes_a_node, most_code};
 ghost use Rattle.sc_emit_select.specs.Prelude.{IsCode, IsFunction, Line, closing, code_of, code_of_lines, entry_weight};
 ghost use Rattle.sc_emit_select.specs.Prelude.{function_lines, has_mark, needed_in, plainly, plan_by, plan_of};
 ghost use Rattle.sc_emit_select.specs.Prelude.{prologue, store_arguments, weight};
@@ -54,7 +55,7 @@ impl Backward {
     // All lines of a function.
     fn function(&mut self, homes: &Homes, f: &TacFnTree) -> Result<(), OutOfMemory>
         requires function { IsFunction f.now }
-        requires reached { 96 * f.now.nodes ≤ 1048576 }
+        requires reached { bytes_a_node * f.now.nodes ≤ most_code }
         ensures { OnOk result (self.new ≡
             function_lines homes.now.frame.now homes.now.places.now (plan_by homes.now.needs.now homes.now.near) f.now
             ++ self.old) }
@@ -93,7 +94,7 @@ fn read(alloc: Global, lines: Backward) -> Result<CodeTree, OutOfMemory>
 
 // The lines of a function by one of the two plans.
 fn planned(alloc: Global, f: &TacFn, homes: &Homes) -> Result<Backward, OutOfMemory>
-    requires reached { 96 * f.now.nodes ≤ 1048576 }
+    requires reached { bytes_a_node * f.now.nodes ≤ most_code }
     requires needs { (t : ℕ) → has_mark homes.now.needs.now t ≡ needed_in f.now.body t }
     ensures lines { IfOk result (λ lines. lines ≡
         function_lines homes.now.frame.now homes.now.places.now (plan_of f.now homes.now.near) f.now) }
@@ -106,7 +107,7 @@ fn planned(alloc: Global, f: &TacFn, homes: &Homes) -> Result<Backward, OutOfMem
 
 // The lines of a function: its loops end with their tests where a branch reaches all over it.
 fn chosen(alloc: Global, f: &TacFn, places: &Places, frame: &Frame) -> Result<Backward, OutOfMemory>
-    requires { 96 * f.now.nodes ≤ 1048576 }
+    requires { bytes_a_node * f.now.nodes ≤ most_code }
     ensures lines { IfOk result (λ lines. code_of_lines lines ≡ code_of f.now places.now frame.now) }
     ensures few { IfOk result (λ lines. length lines < 2 ^ 32) }
 {
@@ -132,7 +133,7 @@ fn chosen(alloc: Global, f: &TacFn, places: &Places, frame: &Frame) -> Result<Ba
 
 /// The code of a function whose temporaries lie in these places, with this frame. A jump reaches over all of it.
 pub fn select(alloc: Global, f: &TacFn, places: &Places, frame: &Frame) -> Result<Code, OutOfMemory>
-    requires { 96 * f.now.nodes ≤ 1048576 }
+    requires { bytes_a_node * f.now.nodes ≤ most_code }
     ensures code { IfOk result (λ code. code ≡ code_of f.now places.now frame.now) }
     ensures light { IfOk result (λ code. length code.instrs ≤ entry_weight f.now.params + weight f.now.body) }
     ensures rules { IfOk result IsCode }

@@ -1,3 +1,4 @@
+ghost use Rattle.sc_core.specs.Prelude.{most_frame};
 ghost use Rattle.sc_core.specs.Prelude.{frame_bound};
 ghost use Rattle.std.specs.Prelude.{◌≤◌, ◌↔◌, IsTrue};
 
@@ -8,7 +9,7 @@ const MOST: u32 = 8176;
 
 /// Whether the frame of a function fits: it takes at most 32,768 bytes, so that two of them fit into a stack.
 pub fn fits(f: &TacFn) -> bool
-    ensures { IsTrue result ↔ (frame_bound f.now.objects f.now.nodes ≤ 32768) }
+    ensures { IsTrue result ↔ (frame_bound f.now.objects f.now.nodes ≤ most_frame) }
 {
     let f = f.tree();
     let mut sum = f.nodes;

@@ -1,3 +1,4 @@
+ghost use Rattle.sc_core.specs.Prelude.{most_frame};
 ghost use Rattle.sc_core.specs.Prelude.{frame_bound, total};
 ghost use Rattle.sc_tac.specs.Prelude.{FrameFits, frame_of, is_place, offsets_from, slots_of, slots_up_to};
 ghost use Rattle.std.specs.Prelude.{◌≡◌, ◌≤◌, ◌<◌, ◌+◌, ◌*◌, map, length, IfOk, IsTrue};
@@ -52,7 +53,7 @@ struct Objects {
 
 // Objects of these sizes in cells, from this offset on.
 fn lay_objects(alloc: Global, from: u32, cells: &[u32]) -> Result<Objects, OutOfMemory>
-    requires { from + 4 * total cells.now ≤ 32768 }
+    requires { from + 4 * total cells.now ≤ most_frame }
     ensures { IfOk result (λ objects. objects ≡ record {
       offsets = offsets_from from cells.now;
       end = from + 4 * total cells.now;
@@ -70,7 +71,7 @@ fn lay_objects(alloc: Global, from: u32, cells: &[u32]) -> Result<Objects, OutOf
 /// The frame of a function whose temporaries lie in these places.
 pub fn lay(alloc: Global, f: &TacFn, places: &Places) -> Result<Frame, OutOfMemory>
     requires each { length places.now ≡ f.now.temps }
-    requires small { frame_bound f.now.objects f.now.nodes ≤ 32768 }
+    requires small { frame_bound f.now.objects f.now.nodes ≤ most_frame }
     ensures frame { IfOk result (λ frame. frame ≡ frame_of f.now.objects places.now) }
     ensures frame_fits { IfOk result (FrameFits f.now.objects places.now f.now.nodes) }
 {

@@ -6,27 +6,37 @@ ghost use Rattle.sc_image.specs.declared.fault.ImageFault.TheVariants.{OutOfMemo
 
 use sc_base::OutOfMemory;
 use std::alloc::AllocError;
+use thiserror::Error;
 
 /// The first thing that is wrong with the bytes, in the order of the file.
-#[derive(Clone, Copy, Debug, PartialEq, Eq)]
+#[derive(Clone, Copy, Debug, PartialEq, Eq, Error)]
 pub enum BadImage {
     /// The four bytes `SCIM`.
+    #[error("the mark SCIM is missing")]
     Mark,
     /// The version of the format.
+    #[error("an unknown version of the format")]
     Version,
     /// How many compartments there are.
+    #[error("a bad count of compartments")]
     Count,
     /// The main compartment and the entry.
+    #[error("a bad main compartment or entry")]
     Start,
     /// A compartment's name and flags.
+    #[error("a bad name or bad flags of a compartment")]
     Compartment,
     /// A compartment's exports.
+    #[error("bad exports of a compartment")]
     Exports,
     /// A compartment's imports.
+    #[error("bad imports of a compartment")]
     Imports,
     /// A compartment's code and globals.
+    #[error("bad code or globals of a compartment")]
     Contents,
     /// A rule on the whole image, where every field is good.
+    #[error("parts that don't fit together")]
     Whole,
 }
 
@@ -50,9 +60,11 @@ impl BadImage {
 }
 
 /// Why no image was read.
-#[derive(Clone, Copy, Debug, PartialEq, Eq)]
+#[derive(Clone, Copy, Debug, PartialEq, Eq, Error)]
 pub enum ImageFault {
+    #[error("a bad image: {0}")]
     Bad(BadImage),
+    #[error("out of memory")]
     OutOfMemory,
 }
 

@@ -21,13 +21,13 @@ pub use Rattle.sc_base.specs.Prelude.{is_between, is_name_byte, is_nondigit, nam
 unfoldable pub use Rattle.sc_base.specs.Prelude.{is_name, is_reserved}
 pub use Rattle.sc_lex.specs.Prelude.{AreSections, AreSpans, Cuts, IsBadHeading, IsCut, IsGap, IsPiece, IsSection}
 pub use Rattle.sc_lex.specs.Prelude.{IsSpan, IsStuck, IsToken, Lex, NoHeading, NoPiece, NoToken, Refusal, RefusesBytes}
-pub use Rattle.sc_lex.specs.Prelude.{allows_directive, base_of, begins_block_comment, begins_heading}
-pub use Rattle.sc_lex.specs.Prelude.{begins_line_comment, block_comment, digit_value, digits_of, directive_kind}
-pub use Rattle.sc_lex.specs.Prelude.{ends_comment, gap, has_suffix, is_blank, is_digit, is_directive, is_empty}
-pub use Rattle.sc_lex.specs.Prelude.{is_export, is_heading, is_hexadecimal, is_import, is_inside_line, is_pragma}
-pub use Rattle.sc_lex.specs.Prelude.{is_white_space, line_after, line_at, line_comment, line_len, mark_kind, marks}
-pub use Rattle.sc_lex.specs.Prelude.{may_follow, newlines, none, nothing, number, only_name, placed, section, token}
-pub use Rattle.sc_lex.specs.Prelude.{token_at, white_space, without_suffix}
+pub use Rattle.sc_lex.specs.Prelude.{allows_directive, begins_block_comment, begins_heading, begins_line_comment}
+pub use Rattle.sc_lex.specs.Prelude.{block_comment, digit_value, digits_of, directive_kind, ends_comment, gap}
+pub use Rattle.sc_lex.specs.Prelude.{has_suffix, is_blank, is_digit, is_directive, is_empty, is_export, is_heading}
+pub use Rattle.sc_lex.specs.Prelude.{is_hexadecimal, is_import, is_inside_line, is_pragma, is_white_space, line_after}
+pub use Rattle.sc_lex.specs.Prelude.{line_at, line_comment, line_len, mark_kind, marks, may_follow, newlines, none}
+pub use Rattle.sc_lex.specs.Prelude.{nothing, number, only_name, placed, radix_of, section, token, token_at}
+pub use Rattle.sc_lex.specs.Prelude.{white_space, without_suffix}
 unfoldable pub use Rattle.sc_lex.specs.Prelude.{is_integer, is_mark, is_number, kind_of, line_kind, word_kind, words}
 pub use Rattle.sc_lex.specs.declared.token.Token.{Token}
 pub use Rattle.sc_lex.specs.declared.token.TokenKind.{TokenKind}

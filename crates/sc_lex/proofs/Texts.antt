@@ -1,15 +1,15 @@
 -- What texts that are tokens consist of.
 use Rattle.sc_lex.proofs.Common.{Bool, Compartment, Export, Ident, Import, Integer, List, None, Option, Reserved, Some}
-use Rattle.sc_lex.proofs.Common.{TokenKind, [], and_from, and_parts, ap, arith, base_of, bytes_eq, bytes_eq-Decides}
-use Rattle.sc_lex.proofs.Common.{cond, cond_both, digits_of, directive_kind, drop, drop_all, drop_more, eqb-true, false}
+use Rattle.sc_lex.proofs.Common.{TokenKind, [], and_from, and_parts, ap, arith, bytes_eq, bytes_eq-Decides, cond}
+use Rattle.sc_lex.proofs.Common.{cond_both, digits_of, directive_kind, drop, drop_all, drop_more, eqb-true, false}
 use Rattle.sc_lex.proofs.Common.{false_from_ne_true, false≢true, get_or, has_suffix, is_between, is_digit, is_directive}
 use Rattle.sc_lex.proofs.Common.{is_export, is_hexadecimal, is_import, is_inside_line, is_integer, is_mark, is_name}
 use Rattle.sc_lex.proofs.Common.{is_name_byte, is_nondigit, is_number, is_pragma, is_reserved, is_some, is_white_space}
 use Rattle.sc_lex.proofs.Common.{kind_of, le-leb, leb-true, length, line_kind, list_all, list_all-append, list_any}
 use Rattle.sc_lex.proofs.Common.{ltb-true, mark_kind, marks, may_follow, nat_le, nat_lt, none-some, not, not-not}
-use Rattle.sc_lex.proofs.Common.{not-true, or_cases, or_left, or_right, refl, reserved_words, slice_index, subst, sym}
-use Rattle.sc_lex.proofs.Common.{take, take-append-drop, true, without_suffix, word_kind, words, ℕ, ⊎_elim, ◌&&◌, ◌+◌}
-use Rattle.sc_lex.proofs.Common.{◌-◌, ◌<◌, ◌==◌, ◌||◌, ◌∙◌, ◌∷◌, ◌≡◌, ◌≤◌}
+use Rattle.sc_lex.proofs.Common.{not-true, or_cases, or_left, or_right, radix_of, refl, reserved_words, slice_index}
+use Rattle.sc_lex.proofs.Common.{subst, sym, take, take-append-drop, true, without_suffix, word_kind, words, ℕ, ⊎_elim}
+use Rattle.sc_lex.proofs.Common.{◌&&◌, ◌+◌, ◌-◌, ◌<◌, ◌==◌, ◌||◌, ◌∙◌, ◌∷◌, ◌≡◌, ◌≤◌}
 use Rattle.std.specs.Option.{option_or}
 use Rattle.sc_base.proofs.Lists.{list_all_along}
 
@@ -83,7 +83,7 @@ suffix_bytes (b ∷ bs) h q =
     list_all-append is_name_byte (take n text) (drop n text) ∙ and_from _ (list_all _ (drop n text)) q
     (rw end (and_from _ true is refl))
 
-base_of_low : (body : List ℕ) → base_of body ≤ 16
+base_of_low : (body : List ℕ) → radix_of body ≤ 16
 base_of_low body = go _ _
   where
     go : (x y : Bool) → cond x 16 (cond y 8 10) ≤ 16

@@ -21,8 +21,8 @@ abbrev pub digits_of : List ℕ → List ℕ
 digits_of body = if is_hexadecimal body then drop 2 body else body
 
 -- a leading 0 makes an octal constant
-abbrev pub base_of : List ℕ → ℕ
-base_of body = if is_hexadecimal body then 16 else (if slice_index body 0 == 48 then 8 else 10)
+abbrev pub radix_of : List ℕ → ℕ
+radix_of body = if is_hexadecimal body then 16 else (if slice_index body 0 == 48 then 8 else 10)
 
 -- the value of a digit, and 16 for any other byte
 abbrev pub digit_value : ℕ → ℕ
@@ -49,11 +49,11 @@ greatest_of suffix base = if suffix || not (base == 10) then 4294967295 else 214
 unfoldable pub is_integer : List ℕ → Bool
 is_integer text =
     let body = without_suffix text in
-    is_number (base_of body) (greatest_of (has_suffix text) (base_of body)) (digits_of body)
+    is_number (radix_of body) (greatest_of (has_suffix text) (radix_of body)) (digits_of body)
 
 -- the number that the digits of a constant stand for
 abbrev pub value_of : List ℕ → ℕ
-value_of text = let body = without_suffix text in number (base_of body) (digits_of body)
+value_of text = let body = without_suffix text in number (radix_of body) (digits_of body)
 
 -- a constant with a suffix is `unsigned int`, and so is one whose value no `int` has
 abbrev pub is_unsigned : List ℕ → Bool

@@ -4,8 +4,8 @@ pub use Rattle.sc_lex.specs.Cutting.{begins_block_comment, begins_line_comment, 
 pub use Rattle.sc_lex.specs.Cutting.{line_comment, nothing, token, token_at, white_space}
 pub use Rattle.sc_lex.specs.Headings.{begins_heading, is_heading, name_at}
 unfoldable pub use Rattle.sc_lex.specs.Headings.{heading_name}
-pub use Rattle.sc_lex.specs.Integers.{base_of, digit_value, digits_of, greatest_of, has_suffix, is_digit}
-pub use Rattle.sc_lex.specs.Integers.{is_hexadecimal, number, value_of, without_suffix}
+pub use Rattle.sc_lex.specs.Integers.{digit_value, digits_of, greatest_of, has_suffix, is_digit, is_hexadecimal, number}
+pub use Rattle.sc_lex.specs.Integers.{radix_of, value_of, without_suffix}
 unfoldable pub use Rattle.sc_lex.specs.Integers.{integer_of, is_integer, is_number}
 pub use Rattle.sc_lex.specs.Kinds.{directive_kind, is_directive, is_export, is_import, is_pragma, mark_kind, may_follow}
 unfoldable pub use Rattle.sc_lex.specs.Kinds.{kind_of, line_kind, word_kind}

@@ -9,7 +9,7 @@ use thiserror::Error;
 /// Why a text, or a part of one, was not read.
 #[derive(Clone, Copy, Debug, PartialEq, Eq, Error)]
 pub enum TextFault {
-    #[error("a text that isn't accepted")]
+    #[error("{0}")]
     Refused(Refusal),
     #[error("out of memory")]
     OutOfMemory,

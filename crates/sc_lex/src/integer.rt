@@ -1,7 +1,7 @@
 //! Integer constants.
 
-ghost use Rattle.sc_lex.specs.Prelude.{base_of, digit_value, digits_of, greatest_of, has_suffix, integer_of};
-ghost use Rattle.sc_lex.specs.Prelude.{is_hexadecimal, is_integer, is_number, number, without_suffix};
+ghost use Rattle.sc_lex.specs.Prelude.{digit_value, digits_of, greatest_of, has_suffix, integer_of, is_hexadecimal};
+ghost use Rattle.sc_lex.specs.Prelude.{is_integer, is_number, number, radix_of, without_suffix};
 ghost use Rattle.std.specs.Prelude.{◌≡◌, ◌≤◌, IsTrue, IfSome, Some, None, length, if◌then◌else◌};
 
 // The greatest value of type `int`.
@@ -20,7 +20,7 @@ pub fn is_integer(text: &[u8]) -> bool
     ensures { result ≡ is_integer text.now }
 {
     let body = without_suffix(text);
-    let base = base_of(body);
+    let base = radix_of(body);
     number_within(base, greatest_of(has_suffix(text), base), digits_of(body)).is_some()
 }
 
@@ -31,7 +31,7 @@ pub fn integer_of(text: &[u8]) -> Option<IntegerConstant>
 {
     let suffix = has_suffix(text);
     let body = without_suffix(text);
-    let base = base_of(body);
+    let base = radix_of(body);
     let value = number_within(base, greatest_of(suffix, base), digits_of(body))?;
     Some(IntegerConstant {
         value: value as u32,
@@ -72,8 +72,8 @@ fn digits_of(body: &[u8]) -> &[u8]
     }
 }
 
-fn base_of(body: &[u8]) -> u64
-    ensures value { result ≡ base_of body.now }
+fn radix_of(body: &[u8]) -> u64
+    ensures value { result ≡ radix_of body.now }
     ensures within { (1 ≤ result) × (result ≤ 16) }
 {
     if is_hexadecimal(body) {

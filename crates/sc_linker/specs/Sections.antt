@@ -1,4 +1,5 @@
 -- Helping: a section's part of an image, by what it is made of.
+use Rattle.sc_base.specs.Prelude.{most_exports}
 use Rattle.sc_linker.specs.Common.{Addresses, CodeTree, Instr, Interface, Jal, Proto, TypedGlobal, TypedSection}
 use Rattle.sc_linker.specs.Common.{TypedStruct, Upper, cells_of, code_start, is_name, is_named, most_globals}
 use Rattle.sc_linker.specs.Common.{place_named, stack_top, stretch, upper_part}
@@ -78,7 +79,7 @@ with_upper address instr = instr
 -- a section whose code can be linked
 pub record CanBeLinked (comp : ℕ) (exports : List Proto) (section : TypedSection) (codes : List CodeTree) : Type 0 where
   pub each : length codes ≡ length section.functions
-  pub few : length exports ≤ 4096
+  pub few : length exports ≤ most_exports
   pub code : 4 * (length exports + instructions codes) ≤ stretch
   pub globals : 4 * cells section.structs section.globals ≤ most_globals
   pub inside : All {X = CodeTree}

@@ -1,5 +1,6 @@
 //! A compartment of an image.
 
+ghost use Rattle.sc_base.specs.Prelude.{most_exports};
 ghost use Rattle.sc_linker.specs.Prelude.{IsLinkable, IsNamed, IsWellTyped, IsWhole, Proto, codes_at, comp_part};
 ghost use Rattle.sc_linker.specs.Prelude.{export_parts, import_part, is_name};
 ghost use Rattle.sc_event.specs.Prelude.{comp_at};
@@ -26,7 +27,7 @@ fn named(name: &Name) -> Name
 }
 
 fn export_parts(alloc: Global, comp: CompId, exports: &[Proto]) -> Result<ExportParts, OutOfMemory>
-    requires { length exports.now ≤ 4096 }
+    requires { length exports.now ≤ most_exports }
     ensures parts { IfOk result (λ parts. parts ≡ export_parts comp 0 exports.now) }
     ensures named { IfOk result (λ _. All {X = Proto} (λ proto. IsTrue (is_name proto.name)) exports.now) }
 {

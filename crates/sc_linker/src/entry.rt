@@ -1,5 +1,6 @@
 //! The entries of a compartment: a jump for each export, to the function that is called so.
 
+ghost use Rattle.sc_base.specs.Prelude.{most_exports};
 ghost use Rattle.sc_linker.specs.Prelude.{Fits, IsCodeAddress, Proto, TypedFunction, addresses_of, entry_address};
 ghost use Rattle.sc_linker.specs.Prelude.{entry_jumps, function_address, number_of, place_named, word_of};
 ghost use Rattle.std.specs.Prelude.{◌≡◌, ◌<◌, ◌≤◌, ◌++◌, All, IfOk, IfSome, IsSome, OnOk, Some, length, map, pos, ◌-ℤ◌};
@@ -53,7 +54,7 @@ pub fn push_entries(
     requires functions { All (IsCodeAddress layout.now.comp) layout.now.functions }
     requires each { length layout.now.functions ≡ length section.now.functions }
     requires room { Fits layout.now.comp (entry_address layout.now.comp 0) (length exports.now) }
-    requires few { length exports.now ≤ 4096 }
+    requires few { length exports.now ≤ most_exports }
     requires named { All {X = Proto} (λ proto. IsSome (place_named proto.name (Some section.now))) exports.now }
     ensures { OnOk result (words.new ≡ words.old ++
         map word_of (entry_jumps (addresses_of layout.now) layout.now.comp 0 section.now exports.now)) }

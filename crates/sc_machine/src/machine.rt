@@ -23,7 +23,9 @@ use sc_image::Image;
 use sc_store::Store;
 use sqlite_items::Items;
 use std::alloc::Global;
+use std::fmt;
 use std::marker::Model;
+use thiserror::Error;
 
 /// An image with a run of it, which may be taken in pieces, over a store that keeps its data.
 #[derive(Drop)]
@@ -64,10 +66,17 @@ impl<S: Store> Model for Machine<S> {
 }
 
 /// A machine that can't be made.
-#[derive(Drop)]
+#[derive(Drop, Error)]
 pub enum LoadFault {
     /// The memory for it was not there. The image comes back.
+    #[error("out of memory")]
     OutOfMemory(Image),
+}
+
+impl fmt::Debug for LoadFault {
+    fn fmt<W: fmt::Write>(&self, f: &mut fmt::Formatter<W>) -> fmt::Result {
+        write!(f, "{self}")
+    }
 }
 
 impl<S: Store> Machine<S> {

@@ -20,10 +20,10 @@ pub use Rattle.sc_base.specs.declared.op.BinaryOp.{BinaryOp}
 pub use Rattle.sc_base.specs.declared.op.UnaryOp.{UnaryOp}
 pub use Rattle.sc_lex.proofs.Prefixes.{directive_found, mark_one, mark_two, word_found}
 pub use Rattle.sc_lex.proofs.Texts.{kind_of-directive, word_run}
-pub use Rattle.sc_lex.specs.Prelude.{Cuts, IsToken, allows_directive, base_of, begins_block_comment, begins_heading}
-pub use Rattle.sc_lex.specs.Prelude.{begins_line, begins_line_comment, digit_value, digits_of, gap, greatest_of}
-pub use Rattle.sc_lex.specs.Prelude.{has_suffix, is_blank, is_digit, is_empty, is_hexadecimal, is_inside_line}
-pub use Rattle.sc_lex.specs.Prelude.{is_white_space, marks, nothing, number, only_name, token, token_at, value_of}
+pub use Rattle.sc_lex.specs.Prelude.{Cuts, IsToken, allows_directive, begins_block_comment, begins_heading, begins_line}
+pub use Rattle.sc_lex.specs.Prelude.{begins_line_comment, digit_value, digits_of, gap, greatest_of, has_suffix}
+pub use Rattle.sc_lex.specs.Prelude.{is_blank, is_digit, is_empty, is_hexadecimal, is_inside_line, is_white_space}
+pub use Rattle.sc_lex.specs.Prelude.{marks, nothing, number, only_name, radix_of, token, token_at, value_of}
 pub use Rattle.sc_lex.specs.Prelude.{white_space, without_suffix}
 unfoldable pub use Rattle.sc_lex.specs.Prelude.{heading_name, integer_of, is_integer, is_mark, is_number, kind_of}
 unfoldable pub use Rattle.sc_lex.specs.Prelude.{line_kind, word_kind, words}

@@ -1,13 +1,13 @@
 -- What names and integer constants say.
 use Rattle.sc_parse_print_laws.proofs.Common.{Bool, IsTrue, List, Number, Option, Some, [], and_parts, ap, append-nil}
-use Rattle.sc_parse_print_laws.proofs.Common.{arith, base_of, bytes_eq, bytes_eq-Decides, codes, digit_value, digits_of}
-use Rattle.sc_parse_print_laws.proofs.Common.{false, false_from_ne_true, false≢true, fits, get_or-append_seam}
-use Rattle.sc_parse_print_laws.proofs.Common.{greatest_of, has_suffix, if◌then◌else◌, integer_of, is_between, is_digit}
-use Rattle.sc_parse_print_laws.proofs.Common.{is_empty, is_hexadecimal, is_ident, is_integer, is_name, is_name_byte}
-use Rattle.sc_parse_print_laws.proofs.Common.{is_nondigit, is_number, is_reserved, kind_of, le-leb, le-ltb, leb-true}
-use Rattle.sc_parse_print_laws.proofs.Common.{length, length-append, list_all, list_all-append, list_any, literal_text}
-use Rattle.sc_parse_print_laws.proofs.Common.{lt-ltb, nat_le, nat_lt, ne_eqb, not, not-true, number, number_of}
-use Rattle.sc_parse_print_laws.proofs.Common.{or_cases, refl, reserved_words, says, slice_index, subst, suc, sym}
+use Rattle.sc_parse_print_laws.proofs.Common.{arith, bytes_eq, bytes_eq-Decides, codes, digit_value, digits_of, false}
+use Rattle.sc_parse_print_laws.proofs.Common.{false_from_ne_true, false≢true, fits, get_or-append_seam, greatest_of}
+use Rattle.sc_parse_print_laws.proofs.Common.{has_suffix, if◌then◌else◌, integer_of, is_between, is_digit, is_empty}
+use Rattle.sc_parse_print_laws.proofs.Common.{is_hexadecimal, is_ident, is_integer, is_name, is_name_byte, is_nondigit}
+use Rattle.sc_parse_print_laws.proofs.Common.{is_number, is_reserved, kind_of, le-leb, le-ltb, leb-true, length}
+use Rattle.sc_parse_print_laws.proofs.Common.{length-append, list_all, list_all-append, list_any, literal_text, lt-ltb}
+use Rattle.sc_parse_print_laws.proofs.Common.{nat_le, nat_lt, ne_eqb, not, not-true, number, number_of, or_cases}
+use Rattle.sc_parse_print_laws.proofs.Common.{radix_of, refl, reserved_words, says, slice_index, subst, suc, sym}
 use Rattle.sc_parse_print_laws.proofs.Common.{take-append_seam, true, value_of, without_suffix, word_kind, word_symbol}
 use Rattle.sc_parse_print_laws.proofs.Common.{zero, ℕ, ⊎_elim, ◌%◌, ◌&&◌, ◌*◌, ◌++◌, ◌+◌, ◌-◌, ◌/◌, ◌<◌, ◌==◌, ◌^◌}
 use Rattle.sc_parse_print_laws.proofs.Common.{◌||◌, ◌∙◌, ◌∷◌, ◌≡◌, ◌≤◌}
@@ -158,7 +158,7 @@ module _ (n : ℕ) (ds : List ℕ) (positive : 0 < n) (d : Decimal n ds) where
   no_hex : is_hexadecimal ds ≡ false
   no_hex = rw no_48
 
-  base_is : base_of ds ≡ 10
+  base_is : radix_of ds ≡ 10
   base_is = let x = no_hex in rw (x, no_48)
 
   digits_are : digits_of ds ≡ ds

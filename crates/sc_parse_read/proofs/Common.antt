@@ -24,7 +24,7 @@ pub use Rattle.sc_parse_expr.specs.declared.lexeme.Lexeme.{Lexeme}
 pub use Rattle.sc_parse.specs.Prelude.{IsParsed, SpellsSection, lexemes_of, tree_of}
 pub use Rattle.sc_parse_read.specs.Common.{Section, SectionTree, Token}
 pub use Rattle.sc_parse_read.specs.First.{First, here, later}
-pub use Rattle.sc_parse_read.specs.Reading.{Fails, FailsLex, FailsSyntax, HasTokens, HasTree, IsRead, IsUncut, IsUnread}
-pub use Rattle.sc_parse_read.specs.Reading.{Part, PassesLex, Reads, bad_heading, in_preamble, in_section, part_of}
-pub use Rattle.sc_parse_read.specs.Reading.{parts_of, uncut}
+pub use Rattle.sc_parse_read.specs.Reading.{FailsLex, FailsReading, FailsSyntax, HasTokens, HasTree, IsRead, IsUncut}
+pub use Rattle.sc_parse_read.specs.Reading.{IsUnread, PassesLex, Reads, TextPart, bad_heading, in_preamble, in_section}
+pub use Rattle.sc_parse_read.specs.Reading.{part_of, parts_of, uncut}
 pub use Rattle.sc_parse_read.specs.Steps.{IsCutInto, IsCuttable, IsParsable, IsTreeOf, RefusesTokens}

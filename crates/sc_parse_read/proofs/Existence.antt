@@ -1,8 +1,8 @@
 -- Each text is read, or fails a phase.
-use Rattle.sc_parse_read.proofs.Common.{AllByRecursion, AllZip, Any, AreSections, Err, Fails, FailsLex, First}
+use Rattle.sc_parse_read.proofs.Common.{AllByRecursion, AllZip, Any, AreSections, Err, FailsLex, FailsReading, First}
 use Rattle.sc_parse_read.proofs.Common.{HasTokens, HasTree, IsBadHeading, IsCut, IsParsed, IsRead, IsSection, IsSplit}
-use Rattle.sc_parse_read.proofs.Common.{IsTrue, IsUncut, IsUnread, Lexeme, List, NoHeading, None, Ok, Option, Part}
-use Rattle.sc_parse_read.proofs.Common.{PassesLex, Phase, Reads, Section, SectionTree, Some, Token, [], ap, arith}
+use Rattle.sc_parse_read.proofs.Common.{IsTrue, IsUncut, IsUnread, Lexeme, List, NoHeading, None, Ok, Option, PassesLex}
+use Rattle.sc_parse_read.proofs.Common.{Phase, Reads, Section, SectionTree, Some, TextPart, Token, [], ap, arith}
 use Rattle.sc_parse_read.proofs.Common.{bad_heading, cases_lt, here, in_preamble, in_section, inl, inr, is_heading}
 use Rattle.sc_parse_read.proofs.Common.{later, length, length-take-le, lexemes_of, line_after, line_at, map, name_at}
 use Rattle.sc_parse_read.proofs.Common.{newlines, none, none-some, part_of, parts_of, refl, section, slice_range, subst}
@@ -135,10 +135,10 @@ module _ (text : List ℕ) where
         )
       ]
 
-  abbrev AreCutInto : List Part → List (List Token) → Type 0
+  abbrev AreCutInto : List TextPart → List (List Token) → Type 0
   AreCutInto parts cuts = AllZip (λ part tokens. IsCut part.bytes tokens) parts cuts
 
-  cut_parts : (parts : List Part) → ((cuts : List (List Token)) × AreCutInto parts cuts) ⊎
+  cut_parts : (parts : List TextPart) → ((cuts : List (List Token)) × AreCutInto parts cuts) ⊎
       ((line : ℕ) × First HasTokens (IsUncut text line) parts)
   cut_parts [] = inl ([], tt)
   cut_parts (part ∷ parts) = elim (decide_cut part.bytes) [
@@ -190,7 +190,8 @@ module _ (text : List ℕ) where
   ]
 
   abbrev Either : Type 0
-  Either = ((trees : List SectionTree) × Reads text trees) ⊎ ((which : Phase) × (line : ℕ) × Fails text which line)
+  Either = ((trees : List SectionTree) × Reads text trees) ⊎
+      ((which : Phase) × (line : ℕ) × FailsReading text which line)
 
   lexed : {preamble : List ℕ} {ss : List Section} {before : List Token} (cuts : List (List Token)) →
       IsSplit text preamble ss → IsCut preamble before → AreCutInto (map part_of ss) cuts →

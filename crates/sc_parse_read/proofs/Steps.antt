@@ -1,16 +1,16 @@
 -- From what the functions over the sections find to what is said of the text.
-use Rattle.sc_parse_read.proofs.Common.{AllByRecursion, AllZip, Any, AreSections, Cuts, Err, Fails, FailsSyntax, First}
-use Rattle.sc_parse_read.proofs.Common.{HasTokens, HasTree, IfOk, IsCut, IsCutInto, IsCuttable, IsGap, IsParsable}
-use Rattle.sc_parse_read.proofs.Common.{IsParsed, IsRead, IsSplit, IsTreeOf, IsUncut, IsUnread, List, None, Ok, Part}
-use Rattle.sc_parse_read.proofs.Common.{PassesLex, Phase, Reads, Refusal, RefusesBytes, RefusesHeading, RefusesTokens}
-use Rattle.sc_parse_read.proofs.Common.{Result, Section, SectionTree, Some, Token, [], and_parts, ap, arith}
-use Rattle.sc_parse_read.proofs.Common.{bad_heading, begins_line, block_comment, codes, drop, false, false≢true, gap}
-use Rattle.sc_parse_read.proofs.Common.{get_or, get_or-take, here, in_preamble, in_section, is_white_space, later}
-use Rattle.sc_parse_read.proofs.Common.{length, length-drop, length-take-le, lexemes_of, line_after, line_at}
-use Rattle.sc_parse_read.proofs.Common.{line_comment, map, newlines, none, none-some, nothing, part_of, prefix_byte}
-use Rattle.sc_parse_read.proofs.Common.{refl, section, slash_first, slice_get, slice_index, slice_set, star_first}
-use Rattle.sc_parse_read.proofs.Common.{subst, suc, sym, take, take-append-drop, token, true, uncut, white_space, zero}
-use Rattle.sc_parse_read.proofs.Common.{ℕ, ◌++◌, ◌+◌, ◌-◌, ◌<◌, ◌∙◌, ◌∷◌, ◌≡◌, ◌≤◌}
+use Rattle.sc_parse_read.proofs.Common.{AllByRecursion, AllZip, Any, AreSections, Cuts, Err, FailsReading, FailsSyntax}
+use Rattle.sc_parse_read.proofs.Common.{First, HasTokens, HasTree, IfOk, IsCut, IsCutInto, IsCuttable, IsGap}
+use Rattle.sc_parse_read.proofs.Common.{IsParsable, IsParsed, IsRead, IsSplit, IsTreeOf, IsUncut, IsUnread, List, None}
+use Rattle.sc_parse_read.proofs.Common.{Ok, PassesLex, Phase, Reads, Refusal, RefusesBytes, RefusesHeading}
+use Rattle.sc_parse_read.proofs.Common.{RefusesTokens, Result, Section, SectionTree, Some, TextPart, Token, []}
+use Rattle.sc_parse_read.proofs.Common.{and_parts, ap, arith, bad_heading, begins_line, block_comment, codes, drop}
+use Rattle.sc_parse_read.proofs.Common.{false, false≢true, gap, get_or, get_or-take, here, in_preamble, in_section}
+use Rattle.sc_parse_read.proofs.Common.{is_white_space, later, length, length-drop, length-take-le, lexemes_of}
+use Rattle.sc_parse_read.proofs.Common.{line_after, line_at, line_comment, map, newlines, none, none-some, nothing}
+use Rattle.sc_parse_read.proofs.Common.{part_of, prefix_byte, refl, section, slash_first, slice_get, slice_index}
+use Rattle.sc_parse_read.proofs.Common.{slice_set, star_first, subst, suc, sym, take, take-append-drop, token, true}
+use Rattle.sc_parse_read.proofs.Common.{uncut, white_space, zero, ℕ, ◌++◌, ◌+◌, ◌-◌, ◌<◌, ◌∙◌, ◌∷◌, ◌≡◌, ◌≤◌}
 use Rattle.std.proofs.lemmas.List.{take_more, drop_more}
 use Rattle.sc_lex.specs.declared.refusal.Phase.TheVariants as phase
 
@@ -91,7 +91,7 @@ cuts_of [] (c ∷ cuts) h = h
 cuts_of (s ∷ ss) [] h = h
 cuts_of (s ∷ ss) (c ∷ cuts) h = (h.0, cuts_of ss cuts h.1)
 
-uncut_at : (text : List ℕ) (part : Part) (line : ℕ) (refusal : Refusal) → line ≡ line_at text part.start →
+uncut_at : (text : List ℕ) (part : TextPart) (line : ℕ) (refusal : Refusal) → line ≡ line_at text part.start →
     RefusesBytes part.bytes line refusal → IsUncut text refusal.line part
 uncut_at text part line refusal same r = record {
   at = r.at;
@@ -125,8 +125,8 @@ first_unread text line i (later {x = s} good f) = later (good.0, tree_read text 
     (first_unread text line i.1 f)
 
 pub heading_fails : (text : List ℕ) (refusal : Refusal) → RefusesHeading text refusal →
-    Fails text refusal.phase refusal.line
-heading_fails text refusal r = subst (λ p. Fails text p refusal.line) (sym r.phase) (bad_heading refusal r refl)
+    FailsReading text refusal.phase refusal.line
+heading_fails text refusal r = subst (λ p. FailsReading text p refusal.line) (sym r.phase) (bad_heading refusal r refl)
 
 -- what reading a text finds
 module _ (text preamble : List ℕ) (ss : List Section) (divided : IsSplit text preamble ss) where
@@ -140,18 +140,19 @@ module _ (text preamble : List ℕ) (ss : List Section) (divided : IsSplit text 
   reads cuts trees cut each trees_are = let read = trees_read text ss trees (in_text divided.following) trees_are in
       record { sections = map part_of ss; lexed = passes [] cuts cut each; each = read }
 
-  fails : (refusal : Refusal) {p : Phase} → refusal.phase ≡ p → Fails text p refusal.line →
-      Fails text refusal.phase refusal.line
-  fails refusal is f = subst (λ p. Fails text p refusal.line) (sym is) f
+  fails : (refusal : Refusal) {p : Phase} → refusal.phase ≡ p → FailsReading text p refusal.line →
+      FailsReading text refusal.phase refusal.line
+  fails refusal is f = subst (λ p. FailsReading text p refusal.line) (sym is) f
 
-  pub preamble_uncut : (refusal : Refusal) → RefusesBytes preamble 1 refusal → Fails text refusal.phase refusal.line
+  pub preamble_uncut : (refusal : Refusal) → RefusesBytes preamble 1 refusal →
+      FailsReading text refusal.phase refusal.line
   preamble_uncut refusal r =
       fails refusal r.phase (uncut _ ss divided
       (here (uncut_at text (record { start = 0; bytes = preamble }) 1 refusal refl r)))
 
   pub section_uncut : (before : List Token) (refusal : Refusal) → IsCut preamble before →
       First IsCuttable (λ s. RefusesBytes s.bytes.now s.line refusal) ss → refusal.phase ≡ phase.Lex →
-      Fails text refusal.phase refusal.line
+      FailsReading text refusal.phase refusal.line
   section_uncut before refusal cut f is = fails refusal is
       (uncut _ ss divided (later (before, cut) (first_uncut text refusal (in_text divided.following) f)))
 
@@ -161,7 +162,7 @@ module _ (text preamble : List ℕ) (ss : List Section) (divided : IsSplit text 
 
   pub section_unread : (cuts : List (List Token)) (refusal : Refusal) → IsCut preamble [] → AllZip IsCutInto ss cuts →
       First IsParsable (RefusesTokens refusal.line) ss → refusal.phase ≡ phase.Syntax →
-      Fails text refusal.phase refusal.line
+      FailsReading text refusal.phase refusal.line
   section_unread cuts refusal cut each f is =
       fails refusal is (in_section (map part_of ss) (passes [] cuts cut each)
       (first_unread text _ (in_text divided.following) f))

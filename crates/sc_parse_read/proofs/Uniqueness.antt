@@ -1,9 +1,9 @@
 -- A text is read or refused in one way, and bytes that are cut aren't refused.
-use Rattle.sc_parse_read.proofs.Common.{AllZip, Bool, Cuts, Fails, FailsLex, FailsSyntax, First, HasTokens, HasTree}
-use Rattle.sc_parse_read.proofs.Common.{IsCut, IsGap, IsParsed, IsRead, IsSplit, IsStuck, IsToken, IsUncut, IsUnread}
-use Rattle.sc_parse_read.proofs.Common.{Lexeme, List, Part, PassesLex, Phase, Reads, Refusal, RefusesBytes}
-use Rattle.sc_parse_read.proofs.Common.{RefusesHeading, Section, SectionTree, SpellsSection, Token, TokenKind, []}
-use Rattle.sc_parse_read.proofs.Common.{allows_directive, ap, ap₂, arith, bad_heading, drop, gap, gap_fits, here}
+use Rattle.sc_parse_read.proofs.Common.{AllZip, Bool, Cuts, FailsLex, FailsReading, FailsSyntax, First, HasTokens}
+use Rattle.sc_parse_read.proofs.Common.{HasTree, IsCut, IsGap, IsParsed, IsRead, IsSplit, IsStuck, IsToken, IsUncut}
+use Rattle.sc_parse_read.proofs.Common.{IsUnread, Lexeme, List, PassesLex, Phase, Reads, Refusal, RefusesBytes}
+use Rattle.sc_parse_read.proofs.Common.{RefusesHeading, Section, SectionTree, SpellsSection, TextPart, Token, TokenKind}
+use Rattle.sc_parse_read.proofs.Common.{[], allows_directive, ap, ap₂, arith, bad_heading, drop, gap, gap_fits, here}
 use Rattle.sc_parse_read.proofs.Common.{in_preamble, in_section, later, length, length-drop, lexemes_of, line_at}
 use Rattle.sc_parse_read.proofs.Common.{nothing, one_gap, parts_of, refl, same_unless, subst, sym, token}
 use Rattle.sc_parse_read.proofs.Common.{token_positive, uncut, ℕ, ◌∙◌, ◌∷◌, ◌≡◌, ◌≤◌}
@@ -77,7 +77,7 @@ parts_agree : {text p q : List ℕ} {ss ss' : List Section} → IsSplit text p s
 parts_agree c d = ap₂ (λ b parts. record { start = 0; bytes = b } ∷ parts) (same_preamble c d) (same_parts c d)
 
 -- a text that passes phase Lex doesn't fail it
-lexed_or_fails : (text : List ℕ) (before : List Token) (sections : List Part) (line : ℕ) →
+lexed_or_fails : (text : List ℕ) (before : List Token) (sections : List TextPart) (line : ℕ) →
     PassesLex text before sections → FailsLex text line → ⊥
 lexed_or_fails text before sections line p (bad_heading refusal r e) = split_good p.split r.at r.bad
 lexed_or_fails text before sections line p (uncut preamble found split f) =
@@ -86,25 +86,25 @@ lexed_or_fails text before sections line p (uncut preamble found split f) =
     (subst (λ parts. First HasTokens (IsUncut text line) parts) (parts_agree split p.split) f) (before ∷ p.cuts)
     (p.cut, subst (λ parts. AllZip (λ part tokens. IsCut part.bytes tokens) parts p.cuts) p.parts p.each)
 
-sections_agree : {text : List ℕ} {before more : List Token} {sections others : List Part} →
+sections_agree : {text : List ℕ} {before more : List Token} {sections others : List TextPart} →
     PassesLex text before sections → PassesLex text more others → sections ≡ others
 sections_agree p q = p.parts ∙ same_parts p.split q.split ∙ sym q.parts
 
 module _ (one_cut : (bytes : List ℕ) (tokens others : List Token) → IsCut bytes tokens → IsCut bytes others →
     tokens ≡ others) where
-  preambles_agree : {text : List ℕ} {before more : List Token} {sections others : List Part} →
+  preambles_agree : {text : List ℕ} {before more : List Token} {sections others : List TextPart} →
       PassesLex text before sections → PassesLex text more others → before ≡ more
   preambles_agree {before = before} {more = more} p q =
       one_cut _ before more (subst (λ b. IsCut b before) (same_preamble p.split q.split) p.cut) q.cut
 
   -- a section that is read isn't refused
-  read_or_unread : (text : List ℕ) (line : ℕ) (section : Part) (tree : SectionTree) → IsRead text section tree →
+  read_or_unread : (text : List ℕ) (line : ℕ) (section : TextPart) (tree : SectionTree) → IsRead text section tree →
       IsUnread text line section → ⊥
   read_or_unread text line section tree r u =
       u.treeless tree (subst (λ tokens. IsParsed _ (lexemes_of _ tokens) tree) (one_cut _ _ _ r.cut u.cut) r.parsed)
 
   pub read_or_refused : (text : List ℕ) (trees : List SectionTree) (which : Phase) (line : ℕ) → Reads text trees →
-      Fails text which line → ⊥
+      FailsReading text which line → ⊥
   read_or_refused text trees phase.Lex line r f = lexed_or_fails text [] _ line r.lexed f
   read_or_refused text trees phase.Syntax line r (in_preamble first more sections p e) =
       let same = preambles_agree r.lexed p in absurd (cc)
@@ -115,13 +115,15 @@ module _ (one_cut : (bytes : List ℕ) (tokens others : List Token) → IsCut by
 
   module _ (one_section : (line : ℕ) (lexemes : List Lexeme) (s t : SectionTree) → SpellsSection line lexemes s →
       SpellsSection line lexemes t → s ≡ t) where
-    one_tree : (text : List ℕ) (section : Part) (x y : SectionTree) → IsRead text section x → IsRead text section y →
+    one_tree : (text : List ℕ) (section : TextPart) (x y : SectionTree) → IsRead text section x →
+        IsRead text section y →
         x ≡ y
     one_tree text section x y r q =
         let here = subst (λ tokens. IsParsed _ (lexemes_of _ tokens) x) (one_cut _ _ _ r.cut q.cut) r.parsed in
         one_section (line_at text _) (lexemes_of _ _) x y here.spelled q.parsed.spelled
 
-    one_list : (text : List ℕ) (sections : List Part) (xs ys : List SectionTree) → AllZip (IsRead text) sections xs →
+    one_list : (text : List ℕ) (sections : List TextPart) (xs ys : List SectionTree) →
+        AllZip (IsRead text) sections xs →
         AllZip (IsRead text) sections ys → xs ≡ ys
     one_list text [] [] [] r q = refl
     one_list text [] [] (y ∷ ys) r q = absurd q
@@ -152,15 +154,15 @@ module _ (one_refusal : (bytes : List ℕ) (line : ℕ) (refusal other : Refusal
       f (subst (λ parts. First HasTokens (IsUncut text second) parts) (parts_agree divided split) g)
 
   lexed : (text : List ℕ) (line : ℕ) → FailsSyntax text line →
-      (before : List Token) × (sections : List Part) × PassesLex text before sections
+      (before : List Token) × (sections : List TextPart) × PassesLex text before sections
   lexed text line (in_preamble first more sections p e) = (first ∷ more, sections, p)
   lexed text line (in_section sections p f) = ([], sections, p)
 
   lex_or_syntax : (text : List ℕ) (line second : ℕ) → FailsLex text line → FailsSyntax text second → ⊥
   lex_or_syntax text line second f g = let p = lexed text second g in lexed_or_fails text p.0 p.1 line p.2 f
 
-  pub one_phase : (text : List ℕ) (which other : Phase) (line second : ℕ) → Fails text which line →
-      Fails text other second → (which ≡ other) × (which ≡ phase.Lex → line ≡ second)
+  pub one_phase : (text : List ℕ) (which other : Phase) (line second : ℕ) → FailsReading text which line →
+      FailsReading text other second → (which ≡ other) × (which ≡ phase.Lex → line ≡ second)
   one_phase text phase.Lex phase.Lex line second f g = (refl, λ e. one_lex_line text line second f g)
   one_phase text phase.Lex phase.Syntax line second f g = absurd (lex_or_syntax text line second f g)
   one_phase text phase.Syntax phase.Lex line second f g = absurd (lex_or_syntax text second line g f)

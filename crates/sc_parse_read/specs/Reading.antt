@@ -10,23 +10,23 @@ use Rattle.sc_lex.specs.declared.refusal.Phase.TheVariants as phase
 use Rattle.sc_parse_read.specs.First.{First}
 
 -- Bytes of a text that are cut by themselves, and the place in the text where they begin.
-pub record Part : Type 0 where
+pub record TextPart : Type 0 where
   pub start : ℕ
   pub bytes : List ℕ
 
-abbrev pub part_of : Section → Part
+abbrev pub part_of : Section → TextPart
 part_of section = record { start = section.start; bytes = section.bytes.now }
 
 -- the parts of a text that is split so: its preamble, and each section
-abbrev pub parts_of : List ℕ → List Section → List Part
+abbrev pub parts_of : List ℕ → List Section → List TextPart
 parts_of preamble sections = record { start = 0; bytes = preamble } ∷ map part_of sections
 
-abbrev pub HasTokens : Part → Type 0
+abbrev pub HasTokens : TextPart → Type 0
 HasTokens part = (tokens : List Token) × IsCut part.bytes tokens
 
 -- A text passes phase Lex: it is a preamble that is cut into these tokens, and these sections, each of which is cut
 -- too.
-pub record PassesLex (text : List ℕ) (before : List Token) (sections : List Part) : Type 0 where
+pub record PassesLex (text : List ℕ) (before : List Token) (sections : List TextPart) : Type 0 where
   pub preamble : List ℕ
   pub found : List Section
   pub cuts : List (List Token)
@@ -36,7 +36,7 @@ pub record PassesLex (text : List ℕ) (before : List Token) (sections : List Pa
   pub each : AllZip (λ part tokens. IsCut part.bytes tokens) sections cuts
 
 -- A section is cut into tokens that spell the tree, which is at most 256 high, with at most 1,024 brackets open.
-pub record IsRead (text : List ℕ) (section : Part) (tree : SectionTree) : Type 0 where
+pub record IsRead (text : List ℕ) (section : TextPart) (tree : SectionTree) : Type 0 where
   pub tokens : List Token
   pub cut : IsCut section.bytes tokens
   pub parsed : IsParsed (line_at text section.start) (lexemes_of section.bytes tokens) tree
@@ -44,13 +44,13 @@ pub record IsRead (text : List ℕ) (section : Part) (tree : SectionTree) : Type
 -- A text is read as the trees of its sections: it passes phase Lex, its preamble has no token, and each section is read
 -- as its tree.
 pub record Reads (text : List ℕ) (trees : List SectionTree) : Type 0 where
-  pub sections : List Part
+  pub sections : List TextPart
   pub lexed : PassesLex text [] sections
   pub each : AllZip (IsRead text) sections trees
 
 -- The part isn't cut: in this line of the text stands the first place that begins neither white space, nor a comment,
 -- nor a token.
-abbrev pub IsUncut : List ℕ → ℕ → Part → Type 0
+abbrev pub IsUncut : List ℕ → ℕ → TextPart → Type 0
 IsUncut text line part = RefusesBytes part.bytes (line_at text part.start) (record { phase = phase.Lex; line = line })
 
 -- A text fails phase Lex in a line: that of its first bad compartment line, or, where none is bad, that of the first
@@ -60,11 +60,11 @@ pub data FailsLex (text : List ℕ) (line : ℕ) : Type 0 where
   uncut : (preamble : List ℕ) (sections : List Section) → IsSplit text preamble sections →
       First HasTokens (IsUncut text line) (parts_of preamble sections) → FailsLex text line
 
-abbrev pub HasTree : List ℕ → Part → Type 0
+abbrev pub HasTree : List ℕ → TextPart → Type 0
 HasTree text section = (tree : SectionTree) × IsRead text section tree
 
 -- The tokens of a section spell no tree within the limits, and one of them stands in this line of the text.
-pub record IsUnread (text : List ℕ) (line : ℕ) (section : Part) : Type 0 where
+pub record IsUnread (text : List ℕ) (line : ℕ) (section : TextPart) : Type 0 where
   pub tokens : List Token
   pub cut : IsCut section.bytes tokens
   pub treeless : (tree : SectionTree) → IsParsed (line_at text section.start) (lexemes_of section.bytes tokens) tree → ⊥
@@ -73,13 +73,14 @@ pub record IsUnread (text : List ℕ) (line : ℕ) (section : Part) : Type 0 whe
 -- A text passes phase Lex and fails phase Syntax in a line: that of the preamble's first token, or, where it has none,
 -- that of a token of the first section that isn't read.
 pub data FailsSyntax (text : List ℕ) (line : ℕ) : Type 0 where
-  in_preamble : (first : Token) (more : List Token) (sections : List Part) → PassesLex text (first ∷ more) sections →
+  in_preamble : (first : Token) (more : List Token) (sections : List TextPart) →
+      PassesLex text (first ∷ more) sections →
       line ≡ first.line → FailsSyntax text line
-  in_section : (sections : List Part) → PassesLex text [] sections →
+  in_section : (sections : List TextPart) → PassesLex text [] sections →
       First (HasTree text) (IsUnread text line) sections → FailsSyntax text line
 
 -- a text fails a phase of reading in a line
-abbrev pub Fails : List ℕ → Phase → ℕ → Type 0
-Fails text phase.Lex line = FailsLex text line
-Fails text phase.Syntax line = FailsSyntax text line
-Fails text _ line = ⊥
+abbrev pub FailsReading : List ℕ → Phase → ℕ → Type 0
+FailsReading text phase.Lex line = FailsLex text line
+FailsReading text phase.Syntax line = FailsSyntax text line
+FailsReading text _ line = ⊥

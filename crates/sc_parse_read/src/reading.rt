@@ -4,7 +4,7 @@ ghost use Rattle.std.specs.List.{AllZip};
 ghost use Rattle.sc_lex.specs.declared.refusal.Refusal.{Refusal};
 ghost use Rattle.sc_lex.specs.declared.refusal.Phase.TheVariants.{Syntax};
 ghost use Rattle.sc_parse_read.specs.First.{First};
-ghost use Rattle.sc_parse_read.specs.Reading.{Reads, Fails};
+ghost use Rattle.sc_parse_read.specs.Reading.{Reads, FailsReading};
 ghost use Rattle.sc_parse_read.specs.Steps.{IsCutInto, IsCuttable, IsTreeOf, IsParsable, RefusesTokens};
 
 use sc_ast::SectionTree;
@@ -20,7 +20,7 @@ pub type Trees = Items<SectionTree>;
 pub fn read_trees(alloc: Global, text: &[u8]) -> Result<Trees, TextFault>
     ensures read { IfOk result (Reads text.now) }
     ensures refused { (refusal : Refusal) → IsErrOf result (TextFault.Refused refusal) →
-        Fails text.now refusal.phase refusal.line }
+        FailsReading text.now refusal.phase refusal.line }
 {
     let Split { preamble, sections } = sections(alloc, text)?;
     let before = tokens(alloc, preamble, 1)?;

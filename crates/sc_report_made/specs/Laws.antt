@@ -1,4 +1,5 @@
 -- A made text is a program, and a small one.
+use Rattle.sc_core.specs.Prelude.{most_frame}
 use Rattle.sc_ast.specs.Prelude.{SameButLines}
 use Rattle.sc_core.specs.Prelude.{cells_of, frame_bound, nodes, total, variables}
 use Rattle.sc_types_elab.specs.Prelude.{program_of}
@@ -38,10 +39,10 @@ MadeTextsAreRead = (size seed : ℕ) → IsAsked size seed → IsReadAs (made_te
 
 -- Rules and sizes.
 
--- few cells of globals, functions with frames of at most 32,768 bytes, and few nodes
+-- few cells of globals, functions with frames that fit, and few nodes
 pub record IsSmall (section : TypedSection) : Type 0 where
   pub cells : total (map {A = TypedGlobal} (λ global. cells_of section.structs global.ty) section.globals) ≤ 16
-  pub frames : All {X = TypedFunction} (λ f. frame_bound (variables section.structs f) (nodes f) ≤ 32768)
+  pub frames : All {X = TypedFunction} (λ f. frame_bound (variables section.structs f) (nodes f) ≤ most_frame)
       section.functions
   pub nodes : total (map nodes section.functions) ≤ 10000
 

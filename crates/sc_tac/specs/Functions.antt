@@ -1,4 +1,5 @@
 -- What a function of three-address code keeps.
+use Rattle.sc_core.specs.Prelude.{instrs_a_node}
 use Rattle.sc_tac.specs.Common.{Entry, most_nodes, most_params}
 use Rattle.std.specs.Prelude.{◌≤◌, ◌<◌, ℕ, ◌+◌, ◌*◌, ◌^◌, Bool, true, false, not, ◌&&◌, ◌||◌, ◌==◌, nat_lt, nat_le}
 use Rattle.std.specs.Prelude.{List, map, length, take, Option, None, Some, is_some, IsTrue}
@@ -115,7 +116,7 @@ pub record IsFunction (f : TacFnTree) : Type 0 where
   pub few_params : f.params ≤ most_params
   pub few_nodes : f.nodes ≤ most_nodes
   pub few_temps : f.temps ≤ f.nodes
-  pub light : entry_weight f.params + weight f.body < 24 * f.nodes
+  pub light : entry_weight f.params + weight f.body < instrs_a_node * f.nodes
   pub params_stored : f.params ≤ length f.objects
   pub words_enter : IsTrue (enters_by_words f.entry f.params f.objects)
   pub own_temps : IsTrue (everywhere (names_own_temps f.temps) f.body)

@@ -3,7 +3,7 @@ use Rattle.sc_top.proofs.Common.{Bool, Check, Command, Compile, Exec, Explain, I
 use Rattle.sc_top.proofs.Common.{Meaning, None, Option, Run, RunOptions, Some, arith, codes, false, if◌then◌else◌}
 use Rattle.sc_top.proofs.Common.{leb-true, nat_le, none-some, option_and_then, option_map, refl, subst, true, ℕ, ℤ}
 use Rattle.sc_top.proofs.Common.{◌&&◌, ◌≡◌, ◌≤◌}
-use Rattle.sc_top_words.specs.Prelude.{has_option, number, number_within, value_of, when_within}
+use Rattle.sc_top_words.specs.Prelude.{has_option, number, number_within, given_value, when_within}
 use Rattle.std.specs.Str.{bytes_eq}
 use Rattle.sc_top_words.specs.Words as words
 unfoldable use Rattle.sc_top_words.specs.Words.{command}
@@ -90,10 +90,10 @@ with_values name value summary c =
     (of_value 1 1000 (value _)) (of_value 0 4294967295 (value _))) c) (λ is. absurd (none-some c is))))))))
 
 of_parsed : (read : Option (List ℕ × List (List ℕ × List ℕ))) (c : Command) →
-    option_and_then (λ read. words.command_with read.0 (λ name. value_of name read.1)
+    option_and_then (λ read. words.command_with read.0 (λ name. given_value name read.1)
     (has_option (codes "summary") read.1)) read ≡ Some c → IsBounded c
 of_parsed None c is = absurd (none-some c is)
-of_parsed (Some read) c is = with_values read.0 (λ name. value_of name read.1) (has_option _ read.1) c is
+of_parsed (Some read) c is = with_values read.0 (λ name. given_value name read.1) (has_option _ read.1) c is
 
 -- a command that words are
 pub asked_few : (asked : List (List ℕ)) (c : Command) → command asked ≡ Some c → IsBounded c

@@ -9,13 +9,25 @@ pub data Intake : Type 0 where
   Image : (limit : ℕ) → Intake
   Nothing : Intake
 
+-- bytes of a text that is read
+abbrev pub most_text : ℕ
+most_text = 8388608
+
+-- bytes of a text that is compiled
+abbrev pub most_compiled : ℕ
+most_compiled = 1048576
+
+-- bytes of an image
+abbrev pub most_image : ℕ
+most_image = 67108864
+
 abbrev pub intake : Command → Intake
-intake Check = Text 8388608
-intake (Meaning options) = Text 8388608
-intake Compile = Text 1048576
-intake (Run options) = Text 1048576
-intake (Explain options show) = Text 1048576
-intake (Exec options) = Image 67108864
+intake Check = Text most_text
+intake (Meaning options) = Text most_text
+intake Compile = Text most_compiled
+intake (Run options) = Text most_compiled
+intake (Explain options show) = Text most_compiled
+intake (Exec options) = Image most_image
 intake (Make options) = Nothing
 
 abbrev pub limit_in : Intake → Option ℕ

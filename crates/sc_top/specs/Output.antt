@@ -1,4 +1,6 @@
 -- What each command writes for the program of a text and its image, or for an image.
+use Rattle.sc_top_words.specs.Words.{most_steps}
+use Rattle.sc_base.specs.Prelude.{most_events}
 use Rattle.sc_top.specs.Common.{Accepts, Command, Interfaces, IsCompiled, IsExplained, IsImage, IsSource, Link}
 use Rattle.sc_top.specs.Common.{ProgramTree, Run, SourceParts, among, image_bytes, image_of, interfaces_of, machine}
 use Rattle.sc_top.specs.Common.{recomposed}
@@ -107,7 +109,7 @@ pub record IsSummary (options : MakeOptions) (text : List ℕ) : Type 0 where
   pub parts : IsSource source
   pub made : source.bytes ≡ made_text options.size options.seed
   pub explanation : Explanation
-  pub explained : IsExplained source [] 16777216 4096 explanation
+  pub explained : IsExplained source [] most_steps most_events explanation
   pub written : text ≡ summary_text options.size source.program.interfaces explanation
 
 abbrev pub IsMadeBy : (summary : Bool) → MakeOptions → List ℕ → Type 0

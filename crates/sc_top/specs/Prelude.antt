@@ -1,14 +1,17 @@
 -- What this crate's contracts, its proofs and the crates above cite, passed on from one place. Declares nothing.
+pub use Rattle.sc_base.specs.Prelude.{most_events}
 pub use Rattle.sc_event.specs.Prelude.{IsKnown, comp_at, comp_name, legal}
 pub use Rattle.sc_types.specs.Prelude.{Accepts, IsSource}
 pub use Rattle.sc_compile.specs.Prelude.{IsCompiled, too_large}
 pub use Rattle.sc_chain.specs.Prelude.{IsExplained, IsFault}
+pub use Rattle.sc_top_words.specs.Prelude.{most_steps}
+unfoldable pub use Rattle.sc_top_words.specs.Prelude.{command}
 pub use Rattle.sc_top_words.specs.declared.command.Command.{Command}
 pub use Rattle.sc_top_words.specs.declared.command.Command.TheVariants.{Check, Compile, Exec, Explain, Meaning, Run}
 pub use Rattle.sc_top.specs.Answer.{Answers, FindsBad, IsAnswer, IsGood, IsGoodText, IsInput, IsSilent, IsUndisturbed}
 pub use Rattle.sc_top.specs.Answer.{IsUnfit, IsWhole, IsWithin, IsWithinLimit, Prints, Refuses, SameAnswer, Says}
 pub use Rattle.sc_top.specs.Answer.{Traffic, cause_in}
-pub use Rattle.sc_top.specs.Command.{limit_of}
+pub use Rattle.sc_top.specs.Command.{limit_of, most_image}
 pub use Rattle.sc_top.specs.Failure.{IsInputCause, IsOutputCause, of_image_fault, of_read_fault, of_text_fault}
 pub use Rattle.sc_top.specs.Failure.{of_words_fault, status_by, status_of}
 pub use Rattle.sc_top.specs.Fetching.{Fetches}

@@ -1,4 +1,5 @@
 -- Helping: texts as commands read them, and what comes of compiling them.
+use Rattle.sc_base.specs.Prelude.{most_events}
 use Rattle.sc_top.specs.Common.{Command, CompileFault, Fails, Interfaces, Link, ProgramTree, SourceParts, comp_at}
 use Rattle.sc_top.specs.Common.{performing_text}
 use Rattle.std.specs.Prelude.{◌≡◌, ◌≤◌, ℕ, List, All, Option, None, Some, IsSome}
@@ -21,7 +22,7 @@ IsReading bytes _ = ⊥
 -- the options of `explain` allow so few events that compartments can perform them, and those of `make` are such that
 -- programs are made from them
 abbrev pub IsBounded : Command → Type 0
-IsBounded (commands.Explain options show) = options.events ≤ 4096
+IsBounded (commands.Explain options show) = options.events ≤ most_events
 IsBounded (commands.Make options) = IsAsked options.size options.seed
 IsBounded command = Unit {0}
 

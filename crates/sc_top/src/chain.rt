@@ -1,5 +1,6 @@
 //! The command that accounts for a run.
 
+ghost use Rattle.sc_base.specs.Prelude.{most_events};
 ghost use Rattle.sc_top.specs.Prelude.{ArePerforming, Explain, IsCompiling, IsExplained, IsFault, IsOutput};
 ghost use Rattle.sc_top.specs.Prelude.{IsOutputCause, account, legal, replacement_of, text_after};
 ghost use Rattle.sc_word.specs.Prelude.{word_of};
@@ -22,7 +23,7 @@ pub(crate) fn explain(
     show: Option<u32>,
     bytes: &[u8],
 ) -> Result<Text, Failure>
-    requires few { options.now.events ≤ 4096 }
+    requires few { options.now.events ≤ most_events }
     ensures ok { IfOk result (IsOutput (Explain options.now show) bytes.now) }
     ensures cause { IfErr result (IsOutputCause (Explain options.now show) bytes.now) }
 {
@@ -37,7 +38,7 @@ fn explained(
     options: &RunOptions,
     source: &SourceText,
 ) -> Result<Explanation, Failure>
-    requires few { options.now.events ≤ 4096 }
+    requires few { options.now.events ≤ most_events }
     ensures explained { IfOk result (IsExplained source.now (map word_of options.now.inputs)
         options.now.steps options.now.events) }
     ensures allowed { IfOk result (λ explanation.

@@ -1,5 +1,6 @@
 //! What holds of every text.
 
+ghost use Rattle.sc_top.specs.Command.{most_image};
 ghost use Rattle.sc_top.specs.Prelude.{Command, IsAnswer, IsOutput, SameAnswer};
 ghost use Rattle.sc_image.specs.Prelude.{IsImage};
 ghost use Rattle.std.specs.Prelude.{◌≡◌, ◌≤◌, ℕ, List, length};
@@ -10,7 +11,7 @@ use sc_types::{accepted_or_refused, one_phase, one_program};
 
 /// An image is never longer than the command takes that reads it.
 pub fn images_are_within()
-    ensures { (bytes : List ℕ) → IsImage bytes → length bytes ≤ 67108864 }
+    ensures { (bytes : List ℕ) → IsImage bytes → length bytes ≤ most_image }
 {}
 
 /// Bytes have one answer at most.

@@ -1,5 +1,7 @@
 //! The command that makes programs.
 
+ghost use Rattle.sc_top_words.specs.Words.{most_steps};
+ghost use Rattle.sc_base.specs.Prelude.{most_events};
 ghost use Rattle.sc_top.specs.Prelude.{IsExplained, IsMade, IsMadeText, IsSource, IsSummary, too_large};
 ghost use Rattle.sc_report_made.specs.Laws.{IsAccepted, IsAsked};
 ghost use Rattle.std.specs.Prelude.{◌≡◌, [], None, IfOk};
@@ -74,7 +76,7 @@ fn read_made(alloc: Global, bytes: &[u8]) -> Result<SourceText, OutOfMemory>
 
 fn explain_made(alloc: Global, source: &SourceText) -> Result<Explanation, OutOfMemory>
     requires { too_large source.now.program ≡ None }
-    ensures { IfOk result (IsExplained source.now [] 16777216 4096) }
+    ensures { IfOk result (IsExplained source.now [] most_steps most_events) }
 {
     match explain(alloc, source, &[], STEPS, EVENTS) {
         Ok(explanation) => Ok(explanation),

@@ -1,5 +1,5 @@
 -- Words of which one is bare are no command.
-use Rattle.sc_top_words.proofs.Common.{Bool, Form, List, None, Option, Setting, Some, Text, [], and_from, ap, arith}
+use Rattle.sc_top_words.proofs.Common.{Bool, Form, Given, List, None, Option, Some, Text, [], and_from, ap, arith}
 use Rattle.sc_top_words.proofs.Common.{begins_with_hyphen, bytes_eq, commands, cond, eqb-true, false, find, form_of}
 use Rattle.sc_top_words.proofs.Common.{has_value, is_among, is_bare, list_all, list_any, more, named, named_option, not}
 use Rattle.sc_top_words.proofs.Common.{option_and_then, option_map, options, or_parts, parsed, refl, same_text}
@@ -35,7 +35,7 @@ pub names_of_forms : (name : Text) (form : Form) → form_of name ≡ Some form 
 names_of_forms = by_command _ commands
     ((refl, refl), ((refl, refl), ((refl, refl), ((refl, refl), ((refl, refl), ((refl, refl), ((refl, refl), tt)))))))
 
-nothing_after : (form : Form) (o : Option (Text × Option Text)) (following : Option Text → Option (List Setting)) →
+nothing_after : (form : Form) (o : Option (Text × Option Text)) (following : Option Text → Option (List Given)) →
     ((waiting : Option Text) → following waiting ≡ None) → named_option form o following ≡ None
 nothing_after form None following none = refl
 nothing_after form (Some (name, Some value)) following none = go (has_value form name)
@@ -51,7 +51,7 @@ nothing_after form (Some (name, None)) following none = go (has_value form name)
     go false false = refl
 
 -- a bare word names no option
-bare_fails : (form : Form) → HasNames form → (word : Text) (following : Option Text → Option (List Setting)) →
+bare_fails : (form : Form) → HasNames form → (word : Text) (following : Option Text → Option (List Given)) →
     is_bare word ≡ true → named_option form (named word) following ≡ None
 bare_fails form has [] following bare = absurd (true≢false (sym bare))
 bare_fails form has (a ∷ []) following bare = go _ refl
@@ -112,13 +112,13 @@ bare_words [] bare = absurd (true≢false (sym bare))
 bare_words (name ∷ words) bare = go (is_bare name) refl (form_of name) refl
   where
     go : (b : Bool) → is_bare name ≡ b → (o : Option Form) → form_of name ≡ o
-        → option_map {U = Text × List Setting} (λ settings. (name, settings))
+        → option_map {U = Text × List Given} (λ settings. (name, settings))
         (option_and_then (λ form. options form words) o) ≡ None
     go b e None is = refl
     go true e (Some form) is =
         let none : form_of name ≡ None = no_command name e in
         cc
-    go false e (Some form) is = ap (λ o. option_map {U = Text × List Setting} (λ settings. (name, settings))
+    go false e (Some form) is = ap (λ o. option_map {U = Text × List Given} (λ settings. (name, settings))
         (option_and_then (when_complete form) o)) (no_options form (names_of_forms name form is) words
         (rw e at bare) None)
 

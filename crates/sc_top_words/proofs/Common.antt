@@ -30,11 +30,12 @@ pub use Rattle.std.specs.Str.{all_ascii_digits, bytes_eq}
 pub use Rattle.std.specs.String.{string_bytes}
 pub use Rattle.sc_base.proofs.Lists.{find_passes}
 pub use Rattle.sc_base.proofs.Texts.{bytes_eq_self, same_either_way, same_text}
-pub use Rattle.sc_top_words.specs.Prelude.{Form, IsCommandOf, IsReading, Says, Setting, Text, app_of, application}
+pub use Rattle.sc_base.specs.Prelude.{Text}
+pub use Rattle.sc_top_words.specs.Prelude.{Form, Given, IsCommandOf, IsReading, Says, app_of, application}
 pub use Rattle.sc_top_words.specs.Prelude.{begins_with_hyphen, command_with, commands, each_once, events, first_piece}
-pub use Rattle.sc_top_words.specs.Prelude.{flag_rule, flag_text, form_of, found_of, has_option, has_value, inputs}
-pub use Rattle.sc_top_words.specs.Prelude.{integer, integer_list, is_among, is_bare, is_comma, kind_of, limit}
+pub use Rattle.sc_top_words.specs.Prelude.{flag_rule, flag_text, form_of, found_of, given_value, has_option, has_value}
+pub use Rattle.sc_top_words.specs.Prelude.{inputs, integer, integer_list, is_among, is_bare, is_comma, kind_of, limit}
 pub use Rattle.sc_top_words.specs.Prelude.{make_form, more, name_and_value, named, named_option, number_within}
-pub use Rattle.sc_top_words.specs.Prelude.{onto_first, options, parsed, pieces_after, prepended, run, shape_with}
-pub use Rattle.sc_top_words.specs.Prelude.{text_to_show, top, value_of, valued_rule, when_complete, when_within}
+pub use Rattle.sc_top_words.specs.Prelude.{onto_first, options, parsed, pieces_after, prepended, run_options}
+pub use Rattle.sc_top_words.specs.Prelude.{shape_with, text_to_show, top, valued_rule, when_complete, when_within}
 unfoldable pub use Rattle.sc_top_words.specs.Prelude.{command, integers, pieces, settings}

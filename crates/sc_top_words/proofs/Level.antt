@@ -1,5 +1,5 @@
 -- What a parse makes of the words after a command's name: the options that they give, or a fault.
-use Rattle.sc_top_words.proofs.Common.{Bool, Form, Held, Kinds, List, None, Option, Row, Rule, Setting, Shape, Some}
+use Rattle.sc_top_words.proofs.Common.{Bool, Form, Given, Held, Kinds, List, None, Option, Row, Rule, Shape, Some}
 use Rattle.sc_top_words.proofs.Common.{Step, Text, Waiting, Walk, [], after_flag, after_step, ap, append-nil}
 use Rattle.sc_top_words.proofs.Common.{append_assoc, ap₂, arg_by_id, begins_with_hyphen, bytes_eq_self, check_fault}
 use Rattle.sc_top_words.proofs.Common.{codes, cond, defaults_fault, each_once, false, finished, fold, has_option}
@@ -92,19 +92,19 @@ module _ (title : Text) (form : Form) where
 
   -- ---- what the words come to, where `before` is given already
 
-  abbrev accepted : List Setting → Option (List Setting) → Option (List Setting)
+  abbrev accepted : List Given → Option (List Given) → Option (List Given)
   accepted before = option_and_then (λ following. when_complete form (before ++ following))
 
-  abbrev pub Agrees : Kinds → List Row → Option (List Setting) → Type 0
+  abbrev pub Agrees : Kinds → List Row → Option (List Given) → Type 0
   Agrees k now None = k ≡ [] → ⊥
   Agrees k now (Some all) = (k ≡ []) × (now ≡ final form all)
 
   -- a walk over words goes as the definition says
-  abbrev GoesAs : Walk → List Text → Option (List Setting) → Type 0
+  abbrev GoesAs : Walk → List Text → Option (List Given) → Type 0
   GoesAs w words = Agrees (faults w words) (ends w words)
 
   -- a word, and then the others
-  goes_on : (w next : Walk) (word : Text) (words : List Text) (k : Kinds) (o : Option (List Setting)) →
+  goes_on : (w next : Walk) (word : Text) (words : List Text) (k : Kinds) (o : Option (List Given)) →
       turn_fault s [] w word ≡ k → walked rs [] w word ≡ next →
       Agrees (or_else k (faults next words)) (ends next words) o → GoesAs w (word ∷ words) o
   goes_on w next word words k o turns walks agrees = subst (λ k. Agrees k (ends w (word ∷ words)) o)
@@ -112,18 +112,18 @@ module _ (title : Text) (form : Form) where
       (subst (λ rows. Agrees (or_else k (faults next words)) rows o)
       (sym (ends_next w word words ∙ ap (λ w. ends w words) walks)) agrees)
 
-  accepted_more : (before : List Setting) (name value : Text) (following : Option (List Setting))
+  accepted_more : (before : List Given) (name value : Text) (following : Option (List Given))
       → accepted before (more name value following) ≡ accepted (before ++ (name, value) ∷ []) following
   accepted_more before name value None = refl
   accepted_more before name value (Some following) = ap (when_complete form) (sym (append_assoc before _ following))
 
-  accepted_again : (before : List Setting) (name value : Text) (following : Option (List Setting)) →
+  accepted_again : (before : List Given) (name value : Text) (following : Option (List Given)) →
       has_option name before ≡ true → accepted before (more name value following) ≡ None
   accepted_again before name value None has = refl
   accepted_again before name value (Some following) has = rw (repeated before name value following has) refl
 
   abbrev IdleAgrees : List Text → Type 0
-  IdleAgrees words = (h : Held) (before : List Setting) → settle_fault rs false h ≡ [] →
+  IdleAgrees words = (h : Held) (before : List Given) → settle_fault rs false h ≡ [] →
       (settled rs h).rows ≡ rows form before → each_once before ≡ true
       → GoesAs (at idle h) words (accepted before (settings form None words))
 
@@ -137,7 +137,7 @@ module _ (title : Text) (form : Form) where
   waiting_for name now skip = at (option name) (holding name [] now skip)
 
   abbrev WaitingAgrees : List Text → Type 0
-  WaitingAgrees words = (name : Text) (now : List Row) (skip : ℕ) (before : List Setting) → has_value form name ≡ true →
+  WaitingAgrees words = (name : Text) (now : List Row) (skip : ℕ) (before : List Given) → has_value form name ≡ true →
       now ≡ rows form before → each_once before ≡ true →
       GoesAs (waiting_for name now skip) words (accepted before (settings form (Some name) words))
 
@@ -205,16 +205,16 @@ module _ (title : Text) (form : Form) where
       (sym (idle_long h x xs) ∙ e)) word (first_not _ _ all).0)
 
   -- what follows a word `--name` or `--name=value` where nothing waits, by the rule of its name
-  abbrev GoesBy : Held → List Setting → Text → List Text → Option Rule → Option Text → Option (List Setting) → Type 0
+  abbrev GoesBy : Held → List Given → Text → List Text → Option Rule → Option Text → Option (List Given) → Type 0
   GoesBy h before word words a v o = Agrees (or_else (fault_by idle word a v h) (faults (walk_by h word a v) words))
       (ends (walk_by h word a v) words) (accepted before o)
 
-  abbrev LongAgrees : Held → List Setting → Text → Text → Option Text → List Text → Option Rule → Type 0
+  abbrev LongAgrees : Held → List Given → Text → Text → Option Text → List Text → Option Rule → Type 0
   LongAgrees h before word name v words a =
       GoesBy h before word words a v (named_option form (Some (name, v)) (λ waiting. settings form waiting words))
 
   -- one option more, which nothing waits for any longer: a fault where it is given again, otherwise all goes on
-  one_more : (next : Held) (before : List Setting) (name value : Text) (words : List Text) (k : Kinds) →
+  one_more : (next : Held) (before : List Given) (name value : Text) (words : List Text) (k : Kinds) →
       each_once before ≡ true → IdleAgrees words →
       (has_option name before ≡ true → or_else k (faults (at idle next) words) ≡ [] → ⊥) →
       (has_option name before ≡ false → (k ≡ []) × (settle_fault rs false next ≡ []) ×
@@ -223,7 +223,7 @@ module _ (title : Text) (form : Form) where
       (accepted before (more name value (settings form None words)))
   one_more next before name value words k once idles again new = go (has_option name before) refl
     where
-      following : Option (List Setting)
+      following : Option (List Given)
       following = settings form None words
 
       go : (b : Bool) → has_option name before ≡ b → Agrees (or_else k (faults (at idle next) words))
@@ -236,7 +236,7 @@ module _ (title : Text) (form : Form) where
           (sym (accepted_more before name value following)) (idles next (before ++ (name, value) ∷ []) fine.1
           (fine.2 ∙ sym (map-append _ before _)) (once_more before name value once e)))
 
-  module _ (h : Held) (before : List Setting) (word name : Text) (words : List Text)
+  module _ (h : Held) (before : List Given) (word name : Text) (words : List Text)
       (settles : settle_fault rs false h ≡ [])
       (now : (settled rs h).rows ≡ rows form before) (once : each_once before ≡ true) (idles : IdleAgrees words)
       (waits : WaitingAgrees words) where
@@ -244,7 +244,7 @@ module _ (title : Text) (form : Form) where
     has_now = ap (has_row name) now ∙ has_row_rows form name before
 
     -- the definition's side, computed
-    by_option : (a : Option Rule) (v : Option Text) (o : Option (List Setting)) →
+    by_option : (a : Option Rule) (v : Option Text) (o : Option (List Given)) →
         named_option form (Some (name, v)) (λ waiting. settings form waiting words) ≡ o →
         GoesBy h before word words a v o → LongAgrees h before word name v words a
     by_option a v o is agrees = subst (GoesBy h before word words a v) (sym is) agrees
@@ -305,7 +305,7 @@ module _ (title : Text) (form : Form) where
       no_name [] e = refl
       no_name (x ∷ xs) e = rw (first_plain x xs e) refl
 
-      given : Option (Text × Option Text) → Option (List Setting)
+      given : Option (Text × Option Text) → Option (List Given)
       given name = accepted before (named_option form name (λ waiting. settings form waiting words))
 
       plain : (w : Text) → begins_with_hyphen w ≡ false → GoesAs (at idle h) (w ∷ words) (given (named w))
@@ -363,10 +363,10 @@ module _ (title : Text) (form : Form) where
       r : Bool
       r = (found_by_id name now skip has).0
 
-      taken : Text → Option (List Setting)
+      taken : Text → Option (List Given)
       taken w = more name w (settings form None words)
 
-      given : Text → Bool → Option (List Setting)
+      given : Text → Bool → Option (List Given)
       given w hyphen = accepted before (cond hyphen None (taken w))
 
       has_now : has_row name now ≡ has_option name before

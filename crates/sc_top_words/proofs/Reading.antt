@@ -1,12 +1,12 @@
 -- The command that a parse which succeeds comes to.
-use Rattle.sc_top_words.proofs.Common.{App, Bool, Box, ErrorKind, Form, HasMatchesOf, IsAmong, IsReading, List, None}
-use Rattle.sc_top_words.proofs.Common.{Option, Row, Says, Setting, Some, Text, [], ap, application, bytes_eq, codes}
+use Rattle.sc_top_words.proofs.Common.{App, Bool, Box, ErrorKind, Form, Given, HasMatchesOf, IsAmong, IsReading}
+use Rattle.sc_top_words.proofs.Common.{List, None, Option, Row, Says, Some, Text, [], ap, application, bytes_eq, codes}
 use Rattle.sc_top_words.proofs.Common.{command, command_with, commands, events, false, fault_of, first_of}
-use Rattle.sc_top_words.proofs.Common.{first_value-rows, flag_text, form_of, has_option, has_value, inputs, is_among}
-use Rattle.sc_top_words.proofs.Common.{is_bare, is_simple, limit, list_any, make_form, number_within, one_of}
-use Rattle.sc_top_words.proofs.Common.{one_text-rows, option_and_then, option_map, parsed, refl, rows_of, run}
+use Rattle.sc_top_words.proofs.Common.{first_value-rows, flag_text, form_of, given_value, has_option, has_value, inputs}
+use Rattle.sc_top_words.proofs.Common.{is_among, is_bare, is_simple, limit, list_any, make_form, number_within, one_of}
+use Rattle.sc_top_words.proofs.Common.{one_text-rows, option_and_then, option_map, parsed, refl, rows_of, run_options}
 use Rattle.sc_top_words.proofs.Common.{same_text, subcommand_of, subcommand_rows, subcommand_rows_of, subst, sym}
-use Rattle.sc_top_words.proofs.Common.{text_to_show, true, value_of, ◌∙◌, ◌≡◌}
+use Rattle.sc_top_words.proofs.Common.{text_to_show, true, ◌∙◌, ◌≡◌}
 use Rattle.sc_top_words.specs.declared.command.Command.TheVariants.{Exec, Explain, Make, Meaning, Run}
 use Rattle.std.specs.Box.{box_value}
 use Rattle.clap.specs.Matches.{first_value, one_text, subcommand_name_of}
@@ -20,18 +20,19 @@ use Rattle.sc_top_words.proofs.Top.{Reads, has_matches, words_agree}
 -- each command reads only the options of its form
 
 abbrev Same : Text → Form → Type 0
-Same name form = (settings : List Setting) (rows : List Row) (summary : Bool) → Says form settings rows
-    → command_with name (λ n. first_of n rows) summary ≡ command_with name (λ n. value_of n settings) summary
+Same name form = (settings : List Given) (rows : List Row) (summary : Bool) → Says form settings rows
+    → command_with name (λ n. first_of n rows) summary ≡ command_with name (λ n. given_value n settings) summary
 
 -- a command with the options of `run`
-runs_same : (form : Form) (settings : List Setting) (rows : List Row) → Says form settings rows →
+runs_same : (form : Form) (settings : List Given) (rows : List Row) → Says form settings rows →
     has_value form (codes "steps") ≡ true → has_value form (codes "events") ≡ true →
-    has_value form (codes "in") ≡ true → form.flags ≡ [] → run (λ n. first_of n rows) ≡ run (λ n. value_of n settings)
+    has_value form (codes "in") ≡ true → form.flags ≡ [] → run_options (λ n. first_of n rows) ≡
+    run_options (λ n. given_value n settings)
 runs_same form settings rows says has_steps has_events has_inputs none =
     λ i. option_and_then (λ steps. option_and_then (λ events. option_map (λ inputs.
     record { steps = steps; events = events; inputs = inputs }) (inputs (given (codes "in") has_inputs i)))
     (events (given (codes "events") has_events i))) (limit (given (codes "steps") has_steps i)) where
-      given : (name : Text) → has_value form name ≡ true → first_of name rows ≡ value_of name settings
+      given : (name : Text) → has_value form name ≡ true → first_of name rows ≡ given_value name settings
       given name has = says.values name has (ap (λ flags. is_among flags name) none)
 
 pub values_same : (name : Text) (form : Form) → form_of name ≡ Some form → Same name form
@@ -66,7 +67,7 @@ values_same = by_command Same commands (
   ),
 )
 
-pub summary_same : (name : Text) (form : Form) (settings : List Setting) (rows : List Row) → form_of name ≡ Some form →
+pub summary_same : (name : Text) (form : Form) (settings : List Given) (rows : List Row) → form_of name ≡ Some form →
     Says form settings rows → bytes_eq name (codes "make") ≡ true →
     one_of (codes "summary") rows ≡ Some (flag_text (has_option (codes "summary") settings))
 summary_same name form settings rows has says make =
@@ -83,7 +84,7 @@ reading words a m is bare matches passes = go (parsed words) refl (words_agree w
     entered : subcommand_rows_of m ≡ subcommand_of application words
     entered = (matches (ap is_simple is ∙ has_matches)).1 ∙ ap (λ x. subcommand_of x words) is
 
-    go : (o : Option (Text × List Setting)) → parsed words ≡ o →
+    go : (o : Option (Text × List Given)) → parsed words ≡ o →
         Reads (fault_of application words) (subcommand_of application words) o → IsReading words m
     go None e fails = absurd (fails (sym (ap (λ x. fault_of x words) is) ∙ passes))
     go (Some read) e reads = record {
@@ -100,7 +101,7 @@ pub refusal : (words : List Text) (a : App) (k : ErrorKind) → a ≡ applicatio
     IsAmong k (fault_of a words) → parsed words ≡ None
 refusal words a k is bare among = go (parsed words) refl (words_agree words (none_bare words bare))
   where
-    go : (o : Option (Text × List Setting)) → parsed words ≡ o →
+    go : (o : Option (Text × List Given)) → parsed words ≡ o →
         Reads (fault_of application words) (subcommand_of application words) o → parsed words ≡ None
     go None e fails = e
     go (Some read) e reads = absurd (subst (IsAmong k) (ap (λ x. fault_of x words) is ∙ reads.0) among)

@@ -1,12 +1,13 @@
 -- The rows of the options that are given: what a use adds, what is found at the end, and what is checked there.
-use Rattle.sc_top_words.proofs.Common.{Bool, Form, Kinds, List, None, Option, Row, Rule, Says, Setting, Some, Text, []}
-use Rattle.sc_top_words.proofs.Common.{and-false, ap, append-nil, ap₂, at_row, bytes_eq, codes, cond, defaults_fault}
-use Rattle.sc_top_words.proofs.Common.{each_once, false, find, find-append, find-map, find_passes, flag_text, fold}
-use Rattle.sc_top_words.proofs.Common.{has_option, has_row, has_value, if◌then◌else◌, is_among, is_some, list_all}
-use Rattle.sc_top_words.proofs.Common.{list_any, list_any-append, map, more_values, not, option_and_then, option_map}
-use Rattle.sc_top_words.proofs.Common.{option_map_or, option_or, or-true, or_else, or_parts, refl, row_text}
-use Rattle.sc_top_words.proofs.Common.{same_either_way, same_text, slice_get, sym, true, true≢false, use_fault, used}
-use Rattle.sc_top_words.proofs.Common.{with_default, with_values, ◌&&◌, ◌++◌, ◌||◌, ◌∙◌, ◌∷◌, ◌≡◌}
+use Rattle.sc_top_words.proofs.Common.{Bool, Form, Given, Kinds, List, None, Option, Row, Rule, Says, Some, Text}
+use Rattle.sc_top_words.proofs.Common.{[], and-false, ap, append-nil, ap₂, at_row, bytes_eq, codes, cond}
+use Rattle.sc_top_words.proofs.Common.{defaults_fault, each_once, false, find, find-append, find-map, find_passes}
+use Rattle.sc_top_words.proofs.Common.{flag_text, fold, has_option, has_row, has_value, if◌then◌else◌, is_among}
+use Rattle.sc_top_words.proofs.Common.{is_some, list_all, list_any, list_any-append, map, more_values, not}
+use Rattle.sc_top_words.proofs.Common.{option_and_then, option_map, option_map_or, option_or, or-true, or_else}
+use Rattle.sc_top_words.proofs.Common.{or_parts, refl, row_text, same_either_way, same_text, slice_get, sym, true}
+use Rattle.sc_top_words.proofs.Common.{true≢false, use_fault, used, with_default, with_values, ◌&&◌, ◌++◌, ◌||◌, ◌∙◌}
+use Rattle.sc_top_words.proofs.Common.{◌∷◌, ◌≡◌}
 use Rattle.clap.specs.Facts.{explicit_source}
 use Rattle.clap.specs.Takes.{is_given}
 use Rattle.clap.specs.declared.builder.value_parser.Reading.TheVariants.{AsWritten}
@@ -35,17 +36,17 @@ default_row name = record {
   reading = AsWritten;
 }
 
-abbrev pub row : Form → Setting → Row
+abbrev pub row : Form → Given → Row
 row form o = plain_row o.0 (if has_value form o.0 then o.1 else codes "true")
 
-abbrev pub rows : Form → List Setting → List Row
+abbrev pub rows : Form → List Given → List Row
 rows form = map (row form)
 
 -- the rows at the end, with the defaults of the flags
-abbrev pub final : Form → List Setting → List Row
+abbrev pub final : Form → List Given → List Row
 final form all = fold with_default (rows form all) (ready_rules form)
 
-pub has_row_rows : (form : Form) (name : Text) (all : List Setting) → has_row name (rows form all) ≡ has_option name all
+pub has_row_rows : (form : Form) (name : Text) (all : List Given) → has_row name (rows form all) ≡ has_option name all
 has_row_rows form name [] = refl
 has_row_rows form name (o ∷ all) = ap (λ b. bytes_eq o.0 name || b) (has_row_rows form name all)
 
@@ -88,7 +89,7 @@ flag_uses name = record {
 abbrev by_name : Text → Row → Bool
 by_name name r = bytes_eq r.id name
 
-abbrev option_named : Text → List Setting → Option Setting
+abbrev option_named : Text → List Given → Option Given
 option_named name = find (λ o. bytes_eq o.0 name)
 
 found_any : {X : Type 0} (p : X → Bool) (xs : List X) → is_some (find p xs) ≡ list_any p xs
@@ -110,7 +111,7 @@ past_valued r (n ∷ names) rest now = ap (λ rs. fold with_default rs (map (rea
     kept true = refl
     kept false = refl
 
-final_is : (form : Form) (all : List Setting) → final form all ≡
+final_is : (form : Form) (all : List Given) → final form all ≡
     fold with_default (rows form all) (map ready_flag form.flags ++ [])
 final_is form all = past_valued true form.needed _ (rows form all) ∙ past_valued false form.valued _ (rows form all)
 
@@ -156,30 +157,30 @@ found_final (n ∷ names) now name =
         ∙ (ap (λ o. option_or o (default_of names name)) (find-append (by_name name) now (default_row n ∷ [])
         ∙ ap (option_or (find _ now)) here) ∙ chosen (find (by_name name) now) same is)
 
-found_at_end : (form : Form) (all : List Setting) (name : Text)
+found_at_end : (form : Form) (all : List Given) (name : Text)
     → find (by_name name) (final form all) ≡ option_or (option_map (row form) (option_named name all))
     (default_of form.flags name)
 found_at_end form all name = ap (find _) (final_is form all) ∙ (found_final form.flags (rows form all) name
     ∙ ap (λ o. option_or o (default_of form.flags name)) (sym (find-map _ _ all)))
 
-given_at_end : (form : Form) (all : List Setting) (name : Text) → is_given name (final form all) ≡ has_option name all
+given_at_end : (form : Form) (all : List Given) (name : Text) → is_given name (final form all) ≡ has_option name all
 given_at_end form all name = ap (λ o. option_map_or (λ r. explicit_source r.source) o false)
     (found_at_end form all name) ∙ (go _ (is_among _ name) ∙ found_any _ all)
   where
-    go : (o : Option Setting) (b : Bool) → option_map_or (λ (r : Row). explicit_source r.source)
+    go : (o : Option Given) (b : Bool) → option_map_or (λ (r : Row). explicit_source r.source)
         (option_or (option_map (row form) o) (cond b (Some (default_row name)) None)) false ≡ is_some o
     go (Some o) b = refl
     go None true = refl
     go None false = refl
 
-pub says : (form : Form) (all : List Setting) → Says form all (final form all)
+pub says : (form : Form) (all : List Given) → Says form all (final form all)
 says form all = record {
   values = λ name has flags. ap (option_and_then _) (found_at_end form all name) ∙ value_at name has flags _ refl;
   flags = λ name has flags. ap (option_and_then _) (found_at_end form all name)
       ∙ (flag_at name has flags _ refl ∙ ap (λ b. Some (flag_text b)) (found_any _ all));
 }
   where
-    value_at : (name : Text) → has_value form name ≡ true → is_among form.flags name ≡ false → (o : Option Setting) →
+    value_at : (name : Text) → has_value form name ≡ true → is_among form.flags name ≡ false → (o : Option Given) →
         option_named name all ≡ o → option_and_then (λ (r : Row). slice_get r.values 0)
         (option_or (option_map (row form) o) (default_of form.flags name)) ≡ option_map (λ x. x.1) o
     value_at name has flags None is = rw flags refl
@@ -188,7 +189,7 @@ says form all = record {
         let valued = ap (has_value form) same ∙ has in
         rw valued refl
 
-    flag_at : (name : Text) → has_value form name ≡ false → is_among form.flags name ≡ true → (o : Option Setting) →
+    flag_at : (name : Text) → has_value form name ≡ false → is_among form.flags name ≡ true → (o : Option Given) →
         option_named name all ≡ o → option_and_then row_text (option_or (option_map (row form) o)
         (default_of form.flags name)) ≡ Some (flag_text (is_some o))
     flag_at name has flags None is = rw flags refl
@@ -214,7 +215,7 @@ any_flag : (now : List Row) (names : List Text) → list_any (λ a. a.required &
 any_flag now [] = refl
 any_flag now (n ∷ names) = any_flag now names
 
-any_needed : (now : List Row) (all : List Setting) → ((name : Text) → is_given name now ≡ has_option name all) →
+any_needed : (now : List Row) (all : List Given) → ((name : Text) → is_given name now ≡ has_option name all) →
     (names : List Text) (rest : List Rule) → list_any (λ a. a.required && not (is_given a.id now)) rest ≡ false →
     list_any (λ a. a.required && not (is_given a.id now)) (map (ready_valued true) names ++ rest) ≡ not
     (list_all (λ name. has_option name all) names)
@@ -226,7 +227,7 @@ any_needed now all same (n ∷ names) rest none = ap₂ (λ x y. not x || y) (sa
     turned true b = refl
     turned false b = refl
 
-pub check_is : (form : Form) (all : List Setting)
+pub check_is : (form : Form) (all : List Given)
     → check form (final form all) ≡ (if list_all (λ name. has_option name all) form.needed then [] else
     kind.MissingRequiredArgument ∷ [])
 check_is form all =
@@ -263,7 +264,7 @@ no_default_fails form = valued_defaults true form.needed _ (valued_defaults fals
 
 -- ---- options that are given once
 
-pub repeated : (before : List Setting) (name value : Text) (following : List Setting) → has_option name before ≡ true →
+pub repeated : (before : List Given) (name value : Text) (following : List Given) → has_option name before ≡ true →
     each_once (before ++ (name, value) ∷ following) ≡ false
 repeated [] name value following has = absurd (true≢false (sym has))
 repeated (o ∷ before) name value following has = go (bytes_eq o.0 name) refl (repeated before name value following)
@@ -282,7 +283,7 @@ repeated (o ∷ before) name value following has = go (bytes_eq o.0 name) refl (
     go false e later =
         ap (λ b. not (has_option o.0 (before ++ (name, value) ∷ following)) && b) (later (rw e at has)) ∙ and-false _
 
-pub once_more : (before : List Setting) (name value : Text) → each_once before ≡ true → has_option name before ≡ false →
+pub once_more : (before : List Given) (name value : Text) → each_once before ≡ true → has_option name before ≡ false →
     each_once (before ++ (name, value) ∷ []) ≡ true
 once_more [] name value once has = refl
 once_more (o ∷ before) name value once has =

@@ -1,5 +1,5 @@
 -- What a parse makes of all the words: the command's name and its options, or a fault.
-use Rattle.sc_top_words.proofs.Common.{App, Bool, Form, Held, Kinds, List, Names, None, Option, Row, Says, Setting}
+use Rattle.sc_top_words.proofs.Common.{App, Bool, Form, Given, Held, Kinds, List, Names, None, Option, Row, Says}
 use Rattle.sc_top_words.proofs.Common.{Shape, Some, Step, Text, Walk, [], after_step, answers_to, ap, append-nil}
 use Rattle.sc_top_words.proofs.Common.{append_assoc, application, begins_with_hyphen, bytes_eq, check_fault, codes}
 use Rattle.sc_top_words.proofs.Common.{commands, cond, defaults_fault, entered, entered_fault, false, fault_of, find}
@@ -114,7 +114,7 @@ fold_stopped w p (word ∷ words) =
 -- ---- all the words
 
 -- the parse fails where the definition gives nothing, and else finds what it gives
-abbrev pub Reads : Kinds → Option (Text × List Row) → Option (Text × List Setting) → Type 0
+abbrev pub Reads : Kinds → Option (Text × List Row) → Option (Text × List Given) → Type 0
 Reads faults entered None = faults ≡ [] → ⊥
 Reads faults entered (Some read) = (faults ≡ []) × ((form : Form) × (form_of read.0 ≡ Some form) ×
     ((rows : List Row) × (entered ≡ Some (read.0, rows)) × Says form read.1 rows))
@@ -161,7 +161,7 @@ known_agrees c words found all =
     found_by o = or_else (option_map_or (λ s. level_fault s [] nothing_held words false []) o [])
         (check_fault top [] (is_some (option_map (λ s. rows_at s words) o)))
 
-    both : (o : Option (List Setting)) → form_of c.0 ≡ Some c.1
+    both : (o : Option (List Given)) → form_of c.0 ≡ Some c.1
         → Agrees c.0 c.1 (level_fault (ready c.0 c.1) [] nothing_held words false [])
         (rows_after (ready_rules c.1) [] words) o
         → Reads (or_else (level_fault (ready c.0 c.1) [] nothing_held words false []) [])

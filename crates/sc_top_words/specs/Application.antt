@@ -1,4 +1,5 @@
 -- Helping: the commands as the parser gets them, and what it finds.
+use Rattle.sc_base.specs.Prelude.{Text}
 use Rattle.std.specs.Prelude.{◌≡◌, Bool, true, false, List, [], ◌++◌, map, codes, Some}
 use Rattle.clap.specs.Walk.{Row, first_of, one_of}
 use Rattle.clap.specs.Words.{App, Rule, Shape, app_of, new_rule, rule_of, subcommand_rows_of}
@@ -8,7 +9,7 @@ use Rattle.clap.specs.declared.builder.arg.Arg.{Arg}
 use Rattle.clap.specs.declared.builder.command.Command.{Command}
 use Rattle.clap.specs.declared.builder.command.Command.TheViews.{out-Command}
 use Rattle.clap.specs.declared.parser.matches.ArgMatches.{ArgMatches}
-use Rattle.sc_top_words.specs.Options.{Form, Setting, Text, has_option, has_value, is_among, value_of}
+use Rattle.sc_top_words.specs.Options.{Form, Given, has_option, has_value, is_among, given_value}
 use Rattle.sc_top_words.specs.Words.{commands, form_of, parsed}
 
 abbrev pub valued_rule : (required : Bool) → Text → Rule
@@ -53,15 +54,15 @@ flag_text true = codes "true"
 flag_text false = codes "false"
 
 -- the rows say which options are given, with their values
-pub record Says (form : Form) (settings : List Setting) (rows : List Row) : Type 0 where
+pub record Says (form : Form) (settings : List Given) (rows : List Row) : Type 0 where
   pub values : (name : Text) → has_value form name ≡ true → is_among form.flags name ≡ false
-      → first_of name rows ≡ value_of name settings
+      → first_of name rows ≡ given_value name settings
   pub flags : (name : Text) → has_value form name ≡ false → is_among form.flags name ≡ true
       → one_of name rows ≡ Some (flag_text (has_option name settings))
 
 -- the parse found the command and the options that the words are
 pub record IsReading (words : List Text) (matches : ArgMatches) : Type 0 where
-  pub read : Text × List Setting
+  pub read : Text × List Given
   pub is : parsed words ≡ Some read
   pub form : Form
   pub has : form_of read.0 ≡ Some form

@@ -5,11 +5,12 @@ pub use Rattle.sc_top_words.specs.Application.{flag_text, shape_with, top, value
 pub use Rattle.sc_top_words.specs.Numbers.{first_piece, integer, integer_list, is_comma, number, number_within}
 pub use Rattle.sc_top_words.specs.Numbers.{onto_first, pieces_after, prepended, when_within}
 unfoldable pub use Rattle.sc_top_words.specs.Numbers.{integers, pieces}
-pub use Rattle.sc_top_words.specs.Options.{Form, Setting, Text, begins_with_hyphen, each_once, has_option, has_value}
-pub use Rattle.sc_top_words.specs.Options.{is_among, is_bare, more, name_and_value, named, named_option, options}
-pub use Rattle.sc_top_words.specs.Options.{value_of, when_complete}
+pub use Rattle.sc_top_words.specs.Options.{Form, Given, begins_with_hyphen, each_once, given_value, has_option}
+pub use Rattle.sc_top_words.specs.Options.{has_value, is_among, is_bare, more, name_and_value, named, named_option}
+pub use Rattle.sc_top_words.specs.Options.{options, when_complete}
 unfoldable pub use Rattle.sc_top_words.specs.Options.{settings}
 pub use Rattle.sc_top_words.specs.Usage.{usage_text}
 pub use Rattle.sc_top_words.specs.Words.{command_with, commands, events, explain, form_of, inputs, limit, make}
-pub use Rattle.sc_top_words.specs.Words.{make_form, meaning, parsed, run, text_to_show, with_values}
+pub use Rattle.sc_top_words.specs.Words.{make_form, meaning_options, most_steps, parsed, run_options, text_to_show}
+pub use Rattle.sc_top_words.specs.Words.{with_values}
 unfoldable pub use Rattle.sc_top_words.specs.Words.{command}

@@ -2,12 +2,12 @@
 use Rattle.std.specs.Prelude.{ℕ, List, [], ◌∷◌, ◌++◌, codes}
 
 -- lines, each with its end
-abbrev pub text_of : List (List ℕ) → List ℕ
-text_of [] = []
-text_of (line ∷ lines) = line ++ (10 ∷ text_of lines)
+abbrev pub lines_text : List (List ℕ) → List ℕ
+lines_text [] = []
+lines_text (line ∷ lines) = line ++ (10 ∷ lines_text lines)
 
 unfoldable pub usage_text : List ℕ
-usage_text = text_of (
+usage_text = lines_text (
     codes "secomp: usage" ∷
     codes "  secomp COMMAND [OPTION]... <INPUT" ∷
     [] ∷

@@ -1,9 +1,10 @@
 -- The command that the words of a command line are.
+use Rattle.sc_base.specs.Prelude.{Text, most_compartments, most_events}
 use Rattle.std.specs.Prelude.{ℕ, ℤ, Bool, if◌then◌else◌, List, [], ◌∷◌, codes, Option, Some, None, option_and_then}
 use Rattle.std.specs.Prelude.{option_map, find}
 use Rattle.std.specs.Str.{bytes_eq}
 use Rattle.sc_top_words.specs.Numbers.{number_within, integer_list}
-use Rattle.sc_top_words.specs.Options.{Form, Setting, Text, has_option, options, value_of}
+use Rattle.sc_top_words.specs.Options.{Form, Given, has_option, options, given_value}
 use Rattle.sc_top_words.specs.declared.command.Command.{Command}
 use Rattle.sc_top_words.specs.declared.command.Command.TheVariants.{Check, Meaning, Compile, Run, Exec, Explain, Make}
 use Rattle.sc_top_words.specs.declared.command.MakeOptions.{MakeOptions}
@@ -33,7 +34,7 @@ abbrev pub form_of : Text → Option Form
 form_of name = option_map (λ entry. entry.1) (find (λ entry. bytes_eq entry.0 name) commands)
 
 -- the command's name and its options, of words that give them: the first word is the name
-abbrev pub parsed : List Text → Option (Text × List Setting)
+abbrev pub parsed : List Text → Option (Text × List Given)
 parsed [] = None
 parsed (name ∷ words) = option_map (λ settings. (name, settings))
     (option_and_then (λ form. options form words) (form_of name))
@@ -48,26 +49,30 @@ abbrev pub number_or : (absent low high : ℕ) → Option Text → Option ℕ
 number_or absent low high None = Some absent
 number_or absent low high (Some text) = number_within low high text
 
+-- steps or turns of a run
+abbrev pub most_steps : ℕ
+most_steps = 16777216
+
 -- how many steps or turns a run has at most
 abbrev pub limit : Option Text → Option ℕ
-limit value = number_or 1000000 0 16777216 value
+limit value = number_or 1000000 0 most_steps value
 
 -- how many events a run emits at most
 abbrev pub events : Option Text → Option ℕ
-events value = number_or 1024 0 4096 value
+events value = number_or 1024 0 most_events value
 
 abbrev pub inputs : Option Text → Option (List ℤ)
 inputs None = Some []
 inputs (Some text) = integer_list text
 
-abbrev pub meaning : Values → Option MeaningOptions
-meaning value =
+abbrev pub meaning_options : Values → Option MeaningOptions
+meaning_options value =
     option_and_then (λ turns. option_and_then (λ events. option_map (λ inputs.
     record { turns = turns; events = events; inputs = inputs })
     (inputs (value (codes "in")))) (events (value (codes "events")))) (limit (value (codes "turns")))
 
-abbrev pub run : Values → Option RunOptions
-run value =
+abbrev pub run_options : Values → Option RunOptions
+run_options value =
     option_and_then (λ steps. option_and_then (λ events. option_map (λ inputs.
     record { steps = steps; events = events; inputs = inputs })
     (inputs (value (codes "in")))) (events (value (codes "events")))) (limit (value (codes "steps")))
@@ -75,12 +80,12 @@ run value =
 -- which text of the chain is printed, if the option is given
 abbrev pub text_to_show : Option Text → Option (Option ℕ)
 text_to_show None = Some None
-text_to_show (Some text) = option_map Some (number_within 0 32 text)
+text_to_show (Some text) = option_map Some (number_within 0 most_compartments text)
 
 abbrev pub explain : Values → Option Command
 explain value =
     option_and_then (λ options. option_map (λ show. Explain options show) (text_to_show (value (codes "show"))))
-    (run value)
+    (run_options value)
 
 abbrev pub make : Values → (summary : Bool) → Option MakeOptions
 make value summary =
@@ -94,10 +99,10 @@ make value summary =
 abbrev pub command_with : Text → Values → (summary : Bool) → Option Command
 command_with name value summary =
     if bytes_eq name (codes "check") then Some Check
-    else (if bytes_eq name (codes "meaning") then option_map Meaning (meaning value)
+    else (if bytes_eq name (codes "meaning") then option_map Meaning (meaning_options value)
     else (if bytes_eq name (codes "compile") then Some Compile
-    else (if bytes_eq name (codes "run") then option_map Run (run value)
-    else (if bytes_eq name (codes "exec") then option_map Exec (run value)
+    else (if bytes_eq name (codes "run") then option_map Run (run_options value)
+    else (if bytes_eq name (codes "exec") then option_map Exec (run_options value)
     else (if bytes_eq name (codes "explain") then explain value
     else (if bytes_eq name (codes "make") then option_map Make (make value summary)
     else None))))))
@@ -105,4 +110,4 @@ command_with name value summary =
 -- the command that the words are
 unfoldable pub command : List Text → Option Command
 command words = option_and_then (λ read.
-    command_with read.0 (λ name. value_of name read.1) (has_option (codes "summary") read.1)) (parsed words)
+    command_with read.0 (λ name. given_value name read.1) (has_option (codes "summary") read.1)) (parsed words)

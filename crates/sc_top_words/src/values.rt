@@ -1,5 +1,5 @@
 ghost use Rattle.sc_top_words.specs.Prelude.{command_with, events, explain, flag_text, found_of, inputs, limit, make};
-ghost use Rattle.sc_top_words.specs.Prelude.{meaning, number_within, run, text_to_show};
+ghost use Rattle.sc_top_words.specs.Prelude.{meaning_options, number_within, run_options, text_to_show};
 ghost use Rattle.std.specs.Prelude.{◌≡◌, Bool, true, Some, None, IfOk, IsErrOf, codes, option_and_then, option_map};
 ghost use Rattle.std.specs.Str.{bytes_eq};
 ghost use Rattle.clap.specs.Words.{first_value, one_text};
@@ -9,6 +9,12 @@ use crate::{Command, MakeOptions, MeaningOptions, RunOptions, WordsFault};
 use clap::ArgMatches;
 use sqlite_items::Items;
 use std::alloc::Global;
+
+/// How many steps or turns a run has at most.
+const MOST_STEPS: u32 = 16_777_216;
+
+/// How many events a run emits at most.
+const MOST_EVENTS: u32 = 4_096;
 
 /// The command of this name with these options.
 pub(crate) fn command_with(
@@ -45,9 +51,9 @@ pub(crate) fn command_with(
 }
 
 fn meaning(alloc: Global, options: &ArgMatches<'_>) -> Result<Command, WordsFault>
-    ensures ok { IfOk result (λ read. option_map Command.Meaning (meaning (first_value (found_of options.now))) ≡
-        Some read) }
-    ensures usage { IsErrOf result WordsFault.Usage → meaning (first_value (found_of options.now)) ≡ None }
+    ensures ok { IfOk result (λ read. option_map Command.Meaning
+        (meaning_options (first_value (found_of options.now))) ≡ Some read) }
+    ensures usage { IsErrOf result WordsFault.Usage → meaning_options (first_value (found_of options.now)) ≡ None }
 {
     let turns = limit(options, "turns").ok_or(WordsFault::Usage)?;
     let events = events(options).ok_or(WordsFault::Usage)?;
@@ -60,8 +66,8 @@ fn meaning(alloc: Global, options: &ArgMatches<'_>) -> Result<Command, WordsFaul
 }
 
 fn run_options(alloc: Global, options: &ArgMatches<'_>) -> Result<RunOptions, WordsFault>
-    ensures ok { IfOk result (λ read. run (first_value (found_of options.now)) ≡ Some read) }
-    ensures usage { IsErrOf result WordsFault.Usage → run (first_value (found_of options.now)) ≡ None }
+    ensures ok { IfOk result (λ read. run_options (first_value (found_of options.now)) ≡ Some read) }
+    ensures usage { IsErrOf result WordsFault.Usage → run_options (first_value (found_of options.now)) ≡ None }
 {
     let steps = limit(options, "steps").ok_or(WordsFault::Usage)?;
     let events = events(options).ok_or(WordsFault::Usage)?;
@@ -114,7 +120,7 @@ fn limit(options: &ArgMatches<'_>, name: &str) -> Option<u32>
 {
     match options.get_str(name) {
         None => Some(1_000_000),
-        Some(text) => read_number(text, 0, 16_777_216),
+        Some(text) => read_number(text, 0, MOST_STEPS),
     }
 }
 
@@ -124,7 +130,7 @@ fn events(options: &ArgMatches<'_>) -> Option<u32>
 {
     match options.get_str("events") {
         None => Some(1_024),
-        Some(text) => read_number(text, 0, 4_096),
+        Some(text) => read_number(text, 0, MOST_EVENTS),
     }
 }
 

@@ -18,7 +18,7 @@ pub use Rattle.std.specs.Option.{option_and_then, option_map, option_map_or}
 pub use Rattle.sc_base.proofs.Bools.{and_first, and_rest, implied}
 pub use Rattle.sc_base.proofs.Lists.{drop-step, get_after, get_prefix, map_twice, position-cons}
 pub use Rattle.sc_base.proofs.Texts.{same_text}
-pub use Rattle.sc_base.specs.Prelude.{is_numbered, number_of}
+pub use Rattle.sc_base.specs.Prelude.{is_numbered, most_compartments, most_exports, most_height, number_of}
 pub use Rattle.sc_event.specs.Prelude.{comp_at, export_at}
 pub use Rattle.sc_event.specs.declared.interface.Interface.{Interface}
 pub use Rattle.sc_lex.specs.declared.fault.TextFault.TheVariants.{Refused}
@@ -42,7 +42,7 @@ pub use Rattle.sc_ast.specs.declared.types.BaseTree.{BaseTree}
 pub use Rattle.sc_ast.specs.declared.types.TypeName.{TypeName}
 pub use Rattle.sc_ast.specs.declared.types.TypeTree.{TypeTree}
 pub use Rattle.sc_parse_read.proofs.Steps.{as_many, heading_fails}
-pub use Rattle.sc_parse_read.specs.Reading.{IsRead, Part, Reads, part_of}
+pub use Rattle.sc_parse_read.specs.Reading.{IsRead, Reads, TextPart, part_of}
 pub use Rattle.sc_types_scope.specs.Prelude.{Known, among, base_known, base_scalar, call_known, declared, defines_main}
 pub use Rattle.sc_types_scope.specs.Prelude.{earlier, environment, export_names, expr_known, function_in}
 pub use Rattle.sc_types_scope.specs.Prelude.{function_named, function_names, functions_in, global_in, global_names}
@@ -64,14 +64,14 @@ pub use Rattle.sc_core.specs.Prelude.{base_cells, base_within, body_fits, call_f
 pub use Rattle.sc_core.specs.Prelude.{decayed, decl_count, export_fits, export_name, expr_height, function_fits}
 pub use Rattle.sc_core.specs.Prelude.{global_fits, highest, import_fits, import_name, init_height, interface_fits}
 pub use Rattle.sc_core.specs.Prelude.{is_array, is_main, is_pointer, is_well_typed, judged, kind_fits, kind_height}
-pub use Rattle.sc_core.specs.Prelude.{local_fits, main_fits, mains_in, members_fit, most_cells, most_compartments}
-pub use Rattle.sc_core.specs.Prelude.{most_exports, most_height, most_nodes, most_params, nodes, option_signature}
-pub use Rattle.sc_core.specs.Prelude.{part_fits, part_height, passed_fits, proto_signature, result_fits, result_goes}
-pub use Rattle.sc_core.specs.Prelude.{result_ty, returned_call_fits, same_base, same_import, same_results}
-pub use Rattle.sc_core.specs.Prelude.{same_signature, same_types, scalar_ty, scope_of, section_fits, sections_fit}
-pub use Rattle.sc_core.specs.Prelude.{signature_of, simple_fits, simple_height, starred, starred_cells, starred_within}
-pub use Rattle.sc_core.specs.Prelude.{stmt_fits, stmt_height, struct_cells, struct_fits, structs_fit, target_signature}
-pub use Rattle.sc_core.specs.Prelude.{term_height, total, truth, type_within, variable_fits, words_fit}
+pub use Rattle.sc_core.specs.Prelude.{local_fits, main_fits, mains_in, members_fit, most_cells, most_nodes, most_params}
+pub use Rattle.sc_core.specs.Prelude.{nodes, option_signature, part_fits, part_height, passed_fits, proto_signature}
+pub use Rattle.sc_core.specs.Prelude.{result_fits, result_goes, result_ty, returned_call_fits, same_base, same_import}
+pub use Rattle.sc_core.specs.Prelude.{same_results, same_signature, same_types, scalar_ty, scope_of, section_fits}
+pub use Rattle.sc_core.specs.Prelude.{sections_fit, signature_of, simple_fits, simple_height, starred, starred_cells}
+pub use Rattle.sc_core.specs.Prelude.{starred_within, stmt_fits, stmt_height, struct_cells, struct_fits, structs_fit}
+pub use Rattle.sc_core.specs.Prelude.{target_signature, term_height, total, truth, type_within, variable_fits}
+pub use Rattle.sc_core.specs.Prelude.{words_fit}
 pub use Rattle.sc_core.specs.declared.section.TypedParam.{TypedParam}
 pub use Rattle.sc_core.specs.declared.section.TypedSection.{TypedSection}
 pub use Rattle.sc_core.specs.declared.stmt.TypedStmt.{TypedStmt}

@@ -1,12 +1,12 @@
 -- Which texts are accepted, and which phase refuses the others: exactly one, always.
 use Rattle.sc_types.proofs.Common.{Accepts, AllZip, AreLow, Err, Fails, FailsRules, FailsTyped, IfOk, IsRead, IsTyped}
-use Rattle.sc_types.proofs.Common.{List, None, Ok, Option, Part, ProgramTree, Reads, Result, SectionTree, Some, []}
+use Rattle.sc_types.proofs.Common.{List, None, Ok, Option, ProgramTree, Reads, Result, SectionTree, Some, TextPart, []}
 use Rattle.sc_types.proofs.Common.{and_from, ap, arith, counts_broken, earlier, inl, inr, interface_broken, list_all}
 use Rattle.sc_types.proofs.Common.{names_broken, nat_le, noted_all, program_of, refl, refused_at, section_height, subst}
 use Rattle.sc_types.proofs.Common.{sym, true, types_broken, ℕ, ◌∙◌, ◌∷◌, ◌≡◌, ◌⊎◌}
 use Rattle.sc_lex.specs.declared.refusal.Phase.{Phase}
 use Rattle.sc_lex.specs.declared.refusal.Phase.TheVariants as phase
-use Rattle.sc_parse_read.specs.Reading as reading
+use Rattle.sc_parse_read.specs.Reading.{FailsReading}
 use Rattle.sc_types.proofs.Lookups.{none_some, at_most}
 
 -- a line that was noted stays noted
@@ -51,7 +51,7 @@ module _ (one_reading : (text : List ℕ) (trees others : List SectionTree) → 
       (subst (λ s. FailsRules s _ line) (one_reading text _ _ f.reads a.reads) f.fails)
 
   module _ (read_or_refused : (text : List ℕ) (trees : List SectionTree) (in_phase : Phase) (line : ℕ) →
-      Reads text trees → reading.Fails text in_phase line → ⊥) where
+      Reads text trees → FailsReading text in_phase line → ⊥) where
     pub accepted_or_refused_of : (text : List ℕ) (program : ProgramTree) (in_phase : Phase) (line : ℕ) →
         Accepts text program → Fails text in_phase line → ⊥
     accepted_or_refused_of text program phase.Lex line a f = read_or_refused text _ phase.Lex line a.reads f
@@ -61,8 +61,10 @@ module _ (one_reading : (text : List ℕ) (trees others : List SectionTree) → 
 -- one phase fails, and phases other than Syntax in one line
 module _ (one_reading : (text : List ℕ) (trees others : List SectionTree) → Reads text trees → Reads text others →
     trees ≡ others) (read_or_refused : (text : List ℕ) (trees : List SectionTree) (p : Phase) (line : ℕ) →
-    Reads text trees → reading.Fails text p line → ⊥) (one_phase : (text : List ℕ) (p q : Phase) (line other : ℕ) →
-    reading.Fails text p line → reading.Fails text q other → (p ≡ q) × (p ≡ phase.Lex → line ≡ other)) where
+    Reads text trees → FailsReading text p line → ⊥)
+    (one_phase : (text : List ℕ) (p q : Phase) (line other : ℕ) →
+    FailsReading text p line → FailsReading text q other →
+    (p ≡ q) × (p ≡ phase.Lex → line ≡ other)) where
   both_typed : (text : List ℕ) (p q : Phase) (line other : ℕ) → FailsTyped text p line → FailsTyped text q other →
       (p ≡ q) × ((p ≡ phase.Syntax → ⊥) → line ≡ other)
   both_typed text p q line other f g =
@@ -72,7 +74,7 @@ module _ (one_reading : (text : List ℕ) (trees others : List SectionTree) → 
 
   -- what is read passes the first two phases
   read_passes : {C : Type 0} (text : List ℕ) (p q : Phase) (line other : ℕ) → FailsTyped text p line →
-      reading.Fails text q other → C
+      FailsReading text q other → C
   read_passes text p q line other f g = absurd (read_or_refused text _ q other f.reads g)
 
   pub one_phase_of : (text : List ℕ) (p q : Phase) (line other : ℕ) → Fails text p line → Fails text q other →
@@ -90,7 +92,7 @@ module _ (one_reading : (text : List ℕ) (trees others : List SectionTree) → 
   one_phase_of text p phase.Syntax line other f g = read_passes text p phase.Syntax line other f g
   one_phase_of text p q line other f g = both_typed text p q line other f g
 
-low_from : (text : List ℕ) (parts : List Part) (trees : List SectionTree) → AllZip (IsRead text) parts trees →
+low_from : (text : List ℕ) (parts : List TextPart) (trees : List SectionTree) → AllZip (IsRead text) parts trees →
     list_all {X = SectionTree} (λ tree. nat_le (section_height tree) 256) trees ≡ true
 low_from text [] [] h = refl
 low_from text [] (tree ∷ trees) h = absurd h
@@ -103,7 +105,7 @@ pub reads_low : (text : List ℕ) (trees : List SectionTree) → Reads text tree
 reads_low text trees r = low_from text _ trees r.each
 
 -- a text that isn't read fails
-pub unread_fails : (text : List ℕ) (in_phase : Phase) (line : ℕ) → reading.Fails text in_phase line →
+pub unread_fails : (text : List ℕ) (in_phase : Phase) (line : ℕ) → FailsReading text in_phase line →
     Fails text in_phase line
 unread_fails text phase.Lex line f = f
 unread_fails text phase.Syntax line f = f
@@ -162,7 +164,7 @@ Verdict text =
 
 -- each text is accepted or fails
 pub accepted_or_fails_of : ((text : List ℕ) → ((trees : List SectionTree) × Reads text trees) ⊎
-    ((in_phase : Phase) × (line : ℕ) × reading.Fails text in_phase line)) → (text : List ℕ) → Verdict text
+    ((in_phase : Phase) × (line : ℕ) × FailsReading text in_phase line)) → (text : List ℕ) → Verdict text
 accepted_or_fails_of read_or_fails text = elim (read_or_fails text) [
   | inr f ↦ inr (f.0, f.1, unread_fails text f.0 f.1 f.2)
   | inl r ↦ elim (judge r.0) [

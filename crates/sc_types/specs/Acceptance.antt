@@ -1,18 +1,18 @@
 -- Which texts are programs, and which phase refuses the others, at which line.
-use Rattle.sc_types.specs.Common.{ProgramTree, SectionTree, names_broken, program_of, refused_at, types_broken}
+use Rattle.sc_types.specs.Common.{ProgramTree, SectionTree, most_height, names_broken, program_of, refused_at}
+use Rattle.sc_types.specs.Common.{types_broken}
 use Rattle.sc_ast.specs.Prelude.{section_height}
 use Rattle.sc_types_interfaces.specs.Prelude.{interface_broken}
 use Rattle.std.specs.Prelude.{◌≡◌, ℕ, List, [], Some, IsTrue, nat_le}
 use Rattle.std.specs.List.{list_all}
 use Rattle.sc_lex.specs.declared.refusal.Phase.{Phase}
 use Rattle.sc_lex.specs.declared.refusal.Phase.TheVariants as phase
-use Rattle.sc_parse_read.specs.Reading.{Reads}
-use Rattle.sc_parse_read.specs.Reading as reading
+use Rattle.sc_parse_read.specs.Reading.{FailsReading, Reads}
 use Rattle.sc_types.specs.Counts.{counts_broken}
 
--- no tree is higher than 256
+-- no tree is too high
 abbrev pub AreLow : List SectionTree → Type 0
-AreLow sections = IsTrue (list_all {X = SectionTree} (λ section. nat_le (section_height section) 256) sections)
+AreLow sections = IsTrue (list_all {X = SectionTree} (λ section. nat_le (section_height section) most_height) sections)
 
 -- The sections break no rule of names, of types, of interfaces and of counts, and this is their program.
 pub record IsTyped (sections : List SectionTree) (program : ProgramTree) : Type 0 where
@@ -47,6 +47,6 @@ pub record FailsTyped (text : List ℕ) (in_phase : Phase) (line : ℕ) : Type 0
 
 -- A text fails a phase in a line: it passes the phases before.
 abbrev pub Fails : List ℕ → Phase → (line : ℕ) → Type 0
-Fails text phase.Lex line = reading.Fails text phase.Lex line
-Fails text phase.Syntax line = reading.Fails text phase.Syntax line
+Fails text phase.Lex line = FailsReading text phase.Lex line
+Fails text phase.Syntax line = FailsReading text phase.Syntax line
 Fails text in_phase line = FailsTyped text in_phase line

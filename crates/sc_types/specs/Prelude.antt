@@ -1,7 +1,8 @@
 -- What this crate's contracts, its proofs and the crates above cite, passed on from one place. Declares nothing.
+pub use Rattle.sc_base.specs.Prelude.{most_compartments, most_exports}
 pub use Rattle.sc_types_scope.specs.Prelude.{functions_in, globals_in, heads_in, line_of_text, names_broken, refused_at}
 pub use Rattle.sc_types_scope.specs.Prelude.{struct_names, structs_in, with_lines}
-pub use Rattle.sc_core.specs.Prelude.{most_compartments, most_exports, most_nodes, total}
+pub use Rattle.sc_core.specs.Prelude.{most_nodes, total}
 pub use Rattle.sc_types.specs.Acceptance.{Accepts, AreLow, Fails, FailsRules, FailsTyped, IsTyped}
 pub use Rattle.sc_types.specs.Counts.{counts_broken, function_lines, global_lines, head_lines, is_small, line_beyond}
 pub use Rattle.sc_types.specs.Counts.{line_of_some, lines_from, local_lines, param_small, section_lines, section_nodes}

@@ -14,13 +14,13 @@ pub use Rattle.std.specs.List.{list_all, list_any}
 pub use Rattle.std.specs.Option.{option_and_then, option_map}
 pub use Rattle.sc_base.proofs.Lists.{drop-step, position-cons, take_all}
 pub use Rattle.sc_base.proofs.Texts.{same_text}
-pub use Rattle.sc_base.specs.Prelude.{first_by_name, is_numbered, number_of, numbered, with_first}
+pub use Rattle.sc_base.specs.Prelude.{Text, first_by_name, is_numbered, number_of, numbered, with_first}
 pub use Rattle.sc_ast.specs.Prelude.{head_of, param_of}
 pub use Rattle.sc_ast.specs.declared.section.FunctionParam.{FunctionParam}
 pub use Rattle.sc_ast.specs.declared.section.ParamTree.{ParamTree}
 pub use Rattle.sc_ast.specs.declared.types.TypeName.{TypeName}
 pub use Rattle.sc_types_scope.proofs.Lines.{noted_all-append, with_lines-append, with_lines-nil}
-pub use Rattle.sc_types_scope.specs.Prelude.{Text, among, defines_main, export_names, function_in, function_named}
+pub use Rattle.sc_types_scope.specs.Prelude.{among, defines_main, export_names, function_in, function_named}
 pub use Rattle.sc_types_scope.specs.Prelude.{function_names, functions_in, head_in, heads_in, import_names, import_of}
 pub use Rattle.sc_types_scope.specs.Prelude.{interface_of, interfaces_from, interfaces_of, line_of_text, main_from}
 pub use Rattle.sc_types_scope.specs.Prelude.{main_name, noted_all, number_or_zero, offered, offering, offers, promised}

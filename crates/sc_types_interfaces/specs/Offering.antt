@@ -1,7 +1,7 @@
 -- Helping: the interfaces of sections by tables of places, in which a name is found at once.
 use Rattle.sc_types_interfaces.specs.Common.{Decl, ExportLine, ImportLine, SectionTable, SectionTree, Text, among}
 use Rattle.sc_types_interfaces.specs.Common.{first_by_name, function_in, functions_in, is_environment, main_name}
-use Rattle.sc_types_interfaces.specs.Common.{number_or_zero, scalar_of, with_first}
+use Rattle.sc_types_interfaces.specs.Common.{most_compartments, most_exports, number_or_zero, scalar_of, with_first}
 use Rattle.std.specs.Prelude.{ℕ, suc, ◌≤◌, bytes_eq, List, [], ◌∷◌, All, length, map, min, take, slice_get, Option}
 use Rattle.std.specs.Prelude.{Some, None, if◌then◌else◌}
 use Rattle.std.specs.Option.{option_and_then, option_map}
@@ -17,14 +17,14 @@ use Rattle.sc_types_interfaces.specs.Tables.{offering_number}
 -- The counts within which sections have interfaces.
 
 abbrev pub HasFewExports : SectionTree → Type 0
-HasFewExports section = length section.exports ≤ 4096
+HasFewExports section = length section.exports ≤ most_exports
 
 abbrev pub HasFewParams : FunctionTree → Type 0
 HasFewParams tree = length tree.head.params ≤ 8
 
 -- at most 32 sections, 4,096 exports each, and 8 parameters a function
 pub record IsWithinCounts (text : List SectionTree) : Type 0 where
-  pub sections : length text ≤ 32
+  pub sections : length text ≤ most_compartments
   pub exports : All HasFewExports text
   pub params : All (λ section. All HasFewParams (functions_in section.decls)) text
 

@@ -4,14 +4,14 @@ pub use Rattle.std.proofs.Common.{false, get_or, length, map, nat_eq, not, refl,
 pub use Rattle.std.proofs.Common.{◌++◌, ◌+◌, ◌<◌, ◌||◌, ◌∙◌, ◌∷◌, ◌≡◌, ◌≤◌}
 pub use Rattle.std.proofs.lemmas.List.{drop_all, map-append}
 pub use Rattle.std.specs.List.{filter_map, list_all}
+pub use Rattle.sc_base.specs.Prelude.{Text}
 pub use Rattle.sc_ast.specs.declared.section.LocalTree.{LocalTree}
 pub use Rattle.sc_types_scope.specs.Common.{Decl, Function, FunctionTree, Global, ImportLine, ParamTree, Proto}
 pub use Rattle.sc_types_scope.specs.Common.{SectionTree, Struct}
-pub use Rattle.sc_types_scope.specs.Prelude.{FunctionParam, Known, Text, all_in, among, are_distinct, base_known}
-pub use Rattle.sc_types_scope.specs.Prelude.{body_lines, decl_lines, declared, expr_known, function_lines}
-pub use Rattle.sc_types_scope.specs.Prelude.{function_names, head_of_known, known, line_of_text, lines_from}
-pub use Rattle.sc_types_scope.specs.Prelude.{local_known, local_names, locals_from, member_names, names_broken, noted}
-pub use Rattle.sc_types_scope.specs.Prelude.{param_names, part_lines, refused_at, section_lines, stmt_lines, unless}
-pub use Rattle.sc_types_scope.specs.Prelude.{with_decl, with_lines}
+pub use Rattle.sc_types_scope.specs.Prelude.{FunctionParam, Known, all_in, among, are_distinct, base_known, body_lines}
+pub use Rattle.sc_types_scope.specs.Prelude.{decl_lines, declared, expr_known, function_lines, function_names}
+pub use Rattle.sc_types_scope.specs.Prelude.{head_of_known, known, line_of_text, lines_from, local_known, local_names}
+pub use Rattle.sc_types_scope.specs.Prelude.{locals_from, member_names, names_broken, noted, param_names, part_lines}
+pub use Rattle.sc_types_scope.specs.Prelude.{refused_at, section_lines, stmt_lines, unless, with_decl, with_lines}
 unfoldable pub use Rattle.sc_types_scope.specs.Prelude.{noted_all}
 pub use Rattle.sc_types_scope.specs.declared.broken.BrokenLines.{BrokenLines}

@@ -1,12 +1,8 @@
 -- What a section declares, and the names that stand there.
 use Rattle.sc_types_scope.specs.Common.{Decl, ExportLine, Function, FunctionTree, Global, GlobalTree, HeadTree}
-use Rattle.sc_types_scope.specs.Common.{ImportLine, Proto, SectionTree, Struct, StructTree, head_of, is_numbered}
+use Rattle.sc_types_scope.specs.Common.{ImportLine, Proto, SectionTree, Struct, StructTree, Text, head_of, is_numbered}
 use Rattle.std.specs.Prelude.{ℕ, Bool, true, not, ◌&&◌, List, [], ◌∷◌, map, Option, Some, None}
 use Rattle.std.specs.List.{filter_map}
-
--- an identifier, by its bytes
-abbrev pub Text : Type 0
-Text = List ℕ
 
 -- whether a name is one of these
 abbrev pub among : List Text → Text → Bool

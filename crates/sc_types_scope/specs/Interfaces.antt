@@ -1,6 +1,6 @@
 -- What the sections of a text offer and use, as the interfaces of its program.
 use Rattle.sc_types_scope.specs.Common.{BaseTree, ExportLine, FunctionTree, HeadTree, ImportLine, ParamTree}
-use Rattle.sc_types_scope.specs.Common.{SectionTree, TypeName, all_hold, head_of, number_of}
+use Rattle.sc_types_scope.specs.Common.{SectionTree, Text, TypeName, all_hold, head_of, number_of}
 use Rattle.std.specs.Prelude.{ℕ, zero, suc, Bool, not, ◌==◌, bytes_eq, codes, List, [], ◌∷◌, map, Option, Some, None}
 use Rattle.std.specs.Prelude.{if◌then◌else◌}
 use Rattle.std.specs.Option.{option_map, option_map_or}
@@ -12,7 +12,7 @@ use Rattle.sc_event.specs.declared.interface.Import.TheVariants as import
 use Rattle.sc_event.specs.declared.interface.Interface.{Interface}
 use Rattle.sc_event.specs.declared.interface.Interfaces.{Interfaces}
 use Rattle.sc_ast.specs.declared.types.BaseTree.TheVariants as base
-use Rattle.sc_types_scope.specs.Declarations.{Text, among, functions_in, function_names, export_names}
+use Rattle.sc_types_scope.specs.Declarations.{among, functions_in, function_names, export_names}
 
 abbrev pub number_or_zero : Option ℕ → ℕ
 number_or_zero None = 0

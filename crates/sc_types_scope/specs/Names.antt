@@ -1,6 +1,6 @@
 -- The rules of names, and the lines of a section that break them (C11 6.2.1, 6.2.3).
 use Rattle.sc_types_scope.specs.Common.{BaseTree, Decl, Function, FunctionTree, Global, GlobalTree, HeadTree, ParamTree}
-use Rattle.sc_types_scope.specs.Common.{Proto, SectionTree, Struct, StructTree, TypeName, all_hold, head_of}
+use Rattle.sc_types_scope.specs.Common.{Proto, SectionTree, Struct, StructTree, Text, TypeName, all_hold, head_of}
 use Rattle.std.specs.Prelude.{ℕ, Bool, true, false, not, ◌&&◌, ◌||◌, nat_eq, bytes_eq, List, [], ◌∷◌, ◌++◌, map, Option}
 use Rattle.std.specs.Prelude.{Some, None}
 use Rattle.std.specs.List.{concat, list_all}
@@ -19,8 +19,8 @@ use Rattle.sc_ast.specs.declared.section.FunctionParam.{FunctionParam}
 use Rattle.sc_ast.specs.declared.section.LocalTree.{LocalTree}
 use Rattle.sc_types_scope.specs.Broken.{unless, line_of_text}
 use Rattle.sc_types_scope.specs.declared.section_names.SectionNames.{SectionNames}
-use Rattle.sc_types_scope.specs.Declarations.{Text, among, is_new, are_distinct, struct_names, global_names}
-use Rattle.sc_types_scope.specs.Declarations.{proto_names, function_names, import_names}
+use Rattle.sc_types_scope.specs.Declarations.{among, is_new, are_distinct, struct_names, global_names, proto_names}
+use Rattle.sc_types_scope.specs.Declarations.{function_names, import_names}
 
 -- Bodies.
 

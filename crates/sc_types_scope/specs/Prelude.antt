@@ -1,8 +1,9 @@
 -- What this crate's contracts, its proofs and the crates above cite, passed on from one place. Declares nothing.
+pub use Rattle.sc_base.specs.Prelude.{Text}
 pub use Rattle.sc_ast.specs.declared.section.FunctionParam.{FunctionParam}
 pub use Rattle.sc_types_scope.specs.Broken.{earlier, line_of_text, noted, refused_at, unless, with_lines}
 unfoldable pub use Rattle.sc_types_scope.specs.Broken.{noted_all}
-pub use Rattle.sc_types_scope.specs.Declarations.{Text, among, are_distinct, export_names, function_in, function_names}
+pub use Rattle.sc_types_scope.specs.Declarations.{among, are_distinct, export_names, function_in, function_names}
 pub use Rattle.sc_types_scope.specs.Declarations.{functions_in, global_in, global_names, globals_in, head_in, heads_in}
 pub use Rattle.sc_types_scope.specs.Declarations.{import_names, is_new, proto_names, protos_in, struct_in, struct_names}
 pub use Rattle.sc_types_scope.specs.Declarations.{structs_in}

@@ -1,6 +1,6 @@
-use Rattle.sc_parse_read.proofs.Common.{AllZip, Err, Fails, First, IsCut, IsCutInto, IsCuttable, IsParsable, IsSplit}
-use Rattle.sc_parse_read.proofs.Common.{IsTreeOf, List, Refusal, Refused, RefusesBytes, RefusesTokens, [], ap, drop}
-use Rattle.sc_parse_read.proofs.Common.{err_from_is_err_and, refl, subst, sym, ◌∙◌, ◌∷◌, ◌≡◌}
+use Rattle.sc_parse_read.proofs.Common.{AllZip, Err, FailsReading, First, IsCut, IsCutInto, IsCuttable, IsParsable}
+use Rattle.sc_parse_read.proofs.Common.{IsSplit, IsTreeOf, List, Refusal, Refused, RefusesBytes, RefusesTokens, [], ap}
+use Rattle.sc_parse_read.proofs.Common.{drop, err_from_is_err_and, refl, subst, sym, ◌∙◌, ◌∷◌, ◌≡◌}
 use Rattle.sc_lex.specs.declared.refusal.Phase.TheVariants.{Syntax}
 use Rattle.sc_parse_read.proofs.Steps.{heading_fails, preamble_uncut, section_uncut, lex_phase, preamble_spells, reads}
 use Rattle.sc_parse_read.proofs.Steps.{section_unread, begins_with, is_empty, if_ok_more}
@@ -40,7 +40,7 @@ returns-in-Some-clause-refused c = λ refusal is.
     let tokens = begins_with c.in_ok-before.before c.in-Some.first.now c.in-Some.ensures.value in
     let cut = subst (λ ts. IsCut c.in_ok-preamble.field-0.preamble.now ts) tokens c.in_ok-before.ensures.cut in
     let cuts = subst (λ ss. AllZip IsCutInto ss c.in_ok-cuts.cuts) c.as_slice.ensures c.in_ok-cuts.ensures.cut in
-    subst (λ r. Fails c.args.text.now r.phase r.line) same
+    subst (λ r. FailsReading c.args.text.now r.phase r.line) same
     (preamble_spells c.args.text.now c.in_ok-preamble.field-0.preamble.now c.in_ok-preamble.field-0.sections
     c.in_ok-preamble.ensures.split c.in-Some.first.now (drop 1 c.in_ok-before.before) c.in_ok-cuts.cuts cut cuts)
 

@@ -1,0 +1,26 @@
+-- Limits that several layers keep.
+use Rattle.std.specs.Prelude.{ℕ}
+
+-- bytes of a name
+abbrev pub most_name_bytes : ℕ
+most_name_bytes = 63
+
+-- how high a tree is: an expression, a statement, a function's body
+abbrev pub most_height : ℕ
+most_height = 256
+
+-- round, square and curly brackets that are open at one place of a section
+abbrev pub most_brackets : ℕ
+most_brackets = 1024
+
+-- compartments of a program, and of an image
+abbrev pub most_compartments : ℕ
+most_compartments = 32
+
+-- exports of a compartment, and imports
+abbrev pub most_exports : ℕ
+most_exports = 4096
+
+-- events that a run emits, and that a trace which is explained has
+abbrev pub most_events : ℕ
+most_events = 4096
