@@ -24,3 +24,15 @@ most_exports = 4096
 -- events that a run emits, and that a trace which is explained has
 abbrev pub most_events : ℕ
 most_events = 4096
+
+-- bytes of a text that is read
+abbrev pub most_text : ℕ
+most_text = 8388608
+
+-- bytes of a text that is compiled
+abbrev pub most_compiled : ℕ
+most_compiled = 1048576
+
+-- bytes of an image
+abbrev pub most_image : ℕ
+most_image = 67108864

@@ -4,7 +4,8 @@ pub use Rattle.sc_base.specs.FirstByName.{first_by_name, with_first}
 pub use Rattle.sc_base.specs.Identifier.{is_between, is_digit, is_name_byte, is_nondigit, name_of}
 unfoldable pub use Rattle.sc_base.specs.Identifier.{is_name}
 pub use Rattle.sc_base.specs.Levels.{level_of, loosest_level, postfix_level, unary_level}
-pub use Rattle.sc_base.specs.Limits.{most_brackets, most_compartments, most_events, most_exports, most_height}
+pub use Rattle.sc_base.specs.Limits.{most_brackets, most_compartments, most_compiled, most_events, most_exports}
+pub use Rattle.sc_base.specs.Limits.{most_height, most_image, most_text}
 pub use Rattle.sc_base.specs.Numbering.{HasOneNumberEach, is_numbered, next_number, number_of, numbered}
 pub use Rattle.sc_base.specs.Places.{HasPlaces}
 pub use Rattle.sc_base.specs.Prefix.{IsPrefix}

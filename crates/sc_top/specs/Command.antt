@@ -1,4 +1,5 @@
 -- What a command reads.
+use Rattle.sc_base.specs.Prelude.{most_compiled, most_image, most_text}
 use Rattle.sc_top.specs.Common.{Command}
 use Rattle.std.specs.Prelude.{ℕ, Option, Some, None}
 use Rattle.sc_top_words.specs.declared.command.Command.TheVariants.{Check, Meaning, Compile, Run, Exec, Explain, Make}
@@ -8,18 +9,6 @@ pub data Intake : Type 0 where
   Text : (limit : ℕ) → Intake
   Image : (limit : ℕ) → Intake
   Nothing : Intake
-
--- bytes of a text that is read
-abbrev pub most_text : ℕ
-most_text = 8388608
-
--- bytes of a text that is compiled
-abbrev pub most_compiled : ℕ
-most_compiled = 1048576
-
--- bytes of an image
-abbrev pub most_image : ℕ
-most_image = 67108864
 
 abbrev pub intake : Command → Intake
 intake Check = Text most_text

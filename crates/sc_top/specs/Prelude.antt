@@ -1,5 +1,5 @@
 -- What this crate's contracts, its proofs and the crates above cite, passed on from one place. Declares nothing.
-pub use Rattle.sc_base.specs.Prelude.{most_events}
+pub use Rattle.sc_base.specs.Prelude.{most_events, most_image}
 pub use Rattle.sc_event.specs.Prelude.{IsKnown, comp_at, comp_name, legal}
 pub use Rattle.sc_types.specs.Prelude.{Accepts, IsSource}
 pub use Rattle.sc_compile.specs.Prelude.{IsCompiled, too_large}
@@ -11,7 +11,7 @@ pub use Rattle.sc_top_words.specs.declared.command.Command.TheVariants.{Check, C
 pub use Rattle.sc_top.specs.Answer.{Answers, FindsBad, IsAnswer, IsGood, IsGoodText, IsInput, IsSilent, IsUndisturbed}
 pub use Rattle.sc_top.specs.Answer.{IsUnfit, IsWhole, IsWithin, IsWithinLimit, Prints, Refuses, SameAnswer, Says}
 pub use Rattle.sc_top.specs.Answer.{Traffic, cause_in}
-pub use Rattle.sc_top.specs.Command.{limit_of, most_image}
+pub use Rattle.sc_top.specs.Command.{limit_of}
 pub use Rattle.sc_top.specs.Failure.{IsInputCause, IsOutputCause, of_image_fault, of_read_fault, of_text_fault}
 pub use Rattle.sc_top.specs.Failure.{of_words_fault, status_by, status_of}
 pub use Rattle.sc_top.specs.Fetching.{Fetches}

@@ -1,6 +1,6 @@
 //! What holds of every text.
 
-ghost use Rattle.sc_top.specs.Command.{most_image};
+ghost use Rattle.sc_base.specs.Prelude.{most_image};
 ghost use Rattle.sc_top.specs.Prelude.{Command, IsAnswer, IsOutput, SameAnswer};
 ghost use Rattle.sc_image.specs.Prelude.{IsImage};
 ghost use Rattle.std.specs.Prelude.{◌≡◌, ◌≤◌, ℕ, List, length};
