@@ -1,6 +1,7 @@
 ghost use Rattle.sc_alloc.specs.Prelude.{AreFair, AreKnown, AreNumbered, ArePlaced, IsAssignment, IsSparing, Placement};
 ghost use Rattle.sc_alloc.specs.Prelude.{assigned, at_first, scan_next, sorted_by};
-ghost use Rattle.std.specs.Prelude.{◌≡◌, ◌≤◌, map, All, IfOk};
+ghost use Rattle.sc_tac.specs.Prelude.{AreIntervals};
+ghost use Rattle.std.specs.Prelude.{◌≡◌, ◌≤◌, ◌<◌, ◌^◌, length, map, All, IfOk};
 ghost use Rattle.std.specs.List.{fold};
 ghost use Rattle.std.specs.List.Sorted.{IsNonDecreasingBy, IsPermutation};
 ghost use Rattle.sc_tac.specs.declared.interval.Interval.{Interval};
@@ -12,11 +13,32 @@ use sc_tac::{Interval, Intervals, Place, Places};
 use sqlite_items::Items;
 use std::alloc::Global;
 
+fn is_word(number: u32)
+    ensures { number < 2 ^ 32 }
+{}
+
+// Temporaries are numbers of 32 bits.
+fn are_few(intervals: &[Interval])
+    requires { AreIntervals intervals.now }
+    ensures { length intervals.now ≤ 2 ^ 32 }
+{
+    if intervals.is_empty() {
+        return;
+    }
+    match intervals.get(intervals.len() - 1) {
+        Some(last) => is_word(last.temp),
+        None => {}
+    }
+}
+
 fn by_start(alloc: Global, intervals: &[Interval]) -> Result<Vec<Interval>, OutOfMemory>
+    requires { AreIntervals intervals.now }
     ensures same { IfOk result (λ order. IsPermutation intervals.now order.items) }
+    ensures few { IfOk result (λ order. length order.items ≤ 2 ^ 32) }
     ensures rising { IfOk result (λ order. IsNonDecreasingBy {X = Interval} (λ x. x.first) order.items) }
     ensures sorted { IfOk result (λ order. order.items ≡ sorted_by {A = Interval} (λ x. x.first) intervals.now) }
 {
+    are_few(intervals);
     let mut order = Vec::from_slice(alloc, intervals)?;
     order.sort_by_key(|interval| interval.first)?;
     Ok(order)
@@ -25,6 +47,7 @@ fn by_start(alloc: Global, intervals: &[Interval]) -> Result<Vec<Interval>, OutO
 // A place for each of the intervals, which come in the order in which they begin.
 fn scan(alloc: Global, order: &[Interval]) -> Result<Items<Placement>, OutOfMemory>
     requires ordered { All (λ (x : Interval). x.first ≤ x.last) order.now }
+    requires few { length order.now ≤ 2 ^ 32 }
     requires rising { IsNonDecreasingBy {X = Interval} (λ x. x.first) order.now }
     ensures places { IfOk result (λ placements. placements ≡ (fold scan_next at_first order.now).placements) }
     ensures each { IfOk result (λ placements. map {A = Placement} (λ g. g.interval) placements ≡ order.now) }

@@ -1,6 +1,6 @@
 ghost use Rattle.sc_alloc.specs.Prelude.{AllBegun, AreFair, AreKnown, HasCome, IsAt, IsChosen, IsNext, IsScan};
 ghost use Rattle.sc_alloc.specs.Prelude.{Placement, Scanned, at_first, scan_next};
-ghost use Rattle.std.specs.Prelude.{◌≡◌, ◌≤◌, [], ◌++◌, ◌∷◌, map, IfOk, OnOk};
+ghost use Rattle.std.specs.Prelude.{◌≡◌, ◌≤◌, ◌<◌, ◌^◌, [], ◌++◌, ◌∷◌, length, map, IfOk, OnOk};
 
 use crate::placements::Placement;
 use crate::registers::Registers;
@@ -34,6 +34,7 @@ impl Scan {
     // A place for the interval: a slot only where it spans a call or no register is free.
     fn choose(&mut self, interval: &Interval) -> Result<Place, OutOfMemory>
         requires ordered { interval.now.first ≤ interval.now.last }
+        requires few { length self.old.placements < 2 ^ 32 }
         requires rules { IsScan self.old }
         ensures placements { self.new.placements ≡ self.old.placements }
         ensures next { (s : Scanned) → HasCome s self.old.registers self.old.slots →
@@ -49,6 +50,7 @@ impl Scan {
     /// Gives the next interval its place.
     pub fn add(&mut self, interval: Interval) -> Result<(), OutOfMemory>
         requires ordered { interval.first ≤ interval.last }
+        requires few { length self.old.placements < 2 ^ 32 }
         requires begun { AllBegun self.old.placements interval.first }
         requires rules { IsScan self.old }
         ensures placements { OnOk result (map {A = Placement} (λ g. g.interval) self.new.placements ≡

@@ -1,5 +1,5 @@
 ghost use Rattle.sc_alloc.specs.Prelude.{AreSlots, GivesSlot, HasEnds, HasSlot, IsOut, IsTaken, NoneFree, Placement};
-ghost use Rattle.std.specs.Prelude.{◌≡◌, ◌≤◌, ℕ, suc, [], List, IfOk, MatchOption};
+ghost use Rattle.std.specs.Prelude.{◌≡◌, ◌≤◌, ◌<◌, ◌^◌, ℕ, [], List, IfOk, MatchOption};
 ghost use Rattle.std.specs.BinaryHeap.{heap_items};
 
 use sc_base::OutOfMemory;
@@ -19,16 +19,7 @@ pub struct SlotEnd {
 #[derive(Drop)]
 pub struct Slots {
     ends: BinaryHeap<Reverse<SlotEnd>>,
-    count: u32,
-}
-
-fn one_more(number: u32) -> Result<u32, OutOfMemory>
-    ensures { IfOk result (λ more. more ≡ suc number) }
-{
-    match number.checked_add(1) {
-        Some(more) => Ok(more),
-        None => Err(OutOfMemory),
-    }
+    count: u64,
 }
 
 impl Slots {
@@ -50,6 +41,7 @@ impl Slots {
         ensures rules { (placements : List Placement) → AreSlots placements (heap_items self.old.ends) self.old.count →
             MatchOption result (AreSlots placements (heap_items self.new.ends) self.new.count)
             (IsOut placements (heap_items self.new.ends) self.new.count at) }
+        ensures count { self.new.count ≡ self.old.count }
     {
         let Reverse(soonest) = *self.ends.peek()?;
         if at <= soonest.last {
@@ -59,20 +51,20 @@ impl Slots {
         Some(soonest.slot)
     }
 
-    // The slot that is free soonest, where it is free at this point, and else a new one. There is no memory for more
-    // than 4294967295.
-    fn take(&mut self, at: u32) -> Result<u32, OutOfMemory>
+    // The slot that is free soonest, where it is free at this point, and else a new one.
+    fn take(&mut self, at: u32) -> u32
+        requires { self.old.count < 2 ^ 32 }
         ensures slot { (slots : List ℕ) → HasEnds slots (heap_items self.old.ends) self.old.count →
-            IfOk result (IsTaken slots (heap_items self.new.ends) self.new.count at) }
+            IsTaken slots (heap_items self.new.ends) self.new.count at result }
         ensures rules { (placements : List Placement) → AreSlots placements (heap_items self.old.ends) self.old.count →
-            IfOk result (IsOut placements (heap_items self.new.ends) self.new.count at) }
+            IsOut placements (heap_items self.new.ends) self.new.count at result }
     {
         match self.take_free(at) {
-            Some(slot) => Ok(slot),
+            Some(slot) => slot,
             None => {
-                let slot = self.count;
-                self.count = one_more(slot)?;
-                Ok(slot)
+                let slot = self.count as u32;
+                self.count += 1;
+                slot
             }
         }
     }
@@ -80,13 +72,14 @@ impl Slots {
     /// The slot that is free soonest, if it is free where the interval begins, and else a new one. It belongs to the
     /// interval from then on.
     pub fn give(&mut self, interval: &Interval) -> Result<u32, OutOfMemory>
-        requires { interval.now.first ≤ interval.now.last }
+        requires ordered { interval.now.first ≤ interval.now.last }
+        requires few { self.old.count < 2 ^ 32 }
         ensures slot { (slots : List ℕ) → HasEnds slots (heap_items self.old.ends) self.old.count →
             IfOk result (HasSlot slots interval.now (heap_items self.new.ends) self.new.count) }
         ensures rules { (placements : List Placement) → AreSlots placements (heap_items self.old.ends) self.old.count →
             IfOk result (GivesSlot placements interval.now (heap_items self.new.ends) self.new.count) }
     {
-        let slot = self.take(interval.first)?;
+        let slot = self.take(interval.first);
         self.ends.push(Reverse(SlotEnd {
             last: interval.last,
             slot,

@@ -1,5 +1,6 @@
 use Rattle.sc_alloc.proofs.Common.{All, AreNumbered, ArePlaced, Interval, IsAssignment, IsPermutation, IsSparing, List}
 use Rattle.sc_alloc.proofs.Common.{Placement, ap, at_first, fold, map, scan_next, sorted_by, subst, sym, ◌∙◌, ◌≡◌, ◌≤◌}
+use Rattle.std.proofs.Common.{length, ◌^◌}
 use Rattle.sc_alloc.proofs.Assignment.{all_ordered, are_places, is_assignment, is_sparing, moved_to, numbered}
 use Rattle.sc_alloc.proofs.ByTemp.{by_temps, place_of, temp_of}
 use Rattle.sc_alloc.proofs.places.assign.Goals as goal
@@ -71,3 +72,7 @@ returns-clause-places c =
     c.as_slice.ensures.list c.in_ok-order.ensures.same c.as_slice-2.ensures.value c.in_ok-placements.ensures.each)
     places placed ∙
     ap (λ placements. map place_of (sorted_by temp_of placements)) scanned
+
+pub scan-requires-clause-few : goal.scan-requires-clause-few
+scan-requires-clause-few c =
+    subst (λ (xs : List Interval). length xs ≤ 2 ^ 32) (sym c.as_slice-2.ensures.value) c.in_ok-order.ensures.few

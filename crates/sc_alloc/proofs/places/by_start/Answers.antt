@@ -1,6 +1,9 @@
 use Rattle.sc_alloc.proofs.Common.{Interval, IsNonDecreasingBy, IsNonDecreasingBy-from_sort_by_key, IsStableByKey}
 use Rattle.sc_alloc.proofs.Common.{answers_always, ap, nat_cmp, rules, sorted_by, ◌∙◌}
 use Rattle.sc_alloc.proofs.Sorting.{sorted_is}
+use Rattle.std.proofs.Common.{subst, sym, ◌^◌, ◌≤◌}
+use Rattle.sc_alloc.proofs.Common.{IsPermutation}
+use Rattle.std.proofs.lemmas.List.Sorted.{length_permutation}
 use Rattle.sc_alloc.proofs.places.by_start.Goals as goal
 
 pub returns-clause-rising : goal.returns-clause-rising
@@ -17,3 +20,8 @@ returns-clause-sorted c =
     let stable : IsStableByKey first nat_cmp c.in_ok-order.order.items order =
     c.sort_by_key.ensures.stable first (answers_always _ _ _ (λ f a r next called. search rules)) in
     sorted_is first c.in_ok-order.order.items order up stable ∙ ap (sorted_by first) c.in_ok-order.ensures.items
+
+pub returns-clause-few : goal.returns-clause-few
+returns-clause-few c =
+    let moved : IsPermutation c.args.intervals.now c.sort_by_key.new.self.items = search rules in
+    subst (λ n. n ≤ 2 ^ 32) (sym (length_permutation _ _ moved)) c.are_few.ensures

@@ -5,17 +5,17 @@ use Rattle.sc_alloc.proofs.slots.Slots.give.Goals as goal
 
 pub returns-clause-slot : goal.returns-clause-slot
 returns-clause-slot c slots has =
-    let out = c.in_ok-slot.ensures.slot slots has in (
+    let out = c.take-slot.ensures.slot slots has in (
       out.0,
-      come_back slots (heap_items c.take.new.self.ends) (heap_items c.push.new.self) c.take.new.self.count
-          c.args.interval.now.last c.in_ok-slot.slot out.1 c.in_ok-push.ensures.permutation
+      come_back slots (heap_items c.take-slot.new.self.ends) (heap_items c.push.new.self) c.take-slot.new.self.count
+          c.args.interval.now.last c.take-slot.result out.1 c.in_ok-push.ensures.permutation
           (c.in_ok-push.ensures.heap_order out.1.ordered),
     )
 
 pub returns-clause-rules : goal.returns-clause-rules
 returns-clause-rules c placements slots =
-    let out = c.in_ok-slot.ensures.rules placements slots in (
-      slot_given placements c.args.interval.now (heap_items c.take.new.self.ends) (heap_items c.push.new.self)
-          c.take.new.self.count c.in_ok-slot.slot out c.requires c.in_ok-push.ensures.permutation,
+    let out = c.take-slot.ensures.rules placements slots in (
+      slot_given placements c.args.interval.now (heap_items c.take-slot.new.self.ends) (heap_items c.push.new.self)
+          c.take-slot.new.self.count c.take-slot.result out c.requires.ordered c.in_ok-push.ensures.permutation,
       out.free,
     )
