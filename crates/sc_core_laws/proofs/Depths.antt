@@ -7,6 +7,9 @@ use Rattle.sc_core_laws.proofs.Common.{call_own, deepest, depth_after, done, emi
 use Rattle.sc_core_laws.proofs.Common.{found, has_no_end, if◌then◌else◌, is_end, last, length, length-append, lt-ltb}
 use Rattle.sc_core_laws.proofs.Common.{refl, run_by, run_step, run_to, scripted_step, stack_depth, subst, suc, true}
 use Rattle.sc_core_laws.proofs.Common.{within, ℕ, ◌++◌, ◌+◌, ◌-◌, ◌==◌, ◌∙◌, ◌∷◌, ◌≡◌, ◌≤◌}
+use Rattle.std.proofs.Common.{leb-false, leb-true, ltb-false, ltb-true, max, nat_le, nat_lt, sym, Bool, ◌&&◌}
+use Rattle.std.proofs.lemmas.Bool.{le-ltb}
+use Rattle.sc_core_laws.specs.Laws.{DepthsAreAttained, IsAttained}
 use Rattle.sc_core_laws.proofs.Matching.{idle}
 use Rattle.sc_core_laws.proofs.Keeping.{Walk, place, BodyWalks, own_walks, main_walks, scripted_walks}
 
@@ -67,6 +70,142 @@ deepest_more events comp depth (Closed emitted c less ∷ xs) ys =
 pub deepest_is_reached : DeepestIsReached
 deepest_is_reached events comp before after h = deepest_from events comp 0 before after h
 
+-- CHANGES IN THE ORDER OF THEIR MOMENTS
+abbrev InOrder : ℕ → List FrameChange → Type 0
+InOrder from [] = Unit {0}
+InOrder from (Opened emitted c more ∷ changes) = (from ≤ emitted) × InOrder emitted changes
+InOrder from (Closed emitted c less ∷ changes) = (from ≤ emitted) × InOrder emitted changes
+
+-- one more change, which is of the last moment
+opened_last : (from n c more : ℕ) (xs : List FrameChange) → from ≤ n → AllBefore (suc n) xs → InOrder from xs →
+    InOrder from (xs ++ Opened n c more ∷ [])
+opened_last from n c more [] le early h = (le, tt)
+opened_last from n c more (Opened emitted d size ∷ xs) le early h =
+    let first = early.0 in (h.0, opened_last emitted n c more xs (omega (arith, first)) early.1 h.1)
+opened_last from n c more (Closed emitted d size ∷ xs) le early h =
+    let first = early.0 in (h.0, opened_last emitted n c more xs (omega (arith, first)) early.1 h.1)
+
+closed_last : (from n c less : ℕ) (xs : List FrameChange) → from ≤ n → AllBefore (suc n) xs → InOrder from xs →
+    InOrder from (xs ++ Closed n c less ∷ [])
+closed_last from n c less [] le early h = (le, tt)
+closed_last from n c less (Opened emitted d size ∷ xs) le early h =
+    let first = early.0 in (h.0, closed_last emitted n c less xs (omega (arith, first)) early.1 h.1)
+closed_last from n c less (Closed emitted d size ∷ xs) le early h =
+    let first = early.0 in (h.0, closed_last emitted n c less xs (omega (arith, first)) early.1 h.1)
+
+-- a greatest depth that is the depth after changes before the cut
+record Attains (events comp depth : ℕ) (changes : List FrameChange) (most : ℕ) : Type 0 where
+  pub before : List FrameChange
+  pub after : List FrameChange
+  pub parts : changes ≡ before ++ after
+  pub early : AllBefore events before
+  pub attains : depth_after comp depth before ≡ most
+
+at_once : (events comp depth : ℕ) (changes : List FrameChange) {most : ℕ} → depth ≡ most →
+    Attains events comp depth changes most
+at_once events comp depth changes is =
+    record { before = []; after = changes; parts = refl; early = tt; attains = is }
+
+uncounted : (own : Bool) (emitted events x y : ℕ) → events ≤ emitted →
+    (if own && nat_lt emitted events then x else y) ≡ y
+uncounted true emitted events x y le = ap (λ b. if b then x else y) (le-ltb emitted events le)
+uncounted false emitted events x y le = refl
+
+-- once the cut has come no change counts
+late_deepest : (events comp depth from : ℕ) (xs : List FrameChange) → events ≤ from → InOrder from xs →
+    depth ≡ deepest events comp depth xs
+late_deepest events comp depth from [] le h = refl
+late_deepest events comp depth from (Opened emitted c more ∷ xs) le h =
+    let first = h.0 in
+    let late : events ≤ emitted = omega (arith, first, le) in
+    late_deepest events comp depth emitted xs late h.1 ∙ sym
+    (uncounted (c == comp) emitted events (max depth (deepest events comp (depth + more) xs)) _ late)
+late_deepest events comp depth from (Closed emitted c less ∷ xs) le h =
+    let first = h.0 in
+    let late : events ≤ emitted = omega (arith, first, le) in
+    late_deepest events comp depth emitted xs late h.1 ∙ sym
+    (uncounted (c == comp) emitted events (max depth (deepest events comp (depth - less) xs)) _ late)
+
+-- the greater of two depths, of which the second is attained after a change
+greater : (events comp depth next : ℕ) (change : FrameChange) (xs : List FrameChange) (most : ℕ) →
+    ((ys : List FrameChange) → AllBefore events ys → AllBefore events (change ∷ ys)) →
+    ((ys : List FrameChange) → depth_after comp depth (change ∷ ys) ≡ depth_after comp next ys) →
+    Attains events comp next xs most → Attains events comp depth (change ∷ xs) (max depth most)
+greater events comp depth next change xs most more steps rest = by (nat_le most depth) refl where
+  by : (b : Bool) → nat_le most depth ≡ b → Attains events comp depth (change ∷ xs) (max depth most)
+  by true is = let le = leb-true most depth is in at_once events comp depth (change ∷ xs) (omega (arith, le))
+  by false is =
+      let less = leb-false most depth is in
+      let same : most ≡ max depth most = omega (arith, less) in
+      record {
+        before = change ∷ rest.before;
+        after = rest.after;
+        parts = ap (λ ys. change ∷ ys) rest.parts;
+        early = more rest.before rest.early;
+        attains = steps rest.before ∙ rest.attains ∙ same;
+      }
+
+attained_from : (events comp depth from : ℕ) (xs : List FrameChange) → InOrder from xs →
+    Attains events comp depth xs (deepest events comp depth xs)
+attained_from events comp depth from [] h = at_once events comp depth [] refl
+attained_from events comp depth from (Opened emitted c more ∷ xs) h =
+    by (attained_from events comp (depth + more) emitted xs h.1) (attained_from events comp depth emitted xs h.1)
+    (c == comp) refl (nat_lt emitted events) refl where
+      by : Attains events comp (depth + more) xs (deepest events comp (depth + more) xs) →
+          Attains events comp depth xs (deepest events comp depth xs) →
+          (own : Bool) → (c == comp) ≡ own → (early : Bool) → nat_lt emitted events ≡ early →
+          Attains events comp depth (Opened emitted c more ∷ xs)
+          (if own && early then max depth (deepest events comp (depth + more) xs) else deepest events comp depth xs)
+      by next rest true own true early =
+          greater events comp depth (depth + more) (Opened emitted c more) xs _
+          (λ ys h. (ltb-true emitted events early, h))
+          (λ ys. ap (λ b. if b then depth_after comp (depth + more) ys else depth_after comp depth ys) own)
+          next
+      by next rest false own true early =
+          record {
+            before = Opened emitted c more ∷ rest.before;
+            after = rest.after;
+            parts = ap (λ ys. Opened emitted c more ∷ ys) rest.parts;
+            early = (ltb-true emitted events early, rest.early);
+            attains = ap (λ b. if b then depth_after comp (depth + more) rest.before else depth_after comp depth
+                rest.before) own ∙ rest.attains;
+          }
+      by next rest true own false late =
+          at_once events comp depth _ (late_deepest events comp depth emitted xs (ltb-false emitted events late) h.1)
+      by next rest false own false late =
+          at_once events comp depth _ (late_deepest events comp depth emitted xs (ltb-false emitted events late) h.1)
+attained_from events comp depth from (Closed emitted c less ∷ xs) h =
+    by (attained_from events comp (depth - less) emitted xs h.1) (attained_from events comp depth emitted xs h.1)
+    (c == comp) refl (nat_lt emitted events) refl where
+      by : Attains events comp (depth - less) xs (deepest events comp (depth - less) xs) →
+          Attains events comp depth xs (deepest events comp depth xs) →
+          (own : Bool) → (c == comp) ≡ own → (early : Bool) → nat_lt emitted events ≡ early →
+          Attains events comp depth (Closed emitted c less ∷ xs)
+          (if own && early then max depth (deepest events comp (depth - less) xs) else deepest events comp depth xs)
+      by next rest true own true early =
+          greater events comp depth (depth - less) (Closed emitted c less) xs _
+          (λ ys h. (ltb-true emitted events early, h))
+          (λ ys. ap (λ b. if b then depth_after comp (depth - less) ys else depth_after comp depth ys) own)
+          next
+      by next rest false own true early =
+          record {
+            before = Closed emitted c less ∷ rest.before;
+            after = rest.after;
+            parts = ap (λ ys. Closed emitted c less ∷ ys) rest.parts;
+            early = (ltb-true emitted events early, rest.early);
+            attains = ap (λ b. if b then depth_after comp (depth - less) rest.before else depth_after comp depth
+                rest.before) own ∙ rest.attains;
+          }
+      by next rest true own false late =
+          at_once events comp depth _ (late_deepest events comp depth emitted xs (ltb-false emitted events late) h.1)
+      by next rest false own false late =
+          at_once events comp depth _ (late_deepest events comp depth emitted xs (ltb-false emitted events late) h.1)
+
+depths_attained : (xs : List FrameChange) → InOrder 0 xs → (events comp : ℕ) → IsAttained events comp xs
+depths_attained xs order events comp =
+    let a = attained_from events comp 0 0 xs order in
+    record { before = a.before; after = a.after; parts = a.parts; early = a.early; attains = a.attains }
+
 -- STATES
 
 abbrev Depths : Type 0
@@ -76,6 +215,7 @@ Depths = ℕ → ℕ
 record Emitted (base : State) (trace : List Event) (frames : List FrameChange) : Type 0 where
   pub moments : AllBefore (suc (length base.trace)) base.frames → AllBefore (suc (length trace)) frames
   pub endless : has_no_end base.trace ≡ true → has_no_end trace ≡ true
+  pub ordered : AllBefore (suc (length base.trace)) base.frames → InOrder 0 base.frames → InOrder 0 frames
 
 -- and these are the stack depths
 record Noted (base : State) (depths : Depths) (trace : List Event) (frames : List FrameChange) : Type 0 where
@@ -100,6 +240,7 @@ module _ (base : State) where
           moments = λ first. before_more (suc _) _
               (omega (arith, length-append s.trace (e ∷ []))) _ (h.emitted.moments first);
           endless = λ first. endless_more s.trace e plain (h.emitted.endless first);
+          ordered = h.emitted.ordered;
         };
         open_ = h.open_;
       }
@@ -115,6 +256,8 @@ module _ (base : State) where
       moments = λ first. before_append (suc _) s.frames (Opened _ comp f.frame_size ∷ [])
           (h.emitted.moments first) (omega arith, tt);
       endless = h.emitted.endless;
+      ordered = λ first order. opened_last 0 _ comp f.frame_size s.frames (omega arith) (h.emitted.moments first)
+          (h.emitted.ordered first order);
     };
     open_ = λ c. depth_append c 0 s.frames (Opened _ comp f.frame_size ∷ [])
         ∙ ap (λ depth. if comp == c then depth + f.frame_size else depth) (h.open_ c);
@@ -127,6 +270,8 @@ module _ (base : State) where
       moments = λ first. before_append (suc _) s.frames (Closed _ comp f.frame_size ∷ [])
           (h.emitted.moments first) (omega arith, tt);
       endless = h.emitted.endless;
+      ordered = λ first order. closed_last 0 _ comp f.frame_size s.frames (omega arith) (h.emitted.moments first)
+          (h.emitted.ordered first order);
     };
     open_ = λ c. grind (arith, depth_append c 0 s.frames (Closed (length s.trace) comp f.frame_size ∷ []), h.open_ c);
   }
@@ -167,7 +312,7 @@ module _ (base : State) where
 
       -- a call from the base, and that of `main`
       abbrev at_base : Emitted base base.trace base.frames
-      at_base = record { moments = λ h. h; endless = λ h. h }
+      at_base = record { moments = λ h. h; endless = λ h. h; ordered = λ h order. order }
 
       abbrev kept : Depths → Property
       kept = place denotations walk 0
@@ -207,6 +352,19 @@ module _ (denotations : Denotations) (obedient : Obedient denotations) (roles : 
       run_to_notes base (λ c. 0) denotations.interfaces.main _ tt
       (main_kept base denotations obedient roles (suc turns))
 
+  run_to_ordered : (base : State) (depths : Depths) (main : ℕ) (piece : Piece (Option Value)) →
+      AllBefore (suc (length base.trace)) base.frames → InOrder 0 base.frames →
+      Kept (kept base denotations obedient roles depths) piece → InOrder 0 (run_to main piece).frames
+  run_to_ordered base depths main (Reached v s) first order h = h.after.emitted.ordered first order
+  run_to_ordered base depths main (Stopped end s) first order h = h.after.ordered first order
+
+  run_by_attains : (globals : Memory) (inputs : List ℕ) (turns : ℕ) →
+      DepthsAreAttained (run_by denotations step globals inputs turns)
+  run_by_attains globals inputs turns =
+      let base = first_state globals inputs turns in
+      depths_attained _ (run_to_ordered base (λ c. 0) denotations.interfaces.main _ tt tt
+      (main_kept base denotations obedient roles (suc turns)))
+
   leaves_depths : LeavesDepths denotations step
   leaves_depths n comp number args v s t emitted is =
       (subst (λ p. Kept (kept s denotations obedient roles (λ c. stack_depth c s)) p) is
@@ -222,6 +380,8 @@ pub keeps_depths : (denotations : Denotations) → Obedient denotations → Keep
 keeps_depths denotations obedient = record {
   emitted = run_by_notes denotations obedient idle;
   scripted_emitted = λ globals inputs turns roles. run_by_notes denotations obedient roles globals inputs turns;
+  attained = run_by_attains denotations obedient idle;
+  scripted_attained = λ globals inputs turns roles. run_by_attains denotations obedient roles globals inputs turns;
   returns = leaves_depths denotations obedient idle;
   scripted_returns = leaves_depths denotations obedient;
   no_end = emits_no_end denotations obedient idle;

@@ -205,6 +205,18 @@ abbrev pub DeepestIsReached : Type 0
 DeepestIsReached = (events comp : ℕ) (before after : List FrameChange) → AllBefore events before →
     depth_after comp 0 before ≤ deepest events comp 0 (before ++ after)
 
+-- and it is the stack depth at one of them: `before` are the changes up to that moment
+pub record IsAttained (events comp : ℕ) (changes : List FrameChange) : Type 0 where
+  pub before : List FrameChange
+  pub after : List FrameChange
+  pub parts : changes ≡ before ++ after
+  pub early : AllBefore events before
+  pub attains : depth_after comp 0 before ≡ deepest events comp 0 changes
+
+-- the greatest stack depth of each compartment in a run, wherever it is cut
+abbrev pub DepthsAreAttained : Run → Type 0
+DepthsAreAttained run = (events comp : ℕ) → IsAttained events comp run.frames
+
 -- each change of frames is of a moment within the trace
 abbrev pub ChangesAreWithin : Run → Type 0
 ChangesAreWithin run = AllBefore (suc (length run.behaviour.trace)) run.frames
@@ -227,6 +239,10 @@ pub record KeepsDepths (denotations : Denotations) : Type 0 where
       ChangesAreWithin (denotations_run denotations globals inputs turns)
   pub scripted_emitted : (globals : Memory) (inputs : List ℕ) (turns : ℕ) (roles : Roles) →
       ChangesAreWithin (roles_run denotations globals inputs turns roles)
+  pub attained : (globals : Memory) (inputs : List ℕ) (turns : ℕ) →
+      DepthsAreAttained (denotations_run denotations globals inputs turns)
+  pub scripted_attained : (globals : Memory) (inputs : List ℕ) (turns : ℕ) (roles : Roles) →
+      DepthsAreAttained (roles_run denotations globals inputs turns roles)
   pub returns : LeavesDepths denotations (run_step denotations)
   pub scripted_returns : (roles : Roles) →
       LeavesDepths denotations (scripted_step denotations roles (run_step denotations))
