@@ -5,7 +5,8 @@ use Rattle.sc_compile.proofs.Common.{IsLinkable, IsLinked, IsWellTyped, IsWhole,
 use Rattle.sc_compile.proofs.Common.{SimulatesRun, addresses_at, all_codes, arith, built_image, c_arith, code_run}
 use Rattle.sc_compile.proofs.Common.{keeps_meaning, keeps_rules, lowered_program, machine, outcomes_simulate}
 use Rattle.sc_compile.proofs.Common.{program_nodes, refl, run_of, same, same_run, subst, suc, too_large}
-use Rattle.sc_compile.proofs.Common.{wrapped_code_agrees, wrapping, ℕ, ◌*◌, ◌≡◌}
+use Rattle.sc_compile.proofs.Common.{wrapped_code_agrees, wrapping, ℕ, ⊎_elim, ◌*◌, ◌≡◌}
+use Rattle.sc_linker.proofs.Whole.{linked_images_hold}
 use Rattle.sc_emit_run_laws.proofs.Whole.{scripts_simulate, simulates}
 use Rattle.sc_compile.proofs.Allowed.{allowed}
 use Rattle.sc_compile.proofs.Linkable.{is_linkable}
@@ -82,6 +83,8 @@ module _ (program : ProgramTree) (typed : IsWellTyped program) (named : AreNamed
 
   pub compiled : IsCompiled program image
   compiled = record {
+    well_formed = linked.formed;
+    interfaces = linked_images_hold.interfaces program (all_codes (lowered_program program));
     forward = all_by c_arith emits_c;
     wrapped = all_by wrapping (λ inputs turns are. emits_by wrapping inputs turns are
         (itself (code_run wrapping (lowered_program program) inputs turns)));

@@ -10,6 +10,7 @@ pub mod Linked
 pub mod Lists
 pub mod Names
 pub mod NoTests
+pub mod Refused
 pub mod Results
 pub mod Scripted
 pub mod Emitted

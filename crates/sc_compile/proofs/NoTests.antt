@@ -1,4 +1,5 @@
--- The code of a section consists of instructions, none of them EBREAK, and has no more branches than its functions.
+-- The code of a section consists of instructions, none of them EBREAK, and no function's has more branches than the
+-- function.
 use Rattle.sc_compile.proofs.Common.{Addresses, All, AreEmitted, Bool, CodeTree, Fits, HasNoTests, Instr, Interfaces}
 use Rattle.sc_compile.proofs.Common.{IsLinkable, IsWellTyped, List, None, Option, ProgramTree, Proto, Some, TacFnTree}
 use Rattle.sc_compile.proofs.Common.{TacStmt, TacStmt-F, TypedFunction, TypedSection, TypedStruct, [], addresses_at}
@@ -15,6 +16,9 @@ use Rattle.rv_code.specs.Prelude.{IsInstr, word_of}
 use Rattle.sc_image.specs.Prelude.{code_of}
 use Rattle.sc_tac.specs.Prelude.{branches as code_ifs}
 use Rattle.std.proofs.lemmas.List.Elements.{All-cons, All-head, All-map, All-nil, All-tail, All-weaker}
+use Rattle.std.proofs.lemmas.List.{map-append}
+use Rattle.std.proofs.lemmas.Option.{slice_get-map}
+use Rattle.std.specs.List.{AllZip, concat}
 use Rattle.std.proofs.lemmas.List.Sums.{sum_by-append, sum_by-cons}
 use Rattle.rv_code.proofs.OneEach.{decoded-word_of}
 use Rattle.rv_code.specs.declared.instr.Instr.TheVariants.{Jal, Jalr, OpImm, Upper}
@@ -26,16 +30,17 @@ use Rattle.sc_tac.specs.declared.machine_code.Target.{Target}
 use Rattle.sc_tac.specs.declared.machine_code.Target.TheVariants.{Entry, Function, Global}
 use Rattle.sc_tac.specs.declared.stmt.TacStmt.TheOpen as tac
 use Rattle.sc_lower.proofs.Branches.{keeps_branches}
+use Rattle.sc_compile.specs.Prelude.{HasFewBranches}
 use Rattle.sc_linker.proofs.Linked.{code_instrs}
 use Rattle.sc_linker.proofs.Ready.{can_link}
 use Rattle.sc_compile.proofs.Codes.{codes_are}
 
 -- COUNTS
-counted : {X : Type 0} (test : X → Bool) (x : X) (xs : List X) →
+pub counted : {X : Type 0} (test : X → Bool) (x : X) (xs : List X) →
     count_by test (x ∷ xs) ≡ cond (test x) 1 0 + count_by test xs
 counted test x xs = sum_by-cons (λ y. cond (test y) 1 0) x xs
 
-counted_append : {X : Type 0} (test : X → Bool) (xs ys : List X) →
+pub counted_append : {X : Type 0} (test : X → Bool) (xs ys : List X) →
     count_by test (xs ++ ys) ≡ count_by test xs + count_by test ys
 counted_append test xs ys = sum_by-append (λ y. cond (test y) 1 0) xs ys
 
@@ -52,7 +57,7 @@ one_more test other x y xs ys same rest =
     summed (count_by test (x ∷ xs)) (cond (test x) 1 0) (count_by test xs) (count_by other ys) (count_by other (y ∷ ys))
     (counted test x xs) rest (counted other y ys ∙ ap (λ b. cond b 1 0 + count_by other ys) (sym same))
 
-passed_over : {X : Type 0} (test : X → Bool) (x : X) (xs : List X) → test x ≡ false → count_by test xs ≡ 0 →
+pub passed_over : {X : Type 0} (test : X → Bool) (x : X) (xs : List X) → test x ≡ false → count_by test xs ≡ 0 →
     count_by test (x ∷ xs) ≡ 0
 passed_over test x xs fails rest =
     counted test x xs ∙ ap (λ b. cond b 1 0 + count_by test xs) fails ∙ from_zero (count_by test xs) ∙ rest
@@ -232,15 +237,55 @@ same_ifs stmts =
 abbrev ifs_of : TacFnTree → ℕ
 ifs_of f = code_ifs f.body
 
-sources : (interfaces : Interfaces) (comp : ℕ) (structs : List TypedStruct) (functions : List TypedFunction) →
-    total (map ifs_of (map (lowered_function interfaces comp structs) functions)) ≡ total (map branches functions)
-sources interfaces comp structs [] = refl
-sources interfaces comp structs (f ∷ functions) =
-    by (code_ifs (body_code structs f 0).code) (branches f) _ _
-    (same_ifs (body_code structs f 0).code ∙ keeps_branches.functions structs f)
-    (sources interfaces comp structs functions) where
-      by : (a b c d : ℕ) → a ≡ b → c ≡ d → a + c ≡ b + d
-      by a b c d first rest = omega (arith, first, rest)
+-- of a function that is lowered
+source_ifs : (interfaces : Interfaces) (comp : ℕ) (structs : List TypedStruct) (f : TypedFunction) →
+    ifs_of (lowered_function interfaces comp structs f) ≡ branches f
+source_ifs interfaces comp structs f =
+    same_ifs (body_code structs f 0).code ∙ keeps_branches.functions structs f
+
+-- STRETCHES
+all_first : {X : Type 0} (P : X → Type 0) (xs ys : List X) → All P (xs ++ ys) → All P xs
+all_first P [] ys all = All-nil P
+all_first P (x ∷ xs) ys all =
+    All-cons P x xs (All-head P x (xs ++ ys) all) (all_first P xs ys (All-tail P x (xs ++ ys) all))
+
+all_later : {X : Type 0} (P : X → Type 0) (xs ys : List X) → All P (xs ++ ys) → All P ys
+all_later P [] ys all = all
+all_later P (x ∷ xs) ys all = all_later P xs ys (All-tail P x (xs ++ ys) all)
+
+-- the words of each function
+abbrev function_words : Addresses → (address : ℕ) → List CodeTree → List (List ℕ)
+function_words A address [] = []
+function_words A address (code ∷ codes) =
+    map word_of (linked A address code) ∷ function_words A (address + 4 * length code.instrs) codes
+
+words_apart : (A : Addresses) (address : ℕ) (codes : List CodeTree) →
+    map word_of (linked_codes A address codes) ≡ concat (function_words A address codes)
+words_apart A address [] = refl
+words_apart A address (code ∷ codes) =
+    map-append word_of (linked A address code) (linked_codes A (address + 4 * length code.instrs) codes)
+    ∙ ap (λ rest. map word_of (linked A address code) ++ rest)
+    (words_apart A (address + 4 * length code.instrs) codes)
+
+module _ (A : Addresses) (code : TypedFunction → CodeTree) where
+  each_few : (address : ℕ) (functions : List TypedFunction) →
+      All IsInstr (linked_codes A address (map code functions)) →
+      ((i : ℕ) (f : TypedFunction) → slice_get functions i ≡ Some f →
+      count_by is_branch (code f).instrs ≤ branches f) →
+      AllZip HasFewBranches functions (function_words A address (map code functions))
+  each_few address [] instrs few = tt
+  each_few address (f ∷ functions) instrs few =
+      let own : List Instr = linked A address (code f) in
+      let next : ℕ = address + 4 * length (code f).instrs in
+      let rest : List Instr = linked_codes A next (map code functions) in (
+        by (count_by (test_word is_branch) (map word_of own)) (count_by is_branch (code f).instrs) (branches f)
+            (counted_words is_branch own (all_first IsInstr own rest instrs)
+            ∙ from_counted is_branch branches_skipped A address 0 None (code f).instrs (code f).relocations)
+            (few 0 f refl),
+        each_few next functions (all_later IsInstr own rest instrs) (λ i g is. few (suc i) g is),
+      ) where
+        by : (a b c : ℕ) → a ≡ b → b ≤ c → a ≤ c
+        by a b c same most = omega (arith, same, most)
 
 module _ (program : ProgramTree) (typed : IsWellTyped program) where
   abbrev codes : List CodeTree
@@ -271,17 +316,6 @@ module _ (program : ProgramTree) (typed : IsWellTyped program) where
             by : (a b c : ℕ) → a ≡ b → b ≤ c → a ≤ c
             by a b c same most = omega (arith, same, most)
 
-      few_branches : count_by is_branch (comp_code program codes comp) ≤ total (map branches section.functions)
-      few_branches =
-          by (count_by is_branch (comp_code program codes comp)) (total (map ifs_of lowered))
-          (total (map branches section.functions))
-          (total_at_most is_branch ifs_of branches_skipped
-          (λ number f there. (emitted.functions comp number f there).branches))
-          (ap (λ fs. total (map ifs_of fs)) lowered_are
-          ∙ sources program.interfaces comp section.structs section.functions) where
-            by : (a b c : ℕ) → a ≤ b → b ≡ c → a ≤ c
-            by a b c most same = omega (arith, same, most)
-
       no_ebreaks : count_by is_ebreak (comp_code program codes comp) ≡ 0
       no_ebreaks =
           by (count_by is_ebreak (comp_code program codes comp)) (total (map (λ f. 0) lowered))
@@ -306,17 +340,60 @@ module _ (program : ProgramTree) (typed : IsWellTyped program) where
       code_is : code_of (built_image program) comp ≡ map word_of (comp_code program codes comp)
       code_is = ap (λ o. option_map_or (λ (part : CompPart). part.code) o []) (part_is program codes comp fits)
 
+      abbrev lower : TypedFunction → TacFnTree
+      lower = lowered_function program.interfaces comp section.structs
+
+      abbrev addresses : Addresses
+      addresses = addresses_at program codes comp
+
+      abbrev jumps : List Instr
+      jumps = entry_jumps addresses comp 0 (section_at program comp) (exports_at program comp)
+
+      abbrev begins : ℕ
+      begins = entry_address comp (length (exports_at program comp))
+
+      abbrev bodies : List Instr
+      bodies = linked_codes addresses begins (codes_at program codes comp)
+
+      twice : (fs : List TypedFunction) → map function_code (map lower fs) ≡ map (λ f. function_code (lower f)) fs
+      twice [] = refl
+      twice (f ∷ fs) = ap (λ rest. function_code (lower f) ∷ rest) (twice fs)
+
+      own_codes : codes_at program codes comp ≡ map (λ f. function_code (lower f)) section.functions
+      own_codes = codes_are program comp ∙ (ap (map function_code) lowered_are ∙ twice section.functions)
+
+      function_few : (number : ℕ) (f : TypedFunction) → slice_get section.functions number ≡ Some f →
+          count_by is_branch (function_code (lower f)).instrs ≤ branches f
+      function_few number f its =
+          let few = (emitted.functions comp number (lower f)
+          (ap (λ fs. slice_get fs number) lowered_are ∙ (slice_get-map lower section.functions number ∙
+          ap (option_map lower) its))).branches in
+          by (count_by is_branch (function_code (lower f)).instrs) (ifs_of (lower f)) (branches f) few
+          (source_ifs program.interfaces comp section.structs f) where
+            by : (a b c : ℕ) → a ≤ b → b ≡ c → a ≤ c
+            by a b c most same = omega (arith, same, most)
+
+      few_each : AllZip HasFewBranches section.functions
+          (function_words addresses begins (codes_at program codes comp))
+      few_each =
+          subst (λ cs. AllZip HasFewBranches section.functions (function_words addresses begins cs)) (sym own_codes)
+          (each_few addresses (λ f. function_code (lower f)) begins section.functions
+          (subst (λ cs. All IsInstr (linked_codes addresses begins cs)) own_codes
+          (all_later IsInstr jumps bodies are_instrs)) function_few)
+
       words_without : HasNoTests section (map word_of (comp_code program codes comp))
       words_without = record {
         instructions = all_decoded (comp_code program codes comp) are_instrs;
         no_ebreak = none_passes is_ebreak (comp_code program codes comp) are_instrs no_ebreaks;
-        branches =
-            by (count_by (test_word is_branch) (map word_of (comp_code program codes comp)))
-            (count_by is_branch (comp_code program codes comp)) (total (map branches section.functions))
-            (counted_words is_branch (comp_code program codes comp) are_instrs) few_branches;
-      } where
-        by : (a b c : ℕ) → a ≡ b → b ≤ c → a ≤ c
-        by a b c same most = omega (arith, same, most)
+        entries = map word_of jumps;
+        functions = function_words addresses begins (codes_at program codes comp);
+        whole = map-append word_of jumps bodies ∙
+            ap (λ rest. map word_of jumps ++ rest) (words_apart addresses begins (codes_at program codes comp));
+        entered = none_passes is_branch jumps (all_first IsInstr jumps bodies are_instrs)
+            (jumps_counted is_branch branches_skipped addresses comp 0 (section_at program comp)
+            (exports_at program comp));
+        branches = few_each;
+      }
 
 pub no_tests : (program : ProgramTree) → IsWellTyped program →
     IsLinkable program (all_codes (lowered_program program)) → AreEmitted program →

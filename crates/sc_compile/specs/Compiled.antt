@@ -7,13 +7,15 @@ use Rattle.sc_base.specs.Prelude.{IsPrefix}
 use Rattle.sc_event.specs.Prelude.{legal}
 use Rattle.sc_core_laws.specs.Prelude.{IsBlamedOutside, Set}
 use Rattle.rv_code.specs.Prelude.{decoded}
-use Rattle.sc_image.specs.Prelude.{code_of}
-use Rattle.std.specs.Prelude.{◌≡◌, ℕ, suc, ◌*◌, ◌<◌, ◌≤◌, ◌⊎◌, Bool, true, false, List, length, map, All, Option, None}
-use Rattle.std.specs.Prelude.{Some, slice_get}
-use Rattle.std.specs.List.{count_by}
+use Rattle.sc_image.specs.Prelude.{IsWellFormed, code_of}
+use Rattle.sc_linker.specs.Prelude.{HasInterfaces}
+use Rattle.std.specs.Prelude.{◌≡◌, ℕ, suc, ◌*◌, ◌<◌, ◌≤◌, ◌⊎◌, Bool, true, false, List, ◌++◌, length, map, All, Option}
+use Rattle.std.specs.Prelude.{None, Some, slice_get}
+use Rattle.std.specs.List.{AllZip, concat, count_by}
 use Rattle.rv_code.specs.declared.instr.Instr.{Instr}
 use Rattle.sc_event.specs.declared.event.Event.{Event}
 use Rattle.sc_core.specs.declared.run.SourceRun.{SourceRun}
+use Rattle.sc_core.specs.declared.section.TypedFunction.{TypedFunction}
 
 -- the nodes of all functions
 abbrev pub program_nodes : ProgramTree → ℕ
@@ -47,14 +49,26 @@ test_word test word = holds (decoded word) where
   holds None = false
   holds (Some instr) = test instr
 
--- each word of a section's code is an instruction, none is EBREAK, and branches are no more than the `if`, `while`,
--- `for`, `&&` and `||` of its functions: none is left for a test of undefined behaviour
+-- a function's code has no more branches than the function has `if`, `while`, `for`, `&&` and `||`
+abbrev pub HasFewBranches : TypedFunction → List ℕ → Type 0
+HasFewBranches f code = count_by (test_word is_branch) code ≤ branches f
+
+-- Each word of a section's code is an instruction, and none is EBREAK. There is no branch but in the codes of its
+-- functions, which stand one after the other, and none is left there for a test of undefined behaviour.
 pub record HasNoTests (section : TypedSection) (code : List ℕ) : Type 0 where
   pub instructions : All (λ word. test_word (λ instr. true) word ≡ true) code
   pub no_ebreak : All (λ word. test_word is_ebreak word ≡ false) code
-  pub branches : count_by (test_word is_branch) code ≤ total (map branches section.functions)
+  pub entries : List ℕ
+  pub functions : List (List ℕ)
+  pub whole : code ≡ entries ++ concat functions
+  pub entered : All (λ word. test_word is_branch word ≡ false) entries
+  pub branches : AllZip HasFewBranches section.functions functions
 
 pub record IsCompiled (program : ProgramTree) (image : ImageParts) : Type 0 where
+  -- so that the laws of isolation hold of it
+  pub well_formed : IsWellFormed image
+  -- by which its compartments call one another, and runs are reported
+  pub interfaces : HasInterfaces program.interfaces image
   pub forward : ForwardSimulation c_arith program image
   -- after undefined arithmetic the code goes on with what the machine's operations give
   pub wrapped : ForwardSimulation wrapping program image

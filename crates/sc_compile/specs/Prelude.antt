@@ -1,7 +1,7 @@
 -- What this crate's contracts, its proofs and the crates above cite, passed on from one place. Declares nothing.
 pub use Rattle.sc_core.specs.Prelude.{IsWellTyped, cells_of, frame_bound, total}
-pub use Rattle.sc_compile.specs.Compiled.{EmitsOrIsBlamed, ForwardSimulation, HasNoTests, IsCompiled, program_nodes}
-pub use Rattle.sc_compile.specs.Compiled.{test_word}
+pub use Rattle.sc_compile.specs.Compiled.{EmitsOrIsBlamed, ForwardSimulation, HasFewBranches, HasNoTests, IsCompiled}
+pub use Rattle.sc_compile.specs.Compiled.{program_nodes, test_word}
 pub use Rattle.sc_compile.specs.Counting.{IsCounted, cells_in, counted_all, counted_code, counted_data, counted_frame}
 pub use Rattle.sc_compile.specs.Counting.{counted_frames, nodes_in}
 pub use Rattle.sc_compile.specs.Globals.{BeginAsWords, BeginsAsWords}
