@@ -72,5 +72,5 @@ pub run_of_text : (source : SourceParts) (inputs : List ℕ) (steps : ℕ) (trac
     program ≡ text.program → (run : SourceRun) → run ≡ meaning program inputs steps (length trace) →
     run ≡ runs source inputs steps trace (among comps')
 run_of_text source inputs steps trace comps comps' text replaced same program program_is run is =
-    is ∙ (ap (λ p. meaning p inputs steps (length trace)) program_is ∙ (replaced.means inputs steps (length trace) ∙
+    is ∙ (ap (λ p. meaning p inputs steps (length trace)) program_is ∙ (replaced.scripted.means inputs steps (length trace) ∙
     ap (λ cs. runs source inputs steps trace (among cs)) same))

@@ -36,6 +36,7 @@ module _ (source : SourceParts) (inputs : List ℤ) (steps events : ℕ) (progra
   explained has_image observed trace same_trace emits stop stops links chain = record {
     image = image;
     compiled = subst (λ p. image_of p ≡ Ok image) same has_image;
+    right = compiled;
     trace = emits;
     stop = stops;
     chain = subst (λ t. IsChain source (map word_of inputs) steps t links) same_trace chain;

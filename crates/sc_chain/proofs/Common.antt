@@ -25,5 +25,5 @@ pub use Rattle.sc_back.specs.Prelude.{HasNext, new_text, new_texts}
 pub use Rattle.sc_back_replay_laws.specs.Replay.{HasWords, IsRecomposed, IsReplay}
 pub use Rattle.sc_chain.specs.Common.{Blamed, Cause, Event, Interfaces, Link, ProgramTree, Replacement}
 pub use Rattle.sc_chain.specs.Prelude.{HasProgram, Includes, IsChain, IsChainFrom, IsExplained, IsNextLink, IsNextOf}
-pub use Rattle.sc_chain.specs.Prelude.{IsReplaced, MeansTrace, among, joined, performing, performing_text, recomposed}
+pub use Rattle.sc_chain.specs.Prelude.{IsReplaced, IsScripted, MeansTrace, among, joined, performing, performing_text, recomposed}
 pub use Rattle.sc_chain.specs.Prelude.{replacement_of, text_for}

@@ -1,5 +1,6 @@
 -- What is read of a text in which compartments perform.
 use Rattle.sc_chain.proofs.Common.{Accepts, All, AllByRecursion, Bool, Event, HasWords, Interfaces, IsReplaced}
+use Rattle.sc_chain.proofs.Common.{IsScripted}
 use Rattle.sc_chain.proofs.Common.{IsSource, IsSplitInto, List, None, Option, TextPart, ProgramTree, Replacement, Some}
 use Rattle.sc_chain.proofs.Common.{SourceParts, [], among, ap, ap₂, concat, eqb-true, false, if◌then◌else◌, joined}
 use Rattle.sc_chain.proofs.Common.{legal, length, list_any, map, meaning, new_text, new_texts, part_of, performing}
@@ -64,48 +65,46 @@ one_split text preamble other sections others a b = (
       sym (part_bytes b.found) ∙ sym b.bytes,
 )
 
-module _ (one_program : (text : List ℕ) (program other : ProgramTree) → Accepts text program → Accepts text other →
-    program ≡ other) where
-  pub is_replaced : (source : SourceParts) (trace : List Event) (comps : List ℕ) (new : SourceParts) →
-      IsSource source → legal source.program.interfaces trace ≡ true → length trace ≤ 4096 → All HasWords trace →
-      All (λ comp. comp < length source.program.interfaces.comps) comps → IsSource new →
-      new.bytes ≡ recomposed source trace (among comps) → IsReplaced source trace (among comps) new
-  is_replaced source trace comps new is allowed few words known read bytes =
-      let within = within_all (length source.program.interfaces.comps) comps
-      (recursion_from_All (λ comp. comp < length source.program.interfaces.comps) comps known) in
-      let program : ProgramTree = accepted.program source trace is allowed few words (among comps) within in
-      let same : new.program ≡ program =
-      one_program new.bytes new.program program read.accepted
-      (subst (λ text. Accepts text program) (sym bytes)
-      (accepted.accepted source trace is allowed few words (among comps) within)) in
-      let parts = one_split new.bytes new.preamble source.preamble new.sections
-      (new_texts (performing source.program.interfaces trace (among comps)) 0 source.sections) read.split
-      (subst (λ text. IsSplitInto text source.preamble
-      (new_texts (performing source.program.interfaces trace (among comps)) 0 source.sections)) (sym bytes)
-      (accepted.split_so source trace is allowed few words (among comps) within)) in
-      record {
-        bytes = bytes;
-        preamble = parts.0;
-        sections = parts.1;
-        interfaces = ap (λ (p : ProgramTree). p.interfaces) same ∙
-            accepted.same_interfaces source trace is allowed few words (among comps) within;
-        means = λ inputs turns events. ap (λ p. meaning p inputs turns events) same ∙
-            accepted.means source trace is allowed few words (among comps) within inputs turns events;
-        blames = λ inputs turns events comp cause line end.
-            accepted.blames source trace is allowed few words (among comps) within inputs turns events comp cause line
-            (ap (λ p. (meaning p inputs turns events).end) (sym same) ∙ end);
-      }
-
-pub is_accepted : (source : SourceParts) (trace : List Event) (comps : List ℕ) → IsSource source →
+-- whoever is named in the list performs
+pub is_scripted : (source : SourceParts) (trace : List Event) (comps : List ℕ) → IsSource source →
     legal source.program.interfaces trace ≡ true → length trace ≤ 4096 → All HasWords trace →
     All (λ comp. comp < length source.program.interfaces.comps) comps →
-    (program : ProgramTree) × Accepts (recomposed source trace (among comps)) program
-is_accepted source trace comps is allowed few words known =
+    (program : ProgramTree) × IsScripted source trace (among comps) program
+is_scripted source trace comps is allowed few words known =
     let within = within_all (length source.program.interfaces.comps) comps
     (recursion_from_All (λ comp. comp < length source.program.interfaces.comps) comps known) in (
       accepted.program source trace is allowed few words (among comps) within,
-      accepted.accepted source trace is allowed few words (among comps) within,
+      record {
+        accepted = accepted.accepted source trace is allowed few words (among comps) within;
+        interfaces = accepted.same_interfaces source trace is allowed few words (among comps) within;
+        means = accepted.means source trace is allowed few words (among comps) within;
+        blames = accepted.blames source trace is allowed few words (among comps) within;
+      },
     )
+
+pub is_replaced : ((text : List ℕ) (program other : ProgramTree) → Accepts text program → Accepts text other →
+    program ≡ other) → (source : SourceParts) (trace : List Event) (comps : List ℕ) (new : SourceParts) →
+    IsSource source → legal source.program.interfaces trace ≡ true → length trace ≤ 4096 → All HasWords trace →
+    All (λ comp. comp < length source.program.interfaces.comps) comps → IsSource new →
+    new.bytes ≡ recomposed source trace (among comps) → IsReplaced source trace (among comps) new
+is_replaced one_program source trace comps new is allowed few words known read bytes =
+    let within = within_all (length source.program.interfaces.comps) comps
+    (recursion_from_All (λ comp. comp < length source.program.interfaces.comps) comps known) in
+    let made = is_scripted source trace comps is allowed few words known in
+    let same : made.0 ≡ new.program =
+    one_program new.bytes made.0 new.program
+    (subst (λ text. Accepts text made.0) (sym bytes) made.1.accepted) read.accepted in
+    let parts = one_split new.bytes new.preamble source.preamble new.sections
+    (new_texts (performing source.program.interfaces trace (among comps)) 0 source.sections) read.split
+    (subst (λ text. IsSplitInto text source.preamble
+    (new_texts (performing source.program.interfaces trace (among comps)) 0 source.sections)) (sym bytes)
+    (accepted.split_so source trace is allowed few words (among comps) within)) in
+    record {
+      bytes = bytes;
+      preamble = parts.0;
+      sections = parts.1;
+      scripted = subst (IsScripted source trace (among comps)) same made.1;
+    }
 
 -- the text that is put together
 pub text_so : (source : SourceParts) (trace : List Event) (comps : List ℕ) (program : ProgramTree)

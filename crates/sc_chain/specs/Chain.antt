@@ -2,6 +2,7 @@
 -- more that performs its part of the trace, that of the compartment which the meaning of the text before it blames
 -- after a proper, ever longer prefix of the trace; the meaning of the last is the trace.
 use Rattle.sc_chain.specs.Common.{Accepts, Blamed, Event, Link, ProgramTree, SourceParts, image_of, meaning}
+use Rattle.sc_compile.specs.Prelude.{IsCompiled}
 use Rattle.sc_image.specs.Prelude.{machine}
 use Rattle.std.specs.Prelude.{◌≡◌, ◌↔◌, ℕ, suc, ◌<◌, ◌≤◌, Bool, true, false, List, [], ◌∷◌, length, take, Ok}
 use Rattle.sc_image.specs.declared.parts.ImageParts.{ImageParts}
@@ -60,11 +61,13 @@ module _ (source : SourceParts) (inputs : List ℕ) (steps : ℕ) (trace : List 
         ((comp : ℕ) → set comp ≡ true → comp < length source.program.interfaces.comps) →
         MeansTrace set ↔ Includes set links
 
--- the trace and the stop are those of the machine on the program's image, and the links are a chain for them
+-- the trace and the stop are those of the machine on the program's image, which does what the program means, and the
+-- links are a chain for them
 pub record IsExplained (source : SourceParts) (inputs : List ℕ) (steps events : ℕ) (explanation : Explanation) :
     Type 0 where
   pub image : ImageParts
   pub compiled : image_of source.program ≡ Ok image
+  pub right : IsCompiled source.program image
   pub trace : explanation.trace ≡ (machine image inputs steps events).state.trace
   pub stop : explanation.stop ≡ (machine image inputs steps events).stop
   pub chain : IsChain source inputs steps explanation.trace explanation.links

@@ -5,5 +5,5 @@ pub use Rattle.sc_chain.specs.Chain.{HasProgram, Includes, IsChain, IsChainFrom,
 pub use Rattle.sc_chain.specs.Faults.{IsFault}
 pub use Rattle.sc_chain.specs.Following.{IsNextLink, IsNextOf}
 pub use Rattle.sc_chain.specs.Recompose.{among, joined, performing, performing_text, recomposed, text_for}
-pub use Rattle.sc_chain.specs.Replaced.{IsReplaced}
+pub use Rattle.sc_chain.specs.Replaced.{IsReplaced, IsScripted}
 pub use Rattle.sc_chain.specs.Sections.{replacement_of, section_at}

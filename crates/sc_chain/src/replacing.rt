@@ -1,8 +1,8 @@
 //! Texts in which compartments perform their parts of a trace.
 
 ghost use Rattle.sc_base.specs.Prelude.{most_events};
-ghost use Rattle.sc_chain.specs.Prelude.{Accepts, IsReplaced, IsSource, among, legal, part, performing_text};
-ghost use Rattle.sc_chain.specs.Prelude.{recomposed, replacement_of};
+ghost use Rattle.sc_chain.specs.Prelude.{Accepts, IsReplaced, IsScripted, IsSource, among, legal, part};
+ghost use Rattle.sc_chain.specs.Prelude.{performing_text, replacement_of};
 ghost use Rattle.std.specs.Prelude.{◌≡◌, ◌<◌, ◌≤◌, ◌^◌, true, length, map, All, IfOk};
 ghost use Rattle.sc_core.specs.declared.program.ProgramTree.{ProgramTree};
 ghost use Rattle.sc_back_replay_laws.specs.Replay.{HasWords};
@@ -95,7 +95,8 @@ fn read_accepted(alloc: Global, text: &[u8]) -> Result<SourceText, OutOfMemory>
 }
 
 /// The text in which these compartments perform their parts of a trace, in place of running their functions; one may be
-/// named twice. The text is accepted, and means what the compartments' scripts say.
+/// named twice. The text is accepted, and means what the compartments' scripts say, whether memory suffices to write it or
+/// not.
 pub fn replaced(
     alloc: Global,
     source: &SourceText,
@@ -105,7 +106,7 @@ pub fn replaced(
     requires allowed { legal source.now.program.interfaces trace.now ≡ true }
     requires few { length trace.now ≤ most_events }
     requires known { All (λ comp. comp < length source.now.program.interfaces.comps) comps.now }
-    ensures accepted { (program : ProgramTree) × Accepts (recomposed source.now trace.now (among comps.now)) program }
+    ensures scripted { (program : ProgramTree) × IsScripted source.now trace.now (among comps.now) program }
     ensures source { IfOk result IsSource }
     ensures replaced { IfOk result (IsReplaced source.now trace.now (among comps.now)) }
 {

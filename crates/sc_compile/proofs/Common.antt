@@ -70,7 +70,7 @@ pub use Rattle.sc_emit_run_laws.specs.Prelude.{IsLinked, KeepsTo, SimulatesRun, 
 pub use Rattle.sc_compile.specs.Common.{CodeTooLarge, CompileFault, ImageParts, ProgramTree, TacFnTree, TacSection}
 pub use Rattle.sc_compile.specs.Common.{TypedGlobal, TypedSection}
 pub use Rattle.sc_compile.specs.Prelude.{AreEmitted, BeginAsWords, BeginsAsWords, EachEmits, EmitsAll, EmitsOrIsBlamed}
-pub use Rattle.sc_compile.specs.Prelude.{EmitsSo, FitAll, ForwardSimulation, HasNoTests, IsCompiled, IsCounted, above}
+pub use Rattle.sc_compile.specs.Prelude.{EmitsSo, FitAll, ForwardSimulation, HasNoTests, HasParts, IsCompiled, IsCounted, above}
 pub use Rattle.sc_compile.specs.Prelude.{all_codes, built_image, cells_in, code_bytes, counted_all, counted_code}
 pub use Rattle.sc_compile.specs.Prelude.{counted_data, counted_frame, counted_frames, data_bytes, first, found_in}
 pub use Rattle.sc_compile.specs.Prelude.{function_code, large_code, large_data, large_frame, large_frames}

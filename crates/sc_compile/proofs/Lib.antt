@@ -10,7 +10,9 @@ pub mod Linked
 pub mod Lists
 pub mod Names
 pub mod NoTests
+pub mod Parts
 pub mod Refused
+pub mod Reported
 pub mod Results
 pub mod Scripted
 pub mod Emitted

@@ -1,8 +1,14 @@
 -- The image of a program, pass by pass.
-use Rattle.sc_compile.specs.Common.{CompileFault, ImageParts, OutOfMemory, ProgramTree, TacFnTree, TacSection, assigned}
-use Rattle.sc_compile.specs.Common.{frame_of, intervals_of, linked_image, lowered_program}
+use Rattle.sc_compile.specs.Common.{CompileFault, ImageParts, OutOfMemory, ProgramTree, TacFnTree, TacSection}
+use Rattle.sc_compile.specs.Common.{TypedSection, assigned, frame_of, intervals_of, linked_image, lowered_program}
+use Rattle.sc_event.specs.Prelude.{comp_at}
+use Rattle.sc_lower.specs.Prelude.{lowered_section}
+use Rattle.sc_linker.specs.Prelude.{linked_part}
 use Rattle.sc_emit_select.specs.Prelude.{code_of}
-use Rattle.std.specs.Prelude.{◌≡◌, List, map, flat_map, Option, None, Some, Result, Ok, Err}
+use Rattle.std.specs.Prelude.{◌≡◌, ℕ, List, map, flat_map, slice_get, Option, None, Some, Result, Ok, Err}
+use Rattle.sc_event.specs.declared.interface.Interface.{Interface}
+use Rattle.sc_event.specs.declared.interface.Interfaces.{Interfaces}
+use Rattle.sc_image.specs.declared.parts.CompPart.{CompPart}
 use Rattle.sc_tac.specs.declared.machine_code.CodeTree.{CodeTree}
 use Rattle.sc_tac.specs.declared.program.TacTree.{TacTree}
 use Rattle.sc_compile.specs.Sizes.{too_large}
@@ -20,6 +26,17 @@ section_codes section = map function_code section.functions
 abbrev pub all_codes : TacTree → List CodeTree
 all_codes program = flat_map section_codes program.sections
 
+-- a compartment's part of the image: of the interfaces and its own section, and of no other section
+abbrev pub section_part : Interfaces → (comp : ℕ) → Interface → TypedSection → CompPart
+section_part interfaces comp interface section =
+    linked_part interfaces comp interface section (section_codes (lowered_section interfaces comp section))
+
+-- each compartment of an image is that part
+abbrev pub HasParts : ProgramTree → ImageParts → Type 0
+HasParts program image = (comp : ℕ) (interface : Interface) (section : TypedSection) →
+    comp_at program.interfaces comp ≡ Some interface → slice_get program.sections comp ≡ Some section →
+    slice_get image.comps comp ≡ Some (section_part program.interfaces comp interface section)
+
 -- the image of a program that fits
 abbrev pub built_image : ProgramTree → ImageParts
 built_image program = linked_image program (all_codes (lowered_program program))
@@ -31,6 +48,14 @@ unless_large (Some fault) image = Err fault
 -- the image of a program, or what of it is too large
 abbrev pub image_of : ProgramTree → Result ImageParts CompileFault
 image_of program = unless_large (too_large program) (built_image program)
+
+-- Compilation is separate: where two programs have the same interfaces and the same section of a number, their images
+-- have the same compartment of that number.
+abbrev pub PartsAreSeparate : Type 0
+PartsAreSeparate = (program other : ProgramTree) (image its : ImageParts) (comp : ℕ) →
+    image_of program ≡ Ok image → image_of other ≡ Ok its → program.interfaces ≡ other.interfaces →
+    slice_get program.sections comp ≡ slice_get other.sections comp →
+    slice_get image.comps comp ≡ slice_get its.comps comp
 
 -- why a program has no image: what of it is too large, or that memory ran out
 abbrev pub IsFault : ProgramTree → CompileFault → Type 0

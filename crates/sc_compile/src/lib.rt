@@ -3,8 +3,10 @@
 
 mod fault;
 mod globals;
+mod laws;
 mod passes;
 mod sizes;
 
 pub use fault::CompileFault;
+pub use laws::parts_are_separate;
 pub use passes::compile;

@@ -1,7 +1,8 @@
 //! The passes of the compiler, one after the other.
 
-ghost use Rattle.sc_compile.specs.Prelude.{EmitsAll, EmitsSo, FitAll, Fits, IsCompiled, IsFault, IsWellTyped};
-ghost use Rattle.sc_compile.specs.Prelude.{built_image, frame_bound, function_code, image_of, section_codes, too_large};
+ghost use Rattle.sc_compile.specs.Prelude.{EmitsAll, EmitsSo, FitAll, Fits, HasParts, IsCompiled, IsFault};
+ghost use Rattle.sc_compile.specs.Prelude.{IsWellTyped, built_image, frame_bound, function_code, image_of};
+ghost use Rattle.sc_compile.specs.Prelude.{section_codes, too_large};
 ghost use Rattle.sc_lower.specs.Prelude.{lowered_program};
 ghost use Rattle.sc_emit.specs.Prelude.{IsEmitted};
 ghost use Rattle.std.specs.Prelude.{◌≡◌, ◌++◌, Ok, None, Some, All, IfErr, IfOk, OnOk, flat_map, map};
@@ -70,6 +71,7 @@ fn build(alloc: Global, program: &Program, tac: &Tac) -> Result<Image, OutOfMemo
     requires fits { too_large program.now ≡ None }
     ensures image { IfOk result (λ image. image ≡ built_image program.now) }
     ensures compiled { IfOk result (IsCompiled program.now) }
+    ensures parts { IfOk result (HasParts program.now) }
 {
     globals_are_words(program.tree().sections.as_slice());
     let codes = all_codes(alloc, tac.tree().sections.as_slice())?;
@@ -94,6 +96,8 @@ pub fn compile(alloc: Global, program: &Program) -> Result<Image, CompileFault>
     ensures image { IfOk result (λ image. image_of program.now ≡ Ok image) }
     ensures fault { IfErr result (IsFault program.now) }
     ensures compiled { IfOk result (IsCompiled program.now) }
+    // Each compartment of the image is made of its own section.
+    ensures parts { IfOk result (HasParts program.now) }
 {
     let Ok(tac) = lower(alloc, program) else {
         return Err(CompileFault::OutOfMemory);

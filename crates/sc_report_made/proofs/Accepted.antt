@@ -1,6 +1,7 @@
 -- Made texts are accepted, as small programs.
 use Rattle.sc_report_made.proofs.Common.{MadeTextsAreAccepted, MadeTextsAreRead, MadeTreesAreTyped, program_of, refl}
 use Rattle.sc_report_made.proofs.Counts.{counts_hold}
+use Rattle.sc_report_made.proofs.Lengths.{made_short}
 use Rattle.sc_report_made.proofs.Names.{names_hold}
 use Rattle.sc_report_made.proofs.Shapes.{AreMade}
 use Rattle.sc_report_made.proofs.Small.{are_small}
@@ -30,4 +31,5 @@ accepted_from made_texts_are_read size seed asked =
       program = program_of read.others;
       accepted = record { sections = read.others; reads = read.reads; typed = typed.0 };
       small = typed.1;
+      short = made_short size seed asked;
     }

@@ -29,4 +29,5 @@ pub mod Small
 pub mod Offered
 pub mod MainRules
 pub mod WorkerRules
+pub mod Lengths
 pub mod Accepted

@@ -1,10 +1,11 @@
 -- A made text is a program, and a small one.
+use Rattle.sc_base.specs.Prelude.{most_compiled}
 use Rattle.sc_core.specs.Prelude.{most_frame}
 use Rattle.sc_ast.specs.Prelude.{SameButLines}
 use Rattle.sc_core.specs.Prelude.{cells_of, frame_bound, nodes, total, variables}
 use Rattle.sc_types_elab.specs.Prelude.{program_of}
 use Rattle.sc_types.specs.Prelude.{Accepts, IsTyped}
-use Rattle.std.specs.Prelude.{ℕ, ◌≤◌, ◌<◌, ◌^◌, List, [], ◌∷◌, All, map}
+use Rattle.std.specs.Prelude.{ℕ, ◌≤◌, ◌<◌, ◌^◌, List, [], ◌∷◌, length, All, map}
 use Rattle.sc_ast.specs.declared.section.SectionTree.{SectionTree}
 use Rattle.sc_core.specs.declared.program.ProgramTree.{ProgramTree}
 use Rattle.sc_core.specs.declared.section.TypedFunction.{TypedFunction}
@@ -53,11 +54,12 @@ abbrev pub MadeTreesAreTyped : Type 0
 MadeTreesAreTyped = (size seed : ℕ) → IsAsked size seed → (sections : List SectionTree) →
     AreSame sections (made_trees size seed) → IsTyped sections (program_of sections) × AreSmall (program_of sections)
 
--- Both together: the text is accepted, as a small program.
+-- Both together: the text is accepted, as a small program, and no longer than a text may be that is compiled.
 pub record IsAccepted (text : List ℕ) : Type 0 where
   pub program : ProgramTree
   pub accepted : Accepts text program
   pub small : AreSmall program
+  pub short : length text ≤ most_compiled
 
 abbrev pub MadeTextsAreAccepted : Type 0
 MadeTextsAreAccepted = (size seed : ℕ) → IsAsked size seed → IsAccepted (made_text size seed)

@@ -2,7 +2,7 @@
 
 ghost use Rattle.sc_report_made.specs.Laws.{MadeTextsAreAccepted};
 
-/// Each text that is made from a size and a seed is accepted, as a small program.
+/// Each text that is made from a size and a seed is accepted, as a small program, and short.
 pub fn made_texts_are_accepted()
     ensures { MadeTextsAreAccepted }
 {}

@@ -1,10 +1,10 @@
--- Made programs fit, so that each has an image.
+-- Made programs fit.
 use Rattle.sc_top.proofs.Common.{Accepts, AllByRecursion, AreSmall, CompileFault, DataTooLarge, Err, Explanation}
 use Rattle.sc_top.proofs.Common.{FrameTooLarge, IfOk, Interfaces, IsAccepted, IsExplained, IsMadeText, IsSmall}
 use Rattle.sc_top.proofs.Common.{IsSource, IsSummary, List, MakeOptions, None, Ok, ProgramTree, Result, SourceParts}
 use Rattle.sc_top.proofs.Common.{TypedFunction, TypedSection, [], above, ap, ap₂, arith, built_image, data_bytes, first}
 use Rattle.sc_top.proofs.Common.{flat_map, found_in, frame_bytes, if◌then◌else◌, image_of, large_code, large_data}
-use Rattle.sc_top.proofs.Common.{large_frame, large_frames, le-ltb, most_globals, recursion_from_All, refl, stretch}
+use Rattle.sc_top.proofs.Common.{large_frame, large_frames, le-ltb, length, most_globals, recursion_from_All, refl, stretch}
 use Rattle.sc_top.proofs.Common.{subst, suc, summary_text, sym, too_large, unless_large, ℕ, ◌++◌, ◌∙◌, ◌∷◌, ◌≡◌, ◌≤◌}
 use Rattle.sc_report_made.specs.Text.{made_text}
 
@@ -53,20 +53,18 @@ small_fits program small =
     (both_none (found_in large_frames 0 program.sections) (found_in large_code 0 program.sections)
     (none_found large_frames frames_fit 0 _ each) (none_found large_code code_fits 0 _ each)))
 
--- so it has an image
-fitting_image : (program : ProgramTree) → too_large program ≡ None → image_of program ≡ Ok (built_image program)
-fitting_image program fits = ap (λ found. unless_large found (built_image program)) fits
-
 -- the text of a made program
 made_output : (options : MakeOptions) (text : List ℕ) → IsAccepted (made_text options.size options.seed) →
     text ≡ made_text options.size options.seed → IsMadeText options text
 made_output options text accepted written =
     record {
       written = written;
-      program = accepted.program;
-      accepted = subst (λ bytes. Accepts bytes accepted.program) (sym written) accepted.accepted;
-      image = built_image accepted.program;
-      compiled = fitting_image accepted.program (small_fits accepted.program accepted.small);
+      good = λ command. record {
+        program = accepted.program;
+        accepted = subst (λ bytes. Accepts bytes accepted.program) (sym written) accepted.accepted;
+        fits = λ _. small_fits accepted.program accepted.small;
+      };
+      short = subst (λ bytes. length bytes ≤ 1048576) (sym written) accepted.short;
     }
 
 pub made_result : {E : Type 0} (result : Result (List ℕ) E) (options : MakeOptions) →

@@ -1,6 +1,6 @@
 -- What an answer says of the bytes that were read and written.
 use Rattle.sc_top.specs.Common.{Accepts, Adds, Command, Fails, IsAtEnd, IsImage, ProgramTree, Refusal, Rose, Takes, bad}
-use Rattle.sc_top.specs.Common.{cause_number, too_large}
+use Rattle.sc_top.specs.Common.{cause_number}
 use Rattle.sc_base.specs.Prelude.{IsPrefix}
 use Rattle.std.specs.Prelude.{◌≡◌, ◌≢◌, ◌≤◌, ◌⊎◌, ◌+◌, ℕ, IsTrue, List, [], ◌++◌, length, Option, Some, None}
 use Rattle.std.specs.Prelude.{option_and_then}
@@ -12,7 +12,7 @@ use Rattle.sc_top.specs.declared.status.Status.TheVariants.{ReadFault, WriteFaul
 use Rattle.sc_top.specs.declared.status.TooLarge as large
 use Rattle.sc_top.specs.Command.{Intake, Text, Image, Nothing, intake, limit_of}
 use Rattle.sc_top.specs.Large.{large_in}
-use Rattle.sc_top.specs.Output.{compiles, IsOutput}
+use Rattle.sc_top.specs.Output.{compiles, IsGoodText, IsOutput}
 
 -- what a call saw of the outside: the bytes that were left to read and those that were written, where these are known,
 -- and the counts of faults, each before the call and after it
@@ -133,13 +133,7 @@ IsAnswer command bytes ReadFault = ⊥
 IsAnswer command bytes WriteFault = ⊥
 IsAnswer command bytes OutOfMemory = ⊥
 
--- good input: a text that is accepted, whose program fits where it is compiled; the bytes of an image; for a command
--- that reads nothing whatever is there
-pub record IsGoodText (command : Command) (bytes : List ℕ) : Type 0 where
-  pub program : ProgramTree
-  pub accepted : Accepts bytes program
-  pub fits : IsTrue (compiles command) → too_large program ≡ None
-
+-- good input: a good text; the bytes of an image; for a command that reads nothing whatever is there
 abbrev pub IsGoodIn : Intake → Command → List ℕ → Type 0
 IsGoodIn (Text limit) command bytes = IsGoodText command bytes
 IsGoodIn (Image limit) command bytes = IsImage bytes

@@ -5,6 +5,7 @@ pub mod Command
 pub mod Failure
 pub mod Fetching
 pub mod Large
+pub mod Laws
 pub mod Output
 pub mod Status
 pub mod Texts

@@ -1,14 +1,14 @@
 -- What each command writes for the program of a text and its image, or for an image.
 use Rattle.sc_top_words.specs.Words.{most_steps}
-use Rattle.sc_base.specs.Prelude.{most_events}
+use Rattle.sc_base.specs.Prelude.{most_compiled, most_events}
 use Rattle.sc_top.specs.Common.{Accepts, Command, Interfaces, IsCompiled, IsExplained, IsImage, IsSource, Link}
 use Rattle.sc_top.specs.Common.{ProgramTree, Run, SourceParts, among, image_bytes, image_of, interfaces_of, machine}
-use Rattle.sc_top.specs.Common.{recomposed}
+use Rattle.sc_top.specs.Common.{recomposed, too_large}
 use Rattle.sc_word.specs.Prelude.{word_of}
 use Rattle.sc_core.specs.Prelude.{meaning}
 use Rattle.sc_image.specs.declared.parts.ImageParts.{ImageParts}
 use Rattle.sc_top_words.specs.declared.command.RunOptions.{RunOptions}
-use Rattle.std.specs.Prelude.{◌≡◌, ℕ, Bool, true, false, IsTrue, List, [], map, take, Option, Some, None, Ok}
+use Rattle.std.specs.Prelude.{◌≡◌, ◌≤◌, ℕ, Bool, true, false, IsTrue, List, [], length, map, take, Option, Some, None, Ok}
 use Rattle.sc_chain.specs.declared.explanation.Explanation.{Explanation}
 use Rattle.sc_core.specs.declared.run.SourceRun.{SourceRun}
 use Rattle.sc_report.specs.Check.{check_text}
@@ -46,6 +46,12 @@ compiles (commands.Run options) = true
 compiles (commands.Exec options) = false
 compiles (commands.Explain options show) = true
 compiles (commands.Make options) = false
+
+-- a text that is accepted, whose program fits where it is compiled
+pub record IsGoodText (command : Command) (bytes : List ℕ) : Type 0 where
+  pub program : ProgramTree
+  pub accepted : Accepts bytes program
+  pub fits : IsTrue (compiles command) → too_large program ≡ None
 
 -- what a command writes for the program of a text and its image, where the text is all that it reads and that is no
 -- account
@@ -95,13 +101,11 @@ pub record IsExecuted (options : RunOptions) (bytes text : List ℕ) : Type 0 wh
   pub read : IsImage bytes
   pub written : text ≡ machine_text (interfaces_of read.image) options read.image
 
--- the text of a made program is accepted, and its program has this image
+-- the text of a made program is good input of every command that takes a text, and no longer than any of them takes
 pub record IsMadeText (options : MakeOptions) (text : List ℕ) : Type 0 where
   pub written : text ≡ made_text options.size options.seed
-  pub program : ProgramTree
-  pub accepted : Accepts text program
-  pub image : ImageParts
-  pub compiled : image_of program ≡ Ok image
+  pub good : (command : Command) → IsGoodText command text
+  pub short : length text ≤ most_compiled
 
 -- the machine's trace on the image of a made program is explained by a chain of texts, and the text sums it up
 pub record IsSummary (options : MakeOptions) (text : List ℕ) : Type 0 where

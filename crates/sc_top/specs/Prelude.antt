@@ -8,14 +8,15 @@ pub use Rattle.sc_top_words.specs.Prelude.{most_steps}
 unfoldable pub use Rattle.sc_top_words.specs.Prelude.{command}
 pub use Rattle.sc_top_words.specs.declared.command.Command.{Command}
 pub use Rattle.sc_top_words.specs.declared.command.Command.TheVariants.{Check, Compile, Exec, Explain, Meaning, Run}
-pub use Rattle.sc_top.specs.Answer.{Answers, FindsBad, IsAnswer, IsGood, IsGoodText, IsInput, IsSilent, IsUndisturbed}
+pub use Rattle.sc_top.specs.Answer.{Answers, FindsBad, IsAnswer, IsGood, IsInput, IsSilent, IsUndisturbed}
 pub use Rattle.sc_top.specs.Answer.{IsUnfit, IsWhole, IsWithin, IsWithinLimit, Prints, Refuses, SameAnswer, Says}
 pub use Rattle.sc_top.specs.Answer.{Traffic, cause_in}
 pub use Rattle.sc_top.specs.Command.{limit_of}
 pub use Rattle.sc_top.specs.Failure.{IsInputCause, IsOutputCause, of_image_fault, of_read_fault, of_text_fault}
 pub use Rattle.sc_top.specs.Failure.{of_words_fault, status_by, status_of}
 pub use Rattle.sc_top.specs.Fetching.{Fetches}
-pub use Rattle.sc_top.specs.Output.{HasImage, IsAccounted, IsExecuted, IsMade, IsMadeBy, IsMadeText, IsOutput}
+pub use Rattle.sc_top.specs.Laws.{CompiledImagesRun, RunsAs}
+pub use Rattle.sc_top.specs.Output.{HasImage, IsAccounted, IsExecuted, IsGoodText, IsMade, IsMadeBy, IsMadeText, IsOutput}
 pub use Rattle.sc_top.specs.Output.{IsSummary, IsTextOutput, account, comp_of, compiles, machine_run, machine_text}
 pub use Rattle.sc_top.specs.Output.{meant, output, text_after}
 pub use Rattle.sc_top.specs.Status.{bytes_of, fixed_text, kind_text, large_text, own_text, owner_text, phase_word}

@@ -1,7 +1,7 @@
 //! What holds of every text.
 
 ghost use Rattle.sc_base.specs.Prelude.{most_image};
-ghost use Rattle.sc_top.specs.Prelude.{Command, IsAnswer, IsOutput, SameAnswer};
+ghost use Rattle.sc_top.specs.Prelude.{Command, CompiledImagesRun, IsAnswer, IsOutput, SameAnswer};
 ghost use Rattle.sc_image.specs.Prelude.{IsImage};
 ghost use Rattle.std.specs.Prelude.{◌≡◌, ◌≤◌, ℕ, List, length};
 ghost use Rattle.sc_top.specs.declared.status.Status.{Status};
@@ -28,6 +28,15 @@ pub fn one_answer()
 pub fn one_output()
     ensures { (c : Command) (bytes text other : List ℕ) →
         IsOutput c bytes text → IsOutput c bytes other → text ≡ other }
+{
+    one_program();
+    one_image();
+}
+
+/// What `compile` writes is good input of `exec`, which writes for it what `run` writes for the text: the same trace and
+/// stop, by the same names.
+pub fn compiled_images_run()
+    ensures { CompiledImagesRun }
 {
     one_program();
     one_image();

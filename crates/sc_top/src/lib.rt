@@ -15,7 +15,7 @@ mod status;
 mod text;
 mod top;
 
-pub use laws::{images_are_within, one_answer, one_output};
+pub use laws::{compiled_images_run, images_are_within, one_answer, one_output};
 pub use printing::print;
 pub use status::{Status, TooLarge};
 pub use top::secomp;

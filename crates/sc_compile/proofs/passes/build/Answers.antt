@@ -1,6 +1,7 @@
-use Rattle.sc_compile.proofs.Common.{All, FitAll, GlobalsAreWords, IsLinkable, ap, subst, sym, ◌∙◌}
+use Rattle.sc_compile.proofs.Common.{All, FitAll, GlobalsAreWords, HasParts, IsLinkable, ap, subst, sym, ◌∙◌}
 use Rattle.sc_compile.proofs.Building.{image_is, may_link, whole_compiled}
 use Rattle.sc_compile.proofs.Counted.{all_fit, sections_are}
+use Rattle.sc_compile.proofs.Parts.{has_parts}
 use Rattle.sc_compile.proofs.passes.build.Goals as goal
 
 pub all_codes-requires : goal.all_codes-requires
@@ -34,3 +35,12 @@ returns-clause-compiled c =
     c.in_ok-image.ensures.named
     (subst GlobalsAreWords (c.as_slice.ensures ∙ ap (λ p. p.sections) c.tree.ensures.tree) c.globals_are_words.ensures)
     c.in_ok-image.ensures.whole
+
+pub returns-clause-parts : goal.returns-clause-parts
+returns-clause-parts c =
+    subst (HasParts c.args.program.now)
+    (sym (image_is c.args.program.now c.tree.ensures.typed c.requires.fits c.as_slice-2.result.now
+    (sections_are c.args.program.now c.tree-2.result.now c.args.tac.now c.as_slice-2.result.now c.as_slice-2.ensures
+    c.tree-2.ensures.tree c.requires.lowered) c.in_ok-codes.ensures.emitted c.as_slice-3.result.now
+    (c.as_slice-3.ensures ∙ c.in_ok-codes.ensures.codes) c.in_ok-image.image c.in_ok-image.ensures.image))
+    (has_parts c.args.program.now)
