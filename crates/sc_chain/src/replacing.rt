@@ -12,8 +12,9 @@ use crate::composed::{Replacement, recompose};
 use sc_back::back_section;
 use sc_base::{OutOfMemory, Text};
 use sc_event::{CompId, Event, Interfaces};
+use sc_lex::TextFault;
 use sc_script::part;
-use sc_types::{SourceText, one_program};
+use sc_types::{SourceText, accepted_or_refused, one_program};
 use sqlite_items::Items;
 use std::alloc::Global;
 
@@ -88,9 +89,11 @@ fn read_accepted(alloc: Global, text: &[u8]) -> Result<SourceText, OutOfMemory>
     ensures bytes { IfOk result (λ new. new.bytes ≡ text.now) }
     ensures source { IfOk result IsSource }
 {
+    accepted_or_refused();
     match SourceText::read(alloc, text) {
         Ok(new) => Ok(new),
-        Err(_) => Err(OutOfMemory),
+        Err(TextFault::OutOfMemory) => Err(OutOfMemory),
+        Err(TextFault::Refused(_)) => unreachable!(),
     }
 }
 

@@ -44,11 +44,11 @@ module _ (program : ProgramTree) (typed : IsWellTyped program) (named : AreNamed
 
   built : IsBuilt (lowered_program program) image turn_pays
   built = record {
-    rules = keeps_rules.programs program typed;
+    rules = (keeps_rules program typed).programs;
     functions = λ comp number f is.
         let from = source_of program typed comp number f is in
         subst IsFunction from.same
-        (keeps_rules.functions program typed comp from.section from.is number from.source from.its);
+        ((keeps_rules program typed).functions comp from.section from.is number from.source from.its);
     results = gives_results program typed;
     addresses = addresses_at program (all_codes (lowered_program program));
     linked = linked;
@@ -61,7 +61,7 @@ module _ (program : ProgramTree) (typed : IsWellTyped program) (named : AreNamed
       SimulatesRun image inputs (turn_pays * suc turns) turns (run_of arith' program inputs turns)
   emits_by arith' inputs turns are agrees =
       outcomes_simulate.along image inputs (turn_pays * suc turns) turns (run_of arith' program inputs turns)
-      (code_run arith' (lowered_program program) inputs turns) (keeps_meaning.meaning arith' program typed inputs turns)
+      (code_run arith' (lowered_program program) inputs turns) ((keeps_meaning program typed).meaning arith' inputs turns)
       (outcomes_simulate.emits image inputs (turn_pays * suc turns) turns
       (code_run arith' (lowered_program program) inputs turns)
       (code_run wrapping (lowered_program program) inputs turns) linked.formed are agrees

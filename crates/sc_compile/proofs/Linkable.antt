@@ -172,7 +172,7 @@ module _ (program : ProgramTree) (typed : IsWellTyped program) (fits : too_large
         slice_get (functions_in code comp) number ≡ Some f →
         Refers comp (length at.section.functions) (length at.section.globals) (function_code f)
     refers comp number f at its =
-        let rules : IsProgram code = keeps_rules.programs program typed in
+        let rules : IsProgram code = (keeps_rules program typed).programs in
         (emitted comp number f its).names (function code comp at.section) (entry code comp at.section)
         (global code comp at.section)
         (names_all code comp at.section f.body (

@@ -80,7 +80,7 @@ module _ (program : ProgramTree) (typed : IsWellTyped program) where
 
   entered : (comp number : ℕ) (entry : Entry) → function_entered entry (slice_get code.sections comp) ≡ Some number →
       entry_in program comp entry ≡ Some number
-  entered comp number entry is = keeps_meaning.entered wrapping program typed comp entry ∙ is
+  entered comp number entry is = (keeps_meaning program typed).entered wrapping comp entry ∙ is
 
   -- a function is of a compartment that there is
   number_low : (comp number : ℕ) → number < length (functions_in code comp) → comp < 32

@@ -79,7 +79,7 @@ module _ (program : ProgramTree) (typed : IsWellTyped program) where
   from_code roles open_calls number here s t v is =
       came_too (bodies_of wrapping program roles open_calls number here s)
       (bodies (lowered_program program) roles open_calls number here s) v t
-      (keeps_meaning.bodies wrapping program typed roles open_calls number here s).same is
+      ((keeps_meaning program typed).bodies wrapping roles open_calls number here s).same is
 
   function_there : (comp number : ℕ) (section : TypedSection) (f : TypedFunction) →
       slice_get program.sections comp ≡ Some section → slice_get section.functions number ≡ Some f →
@@ -128,7 +128,7 @@ module _ (program : ProgramTree) (typed : IsWellTyped program) where
         option_value (crossing (Some proto) v) ≡ v
     crosses open_calls index number here proto s t v plain export entered is =
         results_have_kinds.crosses wrapping program typed roles open_calls index number here proto plain export
-        (keeps_meaning.entered wrapping program typed here.comp (Export index) ∙ entered) s t v
+        ((keeps_meaning program typed).entered wrapping here.comp (Export index) ∙ entered) s t v
         (from_code roles open_calls number here s t v is)
 
     ends : (open_calls number : ℕ) (here : Here) (s t : State) (v : Option Value) →
@@ -138,7 +138,7 @@ module _ (program : ProgramTree) (typed : IsWellTyped program) where
         (w : ℕ) × (v ≡ Some (Word w))
     ends open_calls number here s t v plain main entered is =
         by (slice_get program.sections here.comp) refl
-        (keeps_meaning.entered wrapping program typed here.comp Main ∙ entered) where
+        ((keeps_meaning program typed).entered wrapping here.comp Main ∙ entered) where
           by : (o : Option TypedSection) → slice_get program.sections here.comp ≡ o →
               place_named main_name o ≡ Some number → (w : ℕ) × (v ≡ Some (Word w))
           by None there place = absurd (cc)

@@ -48,7 +48,7 @@ module _ (program : ProgramTree) (typed : IsWellTyped program) (set : Set) (inpu
       KeepsTo observed whole.behaviour
   program_keeps keeps =
       keeps_along observed whole (scripted_code_run c_arith (lowered_program program) inputs turns set observed)
-      (keeps_meaning.scripted c_arith program typed inputs turns set observed)
+      ((keeps_meaning program typed).scripted c_arith inputs turns set observed)
       (keeps_until_blame observed (scripted_code_run c_arith (lowered_program program) inputs turns set observed)
       (scripted_code_run wrapping (lowered_program program) inputs turns set observed)
       (wrapped_code_agrees.scripted (lowered_program program) set observed inputs turns) keeps)

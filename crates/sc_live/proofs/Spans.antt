@@ -8,6 +8,8 @@ use Rattle.sc_live.proofs.Common.{◌||◌, ◌∙◌, ◌∷◌, ◌≡◌, ◌
 use Rattle.std.proofs.lemmas.List.FromFn.{get_or-map-range_with_len, length-map-range_with_len, map-range_with_len_more}
 use Rattle.std.proofs.lemmas.Option.{get_or_from_slice_get, slice_get_within}
 use Rattle.std.proofs.lemmas.Bool.Decides.{leb_tells}
+use Rattle.sc_tac.proofs.Clear.{within}
+use Rattle.sc_tac.specs.Prelude.{AreCovering, Within}
 use Rattle.sc_tac.specs.declared.interval.Interval.{Interval}
 use Rattle.sc_live.proofs.Marking.{ends_within, here_last}
 
@@ -199,20 +201,25 @@ in_order points t = ordered (span_from t 0 points) (from t 0 points)
     ordered None h = omega arith
     ordered (Some span) h = h.1
 
-pub are_intervals : (points : List Point) (temps : ℕ) →
-    AreIntervals (map (interval_of points) (range_with_len 0 temps))
-are_intervals points temps = record {
-  numbered = λ at x is. ap (λ y. y.temp) (sym (found at x is));
-  ordered = λ at x is. subst (λ y. y.first ≤ y.last) (found at x is) (in_order points at);
-}
-  where
-    found : (at : ℕ) (x : Interval) → slice_get (map (interval_of points) (range_with_len 0 temps)) at ≡ Some x →
-        interval_of points at ≡ x
-    found at x is =
-        sym (get_or-map-range_with_len (interval_of points) 0 temps at at x
-        (subst (λ n. at < n) (length-map-range_with_len (interval_of points) 0 temps)
-        (slice_get_within (map (interval_of points) (range_with_len 0 temps)) at x is)) (zero-add at))
-        ∙ get_or_from_slice_get (map (interval_of points) (range_with_len 0 temps)) at x x is
+module _ (points : List Point) (temps : ℕ) where
+  found : (at : ℕ) (x : Interval) → slice_get (map (interval_of points) (range_with_len 0 temps)) at ≡ Some x →
+      interval_of points at ≡ x
+  found at x is =
+      sym (get_or-map-range_with_len (interval_of points) 0 temps at at x
+      (subst (λ n. at < n) (length-map-range_with_len (interval_of points) 0 temps)
+      (slice_get_within (map (interval_of points) (range_with_len 0 temps)) at x is)) (zero-add at))
+      ∙ get_or_from_slice_get (map (interval_of points) (range_with_len 0 temps)) at x x is
+
+  pub are_intervals : AreIntervals (map (interval_of points) (range_with_len 0 temps))
+  are_intervals = record {
+    numbered = λ at x is. ap (λ y. y.temp) (sym (found at x is));
+    ordered = λ at x is. subst (λ y. y.first ≤ y.last) (found at x is) (in_order points at);
+  }
+
+  pub are_covering : AreCovering points (map (interval_of points) (range_with_len 0 temps))
+  are_covering = record {
+    covers = λ at t x own here used its. subst (λ y. Within y at) (found t own its) (within points t at x here used);
+  }
 
 pub one_more : (points : List Point) (t : ℕ) (list : List Interval) (x : Interval) →
     list ≡ map (interval_of points) (range_with_len 0 t) → x ≡ interval_of points t →

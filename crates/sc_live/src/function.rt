@@ -1,4 +1,4 @@
-ghost use Rattle.sc_tac.specs.Prelude.{Point, function_points, interval_of, intervals_of};
+ghost use Rattle.sc_tac.specs.Prelude.{AreCovering, Point, function_points, interval_of, intervals_of};
 ghost use Rattle.std.specs.Prelude.{◌≡◌, ◌<◌, ℕ, ◌-◌, List, None, IfOk, slice_get};
 ghost use Rattle.std.specs.Option.{unwrap_or};
 ghost use Rattle.sc_live.specs.Marks.{mark_from};
@@ -72,7 +72,8 @@ fn walked(alloc: Global, f: &TacFn) -> Result<Walk, OutOfMemory>
 
 /// The least intervals of a function's temporaries, in one walk back through its code.
 pub fn intervals(alloc: Global, f: &TacFn) -> Result<Intervals, OutOfMemory>
-    ensures { IfOk result (λ intervals. intervals ≡ intervals_of f.now) }
+    ensures least { IfOk result (λ intervals. intervals ≡ intervals_of f.now) }
+    ensures covering { IfOk result (AreCovering (function_points f.now)) }
 {
     let walk = walked(alloc, f)?;
     let mut list = Items::new(alloc);

@@ -16,6 +16,13 @@ use Rattle.sc_lower.proofs.Common.{simple_branches, simple_code, stmt_at, stmt_b
 use Rattle.sc_lower.proofs.Common.{stmt_induction, store_at, subst, suc, sym, target_cells, term_branches, term_of}
 use Rattle.sc_lower.proofs.Common.{term_step, test, total, true, truth_code, typed, unary_op, ℕ, ◌++◌, ◌+◌, ◌∙◌, ◌∷◌}
 use Rattle.sc_lower.proofs.Common.{◌≡◌}
+use Rattle.sc_lower.specs.Prelude.{HasBranches, branches, lowered_function, lowered_program, lowered_sections}
+use Rattle.sc_event.specs.declared.interface.Interfaces.{Interfaces}
+use Rattle.sc_core.specs.declared.program.ProgramTree.{ProgramTree}
+use Rattle.sc_core.specs.declared.section.TypedFunction.{TypedFunction}
+use Rattle.sc_core.specs.declared.section.TypedSection.{TypedSection}
+use Rattle.sc_tac.specs.declared.function.TacFnTree.{TacFnTree}
+use Rattle.sc_tac.specs.declared.program.TacSection.{TacSection}
 use Rattle.sc_base.specs.declared.op.BinaryOp.TheVariants as op
 use Rattle.sc_base.specs.declared.op.UnaryOp.TheVariants as unary
 use Rattle.sc_core.specs.declared.expr.CallTarget.TheVariants as target
@@ -398,3 +405,21 @@ keeps_branches = record {
       (inits_have structs (length f.params) 0 f.locals) (block_has structs (length f.params) f.body
       (everywhere (Q structs (length f.params)) (stmt_has structs (length f.params)) f.body)) 0;
 }
+
+functions_branch : (interfaces : Interfaces) (comp : ℕ) (structs : List TypedStruct) (fs : List TypedFunction) →
+    map {A = TacFnTree} (λ f. ifs f.body) (map (lowered_function interfaces comp structs) fs) ≡ map branches fs
+functions_branch interfaces comp structs [] = refl
+functions_branch interfaces comp structs (f ∷ fs) = λ i.
+    keeps_branches.functions structs f i ∷ functions_branch interfaces comp structs fs i
+
+sections_branch : (interfaces : Interfaces) (comp : ℕ) (sections : List TypedSection) →
+    map {A = TacSection} (λ section. map {A = TacFnTree} (λ f. ifs f.body) section.functions)
+    (lowered_sections interfaces comp sections)
+    ≡ map {A = TypedSection} (λ section. map branches section.functions) sections
+sections_branch interfaces comp [] = refl
+sections_branch interfaces comp (section ∷ sections) = λ i.
+    functions_branch interfaces comp section.structs section.functions i ∷
+    sections_branch interfaces (suc comp) sections i
+
+pub has_branches : (program : ProgramTree) → HasBranches program (lowered_program program)
+has_branches program = record { same = sections_branch program.interfaces 0 program.sections }

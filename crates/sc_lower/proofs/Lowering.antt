@@ -6,7 +6,11 @@ use Rattle.sc_lower.proofs.Common.{leb-true, length, lowered_function, lowered_p
 use Rattle.sc_lower.proofs.Common.{most_compartments, nat_le, refl, slice_get, slice_get_read, subst, sym, ℕ, ◌++◌, ◌+◌}
 use Rattle.sc_lower.proofs.Common.{◌<◌, ◌∙◌, ◌∷◌, ◌≡◌, ◌≤◌}
 use Rattle.sc_lower.proofs.Rules.{lowerable}
-use Rattle.sc_lower.proofs.Programs.{program_kept}
+use Rattle.sc_lower.proofs.Programs.{keeps_rules, program_kept}
+use Rattle.sc_lower.proofs.Branches.{has_branches}
+use Rattle.sc_lower.proofs.Whole.{keeps_meaning}
+use Rattle.sc_lower.specs.Prelude.{HasBranches, KeepsCodeRules, MeansTheSame}
+use Rattle.sc_tac.specs.declared.program.TacTree.{TacTree}
 
 -- one more item is made
 pub map_next : {A B : Type 0} (f : A → B) (items : List A) (i : ℕ) (item : A) (done more : List B) (made : B) →
@@ -60,12 +64,20 @@ module _ (program : ProgramTree) (typed : IsWellTyped program) where
       (λ n f is. lowerable program typed i section (subst (λ all. slice_get all i ≡ Some section) same
       (slice_get_read sections (length sections) i section refl there item)) n f is)
 
-  pub program_of : (read : ProgramTree) (interfaces : Interfaces) (sections : List TacSection) → read ≡ program →
-      interfaces ≡ read.interfaces → sections ≡ lowered_sections read.interfaces 0 read.sections →
-      IsProgram (record { interfaces = interfaces; sections = sections })
-  program_of read interfaces sections same one two = subst IsProgram (sym all) (program_kept program typed) where
-    all : (record { interfaces = interfaces; sections = sections }) ≡ lowered_program program
-    all =
+  module _ (read : ProgramTree) (interfaces : Interfaces) (sections : List TacSection) (same : read ≡ program)
+      (one : interfaces ≡ read.interfaces) (two : sections ≡ lowered_sections read.interfaces 0 read.sections) where
+    pub program_is : (record { interfaces = interfaces; sections = sections }) ≡ lowered_program program
+    program_is =
         ap (λ i. record { interfaces = i; sections = sections }) one
         ∙ ap (λ s. record { interfaces = read.interfaces; sections = s }) two
         ∙ ap lowered_program same
+
+    pub program_of : IsProgram (record { interfaces = interfaces; sections = sections })
+    program_of = subst IsProgram (sym program_is) (program_kept program typed)
+
+  -- code that is the program's means the same, keeps the rules and branches as the program does
+  pub code_keeps : (code : TacTree) → code ≡ lowered_program program →
+      MeansTheSame program code × KeepsCodeRules program code × HasBranches program code
+  code_keeps code same = subst
+      (λ code. MeansTheSame program code × KeepsCodeRules program code × HasBranches program code) (sym same)
+      (keeps_meaning program typed, keeps_rules program typed, has_branches program)

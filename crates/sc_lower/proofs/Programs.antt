@@ -273,7 +273,7 @@ module _ (program : ProgramTree) (typed : is_well_typed program ≡ true) where
   }
 
 pub keeps_rules : KeepsRules
-keeps_rules = record {
-  functions = λ program typed comp section is number f item. function_kept program typed comp section is number f item;
-  programs = λ program typed. program_kept program typed;
+keeps_rules program typed = record {
+  functions = λ comp section is number f item. function_kept program typed comp section is number f item;
+  programs = program_kept program typed;
 }

@@ -399,13 +399,13 @@ module _ (arith : Arith) (program : ProgramTree) (typed : is_well_typed program 
   scripted_kept inputs turns set trace = runs_alike (roles_in interfaces.main set trace) inputs turns
 
 pub keeps_meaning : KeepsMeaning
-keeps_meaning = record {
-  meaning = λ arith program typed inputs turns. meaning_kept arith program typed inputs turns;
-  scripted = λ arith program typed inputs turns set trace. scripted_kept arith program typed inputs turns set trace;
-  depth = λ arith program typed inputs turns events comp. ap (deepest events comp 0)
+keeps_meaning program typed = record {
+  meaning = λ arith inputs turns. meaning_kept arith program typed inputs turns;
+  scripted = λ arith inputs turns set trace. scripted_kept arith program typed inputs turns set trace;
+  depth = λ arith inputs turns events comp. ap (deepest events comp 0)
       (meaning_kept arith program typed inputs turns).frames;
-  scripted_depth = λ arith program typed set trace inputs turns events comp.
+  scripted_depth = λ arith set trace inputs turns events comp.
       ap (deepest events comp 0) (scripted_kept arith program typed inputs turns set trace).frames;
-  entered = λ arith program typed. entered_same program typed;
-  bodies = λ arith program typed roles. bodies_kept arith program typed roles;
+  entered = λ arith. entered_same program typed;
+  bodies = λ arith roles. bodies_kept arith program typed roles;
 }

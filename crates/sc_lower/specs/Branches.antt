@@ -1,5 +1,6 @@
 -- How many branches programs and code have.
-use Rattle.sc_lower.specs.Common.{BinaryOp, TacStmt, TacStmt-F, TypedCall, TypedExpr, TypedFunction, TypedKind-F}
+use Rattle.sc_lower.specs.Common.{BinaryOp, ProgramTree, TacStmt, TacStmt-F, TypedCall, TypedExpr, TypedFunction}
+use Rattle.sc_lower.specs.Common.{TypedKind-F, TypedSection}
 use Rattle.sc_lower.specs.Common.{TypedLocal, TypedSimple, TypedSimpleKind, TypedStmt, TypedStmtKind-F, TypedStruct}
 use Rattle.sc_lower.specs.Common.{fold-TacStmt, fold-TypedExpr, fold-TypedStmt, total}
 use Rattle.std.specs.Prelude.{◌≡◌, ℕ, suc, ◌+◌, List, map, Option, None, Some}
@@ -8,6 +9,9 @@ use Rattle.sc_core.specs.declared.expr.TypedKind.TheOpen as term
 use Rattle.sc_core.specs.declared.stmt.TypedStmtKind.TheOpen as layer
 use Rattle.sc_core.specs.declared.stmt.TypedSimpleKind.TheVariants as simple
 use Rattle.sc_tac.specs.declared.stmt.TacStmt.TheOpen as tac
+use Rattle.sc_tac.specs.declared.function.TacFnTree.{TacFnTree}
+use Rattle.sc_tac.specs.declared.program.TacSection.{TacSection}
+use Rattle.sc_tac.specs.declared.program.TacTree.{TacTree}
 use Rattle.sc_lower.specs.Programs.{body_code}
 
 -- CODE
@@ -89,3 +93,8 @@ branches f = total (map local_branches f.locals) + total (map stmt_branches f.bo
 -- The code of a function has exactly one `If` for each.
 pub record KeepsBranches : Type 0 where
   pub functions : (structs : List TypedStruct) (f : TypedFunction) → ifs (body_code structs f 0).code ≡ branches f
+
+-- Each function of a program's code has as many `If`s as the function has of them, in order.
+pub record HasBranches (program : ProgramTree) (code : TacTree) : Type 0 where
+  pub same : map {A = TacSection} (λ section. map {A = TacFnTree} (λ f. ifs f.body) section.functions) code.sections
+      ≡ map {A = TypedSection} (λ section. map branches section.functions) program.sections

@@ -4,14 +4,14 @@ pub use Rattle.sc_core.specs.Prelude.{local_nodes, main_name, most_cells, most_e
 pub use Rattle.sc_core.specs.Prelude.{part_nodes, simple_nodes, stmt_nodes, total, variables}
 pub use Rattle.sc_lower.specs.Beyond.{beyond, call_beyond, expr_beyond, init_beyond, kind_beyond, local_beyond}
 pub use Rattle.sc_lower.specs.Beyond.{part_beyond, simple_beyond, stmt_beyond, term_beyond, variable_beyond}
-pub use Rattle.sc_lower.specs.Branches.{KeepsBranches, branches, call_branches, expr_branches, ifs, ifs_step}
+pub use Rattle.sc_lower.specs.Branches.{HasBranches, KeepsBranches, branches, call_branches, expr_branches, ifs, ifs_step}
 pub use Rattle.sc_lower.specs.Branches.{init_branches, kind_branches, local_branches, op_branches, part_branches}
 pub use Rattle.sc_lower.specs.Branches.{simple_branches, stmt_branches, stmt_ifs, term_branches}
 pub use Rattle.sc_lower.specs.Expressions.{Forms, Low, Lowered, Lows, and_code, at_place, between_op, binary}
 pub use Rattle.sc_lower.specs.Expressions.{binary_code, constant_of, forms, from_first, from_one, from_two, is_sub}
 pub use Rattle.sc_lower.specs.Expressions.{loaded, lone, lowered, lowered_step, member, move_op, not_op, or_code}
 pub use Rattle.sc_lower.specs.Expressions.{place_code, scalar_in, scalar_of, term_step, truth_code, unary_op}
-pub use Rattle.sc_lower.specs.Lowering.{KeepsMeaning, KeepsRules}
+pub use Rattle.sc_lower.specs.Lowering.{KeepsCodeRules, KeepsMeaning, KeepsRules, MeansTheSame}
 pub use Rattle.sc_lower.specs.Programs.{body_code, entry_of, export_called, exports_of, init_code, inits_code}
 pub use Rattle.sc_lower.specs.Programs.{lowered_function, lowered_program, lowered_section, lowered_sections}
 pub use Rattle.sc_lower.specs.Results.{AreFunctions, IsLowerable, IsOperands, code_of, fragment_of, values_of}

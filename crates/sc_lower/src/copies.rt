@@ -50,16 +50,14 @@ pub fn copy_globals(alloc: Global, globals: &[TypedGlobal]) -> Result<TypedGloba
     Ok(copies)
 }
 
-fn copy_proto(alloc: Global, proto: &Proto) -> Result<Proto, OutOfMemory>
-    ensures { IfOk result (λ copy. copy ≡ proto.now) }
+// A function has at most 8 parameters, which take no memory.
+fn copy_proto(alloc: Global, proto: &Proto) -> Proto
+    ensures { result ≡ proto.now }
 {
-    match Params::from_slice(alloc, proto.params.as_slice()) {
-        Some(params) => Ok(Proto {
-            name: proto.name,
-            params,
-            result: proto.result,
-        }),
-        None => Err(OutOfMemory),
+    Proto {
+        name: proto.name,
+        params: Params::from_slice(alloc, proto.params.as_slice()).unwrap(),
+        result: proto.result,
     }
 }
 
@@ -68,7 +66,7 @@ fn copy_protos(alloc: Global, protos: &[Proto]) -> Result<Protos, OutOfMemory>
 {
     let mut copies = Protos::new(alloc);
     for proto in protos {
-        copies.push(copy_proto(alloc, proto)?)?;
+        copies.push(copy_proto(alloc, proto))?;
     }
     Ok(copies)
 }

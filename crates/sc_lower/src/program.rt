@@ -1,7 +1,7 @@
 //! Sections and programs.
 
-ghost use Rattle.sc_lower.specs.Prelude.{AreFunctions, IsWellTyped, lowered_function, lowered_program, lowered_section};
-ghost use Rattle.sc_lower.specs.Prelude.{lowered_sections};
+ghost use Rattle.sc_lower.specs.Prelude.{AreFunctions, HasBranches, IsWellTyped, KeepsCodeRules, MeansTheSame};
+ghost use Rattle.sc_lower.specs.Prelude.{lowered_function, lowered_program, lowered_section, lowered_sections};
 ghost use Rattle.std.specs.Prelude.{◌≡◌, ◌<◌, map, IfOk};
 
 use crate::copies::{copy_globals, copy_interfaces, copy_structs};
@@ -72,9 +72,13 @@ fn lower_sections(alloc: Global, program: &ProgramTree) -> Result<TacSections, O
     Ok(lowered)
 }
 
-/// The code of a program.
+/// The code of a program: it means the same, keeps the rules of three-address code, and has one `If` for each `if`,
+/// `while`, `for`, `&&` and `||`.
 pub fn lower(alloc: Global, program: &Program) -> Result<Tac, OutOfMemory>
-    ensures { IfOk result (λ tac. tac ≡ lowered_program program.now) }
+    ensures code { IfOk result (λ tac. tac ≡ lowered_program program.now) }
+    ensures meaning { IfOk result (MeansTheSame program.now) }
+    ensures rules { IfOk result (KeepsCodeRules program.now) }
+    ensures branches { IfOk result (HasBranches program.now) }
 {
     let program = program.tree();
     let interfaces = copy_interfaces(alloc, &program.interfaces)?;

@@ -76,7 +76,7 @@ covered t from (suc k) (z ∷ xs) x at used =
     later_covered (is_used t z) from k (span_from t (suc from) xs) (covered t (suc from) k xs x at used)
 
 -- each use lies in the least interval
-within : (xs : List Point) (t k : ℕ) (x : Point) → slice_get xs k ≡ Some x → is_used t x ≡ true →
+pub within : (xs : List Point) (t k : ℕ) (x : Point) → slice_get xs k ≡ Some x → is_used t x ≡ true →
     Within (interval_of xs t) k
 within xs t k x at used =
     (let c = covered t 0 k xs x at used in

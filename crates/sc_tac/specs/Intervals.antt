@@ -1,6 +1,6 @@
 -- The live intervals of temporaries: from the first point of a function's code at which one is used to the last.
 use Rattle.std.specs.Prelude.{◌≡◌, ◌≤◌, ℕ, suc, ◌-◌, Bool, ◌||◌, if◌then◌else◌, List, [], ◌∷◌, map, take, drop, Option}
-use Rattle.std.specs.Prelude.{None, Some, slice_get}
+use Rattle.std.specs.Prelude.{None, Some, slice_get, IsTrue}
 use Rattle.std.specs.List.{list_any, range_with_len}
 use Rattle.sc_tac.specs.declared.function.TacFnTree.{TacFnTree}
 use Rattle.sc_tac.specs.declared.interval.Interval.{Interval}
@@ -59,3 +59,8 @@ pub record AreIntervals (intervals : List Interval) : Type 0 where
 pub record Within (x : Interval) (at : ℕ) : Type 0 where
   pub begun : x.first ≤ at
   pub lasts : at ≤ x.last
+
+-- each point at which a temporary is assigned or live, as it is where it is read, lies in its interval
+pub record AreCovering (points : List Point) (intervals : List Interval) : Type 0 where
+  pub covers : (at t : ℕ) (x : Point) (own : Interval) → slice_get points at ≡ Some x → IsTrue (is_used t x) →
+      slice_get intervals t ≡ Some own → Within own at

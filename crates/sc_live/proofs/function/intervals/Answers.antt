@@ -1,5 +1,6 @@
 use Rattle.sc_live.proofs.Common.{AreIntervals, function_points, subst, sym, ◌<◌, ◌∙◌}
-use Rattle.sc_live.proofs.Spans.{are_intervals, one_more}
+use Rattle.sc_live.proofs.Spans.{are_covering, are_intervals, one_more}
+use Rattle.sc_tac.specs.Prelude.{AreCovering}
 use Rattle.sc_live.proofs.function.intervals.Goals as goal
 
 pub loop-temp-preserved : goal.loop-temp-preserved
@@ -12,3 +13,8 @@ loop-temp-preserved c =
 pub new-requires : goal.new-requires
 new-requires c =
     subst AreIntervals (sym c.loop-temp.invariant) (are_intervals (function_points c.args.f.now) c.loop-temp.temp)
+
+pub returns-clause-covering : goal.returns-clause-covering
+returns-clause-covering c =
+    subst (AreCovering (function_points c.args.f.now)) (sym (c.new.ensures ∙ c.loop-temp.invariant))
+    (are_covering (function_points c.args.f.now) c.loop-temp.temp)
