@@ -154,7 +154,7 @@ deep_within_five = depth_by_plan deep_interfaces deep [] 9 5 1
 pub deep_within_six : depth (program deep_interfaces deep) [] 9 6 1 ≡ 96312
 deep_within_six = depth_by_plan deep_interfaces deep [] 9 6 1
 
--- the same where every operator gives a word, and where a compartment performs and has no frame
+-- the same where every operator gives a word, and where a compartment performs, whose calls have frames too
 pub store_wrapped_depth : wrapped_depth (program store_interfaces store_sheets) [] 5 4 1 ≡ 112
 store_wrapped_depth = ap (λ run. deepest 4 1 0 run.frames) (run_is wrapping store_interfaces store_sheets [] 5)
 

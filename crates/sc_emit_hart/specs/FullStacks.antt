@@ -15,7 +15,7 @@ pub record LacksRoom (image : ImageParts) (s : State) : Type 0 where
   pub lowered : (reg s sp + bytes) % 2 ^ 32 ≡ sp_before
   pub below : sp_before < data_start s.active + bytes
 
--- it stands at the last instruction of the code that takes a frame of so many bytes
+-- it stands at the last instruction of the code that takes a frame of these bytes
 pub record TakesLast (image : ImageParts) (bytes : ℕ) (s : State) : Type 0 where
   pub begins : ℕ
   pub code : CodeAt image s.active begins (frame_taken bytes)
