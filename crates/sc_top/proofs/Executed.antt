@@ -43,7 +43,7 @@ module _ (one_program : (text : List ℕ) (program other : ProgramTree) →
       let program : run.program ≡ is.program =
       one_program text run.program is.program run.accepted is.accepted in
       let same : run.image ≡ is.image =
-      one_image is.program run.image is.image (subst (λ p. HasImage p run.image) program (run.compiled tt)) has in
+      one_image is.program run.image is.image (subst (λ p. HasImage p run.image) program (run.compiled refl)) has in
       record {
         read = image;
         written = run.written ∙ (ap (λ (p : ProgramTree). machine_text p.interfaces options run.image) program ∙
