@@ -1,13 +1,13 @@
 // A service that sorts and sums up what records hold: CRC-32 of ISO 3309 and RFC 1952, Adler-32 of RFC 1950, heapsort.
 // Input, a byte a word: records of a kind, a count, and that many bytes packed by PackBits (TIFF 6.0, section 9).
 //   Kind 1 wants them as they came, 2 in order, 3 their CRC-32, 4 their Adler-32; 0 ends. A count is 64 at most.
-// Records reads what strangers send, imports nothing but `input`, and nobody trusts it: Main looks at each kind and count
+// Records reads what strangers send, and imports only `input`. Nobody trusts it: Main looks at each kind and count
 //   before it goes by them, once, and asks for each byte once; Sorter, Sums and Printer look at each byte.
 // Sorter has the numbers that are sorted, and Sums the table and the open sums. They know nobody, serve whoever calls
-//   in any order, and check each index; Main trusts what they answer.
+//   in any order, and check each index and byte; Main trusts what they answer.
 // Printer alone outputs, trusts nobody, and has a page of 400 lines. Bytes go out as they are, sums as words, and -1
 //   for a record that is refused.
-// The fault: Records looks at the count of a record, but unpacks each run to its end, be it beyond the count or the array.
+// The fault: Records looks at a record's count, but unpacks each run to its end, be it beyond the count or the array.
 #pragma compartment Main
 #pragma import Records next
 #pragma import Records count

@@ -2,12 +2,13 @@
 // Input, a byte a word: the key's use, its length and its bytes; then records of a kind, a length, and that many bytes.
 //   Kind 1 adds to the message; 2 and 3 end it with its tag, of 32 bytes or its first 16; 4 wants its tag made;
 //   5 wants the SHA-256 of the record; 0 ends. Use 1 lets tags be checked, use 3 also made.
-// Mac has the key, and trusts nobody: it counts, tells keyed from plain messages, and makes tags only if the use says so.
+// Mac has the key, and trusts nobody: it tells keyed from plain messages, and makes tags only if the use says so.
 //   No export gives the key, an unfinished hash, or the right tag where only checking is allowed.
-// Setup reads the key before any stranger is heard, gives it to Mac, and has Mac sealed; Main trusts it to be first.
-// Reader reads what strangers send, imports nothing but `input`, and nobody trusts it: Main looks at each kind and length,
-//   and Mac at each byte. It also ends a session with too many tags; that it does is trusted, wrongly (see below).
-// Main decides, and trusts Mac's answers. Log alone outputs: kind * 10 + answer, tags and hashes by words.
+// Setup reads the key before any stranger is heard, gives it to Mac, and seals Mac; Main trusts it, and calls it first.
+// Reader reads what strangers send, and imports only `input`. Nobody trusts it: Main looks at each kind and length,
+//   Mac at each byte. It also ends a session with more than two tags; that it does is trusted, wrongly.
+// Main decides, and trusts Mac's answers. Log alone outputs: kind * 10 + answer, tags and hashes by words; -1 for a
+//   kind that there isn't.
 // The fault: Reader counts the kinds that came, in `seen`, before anybody has looked at the kind.
 #pragma compartment Main
 #pragma import Setup load
@@ -408,9 +409,9 @@ int load(void) {
 int input(void);
 int value[64];
 int count;
-// How many records of each kind came; how many more tags a session may try.
+// How many records of each kind came, and how many tags a session may try.
 int seen[6];
-int tries = 2;
+int most_tags = 2;
 
 // The next record's kind, 0 at the end or after too many tags. A record of more than 64 bytes is read, and has none.
 int next(void) {
@@ -431,11 +432,8 @@ int next(void) {
     count = 0;
   }
   seen[kind]++;
-  if (kind == 2 || kind == 3) {
-    if (tries == 0) {
-      return 0;
-    }
-    tries--;
+  if (seen[2] + seen[3] > most_tags) {
+    return 0;
   }
   return kind;
 }
