@@ -329,7 +329,7 @@ int absorb(int byte) {
 int is_tag(unsigned int t0, unsigned int t1, unsigned int t2, unsigned int t3,
            unsigned int t4, unsigned int t5, unsigned int t6, unsigned int t7) {
   unsigned int differ;
-  if (began != 2) {
+  if (began != 2 || !(use & 1)) {
     return 0;
   }
   finish_tag();
@@ -340,7 +340,7 @@ int is_tag(unsigned int t0, unsigned int t1, unsigned int t2, unsigned int t3,
 
 // The first half of a tag, RFC 2104, 5; no shorter part is ever taken.
 int is_short_tag(unsigned int t0, unsigned int t1, unsigned int t2, unsigned int t3) {
-  if (began != 2) {
+  if (began != 2 || !(use & 1)) {
     return 0;
   }
   finish_tag();
