@@ -76,6 +76,7 @@ MISTAKES = [
     (FILE, "struct { int a; } s;", 2, "has a tag"),
     (FILE, "struct S { int a; } s;", 2, "defined by itself"),
     (FILE, "int a[2] = {};", 2, "at least one constant"),
+    (MAIN, "  int a[2] = {1, 2};", 3, "no initialiser"),
     (FILE, "int a[];", 2, "has its length"),
     (FILE, "int a[0];", 2, "at least one element"),
     (FILE, "int n; int a[n];", 2, "one integer"),
