@@ -39,6 +39,7 @@ module _ (one_program : (text : List ℕ) (program other : ProgramTree) →
       }
 
   from_run : (out : List ℕ) → IsTextOutput (Run options) text out → IsExecuted options bytes out
+  unfolding image
   from_run out run =
       let program : run.program ≡ is.program =
       one_program text run.program is.program run.accepted is.accepted in
