@@ -28,4 +28,6 @@ pub enum TrapReason {
     BadCall,
     /// EBREAK.
     Breakpoint,
+    /// What is freed is neither null nor the start of a block of the own zone that is allocated.
+    BadFree,
 }

@@ -12,7 +12,7 @@ use Rattle.sc_core.specs.declared.run.RunEnd.TheVariants.{Blamed, TurnsOut}
 use Rattle.sc_core.specs.declared.value.Cell.TheVariants.{Undef}
 use Rattle.sc_core.specs.declared.value.Value.{Value}
 use Rattle.sc_core.specs.declared.value.Value.TheVariants.{Word, Null, Ptr}
-use Rattle.sc_core.specs.Memory.{Blocks, with_blocks, cell_of, ended}
+use Rattle.sc_core.specs.Memory.{Blocks, variable, with_blocks, cell_of, ended}
 use Rattle.sc_core.specs.Combinators.{Opened, Closed, State, Here, Piece, Reached, Stopped, and_then, turn, emit_event}
 use Rattle.sc_core.specs.Combinators.{Calls}
 
@@ -48,8 +48,8 @@ module _ (denotations : Denotations) where
 -- blocks of these sizes in cells: the first ones hold the arguments, the others nothing yet (C11 6.5.2.2p4, 6.7.9p10)
 abbrev pub blocks_for : List ℕ → List Value → Blocks
 blocks_for [] args = []
-blocks_for (n ∷ cells) [] = record { live = true; cells = replicate n Undef } ∷ blocks_for cells []
-blocks_for (n ∷ cells) (v ∷ args) = record { live = true; cells = cell_of v ∷ [] } ∷ blocks_for cells args
+blocks_for (n ∷ cells) [] = variable (replicate n Undef) ∷ blocks_for cells []
+blocks_for (n ∷ cells) (v ∷ args) = variable (cell_of v ∷ []) ∷ blocks_for cells args
 
 -- the state once the variables and the frame of a function are there
 abbrev pub begun : ℕ → Function → List Value → State → State

@@ -2,14 +2,17 @@
 -- loops.
 -- What a run carries beside its state is a parameter `A`: nothing in trees, temporaries in three-address code.
 use Rattle.sc_core.specs.Common.{Event}
-use Rattle.std.specs.Prelude.{ℕ, zero, suc, ◌++◌, List, [], ◌∷◌, Option, Result, Ok, Err, if◌then◌else◌}
+use Rattle.std.specs.Prelude.{ℕ, zero, suc, ◌*◌, ◌++◌, List, [], ◌∷◌, length, Option, None, Some, Result, Ok, Err}
+use Rattle.std.specs.Prelude.{if◌then◌else◌}
 use Rattle.sc_core.specs.declared.cause.Cause.{Cause}
 use Rattle.sc_core.specs.declared.expr.CallTarget.{CallTarget}
 use Rattle.sc_core.specs.declared.run.RunEnd.{RunEnd}
 use Rattle.sc_core.specs.declared.run.RunEnd.TheVariants.{Blamed, Ended, EventsOut, TurnsOut}
 use Rattle.sc_core.specs.declared.value.Value.{Value}
-use Rattle.sc_core.specs.Memory.{Blocks, Memory, with_blocks, store}
-use Rattle.sc_core.specs.Value.{is_true}
+use Rattle.sc_core.specs.declared.value.Value.TheVariants.{Null, Ptr}
+use Rattle.sc_zone.specs.Prelude.{least_free}
+use Rattle.sc_core.specs.Memory.{Blocks, Memory, allocated_at, freed, spans_of, with_blocks, store}
+use Rattle.sc_core.specs.Value.{count_in, is_true}
 
 -- a frame of a function of this compartment begins or ends, when the trace has `emitted` events; its frame size is
 -- `size`
@@ -93,6 +96,28 @@ leave exit a s = Reached (record { exit = exit; carried = a }) s
 abbrev pub stored : {A : Type 0} → Here → Value → Value → ℕ → Does A
 stored here q v line a s =
     and_then (computed here line (store (s.memory here.comp) q v) s)
+    (λ blocks s. leave Next a (with_memory here.comp blocks s))
+
+-- a new block at a place of the zone of the compartment; null where there is none
+abbrev pub placed : Here → (words : ℕ) → Option ℕ → State → Piece Value
+placed here words None s = Reached Null s
+placed here words (Some place) s =
+    Reached (Ptr (record { block = length (s.memory here.comp); index = 0 }))
+    (with_memory here.comp (s.memory here.comp ++ allocated_at place words ∷ []) s)
+
+-- `words` cells of the zone of the compartment, from the least place from which they are free (C11 7.22.3.4)
+abbrev pub allocated : Here → (words : ℕ) → State → Piece Value
+allocated here words s = placed here words (least_free (spans_of (s.memory here.comp)) words) s
+
+-- as many elements as a value says, of `words` cells each: the product is exact
+abbrev pub elements_allocated : Here → Value → (words line : ℕ) → State → Piece Value
+elements_allocated here v words line s =
+    and_then (computed here line (count_in v) s) (λ count s. allocated here (count * words) s)
+
+-- a value is freed (C11 7.22.3.3)
+abbrev pub released : {A : Type 0} → Here → Value → ℕ → Does A
+released here v line a s =
+    and_then (computed here line (freed (s.memory here.comp) v) s)
     (λ blocks s. leave Next a (with_memory here.comp blocks s))
 
 -- where an exit leads: to what follows, or further out

@@ -24,7 +24,7 @@ use Rattle.sc_core.specs.declared.value.Cell.{Cell}
 use Rattle.sc_core.specs.declared.value.Cell.TheVariants as cell
 use Rattle.sc_core.specs.declared.value.Value.{Value}
 use Rattle.sc_core.specs.declared.value.Value.TheVariants.{Word}
-use Rattle.sc_core.specs.Memory.{Block, Blocks, Memory}
+use Rattle.sc_core.specs.Memory.{Block, Blocks, Memory, variable}
 use Rattle.sc_core.specs.Value.{Arith, c_arith, wrapping}
 use Rattle.sc_core.specs.Types.{variables}
 use Rattle.sc_core.specs.Sizes.{nodes, frame_bound}
@@ -145,7 +145,7 @@ with_words (w ∷ ws) (cell.Null ∷ cells) = cell.Null ∷ with_words ws cells
 with_words (w ∷ ws) (c ∷ cells) = cell.Word w ∷ with_words ws cells
 
 abbrev pub global_block : List (List Cell) → TypedGlobal → Block
-global_block zeros g = record { live = true; cells = with_words g.init (zeros_of zeros g.ty) }
+global_block zeros g = variable (with_words g.init (zeros_of zeros g.ty))
 
 -- the blocks with which a compartment begins: its globals (C11 6.2.4p3)
 abbrev pub first_blocks : Option TypedSection → Blocks

@@ -6,8 +6,9 @@ pub use Rattle.sc_core.specs.Calls.{function, functions_of, is_word, leads, may_
 pub use Rattle.sc_core.specs.Calls.{read_input, run_in, run_step, within, word_back, word_in}
 pub use Rattle.sc_core.specs.Combinators.{Break, Calls, Closed, Continue, Does, Exit, FrameChange, Here, IsStop, Left}
 pub use Rattle.sc_core.specs.Combinators.{Next, On, Opened, Out, Piece, Reached, Return, Route, State, Stopped, all_do}
-pub use Rattle.sc_core.specs.Combinators.{and_then, choose, computed, emit_event, follow, in_loop, in_order, leave}
-pub use Rattle.sc_core.specs.Combinators.{loop, rounds, stored, take, turn, turn_of, with_memory}
+pub use Rattle.sc_core.specs.Combinators.{allocated, and_then, choose, computed, elements_allocated, emit_event, follow}
+pub use Rattle.sc_core.specs.Combinators.{in_loop, in_order, leave, loop, placed, released, rounds, stored, take, turn}
+pub use Rattle.sc_core.specs.Combinators.{turn_of, with_memory}
 pub use Rattle.sc_core.specs.Height.{call_height, expr_height, highest, kind_height, part_height, simple_height}
 pub use Rattle.sc_core.specs.Height.{stmt_height, term_height}
 pub use Rattle.sc_core.specs.Meaning.{Run, at_brace, base_zeros, body_does, closed, deepest, denotations_of, depth}
@@ -17,8 +18,9 @@ pub use Rattle.sc_core.specs.Meaning.{meaning_by, member_zeros, place_named, pla
 pub use Rattle.sc_core.specs.Meaning.{run_to, scripted_by, scripted_depth_by, scripted_meaning, scripted_run_of}
 pub use Rattle.sc_core.specs.Meaning.{scripted_wrapped, starred_zeros, struct_zeros, with_words, wrapped, wrapped_depth}
 pub use Rattle.sc_core.specs.Meaning.{zeros_of}
-pub use Rattle.sc_core.specs.Memory.{Block, Blocks, Memory, bind, cell_of, cells_at, ended, is_live, live_cells, load}
-pub use Rattle.sc_core.specs.Memory.{loaded, store, with_blocks, with_cell}
+pub use Rattle.sc_core.specs.Memory.{Block, Blocks, Memory, allocated_at, bind, cell_of, cells_at, ended, freed, is_live}
+pub use Rattle.sc_core.specs.Memory.{live_cells, living, load, loaded, over, span_at, spans_of, store, variable}
+pub use Rattle.sc_core.specs.Memory.{with_block, with_blocks, with_cell, without_block}
 pub use Rattle.sc_core.specs.Run.{reaches, stopped_at}
 pub use Rattle.sc_core.specs.Scripts.{Roles, acts, asks, is_number, performs, roles_in, rows_left, scripted_step}
 pub use Rattle.sc_core.specs.Sizes.{bytes_a_node, call_nodes, code_bound, expr_nodes, frame_bound, init_nodes}
@@ -40,6 +42,7 @@ pub use Rattle.sc_core.specs.Typing.{returned_call_fits, returned_fits, same_bas
 pub use Rattle.sc_core.specs.Typing.{scalar_ty, signature_of, simple_fits, starred, stmt_fits, sum_fits, target}
 pub use Rattle.sc_core.specs.Typing.{target_signature, term_judged, type_goes, unary_fits, value_judged, variable_ty}
 pub use Rattle.sc_core.specs.Value.{Arith, apart, applied_one, as_word, between, c_arith, c_binary, c_negated, cause_of}
+pub use Rattle.sc_core.specs.Value.{count_in}
 pub use Rattle.sc_core.specs.Value.{in_elements, is_inside, is_less, is_true, is_zero, moved, moved_back, moved_on}
 pub use Rattle.sc_core.specs.Value.{negated_word, number_of, of_bool, on_all_words, on_word, on_words, or_cause}
 pub use Rattle.sc_core.specs.Value.{ordered, place_at, same_place, truth, wrapping}

@@ -194,6 +194,11 @@ abbrev pub on_word : (ℕ → Result ℕ Cause) → Value → Result Value Cause
 on_word f (Word a) = as_word (f a)
 on_word f v = Err BadType
 
+-- the word that a value is
+abbrev pub count_in : Value → Result ℕ Cause
+count_in (Word w) = Ok w
+count_in v = Err BadType
+
 -- an operator before a value (C11 6.5.3.3)
 abbrev pub applied_one : Arith → Bool → UnaryOp → Value → Result Value Cause
 applied_one arith unsigned unary.Minus v = on_word (arith.negated unsigned) v

@@ -21,4 +21,6 @@ pub enum Cause {
     BadPointer,
     /// The closing brace of a function with a result is reached (C11 6.9.1p12).
     NoReturn,
+    /// What is freed is neither null nor the start of an allocated block that lives (C11 7.22.3.3).
+    BadFree,
 }

@@ -32,6 +32,7 @@ cause_word causes.Indeterminate = codes "Indeterminate"
 cause_word causes.BadType = codes "BadType"
 cause_word causes.BadPointer = codes "BadPointer"
 cause_word causes.NoReturn = codes "NoReturn"
+cause_word causes.BadFree = codes "BadFree"
 
 -- the last words of a line: a cause and the line at which it came
 abbrev pub number_end : ℕ → List ℕ
@@ -62,6 +63,7 @@ reason_word reasons.BadJump = codes "badjump"
 reason_word reasons.NoImport = codes "noimport"
 reason_word reasons.BadCall = codes "badcall"
 reason_word reasons.Breakpoint = codes "breakpoint"
+reason_word reasons.BadFree = codes "badfree"
 
 -- the last word of a line: an address in eight hexadecimal digits
 abbrev pub address_end : ℕ → List ℕ

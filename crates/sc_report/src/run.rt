@@ -118,6 +118,7 @@ pub(crate) fn cause_word(cause: Cause) -> &'static [u8]
         Cause::BadType => b"BadType",
         Cause::BadPointer => b"BadPointer",
         Cause::NoReturn => b"NoReturn",
+        Cause::BadFree => b"BadFree",
     }
 }
 
@@ -151,6 +152,7 @@ fn reason_word(reason: TrapReason) -> &'static [u8]
         TrapReason::NoImport => b"noimport",
         TrapReason::BadCall => b"badcall",
         TrapReason::Breakpoint => b"breakpoint",
+        TrapReason::BadFree => b"badfree",
     }
 }
 
