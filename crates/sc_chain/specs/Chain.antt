@@ -7,7 +7,7 @@ use Rattle.sc_image.specs.Prelude.{machine}
 use Rattle.std.specs.Prelude.{◌≡◌, ◌↔◌, ℕ, suc, ◌<◌, ◌≤◌, Bool, true, false, List, [], ◌∷◌, length, take, Ok}
 use Rattle.sc_image.specs.declared.parts.ImageParts.{ImageParts}
 use Rattle.sc_chain.specs.Recompose.{is_listed, performing_text, recomposed}
-use Rattle.sc_chain.specs.declared.explanation.Explanation.{Explanation}
+use Rattle.sc_core.specs.declared.explanation.Explanation.{Explanation}
 
 -- The meaning of a program, with as many turns as the machine had steps and as many events as it emitted, is blamed so,
 -- after a proper prefix of the trace.

@@ -31,7 +31,7 @@ pub use Rattle.sc_compile.specs.declared.fault.CompileFault.TheVariants.{OutOfMe
 pub use Rattle.sc_chain.specs.Prelude.{IsChainFrom, IsExplained, IsFault, IsNext, MeansTrace, is_listed, joined_text}
 pub use Rattle.sc_chain.specs.Prelude.{performing}
 pub use Rattle.sc_chain.specs.Prelude.{performing_text, recomposed, text_for}
-pub use Rattle.sc_chain.specs.declared.explanation.Explanation.{Explanation}
+pub use Rattle.sc_core.specs.declared.explanation.Explanation.{Explanation}
 pub use Rattle.sc_report_made.specs.Laws.{AreSmall, IsAccepted, IsSmall}
 pub use Rattle.sc_top_words.specs.declared.command.Command.TheVariants.{Make}
 pub use Rattle.sc_top_words.specs.declared.command.MakeOptions.{MakeOptions}

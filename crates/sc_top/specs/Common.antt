@@ -9,5 +9,5 @@ pub use Rattle.sc_image.specs.Prelude.{IsImage, MachineRun, bad, cause_number, i
 pub use Rattle.sc_compile.specs.Prelude.{IsCompiled, image_of, too_large}
 pub use Rattle.sc_compile.specs.declared.fault.CompileFault.{CompileFault}
 pub use Rattle.sc_chain.specs.Prelude.{IsExplained, is_listed, performing_text, recomposed}
-pub use Rattle.sc_chain.specs.declared.explanation.Link.{Link}
+pub use Rattle.sc_core.specs.declared.explanation.Link.{Link}
 pub use Rattle.sc_top_words.specs.declared.command.Command.{Command}

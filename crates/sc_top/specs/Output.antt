@@ -11,7 +11,7 @@ use Rattle.sc_image.specs.declared.parts.ImageParts.{ImageParts}
 use Rattle.sc_top_words.specs.declared.command.RunOptions.{RunOptions}
 use Rattle.std.specs.Prelude.{◌≡◌, ◌≤◌, ℕ, Bool, true, false, IsTrue, List, [], length, map, take, Option, Some, None}
 use Rattle.std.specs.Prelude.{Ok}
-use Rattle.sc_chain.specs.declared.explanation.Explanation.{Explanation}
+use Rattle.sc_core.specs.declared.explanation.Explanation.{Explanation}
 use Rattle.sc_core.specs.declared.run.SourceRun.{SourceRun}
 use Rattle.sc_report.specs.Check.{check_text}
 use Rattle.sc_report_made.specs.Text.{made_text}
