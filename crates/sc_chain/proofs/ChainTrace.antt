@@ -1,6 +1,7 @@
 -- The machine's trace on the image of a program, as the chain of texts needs it.
 use Rattle.sc_chain.proofs.Common.{All, All-map, EmitsOrIsBlamed, Event, ImageParts, IsChain, IsCompiled, IsExplained}
-use Rattle.sc_chain.proofs.Common.{IsWord, Link, List, Ok, ProgramTree, Run, Set, SourceParts, Stop, get_or, image_of}
+use Rattle.sc_chain.proofs.Common.{IsWord, Link, List, Ok, ProgramTree, MachineRun, CompSet, SourceParts, Stop, get_or}
+use Rattle.sc_chain.proofs.Common.{image_of}
 use Rattle.sc_chain.proofs.Common.{legal, length, machine, map, scripted_meaning, subst, sym, true, word_of, ℕ, ℤ, ◌≡◌}
 use Rattle.sc_word.proofs.Words.{word_of-lt}
 
@@ -10,7 +11,7 @@ inputs_are_words inputs = All-map IsWord word_of inputs (λ i d inside. word_of-
 
 module _ (source : SourceParts) (inputs : List ℤ) (steps events : ℕ) (program : ProgramTree)
     (same : program ≡ source.program) (image : ImageParts) (is : IsCompiled program image) where
-  abbrev run : Run
+  abbrev run : MachineRun
   run = machine image (map word_of inputs) steps events
 
   compiled : IsCompiled source.program image
@@ -22,7 +23,7 @@ module _ (source : SourceParts) (inputs : List ℤ) (steps events : ℕ) (progra
         subst (λ t. legal source.program.interfaces t ≡ true) (sym emits)
         (compiled.allowed (map word_of inputs) steps events (inputs_are_words inputs))
 
-    pub emitted_scripted : (set : Set) → EmitsOrIsBlamed (length source.program.sections) set trace
+    pub emitted_scripted : (set : CompSet) → EmitsOrIsBlamed (length source.program.sections) set trace
         (scripted_meaning source.program set trace (map word_of inputs) steps (length trace))
     emitted_scripted set =
         subst (λ t. EmitsOrIsBlamed (length source.program.sections) set t

@@ -6,8 +6,8 @@ use Rattle.sc_compile.specs.Prelude.{IsCompiled}
 use Rattle.sc_image.specs.Prelude.{machine}
 use Rattle.std.specs.Prelude.{◌≡◌, ◌↔◌, ℕ, suc, ◌<◌, ◌≤◌, Bool, true, false, List, [], ◌∷◌, length, take, Ok}
 use Rattle.sc_image.specs.declared.parts.ImageParts.{ImageParts}
-use Rattle.sc_chain.specs.Recompose.{among, performing_text, recomposed}
-use Rattle.sc_chain.specs.declared.explanation.Explanation.{Explanation}
+use Rattle.sc_chain.specs.Recompose.{is_listed, performing_text, recomposed}
+use Rattle.sc_core.specs.declared.explanation.Explanation.{Explanation}
 
 -- The meaning of a program, with as many turns as the machine had steps and as many events as it emitted, is blamed so,
 -- after a proper prefix of the trace.
@@ -31,16 +31,16 @@ module _ (source : SourceParts) (inputs : List ℕ) (steps : ℕ) (trace : List 
   -- the text in which these compartments perform is blamed by the link's account, on none of them, after at least
   -- `least` events; and the link's text is that of the blamed compartment's section
   pub record IsNext (comps : List ℕ) (least : ℕ) (link : Link) : Type 0 where
-    pub text : HasProgram (among comps)
+    pub text : HasProgram (is_listed comps)
     pub blamed : IsBlamedSo text.program inputs steps trace link
     pub later : least ≤ link.after
-    pub outside : among comps link.comp ≡ false
+    pub outside : is_listed comps link.comp ≡ false
     pub there : link.comp < length source.program.interfaces.comps
     pub performs : link.text ≡ performing_text source.program.interfaces trace link.comp
 
   -- from the text in which these compartments perform on
   abbrev pub IsChainFrom : (comps : List ℕ) → (least : ℕ) → List Link → Type 0
-  IsChainFrom comps least [] = MeansTrace (among comps)
+  IsChainFrom comps least [] = MeansTrace (is_listed comps)
   IsChainFrom comps least (link ∷ links) =
       IsNext comps least link × IsChainFrom (link.comp ∷ comps) (suc link.after) links
 
@@ -51,7 +51,7 @@ module _ (source : SourceParts) (inputs : List ℕ) (steps : ℕ) (trace : List 
 
   pub record IsChain (links : List Link) : Type 0 where
     -- the first text is the source's own
-    pub own : recomposed source trace (among []) ≡ source.bytes
+    pub own : recomposed source trace (is_listed []) ≡ source.bytes
     pub chain : IsChainFrom [] 0 links
     pub few : length links ≤ length source.program.interfaces.comps
     -- nothing is replaced exactly where the program's own meaning is the trace

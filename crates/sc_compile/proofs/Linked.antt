@@ -11,7 +11,7 @@ use Rattle.sc_compile.proofs.Common.{inr, intervals_of, keeps_meaning, length, l
 use Rattle.sc_compile.proofs.Common.{lowered_section, map, nodes, number_below, option_map, program_nodes, refl}
 use Rattle.sc_compile.proofs.Common.{section_or_none, slice_get, start_memory, struct_zeros, subst, suc, sym, too_large}
 use Rattle.sc_compile.proofs.Common.{total, total_upto, true, wrapping, ℕ, ◌*◌, ◌+◌, ◌<◌, ◌∙◌, ◌∷◌, ◌≡◌, ◌≤◌, ◌⊎◌}
-use Rattle.sc_store.specs.Prelude.{Memory, load_of}
+use Rattle.sc_store.specs.Prelude.{ByteMemory, load_of}
 use Rattle.sc_tac.specs.Prelude.{first_blocks as code_blocks}
 use Rattle.sc_emit_hart.specs.Prelude.{CodeAt, Fetches, word}
 use Rattle.sc_emit_relation.specs.Prelude.{InCell}
@@ -38,7 +38,7 @@ code_at image comp address (instr ∷ instrs) stand = (
       subst (λ a. StandsAt image comp a one) same (stand (suc i) one is)),
 )
 
-word_is : (memory : Memory) (a : ℕ) → word memory a ≡ load_of memory a 4
+word_is : (memory : ByteMemory) (a : ℕ) → word memory a ≡ load_of memory a 4
 unfolding word
 word_is memory a = refl
 

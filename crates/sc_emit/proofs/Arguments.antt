@@ -1,7 +1,7 @@
 -- Values brought into registers that temporaries don't have: the arguments of a call, and what a function returns.
 use Rattle.sc_emit.proofs.Common.{AreInPlace, Comes, Computes, Does, Ends, FrameMatches, FrameTree, Goes, HasNoOtherUse}
 use Rattle.sc_emit.proofs.Common.{Here, InPlace, Instr, IsActivation, IsInPlace, IsWritable, Joint, Left, List, Lives}
-use Rattle.sc_emit.proofs.Common.{Piece, Place, Reached, Register, Registers, Running, Set, Setting, Slot, Some}
+use Rattle.sc_emit.proofs.Common.{Piece, Place, Reached, Register, Registers, Running, TempSet, Setting, Slot, Some}
 use Rattle.sc_emit.proofs.Common.{StandsFor, State as Meant, Temps, Value, Walks, [], and_then, ap, arith, at, brought}
 use Rattle.sc_emit.proofs.Common.{comes_read, computes, eq-eqb, in_row, is_one, length, load_word, loads_word, look_at}
 use Rattle.sc_emit.proofs.Common.{moves, no_other_use, or_right, pass, place_of, read, read_all, refl, register_of}
@@ -176,7 +176,8 @@ module _ (T : Setting) (R : Running) (cells : List ℕ) (nodes : ℕ)
         others = λ q h. rest.others q h ∙ kept regs code rd v low high b q h;
       }
 
-  module _ (live : Set) (temps : Temps) (held : AreInPlace R.activation R.places x.inj x.regs x.bytes live temps) where
+  module _ (live : TempSet) (temps : Temps) (held : AreInPlace R.activation R.places x.inj x.regs x.bytes live temps)
+      where
     pub passes : (regs : Registers) (rd : ℕ) (ts : List ℕ) (vs : List Value) → 10 ≤ rd → rd + length ts ≤ 18 →
         ((t : ℕ) → is_one t ts ≡ true → live t ≡ true) → AreRead temps ts vs → regs sp ≡ x.regs sp →
         ((q : ℕ) → HasNoOtherUse q → regs q ≡ x.regs q) → Passes regs rd ts vs

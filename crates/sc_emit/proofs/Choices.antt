@@ -3,7 +3,8 @@ use Rattle.sc_emit.proofs.Common.{All, All-tail, Arrives, Bne, Bool, Branch, Bre
 use Rattle.sc_emit.proofs.Common.{Ends, Exit, ExitGives, Fetches, Follows, FrameTree, Goes, Gone, HasNoGap, InParts}
 use Rattle.sc_emit.proofs.Common.{Instr, IsActivation, IsClear, IsInside, IsWellFormed, IsWord, Jal, Joint, Left, Line}
 use Rattle.sc_emit.proofs.Common.{List, Lives, MovesOn, Next, None, Null, Option, Piece, Ptr, Reached, Ready, Registers}
-use Rattle.sc_emit.proofs.Common.{Return, Running, Set, Setting, Settled, Some, Standpoint, StandsAt, StandsFor, Starts}
+use Rattle.sc_emit.proofs.Common.{Return, Running, TempSet, Setting, Settled, Some, Standpoint, StandsAt, StandsFor}
+use Rattle.sc_emit.proofs.Common.{Starts}
 use Rattle.sc_emit.proofs.Common.{State as Meant, Stopped, Temps, Trail, Value, Walks, Word, [], add_word, all_back}
 use Rattle.sc_emit.proofs.Common.{all_prefix, and_first, and_from, and_rest, and_then, ap, arith, arrives_with, at}
 use Rattle.sc_emit.proofs.Common.{back_at, choice, choose, choosing, code_inside, comes_after, comes_read, completed}
@@ -41,7 +42,7 @@ module _ (T : Setting) (R : Running) (formed : IsWellFormed T.image) (inputs : A
   comp = R.activation.here.comp
 
   -- a jump past `lines` lines arrives after them, and where there are none it is there
-  past_arrives : (live : Set) (temps : Temps) (x : Joint) (lines left : ℕ) → Ready T R live temps x →
+  past_arrives : (live : TempSet) (temps : Temps) (x : Joint) (lines left : ℕ) → Ready T R live temps x →
       CodeAt T.image comp x.pc (completed (T.addresses comp) x.pc None (past lines)) →
       x.pc + 4 * (length (past lines) + lines) ≤ R.last →
       Arrives T R live x (length (past lines) + left) left temps x.meant (x.pc + 4 * (length (past lines) + lines))
@@ -89,7 +90,7 @@ module _ (T : Setting) (R : Running) (formed : IsWellFormed T.image) (inputs : A
       branches = (back_at T.image comp L its_take (its_branch ∷ []) code).0;
     }
 
-    module _ (live : Set) (temps : Temps) (x : Joint) (ready : Ready T R live temps x) (code : Branches x.pc)
+    module _ (live : TempSet) (temps : Temps) (x : Joint) (ready : Ready T R live temps x) (code : Branches x.pc)
         (on : live cond ≡ true) (need : R.plan.needed cond ≡ true) (v : Value) (known : temps cond ≡ Some v) where
       pub held : AtHand T R x x.regs first_scratch cond v
       held =
@@ -184,7 +185,7 @@ module _ (T : Setting) (R : Running) (formed : IsWellFormed T.image) (inputs : A
 
     -- what is live in the parts is live before
     module _ (lives : Lives) where
-      abbrev live : Set
+      abbrev live : TempSet
       live = live_at trail lives
 
       first_live : (t : ℕ) → live_before fs lives t ≡ true → live t ≡ true

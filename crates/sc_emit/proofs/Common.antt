@@ -38,14 +38,16 @@ pub use Rattle.rv_code.specs.declared.instr.Instr.TheVariants.{Upper}
 pub use Rattle.rv_code.specs.declared.instr.OpImmOp.TheVariants.{Addi}
 pub use Rattle.rv_code.specs.declared.instr.StoreOp.TheVariants.{Sw}
 pub use Rattle.rv_code.specs.declared.instr.UpperOp.TheVariants.{Lui}
-pub use Rattle.sc_store.specs.Prelude.{Memory}
-pub use Rattle.sc_image.specs.Prelude.{IsWellFormed, IsWord, Traps, Walks, code_start, data_start, gate, globals_of}
-pub use Rattle.sc_image.specs.Prelude.{jalr_target, refused, stack_size, stack_top, start, start_memory, step, unless}
+pub use Rattle.sc_store.specs.Prelude.{ByteMemory}
+pub use Rattle.sc_image.specs.Prelude.{IsWellFormed, IsWord, Traps, Walks, code_start, data_start, gate}
+pub use Rattle.sc_image.specs.Prelude.{initial_globals}
+pub use Rattle.sc_image.specs.Prelude.{jalr_target, refused, stack_size, stack_top, start, start_memory, step}
+pub use Rattle.sc_image.specs.Prelude.{unless_trap}
 unfoldable pub use Rattle.sc_image.specs.Prelude.{are_data, word_at}
 pub use Rattle.sc_image.specs.declared.parts.ImageParts.{ImageParts}
 pub use Rattle.sc_tac.proofs.Induction.{Inside, stmt_induction}
 pub use Rattle.sc_tac.specs.Prelude.{Ahead, ArePlaces, Codes, FrameFits, IsAssignment, IsClear, IsFrame, IsFunction}
-pub use Rattle.sc_tac.specs.Prelude.{Lives, Point, Set, Temps, Trail, ahead_at, all_true, branch_step, branches}
+pub use Rattle.sc_tac.specs.Prelude.{Lives, Point, TempSet, Temps, Trail, ahead_at, all_true, branch_step, branches}
 pub use Rattle.sc_tac.specs.Prelude.{call_does, code_denotations, code_does, code_function, code_step, constant_value}
 pub use Rattle.sc_tac.specs.Prelude.{counts_elements, entry_weight, function_points, gets, has_elements, has_operands}
 pub use Rattle.sc_tac.specs.Prelude.{has_words, interval_of, intervals_of, is_one, is_place, known, live_across}

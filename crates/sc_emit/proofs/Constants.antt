@@ -2,7 +2,8 @@
 use Rattle.sc_emit.proofs.Common.{All, All-cons, All-nil, Arrives, Bool, Calls, Cause, CodeAt, Codes, Computes}
 use Rattle.sc_emit.proofs.Common.{Constant, Err, Follows, FrameTree, Goes, Gone, Instr, IsActivation, IsClear, IsSound}
 use Rattle.sc_emit.proofs.Common.{IsWellFormed, IsWord, Joint, List, Lives, Next, Ok, Place, Point, Ready, Result}
-use Rattle.sc_emit.proofs.Common.{Running, Set, Setting, ShortForm, Some, State as Meant, TacOp, Temps, Trail, Value}
+use Rattle.sc_emit.proofs.Common.{Running, TempSet, Setting, ShortForm, Some, State as Meant, TacOp, Temps, Trail}
+use Rattle.sc_emit.proofs.Common.{Value}
 use Rattle.sc_emit.proofs.Common.{[], all_at, and_from, and_then, ap, arith, code_step, comes_computed, comes_read}
 use Rattle.sc_emit.proofs.Common.{constant_value, eq-eqb, eqb-true, false, first_scratch, gets, if◌then◌else◌, in_row}
 use Rattle.sc_emit.proofs.Common.{is_one, keep, leave, length, live_across, live_at, live_plain, ne_eqb, not, op_word}
@@ -136,7 +137,7 @@ module _ (T : Setting) (R : Running) (formed : IsWellFormed T.image) (inputs : A
   -- the code gives what the operator gives, where what it reads is live
   module _ (form : ShortForm) (form_is : short_form o word ≡ Some form) (for : IsSound o)
       (small : IsWordConstant T R formed inputs cells nodes is placed calls value) where
-    pub gives : (rd : ℕ) → IsResult rd → (live : Set) (temps : Temps) (x : Joint) (v r : Value) →
+    pub gives : (rd : ℕ) → IsResult rd → (live : TempSet) (temps : Temps) (x : Joint) (v r : Value) →
         Ready T R live temps x → live left ≡ true → temps left ≡ Some v →
         operated wrapping (x.meant.memory comp) o v start ≡ Ok r → Gives T R x (short_into form rd) rd r
     gives rd w live temps x v r ready on known gave =

@@ -2,18 +2,20 @@
 -- where the frame goes below the data.
 use Rattle.sc_emit.proofs.Common.{All, Apart, Begins, CodeAt, Computes, Does, Enters, Fetches, FrameFits}
 use Rattle.sc_emit.proofs.Common.{FrameOverflows, FrameTree, Function, Grown, ImageParts, Instr, IsFrame, IsFromSp}
-use Rattle.sc_emit.proofs.Common.{IsWellFormed, IsWord, Joint, List, Memory as Bytes, Option, Overflows, Piece, Place}
+use Rattle.sc_emit.proofs.Common.{IsWellFormed, IsWord, Joint, List, ByteMemory as Bytes, Option, Overflows, Piece}
+use Rattle.sc_emit.proofs.Common.{Place}
 use Rattle.sc_emit.proofs.Common.{Registers, Setting, Some, Standpoint, Store, Stores, Sw, TakesFrame, Traps, Value}
 use Rattle.sc_emit.proofs.Common.{Walks, World, [], a0, add_word, all_at, ap, are_data, arith, at, back_at, begun}
-use Rattle.sc_emit.proofs.Common.{cases_eq, cases_lt, computes, data_start, eq-eqb, false, frame_taken, globals_of}
+use Rattle.sc_emit.proofs.Common.{cases_eq, cases_lt, computes, data_start, eq-eqb, false, frame_taken, initial_globals}
 use Rattle.sc_emit.proofs.Common.{in_row, inl, inr, is_there, last, le-leb, le-ltb, length, length-append, look_at}
 use Rattle.sc_emit.proofs.Common.{moved_by, moved_to, moves_on, nat_le, nat_lt, object_inside, object_there}
 use Rattle.sc_emit.proofs.Common.{objects_apart, overflows, overflows_entering, own_beside, own_inside, pos, prefix_at}
 use Rattle.sc_emit.proofs.Common.{prologue, put_word, ra, refl, refused, same_Some, slice_get, sp, stack_size}
 use Rattle.sc_emit.proofs.Common.{stack_top, step, store_arguments, store_word, stores_word, sub_word, subst, suc, sym}
-use Rattle.sc_emit.proofs.Common.{takes_frame, true, unless, unwrap_or, word, word_of-lt, word_of-unsigned_sub, zero, ℕ}
+use Rattle.sc_emit.proofs.Common.{takes_frame, true, unless_trap, unwrap_or, word, word_of-lt, word_of-unsigned_sub}
+use Rattle.sc_emit.proofs.Common.{zero, ℕ}
 use Rattle.sc_emit.proofs.Common.{⊎_elim, ◌%◌, ◌*◌, ◌++◌, ◌+◌, ◌-◌, ◌<◌, ◌^◌, ◌∙◌, ◌∷◌, ◌≡◌, ◌≢◌, ◌≤◌, ◌⊎◌}
-use Rattle.sc_store.specs.Prelude.{stored}
+use Rattle.sc_store.specs.Prelude.{with_bytes}
 use Rattle.sc_image.specs.Prelude.{Goes}
 use Rattle.sc_base.specs.declared.stop.TrapReason.TheVariants.{Owner}
 use Rattle.sc_image.proofs.Memory.{few_globals}
@@ -40,7 +42,7 @@ module _ (image : ImageParts) (inputs : List ℕ) (world : World) (cells : List 
     does : Does image inputs world (store_arguments frame places count from) regs bytes after later
     sp : after sp ≡ low
     others : (q : ℕ) → MeetsNone count from q → word later q ≡ word bytes q
-    stored : (o offset : ℕ) → from ≤ o → o < from + count → slice_get frame.objects o ≡ Some offset →
+    with_bytes : (o offset : ℕ) → from ≤ o → o < from + count → slice_get frame.objects o ≡ Some offset →
         word later (low + offset) ≡ regs (a0 + o)
 
   no_steps : (regs : Registers) (bytes : Bytes) → Does image inputs world [] regs bytes regs bytes
@@ -168,8 +170,8 @@ module _ (image : ImageParts) (formed : IsWellFormed image) (inputs : List ℕ) 
       let few = few_globals image world.active formed in
       let stack : nat_lt (a + 0) (data_start world.active + stack_size) ≡ false =
       le-ltb (a + 0) (data_start world.active + stack_size) (omega (arith, high, known)) in
-      let globals : nat_lt (a + 0) (stack_top world.active + length (globals_of image world.active)) ≡ false =
-      le-ltb (a + 0) (stack_top world.active + length (globals_of image world.active))
+      let globals : nat_lt (a + 0) (stack_top world.active + length (initial_globals image world.active)) ≡ false =
+      le-ltb (a + 0) (stack_top world.active + length (initial_globals image world.active))
       (omega (arith, high, known, few)) in
       let above_stack : nat_le (data_start world.active) (a + 0) ≡ true =
       le-leb (data_start world.active) (a + 0) (omega (arith, high, known)) in
@@ -187,7 +189,7 @@ module _ (image : ImageParts) (formed : IsWellFormed image) (inputs : List ℕ) 
   beyond_traps pc regs memory a f e aligned high =
       steps_by_instruction.stores image inputs (at pc regs memory world) Sw sp ra (pos 0) a
       (record { word = f.word; fetched = f.fetched; decodes = f.decodes }) e ∙
-      ap (λ why. unless why (Goes (at (pc + 4) regs (stored memory a 4 (regs ra)) world)))
+      ap (λ why. unless_trap why (Goes (at (pc + 4) regs (with_bytes memory a 4 (regs ra)) world)))
       (beyond_refused a aligned high)
 
   wrapped : (bound bytes : ℕ) → bound < bytes → bytes ≤ 2 ^ 31 →

@@ -5,7 +5,8 @@ use Rattle.sc_emit.proofs.Common.{CodeAt, Codes, Continue, Cross, Each, Ends, Er
 use Rattle.sc_emit.proofs.Common.{FrameTree, Gives, Goes, Gone, HasNoGap, HeadComes, HeadFollows, Here, InParts, Input}
 use Rattle.sc_emit.proofs.Common.{Inside, Instr, IsActivation, IsClear, IsInside, IsTested, IsWellFormed, IsWord, Joint}
 use Rattle.sc_emit.proofs.Common.{Leads, Left, Line, List, Lives, Next, None, Ok, Option, Output, Overflows, Own, Piece}
-use Rattle.sc_emit.proofs.Common.{Place, Plan, Reached, Ready, Registers, Result, Return, Running, Set, Setting, Some}
+use Rattle.sc_emit.proofs.Common.{Place, Plan, Reached, Ready, Registers, Result, Return, Running, TempSet, Setting}
+use Rattle.sc_emit.proofs.Common.{Some}
 use Rattle.sc_emit.proofs.Common.{Standpoint, Starts, State as Meant, Stopped, TacStmt, TacStmt-F, Temps, Trail, Value}
 use Rattle.sc_emit.proofs.Common.{Walks, [], add_word, ahead_at, all_do, all_plain, all_prefix, and_parts, and_then, ap}
 use Rattle.sc_emit.proofs.Common.{append_assoc, ap₂, arith, back_to, branch_back, branch_reach, call_does, choose}
@@ -315,7 +316,7 @@ module _ (T : Setting) (R : Running) (formed : IsWellFormed T.image) (inputs : A
       }
 
       -- what is live before the test
-      abbrev live : Set
+      abbrev live : TempSet
       live = live_before (test_trail cond ∷ []) lives
 
       abbrev inner : Lives
@@ -402,7 +403,7 @@ module _ (T : Setting) (R : Running) (formed : IsWellFormed T.image) (inputs : A
             effect = effect_still T P y pc after;
           }
 
-          arrives : (less : Set) (pc : ℕ) → ((t : ℕ) → less t ≡ true → live t ≡ true) → Tested pc →
+          arrives : (less : TempSet) (pc : ℕ) → ((t : ℕ) → less t ≡ true → live t ≡ true) → Tested pc →
               Arrives T R less x budget left temps' y.meant pc
           arrives less pc fewer walks = record {
             y = at_pc pc;
@@ -416,7 +417,7 @@ module _ (T : Setting) (R : Running) (formed : IsWellFormed T.image) (inputs : A
           }
 
           -- the branch is a step more than what came before has turns
-          arrives_late : (less : Set) (pc : ℕ) → ((t : ℕ) → less t ≡ true → live t ≡ true) → Tested pc →
+          arrives_late : (less : TempSet) (pc : ℕ) → ((t : ℕ) → less t ≡ true → live t ≡ true) → Tested pc →
               ArrivesLate T R less x budget left temps' y.meant pc
           unfolding arrives
           arrives_late less pc fewer walks =

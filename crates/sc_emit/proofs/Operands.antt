@@ -1,7 +1,8 @@
 -- Operands at hand, and results in their places.
 use Rattle.sc_emit.proofs.Common.{Activation, All, Arrives, Besides, CodeAt, Computes, Does, FrameMatches}
 use Rattle.sc_emit.proofs.Common.{HasNoOtherUse, InPlace, Instr, IsActivation, IsClear, IsFromSp, IsInPlace}
-use Rattle.sc_emit.proofs.Common.{IsWellFormed, IsWord, IsWritable, Joint, List, Lives, Memory as Bytes, Place, Ready}
+use Rattle.sc_emit.proofs.Common.{IsWellFormed, IsWord, IsWritable, Joint, List, Lives, ByteMemory as Bytes, Place}
+use Rattle.sc_emit.proofs.Common.{Ready}
 use Rattle.sc_emit.proofs.Common.{Register, Registers, Running, Setting, Slot, Some, Standpoint, StandsFor, Stores}
 use Rattle.sc_emit.proofs.Common.{Temps, Value, Walks, World, [], address_scratch, ap, append-nil, arith, assigned}
 use Rattle.sc_emit.proofs.Common.{assigns_register, assigns_slot, at, at_hand, false, first_scratch, in_row, inl, inr}

@@ -2,7 +2,7 @@
 use Rattle.sc_emit.proofs.Common.{All, AreOperands, Arrives, Blocks, Bool, Calls, Cause, CodeAt, Comes, Computes, Does}
 use Rattle.sc_emit.proofs.Common.{Ends, Err, Follows, FrameTree, Goes, Gone, HasNoOtherUse, Instr, IsActivation}
 use Rattle.sc_emit.proofs.Common.{IsClear, IsLoaded, IsSound, IsWellFormed, IsWord, Joint, List, Lives, Load, Next}
-use Rattle.sc_emit.proofs.Common.{None, Ok, Option, Other, Place, Reached, Ready, Registers, Result, Running, Set}
+use Rattle.sc_emit.proofs.Common.{None, Ok, Option, Other, Place, Reached, Ready, Registers, Result, Running, TempSet}
 use Rattle.sc_emit.proofs.Common.{Setting, Settled, Some, StandsFor, State as Meant, Store, Stores, Sw, TacOp, Temps}
 use Rattle.sc_emit.proofs.Common.{Value, [], add_word, and_first, and_from, and_rest, and_then, ap, append-nil}
 use Rattle.sc_emit.proofs.Common.{append_assoc, arith, code_step, comes_computed, comes_read, computed, emits_here}
@@ -38,7 +38,7 @@ module _ (T : Setting) (R : Running) (formed : IsWellFormed T.image) (inputs : A
         live_plain reads dest lives t ≡ true
     live_read reads dest lives t h = or_left (is_one t reads) _ h
 
-    module _ (live : Set) (temps : Temps) (x : Joint) (ready : Ready T R live temps x) where
+    module _ (live : TempSet) (temps : Temps) (x : Joint) (ready : Ready T R live temps x) where
       -- one operand at hand
       first_at_hand : (t : ℕ) (v : Value) → live t ≡ true → R.plan.needed t ≡ true → temps t ≡ Some v →
           AtHand T R x x.regs first_scratch t v
@@ -128,7 +128,7 @@ module _ (T : Setting) (R : Running) (formed : IsWellFormed T.image) (inputs : A
         comes_computed T R lives x (length (load_from frame R.places dest place) + left) ends R.activation.here 0
         (load (x.meant.memory R.activation.here.comp) pointer q) (λ v s. leave Next (with_temp dest v temps) s)
         (λ v found.
-        (let live : Set = live_plain (place ∷ []) (Some dest) lives in
+        (let live : TempSet = live_plain (place ∷ []) (Some dest) lives in
         let h : AtHand T R x x.regs first_scratch place q =
         first_at_hand live temps x ready place q
         (live_read (place ∷ []) (Some dest) lives place (only_one place [])) need known in
@@ -221,7 +221,7 @@ module _ (T : Setting) (R : Running) (formed : IsWellFormed T.image) (inputs : A
         (λ v known'.
         comes_stored lives x (length (store_to frame R.places place value) + left) ends q v temps
         (λ after found.
-        (let live : Set = live_plain reads None lives in
+        (let live : TempSet = live_plain reads None lives in
         let h : Both live temps x ready place value q v =
         both_at_hand live temps x ready place value q v
         (live_read reads None lives place (only_one place (value ∷ []))) need known
@@ -348,7 +348,7 @@ module _ (T : Setting) (R : Running) (formed : IsWellFormed T.image) (inputs : A
           comes_read T R lives x (length (Whole None) + left) ends R.activation.here left_one temps
           (λ v s. gets R.activation.here dest (operated wrapping (s.memory comp) o v v) temps s)
           (λ v known.
-          (let live : Set = live_plain (left_one ∷ []) (Some dest) lives in
+          (let live : TempSet = live_plain (left_one ∷ []) (Some dest) lives in
           let h : AtHand T R x x.regs first_scratch left_one v =
           first_at_hand live temps x ready left_one v
           (live_read (left_one ∷ []) (Some dest) lives left_one (only_one left_one [])) need known in
@@ -401,7 +401,7 @@ module _ (T : Setting) (R : Running) (formed : IsWellFormed T.image) (inputs : A
           (λ w s. gets R.activation.here dest (operated wrapping (s.memory comp) o v w) temps s)
           (λ w known'.
           (let pair : List ℕ = left_one ∷ right_one ∷ [] in
-          let live : Set = live_plain pair (Some dest) lives in
+          let live : TempSet = live_plain pair (Some dest) lives in
           let h : Both live temps x ready left_one right_one v w =
           both_at_hand live temps x ready left_one right_one v w
           (live_read pair (Some dest) lives left_one (only_one left_one (right_one ∷ []))) need known

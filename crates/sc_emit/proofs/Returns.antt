@@ -2,7 +2,8 @@
 use Rattle.sc_emit.proofs.Common.{Activation, Addi, All, Bool, Calls, CodeAt, Computes, Does, Entry, Export, Follows}
 use Rattle.sc_emit.proofs.Common.{FrameTree, Goes, Instr, IsActivation, IsWellFormed, IsWord, Jalr, Joint, LeavesFrame}
 use Rattle.sc_emit.proofs.Common.{List, Lives, Main, None, OpImm, Option, Owned, Place, Ready, Registers, Return}
-use Rattle.sc_emit.proofs.Common.{Returns, ReturnsValue, Running, Set, Setting, Some, Standpoint, StandsFor, TacFnTree}
+use Rattle.sc_emit.proofs.Common.{Returns, ReturnsValue, Running, TempSet, Setting, Some, Standpoint, StandsFor}
+use Rattle.sc_emit.proofs.Common.{TacFnTree}
 use Rattle.sc_emit.proofs.Common.{Temps, Value, Walks, Word, [], a0, and_first, and_from, ap, append_assoc, arith, at}
 use Rattle.sc_emit.proofs.Common.{back_at, brought, closing, code_step, comes_read, epilogue, epilogue_to_jump, eq-eqb}
 use Rattle.sc_emit.proofs.Common.{in_row, inl, is_one, leads_less, leads_moved, leave, leaves_frame, length}
@@ -28,7 +29,7 @@ module _ (T : Setting) (R : Running) (formed : IsWellFormed T.image) (inputs : A
   abbrev frame : FrameTree
   frame = R.activation.frame
 
-  module _ (live : Set) (temps : Temps) (x : Joint) (ready : Ready T R live temps x) where
+  module _ (live : TempSet) (temps : Temps) (x : Joint) (ready : Ready T R live temps x) where
     -- code leaves the value in a0
     pub record Puts (code : List Instr) (v : Option Value) : Type 0 where
       pub after : Registers
@@ -137,7 +138,7 @@ module _ (T : Setting) (R : Running) (formed : IsWellFormed T.image) (inputs : A
   -- Returns.
 
   module _ (placed : ArePlaced R) (calls : Calls) where
-    puts : (t : ℕ) (v : Value) (live : Set) (temps : Temps) (x : Joint) (ready : Ready T R live temps x) →
+    puts : (t : ℕ) (v : Value) (live : TempSet) (temps : Temps) (x : Joint) (ready : Ready T R live temps x) →
         live t ≡ true → R.plan.needed t ≡ true → temps t ≡ Some v →
         Puts live temps x ready (brought frame a0 (place_of frame R.places t)) (Some v)
     puts t v live temps x ready on need known =
@@ -170,7 +171,7 @@ module _ (T : Setting) (R : Running) (formed : IsWellFormed T.image) (inputs : A
         inl (leaves_alone (λ t. is_one t (one_or_none None)) temps x ready (length (epilogue frame.bytes) + left)
         (omega arith) code)
     returns (Some t) needs lives temps x left ready code ends e f =
-        let live : Set = λ u. is_one u (one_or_none (Some t)) in
+        let live : TempSet = λ u. is_one u (one_or_none (Some t)) in
         let before : List Instr = brought frame a0 (place_of frame R.places t) in
         let budget : ℕ = length (before ++ epilogue frame.bytes) + left in
         comes_read T R lives x budget ends A.here t temps (λ v s. leave (Return (Some v)) temps s)

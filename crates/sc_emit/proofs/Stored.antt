@@ -1,7 +1,8 @@
 -- A variable that is assigned: one store, where only such stores read the temporary that gets its place.
 use Rattle.sc_emit.proofs.Common.{All, Arrives, Blocks, Bool, Calls, CodeAt, Codes, Follows, FrameTree, Goes, Instr}
 use Rattle.sc_emit.proofs.Common.{IsActivation, IsFromSp, IsWellFormed, IsWord, Joint, List, Lives, None, Ok, Ready}
-use Rattle.sc_emit.proofs.Common.{Running, Set, Setting, Some, StandsFor, State as Meant, Stores, Temps, Trail, Value}
+use Rattle.sc_emit.proofs.Common.{Running, TempSet, Setting, Some, StandsFor, State as Meant, Stores, Temps, Trail}
+use Rattle.sc_emit.proofs.Common.{Value}
 use Rattle.sc_emit.proofs.Common.{[], and_first, and_from, and_rest, and_then, ap, arith, code_step, comes_read, eq-eqb}
 use Rattle.sc_emit.proofs.Common.{false, if◌then◌else◌, in_row, is_one, length, live_at, live_plain, may_store, ne_eqb}
 use Rattle.sc_emit.proofs.Common.{not, object_offset, object_store, operand, or_left, read, refl, row, same_Some}
@@ -68,7 +69,7 @@ module _ (T : Setting) (R : Running) (formed : IsWellFormed T.image) (inputs : A
   }
 
   -- nobody misses the place in its temporary
-  without_place : (live : Set) (x : Joint) (budget left : ℕ) (temps : Temps) (s : Meant) (pc : ℕ) →
+  without_place : (live : TempSet) (x : Joint) (budget left : ℕ) (temps : Temps) (s : Meant) (pc : ℕ) →
       Arrives T R live x budget left temps s pc → Arrives T R live x budget left (set temps) s pc
   without_place live x budget left temps s pc g = record {
     y = g.y;
@@ -116,7 +117,7 @@ module _ (T : Setting) (R : Running) (formed : IsWellFormed T.image) (inputs : A
         (x.pc + 4 * length code)
     arrives lives temps x left v after all_ready known found at =
         let ready : Ready T R (live_plain (value ∷ []) None lives) temps x = fewer_ready lives temps x all_ready in
-        let live : Set = live_plain (value ∷ []) None lives in
+        let live : TempSet = live_plain (value ∷ []) None lives in
         let only : is_one value (value ∷ []) ≡ true = rw (eq-eqb value value refl) refl in
         let on : live value ≡ true = or_left (is_one value (value ∷ [])) _ only in
         let h : AtHand T R x x.regs second_scratch value v =

@@ -1,6 +1,7 @@
 -- The prologue of a function, and its epilogue.
 use Rattle.sc_emit_hart.proofs.Common.{CodeAt, Computes, FrameOverflows, ImageParts, Instr, LeavesFrame, List, Load, Lw}
-use Rattle.sc_emit_hart.proofs.Common.{Memory, Owned, Registers, Store, Stores, Sw, TakesFrame, World, [], add_word, ap}
+use Rattle.sc_emit_hart.proofs.Common.{ByteMemory, Owned, Registers, Store, Stores, Sw, TakesFrame, World, [], add_word}
+use Rattle.sc_emit_hart.proofs.Common.{ap}
 use Rattle.sc_emit_hart.proofs.Common.{arith, data_start, frame_taken, length, length-append, moved_by, pos, refl}
 use Rattle.sc_emit_hart.proofs.Common.{sub_word, word, word_of-lt, word_of-unsigned_sub, ℕ, ◌%◌, ◌*◌, ◌+◌, ◌<◌, ◌^◌}
 use Rattle.sc_emit_hart.proofs.Common.{◌∙◌, ◌∷◌, ◌≡◌}
@@ -13,7 +14,8 @@ lowered : (sp bytes bottom : ℕ) → bottom + bytes ≡ sp → sp < 2 ^ 32 → 
 lowered sp bytes bottom sum below =
     ap (add_word sp) (word_of-unsigned_sub 0 bytes (omega arith) (omega arith)) ∙ omega arith
 
-module _ (image : ImageParts) (inputs : List ℕ) (world : World) (memory : Memory) (regs : Registers) (bytes : ℕ) where
+module _ (image : ImageParts) (inputs : List ℕ) (world : World) (memory : ByteMemory) (regs : Registers) (bytes : ℕ)
+    where
   -- sp goes down
   goes_down : (bottom : ℕ) → bottom + bytes ≡ regs 2 → regs 2 < 2 ^ 32 →
       Computes image inputs world (moved_by 2 2 (sub_word 0 bytes)) (7 ∷ []) regs memory 2 bottom

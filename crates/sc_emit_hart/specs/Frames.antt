@@ -1,5 +1,6 @@
 -- Helping: what the prologue of a function does, and its epilogue.
-use Rattle.sc_emit_hart.specs.Common.{ImageParts, Instr, Memory, Traps, Walks, address_scratch, frame_taken, moved_by}
+use Rattle.sc_emit_hart.specs.Common.{ImageParts, Instr, ByteMemory, Traps, Walks, address_scratch, frame_taken}
+use Rattle.sc_emit_hart.specs.Common.{moved_by}
 use Rattle.sc_emit_hart.specs.Common.{ra, sp, step}
 use Rattle.sc_emit_hart.specs.Hart.{Registers, World, at}
 use Rattle.sc_emit_hart.specs.Words.{put_word, word}
@@ -13,7 +14,8 @@ use Rattle.sc_emit_hart.specs.Pieces.{Besides, Does}
 abbrev pub epilogue_to_jump : ℕ → List Instr
 epilogue_to_jump bytes = Load Lw ra sp (pos 0) ∷ moved_by sp sp bytes
 
-module _ (image : ImageParts) (inputs : List ℕ) (world : World) (bytes : ℕ) (regs : Registers) (memory : Memory) where
+module _ (image : ImageParts) (inputs : List ℕ) (world : World) (bytes : ℕ) (regs : Registers) (memory : ByteMemory)
+    where
   -- sp comes to the bottom of the frame, where ra is stored
   pub record TakesFrame (bottom : ℕ) : Type 0 where
     pub after : Registers

@@ -1,8 +1,8 @@
 -- A call of a function, from its first instruction to its jump back: what its code begins with, and what is left of it.
 use Rattle.sc_emit_relation.proofs.Common.{Activation, All, Begins, BlocksMatch, Cell, Effect, FrameFits, FrameMatches}
 use Rattle.sc_emit_relation.proofs.Common.{FrameTree, Function, IsActivation, IsFrame, IsLeft, IsWellFormed, IsWord}
-use Rattle.sc_emit_relation.proofs.Common.{Joint, Leads, List, LiveAt, Memory as Bytes, Option, Place, Placed, Plan}
-use Rattle.sc_emit_relation.proofs.Common.{Protected, Ready, Registers, Returns, Set, Setting, Settled, Some}
+use Rattle.sc_emit_relation.proofs.Common.{Joint, Leads, List, LiveAt, ByteMemory as Bytes, Option, Place, Placed, Plan}
+use Rattle.sc_emit_relation.proofs.Common.{Protected, Ready, Registers, Returns, TempSet, Setting, Settled, Some}
 use Rattle.sc_emit_relation.proofs.Common.{Standpoint, StandsFor, State as Meant, Value, Walks, a0, ap, arith, begun}
 use Rattle.sc_emit_relation.proofs.Common.{cases_eq, data_start, done, eq-eqb, false, inr, length, machine, ne_eqb}
 use Rattle.sc_emit_relation.proofs.Common.{no_temps, put, refl, same_Some, seen_from, slice_get, slice_get_within, sp}
@@ -166,7 +166,7 @@ module _ (T : Setting) (formed : IsWellFormed T.image) (inputs : All IsWord T.in
       }
 
       -- the code of the body begins with all that it takes
-      pub ready_entered : (plan : Plan) (last : ℕ) (live : Set) →
+      pub ready_entered : (plan : Plan) (last : ℕ) (live : TempSet) →
           Ready T (record { activation = A; places = places; plan = plan; last = last }) live no_temps y
       ready_entered plan last live = record {
         settled = settled_entered;

@@ -28,11 +28,12 @@ pub use Rattle.sc_core_laws.proofs.Growing.{done_goes, follow_goes, more, no_tur
 pub use Rattle.sc_core_laws.proofs.Growing.{turn_goes}
 pub use Rattle.sc_core_laws.specs.Prelude.{AllBefore, Goes, Grown, depth_after, last, stack_depth}
 pub use Rattle.rv_code.specs.declared.instr.Instr.{Instr}
-pub use Rattle.sc_store.specs.Prelude.{Memory}
+pub use Rattle.sc_store.specs.Prelude.{ByteMemory}
 pub use Rattle.sc_image.proofs.Memory.{few_globals}
 pub use Rattle.sc_image.specs.Prelude.{IsWellFormed, IsWord, Traps, Walks, data_start, stack_size, stack_top, step}
 pub use Rattle.sc_image.specs.Prelude.{word_at}
-pub use Rattle.sc_tac.specs.Prelude.{Codes, FrameFits, InSlot, IsClear, IsFrame, Lives, Point, Range, Set, Temps, Trail}
+pub use Rattle.sc_tac.specs.Prelude.{Codes, FrameFits, InSlot, IsClear, IsFrame, Lives, Point, Range, TempSet, Temps}
+pub use Rattle.sc_tac.specs.Prelude.{Trail}
 pub use Rattle.sc_tac.specs.Prelude.{ahead_at, end_of, in_body, in_head, in_next, is_comparison, is_one, is_pointer}
 pub use Rattle.sc_tac.specs.Prelude.{is_unsigned, known, live_across, live_at_start, live_before, loop_points, no_temps}
 pub use Rattle.sc_tac.specs.Prelude.{object_range, one_or_none, operated, part_ahead, plain_points, point, ranges_of}

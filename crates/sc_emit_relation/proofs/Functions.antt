@@ -1,13 +1,13 @@
 -- What comes of a call of a function, from what comes of its body; and of one whose frame goes below the stack.
 use Rattle.sc_emit_relation.proofs.Common.{All, Begins, Emits, FrameFits, FrameTree, Function, FunctionGives, Grown}
-use Rattle.sc_emit_relation.proofs.Common.{IsFrame, IsWellFormed, IsWord, Joint, List, Memory as Bytes, Option}
-use Rattle.sc_emit_relation.proofs.Common.{Overflows, Piece, Place, Plan, Reached, Registers, Returns, Running, Set}
+use Rattle.sc_emit_relation.proofs.Common.{IsFrame, IsWellFormed, IsWord, Joint, List, ByteMemory as Bytes, Option}
+use Rattle.sc_emit_relation.proofs.Common.{Overflows, Piece, Place, Plan, Reached, Registers, Returns, Running, TempSet}
 use Rattle.sc_emit_relation.proofs.Common.{Setting, Some, Standpoint, State as Meant, Stopped, Traps, Value, Walks}
 use Rattle.sc_emit_relation.proofs.Common.{and_then, ap, arith, begun, data_start, done, done_goes, inl, inr, last}
 use Rattle.sc_emit_relation.proofs.Common.{length, machine, more, reached, seen_from, slice_get, stack_depth}
 use Rattle.sc_emit_relation.proofs.Common.{stack_size, step, subst, sym, then_from, then_go, ℕ, ⊎_elim, ◌+◌, ◌<◌, ◌∙◌}
 use Rattle.sc_emit_relation.proofs.Common.{◌≡◌, ◌≤◌, ◌⊎◌}
-use Rattle.sc_image.specs.Prelude.{State}
+use Rattle.sc_image.specs.Prelude.{MachineState}
 use Rattle.sc_emit_hart.specs.Prelude.{LacksRoom, TakesLast}
 use Rattle.sc_base.specs.declared.stop.TrapReason.TheVariants.{Owner}
 use Rattle.sc_emit_relation.proofs.Ending.{timed_opened}
@@ -23,7 +23,8 @@ module _ (T : Setting) (formed : IsWellFormed T.image) (inputs : All IsWord T.in
   with_end piece = and_then piece (λ v t. Reached v (done P.comp f first t))
 
   -- The frame doesn't fit: the machine stands trapped in the prologue.
-  pub overflows_entering : (frame : FrameTree) (steps budget : ℕ) (stands : State) (piece : Piece (Option Value)) →
+  pub overflows_entering : (frame : FrameTree) (steps budget : ℕ) (stands : MachineState) (piece : Piece (Option Value))
+      →
       frame.bytes ≤ f.frame_size → P.bound < data_start P.comp + frame.bytes →
       Walks T.image T.inputs steps (machine P x) stands → step T.image T.inputs stands ≡ Traps Owner →
       (lacks : LacksRoom T.image stands) → TakesLast T.image lacks.bytes stands →

@@ -1,6 +1,7 @@
 -- Jumps inside the code of a function: over lines, and back.
 use Rattle.sc_emit_relation.proofs.Common.{All, Arrives, Break, Continue, Fetches, Follows, IsInside, IsSome}
-use Rattle.sc_emit_relation.proofs.Common.{IsWellFormed, IsWord, Jal, Joint, Leads, Ready, Running, Set, Setting, Some}
+use Rattle.sc_emit_relation.proofs.Common.{IsWellFormed, IsWord, Jal, Joint, Leads, Ready, Running, TempSet, Setting}
+use Rattle.sc_emit_relation.proofs.Common.{Some}
 use Rattle.sc_emit_relation.proofs.Common.{Standpoint, Temps, add_word, ap, arith, breaking, code_inside, continuing}
 use Rattle.sc_emit_relation.proofs.Common.{inl, is_some, jal, leave, machine, neg_ℤ, pos, refl, seen_from, stays, suc}
 use Rattle.sc_emit_relation.proofs.Common.{trail_step, walks_steady, word_at, word_of, zero, ℕ, ℤ, ◌%◌, ◌*◌, ◌+◌, ◌-◌}
@@ -57,7 +58,7 @@ module _ (T : Setting) (R : Running) (formed : IsWellFormed T.image) (words : Al
     comp = R.activation.here.comp
 
     -- where a state is that differs in its pc and in registers that nothing looks at
-    pub ready_at : (live : Set) (temps : Temps) (x : Joint) (pc budget left : ℕ) →
+    pub ready_at : (live : TempSet) (temps : Temps) (x : Joint) (pc budget left : ℕ) →
         Leads T P x (record x { pc = pc }) budget left → Ready T R live temps x → Ready T R live temps (record x {
           pc
               = pc;
@@ -82,7 +83,7 @@ module _ (T : Setting) (R : Running) (formed : IsWellFormed T.image) (words : Al
     }
 
     -- a jump over `lines` lines arrives after them
-    pub over : (live : Set) (temps : Temps) (x : Joint) (lines left : ℕ) → Ready T R live temps x →
+    pub over : (live : TempSet) (temps : Temps) (x : Joint) (lines left : ℕ) → Ready T R live temps x →
         Fetches T.image comp x.pc (Jal 0 (pos (4 * suc lines))) → x.pc + 4 * suc lines ≤ R.last →
         Arrives T R live x (suc left) left temps x.meant (x.pc + 4 * suc lines)
     over live temps x lines left ready code fits =

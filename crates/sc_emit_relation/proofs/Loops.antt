@@ -1,7 +1,7 @@
 -- Loops.
 use Rattle.sc_emit_relation.proofs.Common.{All, Arrives, Break, Codes, Comes, Continue, Ends, Exit, ExitGives, Fetches}
 use Rattle.sc_emit_relation.proofs.Common.{Follows, Gives, IsClear, IsWellFormed, IsWord, Jal, Joint, Leads, Left, Line}
-use Rattle.sc_emit_relation.proofs.Common.{List, Lives, Next, None, Piece, Reached, Ready, Return, Running, Set}
+use Rattle.sc_emit_relation.proofs.Common.{List, Lives, Next, None, Piece, Reached, Ready, Return, Running, TempSet}
 use Rattle.sc_emit_relation.proofs.Common.{Setting, Settled, Standpoint, StandsAt, Starts, Stopped, Temps, Trail, Walks}
 use Rattle.sc_emit_relation.proofs.Common.{[], add_word, ap, arith, code_inside, cycle, ends_of, follow, in_body}
 use Rattle.sc_emit_relation.proofs.Common.{in_head, in_loop, inl, is_some, jump_back, length, length-append}
@@ -82,7 +82,7 @@ module _ (T : Setting) (R : Running) (formed : IsWellFormed T.image) (words : Al
       abbrev W : ℕ
       W = T.turn_pays
 
-      abbrev begin : Set
+      abbrev begin : TempSet
       begin = live_at_start hs bs ns lives
 
       abbrev ends : Ends

@@ -1,6 +1,6 @@
 -- A call begins: its blocks, their places in its frame, and how the bytes stand for all blocks then.
 use Rattle.sc_emit_relation.proofs.Common.{Block, BlocksMatch, Bool, Cell, FrameFits, FrameTree, Guarded, ImageParts}
-use Rattle.sc_emit_relation.proofs.Common.{InCell, Injection, IsFrame, IsWellFormed, List, LiveAt, Memory as Bytes}
+use Rattle.sc_emit_relation.proofs.Common.{InCell, Injection, IsFrame, IsWellFormed, List, LiveAt, ByteMemory as Bytes}
 use Rattle.sc_emit_relation.proofs.Common.{None, Option, Owned, Place, Placed, Some, StandsFor, Value, [], all_at, ap}
 use Rattle.sc_emit_relation.proofs.Common.{arith, blocks_for, cases_eq, cases_lt, cases_order, cell_of, data_start}
 use Rattle.sc_emit_relation.proofs.Common.{eq-eqb, false, few_globals, get_prefix, if◌then◌else◌, inl, inr, le-leb}

@@ -1,7 +1,7 @@
 -- The word that an operator's code computes stands for the operator's value.
 use Rattle.sc_emit_relation.proofs.Common.{BadPointer, BadType, BlocksMatch, Bool, Cause, Cell, Err, ImageParts}
 use Rattle.sc_emit_relation.proofs.Common.{Injection, IsAddress, IsElement, IsSound, IsWellFormed, List, LiveAt, Means}
-use Rattle.sc_emit_relation.proofs.Common.{Memory as Bytes, Null, Ok, Option, Pointer, Ptr, Result, Some, StandsFor}
+use Rattle.sc_emit_relation.proofs.Common.{ByteMemory as Bytes, Null, Ok, Option, Pointer, Ptr, Result, Some, StandsFor}
 use Rattle.sc_emit_relation.proofs.Common.{Value, Word, add_word, ap, apart, applied_one, ap₂, arith, between, bind}
 use Rattle.sc_emit_relation.proofs.Common.{bytes_of, data_end, div_word, eq-eqb, eqb-true, false, few_globals}
 use Rattle.sc_emit_relation.proofs.Common.{if◌then◌else◌, in_elements, int_div, int_rem, is_comparison, is_inside}

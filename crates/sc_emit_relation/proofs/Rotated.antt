@@ -2,7 +2,8 @@
 use Rattle.sc_emit_relation.proofs.Common.{All, Arrives, Bool, Break, CodeAt, Codes, Comes, Continue, Emits, Ends, Exit}
 use Rattle.sc_emit_relation.proofs.Common.{Fetches, Follows, Goes, Instr, IsClear, IsWellFormed, IsWord, Jal, Joint}
 use Rattle.sc_emit_relation.proofs.Common.{Left, Line, List, Lives, Next, None, Overflows, Piece, Reached, Ready}
-use Rattle.sc_emit_relation.proofs.Common.{Return, Returns, Running, Set, Setting, Settled, Some, Standpoint, StandsAt}
+use Rattle.sc_emit_relation.proofs.Common.{Return, Returns, Running, TempSet, Setting, Settled, Some, Standpoint}
+use Rattle.sc_emit_relation.proofs.Common.{StandsAt}
 use Rattle.sc_emit_relation.proofs.Common.{State as Meant, Stopped, Temps, Trail, [], ap, arith, branch_back}
 use Rattle.sc_emit_relation.proofs.Common.{branch_reach, code_inside, completed, ends_of, false, first_scratch, follow}
 use Rattle.sc_emit_relation.proofs.Common.{in_body, in_head, in_loop, inl, is_some, length, length-append, length-map}
@@ -129,7 +130,7 @@ module _ (T : Setting) (R : Running) (formed : IsWellFormed T.image) (words : Al
   module _ (pays : whole.size ≤ T.turn_pays) (lives : Lives) (L left to_break to_continue : ℕ) (code : Parts L)
       (clear : All (IsClear R.places) (loop_points hs bs ns lives)) (breaks : L + 4 * (whole.size + to_break) ≤ R.last)
     where
-      abbrev begin : Set
+      abbrev begin : TempSet
       begin = live_at_start hs bs ns lives
 
       abbrev ends : Ends

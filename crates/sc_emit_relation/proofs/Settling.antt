@@ -1,7 +1,8 @@
 -- Both sides stay settled while code of the running call changes registers and words of its frame, and across a store
 -- through a pointer; and what such a stretch leaves unchanged.
 use Rattle.sc_emit_relation.proofs.Common.{Activation, All, Apart, Blocks, FrameMatches, IsActivation, IsWellFormed}
-use Rattle.sc_emit_relation.proofs.Common.{IsWord, Joint, Leads, List, Memory as Bytes, Ok, Place, Pointer, Protected}
+use Rattle.sc_emit_relation.proofs.Common.{IsWord, Joint, Leads, List, ByteMemory as Bytes, Ok, Place, Pointer}
+use Rattle.sc_emit_relation.proofs.Common.{Protected}
 use Rattle.sc_emit_relation.proofs.Common.{Ptr, Registers, Setting, Settled, Some, Standpoint, StandsFor, Value, Walks}
 use Rattle.sc_emit_relation.proofs.Common.{arith, cases_eq, false, inr, machine, own_words, put_word, refl, seen_from}
 use Rattle.sc_emit_relation.proofs.Common.{slice_get, store, walks_steady, with_memory, word, word_apart, ℕ, ⊎_elim}

@@ -1,6 +1,6 @@
 -- Blocks and guarded words across stores: at a guarded word, and through a pointer to a live cell.
 use Rattle.sc_emit_relation.proofs.Common.{Apart, Beside, Block, Blocks, BlocksMatch, Bool, Cell, Guarded, ImageParts}
-use Rattle.sc_emit_relation.proofs.Common.{InCell, Injection, IsWellFormed, List, LiveAt, Memory as Bytes, Null, Ok}
+use Rattle.sc_emit_relation.proofs.Common.{InCell, Injection, IsWellFormed, List, LiveAt, ByteMemory as Bytes, Null, Ok}
 use Rattle.sc_emit_relation.proofs.Common.{Option, Owned, Placed, Pointer, Ptr, Some, StandsFor, Value, Word, ap}
 use Rattle.sc_emit_relation.proofs.Common.{apart_from, arith, cases_eq, cases_order, cell_of, eq-eqb, false}
 use Rattle.sc_emit_relation.proofs.Common.{few_globals, inl, inr, length, length-set, load, ne_eqb, put_word, refl}

@@ -1,9 +1,9 @@
 -- Straight code of the running call: it moves on, it assigns a temporary, it stores through a pointer, it has called.
 use Rattle.sc_emit_relation.proofs.Common.{Activation, All, Arrives, Blocks, Bool, Effect, Emits, FrameMatches, Guarded}
 use Rattle.sc_emit_relation.proofs.Common.{InPlace, IsActivation, IsClear, IsWellFormed, IsWord, Joint, Leads, List}
-use Rattle.sc_emit_relation.proofs.Common.{Lives, Memory as Bytes, None, Null, Ok, Option, Overflows, Owned, Piece}
+use Rattle.sc_emit_relation.proofs.Common.{Lives, ByteMemory as Bytes, None, Null, Ok, Option, Overflows, Owned, Piece}
 use Rattle.sc_emit_relation.proofs.Common.{Place, Point, Pointer, Protected, Ptr, Ready, Register, Registers, Running}
-use Rattle.sc_emit_relation.proofs.Common.{Set, Setting, Settled, Slot, Some, Standpoint, StandsFor, State as Meant}
+use Rattle.sc_emit_relation.proofs.Common.{TempSet, Setting, Settled, Slot, Some, Standpoint, StandsFor, State as Meant}
 use Rattle.sc_emit_relation.proofs.Common.{Temps, Value, Walks, Word, ahead_at, all_at, and_first, and_from, and_rest}
 use Rattle.sc_emit_relation.proofs.Common.{arith, false, is_one, live_across, load, machine, ne_eqb, not, one_or_none}
 use Rattle.sc_emit_relation.proofs.Common.{or_right, own_words, plain_points, put_word, refl, register_of, seen_from}
@@ -26,7 +26,7 @@ not_one t d n = rw (ne_eqb d t (λ e. n (sym e))) refl
 
 module _ (reads : List ℕ) (assigned : Option ℕ) (lives : Lives) where
   -- what is live before a statement without others inside
-  abbrev pub live_plain : Set
+  abbrev pub live_plain : TempSet
   live_plain t = (plain t reads assigned).first (ahead_at lives t)
 
   -- what is live after it and isn't assigned
@@ -75,7 +75,7 @@ module _ (T : Setting) (R : Running) where
   module _ (formed : IsWellFormed T.image) (inputs : All IsWord T.inputs) (cells : List ℕ) (nodes : ℕ)
       (is : IsActivation T.performs cells R.places nodes R.activation) where
     -- the value goes into a slot, by way of registers with another use
-    pub assigns_slot : (live : Set) (temps : Temps) (x : Joint) (k offset w : ℕ) (v : Value) (regs : Registers) →
+    pub assigns_slot : (live : TempSet) (temps : Temps) (x : Joint) (k offset w : ℕ) (v : Value) (regs : Registers) →
         Ready T R live temps x → slice_get A.frame.slots k ≡ Some offset → regs sp ≡ x.regs sp →
         StandsFor (x.inj A.here.comp) w v → ((q : ℕ) → HasNoOtherUse q → regs q ≡ x.regs q) →
         Assigns x (Slot k) v regs (put_word x.bytes (A.sp + offset) w)
@@ -94,11 +94,11 @@ module _ (T : Setting) (R : Running) where
     }
 
     -- registers with another use change, and control moves on
-    pub record MovesOn (live : Set) (temps : Temps) (x : Joint) (n left pc : ℕ) (regs : Registers) : Type 0 where
+    pub record MovesOn (live : TempSet) (temps : Temps) (x : Joint) (n left pc : ℕ) (regs : Registers) : Type 0 where
       pub leads : Leads T P x (moved x pc regs x.bytes) (n + left) left
       pub ready : Ready T R live temps (moved x pc regs x.bytes)
 
-    pub moves_on : (live : Set) (temps : Temps) (x : Joint) (n left pc : ℕ) (regs : Registers) →
+    pub moves_on : (live : TempSet) (temps : Temps) (x : Joint) (n left pc : ℕ) (regs : Registers) →
         Ready T R live temps x → regs sp ≡ x.regs sp → ((q : ℕ) → HasNoOtherUse q → regs q ≡ x.regs q) →
         Walks T.image T.inputs n (machine P x) (machine P (moved x pc regs x.bytes)) →
         MovesOn live temps x n left pc regs
@@ -116,7 +116,7 @@ module _ (T : Setting) (R : Running) where
     }
 
     -- a temporary is assigned at a clear point
-    pub assigned_at : (live : Set) (point : Point) (temps : Temps) (x : Joint) (n left d pc : ℕ) (place : Place)
+    pub assigned_at : (live : TempSet) (point : Point) (temps : Temps) (x : Joint) (n left d pc : ℕ) (place : Place)
         (v : Value) (regs : Registers) (later : Bytes) →
         Ready T R live temps x → IsClear R.places point → point.assigned ≡ Some d → slice_get R.places d ≡ Some place →
         ((t : ℕ) → point.live t ≡ true → t ≢ d → live t ≡ true) → Assigns x place v regs later →
@@ -200,7 +200,7 @@ module _ (T : Setting) (R : Running) where
       pub owned : Owned T.image A.here.comp w
       pub stands : StandsFor (x.inj A.here.comp) (word x.bytes w) v
 
-    pub loads : (live : Set) (temps : Temps) (x : Joint) (w : ℕ) (pointer : Bool) (q v : Value) →
+    pub loads : (live : TempSet) (temps : Temps) (x : Joint) (w : ℕ) (pointer : Bool) (q v : Value) →
         Ready T R live temps x → StandsFor (x.inj A.here.comp) w q →
         load (x.meant.memory A.here.comp) pointer q ≡ Ok v →
         IsLoaded x w v
@@ -214,7 +214,7 @@ module _ (T : Setting) (R : Running) where
         pointer p v is.honest h m.1 in
         subst (λ w. IsLoaded x w v) (sym m.2) (record { owned = r.owned; stands = r.stands })
 
-    pub may_store : (live : Set) (temps : Temps) (x : Joint) (w : ℕ) (q v : Value) (after : Blocks) →
+    pub may_store : (live : TempSet) (temps : Temps) (x : Joint) (w : ℕ) (q v : Value) (after : Blocks) →
         Ready T R live temps x → StandsFor (x.inj A.here.comp) w q → store (x.meant.memory A.here.comp) q v ≡ Ok after →
         Owned T.image A.here.comp w
     may_store live temps x w (Word n) v after ready stands h = cc h
@@ -348,7 +348,7 @@ module _ (T : Setting) (R : Running) where
           (frame.objects object offset e);
     }
 
-    pub over_call : (live : Set) (point : Point) (temps : Temps) → Ready T R live temps x → IsClear R.places point →
+    pub over_call : (live : TempSet) (point : Point) (temps : Temps) → Ready T R live temps x → IsClear R.places point →
         point.calls ≡ true → ((t : ℕ) → point.live t ≡ true → live t ≡ true) → Settled T call_from y →
         y.regs sp ≡ x.regs sp → Ready T R point.live temps y
     over_call live point temps ready clear calls fewer settled same = record {
@@ -373,7 +373,7 @@ module _ (T : Setting) (R : Running) where
         (across_live reads dest lives) settled same
 
     -- after an environment call that leaves registers with no other use as they were, all is as it was
-    pub asked : (live : Set) (temps : Temps) → Ready T R live temps x → Settled T call_from y →
+    pub asked : (live : TempSet) (temps : Temps) → Ready T R live temps x → Settled T call_from y →
         y.regs sp ≡ x.regs sp → ((q : ℕ) → HasNoOtherUse q → y.regs q ≡ x.regs q) → Ready T R live temps y
     asked live temps ready settled same others = record {
       settled = settled_from y settled;

@@ -2,7 +2,7 @@
 use Rattle.sc_emit_relation.proofs.Common.{Arrives, Beside, Break, Comes, Continue, Costs, Effect, Emits, Ends, Exit}
 use Rattle.sc_emit_relation.proofs.Common.{ExitGives, Gives, Goes, Grown, Joint, Leads, Left, Lives, Next, Option}
 use Rattle.sc_emit_relation.proofs.Common.{Overflows, Piece, Protected, Reached, Registers, Return, Returns, Running}
-use Rattle.sc_emit_relation.proofs.Common.{Set, Setting, Settled, Standpoint, State as Meant, Stopped, Temps, Value}
+use Rattle.sc_emit_relation.proofs.Common.{TempSet, Setting, Settled, Standpoint, State as Meant, Stopped, Temps, Value}
 use Rattle.sc_emit_relation.proofs.Common.{and_then, arith, inl, inr, last, length, machine, more, refl, same_Some}
 use Rattle.sc_emit_relation.proofs.Common.{seen_from, stay, subst, sym, then_from, then_go, ℕ, ⊎_elim, ◌+◌, ◌∙◌, ◌≡◌}
 use Rattle.sc_emit_relation.proofs.Common.{◌≤◌}
@@ -164,7 +164,7 @@ module _ (T : Setting) (R : Running) where
   abbrev P : Standpoint
   P = seen_from R.activation
 
-  arrives_after : (live : Set) (x y : Joint) (a b left : ℕ) (temps : Temps) (s : Meant) (pc : ℕ) → Settled T P x →
+  arrives_after : (live : TempSet) (x y : Joint) (a b left : ℕ) (temps : Temps) (s : Meant) (pc : ℕ) → Settled T P x →
       Leads T P x y a b → Arrives T R live y b left temps s pc → Arrives T R live x a left temps s pc
   arrives_after live x y a b left temps s pc settled l g = record {
     y = g.y;
@@ -212,7 +212,7 @@ module _ (T : Setting) (R : Running) where
       (λ o. inr (overflows_after T P x y a b piece leads o)) g
 
   -- an arrival with other numbers
-  pub arrives_with : (live : Set) (x : Joint) (a c left less : ℕ) (temps : Temps) (s : Meant) (pc to : ℕ) → a ≤ c →
+  pub arrives_with : (live : TempSet) (x : Joint) (a c left less : ℕ) (temps : Temps) (s : Meant) (pc to : ℕ) → a ≤ c →
       less ≤ left → pc ≡ to → Arrives T R live x a left temps s pc → Arrives T R live x c less temps s to
   arrives_with live x a c left less temps s pc to h k same g = record {
     y = g.y;

@@ -1,7 +1,7 @@
 -- How the bytes of the machine stand for the blocks of a meaning, for every compartment outside a set of those that
 -- perform.
 use Rattle.sc_emit_relation.specs.Common.{Cell, ImageParts, Memory, Owned, Value, data_end, data_start, word}
-use Rattle.sc_store.specs.Prelude.{Memory as Bytes}
+use Rattle.sc_store.specs.Prelude.{ByteMemory as Bytes}
 use Rattle.std.specs.Prelude.{◌≡◌, ◌≢◌, ℕ, ◌+◌, ◌*◌, ◌%◌, ◌^◌, ◌<◌, ◌≤◌, ◌⊎◌, Bool, true, false, List, length, Option}
 use Rattle.std.specs.Prelude.{Some, slice_get}
 use Rattle.sc_core.specs.declared.value.Cell.TheVariants as cell

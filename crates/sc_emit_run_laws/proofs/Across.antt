@@ -5,11 +5,12 @@ use Rattle.sc_emit_run_laws.proofs.Common.{Option, Protected, Proto, Ret, Return
 use Rattle.sc_emit_run_laws.proofs.Common.{Standpoint, Value, Walks, [], a0, ap, arguments, arith, called_other}
 use Rattle.sc_emit_run_laws.proofs.Common.{came_by, cases_eq, cleared_for_call, emit_event, false, gate}
 use Rattle.sc_emit_run_laws.proofs.Common.{get_or-set_other, get_or-set_same, has_result, if◌then◌else◌, is_some}
-use Rattle.sc_emit_run_laws.proofs.Common.{is_word, length, list_all, listed, machine, map, option_value, params_of, ra}
-use Rattle.sc_emit_run_laws.proofs.Common.{refl, returned_to, slice_index, slice_set, sp, subst, suc, sym, then_go}
+use Rattle.sc_emit_run_laws.proofs.Common.{is_word, length, list_all, listed, machine, map, option_value, export_params}
+use Rattle.sc_emit_run_laws.proofs.Common.{ra}
+use Rattle.sc_emit_run_laws.proofs.Common.{refl, on_return_to, slice_index, slice_set, sp, subst, suc, sym, then_go}
 use Rattle.sc_emit_run_laws.proofs.Common.{true, walks_steady, word_back, word_in, written, ℕ, ⊎_elim, ◌++◌, ◌+◌, ◌<◌}
 use Rattle.sc_emit_run_laws.proofs.Common.{◌∙◌, ◌∷◌, ◌≡◌, ◌≢◌, ◌≤◌}
-use Rattle.sc_image.specs.Prelude.{State, called, may_call}
+use Rattle.sc_image.specs.Prelude.{MachineState, on_call, may_call_export}
 use Rattle.sc_emit_run_laws.proofs.Crossing.{arguments_are, called_listed, called_regs, given_back as given_value}
 use Rattle.sc_emit_run_laws.proofs.Crossing.{given_is, returned_listed, returned_regs, returned_sp}
 use Rattle.sc_emit_run_laws.proofs.Turning.{GoesIn, before_timed, costs_back, turned}
@@ -47,10 +48,10 @@ module _ (T : Setting) (formed : IsWellFormed T.image) (inputs : All IsWord T.in
   }
 
   -- what the machine does at a call, on both sides
-  module _ (turns entry : ℕ) (takes : params_of T.image to index ≡ params) (few_args : params ≤ 8)
+  module _ (turns entry : ℕ) (takes : export_params T.image to index ≡ params) (few_args : params ≤ 8)
       (all : list_all is_word args ≡ true) (passed : ArePassed (x.inj P.comp) x.regs args) where
     -- with these registers, and these words in the event
-    abbrev built : List ℕ → List ℕ → State
+    abbrev built : List ℕ → List ℕ → MachineState
     built regs timed = record {
       regs = regs;
       pc = entry;
@@ -63,7 +64,7 @@ module _ (T : Setting) (formed : IsWellFormed T.image) (inputs : All IsWord T.in
     }
 
     pub walks_called :
-        Walks T.image T.inputs 1 (machine P x) (called (machine P x) to index (params_of T.image to index) entry) →
+        Walks T.image T.inputs 1 (machine P x) (on_call (machine P x) to index (export_params T.image to index) entry) →
         Walks T.image T.inputs 1 (machine P x) (machine Q (across turns entry))
     walks_called goes =
         let low : ℕ = slice_index x.saved to in
@@ -78,9 +79,9 @@ module _ (T : Setting) (formed : IsWellFormed T.image) (inputs : All IsWord T.in
   -- the call is made: its step, and what is so before it
   pub record IsMade (turns entry : ℕ) : Type 0 where
     pub goes :
-        Walks T.image T.inputs 1 (machine P x) (called (machine P x) to index (params_of T.image to index) entry)
-    pub may : may_call T.image P.comp to index ≡ true
-    pub takes : params_of T.image to index ≡ length args
+        Walks T.image T.inputs 1 (machine P x) (on_call (machine P x) to index (export_params T.image to index) entry)
+    pub may : may_call_export T.image P.comp to index ≡ true
+    pub takes : export_params T.image to index ≡ length args
     pub few_args : length args ≤ 8
     pub all : list_all is_word args ≡ true
     pub passed : ArePassed (x.inj P.comp) x.regs args
@@ -159,7 +160,7 @@ module _ (T : Setting) (formed : IsWellFormed T.image) (inputs : All IsWord T.in
         pub same : option_value (word_back proto.result v) ≡ v
         pub leaves :
             Walks T.image T.inputs 1 (machine Q w)
-            (returned_to (has_result T.image to (Export index)) (machine Q w)
+            (on_return_to (has_result T.image to (Export index)) (machine Q w)
             opened P.cross)
 
       module _ (budget : ℕ) (paid : AllHonest T → budget < T.turn_pays) (proto : Proto) (w : Joint) (v : Option Value)
@@ -179,7 +180,7 @@ module _ (T : Setting) (formed : IsWellFormed T.image) (inputs : All IsWord T.in
         }
 
         -- with these registers, and this in the event
-        abbrev built_back : List ℕ → Option ℕ → State
+        abbrev built_back : List ℕ → Option ℕ → MachineState
         built_back regs timed = record {
           regs = regs;
           pc = x.pc + 4;
@@ -200,7 +201,7 @@ module _ (T : Setting) (formed : IsWellFormed T.image) (inputs : All IsWord T.in
             (built_back list (if result then Some (w.regs a0) else None)))
             (returned_listed result (x.regs sp) w.regs)
             (subst (λ result. Walks T.image T.inputs 1 (machine Q w)
-            (returned_to result (machine Q w) opened P.cross)) g.result_is
+            (on_return_to result (machine Q w) opened P.cross)) g.result_is
             g.leaves))
 
         saved_back : (k : ℕ) → k ≢ P.comp → T.performs k ≡ false →

@@ -16,7 +16,7 @@ use Rattle.sc_emit_run_laws.proofs.Common.{ran, read_listed, refl, reg, run_in, 
 use Rattle.sc_emit_run_laws.proofs.Common.{slice_index, sp, steps_emit, subst, suc, sym, takes, then_go, then_then}
 use Rattle.sc_emit_run_laws.proofs.Common.{true, word_at, word_back, word_in, wrapping, ℕ, ⊎_elim, ◌<◌, ◌==◌, ◌||◌, ◌∙◌}
 use Rattle.sc_emit_run_laws.proofs.Common.{◌≡◌, ◌≢◌, ◌≤◌, ◌⊎◌}
-use Rattle.sc_image.specs.Prelude.{export_at as image_export}
+use Rattle.sc_image.specs.Prelude.{entered_export as image_export}
 use Rattle.sc_emit_run_laws.proofs.Across.{IsDone, IsMade, across, comes_back, goes_across, low_is, opened, seen_across}
 use Rattle.sc_emit_run_laws.proofs.Across.{settled_in, walks_in}
 use Rattle.sc_emit_run_laws.proofs.Placing.{word_there}

@@ -3,23 +3,23 @@
 use Rattle.sc_emit_run_laws.proofs.Common.{Addresses, All, AllHonest, AreFloors, BodiesFollow, Bool, Call, ComesBack}
 use Rattle.sc_emit_run_laws.proofs.Common.{Cross, Crossing, Denotations, Emits, End, Event, GivesResults, Goes as Steps}
 use Rattle.sc_emit_run_laws.proofs.Common.{HasEmitted, Here, ImageParts, In, IsFunction, IsLinked, IsPrefix, IsProgram}
-use Rattle.sc_emit_run_laws.proofs.Common.{IsSteady, IsWord, Joint, Leads, List, None, Option, Out, Overflows}
+use Rattle.sc_emit_run_laws.proofs.Common.{IsSteadyState, IsWord, Joint, Leads, List, None, Option, Out, Overflows}
 use Rattle.sc_emit_run_laws.proofs.Common.{PerformersDo, Piece, Reached, Ret, Roles, Setting, Settled, Some, Standpoint}
 use Rattle.sc_emit_run_laws.proofs.Common.{State as Meant, Stopped, TacFnTree, TacTree, Traps, UnknownComes}
 use Rattle.sc_emit_run_laws.proofs.Common.{UnknownGives, Value, Walks, Word, [], a0, allowed_at, and_then, ap}
 use Rattle.sc_emit_run_laws.proofs.Common.{append-nil, append_assoc, ap₂, arguments, arith, at_start, bodies}
 use Rattle.sc_emit_run_laws.proofs.Common.{call_cross, came_by, cases_lt, code_denotations, departing, drop, drop_next}
 use Rattle.sc_emit_run_laws.proofs.Common.{emit_event, emits_after, emits_here, entered_by, false, functions_in}
-use Rattle.sc_emit_run_laws.proofs.Common.{given_back, has_result, if◌then◌else◌, inl, input, input_at, inr}
+use Rattle.sc_emit_run_laws.proofs.Common.{given_back, has_result, if◌then◌else◌, inl, on_input, input_at, inr}
 use Rattle.sc_emit_run_laws.proofs.Common.{leads_moved, leads_then, legal, length, listed, machine, nat_lt, next_input}
-use Rattle.sc_emit_run_laws.proofs.Common.{not, option_value, output, overflows_after, overflows_then, params_of}
-use Rattle.sc_emit_run_laws.proofs.Common.{read_input, read_listed, refl, reg, returned, roles_in, setting}
+use Rattle.sc_emit_run_laws.proofs.Common.{not, option_value, on_output, overflows_after, overflows_then, export_params}
+use Rattle.sc_emit_run_laws.proofs.Common.{read_input, read_listed, refl, reg, on_return, roles_in, setting}
 use Rattle.sc_emit_run_laws.proofs.Common.{settled_moved, slice_get, slice_index, stands_after_all, start, step, subst}
 use Rattle.sc_emit_run_laws.proofs.Common.{suc, sym, true, turn, walk_one, walks_steady, with_pc, word, wrapping}
 use Rattle.sc_emit_run_laws.proofs.Common.{written, zero, ℕ, ◌*◌, ◌++◌, ◌+◌, ◌-◌, ◌<◌, ◌||◌, ◌∙◌, ◌∷◌, ◌≡◌, ◌≢◌, ◌≤◌}
 use Rattle.sc_emit_run_laws.proofs.Common.{◌⊎◌}
-use Rattle.sc_store.specs.Prelude.{Memory as Bytes}
-use Rattle.sc_image.specs.Prelude.{State, called, export_at as image_export, may_call as may_make}
+use Rattle.sc_store.specs.Prelude.{ByteMemory as Bytes}
+use Rattle.sc_image.specs.Prelude.{MachineState, on_call, entered_export as image_export, may_call_export as may_make}
 use Rattle.sc_emit_relation.proofs.Storing.{block_owned}
 use Rattle.sc_emit_run_laws.proofs.Along.{walk_prefix}
 use Rattle.sc_emit_run_laws.proofs.Answering.{bodies_go}
@@ -76,7 +76,7 @@ module _ (T : Setting) (never : AllHonest T → ⊥) (P : Standpoint) where
     costs = record { least = o.costs.least; most = λ all. absurd (never all) };
   }
 
-same_state : (s u : State) → Steps s ≡ Steps u → s ≡ u
+same_state : (s u : MachineState) → Steps s ≡ Steps u → s ≡ u
 same_state s u is = cc is
 
 module _ (program : TacTree) (image : ImageParts) (inputs : List ℕ) (set : ℕ → Bool) (t : List Event) (turn_pays : ℕ)
@@ -139,10 +139,10 @@ module _ (program : TacTree) (image : ImageParts) (inputs : List ℕ) (set : ℕ
       abbrev moved : Joint
       moved = record x { pc = pc; regs = λ r. slice_index regs r; bytes = after }
 
-      abbrev next : State
+      abbrev next : MachineState
       next = record (machine P x) { regs = regs; pc = pc; memory = after }
 
-      next_steady : IsSteady image next
+      next_steady : IsSteadyState image next
       next_steady =
           walks_steady image inputs linked.formed words 1 (machine P x) next
           (walk_one image inputs (machine P x) next goes) settled.steady
@@ -171,7 +171,7 @@ module _ (program : TacTree) (image : ImageParts) (inputs : List ℕ) (set : ℕ
           (λ k q p. keeps.word_is k q (other_than k p.honest) p.guard.owned) walks_moved)
 
     -- A STEP THAT EMITS AN EVENT
-    module _ (x : Joint) (settled : Settled T P x) (m : ℕ) (next : State) (event : Event)
+    module _ (x : Joint) (settled : Settled T P x) (m : ℕ) (next : MachineState) (event : Event)
         (goes : step image inputs (machine P x) ≡ Steps next) (emits_trace : next.trace ≡ x.meant.trace ++ event ∷ [])
         (rest : Walks image inputs m next observed.last) where
       prefix : IsPrefix next.trace observed.last.trace
@@ -208,7 +208,7 @@ module _ (program : TacTree) (image : ImageParts) (inputs : List ℕ) (set : ℕ
 
     -- AN OUTPUT
     module _ (x : Joint) (settled : Settled T P x) (goes : step image inputs (machine P x) ≡
-        Steps (with_pc (output (machine P x)) (x.pc + 4))) where
+        Steps (with_pc (on_output (machine P x)) (x.pc + 4))) where
       abbrev emitted_word : ℕ
       emitted_word = reg (machine P x) a0
 
@@ -245,7 +245,7 @@ module _ (program : TacTree) (image : ImageParts) (inputs : List ℕ) (set : ℕ
 
     -- AN INPUT
     module _ (x : Joint) (settled : Settled T P x) (goes : step image inputs (machine P x) ≡
-        Steps (with_pc (input inputs (machine P x)) (x.pc + 4))) where
+        Steps (with_pc (on_input inputs (machine P x)) (x.pc + 4))) where
       abbrev read_regs : List ℕ
       read_regs = written (listed x.regs) a0 (input_at inputs x.input)
 
@@ -258,7 +258,7 @@ module _ (program : TacTree) (image : ImageParts) (inputs : List ℕ) (set : ℕ
       }
 
       -- with these registers, and this word read
-      abbrev read_with : List ℕ → ℕ → State
+      abbrev read_with : List ℕ → ℕ → MachineState
       read_with regs word = record (machine P x) {
         regs = regs;
         pc = x.pc + 4;
@@ -272,7 +272,7 @@ module _ (program : TacTree) (image : ImageParts) (inputs : List ℕ) (set : ℕ
       walks_read : Walks image inputs 1 (machine P x) (read_with read_regs (input_at inputs x.input))
       walks_read = walk_one image inputs (machine P x) (read_with read_regs (input_at inputs x.input)) goes
 
-      read_steady : IsSteady image (read_with read_regs (input_at inputs x.input))
+      read_steady : IsSteadyState image (read_with read_regs (input_at inputs x.input))
       read_steady = walks_steady image inputs linked.formed words 1 _ _ walks_read settled.steady
 
       reading_is : machine P reading ≡ read_with read_regs (input_at inputs x.input)
@@ -311,9 +311,9 @@ module _ (program : TacTree) (image : ImageParts) (inputs : List ℕ) (set : ℕ
       -- A CALL
       module _ (x : Joint) (settled : Settled T P x) (to index target : ℕ) (export : image_export image to target ≡
           Some index) (may : may_make image P.comp to index ≡ true) (goes : step image inputs (machine P x) ≡
-          Steps (called (machine P x) to index (params_of image to index) target)) where
+          Steps (on_call (machine P x) to index (export_params image to index) target)) where
         abbrev passed : List ℕ
-        passed = arguments (params_of image to index) (listed x.regs)
+        passed = arguments (export_params image to index) (listed x.regs)
 
         abbrev values : List Value
         values = as_values passed
@@ -340,7 +340,7 @@ module _ (program : TacTree) (image : ImageParts) (inputs : List ℕ) (set : ℕ
               is_export program rules functions to index entry.number offer.proto entry.f offer.export entry.enters
               entry.its
 
-          takes : params_of image to index ≡ length values
+          takes : export_params image to index ≡ length values
           takes = linked.params to index offer.proto offer.export ∙ offer.takes
 
           few : length values ≤ 8
@@ -354,7 +354,7 @@ module _ (program : TacTree) (image : ImageParts) (inputs : List ℕ) (set : ℕ
             takes = takes;
             few_args = few;
             all = are_words passed;
-            passed = words_passed (x.inj P.comp) (params_of image to index) x.regs (omega (arith, takes, few))
+            passed = words_passed (x.inj P.comp) (export_params image to index) x.regs (omega (arith, takes, few))
                 settled.steady.words;
             turn = turns;
             settled = settled;
@@ -414,7 +414,7 @@ module _ (program : TacTree) (image : ImageParts) (inputs : List ℕ) (set : ℕ
 
       -- A RETURN
       module _ (x : Joint) (settled : Settled T P x) (goes : step image inputs (machine P x) ≡
-          Steps (returned image (machine P x) P.cross)) where
+          Steps (on_return image (machine P x) P.cross)) where
         a0_is : reg (machine P x) a0 ≡ x.regs a0
         a0_is = read_listed x.regs a0 (omega arith)
 
@@ -439,16 +439,16 @@ module _ (program : TacTree) (image : ImageParts) (inputs : List ℕ) (set : ℕ
           settled = settled;
         })
 
-        module _ (m : ℕ) (next : State) (goes_to : step image inputs (machine P x) ≡ Steps next)
+        module _ (m : ℕ) (next : MachineState) (goes_to : step image inputs (machine P x) ≡ Steps next)
             (rest : Walks image inputs m next observed.last) where
-          same_next : next ≡ returned image (machine P x) P.cross
-          same_next = same_state next (returned image (machine P x) P.cross) (sym goes_to ∙ goes)
+          same_next : next ≡ on_return image (machine P x) P.cross
+          same_next = same_state next (on_return image (machine P x) P.cross) (sym goes_to ∙ goes)
 
           leave_by : (cross : List Crossing) → P.cross ≡ cross → UnknownComes program roles T P x (does x.meant)
           leave_by [] is =
               let w : ℕ = reg (machine P x) a0 in
               let emits_trace : next.trace ≡ x.meant.trace ++ End P.comp w ∷ [] =
-              ap (λ s. s.trace) (same_next ∙ ap (returned image (machine P x)) is) in
+              ap (λ s. s.trace) (same_next ∙ ap (on_return image (machine P x)) is) in
               subst (UnknownComes program roles T P x)
               (sym (end_is program set t n P.comp number first x.meant (standing_in (machine P x)) entered w
               (is_next x settled m next (End P.comp w) goes_to emits_trace rest)))
@@ -456,7 +456,7 @@ module _ (program : TacTree) (image : ImageParts) (inputs : List ℕ) (set : ℕ
           leave_by (c ∷ cs) is =
               let value : Option ℕ = given_back (has_result image c.callee c.entry) (machine P x) in
               let emits_trace : next.trace ≡ x.meant.trace ++ Ret P.comp c.caller value ∷ [] =
-              ap (λ s. s.trace) (same_next ∙ ap (returned image (machine P x)) is) in
+              ap (λ s. s.trace) (same_next ∙ ap (on_return image (machine P x)) is) in
               subst (UnknownComes program roles T P x)
               (sym (return_is program set t n P.comp number first x.meant (standing_in (machine P x)) entered c.caller
               value (is_next x settled m next (Ret P.comp c.caller value) goes_to emits_trace rest)))
@@ -469,7 +469,8 @@ module _ (program : TacTree) (image : ImageParts) (inputs : List ℕ) (set : ℕ
       Later m = (y : Joint) → Settled T P y → Walks image inputs m (machine P y) observed.last →
           UnknownComes program roles T P y (does y.meant)
 
-      by_step : (m : ℕ) (x : Joint) → Settled T P x → (next : State) → step image inputs (machine P x) ≡ Steps next →
+      by_step : (m : ℕ) (x : Joint) → Settled T P x → (next : MachineState) → step image inputs (machine P x) ≡ Steps
+          next →
           Walks image inputs m next observed.last → Later m →
           StepIs image inputs (machine P x) (step image inputs (machine P x)) →
           UnknownComes program roles T P x (does x.meant)

@@ -13,8 +13,9 @@ pub use Rattle.sc_core.specs.declared.run.RunEnd.TheVariants.{Blamed, Ended, Eve
 pub use Rattle.sc_core.specs.declared.value.Value.{Value}
 pub use Rattle.sc_core.specs.declared.value.Value.TheVariants.{Word}
 pub use Rattle.sc_core_laws.specs.Prelude.{AgreesInDepth, AllBefore, AllFrom, RunsAgree, depth_after, has_no_end}
-pub use Rattle.sc_image.specs.Prelude.{Crossing, Goes, IsWellFormed, IsWord, Traps, Walks, ended, has_result, machine}
-pub use Rattle.sc_image.specs.Prelude.{may_call, may_input, may_output, params_of, returned, stack_size, stack_top}
+pub use Rattle.sc_image.specs.Prelude.{Crossing, Goes, IsWellFormed, IsWord, Traps, Walks, on_end, has_result, machine}
+pub use Rattle.sc_image.specs.Prelude.{may_call_export, may_input, may_output, export_params, on_return, stack_size}
+pub use Rattle.sc_image.specs.Prelude.{stack_top}
 pub use Rattle.sc_image.specs.Prelude.{start, start_memory, step}
 pub use Rattle.sc_image.specs.declared.parts.ImageParts.{ImageParts}
 pub use Rattle.sc_tac.specs.Prelude.{IsFunction, IsProgram, code_denotations, code_function, code_globals, code_run}

@@ -2,10 +2,11 @@
 use Rattle.sc_emit_run_laws.specs.Common.{Addresses, Cross, Export, ImageParts, InCell, Input, IsAddress, IsWellFormed}
 use Rattle.sc_emit_run_laws.specs.Common.{Main, Output, Own, Placed, Proto, Setting, TacFnTree, TacTree, code_globals}
 use Rattle.sc_emit_run_laws.specs.Common.{cross_call_fits, export_at, function_entered, has_result, imports}
-use Rattle.sc_emit_run_laws.specs.Common.{is_function, is_input, is_output, linked, may_call, may_input, may_output}
-use Rattle.sc_emit_run_laws.specs.Common.{own_call_fits, params_of, stack_top, start, start_memory}
+use Rattle.sc_emit_run_laws.specs.Common.{is_function, is_input, is_output, linked, may_call_export, may_input}
+use Rattle.sc_emit_run_laws.specs.Common.{may_output}
+use Rattle.sc_emit_run_laws.specs.Common.{own_call_fits, export_params, stack_top, start, start_memory}
 use Rattle.sc_word.specs.Prelude.{add_word, word_of}
-use Rattle.sc_image.specs.Prelude.{export_at as image_export}
+use Rattle.sc_image.specs.Prelude.{entered_export as image_export}
 use Rattle.sc_emit_hart.specs.Prelude.{CodeAt, Fetches, word}
 use Rattle.sc_emit.specs.Prelude.{IsCodeAddress, IsEmitted}
 use Rattle.std.specs.Prelude.{◌≡◌, ◌≢◌, ℕ, ℤ, ◌+◌, ◌*◌, ◌<◌, ◌≤◌, ◌⊎◌, Bool, true, false, not, ◌&&◌, ◌||◌, ◌==◌, nat_lt}
@@ -109,12 +110,12 @@ pub record IsLinked (program : TacTree) (image : ImageParts) (turn_pays : ℕ) (
   pub exports : (from to index : ℕ) (proto : Proto) → export_at program.interfaces to index ≡ Some proto →
       image_export image to ((addresses from).entry to index) ≡ Some index
   pub params : (to index : ℕ) (proto : Proto) → export_at program.interfaces to index ≡ Some proto →
-      params_of image to index ≡ length proto.params
+      export_params image to index ≡ length proto.params
   pub result : (to index : ℕ) (proto : Proto) → export_at program.interfaces to index ≡ Some proto →
       has_result image to (Export index) ≡ is_some proto.result
   -- imports
   pub calls : (from to index : ℕ) → imports program.interfaces from (is_function to index) ≡ true →
-      may_call image from to index ≡ true
+      may_call_export image from to index ≡ true
   pub inputs : (comp : ℕ) → imports program.interfaces comp is_input ≡ true → may_input image comp ≡ true
   pub outputs : (comp : ℕ) → imports program.interfaces comp is_output ≡ true → may_output image comp ≡ true
   -- globals

@@ -4,18 +4,20 @@ use Rattle.std.specs.Prelude.{◌≡◌, ◌≢◌, ◌↔◌, ℕ, zero, suc, B
 use Rattle.std.specs.List.{list_any}
 use Rattle.sc_image.specs.declared.parts.ExportPart.{ExportPart}
 use Rattle.sc_image.specs.declared.parts.ImageParts.{ImageParts}
-use Rattle.sc_image.specs.Calls.{export_at, exports_of, has_result, may_call, may_input, may_output, params_of}
+use Rattle.sc_image.specs.Calls.{entered_export, exported_by, has_result, may_call_export, may_input, may_output}
+use Rattle.sc_image.specs.Calls.{export_params}
 use Rattle.sc_image.specs.Cross.{input_at}
 use Rattle.sc_image.specs.Layout.{are_data, word_at}
-use Rattle.sc_image.specs.WellFormed.{IsWord, IsWellFormed}
-use Rattle.sc_image.specs.State.{State, start}
+use Rattle.sc_base.specs.Word.{IsWord}
+use Rattle.sc_image.specs.WellFormed.{IsWellFormed}
+use Rattle.sc_image.specs.State.{MachineState, start}
 use Rattle.sc_image.specs.Step.{Outcome, Goes, Traps, step}
 use Rattle.sc_image.specs.Machine.{machine}
 use Rattle.sc_image.specs.Own.{Own, data_of, own}
-use Rattle.sc_image.specs.Steady.{IsSteady, latest_call}
+use Rattle.sc_image.specs.Steady.{IsSteadyState, latest_call}
 
 -- a run with these inputs comes to this state
-abbrev pub IsReached : ImageParts → List ℕ → State → Type 0
+abbrev pub IsReached : ImageParts → List ℕ → MachineState → Type 0
 IsReached image inputs state = (steps : ℕ) × ((events : ℕ) × ((machine image inputs steps events).state ≡ state))
 
 -- what can be observed of a step: the events that it emits, or its trap
@@ -23,33 +25,33 @@ pub data Observation : Type 0 where
   Adds : (events : List Event) → Observation
   Stops : (reason : TrapReason) → Observation
 
-abbrev pub observation_of : State → Outcome → Observation
+abbrev pub observation_of : MachineState → Outcome → Observation
 observation_of state (Goes next) = Adds (drop (length state.trace) next.trace)
 observation_of state (Traps reason) = Stops reason
 
-abbrev pub observation : ImageParts → List ℕ → State → Observation
+abbrev pub observation : ImageParts → List ℕ → MachineState → Observation
 observation image inputs state = observation_of state (step image inputs state)
 
 -- the state after a step: a trap leaves it
-abbrev pub after_outcome : State → Outcome → State
+abbrev pub after_outcome : MachineState → Outcome → MachineState
 after_outcome state (Goes next) = next
 after_outcome state (Traps reason) = state
 
-abbrev pub after_step : ImageParts → List ℕ → State → State
+abbrev pub after_step : ImageParts → List ℕ → MachineState → MachineState
 after_step image inputs state = after_outcome state (step image inputs state)
 
 -- a step is silent where it adds no event and doesn't trap
-abbrev pub IsSilent : ImageParts → List ℕ → State → Type 0
-IsSilent image inputs state = observation image inputs state ≡ Adds []
+abbrev pub IsSilentStep : ImageParts → List ℕ → MachineState → Type 0
+IsSilentStep image inputs state = observation image inputs state ≡ Adds []
 
 -- `steps` steps from a state on are silent
-abbrev pub AreSilent : ImageParts → List ℕ → (steps : ℕ) → State → Type 0
+abbrev pub AreSilent : ImageParts → List ℕ → (steps : ℕ) → MachineState → Type 0
 AreSilent image inputs zero state = Unit {0}
-AreSilent image inputs (suc steps) state = IsSilent image inputs state ×
+AreSilent image inputs (suc steps) state = IsSilentStep image inputs state ×
     AreSilent image inputs steps (after_step image inputs state)
 
 -- the state after `steps` steps
-abbrev pub after_steps : ImageParts → List ℕ → (steps : ℕ) → State → State
+abbrev pub after_steps : ImageParts → List ℕ → (steps : ℕ) → MachineState → MachineState
 after_steps image inputs zero state = state
 after_steps image inputs (suc steps) state = after_steps image inputs steps (after_step image inputs state)
 
@@ -70,14 +72,15 @@ emits_entry d (Stops reason) = false
 -- that makes that one active.
 abbrev pub LeavesOthers : Type 0
 LeavesOthers =
-    (image : ImageParts) (inputs : List ℕ) (state : State) (d : ℕ) → IsWellFormed image → IsSteady image state →
+    (image : ImageParts) (inputs : List ℕ) (state : MachineState) (d : ℕ) → IsWellFormed image → IsSteadyState image
+        state →
     d ≢ state.active → emits_entry d (observation image inputs state) ≡ false →
     own image (after_step image inputs state) d ≡ own image state d
 
 -- A step leaves the data of every compartment but the active one as they were, also of one that it makes active.
 abbrev pub LeavesData : Type 0
 LeavesData =
-    (image : ImageParts) (inputs : List ℕ) (state : State) (d : ℕ) → IsWellFormed image → d ≢ state.active →
+    (image : ImageParts) (inputs : List ℕ) (state : MachineState) (d : ℕ) → IsWellFormed image → d ≢ state.active →
     data_of image d (after_step image inputs state).memory ≡ data_of image d state.memory
 
 -- What a compartment does.
@@ -86,7 +89,7 @@ LeavesData =
 pub record Point : Type 0 where
   pub image : ImageParts
   pub inputs : List ℕ
-  pub state : State
+  pub state : MachineState
 
 abbrev pub observation_at : Point → Observation
 observation_at point = observation point.image point.inputs point.state
@@ -109,7 +112,7 @@ IsSilentFor steps point = AreSilent point.image point.inputs steps point.state
 pub record RunsAt (c : ℕ) (point : Point) : Type 0 where
   pub formed : IsWellFormed point.image
   pub inputs : All IsWord point.inputs
-  pub steady : IsSteady point.image point.state
+  pub steady : IsSteadyState point.image point.state
   pub active : point.state.active ≡ c
 
 -- Two images that agree in what a step asks while compartment c is active. All else of the others may differ: their
@@ -120,12 +123,13 @@ pub record AgreeFor (c : ℕ) (one other : ImageParts) : Type 0 where
   pub owned : (address size : ℕ) → are_data one c address size ≡ are_data other c address size
   pub reads : may_input one c ≡ may_input other c
   pub writes : may_output one c ≡ may_output other c
-  pub imports : (to index : ℕ) → may_call one c to index ≡ may_call other c to index
+  pub imports : (to index : ℕ) → may_call_export one c to index ≡ may_call_export other c to index
   pub results : (entry : Entry) → has_result one c entry ≡ has_result other c entry
   -- where the exports of all compartments begin
-  pub entries : (to address : ℕ) → export_at one to address ≡ export_at other to address
+  pub entries : (to address : ℕ) → entered_export one to address ≡ entered_export other to address
   -- how many words the exports take that c may call
-  pub params : (to index : ℕ) → may_call one c to index ≡ true → params_of one to index ≡ params_of other to index
+  pub params : (to index : ℕ) → may_call_export one c to index ≡ true → export_params one to index ≡ export_params other
+      to index
 
 -- Two points that a compartment can't distinguish: it is active at both, in images that agree for it, with the same own
 -- parts, the same caller and function of its in the latest call that is open, and the same input to come.
@@ -159,15 +163,15 @@ abbrev pub EntersByEvent : Type 0
 EntersByEvent =
     (d : ℕ) →
     (entered : List ExportPart → Own → Event → Own) ×
-    ((image : ImageParts) (inputs : List ℕ) (state : State) (event : Event) → IsWellFormed image →
-    IsSteady image state → d ≢ state.active →
+    ((image : ImageParts) (inputs : List ℕ) (state : MachineState) (event : Event) → IsWellFormed image →
+    IsSteadyState image state → d ≢ state.active →
     observation image inputs state ≡ Adds (event ∷ []) → activates d event ≡ true →
-    own image (after_step image inputs state) d ≡ entered (exports_of image d) (own image state d) event)
+    own image (after_step image inputs state) d ≡ entered (exported_by image d) (own image state d) event)
 
 -- The start is steady, each step from a steady state leads to one, and so every state that a run reaches is steady.
 pub record RunsAreSteady : Type 0 where
-  pub first : (image : ImageParts) → IsWellFormed image → IsSteady image (start image)
-  pub step : (image : ImageParts) (inputs : List ℕ) (state : State) → IsWellFormed image → All IsWord inputs →
-      IsSteady image state → IsSteady image (after_step image inputs state)
-  pub reached : (image : ImageParts) (inputs : List ℕ) (state : State) → IsWellFormed image → All IsWord inputs →
-      IsReached image inputs state → IsSteady image state
+  pub first : (image : ImageParts) → IsWellFormed image → IsSteadyState image (start image)
+  pub step : (image : ImageParts) (inputs : List ℕ) (state : MachineState) → IsWellFormed image → All IsWord inputs →
+      IsSteadyState image state → IsSteadyState image (after_step image inputs state)
+  pub reached : (image : ImageParts) (inputs : List ℕ) (state : MachineState) → IsWellFormed image → All IsWord inputs →
+      IsReached image inputs state → IsSteadyState image state

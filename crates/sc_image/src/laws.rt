@@ -4,7 +4,7 @@
 ghost use Rattle.sc_image.specs.Prelude.{BadOrImage, BytesNameOneImage, CallsComeBack, EmittingComposes, EntersByEvent};
 ghost use Rattle.sc_image.specs.Prelude.{FollowsFromOwn, ImageInMemory, LeavesData, LeavesOthers, LegalByWords};
 ghost use Rattle.sc_image.specs.Prelude.{RunsAreSteady, StepsByInstruction, StepsEmit, StretchesCompose};
-ghost use Rattle.sc_image.specs.Prelude.{TracesAreLegal};
+ghost use Rattle.sc_image.specs.Prelude.{MachineTracesAreLegal};
 
 /// Bytes are those of one image at most.
 #[tactic(auto, using(crate::proofs::Whole::one_image_each))]
@@ -21,7 +21,7 @@ pub fn bad_or_image()
 /// A run's trace is one that the image's interfaces allow.
 #[tactic(auto, using(crate::proofs::Traces::all_traces_legal))]
 pub fn traces_are_legal()
-    ensures { TracesAreLegal }
+    ensures { MachineTracesAreLegal }
 {}
 
 /// Which traces are legal doesn't look at the types of scalars.

@@ -22,7 +22,7 @@ pub use Rattle.std.specs.Option.{option_map_or}
 pub use Rattle.sc_base.proofs.Bools.{and_first, and_rest}
 pub use Rattle.sc_base.proofs.Lists.{drop-step, get_after, list_all_along, position-cons, take-step}
 pub use Rattle.sc_base.proofs.Texts.{bytes_eq_self, same_either_way}
-pub use Rattle.sc_base.specs.Prelude.{is_name, number_of}
+pub use Rattle.sc_base.specs.Prelude.{is_name, number_by_name}
 pub use Rattle.sc_event.specs.Prelude.{comp_at, export_at, imports, is_function, is_input, is_output}
 pub use Rattle.sc_event.specs.declared.interface.Import.{Import}
 pub use Rattle.sc_event.specs.declared.interface.Interfaces.{Interfaces}
@@ -45,8 +45,9 @@ pub use Rattle.rv_code.proofs.OneEach.{HasWord-own, decoded-word_of, word-below}
 pub use Rattle.rv_code.specs.Prelude.{IsImmediate, IsInstr, IsJumpOffset, IsUpper, word_of}
 pub use Rattle.sc_store.specs.Prelude.{byte_of, load_of}
 pub use Rattle.sc_image.specs.Prelude.{IsByte, IsComp, IsDistinct, IsEntry, IsExport, IsImport, IsWellFormed, IsWord}
-pub use Rattle.sc_image.specs.Prelude.{code_of, code_start, comp_of_data, data_start, exports_of, has_result, may_call}
-pub use Rattle.sc_image.specs.Prelude.{may_input, may_output, most_globals, params_of, stack_size, stack_top}
+pub use Rattle.sc_image.specs.Prelude.{code_in, code_start, comp_of_data, data_start, exported_by, has_result}
+pub use Rattle.sc_image.specs.Prelude.{may_call_export}
+pub use Rattle.sc_image.specs.Prelude.{may_input, may_output, most_globals, export_params, stack_size, stack_top}
 pub use Rattle.sc_image.specs.Prelude.{start_memory, stretch}
 unfoldable pub use Rattle.sc_image.specs.Prelude.{word_at}
 pub use Rattle.sc_image.specs.declared.parts.CompPart.{CompPart}

@@ -7,7 +7,7 @@ use Rattle.sc_linker.proofs.Common.{globals_of, inl, inr, length, linked_image, 
 use Rattle.sc_linker.proofs.Common.{most_globals, option_map, option_map_or, refl, section_at, section_or_none}
 use Rattle.sc_linker.proofs.Common.{slice_get, slice_get-map, stack_top, start_memory, struct_zeros, structs_fit, subst}
 use Rattle.sc_linker.proofs.Common.{sym, take, true, ℕ, ◌*◌, ◌+◌, ◌<◌, ◌^◌, ◌∙◌, ◌≡◌, ◌≢◌, ◌≤◌, ◌⊎◌}
-use Rattle.sc_image.specs.Prelude.{globals_of as globals_in}
+use Rattle.sc_image.specs.Prelude.{initial_globals as globals_in}
 use Rattle.sc_core.specs.declared.value.Cell.TheVariants as cell
 use Rattle.sc_linker.proofs.Comps.{Fits, fits_or_none, number_below, part_is, section_is}
 use Rattle.sc_linker.proofs.Exports.{globals_so, structs_so}

@@ -2,11 +2,11 @@
 use Rattle.sc_linker.specs.Common.{Cell, CodeTree, Export, ImageParts, Instr, Interface, IsInstr, IsWellFormed}
 use Rattle.sc_linker.specs.Common.{IsWellTyped, Jal, Main, ProgramTree, Proto, TypedGlobal, TypedSection, decoded}
 use Rattle.sc_linker.specs.Common.{entry_in, export_at, globals_of, has_result, imports, is_function, is_input, is_name}
-use Rattle.sc_linker.specs.Common.{is_output, linked, may_call, may_input, may_output, params_of, stack_top}
+use Rattle.sc_linker.specs.Common.{is_output, linked, may_call_export, may_input, may_output, export_params, stack_top}
 use Rattle.sc_linker.specs.Common.{start_memory, word_at}
 use Rattle.sc_word.specs.Prelude.{add_word, word_of}
 use Rattle.sc_store.specs.Prelude.{load_of}
-use Rattle.sc_image.specs.Prelude.{export_at as image_export, globals_of as globals_in}
+use Rattle.sc_image.specs.Prelude.{entered_export as image_export, initial_globals as globals_in}
 use Rattle.sc_tac.specs.Prelude.{IsCode}
 use Rattle.std.specs.Prelude.{◌≡◌, ◌≢◌, ℕ, ℤ, ◌+◌, ◌*◌, ◌%◌, ◌^◌, ◌<◌, ◌≤◌, ◌⊎◌, true, List, length, All, IsTrue, Some}
 use Rattle.std.specs.Prelude.{is_some, slice_get}
@@ -79,7 +79,7 @@ module _ (program : ProgramTree) (codes : List CodeTree) where
     pub index : (comp index : ℕ) (proto : Proto) → export_at program.interfaces comp index ≡ Some proto →
         image_export (linked_image program codes) comp (entry_address comp index) ≡ Some index
     pub params : (comp index : ℕ) (proto : Proto) → export_at program.interfaces comp index ≡ Some proto →
-        params_of (linked_image program codes) comp index ≡ length proto.params
+        export_params (linked_image program codes) comp index ≡ length proto.params
     pub result : (comp index : ℕ) (proto : Proto) → export_at program.interfaces comp index ≡ Some proto →
         has_result (linked_image program codes) comp (Export index) ≡ is_some proto.result
     pub low : (comp index : ℕ) (proto : Proto) → export_at program.interfaces comp index ≡ Some proto →
@@ -88,7 +88,8 @@ module _ (program : ProgramTree) (codes : List CodeTree) where
   -- imports are those of the interfaces
   pub record ImportsStand : Type 0 where
     pub function : (from to index : ℕ) →
-        may_call (linked_image program codes) from to index ≡ imports program.interfaces from (is_function to index)
+        may_call_export (linked_image program codes) from to index ≡ imports program.interfaces from (is_function to
+            index)
     pub input : (comp : ℕ) → may_input (linked_image program codes) comp ≡ imports program.interfaces comp is_input
     pub output : (comp : ℕ) → may_output (linked_image program codes) comp ≡ imports program.interfaces comp is_output
 

@@ -4,7 +4,7 @@ ghost use Rattle.sc_parse.specs.Prelude.{Agrees, adds, after_else, after_for, af
 ghost use Rattle.sc_parse.specs.Prelude.{ended_at, first_part, for_head, is_else, keyword_at, kind_by, last_part};
 ghost use Rattle.sc_parse.specs.Prelude.{loop_of, middle_part, plain_at, returned, simple_or_none, stmt_at};
 ghost use Rattle.sc_parse.specs.Prelude.{stmt_within, stmts_at, value_returned};
-ghost use Rattle.sc_ast.specs.Prelude.{kind_of};
+ghost use Rattle.sc_ast.specs.Prelude.{stmt_kind_of};
 ghost use Rattle.std.specs.Prelude.{◌≡◌, ◌≤◌, ◌+◌, [], ◌∷◌, length, drop, true, false, IfOk};
 ghost use Rattle.sc_parse.specs.StmtReaders.{lone_if};
 
@@ -27,7 +27,7 @@ struct ForHead {
 }
 
 fn kind_of(kind: SimpleKind) -> StmtKind
-    ensures { result ≡ kind_of kind }
+    ensures { result ≡ stmt_kind_of kind }
 {
     match kind {
         SimpleKind::Assign { place, value } => StmtKind::Assign { place, value },

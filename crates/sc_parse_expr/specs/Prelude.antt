@@ -5,7 +5,8 @@ unfoldable pub use Rattle.sc_lex.specs.Prelude.{words}
 pub use Rattle.sc_parse_expr.specs.Brackets.{most_open, open_after, open_after_mark}
 pub use Rattle.sc_parse_expr.specs.Grammar.{IsIdent, IsMark, Spells, arrow, index, joined, literal, looser, member}
 pub use Rattle.sc_parse_expr.specs.Grammar.{parenthesised, prefix, variable, «prefix»}
-pub use Rattle.sc_parse_expr.specs.Lexemes.{fourth_word, ident_in, import_of, lexeme_of, look_up, mark_texts, number_in}
+pub use Rattle.sc_parse_expr.specs.Lexemes.{fourth_word, ident_in, import_symbol, lexeme_of, look_up, mark_texts}
+pub use Rattle.sc_parse_expr.specs.Lexemes.{number_in}
 pub use Rattle.sc_parse_expr.specs.Lexemes.{or_unused, symbol_of, third_word}
 unfoldable pub use Rattle.sc_parse_expr.specs.Lexemes.{keyword_of, mark_of, says}
 pub use Rattle.sc_parse_expr.specs.Marks.{binary_of, extension_level, extension_of, prefix_of, prefixed}

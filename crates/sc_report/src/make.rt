@@ -1,9 +1,10 @@
 //! The text of a program that is made from a size and a seed.
 
 ghost use Rattle.std.specs.Prelude.{◌≡◌, ◌≤◌, ◌++◌, ◌/◌, ℕ, IfOk, OnOk, decimal, flat_map};
-ghost use Rattle.sc_report_made.specs.Text.{all_functions, call_text, export_text, function_name, function_text};
-ghost use Rattle.sc_report_made.specs.Text.{functions_of, import_text, made_text, main_text, next_state, numbers_from};
-ghost use Rattle.sc_report_made.specs.Text.{proto_text, worker_name, worker_text, workers};
+ghost use Rattle.sc_report_made.specs.Text.{all_functions, made_call, made_export, function_name, made_function};
+ghost use Rattle.sc_report_made.specs.Text.{worker_functions, made_import, made_text, made_main, next_state};
+ghost use Rattle.sc_report_made.specs.Text.{numbers_from};
+ghost use Rattle.sc_report_made.specs.Text.{made_proto, worker_name, worker_text, workers};
 ghost use Rattle.sc_report.specs.Making.{IsDrawn, call_with, function_with, rounds_text, state_at};
 
 use itoa::Buffer;
@@ -66,7 +67,7 @@ impl Draws {
 
 fn append_main(text: &mut Text, size: u32, seed: u32) -> Result<(), OutOfMemory>
     requires { 1 ≤ size }
-    ensures { OnOk result (text.new ≡ text.old ++ main_text size seed) }
+    ensures { OnOk result (text.new ≡ text.old ++ made_main size seed) }
 {
     text.append(b"#pragma compartment Main\n")?;
     append_imports(text, size)?;

@@ -15,8 +15,10 @@ pub use Rattle.std.specs.List.{All, find, position, position_or_len}
 pub use Rattle.std.specs.Option.{option_map, option_or}
 pub use borrow.Rule.Slice.PartMut.{put_mid}
 pub use Rattle.sc_store.specs.Prelude.{AreApart, AreBelow, AreDistinct, AreOut, ArePlaced, AreSingle, HasBytes}
-pub use Rattle.sc_store.specs.Prelude.{HoldsBytes, IsFocus, IsIn, IsZero, Memory, byte_at, byte_of, byte_on, bytes_in}
+pub use Rattle.sc_store.specs.Prelude.{HoldsBytes, IsFocus, IsIn, IsZero, ByteMemory, byte_at, byte_of, byte_on}
+pub use Rattle.sc_store.specs.Prelude.{bytes_in}
 pub use Rattle.sc_store.specs.Prelude.{bytes_of, cell, is_in, load_of, memory_of, piece_of, place_found, place_in}
-pub use Rattle.sc_store.specs.Prelude.{place_of, reaches, region_of, regions_in, regions_of, replaced, spans, stored}
+pub use Rattle.sc_store.specs.Prelude.{place_of, reaches, region_of, regions_in, regions_of, replaced, spans}
+pub use Rattle.sc_store.specs.Prelude.{with_bytes}
 pub use Rattle.sc_store.specs.Prelude.{written, zeros}
 pub use Rattle.sc_store.specs.declared.region.Region.{Region}

@@ -4,7 +4,7 @@
 ghost use Rattle.std.specs.Prelude.{◌≡◌, ◌<◌, ◌≤◌, ◌*◌, ◌∷◌, [], ℕ, false, Some, length, position, IfOk, IsSome};
 ghost use Rattle.std.specs.Prelude.{IsTrue};
 ghost use Rattle.sc_store.specs.Region.{AreApart};
-ghost use Rattle.sc_store.specs.Memory.{HoldsBytes, HasBytes, load_of, stored};
+ghost use Rattle.sc_store.specs.Memory.{HoldsBytes, HasBytes, load_of, with_bytes};
 ghost use Rattle.sc_store.specs.Flat.{Reads, written};
 ghost use Rattle.sc_store.specs.Paged.{reaches, regions_in, place_of, place_found, memory_of, AreSingle, ArePlaced};
 ghost use Rattle.sc_store.specs.Paged.{IsFocus};
@@ -205,7 +205,7 @@ impl PagedStore {
     fn store_each(&mut self, at: u32, value: u32, size: usize)
         requires size { size ≤ 4 }
         requires there { HasBytes (bytes_in self.old) at size }
-        ensures { bytes_in self.new ≡ stored (bytes_in self.old) at size value }
+        ensures { bytes_in self.new ≡ with_bytes (bytes_in self.old) at size value }
     {
         self.write_each(at, &value.to_le_bytes()[..size]);
     }

@@ -9,8 +9,8 @@ ghost use Rattle.std.specs.Prelude.{◌≡◌, ◌≤◌, true, map, take, None,
 use crate::failure::{Failure, compile_failure};
 use crate::text::read_source;
 use sc_base::{OutOfMemory, Text};
-use sc_chain::{ExplainFault, Explanation, Link, Replacement, recompose};
-use sc_core::Program;
+use sc_chain::{ExplainFault, Replacement, recompose};
+use sc_core::{Explanation, Link, Program};
 use sc_top_words::RunOptions;
 use sc_types::SourceText;
 use sqlite_items::Items;

@@ -6,15 +6,15 @@ use Rattle.std.specs.Str.{all_ascii_digits}
 use Rattle.std.specs.Str.Parse.{digits_value}
 
 -- one decimal digit or more, with any number of leading zeros, and no sign
-abbrev pub number : List ℕ → Option ℕ
-number text = if nat_lt 0 (length text) && all_ascii_digits text then Some (digits_value 10 text) else None
+abbrev pub number_word : List ℕ → Option ℕ
+number_word text = if nat_lt 0 (length text) && all_ascii_digits text then Some (digits_value 10 text) else None
 
 abbrev pub when_within : (low high : ℕ) → ℕ → Option ℕ
 when_within low high n = if nat_le low n && nat_le n high then Some n else None
 
 -- a number from `low` to `high`
 abbrev pub number_within : (low high : ℕ) → List ℕ → Option ℕ
-number_within low high text = option_and_then (when_within low high) (number text)
+number_within low high text = option_and_then (when_within low high) (number_word text)
 
 -- a number, with or without a `-` before it, from -2147483648 to 2147483647
 abbrev pub integer : List ℕ → Option ℤ

@@ -1,11 +1,7 @@
-//! What `explain` answers.
-
+use crate::Cause;
 use sc_base::{Stop, Text};
-use sc_compile::CompileFault;
-use sc_core::Cause;
 use sc_event::{CompId, Trace};
 use sqlite_items::Items;
-use thiserror::Error;
 
 /// A compartment that was blamed after `after` events of the trace, why, and at which line of its section; and the text
 /// that stands in the place of that section from there on.
@@ -27,13 +23,4 @@ pub struct Explanation {
     pub trace: Trace,
     pub stop: Stop,
     pub links: Links,
-}
-
-/// Why there is no explanation: the program is too large, as its compiler says, or memory ran out.
-#[derive(Clone, Copy, Debug, Error)]
-pub enum ExplainFault {
-    #[error("{0}")]
-    CompileFault(CompileFault),
-    #[error("out of memory")]
-    OutOfMemory,
 }
