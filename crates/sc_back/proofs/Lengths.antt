@@ -1,36 +1,39 @@
 -- How long the parts of a performing section are at most.
-use Rattle.sc_back.proofs.Common.{Interfaces, List, Option, Row, Scalar, Some, [], after_comma, codes, false, filter}
+use Rattle.sc_back.proofs.Common.{Entry, Interfaces, List, Main, Option, Row, Scalar, Some, [], after_comma, codes, false, filter}
 use Rattle.sc_back.proofs.Common.{flat_map, head_text, if◌then◌else◌, length, param_texts, refl, row_text, suc, sym}
 use Rattle.sc_back.proofs.Common.{true, ℕ, ◌++◌, ◌+◌, ◌<◌, ◌∷◌, ◌≡◌}
 use Rattle.std.proofs.Common.{Bool, None, ap, arith, length-append, negsuc, not, pos, subst, ⊎_elim, ◌*◌, ◌-◌, ◌==◌, ◌^◌}
 use Rattle.std.proofs.Common.{◌∙◌, ◌≤◌}
 use mir.ValLaws.{to_z_pos, to_z-neg}
-use Rattle.std.proofs.lemmas.Bool.{and_parts, cases_lt}
+use Rattle.std.proofs.lemmas.Bool.{and_parts, cases_lt, false≢true}
 use Rattle.std.proofs.lemmas.Fmt.{length-decimal-le, length_signed_le}
 use Rattle.std.proofs.lemmas.List.Elements.{recursion_from_All}
 use Rattle.std.specs.Fmt.{decimal, signed_decimal}
 use Rattle.std.specs.Int.{w32, cast_signed}
 use Rattle.std.specs.List.{AllByRecursion}
 use Rattle.std.specs.Option.{option_map_or}
-use Rattle.sc_base.specs.Prelude.{is_name, is_reserved, signed_text}
+use Rattle.sc_base.specs.Prelude.{is_reserved, signed_text}
+unfoldable use Rattle.sc_base.specs.Prelude.{is_name}
 use Rattle.sc_base.proofs.Filled.{name_is_short}
+use Rattle.sc_event.specs.declared.interface.Import.{Import}
 use Rattle.sc_event.specs.declared.interface.Proto.{Proto}
 use Rattle.sc_event.specs.declared.interface.Scalar.TheVariants.{Int, Unsigned}
 use Rattle.sc_event.specs.declared.row.Action.{Action}
 use Rattle.sc_event.specs.declared.row.Action.TheVariants.{Call, End, In, Out, Ret}
 use Rattle.sc_back.specs.Sections.{IsCalled, IsSpoken, IsWord, IsWordOrNone}
-use Rattle.sc_back.specs.Text.{action_text, call_text, import_line, input_proto, joined, output_proto, param_text}
-use Rattle.sc_back.specs.Text.{params_text, proto_line, result_text, return_text, type_text, value_text, value_texts}
+use Rattle.sc_back.specs.Text.{action_text, call_text, export_text, function_text, import_line, import_text, imported}
+use Rattle.sc_back.specs.Text.{input_proto, is_of, joined, main_proto, output_proto, owner_name, param_text, params_text}
+use Rattle.sc_back.specs.Text.{proto_line, proto_text, result_text, return_text, type_text, value_text, value_texts}
 
 -- PIECES
-pub both : (one other : List ℕ) (m n : ℕ) → length one ≤ m → length other ≤ n → length (one ++ other) ≤ m + n
+both : (one other : List ℕ) (m n : ℕ) → length one ≤ m → length other ≤ n → length (one ++ other) ≤ m + n
 both one other m n first second = omega (arith, length-append one other, first, second)
 
 exact : (text : List ℕ) (count : ℕ) → length text ≡ count → length text ≤ count
 exact text count is = omega (arith, is)
 
 -- a constant piece, and what follows
-pub after : (text rest : List ℕ) (m n : ℕ) → length text ≡ m → length rest ≤ n → length (text ++ rest) ≤ m + n
+after : (text rest : List ℕ) (m n : ℕ) → length text ≡ m → length rest ≤ n → length (text ++ rest) ≤ m + n
 after text rest m n is following = both text rest m n (exact text m is) following
 
 -- HEADS
@@ -65,7 +68,7 @@ params_short (ty ∷ types) few =
     (param_short 0 ty (omega arith)) (more_short 1 types (omega (arith, few))) in
     omega (arith, whole)
 
-pub head_short : (f : Proto) → length f.params ≤ 8 →
+head_short : (f : Proto) → length f.params ≤ 8 →
     length (head_text f) ≤ 19 + length f.name + 19 * length f.params
 head_short f few =
     let closed = both (params_text f.params) (codes ")") (4 + 19 * length f.params) 1 (params_short f.params few)
@@ -80,14 +83,14 @@ head_short f few =
     (1 + (length f.name + (1 + (4 + 19 * length f.params + 1)))) (result_short f.result) spaced in
     omega (arith, whole)
 
-pub proto_short : (f : Proto) → length f.params ≤ 8 →
+proto_short : (f : Proto) → length f.params ≤ 8 →
     length (proto_line f) ≤ 21 + length f.name + 19 * length f.params
 proto_short f few =
     let whole = both (head_text f) (codes ";\n") (19 + length f.name + 19 * length f.params) 2 (head_short f few)
     (exact (codes ";\n") 2 refl) in
     omega (arith, whole)
 
-pub import_short : (owner name : List ℕ) → length (import_line owner name) ≤ 17 + length owner + length name
+import_short : (owner name : List ℕ) → length (import_line owner name) ≤ 17 + length owner + length name
 import_short owner name =
     let ended = both name (codes "\n") (length name) 1 (omega arith) (exact (codes "\n") 1 refl) in
     let spaced = after (codes " ") (name ++ codes "\n") 1 (length name + 1) refl ended in
@@ -208,7 +211,7 @@ row_short interfaces result row is =
     (number ++ (codes ") { bt_n = " ++ (next ++ (codes "; " ++ (action ++ codes " }\n"))))) 14 240 refl tested in
     omega (arith, whole)
 
-pub rows_short : (interfaces : Interfaces) (result : Option Scalar) (test : Row → Bool) (rows : List Row) →
+rows_short : (interfaces : Interfaces) (result : Option Scalar) (test : Row → Bool) (rows : List Row) →
     AllByRecursion (IsWritten interfaces) rows →
     length (flat_map (row_text interfaces result) (filter test rows)) ≤ 256 * length (filter test rows)
 rows_short interfaces result test [] are = omega arith
@@ -223,3 +226,59 @@ rows_short interfaces result test (row ∷ rows) are =
           (flat_map (row_text interfaces result) (filter test rows)) 256 (256 * length (filter test rows)) here rest in
           omega (arith, whole)
       by false here rest = rest
+
+-- FUNCTIONS
+export_short : (f : Proto) → length (export_text f) ≤ 16 + length f.name
+export_short f =
+    let ended = both f.name (codes "\n") (length f.name) 1 (omega arith) (exact (codes "\n") 1 refl) in
+    let whole = after (codes "#pragma export ") (f.name ++ codes "\n") 15 (length f.name + 1) refl ended in
+    omega (arith, whole)
+
+body_short : (interfaces : Interfaces) (rows : List Row) (entry : Entry) (f : Proto) →
+    AllByRecursion (IsWritten interfaces) rows → length (function_text interfaces rows entry f) ≤
+    21 + length (head_text f) + 256 * length (filter (is_of entry) rows)
+body_short interfaces rows entry f are =
+    let body : List ℕ = flat_map (row_text interfaces f.result) (filter (is_of entry) rows) in
+    let many : ℕ = 256 * length (filter (is_of entry) rows) in
+    let ended = both body (codes "  while (1) { }\n}\n") many 18 (rows_short interfaces f.result (is_of entry) rows are)
+    (exact (codes "  while (1) { }\n}\n") 18 refl) in
+    let opened = after (codes " {\n") (body ++ codes "  while (1) { }\n}\n") 3 (many + 18) refl ended in
+    let whole = both (head_text f) (codes " {\n" ++ (body ++ codes "  while (1) { }\n}\n")) (length (head_text f))
+    (3 + (many + 18)) (omega arith) opened in
+    omega (arith, whole)
+
+-- an export with its function
+pub offered_short : (interfaces : Interfaces) (rows : List Row) (entry : Entry) (f : Proto) →
+    AllByRecursion (IsWritten interfaces) rows → length f.params ≤ 8 →
+    length (export_text f) + length (function_text interfaces rows entry f) ≤
+    56 + 2 * length f.name + 19 * length f.params + 256 * length (filter (is_of entry) rows)
+offered_short interfaces rows entry f are few =
+    let line = export_short f in
+    let head = head_short f few in
+    let body = body_short interfaces rows entry f are in
+    omega (arith, line, head, body)
+
+pub main_short : (interfaces : Interfaces) (rows : List Row) → AllByRecursion (IsWritten interfaces) rows →
+    length (function_text interfaces rows Main main_proto) ≤ 35 + 256 * length (filter (is_of Main) rows)
+main_short interfaces rows are =
+    let head = exact (head_text main_proto) 14 refl in
+    let body = body_short interfaces rows Main main_proto are in
+    omega (arith, head, body)
+
+-- an import with its prototype
+pub used_short : (interfaces : Interfaces) (import : Import) (f : Proto) → imported interfaces import ≡ Some f →
+    length f.params ≤ 8 →
+    length (import_text interfaces import) + length (proto_text interfaces import) ≤
+    38 + length (owner_name interfaces import) + 2 * length f.name + 19 * length f.params
+used_short interfaces import f is few =
+    let line = import_short (owner_name interfaces import) f.name in
+    let proto = proto_short f few in
+    subst (λ o. length (option_map_or (λ g. import_line (owner_name interfaces import) g.name) o []) +
+    length (option_map_or proto_line o []) ≤
+    38 + length (owner_name interfaces import) + 2 * length f.name + 19 * length f.params) (sym is)
+    (omega (arith, line, proto))
+
+pub name_is_some : (name : List ℕ) → is_name name ≡ true → 1 ≤ length name
+unfolding is_name
+name_is_some [] named = absurd (false≢true named)
+name_is_some (first ∷ rest) named = omega arith
