@@ -1,15 +1,15 @@
 -- How long the parts of a performing section are at most.
-use Rattle.sc_back.proofs.Common.{Entry, Interfaces, List, Main, Option, Row, Scalar, Some, [], after_comma, codes, false, filter}
-use Rattle.sc_back.proofs.Common.{flat_map, head_text, if◌then◌else◌, length, param_texts, refl, row_text, suc, sym}
-use Rattle.sc_back.proofs.Common.{true, ℕ, ◌++◌, ◌+◌, ◌<◌, ◌∷◌, ◌≡◌}
-use Rattle.std.proofs.Common.{Bool, None, ap, arith, length-append, negsuc, not, pos, subst, ⊎_elim, ◌*◌, ◌-◌, ◌==◌, ◌^◌}
-use Rattle.std.proofs.Common.{◌∙◌, ◌≤◌}
-use mir.ValLaws.{to_z_pos, to_z-neg}
+use Rattle.sc_back.proofs.Common.{Entry, Interfaces, List, Main, Option, Row, Scalar, Some, [], after_comma, codes}
+use Rattle.sc_back.proofs.Common.{false, filter, flat_map, head_text, if◌then◌else◌, length, param_texts, refl}
+use Rattle.sc_back.proofs.Common.{row_text, suc, sym, true, ℕ, ◌++◌, ◌+◌, ◌<◌, ◌∷◌, ◌≡◌}
+use Rattle.std.proofs.Common.{Bool, None, ap, arith, length-append, negsuc, not, pos, subst, ⊎_elim, ◌*◌, ◌-◌, ◌==◌}
+use Rattle.std.proofs.Common.{◌^◌, ◌∙◌, ◌≤◌}
+use mir.ValLaws.{to_z-neg, to_z_pos}
 use Rattle.std.proofs.lemmas.Bool.{and_parts, cases_lt, false≢true}
 use Rattle.std.proofs.lemmas.Fmt.{length-decimal-le, length_signed_le}
 use Rattle.std.proofs.lemmas.List.Elements.{recursion_from_All}
 use Rattle.std.specs.Fmt.{decimal, signed_decimal}
-use Rattle.std.specs.Int.{w32, cast_signed}
+use Rattle.std.specs.Int.{cast_signed, w32}
 use Rattle.std.specs.List.{AllByRecursion}
 use Rattle.std.specs.Option.{option_map_or}
 use Rattle.sc_base.specs.Prelude.{is_reserved, signed_text}
@@ -22,8 +22,9 @@ use Rattle.sc_event.specs.declared.row.Action.{Action}
 use Rattle.sc_event.specs.declared.row.Action.TheVariants.{Call, End, In, Out, Ret}
 use Rattle.sc_back.specs.Sections.{IsCalled, IsSpoken, IsWord, IsWordOrNone}
 use Rattle.sc_back.specs.Text.{action_text, call_text, export_text, function_text, import_line, import_text, imported}
-use Rattle.sc_back.specs.Text.{input_proto, is_of, joined, main_proto, output_proto, owner_name, param_text, params_text}
-use Rattle.sc_back.specs.Text.{proto_line, proto_text, result_text, return_text, type_text, value_text, value_texts}
+use Rattle.sc_back.specs.Text.{input_proto, is_of, joined, main_proto, output_proto, owner_name, param_text}
+use Rattle.sc_back.specs.Text.{params_text, proto_line, proto_text, result_text, return_text, type_text, value_text}
+use Rattle.sc_back.specs.Text.{value_texts}
 
 -- PIECES
 both : (one other : List ℕ) (m n : ℕ) → length one ≤ m → length other ≤ n → length (one ++ other) ≤ m + n
@@ -202,8 +203,8 @@ row_short interfaces result row is =
     let ended = both action (codes " }\n") 202 3 (action_short interfaces result row.action is.spoken)
     (exact (codes " }\n") 3 refl) in
     let said = after (codes "; ") (action ++ codes " }\n") 2 205 refl ended in
-    let counted = both next (codes "; " ++ (action ++ codes " }\n")) 11 207 (unsigned_short (suc row.number) is.numbered)
-    said in
+    let counted = both next (codes "; " ++ (action ++ codes " }\n")) 11 207
+    (unsigned_short (suc row.number) is.numbered) said in
     let set = after (codes ") { bt_n = ") (next ++ (codes "; " ++ (action ++ codes " }\n"))) 11 218 refl counted in
     let tested = both number (codes ") { bt_n = " ++ (next ++ (codes "; " ++ (action ++ codes " }\n")))) 11 229
     (unsigned_short row.number low) set in

@@ -1,31 +1,30 @@
 -- A section that performs is at most seven times as long as the one before, rows aside.
-use Rattle.sc_back_performer_laws.proofs.Common.{AllByRecursion, Bool, Decl, Each, Entry, Export, ExportFacts, ExportLine}
-use Rattle.sc_back_performer_laws.proofs.Common.{FunctionTree, HeadTree, ImportFacts, ImportLine, Interface, Interfaces}
-use Rattle.sc_back_performer_laws.proofs.Common.{IsCalled, IsImported, List, None, Option, Proto, Row, SectionTree, Some}
-use Rattle.sc_back_performer_laws.proofs.Common.{Text, [], among, and_first, and_parts, and_rest, ap, are_distinct, arith}
-use Rattle.sc_back_performer_laws.proofs.Common.{bytes_eq, bytes_eq_self, codes, counts_broken, export_names, false}
-use Rattle.sc_back_performer_laws.proofs.Common.{false≢true, filter, fresh_distinct, function_named, function_names}
-use Rattle.sc_back_performer_laws.proofs.Common.{functions_in, if◌then◌else◌, import_names, import_of, interface_broken}
-use Rattle.sc_back_performer_laws.proofs.Common.{interface_of, interfaces_of, is_name, is_new, is_of, length}
-use Rattle.sc_back_performer_laws.proofs.Common.{length-append, length-map, main_proto, map, not, or_left, or_right}
-use Rattle.sc_back_performer_laws.proofs.Common.{owner_name, promised, promised_name, proto_names, protos_in, refl}
-use Rattle.sc_back_performer_laws.proofs.Common.{same_either_way, same_text, scalar_of, slice_get, subst, suc, sym, total}
-use Rattle.sc_back_performer_laws.proofs.Common.{true, ℕ, ◌&&◌, ◌*◌, ◌++◌, ◌+◌, ◌==◌, ◌||◌, ◌∙◌, ◌∷◌, ◌≡◌, ◌≤◌}
+use Rattle.sc_back_performer_laws.proofs.Common.{AllByRecursion, Bool, Decl, Each, Entry, Export, ExportFacts}
+use Rattle.sc_back_performer_laws.proofs.Common.{ExportLine, FunctionTree, HeadTree, ImportFacts, ImportLine}
+use Rattle.sc_back_performer_laws.proofs.Common.{Interfaces, IsCalled, IsImported, List, Proto, Row, SectionTree, Some}
+use Rattle.sc_back_performer_laws.proofs.Common.{Text, [], among, and_parts, ap, are_distinct, arith, bytes_eq, codes}
+use Rattle.sc_back_performer_laws.proofs.Common.{counts_broken, export_names, false, false≢true, fresh_distinct}
+use Rattle.sc_back_performer_laws.proofs.Common.{function_named, functions_in, if◌then◌else◌, import_names, import_of}
+use Rattle.sc_back_performer_laws.proofs.Common.{interface_broken, interface_of, interfaces_of, is_name, length}
+use Rattle.sc_back_performer_laws.proofs.Common.{length-append, length-map, main_proto, map, not, owner_name, promised}
+use Rattle.sc_back_performer_laws.proofs.Common.{protos_in, refl, same_either_way, same_text, scalar_of, slice_get}
+use Rattle.sc_back_performer_laws.proofs.Common.{subst, suc, sym, true, ℕ, ◌*◌, ◌++◌, ◌+◌, ◌==◌, ◌||◌, ◌∙◌, ◌∷◌, ◌≡◌}
+use Rattle.sc_back_performer_laws.proofs.Common.{◌≤◌}
 use Rattle.std.proofs.Common.{flat_map}
 use Rattle.std.proofs.lemmas.List.Elements.{recursion_from_All}
 use Rattle.sc_types_scope.specs.Prelude.{proto_of}
 use Rattle.sc_ast.specs.declared.section.Decl.TheVariants as decl
 use Rattle.sc_event.specs.declared.row.Entry.TheVariants.{Main}
-use Rattle.sc_back.specs.Prelude.{CanPerform, export_text, functions_text, import_text, main_text, proto_text, section_text}
-use Rattle.sc_back.specs.Prelude.{function_text}
+use Rattle.sc_back.specs.Prelude.{CanPerform, export_text, function_text, functions_text, import_text, main_text}
+use Rattle.sc_back.specs.Prelude.{proto_text, section_text}
 use Rattle.sc_base.specs.Prelude.{is_reserved}
 use Rattle.sc_event.specs.declared.interface.Import.{Import}
 use Rattle.std.proofs.lemmas.Option.{same_Some}
-use Rattle.sc_back.proofs.Lengths.{IsWritten, called_short, main_short, name_is_some, offered_short, used_short}
+use Rattle.sc_back.proofs.Lengths.{IsWritten, main_short, name_is_some, offered_short, used_short}
 use Rattle.sc_back.proofs.Sizes.{decls_size, exports_size, function_size, imports_size, proto_size, section_size}
 use Rattle.sc_base.proofs.Filled.{name_is_short}
-use Rattle.sc_back_performer_laws.proofs.BackTree.{entries_from, entries_of, main_entries}
-use Rattle.sc_back_performer_laws.proofs.Distinct.{first_new, is_false, not_both, rest_distinct}
+use Rattle.sc_back_performer_laws.proofs.BackTree.{entries_from, main_entries}
+use Rattle.sc_back_performer_laws.proofs.Distinct.{first_new, rest_distinct}
 use Rattle.sc_back_performer_laws.proofs.Fitting.{all_resolved, facts, proto_named}
 use Rattle.sc_back_performer_laws.proofs.Resolved.{IsResolved}
 use Rattle.sc_back_performer_laws.proofs.Shares.{shares, shares_within}
@@ -177,7 +176,8 @@ module _ (olds : List SectionTree) (in_interfaces : interface_broken olds ≡ []
         let declared = promised_size line.name trees fact.0.defined in
         let rest = exports_short lines (suc index) fact.1 called.1 in
         let one = length-append (export_text f) (flat_map export_text others) in
-        let two = length-append (function_text all rows (Export index) f) (functions_text all rows (suc index) others) in
+        let two = length-append (function_text all rows (Export index) f)
+        (functions_text all rows (suc index) others) in
         omega (arith, here, named, declared, rest, one, two)
 
     mains_short : (b : Bool) → length (if b then function_text all rows Main main_proto else []) ≤
@@ -231,7 +231,8 @@ module _ (olds : List SectionTree) (in_interfaces : interface_broken olds ≡ []
         let sizes = all_sizes old.decls in
         let name = name_is_short old.name can.name in
         let whole = pieces (codes "#pragma compartment ") old.name (codes "\n")
-        (flat_map export_text (exported old.exports)) (flat_map (import_text all) (map (import_of olds number) old.imports))
+        (flat_map export_text (exported old.exports))
+        (flat_map (import_text all) (map (import_of olds number) old.imports))
         (flat_map (proto_text all) (map (import_of olds number) old.imports)) (codes "unsigned int bt_n;\n")
         (functions_text all rows 0 (exported old.exports)) (main_text all number rows) in
         omega (arith, exports, imports, mains, within, split, functions, protos, sizes, name, whole)

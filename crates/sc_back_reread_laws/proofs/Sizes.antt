@@ -1,26 +1,26 @@
 -- How long a section is at least, by its tree: each of its tokens has its own bytes.
-use Rattle.sc_back_reread_laws.proofs.Common.{AllByRecursion, AllZip, Bool, Decl, ExprTree, FunctionTree, Grouped}
-use Rattle.sc_back_reread_laws.proofs.Common.{ImportLine, IsRead, Lexeme, List, None, Option, SectionTree, Some}
-use Rattle.sc_back_reread_laws.proofs.Common.{SpellsDecl, SpellsDirectives, SpellsFunction, SpellsHead, SpellsSection}
-use Rattle.sc_back_reread_laws.proofs.Common.{Symbol, TextPart, Token, TokenKind, [], ap, arith, begins_heading, codes}
-use Rattle.sc_back_reread_laws.proofs.Common.{drop, false, false≢true, filter, fourth_word, get_or, head_of, ident_in}
-use Rattle.sc_back_reread_laws.proofs.Common.{ident_of, if◌then◌else◌, import_of, is_blank, is_export, is_import, is_name}
-use Rattle.sc_back_reread_laws.proofs.Common.{is_pragma, is_reserved, length, length-append, length-take-le}
-use Rattle.sc_back_reread_laws.proofs.Common.{lexemes_of, map, mark_of, name_of, not, number_in, only_name}
-use Rattle.sc_back_reread_laws.proofs.Common.{option_and_then, option_map, or_unused, param_of, refl, slice_index}
-use Rattle.sc_back_reread_laws.proofs.Common.{slice_range, subst, suc, sym, take, third_word, true, ℕ, ◌&&◌, ◌*◌, ◌++◌}
-use Rattle.sc_back_reread_laws.proofs.Common.{◌+◌, ◌-◌, ◌<◌, ◌∙◌, ◌∷◌, ◌≡◌, ◌≤◌}
+use Rattle.sc_back_reread_laws.proofs.Common.{AllByRecursion, Bool, Decl, FunctionTree, Grouped, ImportLine, IsRead}
+use Rattle.sc_back_reread_laws.proofs.Common.{Lexeme, List, None, Option, SectionTree, Some, SpellsDecl}
+use Rattle.sc_back_reread_laws.proofs.Common.{SpellsDirectives, SpellsFunction, SpellsHead, SpellsSection, Symbol}
+use Rattle.sc_back_reread_laws.proofs.Common.{TextPart, Token, TokenKind, [], ap, arith, begins_heading, codes, drop}
+use Rattle.sc_back_reread_laws.proofs.Common.{false, false≢true, filter, fourth_word, get_or, head_of, ident_in}
+use Rattle.sc_back_reread_laws.proofs.Common.{ident_of, if◌then◌else◌, import_of, is_blank, is_export, is_import}
+use Rattle.sc_back_reread_laws.proofs.Common.{is_name, is_pragma, is_reserved, length, length-take-le, lexemes_of, map}
+use Rattle.sc_back_reread_laws.proofs.Common.{mark_of, name_of, not, number_in, only_name, option_and_then, option_map}
+use Rattle.sc_back_reread_laws.proofs.Common.{or_unused, param_of, refl, slice_index, slice_range, subst, suc, sym}
+use Rattle.sc_back_reread_laws.proofs.Common.{take, third_word, true, ℕ, ◌&&◌, ◌*◌, ◌++◌, ◌+◌, ◌-◌, ◌<◌, ◌∙◌, ◌∷◌, ◌≡◌}
+use Rattle.sc_back_reread_laws.proofs.Common.{◌≤◌}
 use Rattle.std.proofs.Common.{bytes_eq, cond, is_some}
 use Rattle.std.proofs.lemmas.Bool.{and_parts}
 use Rattle.std.proofs.lemmas.List.{length-map}
 use Rattle.std.specs.List.{onto_first, slice_split}
 use Rattle.std.specs.Option.{option_or}
 use Rattle.sc_base.proofs.Texts.{same_text}
-use Rattle.sc_lex.specs.Prelude.{Cuts, IsCut, IsToken, is_empty}
+use Rattle.sc_lex.specs.Prelude.{Cuts, IsToken, is_empty}
 unfoldable use Rattle.sc_lex.specs.Prelude.{heading_name, is_integer, is_mark, kind_of, line_kind, word_kind, words}
 use Rattle.sc_lex.specs.Cutting as cutting
 use Rattle.sc_lex.specs.declared.token.TokenKind.TheVariants as kind
-use Rattle.sc_lex.proofs.Gaps.{gap_fits, token_positive}
+use Rattle.sc_lex.proofs.Gaps.{token_positive}
 use Rattle.sc_lex.proofs.Wording.{heading_fits}
 use Rattle.sc_ast.specs.declared.section.Decl.TheVariants as decl
 use Rattle.sc_ast.specs.declared.section.ExportLine.{ExportLine}
@@ -29,7 +29,7 @@ use Rattle.sc_ast.specs.declared.section.HeadTree.{HeadTree}
 use Rattle.sc_ast.specs.declared.section.ParamTree.{ParamTree}
 use Rattle.sc_ast.specs.declared.types.BaseTree.{BaseTree}
 use Rattle.sc_ast.specs.declared.types.TypeName.{TypeName}
-use Rattle.sc_parse_expr.specs.Lexemes.{look_up, keyword_texts}
+use Rattle.sc_parse_expr.specs.Lexemes.{keyword_texts, look_up}
 unfoldable use Rattle.sc_parse_expr.specs.Lexemes.{keyword_of, says}
 use Rattle.sc_parse_expr.specs.declared.mark.Keyword.{Keyword}
 use Rattle.sc_parse_expr.specs.declared.mark.Keyword.TheVariants as word
@@ -338,7 +338,10 @@ head_long _ _ (decls.head {ts = ts} {us = us} {result = result} {params = params
     let closed = ap least closes in
     let outer = bytes_both ts (t ∷ u ∷ (us ++ v ∷ [])) in
     let inner = bytes_both us (v ∷ []) in
-    (omega (arith, n, p0, named, opened, closed, outer, inner), omega (arith, n, p1, named, opened, closed, outer, inner))
+    (
+      omega (arith, n, p0, named, opened, closed, outer, inner),
+      omega (arith, n, p1, named, opened, closed, outer, inner),
+    )
 
 sizes_both : (ds es : List Decl) → decls_size (ds ++ es) ≡ decls_size ds + decls_size es
 sizes_both [] es = omega arith
