@@ -12,7 +12,7 @@ use Rattle.std.specs.Fmt.{decimal, signed_decimal}
 use Rattle.std.specs.Int.{cast_signed, w32}
 use Rattle.std.specs.List.{AllByRecursion}
 use Rattle.std.specs.Option.{option_map_or}
-use Rattle.sc_base.specs.Prelude.{is_reserved, signed_text}
+use Rattle.sc_base.specs.Prelude.{IsWord, IsWordOrNone, is_reserved, signed_text}
 unfoldable use Rattle.sc_base.specs.Prelude.{is_name}
 use Rattle.sc_base.proofs.Filled.{name_is_short}
 use Rattle.sc_event.specs.declared.interface.Import.{Import}
@@ -20,7 +20,7 @@ use Rattle.sc_event.specs.declared.interface.Proto.{Proto}
 use Rattle.sc_event.specs.declared.interface.Scalar.TheVariants.{Int, Unsigned}
 use Rattle.sc_event.specs.declared.row.Action.{Action}
 use Rattle.sc_event.specs.declared.row.Action.TheVariants.{Call, End, In, Out, Ret}
-use Rattle.sc_back.specs.Sections.{IsCalled, IsSpoken, IsWord, IsWordOrNone}
+use Rattle.sc_back.specs.Sections.{IsCalled, IsSpoken}
 use Rattle.sc_back.specs.Text.{action_text, call_text, export_text, function_text, import_line, import_text, imported}
 use Rattle.sc_back.specs.Text.{input_proto, is_of, joined, main_proto, output_proto, owner_name, param_text}
 use Rattle.sc_back.specs.Text.{params_text, proto_line, proto_text, result_text, return_text, type_text, value_text}

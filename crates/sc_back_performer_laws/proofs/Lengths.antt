@@ -4,12 +4,12 @@ use Rattle.sc_back_performer_laws.proofs.Common.{ExportLine, FunctionTree, HeadT
 use Rattle.sc_back_performer_laws.proofs.Common.{Interfaces, IsCalled, IsImported, List, Proto, Row, SectionTree, Some}
 use Rattle.sc_back_performer_laws.proofs.Common.{Text, [], among, and_parts, ap, are_distinct, arith, bytes_eq, codes}
 use Rattle.sc_back_performer_laws.proofs.Common.{counts_broken, export_names, false, false≢true, fresh_distinct}
-use Rattle.sc_back_performer_laws.proofs.Common.{function_named, functions_in, if◌then◌else◌, import_names, import_of}
-use Rattle.sc_back_performer_laws.proofs.Common.{interface_broken, interface_of, interfaces_of, is_name, length}
-use Rattle.sc_back_performer_laws.proofs.Common.{length-append, length-map, main_proto, map, not, owner_name, promised}
-use Rattle.sc_back_performer_laws.proofs.Common.{protos_in, refl, same_either_way, same_text, scalar_of, slice_get}
-use Rattle.sc_back_performer_laws.proofs.Common.{subst, suc, sym, true, ℕ, ◌*◌, ◌++◌, ◌+◌, ◌==◌, ◌||◌, ◌∙◌, ◌∷◌, ◌≡◌}
-use Rattle.sc_back_performer_laws.proofs.Common.{◌≤◌}
+use Rattle.sc_back_performer_laws.proofs.Common.{function_decls, function_named, if◌then◌else◌, import_names}
+use Rattle.sc_back_performer_laws.proofs.Common.{import_of, interface_broken, interface_of, interfaces_of, is_name}
+use Rattle.sc_back_performer_laws.proofs.Common.{length, length-append, length-map, main_proto, map, not, owner_name}
+use Rattle.sc_back_performer_laws.proofs.Common.{promised, protos_in, refl, same_either_way, same_text, scalar_of}
+use Rattle.sc_back_performer_laws.proofs.Common.{slice_get, subst, suc, sym, true, ℕ, ◌*◌, ◌++◌, ◌+◌, ◌==◌, ◌||◌, ◌∙◌}
+use Rattle.sc_back_performer_laws.proofs.Common.{◌∷◌, ◌≡◌, ◌≤◌}
 use Rattle.std.proofs.Common.{flat_map}
 use Rattle.std.proofs.lemmas.List.Elements.{recursion_from_All}
 use Rattle.sc_types_scope.specs.Prelude.{proto_of}
@@ -88,7 +88,7 @@ abbrev proto_name : HeadTree → Text
 proto_name head = head.name
 
 all_sizes : (decls : List Decl) → decls_size decls ≡
-    sum_all function_name function_size (functions_in decls) + sum_all proto_name proto_size (protos_in decls)
+    sum_all function_name function_size (function_decls decls) + sum_all proto_name proto_size (protos_in decls)
 all_sizes [] = omega arith
 all_sizes (decl.Struct tree ∷ decls) = let rest = all_sizes decls in omega (arith, rest)
 all_sizes (decl.Global tree ∷ decls) = let rest = all_sizes decls in omega (arith, rest)
@@ -151,7 +151,7 @@ module _ (olds : List SectionTree) (in_interfaces : interface_broken olds ≡ []
   all = interfaces_of olds
 
   abbrev trees : List FunctionTree
-  trees = functions_in old.decls
+  trees = function_decls old.decls
 
   abbrev heads : List HeadTree
   heads = protos_in old.decls

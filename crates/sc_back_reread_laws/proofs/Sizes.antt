@@ -4,7 +4,7 @@ use Rattle.sc_back_reread_laws.proofs.Common.{Lexeme, List, None, Option, Sectio
 use Rattle.sc_back_reread_laws.proofs.Common.{SpellsDirectives, SpellsFunction, SpellsHead, SpellsSection, Symbol}
 use Rattle.sc_back_reread_laws.proofs.Common.{TextPart, Token, TokenKind, [], ap, arith, begins_heading, codes, drop}
 use Rattle.sc_back_reread_laws.proofs.Common.{false, false≢true, filter, fourth_word, get_or, head_of, ident_in}
-use Rattle.sc_back_reread_laws.proofs.Common.{ident_of, if◌then◌else◌, import_of, is_blank, is_export, is_import}
+use Rattle.sc_back_reread_laws.proofs.Common.{ident_of, if◌then◌else◌, import_symbol, is_blank, is_export, is_import}
 use Rattle.sc_back_reread_laws.proofs.Common.{is_name, is_pragma, is_reserved, length, length-take-le, lexemes_of, map}
 use Rattle.sc_back_reread_laws.proofs.Common.{mark_of, name_of, not, number_in, only_name, option_and_then, option_map}
 use Rattle.sc_back_reread_laws.proofs.Common.{or_unused, param_of, refl, slice_index, slice_range, subst, suc, sym}
@@ -17,7 +17,8 @@ use Rattle.std.specs.List.{onto_first, slice_split}
 use Rattle.std.specs.Option.{option_or}
 use Rattle.sc_base.proofs.Texts.{same_text}
 use Rattle.sc_lex.specs.Prelude.{Cuts, IsToken, is_empty}
-unfoldable use Rattle.sc_lex.specs.Prelude.{heading_name, is_integer, is_mark, kind_of, line_kind, word_kind, words}
+unfoldable use Rattle.sc_lex.specs.Prelude.{heading_name, is_integer_constant, is_mark, line_kind, token_kind}
+unfoldable use Rattle.sc_lex.specs.Prelude.{word_kind, words}
 use Rattle.sc_lex.specs.Cutting as cutting
 use Rattle.sc_lex.specs.declared.token.TokenKind.TheVariants as kind
 use Rattle.sc_lex.proofs.Gaps.{token_positive}
@@ -212,16 +213,16 @@ by_import false false false false true false true im k = absurd (false≢true k)
 by_import false false false false true false false true k = refl
 by_import false false false false true false false false k = absurd (false≢true k)
 
-export_is : (text : List ℕ) → kind_of text ≡ Some kind.Export → is_export (words text) ≡ true
-unfolding kind_of word_kind line_kind
+export_is : (text : List ℕ) → token_kind text ≡ Some kind.Export → is_export (words text) ≡ true
+unfolding token_kind word_kind line_kind
 export_is text h =
-    by_export (is_reserved text) (is_name text) (is_integer text) (is_mark text) (is_pragma text)
+    by_export (is_reserved text) (is_name text) (is_integer_constant text) (is_mark text) (is_pragma text)
     (is_some (heading_name text)) (is_export (words text)) (is_import (words text)) (ap (is_of_kind true) h)
 
-import_is : (text : List ℕ) → kind_of text ≡ Some kind.Import → is_import (words text) ≡ true
-unfolding kind_of word_kind line_kind
+import_is : (text : List ℕ) → token_kind text ≡ Some kind.Import → is_import (words text) ≡ true
+unfolding token_kind word_kind line_kind
 import_is text h =
-    by_import (is_reserved text) (is_name text) (is_integer text) (is_mark text) (is_pragma text)
+    by_import (is_reserved text) (is_name text) (is_integer_constant text) (is_mark text) (is_pragma text)
     (is_some (heading_name text)) (is_export (words text)) (is_import (words text)) (ap (is_of_kind false) h)
 
 -- TOKENS
@@ -231,12 +232,12 @@ said_long make count None h = omega arith
 said_long make count (Some x) h = h x refl
 
 import_said : (count : ℕ) (o p : Option (List ℕ)) → ((comp name : List ℕ) → o ≡ Some comp → p ≡ Some name →
-    16 + (length comp + length name) ≤ count) → least (or_unused (import_of o p)) ≤ count
+    16 + (length comp + length name) ≤ count) → least (or_unused (import_symbol o p)) ≤ count
 import_said count None p h = omega arith
 import_said count (Some comp) None h = omega arith
 import_said count (Some comp) (Some name) h = h comp name refl refl
 
-says_long : (k : TokenKind) (text : List ℕ) → kind_of text ≡ Some k → 0 < length text →
+says_long : (k : TokenKind) (text : List ℕ) → token_kind text ≡ Some k → 0 < length text →
     least (or_unused (says k text)) ≤ length text
 unfolding says
 says_long kind.Ident text is some =

@@ -1,4 +1,4 @@
-use Rattle.sc_top.proofs.Common.{Explain, List, among, comp_of, length, map, refl, rules, subst, sym, take, word_of, ℕ}
+use Rattle.sc_top.proofs.Common.{Explain, List, comp_of, is_listed, length, map, refl, rules, subst, sym, take, word_of, ℕ}
 use Rattle.sc_top.proofs.Common.{◌≤◌}
 use Rattle.sc_top.proofs.Outputs.{compiled_cause}
 use Rattle.sc_top.proofs.Chains.{explained_perform}
@@ -25,5 +25,5 @@ returns-clause-ok c = record {
   written = c.in_ok-account.ensures;
   short = λ links. c.in_ok-explanation.ensures.explained.short
       (subst (λ (text : List ℕ). length text ≤ 1048576) (sym c.in_ok-source.ensures.accepted.0) c.requires.short)
-      (among (map comp_of (take links c.in_ok-explanation.explanation.links)));
+      (is_listed (map comp_of (take links c.in_ok-explanation.explanation.links)));
 }
