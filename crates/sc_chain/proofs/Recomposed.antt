@@ -4,13 +4,13 @@ use Rattle.sc_chain.proofs.Common.{IsScripted}
 use Rattle.sc_chain.proofs.Common.{IsSource, IsSplitInto, List, None, Option, TextPart, ProgramTree, Replacement, Some}
 use Rattle.sc_chain.proofs.Common.{SourceParts, [], is_listed, ap, ap₂, concat, eqb-true, false, if◌then◌else◌}
 use Rattle.sc_chain.proofs.Common.{joined_text}
-use Rattle.sc_chain.proofs.Common.{legal, length, list_any, map, meaning, new_text, new_texts, part_of, performing}
+use Rattle.sc_chain.proofs.Common.{legal, length, list_any, map, meaning, new_text, new_texts, performing}
 use Rattle.sc_chain.proofs.Common.{performing_text, recomposed, recursion_from_All, refl, replacement_of, subst, suc}
 use Rattle.sc_chain.proofs.Common.{sym, text_for, true, ℕ, ◌++◌, ◌<◌, ◌==◌, ◌||◌, ◌∙◌, ◌∷◌, ◌≡◌, ◌≤◌}
 use Rattle.sc_lex.specs.Prelude.{IsSplit}
-use Rattle.sc_lex.specs.declared.section.Section.{Section}
 use Rattle.sc_parse_read.proofs.Splits.{same_parts, same_preamble}
 use Rattle.sc_chain.proofs.Accepted as accepted
+use Rattle.sc_chain.proofs.Lengths.{part_bytes, within_limit}
 
 -- The replacements of a list of compartments are those of their set.
 text_is : (interfaces : Interfaces) (trace : List Event) (comps : List ℕ) (comp : ℕ) →
@@ -53,11 +53,6 @@ within_all count (one ∷ comps) h comp own = by (one == comp) refl own (within_
 
 -- a text is split in one way
 
-part_bytes : (sections : List Section) →
-    map (λ section. section.bytes.now) sections ≡ map (λ (part : TextPart). part.bytes) (map part_of sections)
-part_bytes [] = refl
-part_bytes (section ∷ sections) = ap (λ rest. section.bytes.now ∷ rest) (part_bytes sections)
-
 one_split : (text preamble other : List ℕ) (sections others : List (List ℕ)) → IsSplitInto text preamble sections →
     IsSplitInto text other others → (preamble ≡ other) × (sections ≡ others)
 one_split text preamble other sections others a b = (
@@ -80,6 +75,7 @@ is_scripted source trace comps is allowed few words known =
         interfaces = accepted.same_interfaces source trace is allowed few words (is_listed comps) within;
         means = accepted.means source trace is allowed few words (is_listed comps) within;
         blames = accepted.blames source trace is allowed few words (is_listed comps) within;
+        short = λ compiled. within_limit source trace is allowed few words compiled (is_listed comps);
       },
     )
 

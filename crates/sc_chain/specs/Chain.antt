@@ -1,6 +1,7 @@
 -- The account of a run of the machine: a chain of texts. The first is the program's own; each later one has one section
 -- more that performs its part of the trace, that of the compartment which the meaning of the text before it blames
 -- after a proper, ever longer prefix of the trace; the meaning of the last is the trace.
+use Rattle.sc_base.specs.Prelude.{most_compiled, most_text}
 use Rattle.sc_chain.specs.Common.{Accepts, Blamed, Event, Link, ProgramTree, SourceParts, image_of, meaning}
 use Rattle.sc_compile.specs.Prelude.{IsCompiled}
 use Rattle.sc_image.specs.Prelude.{machine}
@@ -71,3 +72,6 @@ pub record IsExplained (source : SourceParts) (inputs : List ℕ) (steps events 
   pub trace : explanation.trace ≡ (machine image inputs steps events).state.trace
   pub stop : explanation.stop ≡ (machine image inputs steps events).stop
   pub chain : IsChain source inputs steps explanation.trace explanation.links
+  -- where the program's text isn't too long to be compiled, no text in which compartments perform is too long to be read
+  pub short : length source.bytes ≤ most_compiled → (set : ℕ → Bool) →
+      length (recomposed source explanation.trace set) ≤ most_text

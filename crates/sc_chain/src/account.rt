@@ -180,7 +180,9 @@ pub fn explain(
     let Ok(observed) = run_image(alloc, image, inputs, steps, events) else {
         return Err(ExplainFault::OutOfMemory);
     };
-    let Ok(links) = chain(alloc, source, inputs, steps, observed.trace.as_slice()) else {
+    let emitted = observed.trace.as_slice();
+    have_words(emitted);
+    let Ok(links) = chain(alloc, source, inputs, steps, emitted) else {
         return Err(ExplainFault::OutOfMemory);
     };
     let MachineRun { trace, stop } = observed;

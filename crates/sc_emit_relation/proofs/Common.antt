@@ -17,9 +17,10 @@ pub use Rattle.sc_core.specs.Prelude.{Block, Blocks, Break, Closed, Continue, Do
 pub use Rattle.sc_core.specs.Prelude.{Left, Next, Opened, Piece, Reached, Return, State, Stopped, all_do, and_then}
 pub use Rattle.sc_core.specs.Prelude.{apart, applied_one, begun, between, bind, blocks_for, cell_of, cells_at, computed}
 pub use Rattle.sc_core.specs.Prelude.{done, ended, follow, in_elements, in_loop, in_order, is_inside, is_live, is_zero}
-pub use Rattle.sc_core.specs.Prelude.{leave, live_cells, load, loaded, loop, moved, moved_back, moved_on, negated_word}
-pub use Rattle.sc_core.specs.Prelude.{number_of, of_bool, on_all_words, on_words, ordered, place_at, rounds, same_place}
-pub use Rattle.sc_core.specs.Prelude.{store, take, truth, turn, turn_of, with_blocks, with_cell, with_memory, wrapping}
+pub use Rattle.sc_core.specs.Prelude.{leave, live_cells, living, load, loaded, loop, moved, moved_back, moved_on}
+pub use Rattle.sc_core.specs.Prelude.{negated_word, number_of, of_bool, on_all_words, on_words, ordered, place_at}
+pub use Rattle.sc_core.specs.Prelude.{rounds, same_place, store, take, truth, turn, turn_of, variable, with_blocks}
+pub use Rattle.sc_core.specs.Prelude.{with_cell, with_memory, wrapping}
 pub use Rattle.sc_core.specs.declared.cause.Cause.{Cause}
 pub use Rattle.sc_core.specs.declared.cause.Cause.TheVariants.{BadPointer, BadType, Dangling, OutOfBounds}
 pub use Rattle.sc_core.specs.declared.value.Pointer.{Pointer}
@@ -31,7 +32,7 @@ pub use Rattle.rv_code.specs.declared.instr.Instr.{Instr}
 pub use Rattle.sc_store.specs.Prelude.{ByteMemory}
 pub use Rattle.sc_image.proofs.Memory.{few_globals}
 pub use Rattle.sc_image.specs.Prelude.{IsWellFormed, IsWord, Traps, Walks, data_start, stack_size, stack_top, step}
-pub use Rattle.sc_image.specs.Prelude.{word_at}
+pub use Rattle.sc_image.specs.Prelude.{word_at, zone_start}
 pub use Rattle.sc_tac.specs.Prelude.{Codes, FrameFits, InSlot, IsClear, IsFrame, Lives, Point, Range, TempSet, Temps}
 pub use Rattle.sc_tac.specs.Prelude.{Trail}
 pub use Rattle.sc_tac.specs.Prelude.{ahead_at, end_of, in_body, in_head, in_next, is_comparison, is_one, is_pointer}

@@ -4,9 +4,9 @@ use Rattle.sc_emit_relation.proofs.Common.{Activation, All, Apart, Blocks, Frame
 use Rattle.sc_emit_relation.proofs.Common.{IsWord, Joint, Leads, List, ByteMemory as Bytes, Ok, Place, Pointer}
 use Rattle.sc_emit_relation.proofs.Common.{Protected}
 use Rattle.sc_emit_relation.proofs.Common.{Ptr, Registers, Setting, Settled, Some, Standpoint, StandsFor, Value, Walks}
-use Rattle.sc_emit_relation.proofs.Common.{arith, cases_eq, false, inr, machine, own_words, put_word, refl, seen_from}
-use Rattle.sc_emit_relation.proofs.Common.{slice_get, store, walks_steady, with_memory, word, word_apart, ℕ, ⊎_elim}
-use Rattle.sc_emit_relation.proofs.Common.{◌*◌, ◌+◌, ◌≡◌, ◌≤◌}
+use Rattle.sc_emit_relation.proofs.Common.{arith, cases_eq, false, inl, inr, machine, own_words, put_word, refl}
+use Rattle.sc_emit_relation.proofs.Common.{seen_from, slice_get, store, walks_steady, with_memory, word, word_apart, ℕ}
+use Rattle.sc_emit_relation.proofs.Common.{⊎_elim, ◌*◌, ◌+◌, ◌≡◌, ◌≤◌}
 use Rattle.sc_emit_relation.proofs.Frames.{own_inside}
 use Rattle.sc_emit_relation.proofs.Storing.{CellsKept, other_data, blocks_kept, guarded_cells, was, guarded_kept}
 use Rattle.sc_emit_relation.proofs.Storing.{blocks_after}
@@ -47,7 +47,7 @@ module _ (T : Setting) (formed : IsWellFormed T.image) (inputs : All IsWord T.in
     costs = record { least = omega arith; most = λ all. omega arith };
     effect = record {
       grows = λ k b a e. e;
-      lived = λ k b cells s live. (cells, live, refl);
+      lived = λ k b cells s live. inl (cells, live, refl);
       keeps = kept;
       depths = λ k. refl;
     };
@@ -88,7 +88,7 @@ module _ (T : Setting) (formed : IsWellFormed T.image) (inputs : All IsWord T.in
         lived = λ k b cells h live.
             (let old = was T.image formed T.performs P.floor x.inj x.meant.memory x.bytes s.blocks P.comp a w p v after
             honest stores is_at k b cells live in
-            (old.old, old.live, old.long));
+            inl (old.old, old.live, old.long));
         keeps = λ k q g. guarded_kept T.image formed T.performs P.floor x.inj x.meant.memory x.bytes s.blocks P.comp a w
             p v after honest stores is_at k q g.guard;
         depths = λ k. refl;

@@ -2,12 +2,12 @@
 use Rattle.sc_emit_relation.specs.Common.{Addresses, AllBefore, CallTarget, Cell, Crossing, Grown, ImageParts}
 use Rattle.sc_emit_relation.specs.Common.{IsSteadyState}
 use Rattle.sc_emit_relation.specs.Common.{Memory, Piece, Registers, State as Meant, Traps, Value, Walks, at, last}
-use Rattle.sc_emit_relation.specs.Common.{stack_depth, stack_size, stack_top, step, word}
+use Rattle.sc_emit_relation.specs.Common.{stack_depth, stack_size, stack_top, step, word, zone_start}
 use Rattle.sc_emit_hart.specs.Prelude.{LacksRoom, TakesLast}
 use Rattle.sc_store.specs.Prelude.{ByteMemory as Bytes}
 use Rattle.sc_image.specs.Prelude.{MachineState}
-use Rattle.std.specs.Prelude.{◌≡◌, ◌≢◌, ℕ, suc, ◌+◌, ◌*◌, ◌<◌, ◌≤◌, Bool, false, List, length, drop, Option, None, Some}
-use Rattle.std.specs.Prelude.{slice_index}
+use Rattle.std.specs.Prelude.{◌≡◌, ◌≢◌, ℕ, suc, ◌+◌, ◌*◌, ◌<◌, ◌≤◌, ◌⊎◌, Bool, false, List, length, drop, Option, None}
+use Rattle.std.specs.Prelude.{Some, slice_index}
 use Rattle.sc_base.specs.declared.stop.TrapReason.TheVariants.{Owner}
 use Rattle.sc_emit_relation.specs.Blocks.{Injection, StandsFor, LiveAt, BlocksMatch, Guarded}
 
@@ -79,9 +79,10 @@ module _ (T : Setting) where
   -- what a stretch leaves unchanged
   pub record Effect (P : Standpoint) (x y : Joint) : Type 0 where
     pub grows : (k b a : ℕ) → x.inj k b ≡ Some a → y.inj k b ≡ Some a
-    -- what lives after it lived before, with as many cells
+    -- what lives after it lived before, with as many cells, or lies in the zone
     pub lived : (k b : ℕ) (cells : List Cell) → T.performs k ≡ false → LiveAt y.meant.memory k b cells →
-        (old : List Cell) × LiveAt x.meant.memory k b old × (length cells ≡ length old)
+        ((old : List Cell) × LiveAt x.meant.memory k b old × (length cells ≡ length old))
+        ⊎ ((a : ℕ) × (y.inj k b ≡ Some a) × (zone_start k ≤ a))
     pub keeps : (k q : ℕ) → Protected P x.inj x.meant.memory k q → word y.bytes q ≡ word x.bytes q
     pub depths : (k : ℕ) → stack_depth k y.meant ≡ stack_depth k x.meant
 

@@ -2,9 +2,10 @@
 use Rattle.sc_emit_run_laws.proofs.Common.{All, ComesBack, Ecall, Fetches, In, Input, IsAt, IsWellFormed, IsWord, Joint}
 use Rattle.sc_emit_run_laws.proofs.Common.{List, None, Out, Output, Setting, Settled, Some, Standpoint, StandsFor}
 use Rattle.sc_emit_run_laws.proofs.Common.{Walks, Word, [], a0, a7, ap, arith, came_by, drop, drop_next, emit_event}
-use Rattle.sc_emit_run_laws.proofs.Common.{input_at, listed, machine, may_input, may_output, next_input, put, put_here}
-use Rattle.sc_emit_run_laws.proofs.Common.{put_there, read_input, read_listed, refl, sp, steps_emit, subst, suc, sym}
-use Rattle.sc_emit_run_laws.proofs.Common.{true, walks_steady, write_listed, written, zero, ℕ, ◌++◌, ◌+◌, ◌∙◌, ◌∷◌, ◌≡◌}
+use Rattle.sc_emit_run_laws.proofs.Common.{inl, input_at, listed, machine, may_input, may_output, next_input, put}
+use Rattle.sc_emit_run_laws.proofs.Common.{put_here, put_there, read_input, read_listed, refl, sp, steps_emit, subst}
+use Rattle.sc_emit_run_laws.proofs.Common.{suc, sym, true, walks_steady, write_listed, written, zero, ℕ, ◌++◌, ◌+◌, ◌∙◌}
+use Rattle.sc_emit_run_laws.proofs.Common.{◌∷◌, ◌≡◌}
 use Rattle.sc_image.specs.Prelude.{MachineState}
 use Rattle.sc_emit_run_laws.proofs.Turning.{before_timed}
 
@@ -88,7 +89,7 @@ module _ (T : Setting) (formed : IsWellFormed T.image) (inputs : All IsWord T.in
         costs = record { least = omega arith; most = λ all. omega arith };
         effect = record {
           grows = λ k b a e. e;
-          lived = λ k b cells h live. (cells, live, refl);
+          lived = λ k b cells h live. inl (cells, live, refl);
           keeps = λ k q p. refl;
           depths = λ k. refl;
         };
@@ -133,7 +134,7 @@ module _ (T : Setting) (formed : IsWellFormed T.image) (inputs : All IsWord T.in
         costs = record { least = omega arith; most = λ all. omega arith };
         effect = record {
           grows = λ k b a e. e;
-          lived = λ k b cells h live. (cells, live, refl);
+          lived = λ k b cells h live. inl (cells, live, refl);
           keeps = λ k q p. refl;
           depths = λ k. refl;
         };

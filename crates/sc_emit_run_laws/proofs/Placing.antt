@@ -22,6 +22,7 @@ use Rattle.sc_tac.specs.declared.machine_code.Relocation.{Relocation}
 use Rattle.sc_emit.proofs.Passing.{AllPass, PassesAll, PassesHere, Test, choice_passes, first_passes, loop_passes}
 use Rattle.sc_emit.proofs.Passing.{passes, passes_here, rest_pass}
 use Rattle.sc_emit_run_laws.proofs.Sections.{InSection, in_functions, its_section}
+use Rattle.sc_core.specs.Prelude.{live_cells}
 
 -- the first word of linked code
 first_word : (image : ImageParts) (A : Addresses) (comp address pc at : ℕ) (low : Option ℕ) (instrs : List Instr)
@@ -252,8 +253,8 @@ module _ (program : TacTree) (image : ImageParts) (inputs : List ℕ) (performs 
   global_place comp number section here below =
       let its = is_there section.globals number below in
       (linked.globals comp number _
-      (ap (λ o. slice_get (first_blocks o) number) here ∙ slice_get-map _ section.globals number ∙
-      ap (option_map _) its.1)).is_address
+      (ap live_cells (ap (λ o. slice_get (first_blocks o) number) here ∙ slice_get-map _ section.globals number ∙
+      ap (option_map _) its.1))).is_address
 
   some_within : {X : Type 0} (xs : List X) (i : ℕ) (o : Option X) → slice_get xs i ≡ o → is_some o ≡ true →
       i < length xs

@@ -7,12 +7,13 @@ use Rattle.sc_emit_run_laws.proofs.Common.{cond, count, eqb-true, false, first_s
 use Rattle.sc_emit_run_laws.proofs.Common.{functions_or_none, gate, has_head, if◌then◌else◌, length, lt-ltb, ltb-true}
 use Rattle.sc_emit_run_laws.proofs.Common.{main_entered, nat_lt, not, option_map, or_parts, position, position-cons}
 use Rattle.sc_emit_run_laws.proofs.Common.{refl, runs_are_steady, same_Some, same_entry, setting, slice_get}
-use Rattle.sc_emit_run_laws.proofs.Common.{slice_get_within, slice_index, stack_top, stack_tops, start_memory, subst}
+use Rattle.sc_emit_run_laws.proofs.Common.{slice_index, stack_top, stack_tops, start_memory, subst}
 use Rattle.sc_emit_run_laws.proofs.Common.{suc, sym, true, truth, word, wrapping, zero, zero-add, ℕ, ◌*◌, ◌+◌, ◌<◌}
 use Rattle.sc_emit_run_laws.proofs.Common.{◌==◌, ◌||◌, ◌∙◌, ◌∷◌, ◌≡◌, ◌≤◌, ◌⊎◌}
 use Rattle.sc_core.specs.declared.value.Cell.TheVariants as cell
 use Rattle.sc_image.specs.declared.parts.CompPart.{CompPart}
 use Rattle.sc_emit_run_laws.proofs.Sections.{all_at, position_at}
+use Rattle.sc_emit_relation.proofs.Access.{live_within}
 
 -- THE FUNCTION OF `main`
 
@@ -155,7 +156,7 @@ module _ (program : TacTree) (image : ImageParts) (inputs : List ℕ) (performs 
   blocks = record {
     there = λ k b cells honest live. (
       (addresses k).global b,
-      placed_below (length (globals k)) (addresses k).global b (slice_get_within (globals k) b _ live),
+      placed_below (length (globals k)) (addresses k).global b (live_within (globals k) b cells live),
     );
     placed = λ k b a cells honest live e. subst (λ a. Placed image (stack_top k) k a (length cells))
         (sym (at_place k b a e)) (linked.globals k b cells live).placed;

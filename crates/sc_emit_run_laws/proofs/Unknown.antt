@@ -237,7 +237,7 @@ module _ (program : TacTree) (image : ImageParts) (inputs : List ℕ) (set : ℕ
         costs = record { least = omega arith; most = λ all. absurd (never x settled all) };
         effect = record {
           grows = λ k b a e. e;
-          lived = λ k b cells h live. (cells, live, refl);
+          lived = λ k b cells h live. inl (cells, live, refl);
           keeps = λ k q p. refl;
           depths = λ k. refl;
         };
@@ -300,7 +300,7 @@ module _ (program : TacTree) (image : ImageParts) (inputs : List ℕ) (set : ℕ
         costs = record { least = omega arith; most = λ all. absurd (never x settled all) };
         effect = record {
           grows = λ k b a e. e;
-          lived = λ k b cells h live. (cells, live, refl);
+          lived = λ k b cells h live. inl (cells, live, refl);
           keeps = λ k q p. refl;
           depths = λ k. refl;
         };
@@ -431,7 +431,7 @@ module _ (program : TacTree) (image : ImageParts) (inputs : List ℕ) (set : ℕ
             costs = record { least = omega arith; most = λ all. absurd (never x settled all) };
             effect = record {
               grows = λ k b a e. e;
-              lived = λ k b cells h live. (cells, live, refl);
+              lived = λ k b cells h live. inl (cells, live, refl);
               keeps = λ k q p. refl;
               depths = λ k. refl;
             };

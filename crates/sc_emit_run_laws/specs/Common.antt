@@ -6,8 +6,8 @@ pub use Rattle.sc_event.specs.declared.event.Event.{Event}
 pub use Rattle.sc_event.specs.declared.interface.Proto.{Proto}
 pub use Rattle.sc_event.specs.declared.row.Entry.TheVariants.{Export, Main}
 pub use Rattle.sc_core.specs.Prelude.{Body, Calls, FrameChange, Here, IsStop, Piece, Reached, Roles, Run, State}
-pub use Rattle.sc_core.specs.Prelude.{Stopped, and_then, begun, calls, crossing, depth_in, done, option_value, run_step}
-pub use Rattle.sc_core.specs.Prelude.{scripted_step, stopped_at, within, wrapping}
+pub use Rattle.sc_core.specs.Prelude.{Stopped, and_then, begun, calls, cells_at, crossing, depth_in, done, option_value}
+pub use Rattle.sc_core.specs.Prelude.{run_step, scripted_step, stopped_at, within, wrapping}
 pub use Rattle.sc_core.specs.declared.expr.CallTarget.TheVariants.{Cross, Input, Output, Own}
 pub use Rattle.sc_core.specs.declared.run.RunEnd.TheVariants.{Blamed, Ended, EventsOut, TurnsOut}
 pub use Rattle.sc_core.specs.declared.value.Value.{Value}

@@ -30,6 +30,10 @@ stack_top c = data_start c + stack_size
 abbrev pub most_globals : ℕ
 most_globals = 458752
 
+-- where the zone of compartment c begins, above its stack and its globals
+abbrev pub zone_start : ℕ → ℕ
+zone_start c = data_start c + 0x80000
+
 -- the address that a function returns to where it was called from outside: nobody's
 abbrev pub gate : ℕ
 gate = 0x00000100

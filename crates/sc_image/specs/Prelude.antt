@@ -21,6 +21,7 @@ pub use Rattle.sc_image.specs.Isolation.{RunsAreSteady, RunsAt, activates, after
 pub use Rattle.sc_image.specs.Isolation.{emits_entry, later, observation_at, observation_of, own_at}
 pub use Rattle.sc_image.specs.Layout.{Filled, code_in, code_start, comp_of_code, comp_of_data, data_regions, data_start}
 pub use Rattle.sc_image.specs.Layout.{data_with, gate, initial_globals, most_globals, stack_size, stack_top, stretch}
+pub use Rattle.sc_image.specs.Layout.{zone_start}
 unfoldable pub use Rattle.sc_image.specs.Layout.{are_data, word_at}
 pub use Rattle.sc_image.specs.Machine.{MachineRun, after, continued, is_end, is_ended, machine, stops_or}
 pub use Rattle.sc_image.specs.Machine.{unless_stopped}

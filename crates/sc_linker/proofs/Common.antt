@@ -27,11 +27,11 @@ pub use Rattle.sc_event.specs.Prelude.{comp_at, export_at, imports, is_function,
 pub use Rattle.sc_event.specs.declared.interface.Import.{Import}
 pub use Rattle.sc_event.specs.declared.interface.Interfaces.{Interfaces}
 pub use Rattle.sc_core.specs.Prelude.{Block, IsWellTyped, are_distinct, base_cells, base_within, base_zeros}
-pub use Rattle.sc_core.specs.Prelude.{callable_in, callable_names, cells_of, entry_in, export_fits, export_names}
-pub use Rattle.sc_core.specs.Prelude.{first_blocks, function_fits, global_block, global_fits, globals_of}
+pub use Rattle.sc_core.specs.Prelude.{callable_in, callable_names, cells_at, cells_of, entry_in, export_fits}
+pub use Rattle.sc_core.specs.Prelude.{export_names, first_blocks, function_fits, global_block, global_fits, globals_of}
 pub use Rattle.sc_core.specs.Prelude.{has_distinct_names, has_few_compartments, has_fitting_sections, has_main}
-pub use Rattle.sc_core.specs.Prelude.{import_fits, import_name, interface_fits, is_main, is_plain_name, main_fits}
-pub use Rattle.sc_core.specs.Prelude.{main_name, member_zeros, members_fit, most_compartments, most_exports}
+pub use Rattle.sc_core.specs.Prelude.{import_fits, import_name, interface_fits, is_main, is_plain_name, live_cells}
+pub use Rattle.sc_core.specs.Prelude.{main_fits, main_name, member_zeros, members_fit, most_compartments, most_exports}
 pub use Rattle.sc_core.specs.Prelude.{most_params, place_named, place_of_export, proto_signature, repeated}
 pub use Rattle.sc_core.specs.Prelude.{same_signature, same_types, scalar_ty, section_fits, sections_fit, signature_of}
 pub use Rattle.sc_core.specs.Prelude.{starred_cells, starred_within, starred_zeros, struct_cells, struct_fits}

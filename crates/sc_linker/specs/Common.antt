@@ -4,7 +4,8 @@ pub use Rattle.sc_event.specs.Prelude.{comp_at, export_at, imports, is_function,
 pub use Rattle.sc_event.specs.declared.interface.Interface.{Interface}
 pub use Rattle.sc_event.specs.declared.interface.Proto.{Proto}
 pub use Rattle.sc_event.specs.declared.row.Entry.TheVariants.{Export, Main}
-pub use Rattle.sc_core.specs.Prelude.{IsWellTyped, cells_of, entry_in, first_blocks, globals_of, place_named, total}
+pub use Rattle.sc_core.specs.Prelude.{IsWellTyped, cells_at, cells_of, entry_in, first_blocks, globals_of, place_named}
+pub use Rattle.sc_core.specs.Prelude.{total}
 pub use Rattle.sc_core.specs.declared.program.ProgramTree.{ProgramTree}
 pub use Rattle.sc_core.specs.declared.section.TypedGlobal.{TypedGlobal}
 pub use Rattle.sc_core.specs.declared.section.TypedSection.{TypedSection}

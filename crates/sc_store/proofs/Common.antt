@@ -11,7 +11,7 @@ pub use Rattle.std.proofs.lemmas.List.{get_or-append_right, get_or-map, get_or-r
 pub use Rattle.std.proofs.lemmas.List.{get_or_default, get_or_past, length-map, length-replicate, take_more}
 pub use Rattle.std.proofs.lemmas.List.Sums.{fails_before_first, sum_by-set}
 pub use Rattle.std.proofs.lemmas.Option.{same_Some}
-pub use Rattle.std.specs.List.{All, find, position, position_or_len}
+pub use Rattle.std.specs.List.{All, find, position, position_or_len, sum_by}
 pub use Rattle.std.specs.Option.{option_map, option_or}
 pub use borrow.Rule.Slice.PartMut.{put_mid}
 pub use Rattle.sc_store.specs.Prelude.{AreApart, AreBelow, AreDistinct, AreOut, ArePlaced, AreSingle, HasBytes}
@@ -22,3 +22,4 @@ pub use Rattle.sc_store.specs.Prelude.{place_of, reaches, region_of, regions_in,
 pub use Rattle.sc_store.specs.Prelude.{with_bytes}
 pub use Rattle.sc_store.specs.Prelude.{written, zeros}
 pub use Rattle.sc_store.specs.declared.region.Region.{Region}
+pub use Rattle.sc_store.specs.Pages.{pages_of}

@@ -1,6 +1,6 @@
 -- What each command writes for the program of a text and its image, or for an image.
 use Rattle.sc_top_words.specs.Words.{most_steps}
-use Rattle.sc_base.specs.Prelude.{most_compiled, most_events}
+use Rattle.sc_base.specs.Prelude.{most_compiled, most_events, most_text}
 use Rattle.sc_top.specs.Common.{Accepts, Command, Interfaces, IsCompiled, IsExplained, IsImage, IsSource, Link}
 use Rattle.sc_top.specs.Common.{ProgramTree, MachineRun, SourceParts, is_listed, image_bytes, image_of}
 use Rattle.sc_top.specs.Common.{image_interfaces, machine}
@@ -97,6 +97,8 @@ pub record IsAccounted (options : RunOptions) (show : Option ℕ) (bytes text : 
   pub explanation : Explanation
   pub explained : IsExplained source (map word_of options.inputs) options.steps options.events explanation
   pub written : text ≡ account show source explanation
+  -- no text of the chain is longer than `meaning` takes
+  pub short : (links : ℕ) → length (text_after source explanation links) ≤ most_text
 
 -- the bytes are those of an image, and the text reports the machine's run on it, by the image's own names
 pub record IsExecuted (options : RunOptions) (bytes text : List ℕ) : Type 0 where
