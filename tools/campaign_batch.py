@@ -1,8 +1,8 @@
 """Runs some inputs of a campaign: `campaign_batch.py BATCH`, in the folder that tools/campaign laid out.
 
-A line of BATCH is an input's number, a tab and its list. For each, its number, a tab and what its run shows are written:
-how it stops, each replacement, the verdict, with semicolons between. It needs nothing but what lies in the folder, so
-that it runs on another machine too.
+A line of BATCH is an input's number, a tab and its list. For each, its number, a tab and what its run shows are
+written: how it stops, each replacement, the verdict, with semicolons between. It needs nothing but what lies in the
+folder, so that it runs on another machine too.
 """
 import json
 import re

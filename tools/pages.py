@@ -3,9 +3,10 @@
 
 Each page is laid out by headless chromium, which reaches no network, in light and in dark. A script that is added to a
 copy tells where everything came to lie, and these places are compared with what a reader has to see: columns, each
-replacement marked over its blamed line, and a loop that is drawn once. Without chromium (in Debian the package `chromium`)
-it says so, and tests nothing. The last line counts.
+replacement marked over its blamed line, and a loop that is drawn once. Without chromium (in Debian the package
+`chromium`) it says so, and tests nothing. The last line counts.
 """
+import html
 import json
 import os
 import re
@@ -19,8 +20,8 @@ from sections import read, secomp
 MEASURE = """
 <script>
 const at = node => { const box = node.getBoundingClientRect();
-  return { kind: node.getAttribute("class") || "", text: node.textContent, left: box.left, right: box.right, top: box.top,
-           bottom: box.bottom, fill: getComputedStyle(node).fill }; };
+  return { kind: node.getAttribute("class") || "", text: node.textContent, fill: getComputedStyle(node).fill,
+           left: box.left, right: box.right, top: box.top, bottom: box.bottom }; };
 const all = name => [...document.querySelectorAll(name)].map(at);
 document.body.setAttribute("data-measured", JSON.stringify({
   texts: all("svg text"), boxes: all("svg rect"), arrows: all("svg path.arrow[marker-end]"), page: all("svg")[0],
@@ -62,7 +63,7 @@ def measured(program, text, scheme, folder):
     found = re.search(r'data-measured="([^"]*)"', ran.stdout)
     if not found:
         raise SystemExit(f"{program} showed no page: {ran.stderr[-500:]}")
-    return json.loads(found.group(1).replace("&quot;", '"').replace("&lt;", "<").replace("&gt;", ">").replace("&amp;", "&"))
+    return json.loads(html.unescape(found.group(1)))
 
 
 def within(inner, outer):

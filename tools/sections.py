@@ -46,7 +46,8 @@ def secomp(words, text):
 
 def program():
     """The program that `./secomp` runs, which is built first where it isn't yet."""
-    ran = subprocess.run([f"{TOP}/secomp"], env={**os.environ, "SECOMP_WHICH": "1"}, stdout=subprocess.PIPE, check=False)
+    asks = {**os.environ, "SECOMP_WHICH": "1"}
+    ran = subprocess.run([f"{TOP}/secomp"], env=asks, stdout=subprocess.PIPE, check=False)
     if ran.returncode:
         sys.exit(ran.returncode)
     return ran.stdout.decode().rstrip("\n")

@@ -1,10 +1,11 @@
 #!/usr/bin/env python3
 """Runs the sessions of docs/TOOLS.md: `tool_sessions.py [WORD]`, at the top of the repository.
 
-A session is a line `$ COMMAND` in a block that is indented by four spaces, with what it writes below it, on both streams.
-They are run in order, in a folder of their own, in which the repository's folders and `secomp` stand. With WORD only those
-are run in which it stands, and those that show nothing. What a program with run-time checks says of itself isn't compared. Where a session wants a
-Debian package that isn't there, that is said. The last line counts; the status is 1 if one failed.
+A session is a line `$ COMMAND` in a block that is indented by four spaces, with what it writes below it, on both
+streams. They are run in order, in a folder of their own, in which the repository's folders and `secomp` stand. With
+WORD only those are run in which it stands, and those that show nothing. What a program with run-time checks says of
+itself isn't compared. Where a session wants a Debian package that isn't there, that is said. The last line counts; the
+status is 1 if one failed.
 """
 import os
 import re
