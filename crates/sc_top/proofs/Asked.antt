@@ -1,9 +1,9 @@
 -- What is asked of `explain` and `make` is bounded.
 use Rattle.sc_top.proofs.Common.{Bool, Check, Command, Compile, Exec, Explain, IsBounded, IsInput, IsWithinLimit, List}
-use Rattle.sc_top.proofs.Common.{Make, MakeOptions, Meaning, None, Option, Run, RunOptions, Some, arith, codes, false, if◌then◌else◌}
-use Rattle.sc_top.proofs.Common.{leb-true, nat_le, none-some, option_and_then, option_map, refl, subst, true, ℕ, ℤ}
-use Rattle.sc_top.proofs.Common.{◌&&◌, ◌≡◌, ◌≤◌}
-use Rattle.sc_top_words.specs.Prelude.{has_option, number_word, number_within, given_value, when_within}
+use Rattle.sc_top.proofs.Common.{Make, MakeOptions, Meaning, None, Option, Run, RunOptions, Some, arith, codes, false}
+use Rattle.sc_top.proofs.Common.{if◌then◌else◌, leb-true, nat_le, none-some, option_and_then, option_map, refl, subst}
+use Rattle.sc_top.proofs.Common.{true, ℕ, ℤ, ◌&&◌, ◌≡◌, ◌≤◌}
+use Rattle.sc_top_words.specs.Prelude.{given_value, has_option, number_within, number_word, when_within}
 use Rattle.std.specs.Str.{bytes_eq}
 use Rattle.sc_top_words.specs.Words as words
 unfoldable use Rattle.sc_top_words.specs.Words.{command}

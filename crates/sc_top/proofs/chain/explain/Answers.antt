@@ -1,5 +1,5 @@
-use Rattle.sc_top.proofs.Common.{Explain, List, comp_of, is_listed, length, map, refl, rules, subst, sym, take, word_of, ℕ}
-use Rattle.sc_top.proofs.Common.{◌≤◌}
+use Rattle.sc_top.proofs.Common.{Explain, List, comp_of, is_listed, length, map, refl, rules, subst, sym, take, word_of}
+use Rattle.sc_top.proofs.Common.{ℕ, ◌≤◌}
 use Rattle.sc_top.proofs.Outputs.{compiled_cause}
 use Rattle.sc_top.proofs.Chains.{explained_perform}
 use Rattle.sc_top.proofs.chain.explain.Goals as goal
