@@ -196,6 +196,7 @@ impl Walk {
 
     /// Over statements in order, from the last one back.
     #[cycle(walk)]
+    #[tactic(auto, using(crate::proofs::Few::stmt_room))]
     pub fn row(&mut self, alloc: Global, exits: Exits, stmts: &TacStmts) -> Result<(), OutOfMemory>
         requires { self.old.points + weight stmts.now < 2 ^ 32 }
         ensures walked { IfOk result (λ _. WalkedAll stmts.now

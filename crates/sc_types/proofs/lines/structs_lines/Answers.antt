@@ -5,8 +5,8 @@ pub loop-decl-preserved : goal.loop-decl-preserved
 loop-decl-preserved c = record {
   noted = structs-noted c.args.sizes.now c.as_slice-decl-items.result.now c.loop-decl.decl-index c.decl-item.result
       c.loop-decl.number _ _ c.loop-decl.lines _ _ c.loop-decl-test.true c.decl-item.is c.loop-decl.invariant.noted
-      c.number.ensures.number c.number.ensures.lines;
-  few = one_more c.args.sizes.now c.decl-item.result _ _ _ c.loop-decl.invariant.few c.number.ensures.number;
+      c.struct_lines-number.ensures.number c.struct_lines-number.ensures.lines;
+  few = one_more c.args.sizes.now c.decl-item.result _ _ _ c.loop-decl.invariant.few c.struct_lines-number.ensures.number;
 }
 
 pub returns : goal.returns

@@ -1,16 +1,11 @@
 use Rattle.sc_live.proofs.Common.{◌∙◌}
-use Rattle.sc_live.proofs.Few.{stmt_after, stmt_room}
+use Rattle.sc_live.proofs.Few.{stmt_after}
 use Rattle.sc_live.proofs.Looping.{cycled}
 use Rattle.sc_live.proofs.Walking.{forked, part_walked, stepped}
 use Rattle.sc_live.proofs.walk.Walk.+walk.Goals as goal
 
 pub part-returns-clause-walked : goal.part-returns-clause-walked
 part-returns-clause-walked t c = part_walked _ _ _ _ _ c.in_ok-continued.ensures c.in_ok-row.ensures.walked
-
-pub row-stmt-requires : goal.row-stmt-requires
-row-stmt-requires t c =
-    stmt_room _ _ _ _ _ _ c.as_slice-list.ensures c.loop-at-test.true c.loop-at.invariant.within c.index-list-at.is
-    c.loop-at.invariant.few c.requires
 
 pub row-loop-at-preserved : goal.row-loop-at-preserved
 row-loop-at-preserved t c =
@@ -32,5 +27,5 @@ stmt-returns-in_ok-join-in-If-clause-walked t c =
 pub stmt-returns-in_ok-part-in-Loop-3-clause-walked : goal.stmt-returns-in_ok-part-in-Loop-3-clause-walked
 stmt-returns-in_ok-part-in-Loop-3-clause-walked t c =
     cycled _ _ _ _ _ _ _ _ _ _ _ _ _ _ c.in-Loop.is (c.replace-broken.ensures.after ∙ c.new.ensures)
-    c.replace-broken.ensures.value c.pass-in-Loop.ensures.walked c.in_ok-part-in-Loop.ensures.walked
-    c.in_ok-part-in-Loop-2.ensures.walked c.in_ok-part-in-Loop-3.ensures.walked c.pass_to-in-Loop.ensures.passed
+    c.replace-broken.ensures.value c.pass.ensures.walked c.in_ok-part-in-Loop.ensures.walked
+    c.in_ok-part-in-Loop-2.ensures.walked c.in_ok-part-in-Loop-3.ensures.walked c.pass_to.ensures.passed
