@@ -15,7 +15,7 @@ pub use Rattle.sc_image.specs.Interfaces.{LegalByWords, MachineTracesAreLegal, i
 pub use Rattle.sc_image.specs.Interfaces.{image_interfaces}
 pub use Rattle.sc_image.specs.Interfaces.{image_proto, word_interface, word_interfaces, word_proto}
 pub use Rattle.sc_image.specs.Isolation.{Adds, AgreeFor, AreSilent, EntersByEvent, FollowsFromOwn, GoesOnSame}
-pub use Rattle.sc_image.specs.Isolation.{IsReached, IsSilentStep, IsSilentFor, LeavesData, LeavesOthers, LooksSame}
+pub use Rattle.sc_image.specs.Isolation.{IsIsolating, IsReached, IsSilentStep, IsSilentFor, LeavesData, LeavesOthers, LooksSame}
 pub use Rattle.sc_image.specs.Isolation.{Point}
 pub use Rattle.sc_image.specs.Isolation.{RunsAreSteady, RunsAt, activates, after_outcome, after_step, after_steps}
 pub use Rattle.sc_image.specs.Isolation.{emits_entry, later, observation_at, observation_of, own_at}
