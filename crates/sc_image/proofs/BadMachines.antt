@@ -348,7 +348,7 @@ passes_register enters =
     let event : Event = Call 0 1 0 [] in
     let entered = (enters 1).0 in
     let own_after : (other : ℕ) → IsWord other → own two (after_by passing two [] (calling other empty)) 1 ≡
-        entered (exported_by two 1) (own two (calling 0 empty) 1) event =
+    entered (exported_by two 1) (own two (calling 0 empty) 1) event =
     λ other small. (enters 1).1 two [] (calling other empty) event formed
     (steady 16777220 17825792 other [] (omega arith) (omega arith) small refl refl)
     (λ same. omega (arith, same)) (ap (observation_of (calling other empty)) (passes other)) refl in

@@ -129,7 +129,7 @@ module _ (stepping : Stepping) where
   abbrev pub LeavesOthersBy : Type 0
   LeavesOthersBy =
       (image : ImageParts) (inputs : List ℕ) (state : MachineState) (d : ℕ) → IsWellFormed image → IsSteadyState image
-          state →
+      state →
       d ≢ state.active → emits_entry d (observation_by image inputs state) ≡ false →
       own image (after_by image inputs state) d ≡ own image state d
 
