@@ -193,23 +193,11 @@ after_step = after_by step
 abbrev pub IsSilentStep : ImageParts → List ℕ → MachineState → Type 0
 IsSilentStep = IsSilentBy step
 
-abbrev pub AreSilent : ImageParts → List ℕ → (steps : ℕ) → MachineState → Type 0
-AreSilent = AreSilentBy step
-
-abbrev pub after_steps : ImageParts → List ℕ → (steps : ℕ) → MachineState → MachineState
-after_steps = after_steps_by step
-
 abbrev pub observation_at : Point → Observation
 observation_at = observation_by_at step
 
 abbrev pub later : (steps : ℕ) → Point → Point
 later = later_by step
-
-abbrev pub IsSilentFor : (steps : ℕ) → Point → Type 0
-IsSilentFor = IsSilentForBy step
-
-abbrev pub GoesOnSame : (c : ℕ) (one other : Point) → Type 0
-GoesOnSame = GoesOnSameBy step
 
 abbrev pub LeavesOthers : Type 0
 LeavesOthers = LeavesOthersBy step
