@@ -1,8 +1,8 @@
 -- A row of blocks, by what is found at each number.
 use Rattle.sc_blocks.proofs.Common.{Bool, Cell, IsOver, List, None, Option, Some, [], ap, arith, block_of, cleared}
-use Rattle.sc_blocks.proofs.Common.{false, given_back, inl, inr, laid_out, leb-false, leb-true, length, variable}
-use Rattle.sc_blocks.proofs.Common.{nat_le, refl, slice_get, slice_set, suc, sym, true, zero, ℕ, ◌++◌, ◌+◌, ◌<◌, ◌∙◌}
-use Rattle.sc_blocks.proofs.Common.{◌∷◌, ◌≡◌, ◌≤◌}
+use Rattle.sc_blocks.proofs.Common.{false, given_back, inl, inr, laid_out, leb-false, leb-true, length, nat_le, refl}
+use Rattle.sc_blocks.proofs.Common.{slice_get, slice_set, suc, sym, true, variable, zero, ℕ, ◌++◌, ◌+◌, ◌<◌, ◌∙◌, ◌∷◌}
+use Rattle.sc_blocks.proofs.Common.{◌≡◌, ◌≤◌}
 use Rattle.std.proofs.lemmas.Option.{slice_get_past}
 
 abbrev Found : Type 0

@@ -1,9 +1,9 @@
 -- A row at the number of a block, with one more block, and with a store into one of its blocks.
 use Rattle.sc_blocks.proofs.Common.{Block, Blocks, Cell, Err, HoldsAt, IsOver, IsRising, List, MatchResult, None, Ok}
 use Rattle.sc_blocks.proofs.Common.{Option, Result, Slot, Some, [], add-one, ap, arith, bind, cause_of, cells_among}
-use Rattle.sc_blocks.proofs.Common.{get_or, get_or-set_same, inl, inr, laid_out, length, length-set, living, variable}
-use Rattle.sc_blocks.proofs.Common.{put_in, refl, slice_get, slice_set, store_cell, stored_in, subst, sym, ℕ, ◌++◌, ◌+◌}
-use Rattle.sc_blocks.proofs.Common.{◌<◌, ◌∙◌, ◌∷◌, ◌≡◌}
+use Rattle.sc_blocks.proofs.Common.{get_or, get_or-set_same, inl, inr, laid_out, length, length-set, living, put_in}
+use Rattle.sc_blocks.proofs.Common.{refl, slice_get, slice_set, store_cell, stored_in, subst, sym, variable, ℕ, ◌++◌}
+use Rattle.sc_blocks.proofs.Common.{◌+◌, ◌<◌, ◌∙◌, ◌∷◌, ◌≡◌}
 use Rattle.sc_blocks.proofs.Laying.{lives_at, over_at, push_laid, set_laid}
 use Rattle.sc_blocks.proofs.Living.{found_at, rising_at, new_found, old_found, rising_push, others_found, rising_set}
 use Rattle.sc_core.specs.declared.cause.Cause.TheVariants.{Dangling}

@@ -1,13 +1,14 @@
 -- A call of a function, from its first instruction to its jump back: what its code begins with, and what is left of it.
-use Rattle.sc_emit_relation.proofs.Common.{Activation, All, Begins, BlocksMatch, Cell, Effect, FrameFits, FrameMatches}
-use Rattle.sc_emit_relation.proofs.Common.{FrameTree, Function, IsActivation, IsFrame, IsLeft, IsWellFormed, IsWord}
-use Rattle.sc_emit_relation.proofs.Common.{Joint, Leads, List, LiveAt, ByteMemory as Bytes, Option, Place, Placed, Plan}
-use Rattle.sc_emit_relation.proofs.Common.{Protected, Ready, Registers, Returns, TempSet, Setting, Settled, Some}
-use Rattle.sc_emit_relation.proofs.Common.{Standpoint, StandsFor, State as Meant, Value, Walks, a0, ap, arith, begun}
-use Rattle.sc_emit_relation.proofs.Common.{cases_eq, data_start, done, eq-eqb, false, inl, inr, length, machine, ne_eqb}
-use Rattle.sc_emit_relation.proofs.Common.{no_temps, put, refl, same_Some, seen_from, slice_get, slice_get_within, sp}
-use Rattle.sc_emit_relation.proofs.Common.{stack_depth, stack_size, stack_top, subst, sym, then_go, walks_steady}
-use Rattle.sc_emit_relation.proofs.Common.{wanted, word, zone_start, ℕ, ⊎_elim, ◌%◌, ◌+◌, ◌<◌, ◌∙◌, ◌≡◌, ◌≢◌, ◌≤◌, ◌⊎◌}
+use Rattle.sc_emit_relation.proofs.Common.{Activation, All, Begins, BlocksMatch, ByteMemory as Bytes, Cell, Effect}
+use Rattle.sc_emit_relation.proofs.Common.{FrameFits, FrameMatches, FrameTree, Function, IsActivation, IsFrame, IsLeft}
+use Rattle.sc_emit_relation.proofs.Common.{IsWellFormed, IsWord, Joint, Leads, List, LiveAt, Option, Place, Placed}
+use Rattle.sc_emit_relation.proofs.Common.{Plan, Protected, Ready, Registers, Returns, Setting, Settled, Some}
+use Rattle.sc_emit_relation.proofs.Common.{Standpoint, StandsFor, State as Meant, TempSet, Value, Walks, a0, ap, arith}
+use Rattle.sc_emit_relation.proofs.Common.{begun, cases_eq, data_start, done, eq-eqb, false, inl, inr, length, machine}
+use Rattle.sc_emit_relation.proofs.Common.{ne_eqb, no_temps, put, refl, same_Some, seen_from, slice_get}
+use Rattle.sc_emit_relation.proofs.Common.{slice_get_within, sp, stack_depth, stack_size, stack_top, subst, sym}
+use Rattle.sc_emit_relation.proofs.Common.{then_go, walks_steady, wanted, word, zone_start, ℕ, ⊎_elim, ◌%◌, ◌+◌, ◌<◌}
+use Rattle.sc_emit_relation.proofs.Common.{◌∙◌, ◌≡◌, ◌≢◌, ◌≤◌, ◌⊎◌}
 use Rattle.sc_emit_relation.proofs.Access.{live_within}
 use Rattle.sc_emit_relation.proofs.Ending.{lives_on, length_closed, LivesOn, depth_begun, depth_begun_else, depth_done}
 use Rattle.sc_emit_relation.proofs.Ending.{depth_done_else, timed_closed, timed_opened}
@@ -41,8 +42,8 @@ entered P x f args frame low pc regs bytes = record x {
 abbrev pub closed : Standpoint → Joint → Function → (first : ℕ) → Joint
 closed P x f first = record x { meant = done P.comp f first x.meant }
 
-module _ (T : Setting) (formed : IsWellFormed T.image) (inputs : All IsWord T.inputs) (P : Standpoint) (f : Function)
-    (args : List Value) (address ra_is : ℕ) (x : Joint) (begins : Begins T P f args address ra_is x) where
+module _ (T : Setting) (formed : IsWellFormed T.image) (inputs : All IsWord T.inputs) {P : Standpoint} {f : Function}
+    {args : List Value} {address ra_is : ℕ} {x : Joint} (begins : Begins T P f args address ra_is x) where
   -- the meaning's depth, where the frame goes below the stack
   pub too_deep : (frame : FrameTree) → frame.bytes ≤ f.frame_size → P.bound < data_start P.comp + frame.bytes →
       stack_size < stack_depth P.comp (begun P.comp f args x.meant)
@@ -56,7 +57,7 @@ module _ (T : Setting) (formed : IsWellFormed T.image) (inputs : All IsWord T.in
         depth_begun P.comp P.comp f x.meant args refl,
       )
 
-  module _ (frame : FrameTree) (places : List Place) (nodes low : ℕ) (whole : IsFrame frame)
+  module _ {frame : FrameTree} {places : List Place} {nodes : ℕ} (low : ℕ) (whole : IsFrame frame)
       (frame_fits : FrameFits f.cells places nodes frame) (roomy : frame.bytes ≤ f.frame_size)
       (bound_is : P.bound ≡ low + frame.bytes) (start : data_start P.comp ≤ low) where
     abbrev pub A : Activation

@@ -1,13 +1,13 @@
 -- A call begins: its blocks, their places in its frame, and how the bytes stand for all blocks then.
-use Rattle.sc_emit_relation.proofs.Common.{Block, BlocksMatch, Bool, Cell, FrameFits, FrameTree, Guarded, ImageParts}
-use Rattle.sc_emit_relation.proofs.Common.{InCell, Injection, IsFrame, IsWellFormed, List, LiveAt, ByteMemory as Bytes}
+use Rattle.sc_emit_relation.proofs.Common.{Block, BlocksMatch, Bool, ByteMemory as Bytes, Cell, FrameFits, FrameTree}
+use Rattle.sc_emit_relation.proofs.Common.{Guarded, ImageParts, InCell, Injection, IsFrame, IsWellFormed, List, LiveAt}
 use Rattle.sc_emit_relation.proofs.Common.{None, Ok, Option, Owned, Place, Placed, Some, StandsFor, Value, [], all_at}
 use Rattle.sc_emit_relation.proofs.Common.{ap, arith, blocks_for, cases_eq, cases_lt, cases_order, cell_of, cells_at}
 use Rattle.sc_emit_relation.proofs.Common.{data_start, eq-eqb, false, few_globals, get_prefix, if◌then◌else◌, inl, inr}
 use Rattle.sc_emit_relation.proofs.Common.{le-leb, length, length-append, live_cells, lt-leb, nat_eq, nat_le, ne_eqb}
 use Rattle.sc_emit_relation.proofs.Common.{own_words, put, refl, replicate, same_Some, slice_get, slice_get_within}
-use Rattle.sc_emit_relation.proofs.Common.{stack_top, subst, suc, sym, variable, with_blocks, word, zero, ℕ}
-use Rattle.sc_emit_relation.proofs.Common.{⊎_elim, ◌%◌, ◌&&◌, ◌*◌, ◌++◌, ◌+◌, ◌-◌, ◌<◌, ◌∙◌, ◌∷◌, ◌≡◌, ◌≢◌, ◌≤◌, ◌⊎◌}
+use Rattle.sc_emit_relation.proofs.Common.{stack_top, subst, suc, sym, variable, with_blocks, word, zero, ℕ, ⊎_elim}
+use Rattle.sc_emit_relation.proofs.Common.{◌%◌, ◌&&◌, ◌*◌, ◌++◌, ◌+◌, ◌-◌, ◌<◌, ◌∙◌, ◌∷◌, ◌≡◌, ◌≢◌, ◌≤◌, ◌⊎◌}
 use Rattle.sc_core.specs.Prelude.{Memory}
 use Rattle.std.specs.Option.{option_map}
 use Rattle.sc_core.specs.declared.value.Cell.TheVariants as cell
@@ -225,7 +225,7 @@ module _ (image : ImageParts) (performs : ℕ → Bool) (floor : ℕ → ℕ) (i
         (λ same. inr (let above : floor k ≤ a = (blocks.placed k b a xs s live e).above in
         let floors : floor k ≡ floor c = ap floor same in omega (arith, above, floors, ready.floor_is)))
         (λ n. other_range image k c (a + 4 * i) low frame.bytes formed n
-        (block_owned image formed performs floor inj memory bytes blocks k b a i xs s live e l) ready.start
+        (block_owned formed blocks k b a i xs s live e l) ready.start
         (omega (arith, ready.floor_is, ready.high))) (cases_eq k c))
 
     old_above : (k b a : ℕ) (xs : List Cell) → performs k ≡ false → k ≡ c → LiveAt memory k b xs → inj k b ≡ Some a →

@@ -1,12 +1,12 @@
 -- Blocks and guarded words across stores: at a guarded word, and through a pointer to a live cell.
-use Rattle.sc_emit_relation.proofs.Common.{Apart, Beside, Block, Blocks, BlocksMatch, Bool, Cell, Guarded, ImageParts}
-use Rattle.sc_emit_relation.proofs.Common.{InCell, Injection, IsWellFormed, List, LiveAt, ByteMemory as Bytes, Null, Ok}
+use Rattle.sc_emit_relation.proofs.Common.{Apart, Beside, Block, Blocks, BlocksMatch, Bool, ByteMemory as Bytes, Cell}
+use Rattle.sc_emit_relation.proofs.Common.{Guarded, ImageParts, InCell, Injection, IsWellFormed, List, LiveAt, Null, Ok}
 use Rattle.sc_emit_relation.proofs.Common.{Option, Owned, Placed, Pointer, Ptr, Some, StandsFor, Value, Word, ap}
 use Rattle.sc_emit_relation.proofs.Common.{apart_from, arith, cases_eq, cases_order, cell_of, cells_at, eq-eqb, false}
 use Rattle.sc_emit_relation.proofs.Common.{few_globals, inl, inr, length, length-set, live_cells, load, ne_eqb}
 use Rattle.sc_emit_relation.proofs.Common.{put_word, refl, same_Some, slice_get, slice_get-get_or, slice_get_within}
-use Rattle.sc_emit_relation.proofs.Common.{slice_set, store, subst, sym, with_blocks, word, word_apart, word_same}
-use Rattle.sc_emit_relation.proofs.Common.{ℕ, ⊎_elim, ◌*◌, ◌+◌, ◌<◌, ◌∙◌, ◌≡◌, ◌≢◌, ◌≤◌, ◌⊎◌}
+use Rattle.sc_emit_relation.proofs.Common.{slice_set, store, subst, sym, with_blocks, word, word_apart, word_same, ℕ}
+use Rattle.sc_emit_relation.proofs.Common.{⊎_elim, ◌*◌, ◌+◌, ◌<◌, ◌∙◌, ◌≡◌, ◌≢◌, ◌≤◌, ◌⊎◌}
 use Rattle.sc_core.specs.Prelude.{Memory}
 use Rattle.sc_emit_relation.proofs.Access.{alive, get_set_same, get_set_other, with_value, Loads, load_found, Stores}
 use Rattle.sc_emit_relation.proofs.Access.{store_found, written_to}
@@ -43,8 +43,8 @@ CellsKept performs inj memory bytes after =
     (k b a i : ℕ) (cells : List Cell) → performs k ≡ false → LiveAt memory k b cells → inj k b ≡ Some a →
     i < length cells → word after (a + 4 * i) ≡ word bytes (a + 4 * i)
 
-module _ (image : ImageParts) (formed : IsWellFormed image) (performs : ℕ → Bool) (floor : ℕ → ℕ) (inj : Injection)
-    (memory : Memory) (bytes : Bytes) (blocks : BlocksMatch image performs floor inj memory bytes) where
+module _ {image : ImageParts} (formed : IsWellFormed image) {performs : ℕ → Bool} {floor : ℕ → ℕ} {inj : Injection}
+    {memory : Memory} {bytes : Bytes} (blocks : BlocksMatch image performs floor inj memory bytes) where
   pub block_owned : (k b a i : ℕ) (cells : List Cell) → performs k ≡ false → LiveAt memory k b cells →
       inj k b ≡ Some a → i < length cells → Owned image k (a + 4 * i)
   block_owned k b a i cells honest live e l =

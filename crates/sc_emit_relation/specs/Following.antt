@@ -61,12 +61,12 @@ module _ (T : Setting) (R : Running) where
 
   -- the code comes to this place, with these temporaries and this state of the meaning
   pub record Arrives (live : TempSet) (x : Joint) (budget left : ℕ) (temps : Temps) (meant : Meant) (pc : ℕ) : Type 0
-      where
-    pub y : Joint
-    pub meant_is : y.meant ≡ meant
-    pub pc_is : y.pc ≡ pc
-    pub leads : Leads T (seen_from R.activation) x y budget left
-    pub ready : Ready live temps y
+    where
+      pub y : Joint
+      pub meant_is : y.meant ≡ meant
+      pub pc_is : y.pc ≡ pc
+      pub leads : Leads T (seen_from R.activation) x y budget left
+      pub ready : Ready live temps y
 
   -- it stands at the jump that ends the call: the frame has gone, and a0 has the value
   pub record Returns (x : Joint) (budget : ℕ) (v : Option Value) (meant : Meant) : Type 0 where

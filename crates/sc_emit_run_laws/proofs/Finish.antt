@@ -64,10 +64,10 @@ module _ (program : TacTree) (image : ImageParts) (turn_pays : ℕ) (built : IsB
   T = setting program image inputs nobody.scripted turn_pays built.addresses
 
   abbrev P : Standpoint
-  P = P' program image inputs nobody.scripted turn_pays built.addresses built.linked turns
+  P = P' built inputs nobody.scripted turns
 
   abbrev x : Joint
-  x = x' program image inputs nobody.scripted turn_pays built.addresses built.linked turns
+  x = x' built inputs nobody.scripted turns
 
   abbrev body : Body
   body = within (run_step denotations) (suc turns)
@@ -244,7 +244,6 @@ module _ (program : TacTree) (image : ImageParts) (turn_pays : ℕ) (built : IsB
   outcome follow =
       let ran_is : IsFollowed (ran program nobody (suc turns) image.main number f [] x.meant) =
       follow (suc turns) P x number f [] gate its (rw there.lone refl) (sym there.lone)
-      (begins program image inputs nobody.scripted turn_pays built.addresses built.linked turns refl number f
-      there.enters) in
+      (begins built inputs nobody.scripted turns refl number f there.enters) in
       let is : IsFollowed whole = subst IsFollowed (sym whole_ran) ran_is in
       subst (Outcome image inputs bound turns) (sym run_is) (outcome_of is.0 is.1.0 is.1.1)

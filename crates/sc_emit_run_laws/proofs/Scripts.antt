@@ -44,10 +44,10 @@ module _ (program : TacTree) (image : ImageParts) (turn_pays : ℕ) (built : IsB
   T = setting program image inputs set turn_pays built.addresses
 
   abbrev pub P : Standpoint
-  P = P' program image inputs set turn_pays built.addresses built.linked steps
+  P = P' built inputs set steps
 
   abbrev pub x : Joint
-  x = x' program image inputs set turn_pays built.addresses built.linked steps
+  x = x' built inputs set steps
 
   abbrev body : Body
   body = bodies program roles (suc steps)
@@ -216,8 +216,7 @@ module _ (program : TacTree) (image : ImageParts) (turn_pays : ℕ) (built : IsB
     runs_code follow =
         let run : IsRun program roles T (suc steps) there.number there.f P x [] gate =
         follow (suc steps) P x there.number there.f [] gate its (rw there.lone refl) (sym there.lone)
-        (begins program image inputs set turn_pays built.addresses built.linked steps honest there.number there.f
-        there.enters) in
+        (begins built inputs set steps honest there.number there.f there.enters) in
         ⊎_elim (λ gives. inl (gives_by run.0 main_ran refl gives)) (λ over. inr (overflow_traps run.0 main_ran over))
         run.1.1
 
@@ -242,10 +241,8 @@ module _ (program : TacTree) (image : ImageParts) (turn_pays : ℕ) (built : IsB
     unknown : IsUnknown program roles T P opened there.number
     unknown = record {
       performs = performing;
-      settled =
-          settled_started T P image.main unknown_main F [] x
-          (settled program image inputs set turn_pays built.addresses built.linked steps);
-      floors = (base program image inputs set turn_pays built.addresses built.linked steps).floors;
+      settled = settled_started T P image.main unknown_main F [] x (settled built inputs set steps);
+      floors = (base built inputs set steps).floors;
       entered = ap (λ c. function_entered Main (slice_get program.sections c)) built.linked.main ∙ there.enters;
     }
 

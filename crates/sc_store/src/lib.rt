@@ -7,6 +7,7 @@
 
 mod area;
 mod cells;
+mod each;
 mod flat;
 mod laws;
 mod paged;

@@ -1,9 +1,7 @@
-use Rattle.sc_store.proofs.Common.{bytes_of}
 use Rattle.sc_store.proofs.Parts.{store_written}
-use Rattle.sc_store.proofs.flat.FlatStore.store_each.Goals as goal
+use Rattle.sc_store.proofs.each.store_each.Goals as goal
 
 pub returns : goal.returns
-returns c =
-    store_written (bytes_of c.args.self.now.parts.items)
-    (bytes_of c.write_each.new.self.parts.items) c.args.at c.args.value c.args.size c.to_le_bytes.result
-    c.requires.size c.write_each.ensures c.to_le_bytes.ensures
+returns g c =
+    store_written (g.S.Store.bytes c.args.store.now) (g.S.Store.bytes c.write_each.new.store) c.args.at c.args.value
+    c.args.size c.to_le_bytes.result c.requires.size c.write_each.ensures c.to_le_bytes.ensures

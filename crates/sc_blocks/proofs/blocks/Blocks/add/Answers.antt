@@ -1,4 +1,4 @@
-use Rattle.sc_blocks.proofs.Common.{[], ap, length, variable, memory_of, subst, sym, ◌++◌, ◌<◌, ◌∙◌, ◌∷◌}
+use Rattle.sc_blocks.proofs.Common.{[], ap, length, memory_of, subst, sym, variable, ◌++◌, ◌<◌, ◌∙◌, ◌∷◌}
 use Rattle.sc_blocks.proofs.Memories.{row_is, memory_changed}
 use Rattle.sc_blocks.proofs.blocks.Blocks.add.Goals as goal
 

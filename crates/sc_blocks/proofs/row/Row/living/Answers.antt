@@ -1,4 +1,4 @@
-use Rattle.sc_blocks.proofs.Common.{IsOver, Some, variable, slice_get, subst, ◌≡◌}
+use Rattle.sc_blocks.proofs.Common.{IsOver, Some, slice_get, subst, variable, ◌≡◌}
 use Rattle.sc_blocks.proofs.Storing.{found_lives, lost_over}
 use Rattle.sc_blocks.proofs.row.Row.living.Goals as goal
 

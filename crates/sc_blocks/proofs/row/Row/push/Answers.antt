@@ -1,4 +1,4 @@
-use Rattle.sc_blocks.proofs.Common.{Slot, [], ap, variable, refl, ◌++◌, ◌∙◌, ◌∷◌}
+use Rattle.sc_blocks.proofs.Common.{Slot, [], ap, refl, variable, ◌++◌, ◌∙◌, ◌∷◌}
 use Rattle.sc_blocks.proofs.Storing.{rising_more, row_more}
 use Rattle.sc_blocks.proofs.row.Row.push.Goals as goal
 

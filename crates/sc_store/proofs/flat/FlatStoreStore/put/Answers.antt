@@ -1,6 +1,6 @@
 use Rattle.sc_store.proofs.Common.{HoldsBytes, [], arith, bytes_of, subst, sym, ◌∷◌}
 use Rattle.sc_store.proofs.Parts.{found_written, found_regions, byte_holds}
-use Rattle.sc_store.proofs.flat.FlatStore.put.Goals as goal
+use Rattle.sc_store.proofs.flat.FlatStoreStore.put.Goals as goal
 
 pub returns : goal.returns
 returns c =

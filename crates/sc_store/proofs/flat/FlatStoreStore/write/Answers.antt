@@ -1,6 +1,6 @@
 use Rattle.sc_store.proofs.Common.{HoldsBytes, arith, bytes_of, length, subst, sym}
 use Rattle.sc_store.proofs.Parts.{found_written, found_regions, written_holds}
-use Rattle.sc_store.proofs.flat.FlatStore.write.Goals as goal
+use Rattle.sc_store.proofs.flat.FlatStoreStore.write.Goals as goal
 
 pub returns-clause-written : goal.returns-clause-written
 returns-clause-written c = λ t.

@@ -1,6 +1,6 @@
 use Rattle.sc_store.proofs.Common.{arith, cell, get_or, length}
 use Rattle.sc_store.proofs.Places.{found_page, read_first}
-use Rattle.sc_store.proofs.paged.PagedStore.byte.Goals as goal
+use Rattle.sc_store.proofs.paged.PagedStoreStore.byte.Goals as goal
 
 pub read-requires-clause-there : goal.read-requires-clause-there
 read-requires-clause-there c =

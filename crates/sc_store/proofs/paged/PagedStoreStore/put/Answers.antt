@@ -1,7 +1,7 @@
 use Rattle.sc_store.proofs.Common.{ArePlaced, HoldsBytes, [], arith, bytes_in, cell, length, subst, sym, ◌∷◌}
 use Rattle.sc_store.proofs.Parts.{byte_holds}
 use Rattle.sc_store.proofs.Places.{found_page, found_written}
-use Rattle.sc_store.proofs.paged.PagedStore.put.Goals as goal
+use Rattle.sc_store.proofs.paged.PagedStoreStore.put.Goals as goal
 
 pub write-requires-clause-there : goal.write-requires-clause-there
 write-requires-clause-there c =

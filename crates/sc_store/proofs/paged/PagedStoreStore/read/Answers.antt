@@ -1,6 +1,6 @@
 use Rattle.sc_store.proofs.Common.{Some, ap, arith, cell, length, sym, ◌∙◌}
 use Rattle.sc_store.proofs.Places.{found_bytes, found_page}
-use Rattle.sc_store.proofs.paged.PagedStore.read.Goals as goal
+use Rattle.sc_store.proofs.paged.PagedStoreStore.read.Goals as goal
 
 pub read-requires-clause-there : goal.read-requires-clause-there
 read-requires-clause-there c =
