@@ -94,9 +94,31 @@ word_long text w (row ∷ rows) long h = by (bytes_eq row.0 text) refl h (word_l
   by false e q rest = rest q
 
 words_long : AllByRecursion (λ (row : List ℕ × Keyword). least_word row.1 ≤ length row.0) keyword_texts
-words_long =
-    (omega arith, (omega arith, (omega arith, (omega arith, (omega arith, (omega arith, (omega arith, (omega arith,
-    (omega arith, (omega arith, (omega arith, (omega arith, tt))))))))))))
+words_long = (
+  omega arith,
+  (
+    omega arith,
+    (
+      omega arith,
+      (
+        omega arith,
+        (
+          omega arith,
+          (
+            omega arith,
+            (
+              omega arith,
+              (
+                omega arith,
+                (omega arith, (omega arith, (omega arith, (omega arith, tt)))),
+              ),
+            ),
+          ),
+        ),
+      ),
+    ),
+  ),
+)
 
 keyword_long : (text : List ℕ) (w : Keyword) → keyword_of text ≡ Some w → least_word w ≤ length text
 unfolding keyword_of
@@ -338,8 +360,7 @@ head_long _ _ (decls.head {ts = ts} {us = us} {result = result} {params = params
     let opened = ap least opens in
     let closed = ap least closes in
     let outer = bytes_both ts (t ∷ u ∷ (us ++ v ∷ [])) in
-    let inner = bytes_both us (v ∷ []) in
-    (
+    let inner = bytes_both us (v ∷ []) in (
       omega (arith, n, p0, named, opened, closed, outer, inner),
       omega (arith, n, p1, named, opened, closed, outer, inner),
     )

@@ -47,18 +47,18 @@ pub use Rattle.sc_image.specs.Common.{Entry, Event, EventsOut, Export, Fence, Il
 pub use Rattle.sc_image.specs.Common.{LoadOp, Lui, Main, Misaligned, NoImport, Op, OpImm, OpOp, Out, Owner, Region, Ret}
 pub use Rattle.sc_image.specs.Common.{Shift, ShiftOp, StepsOut, Stop, Store, StoreOp, Trap, TrapReason, Upper}
 pub use Rattle.sc_image.specs.Common.{little_bytes, little_number}
-pub use Rattle.sc_image.specs.Prelude.{Adds, AgreeFor, AreSilent, BadOrImage, BytesNameOneImage, CallsComeBack}
+pub use Rattle.sc_image.specs.Prelude.{Adds, AgreeFor, BadOrImage, BytesNameOneImage, CallsComeBack}
 pub use Rattle.sc_image.specs.Prelude.{ComesBack, Crossing, Emits, EmittingComposes, Entered, EntersByEvent, Fails}
-pub use Rattle.sc_image.specs.Prelude.{FitsItsFields, FollowsFromOwn, Goes, GoesOnSame, HasCalled, ImageInMemory, IsAt}
+pub use Rattle.sc_image.specs.Prelude.{FitsItsFields, FollowsFromOwn, Goes, HasCalled, ImageInMemory, IsAt}
 pub use Rattle.sc_image.specs.Prelude.{IsByte, IsCall, AreNested, IsComp, IsDistinct, IsEntry, IsImage, IsImport}
-pub use Rattle.sc_image.specs.Prelude.{IsReached, IsSilentStep, IsSilentFor, IsSteadyState, IsWellFormed, IsWord}
+pub use Rattle.sc_image.specs.Prelude.{IsReached, IsSilentStep, IsSteadyState, IsWellFormed, IsWord}
 pub use Rattle.sc_image.specs.Prelude.{KeepsWords}
 pub use Rattle.sc_image.specs.Prelude.{Kept, LeavesData, LeavesOthers, LegalByWords, LooksSame, OpenCall, Outcome, Own}
 pub use Rattle.sc_image.specs.Prelude.{Point, Read, MachineRun, Running, RunsAreSteady, RunsAt, MachineState}
 pub use Rattle.sc_image.specs.Prelude.{StaysAbove}
 pub use Rattle.sc_image.specs.Prelude.{StepsByInstruction, StepsEmit, StretchesCompose, MachineTracesAreLegal, Traps}
 pub use Rattle.sc_image.specs.Prelude.{Waits}
-pub use Rattle.sc_image.specs.Prelude.{Walks, a0, a7, activates, after, after_outcome, after_step, after_steps}
+pub use Rattle.sc_image.specs.Prelude.{Walks, a0, a7, activates, after, after_outcome, after_step}
 pub use Rattle.sc_image.specs.Prelude.{are_distinct_by, arguments, bad, bit, by_owner, byte_at, bytes_at}
 pub use Rattle.sc_image.specs.Prelude.{bytes_in_version}
 pub use Rattle.sc_image.specs.Prelude.{call_of, on_call, jump_outside, read_cause, code_bytes, code_in, code_start}

@@ -17,6 +17,9 @@ use Rattle.sc_image.proofs.Common.{◌==◌, ◌∙◌, ◌∷◌, ◌≡◌, �
 use Rattle.sc_image.proofs.Events.{no_event, that_event}
 use Rattle.sc_image.proofs.Cases.{crossing_to, step_of}
 use Rattle.sc_image.proofs.Words.{comp_found, no_export}
+use Rattle.sc_image.proofs.Isolation.{follows_from_own, leaves_data, leaves_others}
+use Rattle.sc_image.specs.Isolation.{IsIsolating}
+use Rattle.sc_image.specs.Step.{step}
 
 -- The words of `count` registers from r on, with 0 in each that isn't kept.
 abbrev chosen : (keeps : ℕ → Bool) (word : ℕ → ℕ) (r count : ℕ) → List ℕ
@@ -243,3 +246,8 @@ enters_by_event d = (
       let after = step_activates image inputs state d formed event activating emits in
       step_enters image inputs state d formed h (λ e. differ (sym e)) after.0 event after.1,
 )
+
+-- all laws together
+pub isolates : IsIsolating step
+isolates =
+    record { others = leaves_others; bytes = leaves_data; follows = follows_from_own; enters = enters_by_event }

@@ -1,11 +1,11 @@
 -- A step leaves what belongs to other compartments, and what a compartment does follows from its own parts.
-use Rattle.sc_image.proofs.Common.{Adds, All, AreSilent, Bool, Call, Crossing, End, Entered, Event, FollowsFromOwn}
-use Rattle.sc_image.proofs.Common.{Goes, GoesOnSame, ImageParts, In, AreNested, IsSilentStep, IsSilentFor}
+use Rattle.sc_image.proofs.Common.{Adds, All, Bool, Call, Crossing, End, Entered, Event, FollowsFromOwn}
+use Rattle.sc_image.proofs.Common.{Goes, ImageParts, In, AreNested, IsSilentStep}
 use Rattle.sc_image.proofs.Common.{IsSteadyState}
 use Rattle.sc_image.proofs.Common.{IsWellFormed, IsWord, LeavesData, LeavesOthers, List, LooksSame, ByteMemory, None}
 use Rattle.sc_image.proofs.Common.{OpenCall, Out, Outcome, Point, Ret, Running, RunsAt, Some, MachineState, Waits, []}
 use Rattle.sc_image.proofs.Common.{a0}
-use Rattle.sc_image.proofs.Common.{activates, after_outcome, after_step, after_steps, ap, ap₂, are_data, arguments}
+use Rattle.sc_image.proofs.Common.{activates, after_outcome, after_step, ap, ap₂, are_data, arguments}
 use Rattle.sc_image.proofs.Common.{arith, byte_of, call_of, on_call, data_of, drop, drop-append_seam, drop-length}
 use Rattle.sc_image.proofs.Common.{emits_entry, eq-eqb, false, flat_map, get_or, get_or-set_other, get_or-set_same}
 use Rattle.sc_image.proofs.Common.{given_back, has_result, if◌then◌else◌, on_input, input_at, inputs_in, kept_by, later}

@@ -14,10 +14,10 @@ pub use Rattle.sc_image.specs.Emitting.{Emits, EmittingComposes, IsCall, StepsEm
 pub use Rattle.sc_image.specs.Interfaces.{LegalByWords, MachineTracesAreLegal, image_import, image_interface}
 pub use Rattle.sc_image.specs.Interfaces.{image_interfaces}
 pub use Rattle.sc_image.specs.Interfaces.{image_proto, word_interface, word_interfaces, word_proto}
-pub use Rattle.sc_image.specs.Isolation.{Adds, AgreeFor, AreSilent, EntersByEvent, FollowsFromOwn, GoesOnSame}
-pub use Rattle.sc_image.specs.Isolation.{IsReached, IsSilentStep, IsSilentFor, LeavesData, LeavesOthers, LooksSame}
+pub use Rattle.sc_image.specs.Isolation.{Adds, AgreeFor, EntersByEvent, FollowsFromOwn}
+pub use Rattle.sc_image.specs.Isolation.{IsIsolating, IsReached, IsSilentStep, LeavesData, LeavesOthers, LooksSame}
 pub use Rattle.sc_image.specs.Isolation.{Point}
-pub use Rattle.sc_image.specs.Isolation.{RunsAreSteady, RunsAt, activates, after_outcome, after_step, after_steps}
+pub use Rattle.sc_image.specs.Isolation.{RunsAreSteady, RunsAt, activates, after_outcome, after_step}
 pub use Rattle.sc_image.specs.Isolation.{emits_entry, later, observation_at, observation_of, own_at}
 pub use Rattle.sc_image.specs.Layout.{Filled, code_in, code_start, comp_of_code, comp_of_data, data_regions, data_start}
 pub use Rattle.sc_image.specs.Layout.{data_with, gate, initial_globals, most_globals, stack_size, stack_top, stretch}
