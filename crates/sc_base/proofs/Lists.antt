@@ -128,13 +128,3 @@ position_of_only p xs k d within at only =
   where
     within_is : (n m : ℕ) → n < m → (if nat_lt n m then Some n else None) ≡ Some n
     within_is n m h = rw (lt-ltb n m h) refl
-
--- P of each in the list
-abbrev pub Each : {A : Type 0} → (A → Type 0) → List A → Type 0
-Each P [] = Unit {0}
-Each P (x ∷ xs) = P x × Each P xs
-
--- P of each in every list, where it holds of every one
-pub everywhere : {A : Type 0} (P : A → Type 0) → ((x : A) → P x) → (xs : List A) → Each P xs
-everywhere P h [] = tt
-everywhere P h (x ∷ xs) = (h x, everywhere P h xs)

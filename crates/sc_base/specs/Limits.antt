@@ -17,10 +17,6 @@ most_brackets = 1024
 abbrev pub most_compartments : ℕ
 most_compartments = 32
 
--- parameters of a function
-abbrev pub most_params : ℕ
-most_params = 8
-
 -- exports of a compartment, and imports
 abbrev pub most_exports : ℕ
 most_exports = 4096

@@ -15,7 +15,7 @@ mod text;
 mod words;
 
 pub use first_by_name::FirstByName;
-pub use limits::{MAX_BRACKETS, MAX_EXPORTS, MAX_HEIGHT};
+pub use limits::{MAX_BRACKETS, MAX_HEIGHT};
 pub use name::{Name, is_name};
 pub use name_list::NameList;
 pub use name_table::NameTable;

@@ -3,6 +3,3 @@ pub const MAX_HEIGHT: u32 = 256;
 
 /// How many round, square and curly brackets may be open at one place of a section.
 pub const MAX_BRACKETS: u32 = 1024;
-
-/// How many functions a compartment may export, and how many it may import.
-pub const MAX_EXPORTS: usize = 4096;

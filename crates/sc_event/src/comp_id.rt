@@ -1,4 +1,3 @@
-ghost use Rattle.sc_base.specs.Prelude.{most_compartments};
 ghost use Rattle.std.specs.Prelude.{◌≡◌, ◌<◌, IsSome, IfSome, ◌↔◌};
 
 use std::marker::Model;
@@ -8,14 +7,13 @@ use std::marker::Model;
 pub struct CompId(u8);
 
 impl Model for CompId {
-    ghost use Rattle.sc_base.specs.Prelude.{most_compartments};
     ghost use Rattle.std.specs.Prelude.{ℕ, ◌<◌};
 
     ghost Value = { ℕ };
 
     ghost view = { λ c. c.0 };
 
-    ghost invariant = { λ c. c.0 < most_compartments };
+    ghost invariant = { λ c. c.0 < 32 };
 
     ghost inverse = { λ n. record { 0 = n } };
 }
@@ -33,7 +31,7 @@ impl CompId {
 
     /// The compartment of this number, `None` from 32 on.
     pub fn new(number: u8) -> Option<CompId>
-        ensures within { IsSome result ↔ (number < most_compartments) }
+        ensures within { IsSome result ↔ (number < 32) }
         ensures number { IfSome result (λ comp. comp ≡ number) }
     {
         if number < CompId::LIMIT {
@@ -46,7 +44,7 @@ impl CompId {
     /// The number, which is below 32.
     pub fn number(self) -> u8
         ensures number { result ≡ self }
-        ensures within { result < most_compartments }
+        ensures within { result < 32 }
     {
         self.0
     }

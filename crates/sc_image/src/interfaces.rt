@@ -1,4 +1,3 @@
-ghost use Rattle.sc_base.specs.Prelude.{most_params};
 ghost use Rattle.sc_image.specs.Prelude.{image_import, image_interface, image_interfaces, image_proto};
 ghost use Rattle.std.specs.Prelude.{◌≡◌, ◌≤◌, [], ◌∷◌, ◌++◌, if◌then◌else◌, map, replicate, All, IfOk, OnOk};
 ghost use Rattle.sc_event.specs.declared.interface.Scalar.TheVariants.{Int};
@@ -27,7 +26,7 @@ pub fn image_interfaces(alloc: Global, image: &Image) -> Result<Interfaces, OutO
 }
 
 fn interface_of(alloc: Global, comp: &CompPart) -> Result<Interface, OutOfMemory>
-    requires { All (λ export. export.params ≤ most_params) comp.now.exports }
+    requires { All (λ export. export.params ≤ 8) comp.now.exports }
     ensures { IfOk result (λ interface. interface ≡ image_interface comp.now) }
 {
     let exports = protos_of(alloc, comp.exports.as_slice())?;
@@ -40,7 +39,7 @@ fn interface_of(alloc: Global, comp: &CompPart) -> Result<Interface, OutOfMemory
 }
 
 fn protos_of(alloc: Global, exports: &[ExportPart]) -> Result<Protos, OutOfMemory>
-    requires { All (λ export. export.params ≤ most_params) exports.now }
+    requires { All (λ export. export.params ≤ 8) exports.now }
     ensures { IfOk result (λ protos. protos ≡ map image_proto exports.now) }
 {
     let mut protos = Protos::new(alloc);
@@ -51,7 +50,7 @@ fn protos_of(alloc: Global, exports: &[ExportPart]) -> Result<Protos, OutOfMemor
 }
 
 fn proto_of(alloc: Global, export: &ExportPart) -> Proto
-    requires { export.now.params ≤ most_params }
+    requires { export.now.params ≤ 8 }
     ensures { result ≡ image_proto export.now }
 {
     Proto {
@@ -68,10 +67,10 @@ fn proto_of(alloc: Global, export: &ExportPart) -> Proto
 // `count` parameters, each an `int`.
 #[tactic(auto, using(crate::proofs::Keeping::ints_taken))]
 fn ints(alloc: Global, count: u8) -> Params
-    requires { count ≤ most_params }
+    requires { count ≤ 8 }
     ensures { result ≡ replicate count Int }
 {
-    let all = [Scalar::Int; Params::LIMIT];
+    let all = [Scalar::Int; 8];
     match Params::from_slice(alloc, &all[..usize::from(count)]) {
         Some(params) => params,
         None => unreachable!(),

@@ -1,7 +1,6 @@
 //! Images read from their bytes. After the first two, each function takes a field from the start of the bytes that are
 //! left.
 
-ghost use Rattle.sc_base.specs.Prelude.{most_compartments};
 ghost use Rattle.sc_image.specs.Prelude.{Gives, bad, bytes_at, code_at, read_comp, comp_name_at, read_exports};
 ghost use Rattle.sc_image.specs.Prelude.{fields_at};
 ghost use Rattle.sc_image.specs.Prelude.{globals_at, image_bytes, image_in, import_at, imports_at, mark_at, read_name};
@@ -20,8 +19,8 @@ use crate::{
     ImportPart, ImportParts,
 };
 use byteorder::{ByteOrder, LittleEndian};
-use sc_base::{MAX_EXPORTS, Name, Text, Words};
-use sc_event::{CompId, Params};
+use sc_base::{Name, Text, Words};
+use sc_event::CompId;
 use std::alloc::Global;
 
 /// The image that the bytes are, or why they are none: the cause of the first field, in the order of the file, that is
@@ -82,9 +81,8 @@ fn version_at(bytes: &mut &[u8]) -> Result<u16, ImageFault>
 }
 
 fn count_at(bytes: &mut &[u8]) -> Result<u8, ImageFault>
-    ensures count { Gives (λ x. (x, bytes.new.now)) result
-        (number_that (is_between 1 most_compartments) Count 1 bytes.old.now) }
-    ensures within { IfOk result (λ count. count ≤ most_compartments) }
+    ensures count { Gives (λ x. (x, bytes.new.now)) result (number_that (is_between 1 32) Count 1 bytes.old.now) }
+    ensures within { IfOk result (λ count. count ≤ 32) }
 {
     let count = u8_at(BadImage::Count, bytes)?;
     if count < 1 || count > CompId::LIMIT {
@@ -94,7 +92,7 @@ fn count_at(bytes: &mut &[u8]) -> Result<u8, ImageFault>
 }
 
 fn comps_at(alloc: Global, count: u8, bytes: &mut &[u8]) -> Result<CompParts, ImageFault>
-    requires { count ≤ most_compartments }
+    requires { count ≤ 32 }
     ensures { Gives (λ x. (x, bytes.new.now)) result (fields_at (read_comp count) count bytes.old.now) }
 {
     let mut comps = CompParts::new(alloc);
@@ -107,7 +105,7 @@ fn comps_at(alloc: Global, count: u8, bytes: &mut &[u8]) -> Result<CompParts, Im
 
 #[tactic(auto, unfolding(crate::specs::Reading::comp_at))]
 fn comp_at(alloc: Global, comps: u8, bytes: &mut &[u8]) -> Result<CompPart, ImageFault>
-    requires { comps ≤ most_compartments }
+    requires { comps ≤ 32 }
     ensures { Gives (λ x. (x, bytes.new.now)) result (read_comp comps bytes.old.now) }
 {
     let name = comp_name_at(bytes)?;
@@ -142,7 +140,7 @@ fn comp_name_at(bytes: &mut &[u8]) -> Result<Name, ImageFault>
 fn exports_at(alloc: Global, bytes: &mut &[u8]) -> Result<ExportParts, ImageFault>
     ensures { Gives (λ x. (x, bytes.new.now)) result (read_exports bytes.old.now) }
 {
-    let count = u16_up_to(BadImage::Exports, MAX_EXPORTS as u16, bytes)?;
+    let count = u16_up_to(BadImage::Exports, 4096, bytes)?;
     several_exports(alloc, count, bytes)
 }
 
@@ -162,7 +160,7 @@ fn export_at(bytes: &mut &[u8]) -> Result<ExportPart, ImageFault>
     ensures { Gives (λ x. (x, bytes.new.now)) result (read_export bytes.old.now) }
 {
     let name = name_at(BadImage::Exports, bytes)?;
-    let params = u8_up_to(BadImage::Exports, Params::LIMIT as u8, bytes)?;
+    let params = u8_up_to(BadImage::Exports, 8, bytes)?;
     let result = u8_up_to(BadImage::Exports, 1, bytes)?;
     let entry = u32_at(BadImage::Exports, bytes)?;
     Ok(ExportPart {
@@ -175,10 +173,10 @@ fn export_at(bytes: &mut &[u8]) -> Result<ExportPart, ImageFault>
 
 #[tactic(auto, unfolding(crate::specs::Reading::imports_at))]
 fn imports_at(alloc: Global, comps: u8, bytes: &mut &[u8]) -> Result<ImportParts, ImageFault>
-    requires { comps ≤ most_compartments }
+    requires { comps ≤ 32 }
     ensures { Gives (λ x. (x, bytes.new.now)) result (imports_at comps bytes.old.now) }
 {
-    let count = u16_up_to(BadImage::Imports, MAX_EXPORTS as u16, bytes)?;
+    let count = u16_up_to(BadImage::Imports, 4096, bytes)?;
     several_imports(alloc, comps, count, bytes)
 }
 
@@ -188,7 +186,7 @@ fn several_imports(
     count: u16,
     bytes: &mut &[u8],
 ) -> Result<ImportParts, ImageFault>
-    requires { comps ≤ most_compartments }
+    requires { comps ≤ 32 }
     ensures { Gives (λ x. (x, bytes.new.now)) result (fields_at (import_at comps) count bytes.old.now) }
 {
     let mut imports = ImportParts::new(alloc);
@@ -201,7 +199,7 @@ fn several_imports(
 
 #[tactic(auto, unfolding(crate::specs::Reading::import_at))]
 fn import_at(comps: u8, bytes: &mut &[u8]) -> Result<ImportPart, ImageFault>
-    requires { comps ≤ most_compartments }
+    requires { comps ≤ 32 }
     ensures { Gives (λ x. (x, bytes.new.now)) result (import_at comps bytes.old.now) }
 {
     let comp = comp_id_at(BadImage::Imports, comps, bytes)?;
@@ -259,7 +257,7 @@ fn name_at(cause: BadImage, bytes: &mut &[u8]) -> Result<Name, ImageFault>
 
 // The number of one of `comps` compartments.
 fn comp_id_at(cause: BadImage, comps: u8, bytes: &mut &[u8]) -> Result<CompId, ImageFault>
-    requires { comps ≤ most_compartments }
+    requires { comps ≤ 32 }
     ensures { Gives (λ x. (x, bytes.new.now)) result (number_that (λ c. nat_lt c comps) cause 1 bytes.old.now) }
 {
     let number = u8_at(cause, bytes)?;

@@ -2,7 +2,7 @@
 pub use Rattle.std.proofs.Common.{Bool, List, None, Option, Some, [], ap, append-nil, append_assoc, arith, drop}
 pub use Rattle.std.proofs.Common.{drop-cons, false, get_or, if◌then◌else◌, inl, inr, leb, length, map, min, not, refl}
 pub use Rattle.std.proofs.Common.{replicate, rules, slice_get, subst, suc, sym, take, true, zero-add, ℕ, ◌&&◌, ◌++◌}
-pub use Rattle.std.proofs.Common.{zero, ◌+◌, ◌-◌, ◌<◌, ◌==◌, ◌^◌, ◌||◌, ◌∙◌, ◌∷◌, ◌≡◌, ◌≤◌, ◌⊎◌}
+pub use Rattle.std.proofs.Common.{◌+◌, ◌-◌, ◌<◌, ◌==◌, ◌||◌, ◌∙◌, ◌∷◌, ◌≡◌, ◌≤◌, ◌⊎◌}
 pub use Rattle.std.specs.List.{filter, list_any, range_with_len}
 pub use Rattle.std.specs.Option.{option_map, unwrap_or}
 pub use Rattle.sc_tac.specs.Prelude.{AreIntervals, Lives, Point, TempSet, Span, Trail, ahead_at, from_here}
@@ -16,4 +16,3 @@ pub use Rattle.sc_live.specs.Marks.{is_met, mark_from, mark_here, mark_of, mark_
 pub use Rattle.sc_live.specs.Walks.{Holds, Passed, Walked, WalkedAll, WalkedOver, interval_at, live_first, lives_at}
 pub use Rattle.sc_live.specs.declared.marks.Mark.{Mark}
 pub use Rattle.sc_live.specs.declared.walk.Walk.{Walk}
-pub use Rattle.sc_tac.specs.Prelude.{stmt_weight, weight, weight_step}

@@ -6,4 +6,3 @@ pub mod Marking
 pub mod Spans
 pub mod Starting
 pub mod Walking
-pub mod Few

@@ -1,6 +1,5 @@
 //! Sections and programs.
 
-ghost use Rattle.sc_base.specs.Prelude.{most_compartments};
 ghost use Rattle.sc_lower.specs.Prelude.{AreFunctions, HasBranches, IsWellTyped, KeepsCodeRules, MeansTheSame};
 ghost use Rattle.sc_lower.specs.Prelude.{lowered_function, lowered_program, lowered_section, lowered_sections};
 ghost use Rattle.std.specs.Prelude.{◌≡◌, ◌<◌, map, IfOk};
@@ -51,9 +50,9 @@ fn lower_section(
 
 // The compartment of this number.
 fn comp_of(number: u8) -> CompId
-    requires { number < most_compartments }
+    requires { number < 32 }
     ensures number { result ≡ number }
-    ensures within { number < most_compartments }
+    ensures within { number < 32 }
 {
     CompId::new(number).unwrap()
 }

@@ -1,6 +1,6 @@
 -- Memory as a map from addresses to bytes, and the words in it, least significant byte first.
 use Rattle.std.specs.Prelude.{◌≡◌, ℕ, ◌+◌, ◌-◌, ◌*◌, ◌/◌, ◌%◌, ◌^◌, ◌<◌, ◌&&◌, nat_le, nat_lt, if◌then◌else◌, zero, suc}
-use Rattle.std.specs.Prelude.{List, [], ◌∷◌, length, slice_index, EachIndex, Option, None, Some, IsSome, unwrap_or}
+use Rattle.std.specs.Prelude.{List, [], ◌∷◌, Option, None, Some, IsSome, unwrap_or}
 use Rattle.sc_store.specs.declared.region.Region.{Region}
 use Rattle.sc_store.specs.Region.{is_in}
 
@@ -33,11 +33,3 @@ byte_of value k = value / 256 ^ k % 256
 -- the memory with the bytes of a number, the first worth 1, at the `size` addresses from `a` on
 abbrev pub with_bytes : ByteMemory → ℕ → ℕ → ℕ → ByteMemory
 with_bytes m a size value b = if nat_le a b && nat_lt b (a + size) then Some (byte_of value (b - a)) else m b
-
--- the memory with these bytes from `a` on
-abbrev pub written : ByteMemory → ℕ → List ℕ → ByteMemory
-written m a bs b = if nat_le a b && nat_lt b (a + length bs) then Some (slice_index bs (b - a)) else m b
-
--- these bytes stand in memory from `a` on
-abbrev pub Reads : ByteMemory → ℕ → List ℕ → Type 0
-Reads m a bs = EachIndex bs (λ k. m (a + k) ≡ Some (slice_index bs k))

@@ -7,7 +7,6 @@
 
 mod area;
 mod cells;
-mod each;
 mod flat;
 mod laws;
 mod paged;

@@ -1,9 +1,11 @@
 // A store on the pages of a pool.
 #![tactic(auto)]
 
-ghost use Rattle.std.specs.Prelude.{◌≡◌, ◌<◌, ◌≤◌, ◌*◌, ℕ, length, position, IfOk};
+ghost use Rattle.std.specs.Prelude.{◌≡◌, ◌<◌, ◌≤◌, ◌*◌, ◌∷◌, [], ℕ, false, Some, length, position, IfOk, IsSome};
+ghost use Rattle.std.specs.Prelude.{IsTrue};
 ghost use Rattle.sc_store.specs.Region.{AreApart, AreBelow};
-ghost use Rattle.sc_store.specs.Memory.{HoldsBytes};
+ghost use Rattle.sc_store.specs.Memory.{HoldsBytes, HasBytes, load_of, with_bytes};
+ghost use Rattle.sc_store.specs.Flat.{Reads, written};
 ghost use Rattle.sc_store.specs.Paged.{reaches, regions_in, place_of, place_found, memory_of, AreSingle, ArePlaced};
 ghost use Rattle.sc_store.specs.Paged.{IsFocus};
 ghost use Rattle.sc_store.specs.Cells.{cell};
@@ -52,6 +54,8 @@ fn laid(alloc: Global, regions: &[Region]) -> Result<(Vec<Area>, usize), AllocEr
 }
 
 impl PagedStore {
+    ghost use Rattle.sc_store.specs.Store.{bytes_in};
+
     // The place of the first byte, where one region has all the `size` addresses from `at` on.
     #[inline(always)]
     fn place(&self, at: u32, size: usize) -> Option<usize>
@@ -95,6 +99,114 @@ impl PagedStore {
         }
         Area::empty()
     }
+
+    #[inline(always)]
+    #[tactic(auto, using(crate::proofs::Places::has_place))]
+    fn byte(&self, at: u32) -> u8
+        requires { IsSome (bytes_in self.now at) }
+        ensures { bytes_in self.now at ≡ Some result }
+    {
+        let place = self.place(at, 1).unwrap();
+        let mut byte = [0];
+        self.cells.read(place, &mut byte);
+        byte[0]
+    }
+
+    #[inline(always)]
+    #[tactic(auto, using(crate::proofs::Places::has_place))]
+    fn put(&mut self, at: u32, byte: u8)
+        requires { IsSome (bytes_in self.old at) }
+        ensures { bytes_in self.new ≡ written (bytes_in self.old) at (byte ∷ []) }
+    {
+        let place = self.place(at, 1).unwrap();
+        self.cells.write(place, &[byte]);
+    }
+
+    // Byte by byte, wherever they lie.
+    fn read_each(&self, at: u32, into: &mut [u8])
+        requires size { length into.old ≤ 4 }
+        requires there { HasBytes (bytes_in self.now) at (length into.old) }
+        ensures { Reads (bytes_in self.now) at into.new }
+    {
+        for (k, byte) in into.iter_mut().enumerate() {
+            *byte = self.byte(at + k as u32);
+        }
+    }
+
+    fn write_each(&mut self, at: u32, bytes: &[u8])
+        requires size { length bytes.now ≤ 4 }
+        requires there { HasBytes (bytes_in self.old) at (length bytes.now) }
+        ensures { bytes_in self.new ≡ written (bytes_in self.old) at bytes.now }
+    {
+        for (k, byte) in bytes.iter().enumerate() {
+            self.put(at + k as u32, *byte);
+        }
+    }
+
+    // Reads bytes that lie on one page, and says whether they do.
+    #[inline(always)]
+    fn read(&self, at: u32, into: &mut [u8]) -> bool
+        requires some { 0 < length into.old }
+        requires size { length into.old ≤ 4 }
+        ensures length { length into.new ≡ length into.old }
+        ensures bytes { IsTrue result → Reads (bytes_in self.now) at into.new }
+    {
+        match self.place(at, into.len()) {
+            Some(place) if place % PAGE_BYTES + into.len() <= PAGE_BYTES => {
+                self.cells.read(place, into);
+                true
+            }
+            _ => false,
+        }
+    }
+
+    // Writes bytes whose addresses lie on one page, and says whether they do. If not, nothing changes.
+    #[inline(always)]
+    fn write(&mut self, at: u32, bytes: &[u8]) -> bool
+        requires some { 0 < length bytes.now }
+        requires size { length bytes.now ≤ 4 }
+        requires there { HasBytes (bytes_in self.old) at (length bytes.now) }
+        ensures written { IsTrue result → bytes_in self.new ≡ written (bytes_in self.old) at bytes.now }
+        ensures unchanged { result ≡ false → self.new ≡ self.old }
+    {
+        match self.place(at, bytes.len()) {
+            Some(place) if place % PAGE_BYTES + bytes.len() <= PAGE_BYTES => {
+                self.cells.write(place, bytes);
+                true
+            }
+            _ => false,
+        }
+    }
+
+    // Loads and stores that reach from one page, or from one region, into another.
+    #[inline(never)]
+    fn load16_each(&self, at: u32) -> u32
+        requires { HasBytes (bytes_in self.now) at 2 }
+        ensures { result ≡ load_of (bytes_in self.now) at 2 }
+    {
+        let mut bytes = [0; 2];
+        self.read_each(at, &mut bytes);
+        u16::from_le_bytes(bytes).into()
+    }
+
+    #[inline(never)]
+    fn load32_each(&self, at: u32) -> u32
+        requires { HasBytes (bytes_in self.now) at 4 }
+        ensures { result ≡ load_of (bytes_in self.now) at 4 }
+    {
+        let mut bytes = [0; 4];
+        self.read_each(at, &mut bytes);
+        u32::from_le_bytes(bytes)
+    }
+
+    #[inline(never)]
+    fn store_each(&mut self, at: u32, value: u32, size: usize)
+        requires size { size ≤ 4 }
+        requires there { HasBytes (bytes_in self.old) at size }
+        ensures { bytes_in self.new ≡ with_bytes (bytes_in self.old) at size value }
+    {
+        self.write_each(at, &value.to_le_bytes()[..size]);
+    }
 }
 
 impl Store for PagedStore {
@@ -128,40 +240,44 @@ impl Store for PagedStore {
     }
 
     #[inline(always)]
-    #[tactic(auto, using(crate::proofs::Places::has_place))]
-    fn byte(&self, at: u32) -> u8 {
-        let place = self.place(at, 1).unwrap();
-        let mut byte = [0];
-        self.cells.read(place, &mut byte);
-        byte[0]
+    fn load8(&self, at: u32) -> u32 {
+        self.byte(at).into()
     }
 
     #[inline(always)]
-    #[tactic(auto, using(crate::proofs::Places::has_place))]
-    fn put(&mut self, at: u32, byte: u8) {
-        let place = self.place(at, 1).unwrap();
-        self.cells.write(place, &[byte]);
+    fn load16(&self, at: u32) -> u32 {
+        let mut bytes = [0; 2];
+        if !self.read(at, &mut bytes) {
+            return self.load16_each(at);
+        }
+        u16::from_le_bytes(bytes).into()
     }
 
     #[inline(always)]
-    fn read(&self, at: u32, into: &mut [u8]) -> bool {
-        match self.place(at, into.len()) {
-            Some(place) if place % PAGE_BYTES + into.len() <= PAGE_BYTES => {
-                self.cells.read(place, into);
-                true
-            }
-            _ => false,
+    fn load32(&self, at: u32) -> u32 {
+        let mut bytes = [0; 4];
+        if !self.read(at, &mut bytes) {
+            return self.load32_each(at);
+        }
+        u32::from_le_bytes(bytes)
+    }
+
+    #[inline(always)]
+    fn store8(&mut self, at: u32, value: u32) {
+        self.put(at, value.to_le_bytes()[0]);
+    }
+
+    #[inline(always)]
+    fn store16(&mut self, at: u32, value: u32) {
+        if !self.write(at, &value.to_le_bytes()[..2]) {
+            self.store_each(at, value, 2);
         }
     }
 
     #[inline(always)]
-    fn write(&mut self, at: u32, bytes: &[u8]) -> bool {
-        match self.place(at, bytes.len()) {
-            Some(place) if place % PAGE_BYTES + bytes.len() <= PAGE_BYTES => {
-                self.cells.write(place, bytes);
-                true
-            }
-            _ => false,
+    fn store32(&mut self, at: u32, value: u32) {
+        if !self.write(at, &value.to_le_bytes()) {
+            self.store_each(at, value, 4);
         }
     }
 }

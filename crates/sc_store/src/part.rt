@@ -14,8 +14,7 @@ pub(crate) struct Part {
 }
 
 impl Part {
-    ghost use Rattle.sc_store.specs.Flat.{region_of, piece_of, spans, IsZero};
-    ghost use Rattle.sc_store.specs.Memory.{Reads, written};
+    ghost use Rattle.sc_store.specs.Flat.{region_of, piece_of, spans, IsZero, Reads, written};
 
     pub(crate) fn zeroed(alloc: Global, region: Region) -> Result<Part, AllocError>
         ensures region { IfOk result (λ part. region_of part ≡ region) }

@@ -1,5 +1,4 @@
 -- Tests that hold and lists that are empty, places in lists, and what is found by a name among declarations.
-pub use Rattle.sc_base.proofs.Lists.{Each}
 use Rattle.sc_types.proofs.Common.{Bool, Decides-eqb, Decl, Function, FunctionTree, HeadTree, List, None, Option, Proto}
 use Rattle.sc_types.proofs.Common.{Some, [], ap, arith, bytes_eq, cases_Bool, concat, false, function_named}
 use Rattle.sc_types.proofs.Common.{function_names, function_decls, head_named, head_of, heads_in, if◌then◌else◌, inl}
@@ -36,6 +35,11 @@ pub ruleset no_lines = (rule_holds, prefix_empty, back_empty)
 pub map_empty : {A B : Type 0} (f : A → B) (xs : List A) → map f xs ≡ [] → xs ≡ []
 map_empty f [] h = refl
 map_empty f (x ∷ xs) h = cc
+
+-- P of each
+abbrev pub Each : {A : Type 0} → (A → Type 0) → List A → Type 0
+Each P [] = Unit {0}
+Each P (x ∷ xs) = P x × Each P xs
 
 pub each_empty : {A : Type 0} (f : A → List ℕ) (xs : List A) → concat (map f xs) ≡ [] → Each (λ x. f x ≡ []) xs
 each_empty f [] h = tt

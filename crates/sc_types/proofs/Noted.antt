@@ -11,17 +11,12 @@ use Rattle.sc_types.proofs.Common.{unless, with_lines, ℕ, ◌++◌, ◌+◌, �
 use Rattle.sc_types_scope.specs.declared.broken.BrokenLines.{BrokenLines}
 use Rattle.sc_types_scope.proofs.Lines.{done, with_lines-append, with_lines-nil, noted_all-append, step}
 use Rattle.sc_core.specs.declared.ty.Ty.TheVariants as ty
-use Rattle.std.specs.List.{cons_option}
 use Rattle.sc_types.proofs.TypedNodes.{section-nodes}
 use Rattle.sc_types_scope.proofs.Noted.{noted-none}
 
 -- a number that stops far above passes the same test
 pub same-test : (n : ℕ) → nat_le (limited n) 1048576 ≡ nat_le n 1048576
 same-test n = grind (arith, nat_tests)
-
-one_or_none : (o : Option StructTree) → length (cons_option o []) ≤ 1
-one_or_none None = omega arith
-one_or_none (Some tree) = omega arith
 
 pub ruleset measures = (same-test)
 
@@ -79,11 +74,6 @@ module _ (section : SectionTree) where
       ∙ (ap (structs_from section number) (filter_map-append struct_in (decl ∷ []) (drop _ decls)) ∙
       structs-append number (structs_in (decl ∷ [])) (structs_in (drop (i + 1) decls))))) ∙ p) q
 
-  -- a declaration is one struct at most
-  pub one_more : (decl : Decl) (number next i : ℕ) → number ≤ i → next ≡ number + length (structs_in (decl ∷ [])) →
-      next ≤ i + 1
-  one_more decl number next i few is = omega (arith, few, is, one_or_none (struct_in decl))
-
   pub structs-done : (decls : List Decl) (i number : ℕ) (old a : BrokenLines) (all : List ℕ) → length decls ≤ i →
       with_lines a (structs_from section number (structs_in (drop i decls))) ≡ with_lines old all →
       a ≡ with_lines old all
@@ -133,12 +123,12 @@ pub count-noted : (sections : List SectionTree)
     section ≡ get_or sections i section → noted_all least (count_lines_from sections i (drop i sections)) ≡ all →
     lines ≡ with_lines (record { start = section.line; least = least }) (section_count_lines section
     (callees_of sections i section)) → noted_all lines.least (count_lines_from sections (i + 1) (drop (i + 1) sections))
-    ≡ all
+        ≡ all
 count-noted sections i section least lines all lt is p q = rw add-one (ap (λ l. noted_all l.least (count_lines_from
     sections
     (suc i) (drop (suc i) sections))) q ∙ (sym (noted_all-append least _ _) ∙ (ap (λ rest. noted_all least
     (count_lines_from sections i rest)) (sym (drop-cons _ i section lt ∙ ap (λ s. s ∷ drop (suc i) sections) (sym is)))
-    ∙ p)))
+        ∙ p)))
 
 pub counts-noted : (sections : List SectionTree) (i : ℕ) (least : Option ℕ) (all : Option ℕ) → length sections ≤ i →
     noted_all least (count_lines_from sections i (drop i sections)) ≡ all → least ≡ all

@@ -4,16 +4,21 @@ ghost use Rattle.sc_types.specs.Prelude.{function_count_lines, function_decls, g
 ghost use Rattle.sc_types.specs.Prelude.{head_lines, heads_in};
 ghost use Rattle.sc_types.specs.Prelude.{line_beyond, local_lines, most_exports, param_small, structs_from, structs_in};
 ghost use Rattle.sc_types.specs.Prelude.{with_lines};
-ghost use Rattle.std.specs.Prelude.{◌≡◌, ◌+◌, [], ◌∷◌, ◌<◌, ◌^◌, length, map};
+ghost use Rattle.std.specs.Prelude.{◌≡◌, ◌+◌, [], ◌∷◌, length, map, IfOk, OnOk};
 ghost use Rattle.std.specs.List.{concat, list_all};
 ghost use Rattle.sc_ast.specs.declared.section.ExportLine.{ExportLine};
 ghost use Rattle.sc_ast.specs.declared.section.ImportLine.{ImportLine};
 
 use crate::sizes::Sizes;
 use sc_ast::{Decl, Decls, ExportLines, FunctionParam, FunctionTree, ImportLines, LocalTrees};
-use sc_base::MAX_EXPORTS;
-use sc_event::Params;
+use sc_base::OutOfMemory;
 use sc_types_scope::BrokenLines;
+
+/// The most parameters that a function may have.
+const MOST_PARAMS: usize = 8;
+
+/// The most exports that a section may have, and the most imports.
+const MOST_EXPORTS: usize = 4096;
 
 /// Notes the first export beyond their count.
 #[tactic(auto, using(crate::proofs::Noted::noting))]
@@ -21,7 +26,7 @@ pub fn export_lines(exports: &ExportLines, lines: &mut BrokenLines)
     ensures { lines.new ≡ with_lines lines.old (line_beyond {A = ExportLine}
         (λ line. line.line) most_exports exports.now) }
 {
-    match exports.get(MAX_EXPORTS) {
+    match exports.get(MOST_EXPORTS) {
         None => {}
         Some(export) => lines.note(export.line),
     }
@@ -33,35 +38,48 @@ pub fn import_lines(imports: &ImportLines, lines: &mut BrokenLines)
     ensures { lines.new ≡ with_lines lines.old (line_beyond {A = ImportLine}
         (λ line. line.line) most_exports imports.now) }
 {
-    match imports.get(MAX_EXPORTS) {
+    match imports.get(MOST_EXPORTS) {
         None => {}
         Some(import) => lines.note(import.line),
     }
 }
 
 /// Notes the structs that are too large.
-pub fn structs_lines(sizes: &Sizes, decls: &Decls, lines: &mut BrokenLines)
-    ensures { lines.new ≡ with_lines lines.old (structs_from sizes.now 0 (structs_in decls.now)) }
+pub fn structs_lines(
+    sizes: &Sizes,
+    decls: &Decls,
+    lines: &mut BrokenLines,
+) -> Result<(), OutOfMemory>
+    ensures { OnOk result (lines.new ≡ with_lines lines.old (structs_from sizes.now 0 (structs_in decls.now))) }
 {
-    let mut number = 0;
+    let mut number: u32 = 0;
     for decl in decls.as_slice() {
-        number = struct_lines(sizes, number, decl, lines);
+        number = struct_lines(sizes, number, decl, lines)?;
     }
+    Ok(())
 }
 
 // A struct of this number, where it is one. The number of the next struct is handed back.
 #[tactic(auto, using(crate::proofs::Noted::noting))]
-fn struct_lines(sizes: &Sizes, number: usize, decl: &Decl, lines: &mut BrokenLines) -> usize
-    requires { number < 2 ^ 63 }
-    ensures lines { lines.new ≡ with_lines lines.old (structs_from sizes.now number (structs_in (decl.now ∷ []))) }
-    ensures number { result ≡ number + length (structs_in (decl.now ∷ [])) }
+fn struct_lines(
+    sizes: &Sizes,
+    number: u32,
+    decl: &Decl,
+    lines: &mut BrokenLines,
+) -> Result<u32, OutOfMemory>
+    ensures lines { OnOk result (lines.new ≡ with_lines lines.old
+        (structs_from sizes.now number (structs_in (decl.now ∷ [])))) }
+    ensures number { IfOk result (λ next. next ≡ number + length (structs_in (decl.now ∷ []))) }
 {
     match decl {
         Decl::Struct(tree) => {
+            let Some(next) = number.checked_add(1) else {
+                return Err(OutOfMemory);
+            };
             lines.unless(sizes.is_small_struct(number), tree.line);
-            number + 1
+            Ok(next)
         }
-        _ => number,
+        _ => Ok(number),
     }
 }
 
@@ -99,9 +117,9 @@ fn if_head(sizes: &Sizes, decl: &Decl, lines: &mut BrokenLines)
     ensures { lines.new ≡ with_lines lines.old (concat (map (head_lines sizes.now) (heads_in (decl.now ∷ [])))) }
 {
     match decl {
-        Decl::Proto(head) => lines.unless(head.params.len() <= Params::LIMIT, head.line),
+        Decl::Proto(head) => lines.unless(head.params.len() <= MOST_PARAMS, head.line),
         Decl::Function(tree) => {
-            lines.unless(tree.head.params.len() <= Params::LIMIT, tree.head.line)
+            lines.unless(tree.head.params.len() <= MOST_PARAMS, tree.head.line)
         }
         _ => {}
     }

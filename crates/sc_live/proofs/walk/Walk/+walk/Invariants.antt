@@ -1,13 +1,11 @@
-use Rattle.sc_live.proofs.Common.{WalkedAll, drop, length, lives_at, take, weight, ◌+◌, ◌≤◌}
+use Rattle.sc_live.proofs.Common.{WalkedAll, drop, length, lives_at, ◌≤◌}
 use Rattle.sc_live.proofs.walk.Walk.+walk.Given as goal
 
 abbrev pub invariant-row-loop-at : goal.invariant-row-loop-at
-invariant-row-loop-at l = record {
-  within : l.at ≤ length l.list;
-  walked : WalkedAll (drop l.at l.list) (lives_at l.initial.self.live l.exits.broken.now l.exits.continued.now)
-      l.initial.self l.self;
-  few : l.self.points + weight (take l.at l.list) ≤ l.initial.self.points + weight l.list;
-}
+invariant-row-loop-at l =
+    (l.at ≤ length l.list)
+    × WalkedAll (drop l.at l.list) (lives_at l.initial.self.live l.exits.broken.now l.exits.continued.now)
+    l.initial.self l.self
 
 abbrev pub decreases-row-loop-at : goal.decreases-row-loop-at
 decreases-row-loop-at l = l.at

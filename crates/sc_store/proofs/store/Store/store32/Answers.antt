@@ -1,9 +1,0 @@
-use Rattle.sc_store.proofs.Common.{ap, arith, written, ◌∙◌}
-use Rattle.sc_store.proofs.Parts.{first_stored}
-use Rattle.sc_store.proofs.store.Store.store32.Goals as goal
-
-pub returns-else-not-write : goal.returns-else-not-write
-returns-else-not-write g c =
-    c.write.ensures.written (cc)
-    ∙ ap (λ bs. written (g.Self.Store.bytes c.args.self.now) c.args.at bs) c.to_le_bytes.ensures
-    ∙ first_stored (g.Self.Store.bytes c.args.self.now) c.args.at c.args.value 4 (omega arith)

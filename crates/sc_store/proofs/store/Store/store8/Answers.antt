@@ -1,7 +1,0 @@
-use Rattle.sc_store.proofs.Parts.{byte_stored}
-use Rattle.sc_store.proofs.store.Store.store8.Goals as goal
-
-pub returns : goal.returns
-returns g c =
-    byte_stored (g.Self.Store.bytes c.args.self.now) (g.Self.Store.bytes c.put.new.self) c.args.at c.args.value
-    c.to_le_bytes.result c.put.ensures c.to_le_bytes.ensures
