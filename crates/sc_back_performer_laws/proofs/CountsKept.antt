@@ -222,7 +222,7 @@ module _ (interfaces : Interfaces) (comp : ℕ) (rows : List Row) (interface : I
       (uses_usable interfaces comp rows interface is)
       (tree_heads all t.functions t.are_functions (entries_usable interfaces comp rows interface is)))
       (ap (λ x. concat (map (function_count_lines section) x)) (functions_are interfaces comp rows interface is section
-          t) ∙
+      t) ∙
       trees_none all t.functions t.are_functions)
 
 pub counts_hold : CountsHold

@@ -67,7 +67,7 @@ module _ (interfaces : Interfaces) (comp : ℕ) (rows : List Row) (interface : I
       (o : Option Proto) → export_at interfaces to index ≡ o →
       option_map_or (λ found. length found.params == length args) o false ≡ true →
       stmt_name_lines (known own callables hiding) (stmt_at line (option_map_or (call_kind args) o stmt.Empty)) false ≡
-          []
+      []
   cross_known to index args line h None at t = absurd (false≢true t)
   cross_known to index args line h (Some f) at t =
       calls_known own callables hiding line args f false

@@ -84,10 +84,10 @@ module _ (sections : List SectionTree) where
   none_after k before (s ∷ rest) h some = (
     no_other sections k s before
         (subst (λ mains. section_interface_lines sections k s mains before ≡ []) some (map_empty _ _ (prefix_empty _ _
-            h))),
+        h))),
     none_after (suc k) (before ++ s ∷ []) rest
         (back_empty (map (line_of_text s.line) (section_interface_lines sections k s (list_any defines_main before)
-            before)) _ h)
+        before)) _ h)
         (any_snoc before s some),
   )
 

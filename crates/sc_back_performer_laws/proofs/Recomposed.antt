@@ -102,7 +102,7 @@ module _ (olds news : List SectionTree) (typed : IsTyped olds (program_of olds))
         ap names.section_name_lines is ∙
         map_empty _ _ (each_at (λ s. map (line_of_text s.line) (names.section_name_lines s) ≡ []) olds k old
         (each_empty {A = SectionTree} (λ s. map (line_of_text s.line) (names.section_name_lines s)) olds typed.names)
-            got)
+        got)
     names_one k old new (turns got on can same) =
         names_hold (interfaces_of olds) k (part (interfaces_of olds).main k trace)
         (interface_of olds k old) new can same
@@ -112,7 +112,7 @@ module _ (olds news : List SectionTree) (typed : IsTyped olds (program_of olds))
     types_one k old new (stays got off line is) =
         ap (λ s. elab.section_type_lines s (callees_of news 0 s)) is ∙ types_same olds news all line old ∙
         map_empty _ _ (each_at (λ s. map (line_of_text s.line) (elab.section_type_lines s (callees_of olds 0 s)) ≡ [])
-            olds k
+        olds k
         old (each_empty {A = SectionTree} (λ s.
         map (line_of_text s.line) (elab.section_type_lines s (callees_of olds 0 s))) olds typed.types) got)
     types_one k old new (turns got on can same) =

@@ -120,7 +120,7 @@ module _ (olds : List SectionTree) where
       subst (λ n. AreRules olds n section) (plus_one k j)
       (rules_from (suc k) (before ++ s ∷ []) rest j section
       (back_empty (map (line_of_text s.line) (section_interface_lines olds k s (list_any defines_main before) before)) _
-          h) got)
+      h) got)
 
   plus_none : (n : ℕ) → 0 + n ≡ n
   plus_none n = omega arith

@@ -54,7 +54,7 @@ module _ (own callables hiding : List Text) where
 
   set_at : (line number : ℕ) (looping : Bool) →
       stmt_name_lines known (stmt_at line (kinds.Assign (Variable counter_name) (value_tree Unsigned number))) looping ≡
-          []
+      []
   set_at line number looping = search (rules, exprs.the_lemmas, kinds.the_lemmas, stmts.the_lemmas)
 
   call_at : (line : ℕ) (call : CallTree) (looping : Bool) →

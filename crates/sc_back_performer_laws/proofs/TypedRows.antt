@@ -66,7 +66,7 @@ module _ (params : List TypedParam) (absent : variable_in Param params counter_n
       (record { name = f.name; args = value_trees f.params args }) ∙
       ap (λ x. stmt_at line (calls_out (callees.target f.name) x))
       (ap (λ s. going_to_all (params_called s) (map (typed (visible params absent callees)) (value_trees f.params
-          args)))
+      args)))
       has ∙ typed_values params absent callees f.params args)
 
   typed_cross : (result : Option Scalar) (line to index : ℕ) (args : List ℕ) →

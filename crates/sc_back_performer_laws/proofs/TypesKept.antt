@@ -166,7 +166,7 @@ module _ (interfaces : Interfaces) (comp : ℕ) (rows : List Row) (interface : I
   function_none entry f line close_line body b named usable =
       let absent = no_counter f.params usable.few in
       (λ i. concat (map (stmt_type_lines (visible_is interfaces comp rows interface is section t callees f line
-          close_line
+      close_line
       body absent i) callees (scope_is interfaces comp rows interface is section t f line close_line body i)
       (result_is interfaces comp rows interface is section t f line close_line body i)) body)) ∙
       body_none (typed_params 0 f.params) absent _ callees interfaces comp rows interface is

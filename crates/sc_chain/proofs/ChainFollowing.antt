@@ -131,7 +131,7 @@ module _ (source : SourceParts) (inputs : List ℕ) (steps : ℕ) (trace : List 
       by (blame ∷ rest) whole few chain rising =
           let is : blame ≡ blame_of link = next_is (is_listed comps) link blame next at.same chain.0 in
           let there = blamed_are_there.programs c_arith source.program (is_listed comps) trace inputs steps (length
-              trace)
+          trace)
           link.comp link.cause link.line (ap (λ r. r.end) (sym at.same) ∙ next.blamed) in
           record {
             rest = rest;

@@ -52,7 +52,7 @@ module _ (source : SourceParts) (inputs : List ℕ) (steps : ℕ) (trace : List 
           < length source.program.interfaces.comps - length links
       fewer_next =
           let few = few_links source inputs steps trace (runs source inputs steps trace (is_listed comps')) links'
-              comps'
+          comps'
           here in
           subst (λ ls. length source.program.interfaces.comps - length ls
           < length source.program.interfaces.comps - length links) (sym more_links)
@@ -75,5 +75,5 @@ pub run_of_text : (source : SourceParts) (inputs : List ℕ) (steps : ℕ) (trac
     run ≡ runs source inputs steps trace (is_listed comps')
 run_of_text source inputs steps trace comps comps' text replaced same program program_is run is =
     is ∙ (ap (λ p. meaning p inputs steps (length trace)) program_is ∙ (replaced.scripted.means inputs steps (length
-        trace) ∙
+    trace) ∙
     ap (λ cs. runs source inputs steps trace (is_listed cs)) same))

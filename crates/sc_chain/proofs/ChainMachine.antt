@@ -17,7 +17,7 @@ module _ (image : ImageParts) (inputs : List ℕ) (formed : IsWellFormed image) 
         few
     by (Some stop) is =
         subst (λ (r : MachineRun). length r.state.trace ≤ events) (sym (run_stopped image inputs events 0 state stop
-            is)) few
+        is)) few
   few_from (suc steps) state few =
       by (few_from steps) (stopped events state.trace) refl (step image inputs state) refl where
         by : ((next : MachineState) → length next.trace ≤ events →

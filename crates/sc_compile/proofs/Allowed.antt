@@ -48,7 +48,7 @@ same_output_import false false parts = no_output parts
 
 same_function_imports : (to index : ℕ) (each : List Import) →
     list_any (is_function to index) (map image_import (flat_map import_part each)) ≡ list_any (is_function to index)
-        each
+    each
 same_function_imports to index [] = refl
 same_function_imports to index (Input ∷ each) = same_function_imports to index each
 same_function_imports to index (Output ∷ each) = same_function_imports to index each
@@ -83,7 +83,7 @@ module _ (program : ProgramTree) (codes : List CodeTree) where
 
   interface_by : (comp : ℕ) (found : Option Interface) →
       option_map image_interface (option_map (comp_part program codes comp) found) ≡ option_map (part_interface comp)
-          found
+      found
   interface_by comp None = refl
   interface_by comp (Some interface) = refl
 

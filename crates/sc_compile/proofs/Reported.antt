@@ -35,7 +35,7 @@ export_along (proto ∷ protos) (export ∷ exports) all (suc index) = export_al
 exports_along : (interfaces : List Interface) (parts : List CompPart) → AllZip HasInterface interfaces parts →
     (comp index : ℕ) → option_map_or (λ (found : Proto). found.name)
     (option_and_then (λ (found : Interface). slice_get found.exports index) (slice_get (map image_interface parts)
-        comp))
+    comp))
     [] ≡ option_map_or (λ (found : Proto). found.name)
     (option_and_then (λ (found : Interface). slice_get found.exports index) (slice_get interfaces comp)) []
 exports_along [] [] all comp index = refl

@@ -82,7 +82,7 @@ module _ (image : ImageParts) (inputs inputs' : List ℕ) (formed : IsWellFormed
         (Goes (with_pc (with_stored other op a word) (one.pc + 4)))
     pub calls : (to index target : ℕ) → entered_export image to target ≡ Some index →
         may_call_export image one.active to index ≡ true → P (Goes (on_call one to index (export_params image to index)
-            target))
+        target))
         (Goes (on_call other to index (export_params image to index) target))
     pub returns : P (Goes (on_return image one one.cross)) (Goes (on_return image other rest.cross))
     pub outputs : may_output image one.active ≡ true → P (Goes (with_pc (on_output one) (one.pc + 4)))
@@ -153,7 +153,7 @@ module _ (image : ImageParts) (inputs inputs' : List ℕ) (formed : IsWellFormed
 
     load_both : (op : LoadOp) (rd a : ℕ) (why : Option TrapReason) → refused image one.active (load_size op) a ≡ why →
         P (unless_trap why (gives one rd (word_loaded one op a))) (unless_trap why (gives other rd (word_loaded other op
-            a)))
+        a)))
     load_both op rd a (Some reason) is = h.traps reason
     load_both op rd a None is = subst (λ word. P (gives one rd (word_loaded one op a)) (gives other rd word))
         (loaded_same op a is) (gives_both rd _ (λ here w bytes. loaded_word one.memory op a bytes))

@@ -141,7 +141,7 @@ module _ (image : ImageParts) (inputs : List ℕ) (state : MachineState) (d : �
   enters_call : (to index target : ℕ) → entered_export image to target ≡ Some index → to ≡ d →
       own image (on_call state to index (export_params image to index) target) d ≡
       entered (exported_by image d) (own image state d) (Call state.active to index (arguments (export_params image to
-          index) state.regs))
+      index) state.regs))
   enters_call to index target at active =
       let kept_is : kept_by d (crossing_to state to index) ≡ Entered (saved_sp state d) ∷ [] =
       rw (ne_eqb state.active d differ, eq-eqb to d active) (ap (λ k. Entered (saved_sp state k) ∷ []) active) in

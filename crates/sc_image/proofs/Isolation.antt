@@ -206,7 +206,7 @@ same_at image c a memory memory' same owned = rw owned at (ap (λ bytes. bytes a
 stored_at : (image : ImageParts) (c a size word x : ℕ) (memory memory' : ByteMemory) →
     ((b : ℕ) → are_data image c b 1 ≡ true → memory b ≡ memory' b) → (owned : Bool) → are_data image c x 1 ≡ owned →
     (if owned then with_bytes memory a size word x else None) ≡ (if owned then with_bytes memory' a size word x else
-        None)
+    None)
 stored_at image c a size word x memory memory' same true is =
     ap (λ before. if nat_le a x && nat_lt x (a + size) then Some (byte_of word (x - a)) else before) (same x is)
 stored_at image c a size word x memory memory' same false is = refl
@@ -238,130 +238,130 @@ nothing_added trace trace' = ap Adds (drop-length trace ∙ sym (drop-length tra
 -- Two such states, of images that agree for the compartment, here with the step of the first image in both.
 
 module _ (image image' : ImageParts) (inputs inputs' : List ℕ) (formed : IsWellFormed image) (left rest : MachineState)
-    where
-  abbrev c : ℕ
-  c = left.active
+  where
+    abbrev c : ℕ
+    c = left.active
 
-  abbrev right : MachineState
-  right = standing left rest
+    abbrev right : MachineState
+    right = standing left rest
 
-  module _ (steady : IsSteadyState image left) (steady' : IsSteadyState image' right) (parts : own image left c ≡ own
-      image right c)
-      (call : latest_call left ≡ latest_call right) (read : input_at inputs left.input ≡ input_at inputs' rest.input)
-    where
-      bytes_same : data_of image c left.memory ≡ data_of image c rest.memory
-      bytes_same = ap (λ o. o.bytes) parts
+    module _ (steady : IsSteadyState image left) (steady' : IsSteadyState image' right) (parts : own image left c ≡ own
+        image right c)
+        (call : latest_call left ≡ latest_call right) (read : input_at inputs left.input ≡ input_at inputs' rest.input)
+      where
+        bytes_same : data_of image c left.memory ≡ data_of image c rest.memory
+        bytes_same = ap (λ o. o.bytes) parts
 
-      calls_same : flat_map (kept_by c) left.cross ≡ flat_map (kept_by c) rest.cross
-      calls_same = ap (λ o. o.calls) parts
+        calls_same : flat_map (kept_by c) left.cross ≡ flat_map (kept_by c) rest.cross
+        calls_same = ap (λ o. o.calls) parts
 
-      -- these registers and this pc, these bytes and these events, with the compartment still active
-      on : (regs' regs'' : List ℕ) (pc' place place' : ℕ) (more more' : List Event) (bytes : ByteMemory → ByteMemory) →
-          regs' ≡ regs'' → Adds (drop (length left.trace) more) ≡ Adds (drop (length rest.trace) more') →
-          data_of image c (bytes left.memory) ≡ data_of image c (bytes rest.memory) → Follow image c left right
-          (Goes (record left { regs = regs'; pc = pc'; memory = bytes left.memory; input = place; trace = more }))
-          (Goes (record right { regs = regs''; pc = pc'; memory = bytes rest.memory; input = place'; trace = more' }))
-      on regs' regs'' pc' place place' more more' bytes alike adds same = record {
-        emits = adds;
-        parts = λ i. record {
-          bytes = same i;
-          saved = (parts i).saved;
-          calls = calls_same i;
-          running = if nat_eq c c then Some (record { regs = alike i; pc = pc' }) else None;
-        };
-      }
+        -- these registers and this pc, these bytes and these events, with the compartment still active
+        on : (regs' regs'' : List ℕ) (pc' place place' : ℕ) (more more' : List Event) (bytes : ByteMemory → ByteMemory) →
+            regs' ≡ regs'' → Adds (drop (length left.trace) more) ≡ Adds (drop (length rest.trace) more') →
+            data_of image c (bytes left.memory) ≡ data_of image c (bytes rest.memory) → Follow image c left right
+            (Goes (record left { regs = regs'; pc = pc'; memory = bytes left.memory; input = place; trace = more }))
+            (Goes (record right { regs = regs''; pc = pc'; memory = bytes rest.memory; input = place'; trace = more' }))
+        on regs' regs'' pc' place place' more more' bytes alike adds same = record {
+          emits = adds;
+          parts = λ i. record {
+            bytes = same i;
+            saved = (parts i).saved;
+            calls = calls_same i;
+            running = if nat_eq c c then Some (record { regs = alike i; pc = pc' }) else None;
+          };
+        }
 
-      -- a call
-      kept_of_caller : (to : ℕ) (crossing : Crossing) → crossing.caller ≡ c → crossing.callee ≢ c →
-          kept_by c crossing ≡ Waits crossing.pc crossing.sp ∷ []
-      kept_of_caller to crossing caller callee = rw (eq-eqb _ c caller, ne_eqb _ c callee) refl
+        -- a call
+        kept_of_caller : (to : ℕ) (crossing : Crossing) → crossing.caller ≡ c → crossing.callee ≢ c →
+            kept_by c crossing ≡ Waits crossing.pc crossing.sp ∷ []
+        kept_of_caller to crossing caller callee = rw (eq-eqb _ c caller, ne_eqb _ c callee) refl
 
-      calls_on : (to index params target : ℕ) → c ≢ to → Follow image c left right
-          (Goes (on_call left to index params target)) (Goes (on_call right to index params target))
-      calls_on to index params target differ =
-          let to_other : to ≢ c = λ same. differ (sym same) in
-          let kept = ap₂ (λ k ks. k ++ ks) (kept_of_caller to (crossing_to left to index) refl to_other ∙
-          sym (kept_of_caller to (crossing_to right to index) refl to_other)) calls_same in
-          let sps = saved_left image left _ steady ∙ sym (saved_left image' right _ steady') in
-          let event : Event = Call c to index (arguments params left.regs) in
-          record {
-            emits = added left.trace rest.trace event event refl;
-            parts = λ i. record {
-              bytes = bytes_same i;
-              saved = sps i;
-              calls = kept i;
-              running = idle_both to to c (record { regs = (on_call left to index params target).regs; pc = target })
-                  (record { regs = (on_call right to index params target).regs; pc = target }) to_other to_other i;
-            };
-          }
+        calls_on : (to index params target : ℕ) → c ≢ to → Follow image c left right
+            (Goes (on_call left to index params target)) (Goes (on_call right to index params target))
+        calls_on to index params target differ =
+            let to_other : to ≢ c = λ same. differ (sym same) in
+            let kept = ap₂ (λ k ks. k ++ ks) (kept_of_caller to (crossing_to left to index) refl to_other ∙
+            sym (kept_of_caller to (crossing_to right to index) refl to_other)) calls_same in
+            let sps = saved_left image left _ steady ∙ sym (saved_left image' right _ steady') in
+            let event : Event = Call c to index (arguments params left.regs) in
+            record {
+              emits = added left.trace rest.trace event event refl;
+              parts = λ i. record {
+                bytes = bytes_same i;
+                saved = sps i;
+                calls = kept i;
+                running = idle_both to to c (record { regs = (on_call left to index params target).regs; pc = target })
+                    (record { regs = (on_call right to index params target).regs; pc = target }) to_other to_other i;
+              };
+            }
 
-      -- a return
-      kept_of_callee : (crossing : Crossing) → crossing.caller ≢ c → crossing.callee ≡ c →
-          kept_by c crossing ≡ Entered crossing.saved ∷ []
-      kept_of_callee crossing caller callee = rw (ne_eqb _ c caller, eq-eqb _ c callee) refl
+        -- a return
+        kept_of_callee : (crossing : Crossing) → crossing.caller ≢ c → crossing.callee ≡ c →
+            kept_by c crossing ≡ Entered crossing.saved ∷ []
+        kept_of_callee crossing caller callee = rw (ne_eqb _ c caller, eq-eqb _ c callee) refl
 
-      returns_on : (x x' : Crossing) (xs xs' : List Crossing) → left.cross ≡ x ∷ xs → rest.cross ≡ x' ∷ xs' →
-          Follow image c left right (Goes (on_return image left (x ∷ xs))) (Goes (on_return image right (x' ∷ xs')))
-      returns_on x x' xs xs' is is' =
-          let chain : AreNested (length image.comps) c (x ∷ xs) = subst (AreNested _ c) is steady.chain in
-          let chain' : AreNested (length image'.comps) c (x' ∷ xs') = subst (AreNested _ c) is' steady'.chain in
-          let caller : x.caller ≢ c = λ same. chain.1 (same ∙ sym chain.0) in
-          let caller' : x'.caller ≢ c = λ same. chain'.1 (same ∙ sym chain'.0) in
-          let latest : Some (call_of x) ≡ Some (call_of x') =
-          sym (ap (λ cross. slice_get (map call_of cross) 0) is) ∙ call ∙
-          ap (λ cross. slice_get (map call_of cross) 0) is' in
-          let first : call_of x ≡ call_of x' = cc latest in
-          let numbers : Entered x.saved ∷ flat_map (kept_by c) xs ≡ Entered x'.saved ∷ flat_map (kept_by c) xs' =
-          ap (λ k. k ++ flat_map (kept_by c) xs) (sym (kept_of_callee x caller chain.0)) ∙
-          sym (ap (flat_map (kept_by c)) is) ∙ calls_same ∙ ap (flat_map (kept_by c)) is' ∙
-          ap (λ k. k ++ flat_map (kept_by c) xs') (kept_of_callee x' caller' chain'.0) in
-          let kept : x.saved ≡ x'.saved = cc numbers in
-          let rests : flat_map (kept_by c) xs ≡ flat_map (kept_by c) xs' = cc numbers in
-          let event = λ (o : OpenCall). Ret c o.caller (given_back (has_result image o.callee o.entry) left) in
-          let after = on_return_to (has_result image x.callee x.entry) left x xs in
-          let after' = on_return_to (has_result image x'.callee x'.entry) right x' xs' in
-          let sps = saved_left image left _ steady ∙ kept ∙ sym (saved_left image' right _ steady') in
-          record {
-            emits = added left.trace rest.trace (event (call_of x)) (event (call_of x')) (ap event first);
-            parts = λ i. record {
-              bytes = bytes_same i;
-              saved = sps i;
-              calls = rests i;
-              running = idle_both x.caller x'.caller c (record { regs = after.regs; pc = after.pc })
-                  (record { regs = after'.regs; pc = after'.pc }) caller caller' i;
-            };
-          }
+        returns_on : (x x' : Crossing) (xs xs' : List Crossing) → left.cross ≡ x ∷ xs → rest.cross ≡ x' ∷ xs' →
+            Follow image c left right (Goes (on_return image left (x ∷ xs))) (Goes (on_return image right (x' ∷ xs')))
+        returns_on x x' xs xs' is is' =
+            let chain : AreNested (length image.comps) c (x ∷ xs) = subst (AreNested _ c) is steady.chain in
+            let chain' : AreNested (length image'.comps) c (x' ∷ xs') = subst (AreNested _ c) is' steady'.chain in
+            let caller : x.caller ≢ c = λ same. chain.1 (same ∙ sym chain.0) in
+            let caller' : x'.caller ≢ c = λ same. chain'.1 (same ∙ sym chain'.0) in
+            let latest : Some (call_of x) ≡ Some (call_of x') =
+            sym (ap (λ cross. slice_get (map call_of cross) 0) is) ∙ call ∙
+            ap (λ cross. slice_get (map call_of cross) 0) is' in
+            let first : call_of x ≡ call_of x' = cc latest in
+            let numbers : Entered x.saved ∷ flat_map (kept_by c) xs ≡ Entered x'.saved ∷ flat_map (kept_by c) xs' =
+            ap (λ k. k ++ flat_map (kept_by c) xs) (sym (kept_of_callee x caller chain.0)) ∙
+            sym (ap (flat_map (kept_by c)) is) ∙ calls_same ∙ ap (flat_map (kept_by c)) is' ∙
+            ap (λ k. k ++ flat_map (kept_by c) xs') (kept_of_callee x' caller' chain'.0) in
+            let kept : x.saved ≡ x'.saved = cc numbers in
+            let rests : flat_map (kept_by c) xs ≡ flat_map (kept_by c) xs' = cc numbers in
+            let event = λ (o : OpenCall). Ret c o.caller (given_back (has_result image o.callee o.entry) left) in
+            let after = on_return_to (has_result image x.callee x.entry) left x xs in
+            let after' = on_return_to (has_result image x'.callee x'.entry) right x' xs' in
+            let sps = saved_left image left _ steady ∙ kept ∙ sym (saved_left image' right _ steady') in
+            record {
+              emits = added left.trace rest.trace (event (call_of x)) (event (call_of x')) (ap event first);
+              parts = λ i. record {
+                bytes = bytes_same i;
+                saved = sps i;
+                calls = rests i;
+                running = idle_both x.caller x'.caller c (record { regs = after.regs; pc = after.pc })
+                    (record { regs = after'.regs; pc = after'.pc }) caller caller' i;
+              };
+            }
 
-      returns_both : (xs xs' : List Crossing) → left.cross ≡ xs → rest.cross ≡ xs' →
-          Follow image c left right (Goes (on_return image left xs)) (Goes (on_return image right xs'))
-      returns_both (x ∷ xs) (x' ∷ xs') is is' = returns_on x x' xs xs' is is'
-      returns_both [] [] is is' =
-          let event : Event = End c (reg left a0) in
-          on left.regs left.regs left.pc left.input rest.input _ _ (λ m. m) refl
-          (added left.trace rest.trace event event refl) bytes_same
-      returns_both xs xs' is is' =
-          let never = sym (ap (λ cross. slice_get (map call_of cross) 0) is) ∙ call ∙
-          ap (λ cross. slice_get (map call_of cross) 0) is' in cc never
+        returns_both : (xs xs' : List Crossing) → left.cross ≡ xs → rest.cross ≡ xs' →
+            Follow image c left right (Goes (on_return image left xs)) (Goes (on_return image right xs'))
+        returns_both (x ∷ xs) (x' ∷ xs') is is' = returns_on x x' xs xs' is is'
+        returns_both [] [] is is' =
+            let event : Event = End c (reg left a0) in
+            on left.regs left.regs left.pc left.input rest.input _ _ (λ m. m) refl
+            (added left.trace rest.trace event event refl) bytes_same
+        returns_both xs xs' is is' =
+            let never = sym (ap (λ cross. slice_get (map call_of cross) 0) is) ∙ call ∙
+            ap (λ cross. slice_get (map call_of cross) 0) is' in cc never
 
-      pub follow : Follow image c left right (step image inputs left) (step image inputs' right)
-      follow = step_both image inputs inputs' formed left rest (Follow image c left right) (record {
-        same = λ a owned. same_at image c a left.memory rest.memory bytes_same owned;
-        traps = λ reason. record { emits = refl; parts = parts };
-        quiet = λ regs' pc' same. on regs' regs' pc' left.input rest.input left.trace rest.trace (λ m. m) refl
-            (nothing_added left.trace rest.trace) bytes_same;
-        stores = λ op a word allowed. on left.regs left.regs (left.pc + 4) left.input rest.input left.trace rest.trace
-            (λ m. with_bytes m a (store_size op) word) refl (nothing_added left.trace rest.trace)
-            (stored_same image c a _ word left.memory rest.memory
-            (λ b owned. same_at image c b left.memory rest.memory bytes_same owned));
-        calls = λ to index target at may. calls_on to index _ target (called_other image c to index formed may);
-        returns = returns_both left.cross rest.cross refl refl;
-        outputs = λ may.
-            let event : Event = Out c (reg left a0) in
-            on left.regs left.regs _ left.input rest.input _ _ (λ m. m) refl
-            (added left.trace rest.trace event event refl) bytes_same;
-        reads = λ may. on _ _ _ _ _ _ _ (λ m. m) (ap (written left.regs a0) read)
-            (added left.trace rest.trace (In c _) (In c _) (ap (In c) read)) bytes_same;
-      })
+        pub follow : Follow image c left right (step image inputs left) (step image inputs' right)
+        follow = step_both image inputs inputs' formed left rest (Follow image c left right) (record {
+          same = λ a owned. same_at image c a left.memory rest.memory bytes_same owned;
+          traps = λ reason. record { emits = refl; parts = parts };
+          quiet = λ regs' pc' same. on regs' regs' pc' left.input rest.input left.trace rest.trace (λ m. m) refl
+              (nothing_added left.trace rest.trace) bytes_same;
+          stores = λ op a word allowed. on left.regs left.regs (left.pc + 4) left.input rest.input left.trace rest.trace
+              (λ m. with_bytes m a (store_size op) word) refl (nothing_added left.trace rest.trace)
+              (stored_same image c a _ word left.memory rest.memory
+              (λ b owned. same_at image c b left.memory rest.memory bytes_same owned));
+          calls = λ to index target at may. calls_on to index _ target (called_other image c to index formed may);
+          returns = returns_both left.cross rest.cross refl refl;
+          outputs = λ may.
+              let event : Event = Out c (reg left a0) in
+              on left.regs left.regs _ left.input rest.input _ _ (λ m. m) refl
+              (added left.trace rest.trace event event refl) bytes_same;
+          reads = λ may. on _ _ _ _ _ _ _ (λ m. m) (ap (written left.regs a0) read)
+              (added left.trace rest.trace (In c _) (In c _) (ap (In c) read)) bytes_same;
+        })
 
 -- Any two points.
 
@@ -453,7 +453,7 @@ follows_from_own c one there zero h =
 follows_from_own c one there (suc steps) h =
     let n = next_same c one there h in
     let next = λ (silent : IsSilentStep one.image one.inputs one.state). follows_from_own c (later 1 one) (later 1
-        there)
+    there)
     steps (alike_after c one there h silent) in (
       ((λ p. (sym n.emits ∙ p.0, (next p.0).0.0 p.1)), (λ p. (n.emits ∙ p.0, (next (n.emits ∙ p.0)).0.1 p.1))),
       λ p. (next p.0).1 p.1,

@@ -33,7 +33,7 @@ data_range image c a (suc k) = ap₂ (λ (x y : Bool). x && y) (data_range image
 
 pub range_of : (image : ImageParts) (c a size : ℕ) → 0 < size →
     are_data image c a size ≡ (nat_le (data_start c) a && nat_le (a + size) (stack_top c + length (initial_globals image
-        c)))
+    c)))
 range_of image c a zero some = absurd (omega (arith, some))
 range_of image c a (suc k) some = data_range image c a k
 
@@ -182,7 +182,7 @@ module _ (image : ImageParts) (formed : IsWellFormed image) (c a size word : ℕ
 
 pub stored_bytes : (image : ImageParts) → IsWellFormed image → (c a size word : ℕ) (memory : ByteMemory) →
     c < length image.comps → refused image c size a ≡ None → HoldsBytes memory → HoldsBytes (with_bytes memory a size
-        word)
+    word)
 stored_bytes image formed c a size word memory active allowed bytes x byte at =
     stored_by image formed c a size word memory active (allowed_data image c size a allowed) bytes x byte _ refl at
 

@@ -119,23 +119,23 @@ after_keeps P state (Traps reason) h k = h
 
 module _ (image : ImageParts) (inputs : List ℕ) (events : ℕ) (P : MachineState → Type 0)
     (each : (state : MachineState) → P state → stopped events state.trace ≡ None → AtNext P (step image inputs state))
-        where
-  stop_keeps : (early : Option Stop) (state : MachineState) (later : MachineRun) → P state → (early ≡ None → P
-      later.state) →
-      P (stops_or early state later).state
-  stop_keeps None state later h k = k refl
-  stop_keeps (Some stop) state later h k = h
+  where
+    stop_keeps : (early : Option Stop) (state : MachineState) (later : MachineRun) → P state → (early ≡ None → P
+        later.state) →
+        P (stops_or early state later).state
+    stop_keeps None state later h k = k refl
+    stop_keeps (Some stop) state later h k = h
 
-  go_keeps : (state : MachineState) (outcome : Outcome) (go : MachineState → MachineRun) → P state → AtNext P outcome →
-      ((next : MachineState) → P next → P (go next).state) → P (after state outcome go).state
-  go_keeps state (Goes next) go h k later = later next k
-  go_keeps state (Traps reason) go h k later = h
+    go_keeps : (state : MachineState) (outcome : Outcome) (go : MachineState → MachineRun) → P state → AtNext P outcome →
+        ((next : MachineState) → P next → P (go next).state) → P (after state outcome go).state
+    go_keeps state (Goes next) go h k later = later next k
+    go_keeps state (Traps reason) go h k later = h
 
-  pub run_keeps : (steps : ℕ) (state : MachineState) → P state → P (run image inputs events steps state).state
-  unfolding run
-  run_keeps zero state h = stop_keeps (stopped events _) state _ h (λ early. h)
-  run_keeps (suc steps) state h = stop_keeps (stopped events _) state _ h
-      (λ early. go_keeps state _ _ h (each state h early) (run_keeps steps))
+    pub run_keeps : (steps : ℕ) (state : MachineState) → P state → P (run image inputs events steps state).state
+    unfolding run
+    run_keeps zero state h = stop_keeps (stopped events _) state _ h (λ early. h)
+    run_keeps (suc steps) state h = stop_keeps (stopped events _) state _ h
+        (λ early. go_keeps state _ _ h (each state h early) (run_keeps steps))
 
 -- Stretches of a run, steps by their instruction, and what stands in memory at the start.
 

@@ -161,8 +161,16 @@ module _ (image : ImageParts) (inputs : List ℕ) (formed : IsWellFormed image) 
   walk_more : (n : ℕ) (from middle to : MachineState) → OpenWalk n from middle → is_ended middle.trace ≡ false →
       step image inputs middle ≡ Goes to → OpenWalk (suc n) from to
   walk_more zero from middle to same going goes = subst (λ m. (is_ended m.trace ≡ false) ×
-      ((next : MachineState) × ((step image inputs m ≡ Goes next) × (next ≡ to)))) (sym same) (going, (to, (goes,
-          refl)))
+      ((next : MachineState) × ((step image inputs m ≡ Goes next) × (next ≡ to)))) (sym same) (
+        going,
+        (
+          to,
+          (
+            goes,
+            refl,
+          ),
+        ),
+      )
   walk_more (suc n) from middle to h going goes = (
     h.0,
     (h.1.0, (h.1.1.0, walk_more n h.1.0 middle to h.1.1.1 going goes)),

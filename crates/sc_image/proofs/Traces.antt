@@ -219,7 +219,7 @@ module _ (image : ImageParts) (inputs : List ℕ) (formed : IsWellFormed image) 
       (ap (λ found. option_map_or (λ p. fits_result p.result value) found false) said.1.said_so ∙
       (ap (fits_result (if said.0.result then Some Int else None)) value_is ∙ fits_given said.0.result)) in
       let here = subst (λ cross. may_return (image_interfaces image) state.active (entry_of cross) value ≡ true) (sym
-          is)
+      is)
       (subst (λ c. may_return (image_interfaces image) c x.entry value ≡ true) chain.0 returns) in
       let awaited = subst (λ cross. law.awaits (waiting_of cross) x.caller ≡ true) (sym is) (eq-eqb x.caller _ refl) in
       goes_on _ _ steady exports.1 refl (and_from (state.active == state.active) _ (eq-eqb _ _ refl)

@@ -218,7 +218,7 @@ abbrev pub export_called : ImageParts → MachineState → (to target : ℕ) →
 export_called image state to target None = Traps BadJump
 export_called image state to target (Some index) =
     if may_call_export image state.active to index then Goes (on_call state to index (export_params image to index)
-        target) else
+    target) else
     Traps NoImport
 
 -- a jump out of the own code calls where rd is ra
@@ -232,15 +232,15 @@ jump_outside image state rd target =
 abbrev pub leaves : ImageParts → MachineState → (rd target : ℕ) → Outcome
 leaves image state rd target =
     if nat_eq rd 0 && nat_eq target gate then Goes (on_return image state state.cross) else jump_outside image state rd
-        target
+    target
 
 -- a7 says what is called: 1 is `input`, 2 is `output`
 abbrev pub environment_call : ImageParts → List ℕ → MachineState → Outcome
 environment_call image inputs state =
     if nat_eq (reg state a7) 1 then (if may_input image state.active then next (on_input inputs state) else Traps
-        NoImport)
+    NoImport)
     else if nat_eq (reg state a7) 2 then (if may_output image state.active then next (on_output state) else Traps
-        NoImport)
+    NoImport)
     else Traps BadCall
 
 abbrev pub by_owner : ImageParts → List ℕ → Protection

@@ -41,7 +41,7 @@ digits_number base digits = fold (λ value digit. value * base + digit_value dig
 unfoldable pub is_number_within : ℕ → ℕ → List ℕ → Bool
 is_number_within base greatest digits =
     not (is_empty digits) && list_all (λ digit. is_digit_of base digit) digits && nat_le (digits_number base digits)
-        greatest
+    greatest
 
 -- the greatest number with this base: without a suffix a decimal constant has the type `int`
 abbrev pub greatest_of : Bool → ℕ → ℕ
@@ -62,5 +62,8 @@ is_unsigned_constant text = has_suffix text || nat_lt 2147483647 (value_of text)
 
 -- what a constant says
 unfoldable pub integer_of : List ℕ → Option IntegerConstant
-integer_of text = if is_integer_constant text then Some (record { value = value_of text; unsigned = is_unsigned_constant
-    text }) else None
+integer_of text = if is_integer_constant text then Some (record {
+  value = value_of text;
+  unsigned = is_unsigned_constant
+      text;
+}) else None

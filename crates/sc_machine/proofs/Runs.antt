@@ -21,8 +21,10 @@ room_left events trace early = has_room events trace early
 
 -- the last steps of a run
 module _ (image : ImageParts) (inputs : List ℕ) (events : ℕ) (state : MachineState) where
-  no_more : (early : Option Stop) → ◌≡◌ {A = MachineRun} (stops_or early state (record { state = state; stop = StepsOut
-      }))
+  no_more : (early : Option Stop) → ◌≡◌ {A = MachineRun} (stops_or early state (record {
+    state = state;
+    stop = StepsOut;
+  }))
       (record { state = state; stop = unwrap_or early StepsOut })
   no_more None = refl
   no_more (Some stop) = refl

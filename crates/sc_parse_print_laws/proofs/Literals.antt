@@ -89,8 +89,11 @@ decimal_is = decimal_by_steps Decimal (λ n h. record {
     let end = last_is ds (48 + n % 10) in
     record {
       some = omega (arith, long);
-      digits = list_all-append (λ x. is_digit_of 10 x) ds ((48 + n % 10) ∷ []) ∙ rw (d.digits, (digit_of (n % 10)
-          rest).1);
+      digits = list_all-append (λ x. is_digit_of 10 x) ds ((48 + n % 10) ∷ []) ∙ rw (
+        d.digits,
+        (digit_of (n % 10)
+            rest).1,
+      );
       value = pushed ds (n % 10) rest ∙ ap (λ x. x * 10 + n % 10) d.value ∙ whole;
       no_zero = λ positive e. d.no_zero (omega (arith, h)) (sym first ∙ e);
       low = rw first d.low;

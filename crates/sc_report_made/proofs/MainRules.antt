@@ -235,7 +235,7 @@ module _ (size seed : ℕ) (asked : IsAsked size seed) (main : SectionTree) (m :
       ap (decls_from sections 0 main false []) decls_are ∙
       protos_hold [] [] no_protos every m.protos m.protos_are last_decls ∙
       ap₂ (λ b x. unless b m.proto_line ++ (decl_interface_lines sections 0 main false x (decl.Function main_function)
-          ++ []))
+      ++ []))
       output_holds (sym (map-append decl.Proto m.protos (output ∷ []))) ∙
       ap (λ b. unless b m.head_line ++ []) main_function_holds
 

@@ -276,7 +276,7 @@ module _ (size seed worker : ℕ) (section : SectionTree) (w : IsWorker size see
       ap (λ x. x ++ function_name j ∷ []) named ∙ sym (map-append function_name done (j ∷ [])) in
       ap₂ (λ x y. x ++ name_lines_from section y (map decl.Function trees))
       (ap (λ n. function_name_lines n tree) (before_function prefix) ∙ function_none (defined prefix) j lines new) next
-          ∙
+      ∙
       functions_lines (suc j) (prefix ++ tree ∷ []) (done ++ j ∷ []) js trees h still
       (below_next j 1000 done rise.1 lower) rise.2
 

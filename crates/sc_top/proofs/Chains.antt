@@ -51,7 +51,7 @@ module _ (source : SourceParts) (trace : List Event) where
         (link.comp == comp) ≡ same →
         (if same then Some link.text else text_for (map replacement_of links) comp)
         ≡ (if same || is_listed (map comp_of links) comp then Some (performing_text source.program.interfaces trace
-            comp)
+        comp)
         else None)
     by others true is =
         ap Some (all.0 ∙ ap (performing_text source.program.interfaces trace) (same_number link.comp comp is))

@@ -70,7 +70,7 @@ pub meant_known : SourceTracesAreLegal → (options : MeaningOptions) (program :
     All (IsKnown program.interfaces) (meaning_asked options program).trace
 meant_known legal options program typed =
     legal_is_known _ (meaning_asked options program).trace (program_main program typed) (legal.meaning c_arith program _
-        _ _)
+    _ _)
 
 -- words of inputs are words
 pub inputs_are_words : (inputs : List ℤ) → All IsWord (map word_of inputs)

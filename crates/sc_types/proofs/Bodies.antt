@@ -134,5 +134,5 @@ module _ (known : Known) (visible : Visible) (callees : Callees) (scope : Scope)
   fits = stmt_induction Fits (λ line k under looping in_names holds. ap (λ s. stmt_fits scope callable result s looping)
       (tree_layers.stmt_at _ _ _ (stmt_typed visible callees result) line k) ∙ by_kind line k under looping
       (sym (ap (λ lines. lines looping) (tree_layers.stmt_at _ _ (names.kind_name_lines known) (λ s. s.kind s.line) line
-          k))
+      k))
       ∙ in_names) (sym (tree_layers.stmt_at _ _ _ _ line k) ∙ holds))

@@ -266,7 +266,7 @@ module _ (section : SectionTree) where
     function_is : (before decls : List Decl) → before ++ decls ≡ section.decls →
         AllSmall (structs section) 0 (structs_in section.decls) → (tree : FunctionTree) →
         names.function_name_lines (names.declared section before) tree ≡ [] → function_type_lines section callees tree ≡
-            [] →
+        [] →
         counts.function_count_lines section tree ≡ [] → counts.head_lines section (head_of tree.head) ≡ [] →
         nat_le (surface.function_height tree) 256 ≡ true →
         function_fits callable (typed_section section callees) (typed_function section callees tree) ≡ true

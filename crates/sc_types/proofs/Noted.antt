@@ -123,12 +123,12 @@ pub count-noted : (sections : List SectionTree)
     section ≡ get_or sections i section → noted_all least (count_lines_from sections i (drop i sections)) ≡ all →
     lines ≡ with_lines (record { start = section.line; least = least }) (section_count_lines section
     (callees_of sections i section)) → noted_all lines.least (count_lines_from sections (i + 1) (drop (i + 1) sections))
-        ≡ all
+    ≡ all
 count-noted sections i section least lines all lt is p q = rw add-one (ap (λ l. noted_all l.least (count_lines_from
     sections
     (suc i) (drop (suc i) sections))) q ∙ (sym (noted_all-append least _ _) ∙ (ap (λ rest. noted_all least
     (count_lines_from sections i rest)) (sym (drop-cons _ i section lt ∙ ap (λ s. s ∷ drop (suc i) sections) (sym is)))
-        ∙ p)))
+    ∙ p)))
 
 pub counts-noted : (sections : List SectionTree) (i : ℕ) (least : Option ℕ) (all : Option ℕ) → length sections ≤ i →
     noted_all least (count_lines_from sections i (drop i sections)) ≡ all → least ≡ all

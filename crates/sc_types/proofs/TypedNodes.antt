@@ -78,7 +78,7 @@ module _ (visible : Visible) where
 
   step-nodes : (t : ExprTree-F ExprTree) → Under AsTree t →
       core.expr_nodes (expr_typed visible (map-ExprTree _ _ (typed visible) t)) ≡ expr_step (map-ExprTree _ _ expr_nodes
-          t)
+      t)
   unfolding roll-TypedKind denote.Hole.Carrier.roll
   step-nodes (tree.Literal number) h = node-at _ (open_term.Literal _)
   step-nodes (tree.Variable name) h = variable-nodes (variable_named visible name)

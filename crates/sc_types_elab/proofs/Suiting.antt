@@ -137,7 +137,7 @@ module _ (section : SectionTree) (tree : FunctionTree) (count : ℕ) where
   suiting = record {
     known = λ name f is. either-known (variable_in _ _ name)
         (or_else (variable_in var.Param seen.params name) (variable_in var.Global seen.globals name)) f (local-known
-            name f)
+        name f)
         (either-known (variable_in _ _ name) (variable_in _ _ name) f (param-known name f) (global-known name f)) is;
     unknown = some-global (globals_in section.decls);
     structs = refl;

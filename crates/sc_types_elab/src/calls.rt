@@ -95,8 +95,7 @@ fn with_function(
     heads: Heads,
     decl: &Decl,
 ) -> Result<Heads, OutOfMemory>
-    ensures names { IfOk result (λ more. more.names ≡ heads.names ++ map function_name (function_decls (decl.now ∷ [])))
-        }
+    ensures names { IfOk result (λ more. more.names ≡ heads.names ++ map function_name (function_decls (decl.now ∷ []))) }
     ensures signatures { IfOk result (λ more. more.signatures ≡ heads.signatures ++
         map (function_signature tags.now) (function_decls (decl.now ∷ []))) }
 {

@@ -204,8 +204,11 @@ module _ (scope : Scope) (visible : Visible) (suits : Suits visible scope) (name
     kind = TypedKind.Member a (member_offset m);
   }) → IfOk r (λ b. b.judged ≡ place (member_ty m)
       (j.fits && (j.place && is_some m))) → IfOk r (λ b. b.judged ≡ judged scope b.expr)
-  member_built variable_named = if_ok (λ b. b.expr ≡ record { ty = member_ty m; kind = TypedKind.Member a (member_offset
-      m) })
+  member_built variable_named = if_ok (λ b. b.expr ≡ record {
+    ty = member_ty m;
+    kind = TypedKind.Member a (member_offset
+        m);
+  })
       (λ b. b.judged ≡ place (member_ty m) (j.fits && (j.place && is_some m))) _ r
       (λ b e p. cc (member_judged scope visible suits name a j is))
 

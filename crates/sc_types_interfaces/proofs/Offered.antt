@@ -237,9 +237,9 @@ module _ (sections : List SectionTree) (count : length sections ≤ 32) (few : A
   interfaces_are k [] few_params = refl
   interfaces_are k (section ∷ rest) few_params = ap₂ (λ first others. first ∷ others)
       (interface_is k section (All-head (λ other. All HasFewParams (function_decls other.decls)) section rest
-          few_params))
+      few_params))
       (interfaces_are _ rest (All-tail (λ other. All HasFewParams (function_decls other.decls)) section rest
-          few_params))
+      few_params))
 
 -- The main compartment.
 

@@ -21,7 +21,7 @@ module _ (known : Known) (looping : Bool) (line : ℕ) where
   pub if-at : (cond : ExprTree) (first second : List StmtTree) → stmt_name_lines known
       (record { line = line; kind = kinds.If cond first second }) looping ≡ unless (expr_known known cond) line ++
       (all_in known looping (map (stmt_name_lines known) first) ++ all_in known looping (map (stmt_name_lines known)
-          second))
+      second))
   if-at cond first second = search (rules, the_lemmas)
 
   pub while-at : (cond : ExprTree) (body : List StmtTree) →
@@ -80,7 +80,7 @@ module _ (known : Known) (looping : Bool) (s : StmtTree) (old : BrokenLines) whe
       (holds : Bool) (a b c d : BrokenLines) → s.kind ≡ kinds.For first cond next body → holds ≡ expr_known known cond →
       a ≡ with_lines old (part_name_lines known first) → b ≡ with_lines a (unless holds s.line) →
       c ≡ with_lines b (part_name_lines known next) → d ≡ with_lines c (all_in known true (map (stmt_name_lines known)
-          body)) →
+      body)) →
       d ≡ with_lines old (stmt_name_lines known s looping)
   for-noted first cond next body holds a b c d e h p q r t =
       grind (arith, with_lines-append, is-kind _ e ∙ for-at known looping s.line first cond next body)

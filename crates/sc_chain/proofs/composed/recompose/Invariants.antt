@@ -6,4 +6,4 @@ use Rattle.sc_chain.proofs.composed.recompose.Given as goal
 abbrev pub invariant-loop-number : goal.invariant-loop-number
 invariant-loop-number l =
     l.text ++ rest_of (text_for l.replacements) l.number l.source.sections ≡ joined_text l.source (text_for
-        l.replacements)
+    l.replacements)

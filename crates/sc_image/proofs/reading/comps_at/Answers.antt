@@ -15,7 +15,7 @@ returns-in_err-comp c =
 pub loop-preserved : goal.loop-preserved
 loop-preserved c =
     rw c.in_ok-push.ensures.ok (goes_on (read_comp c.args.count) c.args.count c.loop.comps c.loop.counter
-        c.loop.bytes.now
+    c.loop.bytes.now
     c.in_ok-comp.comp c.comp_at.new.bytes.now (fields_at
     (read_comp c.args.count) c.args.count c.args.bytes.now.now) c.loop-test.true c.in_ok-comp.ensures
     c.loop.invariant)

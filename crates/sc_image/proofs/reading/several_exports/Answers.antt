@@ -10,7 +10,7 @@ pub returns-in_err-export : goal.returns-in_err-export
 returns-in_err-export c =
     let p = err_from_is_err_and c.from_residual.result c.from_residual.ensures.1 in
     rw (p.1, p.2) (ends read_export c.args.count c.in_err-export.field-0.0 c.loop.exports c.loop.counter
-        c.loop.bytes.now
+    c.loop.bytes.now
     (fields_at read_export c.args.count c.args.bytes.now.now) c.loop-test.true c.in_err-export.ensures
     c.loop.invariant)
 

@@ -5,7 +5,7 @@ use Rattle.sc_types.proofs.lines.functions_lines.Goals as goal
 pub loop-decl-preserved : goal.loop-decl-preserved
 loop-decl-preserved c =
     kind-noted function_in (function_count_lines c.args.sizes.now) c.as_slice-decl-items.result.now
-        c.loop-decl.decl-index
+    c.loop-decl.decl-index
     c.decl-item.result _ c.loop-decl.lines _ _ c.loop-decl-test.true c.decl-item.is c.loop-decl.invariant
     c.if_function.ensures
 

@@ -6,4 +6,4 @@ abbrev pub invariant-all_lines-loop-stmt : goal.invariant-all_lines-loop-stmt
 invariant-all_lines-loop-stmt l = with_lines l.lines (all_in (known l.names l.own) l.looping
     (map (stmt_name_lines (known l.names l.own)) (drop l.stmt-index l.stmt-items))) ≡
     with_lines l.initial.lines (all_in (known l.names l.own) l.looping (map (stmt_name_lines (known l.names l.own))
-        l.stmts))
+    l.stmts))
