@@ -3,7 +3,7 @@ use Rattle.sc_top.proofs.Common.{Bool, Check, Command, Compile, Exec, Explain, I
 use Rattle.sc_top.proofs.Common.{Make, MakeOptions, Meaning, None, Option, Run, RunOptions, Some, arith, codes, false}
 use Rattle.sc_top.proofs.Common.{if◌then◌else◌, leb-true, nat_le, none-some, option_and_then, option_map, refl, subst}
 use Rattle.sc_top.proofs.Common.{true, ℕ, ℤ, ◌&&◌, ◌≡◌, ◌≤◌}
-use Rattle.sc_top_words.specs.Prelude.{given_value, has_option, number_within, number_word, when_within}
+use Rattle.sc_top_words.specs.Prelude.{given_value, has_option, number_within, number, when_within}
 use Rattle.std.specs.Str.{bytes_eq}
 use Rattle.sc_top_words.specs.Words as words
 unfoldable use Rattle.sc_top_words.specs.Words.{command}
@@ -32,7 +32,7 @@ of_value low high (Some text) n is = of_number low high _ n is
 
 of_events : (value : Option (List ℕ)) (n : ℕ) → words.events value ≡ Some n → n ≤ 4096
 of_events None n is = subst (λ k. k ≤ 4096) (same_value 1024 n is) (omega arith)
-of_events (Some text) n is = (of_number 0 4096 (number_word text) n is).1
+of_events (Some text) n is = (of_number 0 4096 (number text) n is).1
 
 of_run : (steps events : Option ℕ) (inputs : Option (List ℤ)) (options : RunOptions) →
     ((n : ℕ) → events ≡ Some n → n ≤ 4096) →
