@@ -103,7 +103,7 @@ fn comps_at(alloc: Global, count: u8, bytes: &mut &[u8]) -> Result<CompParts, Im
     Ok(comps)
 }
 
-#[tactic(auto, unfolding(crate::specs::Reading::comp_at))]
+#[tactic(auto, unfolding(crate::specs::Reading::read_comp))]
 fn comp_at(alloc: Global, comps: u8, bytes: &mut &[u8]) -> Result<CompPart, ImageFault>
     requires { comps ≤ 32 }
     ensures { Gives (λ x. (x, bytes.new.now)) result (read_comp comps bytes.old.now) }
@@ -136,7 +136,7 @@ fn comp_name_at(bytes: &mut &[u8]) -> Result<Name, ImageFault>
     Ok(name)
 }
 
-#[tactic(auto, unfolding(crate::specs::Reading::exports_at))]
+#[tactic(auto, unfolding(crate::specs::Reading::read_exports))]
 fn exports_at(alloc: Global, bytes: &mut &[u8]) -> Result<ExportParts, ImageFault>
     ensures { Gives (λ x. (x, bytes.new.now)) result (read_exports bytes.old.now) }
 {
@@ -155,7 +155,7 @@ fn several_exports(alloc: Global, count: u16, bytes: &mut &[u8]) -> Result<Expor
     Ok(exports)
 }
 
-#[tactic(auto, unfolding(crate::specs::Reading::export_at))]
+#[tactic(auto, unfolding(crate::specs::Reading::read_export))]
 fn export_at(bytes: &mut &[u8]) -> Result<ExportPart, ImageFault>
     ensures { Gives (λ x. (x, bytes.new.now)) result (read_export bytes.old.now) }
 {
@@ -243,7 +243,7 @@ fn globals_at(alloc: Global, bytes: &mut &[u8]) -> Result<Text, ImageFault>
     Ok(globals)
 }
 
-#[tactic(auto, unfolding(crate::specs::Reading::name_at))]
+#[tactic(auto, unfolding(crate::specs::Reading::read_name))]
 fn name_at(cause: BadImage, bytes: &mut &[u8]) -> Result<Name, ImageFault>
     ensures { Gives (λ x. (x, bytes.new.now)) result (read_name cause bytes.old.now) }
 {

@@ -15,7 +15,7 @@ pub struct IntegerConstant {
 }
 
 /// Whether the text is an integer constant of at most 32 bits, of type `int` or `unsigned int`.
-#[tactic(auto, unfolding(crate::specs::Integers::is_integer))]
+#[tactic(auto, unfolding(crate::specs::Integers::is_integer_constant))]
 pub fn is_integer(text: &[u8]) -> bool
     ensures { result ≡ is_integer_constant text.now }
 {
@@ -25,7 +25,7 @@ pub fn is_integer(text: &[u8]) -> bool
 }
 
 /// What the text says as an integer constant, `None` where it is none of at most 32 bits.
-#[tactic(auto, unfolding(crate::specs::Integers::is_integer, crate::specs::Integers::integer_of))]
+#[tactic(auto, unfolding(crate::specs::Integers::is_integer_constant, crate::specs::Integers::integer_of))]
 pub fn integer_of(text: &[u8]) -> Option<IntegerConstant>
     ensures { result ≡ integer_of text.now }
 {
