@@ -99,7 +99,7 @@ fn append_imported(
     comp: CompId,
     index: u16,
 ) -> Result<(), OutOfMemory>
-    ensures { OnOk result (text.new ≡ text.old ++ import_line interfaces.now (Function comp index)) }
+    ensures { OnOk result (text.new ≡ text.old ++ import_report interfaces.now (Function comp index)) }
 {
     match interfaces.export(comp, index) {
         None => text.append(b""),
@@ -108,7 +108,7 @@ fn append_imported(
 }
 
 fn append_function_of(text: &mut Text, comp: &[u8], export: &Proto) -> Result<(), OutOfMemory>
-    ensures { OnOk result (text.new ≡ text.old ++ function_line comp.now export.now) }
+    ensures { OnOk result (text.new ≡ text.old ++ function_report comp.now export.now) }
 {
     text.append(b"import ")?;
     text.append(comp)?;
