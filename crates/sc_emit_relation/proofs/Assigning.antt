@@ -13,7 +13,7 @@ use Rattle.sc_emit_relation.proofs.Settling.{moved, moved_with, settled_moved, l
 use Rattle.sc_emit_relation.proofs.Settling.{leads_stored, own_cells, own_keeps}
 use Rattle.sc_emit_relation.proofs.Storing.{LoadsWord, loads_word, target_owned, guarded_after, guarded_kept}
 use Rattle.sc_emit_relation.proofs.Running.{IsRunning}
-use Rattle.sc_emit_relation.proofs.Straight.{Assigns, after_unassigned, live_plain}
+use Rattle.sc_emit_relation.proofs.Straight.{Assigns, after_live, after_unassigned, live_plain}
 
 module _ {T : Setting} {R : Running} (valid : IsRunning T R) where
   abbrev A : Activation
