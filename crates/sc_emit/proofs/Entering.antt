@@ -39,7 +39,7 @@ module _ (image : ImageParts) (inputs : List ℕ) (world : World) (low : ℕ) {c
     does : Does image inputs world (store_arguments frame places count from) regs bytes after later
     sp : after sp ≡ low
     others : (q : ℕ) → MeetsNone count from q → word later q ≡ word bytes q
-    with_bytes : (o offset : ℕ) → from ≤ o → o < from + count → slice_get frame.objects o ≡ Some offset →
+    stored : (o offset : ℕ) → from ≤ o → o < from + count → slice_get frame.objects o ≡ Some offset →
         word later (low + offset) ≡ regs (a0 + o)
 
   no_steps : (regs : Registers) (bytes : Bytes) → Does image inputs world [] regs bytes regs bytes

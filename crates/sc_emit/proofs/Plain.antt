@@ -211,8 +211,8 @@ module _ {T : Setting} {R : Running} (valid : IsRunning T R) (calls : Calls)
         comes_past T R lives x (copied frame (place_of frame R.places dest) (place_of frame R.places from)) left
         (with_temp dest v temps) x.meant
         (subst (End lives temps x from dest left v ready clear) (sym code)
-        (copied_by lives temps x from dest left v ready clear to held.place its (placed dest to its)
-        (placed from held.place held.its) held.value
+        (copied_by lives temps x from dest left v ready clear to held.place its (valid.placed dest to its)
+        (valid.placed from held.place held.its) held.value
         (subst (CodeAt T.image R.activation.here.comp x.pc) code at))) ends e f)))
 
     -- Places of variables.
