@@ -1,0 +1,26 @@
+use sc_base::{Stop, Text};
+use sc_core::Cause;
+use sc_event::{CompId, Trace};
+use sqlite_items::Items;
+
+/// A compartment that was blamed after `after` events of the trace, why, and at which line of its section; and the text
+/// that stands in the place of that section from there on.
+#[derive(Drop)]
+pub struct Link {
+    pub comp: CompId,
+    pub after: u32,
+    pub cause: Cause,
+    pub line: u32,
+    pub text: Text,
+}
+
+/// Links in the order of their blames.
+pub type Links = Items<Link>;
+
+/// The machine's trace, why it stopped, and the chain of replacements that accounts for it.
+#[derive(Drop)]
+pub struct Explanation {
+    pub trace: Trace,
+    pub stop: Stop,
+    pub links: Links,
+}

@@ -1,0 +1,18 @@
+-- The names that several proofs of this crate cite, passed on from one place. Declares nothing.
+pub use Rattle.std.proofs.Common.{Bool, List, None, Option, Some, [], ap, arith, cond, drop, false, length, position, refl}
+pub use Rattle.std.proofs.Common.{slice_get, subst, suc, sym, take, true, zero, ℕ, ◌&&◌, ◌+◌, ◌<◌, ◌==◌, ◌∙◌, ◌∷◌, ◌≡◌}
+pub use Rattle.std.specs.Option.{option_map}
+pub use Rattle.sc_base.proofs.Lists.{drop-step, position-cons}
+pub use Rattle.sc_event.specs.Prelude.{performer}
+pub use Rattle.sc_event.specs.declared.event.Event.{Event}
+pub use Rattle.sc_event.specs.declared.interface.Interfaces.{Interfaces}
+pub use Rattle.sc_explanation.specs.declared.explanation.Explanation.{Explanation}
+pub use Rattle.sc_explanation.specs.declared.explanation.Link.{Link}
+pub use Rattle.sc_policy.specs.declared.policy.Policy.{Policy}
+pub use Rattle.sc_policy.specs.declared.policy.Rule.{Rule}
+pub use Rattle.sc_monitor.specs.Prelude.{IsViolation, NamesNoEvent, after_move, by_goal, by_rule, goal_of, is_compromised}
+pub use Rattle.sc_monitor.specs.Prelude.{matches, move_at, rule_for, verdict, verdict_from}
+pub use Rattle.sc_monitor.specs.declared.judging.Move.{Move}
+pub use Rattle.sc_monitor.specs.declared.judging.Move.TheVariants.{Goes, Breaks}
+pub use Rattle.sc_monitor.specs.declared.verdict.Verdict.{Verdict}
+pub use Rattle.sc_monitor.specs.declared.verdict.Verdict.TheVariants.{Holds, Violated}

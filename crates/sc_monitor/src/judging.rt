@@ -1,0 +1,79 @@
+//! The automaton of a policy on the events of a trace.
+
+ghost use Rattle.sc_monitor.specs.Verdict.{goal_of, is_compromised, move_at, rule_for, verdict};
+ghost use Rattle.std.specs.Prelude.{◌≡◌, ◌<◌, ◌^◌, ◌≤◌, length, IfSome};
+
+use crate::Verdict;
+use crate::matching::matches;
+use sc_event::{CompId, Event, Interfaces};
+use sc_explanation::{Explanation, Link};
+use sc_policy::{Policy, Rule};
+
+// What an event does to the automaton.
+enum Move {
+    // It stands in this state afterwards.
+    Goes(u16),
+    // The event is a violation by the rule of this number, counted from 1.
+    Breaks(u32),
+}
+
+/// The first violation of the policy in the trace, or the state in which the policy stands after the trace. An event takes
+/// the first rule of the present state whose pattern it matches.
+pub fn judge(policy: &Policy, interfaces: &Interfaces, explanation: &Explanation) -> Verdict
+    requires { length explanation.now.trace < 2 ^ 32 }
+    ensures { result ≡ verdict policy.now interfaces.now explanation.now }
+{
+    let rules = policy.rules.as_slice();
+    let events = explanation.trace.as_slice();
+    let mut state = 0;
+    for after in 0..events.len() {
+        let event = &events[after];
+        match move_at(rules, interfaces, state, event) {
+            Move::Goes(next) => state = next,
+            Move::Breaks(rule) => {
+                let after = after as u32;
+                let comp = event.performer();
+                let compromised = is_compromised(explanation.links.as_slice(), comp, after);
+                return Verdict::Violated {
+                    after,
+                    comp,
+                    rule,
+                    compromised,
+                };
+            }
+        }
+    }
+    Verdict::Holds { state }
+}
+
+fn move_at(rules: &[Rule], interfaces: &Interfaces, state: u16, event: &Event) -> Move
+    requires { length rules.now ≤ 4096 }
+    ensures { result ≡ move_at rules.now interfaces.now state event.now }
+{
+    match rule_for(rules, interfaces, state, event) {
+        None => Move::Goes(state),
+        Some(place) => match rules[place].goal {
+            None => Move::Breaks(place as u32 + 1),
+            Some(goal) => Move::Goes(goal),
+        },
+    }
+}
+
+// The place of the rule that the event takes, if it takes one.
+fn rule_for(rules: &[Rule], interfaces: &Interfaces, state: u16, event: &Event) -> Option<usize>
+    ensures place { result ≡ rule_for rules.now interfaces.now state event.now }
+    ensures within { IfSome result (λ place. place < length rules.now) }
+{
+    rules
+        .iter()
+        .position(|rule| rule.state == state && matches(interfaces, &rule.pattern, event))
+}
+
+// Whether the compartment had been replaced when this many events were over.
+fn is_compromised(links: &[Link], comp: CompId, after: u32) -> bool
+    ensures { result ≡ is_compromised links.now comp after }
+{
+    links
+        .iter()
+        .any(|link| link.comp == comp && link.after <= after)
+}

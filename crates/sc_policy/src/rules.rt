@@ -1,0 +1,52 @@
+ghost use Rattle.std.specs.Prelude.{◌≡◌, ◌≤◌, ◌↔◌, [], length, IsTrue};
+
+use crate::Rule;
+use sqlite_items::Items;
+use std::alloc::Global;
+use std::marker::Model;
+
+/// The rules of a policy in order, at most 4096 of them. Contracts see the list.
+#[derive(Drop)]
+pub struct Rules {
+    pub(crate) rules: Items<Rule>,
+}
+
+impl Model for Rules {
+    ghost use Rattle.std.specs.Prelude.{List, ◌≤◌, length};
+    ghost use Rattle.sc_policy.specs.declared.policy.Rule.{Rule};
+
+    ghost Value = { List Rule };
+
+    ghost view = { λ list. list.rules };
+
+    ghost invariant = { λ list. length list.rules ≤ 4096 };
+}
+
+impl Rules {
+    /// How many rules a policy has at most.
+    pub const LIMIT: usize = 4096;
+
+    /// No rules yet.
+    pub fn new(alloc: Global) -> Rules
+        ensures { result ≡ [] }
+    {
+        Rules {
+            rules: Items::new(alloc),
+        }
+    }
+
+    /// Whether no rule can be added.
+    pub fn is_full(&self) -> bool
+        ensures { IsTrue result ↔ (4096 ≤ length self.now) }
+    {
+        self.rules.len() >= Rules::LIMIT
+    }
+
+    /// The rules in order.
+    pub fn as_slice(&self) -> &[Rule]
+        ensures rules { result.now ≡ self.now }
+        ensures within { length result.now ≤ 4096 }
+    {
+        self.rules.as_slice()
+    }
+}
