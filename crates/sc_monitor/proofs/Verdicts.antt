@@ -95,7 +95,7 @@ none_taken [] interfaces state event never = refl
 none_taken (rule ∷ rules) interfaces state event never =
     let test : Rule → Bool = (λ r. r.state == state && matches interfaces r.pattern event) in
     let fails : test rule ≡ false = ap (λ b. rule.state == state && b) (never zero rule refl) ∙
-        skipped (rule.state == state) in
+    skipped (rule.state == state) in
     let later = none_taken rules interfaces state event (λ place r is. never (suc place) r is) in
     position-cons test rule rules ∙ ap (λ b. cond b (Some 0) (option_map suc (position test rules))) fails ∙
     ap (option_map suc) later

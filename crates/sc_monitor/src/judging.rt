@@ -64,9 +64,7 @@ fn rule_for(rules: &[Rule], interfaces: &Interfaces, state: u16, event: &Event) 
     ensures place { result ≡ rule_for rules.now interfaces.now state event.now }
     ensures within { IfSome result (λ place. place < length rules.now) }
 {
-    rules
-        .iter()
-        .position(|rule| rule.state == state && matches(interfaces, &rule.pattern, event))
+    rules.iter().position(|rule| rule.state == state && matches(interfaces, &rule.pattern, event))
 }
 
 // Whether the compartment had been replaced when this many events were over.

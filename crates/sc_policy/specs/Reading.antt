@@ -1,7 +1,7 @@
 -- Helping: how lines are read as a policy, one after another, and the words of a rule.
 use Rattle.sc_number.specs.Numbers.{integer, number_within}
-use Rattle.std.specs.Prelude.{ℕ, ◌+◌, Bool, ◌||◌, ◌==◌, nat_le, nat_lt, not, codes, bytes_eq, List, [], ◌∷◌, ◌++◌, length}
-use Rattle.std.specs.Prelude.{take, drop, min, slice_get, Option, Some, None, option_and_then, option_map, if◌then◌else◌}
+use Rattle.std.specs.Prelude.{ℕ, ◌+◌, Bool, ◌||◌, ◌==◌, nat_eq, nat_le, nat_lt, not, codes, bytes_eq, List, [], ◌∷◌, ◌++◌, length}
+use Rattle.std.specs.Prelude.{take, drop, slice_get, Option, Some, None, option_and_then, option_map, if◌then◌else◌}
 use Rattle.std.specs.List.{starts_with}
 use Rattle.sc_base.specs.Prelude.{Text, is_numbered, name_of, number_of}
 use Rattle.sc_policy.specs.Lines.{words_of}
@@ -86,6 +86,13 @@ abbrev pub pattern_count : (kind : Text) → (count : ℕ) → ℕ
 pattern_count kind count =
     if nat_lt (name_count kind + 2) count then name_count kind + test_count kind else name_count kind
 
+-- the words behind the compartment that are the pattern's, and those that are the goal's
+abbrev pub pattern_part : (kind : Text) → List Text → List Text
+pattern_part kind words = take (pattern_count kind (length words)) words
+
+abbrev pub goal_part : (kind : Text) → List Text → List Text
+goal_part kind words = drop (pattern_count kind (length words)) words
+
 -- ---- rules
 
 abbrev pub goal_of : (states : List Text) → List Text → Option (Option ℕ)
@@ -98,25 +105,33 @@ goal_of states _ = None
 abbrev pub comp_of : List Text → Option Who
 comp_of words = option_and_then who_of (slice_get words 3)
 
-abbrev pub rule_with : (states : List Text) → Who → List Text → Option Rule
-rule_with states comp (on ∷ state ∷ kind ∷ word ∷ rest) =
-    let count = pattern_count kind (length rest) in
+-- its pattern, where the pattern has this compartment
+abbrev pub pattern_with : Who → List Text → Option Pattern
+pattern_with comp (on ∷ state ∷ kind ∷ word ∷ rest) =
+    pattern_of kind comp (pattern_part kind rest)
+pattern_with comp _ = None
+
+-- its state and its goal
+abbrev pub ends_of : (states : List Text) → List Text → Option (ℕ × Option ℕ)
+ends_of states (on ∷ state ∷ kind ∷ word ∷ rest) =
     if bytes_eq on (codes "on") then
-    option_and_then (λ state. option_and_then (λ pattern. option_map (λ goal. record {
-      state = state;
-      pattern = pattern;
-      goal = goal;
-    }) (goal_of states (drop count rest))) (pattern_of kind comp (take count rest))) (number_of states state) else None
-rule_with states comp _ = None
+    option_and_then (λ state. option_map (λ goal. (state, goal))
+    (goal_of states (goal_part kind rest))) (number_of states state) else None
+ends_of states _ = None
+
+abbrev pub joined : Pattern → ℕ × Option ℕ → Rule
+joined pattern ends = record { state = ends.0; pattern = pattern; goal = ends.1 }
 
 abbrev pub rule_of : (states : List Text) → List Text → Option Rule
-rule_of states words = option_and_then (λ comp. rule_with states comp words) (comp_of words)
+rule_of states words =
+    option_and_then (λ comp. option_and_then (λ pattern. option_map (joined pattern) (ends_of states words))
+    (pattern_with comp words)) (comp_of words)
 
 -- ---- lines
 
 -- the name that follows these bytes
 abbrev pub name_after : (prefix : List ℕ) → Text → Option Text
-name_after prefix line = if starts_with line prefix then name_of (drop (length prefix) line) else None
+name_after prefix line = if starts_with nat_eq line prefix then name_of (drop (length prefix) line) else None
 
 abbrev pub begun : Text → Text → Progress
 begun name state = Open (record { name = name; states = state ∷ []; rules = [] })

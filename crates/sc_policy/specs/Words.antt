@@ -14,8 +14,8 @@ use Rattle.sc_policy.specs.declared.policy.Who.TheVariants.{Any, Named}
 
 -- a word that is written so, or any decimal of a number
 pub data Word : Type 0 where
-  pub Plain : Text → Word
-  pub Decimal : ℤ → Word
+  Plain : Text → Word
+  Decimal : ℤ → Word
 
 abbrev pub Writes : Text → Word → Type 0
 Writes text (Plain word) = text ≡ word

@@ -1,12 +1,12 @@
 //! The words of rules.
 
-ghost use Rattle.sc_policy.specs.Reading.{call_of, comp_of, goal_of, name_count, pattern_count, pattern_of, ret_of};
-ghost use Rattle.sc_policy.specs.Reading.{rule_with, test_count};
-ghost use Rattle.std.specs.Prelude.{◌≡◌, map};
+ghost use Rattle.sc_policy.specs.Reading.{call_of, comp_of, ends_of, goal_of, goal_part, name_count};
+ghost use Rattle.sc_policy.specs.Reading.{pattern_count, pattern_of, pattern_part, pattern_with, ret_of, test_count};
+ghost use Rattle.std.specs.Prelude.{◌≡◌, ◌≤◌, length, map};
 ghost use Rattle.sc_base.specs.Prelude.{number_of};
 
 use crate::words::{maybe_arg_of, maybe_test_of, who_of};
-use crate::{Pattern, Rule, Who};
+use crate::{Pattern, Who};
 use sc_base::Name;
 
 /// The compartment of a rule's pattern, which stands behind the pattern's kind.
@@ -17,9 +17,20 @@ pub(crate) fn comp_of(words: &[&[u8]]) -> Option<Who>
     who_of(word)
 }
 
-/// The rule that the words say, where its pattern has this compartment.
-pub(crate) fn rule_with(states: &[Name], comp: Who, words: &[&[u8]]) -> Option<Rule>
-    ensures { result ≡ rule_with states.now comp (map (λ word. word.now) words.now) }
+/// The pattern of a rule, where it has this compartment.
+pub(crate) fn pattern_with(comp: Who, words: &[&[u8]]) -> Option<Pattern>
+    ensures { result ≡ pattern_with comp (map (λ word. word.now) words.now) }
+{
+    let [_, _, kind, _, rest @ ..] = words else {
+        return None;
+    };
+    pattern_of(kind, comp, pattern_part(kind, rest))
+}
+
+/// The state and the goal of a rule.
+pub(crate) fn ends_of(states: &[Name], words: &[&[u8]]) -> Option<(u16, Option<u16>)>
+    requires { length states.now ≤ 256 }
+    ensures { result ≡ ends_of states.now (map (λ word. word.now) words.now) }
 {
     let [on, state, kind, _, rest @ ..] = words else {
         return None;
@@ -27,33 +38,59 @@ pub(crate) fn rule_with(states: &[Name], comp: Who, words: &[&[u8]]) -> Option<R
     if *on != b"on".as_slice() {
         return None;
     }
-    let count = pattern_count(kind, rest.len()).min(rest.len());
     let state = place_of(states, state)?;
-    let pattern = pattern_of(kind, comp, &rest[..count])?;
-    let goal = goal_of(states, &rest[count..])?;
-    Some(Rule {
-        state,
-        pattern,
-        goal,
-    })
+    let goal = goal_of(states, goal_part(kind, rest))?;
+    Some((state, goal))
 }
 
 // The place of the state of this name.
 fn place_of(states: &[Name], name: &[u8]) -> Option<u16>
+    requires { length states.now ≤ 256 }
     ensures { result ≡ number_of states.now name.now }
 {
     let place = states.iter().position(|state| name == state.as_bytes())?;
-    u16::try_from(place).ok()
+    Some(place as u16)
 }
 
 fn goal_of(states: &[Name], words: &[&[u8]]) -> Option<Option<u16>>
+    requires { length states.now ≤ 256 }
     ensures { result ≡ goal_of states.now (map (λ word. word.now) words.now) }
 {
     match words {
-        [word] if *word == b"deny".as_slice() => Some(None),
-        [word, state] if *word == b"to".as_slice() => Some(Some(place_of(states, state)?)),
+        [word] => {
+            if *word == b"deny".as_slice() {
+                Some(None)
+            } else {
+                None
+            }
+        }
+        [word, state] => {
+            if *word == b"to".as_slice() {
+                place_of(states, state).map(Some)
+            } else {
+                None
+            }
+        }
         _ => None,
     }
+}
+
+// The words behind the compartment that are the pattern's.
+#[tactic(auto, using(crate::proofs::Parts::parts))]
+fn pattern_part<'a>(kind: &[u8], words: &'a [&'a [u8]]) -> &'a [&'a [u8]]
+    ensures { map (λ word. word.now) result.now ≡ pattern_part kind.now (map (λ word. word.now) words.now) }
+{
+    let count = pattern_count(kind, words.len());
+    &words[..count.min(words.len())]
+}
+
+// The words behind the compartment that are the goal's.
+#[tactic(auto, using(crate::proofs::Parts::parts))]
+fn goal_part<'a>(kind: &[u8], words: &'a [&'a [u8]]) -> &'a [&'a [u8]]
+    ensures { map (λ word. word.now) result.now ≡ goal_part kind.now (map (λ word. word.now) words.now) }
+{
+    let count = pattern_count(kind, words.len());
+    &words[count.min(words.len())..]
 }
 
 // How many of `count` words are the pattern's.

@@ -54,11 +54,20 @@ pub enum Pattern {
         test: Option<Test>,
     },
     /// The outputs of `comp`.
-    Out { comp: Who, test: Option<Test> },
+    Out {
+        comp: Who,
+        test: Option<Test>,
+    },
     /// The inputs of `comp`.
-    In { comp: Who, test: Option<Test> },
+    In {
+        comp: Who,
+        test: Option<Test>,
+    },
     /// The end of a run in `comp`.
-    End { comp: Who, test: Option<Test> },
+    End {
+        comp: Who,
+        test: Option<Test>,
+    },
 }
 
 /// What an event of the pattern does in this state: it leads to another state, or it is a violation where the rule has no

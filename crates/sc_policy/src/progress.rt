@@ -1,15 +1,17 @@
 //! Lines as parts of a policy.
 
 ghost use Rattle.sc_policy.specs.Reading.{after, begun, continued, new_state, ruled};
+ghost use Rattle.sc_base.specs.Prelude.{is_numbered};
 ghost use Rattle.std.specs.Prelude.{◌≡◌, ◌≤◌, length, Some, IfOk, option_map};
 
-use crate::patterns::{comp_of, rule_with};
+use crate::patterns::{comp_of, ends_of, pattern_with};
 use crate::words::{name_after, words};
-use crate::{Names, Policy, Rules};
+use crate::{Names, Policy, Rule, Rules};
 use sc_base::{Name, OutOfMemory};
 use std::alloc::Global;
 
 /// What the lines so far have said.
+#[derive(Drop)]
 pub(crate) enum Progress {
     /// Nothing yet.
     Start,
@@ -77,19 +79,20 @@ fn new_state(policy: &Policy, line: &[u8]) -> Option<Name>
         return None;
     }
     let name = name_after(b"state ", line)?;
-    let states = policy.states.as_slice();
-    if states.iter().any(|state| name == *state) {
+    if is_among(policy.states.as_slice(), &name) {
         None
     } else {
         Some(name)
     }
 }
 
-fn ruled(
-    alloc: Global,
-    mut policy: Policy,
-    line: &[u8],
-) -> Result<Option<Progress>, OutOfMemory>
+fn is_among(names: &[Name], name: &Name) -> bool
+    ensures { result ≡ is_numbered names.now name.now }
+{
+    names.iter().any(|other| *name == *other)
+}
+
+fn ruled(alloc: Global, mut policy: Policy, line: &[u8]) -> Result<Option<Progress>, OutOfMemory>
     ensures { IfOk result (λ next. next ≡ ruled policy line.now) }
 {
     if policy.rules.is_full() {
@@ -99,9 +102,16 @@ fn ruled(
     let Some(comp) = comp_of(&words) else {
         return Ok(None);
     };
-    let Some(rule) = rule_with(policy.states.as_slice(), comp, &words) else {
+    let Some(pattern) = pattern_with(comp, &words) else {
         return Ok(None);
     };
-    policy.rules.rules.push(rule)?;
+    let Some((state, goal)) = ends_of(policy.states.as_slice(), &words) else {
+        return Ok(None);
+    };
+    policy.rules.rules.push(Rule {
+        state,
+        pattern,
+        goal,
+    })?;
     Ok(Some(Progress::Open(policy)))
 }

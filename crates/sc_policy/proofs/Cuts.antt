@@ -1,0 +1,112 @@
+-- Bytes that are cut at their spaces into words, and at their newlines into lines.
+use Rattle.sc_policy.proofs.Common.{Bool, List, [], ap, arith, bytes_of, cond, drop, drop-cons, drop-drop, false, get_or}
+use Rattle.sc_policy.proofs.Common.{eq-eqb, length, lines_of, ne_eqb, onto_line, refl, slice_range, suc, sym, take}
+use Rattle.sc_policy.proofs.Common.{take-append-drop, true, words_of, zero, ℕ, ◌++◌, ◌+◌, ◌-◌, ◌<◌, ◌==◌, ◌∙◌, ◌∷◌, ◌≡◌}
+use Rattle.sc_policy.proofs.Common.{◌≤◌, length-take-le, length-drop}
+use Rattle.std.specs.List.{onto_first, slice_split}
+use Rattle.std.proofs.Common.{append_assoc, get_or-take, get_or-drop, length-take, map}
+use Rattle.std.specs.Borrow.{Bor}
+use Rattle.std.proofs.lemmas.List.{drop_all, map-append}
+
+-- the byte isn't there
+pub record Lacks (byte : ℕ) (xs : List ℕ) : Type 0 where
+  pub at : (k : ℕ) → k < length xs → get_or xs k 0 ≡ byte → ⊥
+
+lacks_rest : (byte x : ℕ) (xs : List ℕ) → Lacks byte (x ∷ xs) → Lacks byte xs
+lacks_rest byte x xs lacks = record { at = λ k within is. lacks.at (suc k) (omega arith) is }
+
+other : (byte x : ℕ) (xs : List ℕ) → Lacks byte (x ∷ xs) → (x == byte) ≡ false
+other byte x xs lacks = ne_eqb x byte (λ is. lacks.at zero (omega arith) is)
+
+split_none : (xs : List ℕ) → Lacks 32 xs → words_of xs ≡ xs ∷ []
+split_none [] lacks = refl
+split_none (x ∷ xs) lacks =
+    ap (λ b. cond b ([] ∷ words_of xs) (onto_first x (words_of xs))) (other 32 x xs lacks) ∙
+    ap (onto_first x) (split_none xs (lacks_rest 32 x xs lacks))
+
+split_at : (xs ys : List ℕ) → Lacks 32 xs → words_of (xs ++ 32 ∷ ys) ≡ xs ∷ words_of ys
+split_at [] ys lacks = refl
+split_at (x ∷ xs) ys lacks =
+    ap (λ b. cond b ([] ∷ words_of (xs ++ 32 ∷ ys)) (onto_first x (words_of (xs ++ 32 ∷ ys)))) (other 32 x xs lacks) ∙
+    ap (onto_first x) (split_at xs ys (lacks_rest 32 x xs lacks))
+
+lines_none : (xs : List ℕ) → Lacks 10 xs → lines_of xs ≡ []
+lines_none [] lacks = refl
+lines_none (x ∷ xs) lacks =
+    ap (λ b. cond b ([] ∷ lines_of xs) (onto_line x (lines_of xs))) (other 10 x xs lacks) ∙
+    ap (onto_line x) (lines_none xs (lacks_rest 10 x xs lacks))
+
+lines_at : (xs ys : List ℕ) → Lacks 10 xs → lines_of (xs ++ 10 ∷ ys) ≡ xs ∷ lines_of ys
+lines_at [] ys lacks = refl
+lines_at (x ∷ xs) ys lacks =
+    ap (λ b. cond b ([] ∷ lines_of (xs ++ 10 ∷ ys)) (onto_line x (lines_of (xs ++ 10 ∷ ys)))) (other 10 x xs lacks) ∙
+    ap (onto_line x) (lines_at xs ys (lacks_rest 10 x xs lacks))
+
+-- a list is cut at an element
+pub cut_at : (xs : List ℕ) (i j : ℕ) → i ≤ j → j < length xs →
+    drop i xs ≡ slice_range xs i j ++ get_or xs j 0 ∷ drop (j + 1) xs
+cut_at xs i j from within =
+    let sum : i + (j - i) ≡ j = omega arith in
+    let next : suc j ≡ j + 1 = omega arith in
+    sym (take-append-drop (j - i) (drop i xs)) ∙ ap (λ rest. slice_range xs i j ++ rest)
+    (drop-drop (j - i) i xs ∙ ap (λ k. drop k xs) sum ∙ drop-cons xs j 0 within ∙
+    ap (λ k. get_or xs j 0 ∷ drop k xs) next)
+
+-- none of the bytes between two places is this one
+pub record LacksBetween (byte : ℕ) (xs : List ℕ) (i j : ℕ) : Type 0 where
+  pub at : (k : ℕ) → i ≤ k → k < j → get_or xs k 0 ≡ byte → ⊥
+
+lacks_range : (byte : ℕ) (xs : List ℕ) (i j : ℕ) → LacksBetween byte xs i j → Lacks byte (slice_range xs i j)
+lacks_range byte xs i j between = record { at = at }
+  where
+    at : (k : ℕ) → k < length (slice_range xs i j) → get_or (slice_range xs i j) k 0 ≡ byte → ⊥
+    at k within is =
+        let below : k < j - i = omega (arith, within, length-take (j - i) (drop i xs)) in
+        between.at (i + k) (omega arith) (omega (arith, below))
+        (sym (get_or-take (j - i) (drop i xs) k 0 below ∙ get_or-drop i xs k 0) ∙ is)
+
+pub next_word : (line : List ℕ) (start at : ℕ) → start ≤ at → at < length line → get_or line at 0 ≡ 32 →
+    LacksBetween 32 line start at → words_of (drop start line) ≡ slice_range line start at ∷ words_of (drop (at + 1) line)
+next_word line start at from within is between =
+    ap words_of (cut_at line start at from within) ∙
+    ap (λ byte. words_of (slice_range line start at ++ byte ∷ drop (at + 1) line)) is ∙
+    split_at (slice_range line start at) (drop (at + 1) line) (lacks_range 32 line start at between)
+
+pub next_line : (bytes : List ℕ) (at end : ℕ) → at ≤ end → end < length bytes → get_or bytes end 0 ≡ 10 →
+    LacksBetween 10 bytes at end → lines_of (drop at bytes) ≡ slice_range bytes at end ∷ lines_of (drop (end + 1) bytes)
+next_line bytes at end from within is between =
+    ap lines_of (cut_at bytes at end from within) ∙
+    ap (λ byte. lines_of (slice_range bytes at end ++ byte ∷ drop (end + 1) bytes)) is ∙
+    lines_at (slice_range bytes at end) (drop (end + 1) bytes) (lacks_range 10 bytes at end between)
+
+-- words so far, and the word that ends at this place
+pub one_more : {A : Type 0} (f : A → List ℕ) (words : List A) (word : A) (line : List ℕ) (start at : ℕ) → start ≤ at →
+    at < length line → get_or line at 0 ≡ 32 → LacksBetween 32 line start at → f word ≡ slice_range line start at →
+    map f words ++ words_of (drop start line) ≡ words_of line →
+    map f (words ++ word ∷ []) ++ words_of (drop (at + 1) line) ≡ words_of line
+one_more f words word line start at from within is between same read =
+    ap (λ xs. xs ++ words_of (drop (at + 1) line)) (map-append f words (word ∷ [])) ∙
+    append_assoc (map f words) (f word ∷ []) (words_of (drop (at + 1) line)) ∙
+    ap (λ w. map f words ++ w ∷ words_of (drop (at + 1) line)) same ∙
+    ap (λ ws. map f words ++ ws) (sym (next_word line start at from within is between)) ∙ read
+
+-- the last word
+pub last_one : {A : Type 0} (f : A → List ℕ) (words : List A) (word : A) (line : List ℕ) (start at : ℕ) → length line ≤ at →
+    LacksBetween 32 line start at → f word ≡ drop start line →
+    map f words ++ words_of (drop start line) ≡ words_of line → map f (words ++ word ∷ []) ≡ words_of line
+last_one f words word line start at past between same read =
+    map-append f words (word ∷ []) ∙ ap (λ w. map f words ++ w ∷ []) same ∙
+    ap (λ ws. map f words ++ ws) (sym (split_none (drop start line) lacks)) ∙ read
+  where
+    lacks : Lacks 32 (drop start line)
+    lacks = record {
+      at = λ k within is. between.at (start + k) (omega arith)
+          (omega (arith, within, past, length-drop start line)) (sym (get_or-drop start line k 0) ∙ is);
+    }
+
+pub no_line : (bytes : List ℕ) (at end : ℕ) → length bytes ≤ end → LacksBetween 10 bytes at end →
+    lines_of (drop at bytes) ≡ []
+no_line bytes at end past between = lines_none (drop at bytes) (record {
+  at = λ k within is. between.at (at + k) (omega arith)
+      (omega (arith, within, past, length-drop at bytes)) (sym (get_or-drop at bytes k 0) ∙ is);
+})
