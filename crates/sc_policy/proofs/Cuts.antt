@@ -5,7 +5,10 @@ use Rattle.sc_policy.proofs.Common.{take-append-drop, true, words_of, zero, ℕ,
 use Rattle.sc_policy.proofs.Common.{◌≤◌, length-take-le, length-drop}
 use Rattle.std.specs.List.{onto_first, slice_split}
 use Rattle.std.proofs.Common.{append_assoc, get_or-take, get_or-drop, length-take, map}
+use Rattle.std.proofs.Common.{⊎_elim}
+use Rattle.std.proofs.lemmas.Bool.{cases_lt}
 use Rattle.std.specs.Borrow.{Bor}
+use Rattle.sc_base.proofs.Lists.{take_all}
 use Rattle.std.proofs.lemmas.List.{drop_all, map-append}
 
 -- the byte isn't there
@@ -79,30 +82,55 @@ next_line bytes at end from within is between =
     ap (λ byte. lines_of (slice_range bytes at end ++ byte ∷ drop (end + 1) bytes)) is ∙
     lines_at (slice_range bytes at end) (drop (end + 1) bytes) (lacks_range 10 bytes at end between)
 
--- words so far, and the word that ends at this place
-pub one_more : {A : Type 0} (f : A → List ℕ) (words : List A) (word : A) (line : List ℕ) (start at : ℕ) → start ≤ at →
-    at < length line → get_or line at 0 ≡ 32 → LacksBetween 32 line start at → f word ≡ slice_range line start at →
-    map f words ++ words_of (drop start line) ≡ words_of line →
-    map f (words ++ word ∷ []) ++ words_of (drop (at + 1) line) ≡ words_of line
-one_more f words word line start at from within is between same read =
-    ap (λ xs. xs ++ words_of (drop (at + 1) line)) (map-append f words (word ∷ [])) ∙
-    append_assoc (map f words) (f word ∷ []) (words_of (drop (at + 1) line)) ∙
-    ap (λ w. map f words ++ w ∷ words_of (drop (at + 1) line)) same ∙
-    ap (λ ws. map f words ++ ws) (sym (next_word line start at from within is between)) ∙ read
+-- the words of a line that end before a place, and where the next one begins
+pub record IsCut (line : List ℕ) (words : List (Bor (List ℕ))) (start at : ℕ) : Type 0 where
+  pub ordered : start ≤ at
+  pub read : map (λ (word : Bor (List ℕ)). word.now) words ++ words_of (drop start line) ≡ words_of line
+  pub between : LacksBetween 32 line start at
 
--- the last word
-pub last_one : {A : Type 0} (f : A → List ℕ) (words : List A) (word : A) (line : List ℕ) (start at : ℕ) → length line ≤ at →
-    LacksBetween 32 line start at → f word ≡ drop start line →
-    map f words ++ words_of (drop start line) ≡ words_of line → map f (words ++ word ∷ []) ≡ words_of line
-last_one f words word line start at past between same read =
-    map-append f words (word ∷ []) ∙ ap (λ w. map f words ++ w ∷ []) same ∙
-    ap (λ ws. map f words ++ ws) (sym (split_none (drop start line) lacks)) ∙ read
+pub cut_more : (line : List ℕ) (words more : List (Bor (List ℕ))) (word : Bor (List ℕ)) (start at : ℕ) →
+    IsCut line words start at → at < length line → get_or line at 0 ≡ 32 → word.now ≡ slice_range line start at →
+    more ≡ words ++ word ∷ [] → IsCut line more (at + 1) (at + 1)
+cut_more line words more word start at cut within is same all =
+    let now = λ (word : Bor (List ℕ)). word.now in record {
+      ordered = omega arith;
+      read = ap (λ ws. map now ws ++ words_of (drop (at + 1) line)) all ∙
+          ap (λ xs. xs ++ words_of (drop (at + 1) line)) (map-append now words (word ∷ [])) ∙
+          append_assoc (map now words) (word.now ∷ []) (words_of (drop (at + 1) line)) ∙
+          ap (λ w. map now words ++ w ∷ words_of (drop (at + 1) line)) same ∙
+          ap (λ ws. map now words ++ ws) (sym (next_word line start at cut.ordered within is cut.between)) ∙ cut.read;
+      between = record { at = λ k from before. absurd (omega arith) };
+    }
+
+same_place : (k at : ℕ) → at ≤ k → k < at + 1 → at ≡ k
+same_place k at later before = omega arith
+
+pub cut_same : (line : List ℕ) (words : List (Bor (List ℕ))) (start at : ℕ) → IsCut line words start at →
+    (get_or line at 0 ≡ 32 → ⊥) → IsCut line words start (at + 1)
+cut_same line words start at cut other_byte = record {
+  ordered = omega (arith, cut.ordered);
+  read = cut.read;
+  between = record { at = none };
+}
+  where
+    none : (k : ℕ) → start ≤ k → k < at + 1 → get_or line k 0 ≡ 32 → ⊥
+    none k from before is = ⊎_elim (λ earlier. cut.between.at k from earlier is)
+        (λ later. other_byte (ap (λ n. get_or line n 0) (same_place k at later before) ∙ is)) (cases_lt k at)
+
+to_the_end : (xs : List ℕ) (i : ℕ) → slice_range xs i (length xs) ≡ drop i xs
+to_the_end xs i = take_all (length xs - i) (drop i xs) (omega (arith, length-drop i xs))
+
+pub last_cut : (line : List ℕ) (words more : List (Bor (List ℕ))) (word : Bor (List ℕ)) (start at : ℕ) →
+    IsCut line words start at → length line ≤ at → word.now ≡ slice_range line start (length line) → more ≡ words ++ word ∷ [] →
+    map (λ (word : Bor (List ℕ)). word.now) more ≡ words_of line
+last_cut line words more word start at cut past same all =
+    let now = λ (word : Bor (List ℕ)). word.now in
+    ap (map now) all ∙ map-append now words (word ∷ []) ∙ ap (λ w. map now words ++ w ∷ [])
+    (same ∙ to_the_end line start) ∙ ap (λ ws. map now words ++ ws) (sym (split_none (drop start line) lacks)) ∙ cut.read
   where
     lacks : Lacks 32 (drop start line)
-    lacks = record {
-      at = λ k within is. between.at (start + k) (omega arith)
-          (omega (arith, within, past, length-drop start line)) (sym (get_or-drop start line k 0) ∙ is);
-    }
+    lacks = record { at = λ k within is. cut.between.at (start + k) (omega arith)
+        (omega (arith, within, past, length-drop start line)) (sym (get_or-drop start line k 0) ∙ is) }
 
 pub no_line : (bytes : List ℕ) (at end : ℕ) → length bytes ≤ end → LacksBetween 10 bytes at end →
     lines_of (drop at bytes) ≡ []

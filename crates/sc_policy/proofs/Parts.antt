@@ -1,34 +1,42 @@
 -- Lists of words that are cut in two, and those that are too short or too long.
-use Rattle.sc_policy.proofs.Common.{List, None, Option, [], ap, arith, drop, length, length-map, map, min, refl, suc, sym}
+use Rattle.sc_policy.proofs.Common.{List, None, Option, [], ap, arith, drop, length, map, min, refl, suc, sym}
 use Rattle.sc_policy.proofs.Common.{Text, take, zero, ℕ, ◌<◌, ◌∙◌, ◌∷◌, ◌≡◌, ◌≤◌}
 use Rattle.sc_policy.specs.Reading.{goal_of, goal_part, maybe_arg_of, maybe_test_of, pattern_count, pattern_part}
 
 module _ {A : Type 0} (f : A → Text) where
   taken : (n : ℕ) (xs : List A) → map f (take (min n (length xs)) xs) ≡ take n (map f xs)
   taken zero [] = refl
-  taken (suc n) [] = refl
-  taken zero (x ∷ xs) = refl
+  taken (suc n) [] =
+      let none : min (suc n) 0 ≡ 0 = omega arith in ap (λ k. map f (take k [])) none
+  taken zero (x ∷ xs) =
+      let none : min 0 (suc (length xs)) ≡ 0 = omega arith in ap (λ k. map f (take k (x ∷ xs))) none
   taken (suc n) (x ∷ xs) =
       let same : min (suc n) (suc (length xs)) ≡ suc (min n (length xs)) = omega arith in
       ap (λ k. map f (take k (x ∷ xs))) same ∙ ap (λ rest. f x ∷ rest) (taken n xs)
 
   dropped : (n : ℕ) (xs : List A) → map f (drop (min n (length xs)) xs) ≡ drop n (map f xs)
   dropped zero [] = refl
-  dropped (suc n) [] = refl
-  dropped zero (x ∷ xs) = refl
+  dropped (suc n) [] =
+      let none : min (suc n) 0 ≡ 0 = omega arith in ap (λ k. map f (drop k [])) none
+  dropped zero (x ∷ xs) =
+      let none : min 0 (suc (length xs)) ≡ 0 = omega arith in ap (λ k. map f (drop k (x ∷ xs))) none
   dropped (suc n) (x ∷ xs) =
       let same : min (suc n) (suc (length xs)) ≡ suc (min n (length xs)) = omega arith in
       ap (λ k. map f (drop k (x ∷ xs))) same ∙ dropped n xs
 
+  same_length : (xs : List A) → length (map f xs) ≡ length xs
+  same_length [] = refl
+  same_length (x ∷ xs) = ap suc (same_length xs)
+
   pub pattern_is : (kind : Text) (xs : List A) (count : ℕ) → count ≡ pattern_count kind (length xs) →
       map f (take (min count (length xs)) xs) ≡ pattern_part kind (map f xs)
   pattern_is kind xs count is = taken count xs ∙
-      ap (λ n. take n (map f xs)) (is ∙ ap (pattern_count kind) (sym (length-map f xs)))
+      ap (λ n. take n (map f xs)) (is ∙ ap (pattern_count kind) (sym (same_length xs)))
 
   pub goal_is : (kind : Text) (xs : List A) (count : ℕ) → count ≡ pattern_count kind (length xs) →
       map f (drop (min count (length xs)) xs) ≡ goal_part kind (map f xs)
   goal_is kind xs count is = dropped count xs ∙
-      ap (λ n. drop n (map f xs)) (is ∙ ap (pattern_count kind) (sym (length-map f xs)))
+      ap (λ n. drop n (map f xs)) (is ∙ ap (pattern_count kind) (sym (same_length xs)))
 
   pub short_test : (xs : List A) → 1 ≤ length xs → length xs < 2 → None ≡ maybe_test_of (map f xs)
   short_test [] some few = absurd (omega arith)

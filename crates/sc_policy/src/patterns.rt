@@ -2,7 +2,8 @@
 
 ghost use Rattle.sc_policy.specs.Reading.{call_of, comp_of, ends_of, goal_of, goal_part, name_count};
 ghost use Rattle.sc_policy.specs.Reading.{pattern_count, pattern_of, pattern_part, pattern_with, ret_of, test_count};
-ghost use Rattle.std.specs.Prelude.{◌≡◌, ◌≤◌, length, map};
+ghost use Rattle.std.specs.Prelude.{◌≡◌, ◌<◌, ◌≤◌, IfSome, length, map, nat_eq};
+ghost use Rattle.std.specs.Cmp.Lexicographic.{pointwise};
 ghost use Rattle.sc_base.specs.Prelude.{number_of};
 
 use crate::words::{maybe_arg_of, maybe_test_of, who_of};
@@ -48,8 +49,21 @@ fn place_of(states: &[Name], name: &[u8]) -> Option<u16>
     requires { length states.now ≤ 256 }
     ensures { result ≡ number_of states.now name.now }
 {
-    let place = states.iter().position(|state| name == state.as_bytes())?;
+    let place = position_of(states, name)?;
     Some(place as u16)
+}
+
+fn position_of(states: &[Name], name: &[u8]) -> Option<usize>
+    ensures place { result ≡ number_of states.now name.now }
+    ensures within { IfSome result (λ place. place < length states.now) }
+{
+    states.iter().position(|state| is_called(state, name))
+}
+
+fn is_called(state: &Name, name: &[u8]) -> bool
+    ensures { result ≡ pointwise nat_eq name.now state.now }
+{
+    name == state.as_bytes()
 }
 
 fn goal_of(states: &[Name], words: &[&[u8]]) -> Option<Option<u16>>
