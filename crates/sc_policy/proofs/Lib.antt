@@ -2,3 +2,5 @@ pub mod Common
 pub mod Cuts
 pub mod Drafts
 pub mod Parts
+pub mod RuleLines
+pub mod Spelling
