@@ -3,4 +3,5 @@ pub mod Cuts
 pub mod Drafts
 pub mod Parts
 pub mod RuleLines
+pub mod Seen
 pub mod Spelling
