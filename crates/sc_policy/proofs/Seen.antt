@@ -8,6 +8,9 @@ use Rattle.sc_base.proofs.Lists.{take_prefix}
 use Rattle.sc_policy.proofs.Drafts.{IsReached, after_more, begins, nothing_after, policy_is_read, reached_more}
 use Rattle.sc_policy.specs.Policies.{BeginsPolicy, IsBadAt, IsPolicy, IsPolicyRead}
 use Rattle.sc_policy.specs.Reading.{after, after_all}
+use Rattle.std.specs.Prelude.{Err, IsErrOf}
+use Rattle.sc_policy.specs.declared.fault.PolicyFault.{PolicyFault}
+use Rattle.sc_policy.specs.declared.fault.PolicyFault.TheVariants.{Bad}
 use Rattle.sc_policy.specs.declared.policy.Policy.{Policy}
 use Rattle.sc_policy.specs.declared.progress.Progress.{Progress}
 use Rattle.sc_policy.specs.declared.progress.Progress.TheVariants.{Start, Titled, Open, Closed}
@@ -18,6 +21,12 @@ IsUnclosed Start = Unit {0}
 IsUnclosed (Titled name) = Unit {0}
 IsUnclosed (Open policy) = Unit {0}
 IsUnclosed (Closed policy) = ⊥
+
+pub unclosed_so : (now : Progress) → ((policy : Policy) → now ≡ Closed policy → ⊥) → IsUnclosed now
+unclosed_so Start not_closed = tt
+unclosed_so (Titled name) not_closed = tt
+unclosed_so (Open policy) not_closed = tt
+unclosed_so (Closed policy) not_closed = not_closed policy refl
 
 -- the lines before a place, and the number of the line that begins there
 pub record IsSeen (text : List ℕ) (at : ℕ) (progress : Progress) (number : ℕ) : Type 0 where
@@ -204,6 +213,10 @@ begins_none lines seen line rest now are read stuck begun =
 -- the line of this number is bad
 abbrev pub IsBadLine : List ℕ → ℕ → Type 0
 IsBadLine text number = (first : ℕ) × (IsBadAt (lines_of text) first × (number ≡ min first 4294967295))
+
+pub bad_number : (text : List ℕ) (number : ℕ) → IsBadLine text number → (line : ℕ) →
+    IsErrOf {T = PolicyRead} {E = PolicyFault} (Err (Bad number)) (Bad line) → IsBadLine text line
+bad_number text number bad line is = let same : number ≡ line = cc in subst (λ n. IsBadLine text n) same bad
 
 pub bad_line : (text : List ℕ) (at end : ℕ) (now : Progress) (number : ℕ) → IsSeen text at now number →
     IsNextLine text at end → after now (slice_range text at end) ≡ None → IsBadLine text number

@@ -27,16 +27,18 @@ pub fn read_policy(alloc: Global, bytes: &[u8]) -> Result<PolicyRead, PolicyFaul
     let mut at = 0;
     let mut line = 1u32;
     while let Some(end) = line_end(bytes, at) {
-        match progress.after(alloc, &bytes[at..end])? {
-            None => return Err(PolicyFault::Bad { line }),
-            Some(Progress::Closed(policy)) => {
+        let Some(next) = progress.after(alloc, &bytes[at..end])? else {
+            return Err(PolicyFault::Bad { line });
+        };
+        progress = match next {
+            Progress::Closed(policy) => {
                 return Ok(PolicyRead {
                     policy,
                     rest: end + 1,
                 });
             }
-            Some(next) => progress = next,
-        }
+            next => next,
+        };
         at = end + 1;
         line = line.saturating_add(1);
     }
