@@ -45,6 +45,11 @@ pub record IsNextLine (text : List ℕ) (at end : ℕ) : Type 0 where
   pub newline : get_or text end 0 ≡ 10
   pub line : lines_of (drop at text) ≡ slice_range text at end ∷ lines_of (drop (end + 1) text)
 
+pub next_is : (text : List ℕ) (at end : ℕ) → (at ≤ end) × (end < length text) → get_or text end 0 ≡ 10 →
+    lines_of (drop at text) ≡ slice_range text at end ∷ lines_of (drop (end + 1) text) → IsNextLine text at end
+next_is text at end within newline line =
+    record { from = within.0; within = within.1; newline = newline; line = line }
+
 pub nothing_seen : (text : List ℕ) → IsSeen text 0 Start 1
 nothing_seen text = record {
   seen = [];

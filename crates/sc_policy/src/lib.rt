@@ -2,6 +2,7 @@
 #![tactic(auto)]
 
 mod fault;
+mod laws;
 mod names;
 mod patterns;
 mod policy;
@@ -11,6 +12,7 @@ mod rules;
 mod words;
 
 pub use fault::PolicyFault;
+pub use laws::{one_policy, policy_or_bad};
 pub use names::Names;
 pub use policy::{ArgTest, Compare, Pattern, Policy, Rule, Test, Who};
 pub use read::{PolicyRead, read_policy};
