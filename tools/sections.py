@@ -2,9 +2,12 @@
 import os
 import re
 import subprocess
+import sys
 
 HEADING = re.compile(r"#pragma compartment ([A-Za-z_]\w*)\s*$")
 TOP = os.path.dirname(os.path.dirname(os.path.abspath(__file__)))
+MOST_NUMBERS = 65536
+MOST_ARGUMENT = 131071
 
 
 class Section:
@@ -41,6 +44,30 @@ def secomp(words, text):
     return ran.stdout, ran.stderr.decode(errors="replace"), ran.returncode
 
 
+def program():
+    """The program that `./secomp` runs, which is built first where it isn't yet."""
+    asks = {**os.environ, "SECOMP_WHICH": "1"}
+    ran = subprocess.run([f"{TOP}/secomp"], env=asks, stdout=subprocess.PIPE, check=False)
+    if ran.returncode:
+        sys.exit(ran.returncode)
+    return ran.stdout.decode().rstrip("\n")
+
+
+def input_list(path):
+    """A file's bytes as a list of numbers with commas, as --in takes it."""
+    numbers = list(read(path)[:MOST_NUMBERS + 1])
+    values = ",".join(map(str, numbers))
+    length = len("--in=") + len(values)
+    if len(numbers) > MOST_NUMBERS:
+        sys.exit(f"{path}: more than {MOST_NUMBERS} bytes, and a run takes no more inputs")
+    if length > MOST_ARGUMENT:
+        sys.exit(f"{path}: its numbers take {length} bytes, and one argument has at most {MOST_ARGUMENT}")
+    return values
+
+
 def read(path):
-    with open(path, "rb") as it:
-        return it.read()
+    try:
+        with open(path, "rb") as it:
+            return it.read()
+    except OSError as error:
+        sys.exit(f"{path}: {error.strerror}")

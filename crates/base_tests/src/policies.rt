@@ -1,7 +1,6 @@
 use sc_base::{Name, Stop, Text};
-use sc_core::Cause;
+use sc_core::{Cause, Explanation, Link};
 use sc_event::{Args, CompId, Event, Imports, Interface, Interfaces, Params, Proto, Scalar};
-use sc_explanation::{Explanation, Link};
 use sc_monitor::{Verdict, judge};
 use sc_policy::{PolicyFault, read_policy};
 use sqlite_items::Items;

@@ -1,8 +1,8 @@
 // The chain of texts that accounts for a run, looked at from outside.
 use chain_texts::{EVENTS, FIRST, STEPS, generated};
 use sc_base::Text;
-use sc_chain::{Explanation, Link, Replacement, explain, recompose};
-use sc_core::{RunEnd, SourceRun};
+use sc_chain::{Replacement, explain, recompose};
+use sc_core::{Explanation, Link, RunEnd, SourceRun};
 use sc_event::{CompId, Event};
 use sc_run::run_source;
 use sc_types::SourceText;

@@ -1,6 +1,7 @@
 // Every set of a program's compartments, in the places of whose sections those stand that perform a trace.
 use chain_texts::{EVENTS, FIRST, STEPS, generated};
-use sc_chain::{Explanation, Link, explain, replaced};
+use sc_chain::{explain, replaced};
+use sc_core::{Explanation, Link};
 use sc_event::legal;
 use sc_run::run_source;
 use sc_types::SourceText;

@@ -3,3 +3,4 @@ pub mod Ranges
 pub mod Table
 pub mod Words
 pub mod Decoding
+pub mod Registers

@@ -5,7 +5,7 @@ pub use Rattle.std.proofs.lemmas.Grind.{common_steps, flat_map-append}
 pub use Rattle.std.specs.List.{flat_map, list_all}
 pub use Rattle.sc_ast.specs.Prelude.{call_height, chain_words, comma, const_words, decl_words, decls_height}
 pub use Rattle.sc_ast.specs.Prelude.{export_words, expr_height, expr_words, exprs_height, import_words, kind_height}
-pub use Rattle.sc_ast.specs.Prelude.{kind_of, layouts, limited, lineless_kind, lineless_stmt, lines_at, local_line}
+pub use Rattle.sc_ast.specs.Prelude.{stmt_kind_of, layouts, limited, lineless_kind, lineless_stmt, lines_at, local_line}
 pub use Rattle.sc_ast.specs.Prelude.{locals_height, member_line, option_height, param_of, param_words, params_words}
 pub use Rattle.sc_ast.specs.Prelude.{piece_text, simple_kind_height, star_words, stmt_height, stmts_height, text_of}
 pub use Rattle.sc_ast.specs.declared.expr.ExprTree.{ExprTree, ExprTree-F, fold-ExprTree, fold-roll-ExprTree}

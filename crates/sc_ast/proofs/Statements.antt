@@ -1,6 +1,7 @@
 -- The height of each kind of statement, and a statement without its lines.
 use Rattle.sc_ast.proofs.Common.{ExprTree, List, Option, StmtKind, StmtTree, call_height, expr_height, kind_height}
-use Rattle.sc_ast.proofs.Common.{kind_of, lineless_kind, lineless_stmt, max, option_height, rules, simple_kind_height}
+use Rattle.sc_ast.proofs.Common.{stmt_kind_of, lineless_kind, lineless_stmt, max, option_height, rules}
+use Rattle.sc_ast.proofs.Common.{simple_kind_height}
 use Rattle.sc_ast.proofs.Common.{stmt_height, stmts_height, the_lemmas, ℕ, ◌+◌, ◌≡◌}
 use Rattle.sc_ast.specs.declared.expr.CallTree.{CallTree}
 use Rattle.sc_ast.specs.declared.stmt.SimpleTree.{SimpleTree}
@@ -44,7 +45,7 @@ value_height value = search (rules, the_lemmas)
 pub return_call_height : (call : CallTree) → kind_height (stmt.ReturnCall call) ≡ call_height call
 return_call_height call = search (rules, the_lemmas)
 
-pub plain_height : (kind : SimpleKind) → kind_height (kind_of kind) ≡ simple_kind_height kind
+pub plain_height : (kind : SimpleKind) → kind_height (stmt_kind_of kind) ≡ simple_kind_height kind
 plain_height (simple.Assign place value) = search (rules, the_lemmas)
 plain_height _ = search (rules, the_lemmas)
 

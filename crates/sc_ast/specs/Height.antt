@@ -21,19 +21,19 @@ highest [] = 0
 highest (height ∷ rest) = max height (highest rest)
 
 -- the height of an expression, by the heights of its parts
-abbrev pub expr_step : ExprTree-F ℕ → ℕ
-expr_step (term.Literal literal) = 1
-expr_step (term.Variable name) = 1
-expr_step (term.Unary op of) = of + 1
-expr_step (term.Binary op left right) = max left right + 1
-expr_step (term.Index base index) = max base index + 1
-expr_step (term.Member base name) = base + 1
-expr_step (term.Arrow base name) = base + 1
-expr_step (term.Deref of) = of + 1
-expr_step (term.Address of) = of + 1
+abbrev pub expr_height_step : ExprTree-F ℕ → ℕ
+expr_height_step (term.Literal literal) = 1
+expr_height_step (term.Variable name) = 1
+expr_height_step (term.Unary op of) = of + 1
+expr_height_step (term.Binary op left right) = max left right + 1
+expr_height_step (term.Index base index) = max base index + 1
+expr_height_step (term.Member base name) = base + 1
+expr_height_step (term.Arrow base name) = base + 1
+expr_height_step (term.Deref of) = of + 1
+expr_height_step (term.Address of) = of + 1
 
 abbrev pub expr_height : ExprTree → ℕ
-expr_height = fold-ExprTree ℕ expr_step
+expr_height = fold-ExprTree ℕ expr_height_step
 
 abbrev pub exprs_height : List ExprTree → ℕ
 exprs_height exprs = highest (map expr_height exprs)
@@ -55,27 +55,28 @@ abbrev pub option_height : Option SimpleTree → ℕ
 option_height None = 0
 option_height (Some simple) = simple_height simple
 
-abbrev pub kind_step : StmtKind-F ℕ ℕ → ℕ
-kind_step (layer.Assign place value) = max (expr_height place) (expr_height value)
-kind_step (layer.AssignCall place call) = max (expr_height place) (call_height call)
-kind_step (layer.Call call) = call_height call
-kind_step (layer.If cond then_part else_part) = max (expr_height cond) (max (highest then_part) (highest else_part))
-kind_step (layer.While cond body) = max (expr_height cond) (highest body)
-kind_step (layer.For first cond next body) = max (max (option_height first) (option_height next))
+abbrev pub kind_height_step : StmtKind-F ℕ ℕ → ℕ
+kind_height_step (layer.Assign place value) = max (expr_height place) (expr_height value)
+kind_height_step (layer.AssignCall place call) = max (expr_height place) (call_height call)
+kind_height_step (layer.Call call) = call_height call
+kind_height_step (layer.If cond then_part else_part) = max (expr_height cond) (max (highest then_part) (highest
+    else_part))
+kind_height_step (layer.While cond body) = max (expr_height cond) (highest body)
+kind_height_step (layer.For first cond next body) = max (max (option_height first) (option_height next))
     (max (expr_height cond) (highest body))
-kind_step (layer.ReturnValue value) = expr_height value
-kind_step (layer.ReturnCall call) = call_height call
-kind_step _ = 0
+kind_height_step (layer.ReturnValue value) = expr_height value
+kind_height_step (layer.ReturnCall call) = call_height call
+kind_height_step _ = 0
 
-abbrev pub stmt_step : StmtTree-F ℕ ℕ → ℕ
-stmt_step stmt = stmt.kind + 1
+abbrev pub stmt_height_step : StmtTree-F ℕ ℕ → ℕ
+stmt_height_step stmt = stmt.kind + 1
 
 abbrev pub stmt_height : StmtTree → ℕ
-stmt_height = fold-StmtTree ℕ ℕ kind_step stmt_step
+stmt_height = fold-StmtTree ℕ ℕ kind_height_step stmt_height_step
 
 -- the height of the highest part of a statement of this kind
 abbrev pub kind_height : StmtKind → ℕ
-kind_height = fold-StmtKind ℕ ℕ kind_step stmt_step
+kind_height = fold-StmtKind ℕ ℕ kind_height_step stmt_height_step
 
 abbrev pub stmts_height : List StmtTree → ℕ
 stmts_height stmts = highest (map stmt_height stmts)

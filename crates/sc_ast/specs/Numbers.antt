@@ -11,8 +11,8 @@ abbrev pub fits : Number → Bool
 fits number = (number.unsigned || nat_le number.value 2147483647) && nat_le number.value 4294967295
 
 -- the number, where its type holds it
-abbrev pub number_of : ℕ → Bool → Option Number
-number_of value unsigned =
+abbrev pub number_typed : ℕ → Bool → Option Number
+number_typed value unsigned =
     if unsigned || nat_le value 2147483647 then Some (record { value = value; unsigned = unsigned }) else None
 
 -- the length of an array, which is at least 1

@@ -11,7 +11,7 @@ pub use Rattle.sc_ast.specs.Lineless.{lineless_function_head, lineless_head, lin
 pub use Rattle.sc_ast.specs.Lineless.{lineless_local, lineless_option, lineless_simple, lineless_stmt, lineless_stmts}
 pub use Rattle.sc_ast.specs.Lineless.{stmt_step}
 pub use Rattle.sc_ast.specs.Lists.{non_empty}
-pub use Rattle.sc_ast.specs.Numbers.{Number, array_length, fits, number_of}
+pub use Rattle.sc_ast.specs.Numbers.{Number, array_length, fits, number_typed}
 pub use Rattle.sc_ast.specs.Pieces.{Piece, blank, blank_if, closed, comma, deeper, in_parens, indent, line_of, newline}
 pub use Rattle.sc_ast.specs.Pieces.{opened, piece_text, text_of, word}
 pub use Rattle.sc_ast.specs.Places.{is_place, place_of}
@@ -21,7 +21,7 @@ pub use Rattle.sc_ast.specs.SectionWords.{length_words, local_line, member_line,
 pub use Rattle.sc_ast.specs.SectionWords.{params_words, printed, result_words, section_words, star_words, struct_words}
 pub use Rattle.sc_ast.specs.SectionWords.{value_words}
 unfoldable pub use Rattle.sc_ast.specs.SectionWords.{export_words, import_words}
-pub use Rattle.sc_ast.specs.Simple.{kind_of, stmt_of}
+pub use Rattle.sc_ast.specs.Simple.{stmt_kind_of, stmt_of}
 pub use Rattle.sc_ast.specs.StmtWords.{Layout, after_else, assign_call_words, assign_words, block_words, chain_words}
 pub use Rattle.sc_ast.specs.StmtWords.{condition_words, else_words, ended, equals, first_words, for_words, if_words}
 pub use Rattle.sc_ast.specs.StmtWords.{is_chain, kind_layout, layouts, lines_at, next_words, return_words, simple_words}

@@ -6,10 +6,10 @@ use Rattle.sc_ast.specs.declared.stmt.StmtKind.{StmtKind}
 use Rattle.sc_ast.specs.declared.stmt.StmtTree.{StmtTree}
 use Rattle.sc_ast.specs.declared.stmt.StmtKind.TheVariants as kind
 
-abbrev pub kind_of : SimpleKind → StmtKind
-kind_of (Assign place value) = kind.Assign place value
-kind_of (AssignCall place call) = kind.AssignCall place call
-kind_of (Call call) = kind.Call call
+abbrev pub stmt_kind_of : SimpleKind → StmtKind
+stmt_kind_of (Assign place value) = kind.Assign place value
+stmt_kind_of (AssignCall place call) = kind.AssignCall place call
+stmt_kind_of (Call call) = kind.Call call
 
 abbrev pub stmt_of : SimpleTree → StmtTree
-stmt_of simple = record { line = simple.line; kind = kind_of simple.kind }
+stmt_of simple = record { line = simple.line; kind = stmt_kind_of simple.kind }

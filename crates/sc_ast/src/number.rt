@@ -1,5 +1,5 @@
 ghost use Rattle.std.specs.Prelude.{◌≡◌, ◌≤◌, IsTrue};
-ghost use Rattle.sc_ast.specs.Numbers.{fits, number_of, array_length};
+ghost use Rattle.sc_ast.specs.Numbers.{fits, number_typed, array_length};
 
 use std::marker::Model;
 
@@ -26,7 +26,7 @@ impl Model for Literal {
 impl Literal {
     /// The literal of this value, `None` where its type doesn't hold the value.
     pub fn new(value: u32, unsigned: bool) -> Option<Literal>
-        ensures { result ≡ number_of value unsigned }
+        ensures { result ≡ number_typed value unsigned }
     {
         if unsigned || value <= 2_147_483_647 {
             Some(Literal { value, unsigned })

@@ -1,3 +1,5 @@
 pub mod Common
 pub mod Examples
 pub mod Loops
+pub mod Lengths
+pub mod Sizes

@@ -2,7 +2,8 @@
 pub use Rattle.sc_back.specs.Replacing.{new_text, new_texts}
 pub use Rattle.sc_back.specs.Rows.{HasNext, declarations_text, directives_text, entry_at, own_row_text, own_rows_text}
 pub use Rattle.sc_back.specs.Sections.{AllBecome, AreNumbered, Becomes, CanPerform, IsCalled, IsImported, IsSpoken}
-pub use Rattle.sc_back.specs.Sections.{IsWord, IsWordOrNone, kept, replaced}
+pub use Rattle.sc_back.specs.Sections.{kept, replaced}
+pub use Rattle.sc_base.specs.Word.{IsWord, IsWordOrNone}
 pub use Rattle.sc_back.specs.Text.{action_text, after_comma, back_text, call_text, export_text, function_text}
 pub use Rattle.sc_back.specs.Text.{functions_text, head_text, import_line, import_text, imported, input_proto, is_of}
 pub use Rattle.sc_back.specs.Text.{joined, main_proto, main_text, output_proto, owner_name, param_text, param_texts}

@@ -1,4 +1,5 @@
 -- The trees of a text and those of the text in which some sections are replaced by ones that perform.
+use Rattle.sc_base.specs.Word.{IsWord, IsWordOrNone}
 use Rattle.sc_back.specs.Common.{Action, Call, End, Import, In, Interface, Interfaces, Out, Proto, Ret, Row}
 use Rattle.sc_back.specs.Common.{SectionTree, comp_at, export_at, is_name}
 use Rattle.sc_ast.specs.Prelude.{SameButLines, is_ident}
@@ -20,13 +21,6 @@ pub record IsImported (interfaces : Interfaces) (import : Import) : Type 0 where
   pub is : imported interfaces import ≡ Some f
   pub called : IsCalled f
   pub owner : IsTrue (is_name (owner_name interfaces import))
-
-abbrev pub IsWord : ℕ → Type 0
-IsWord word = word < 2 ^ 32
-
-abbrev pub IsWordOrNone : Option ℕ → Type 0
-IsWordOrNone None = Unit {0}
-IsWordOrNone (Some word) = IsWord word
 
 -- the values of an action are words, and it calls such a function
 abbrev pub IsSpoken : Interfaces → Action → Type 0

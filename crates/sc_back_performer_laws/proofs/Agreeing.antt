@@ -7,7 +7,7 @@ use Rattle.sc_back_performer_laws.proofs.Common.{base_scalar, base_tree, bytes_e
 use Rattle.sc_back_performer_laws.proofs.Common.{false≢true, filter_map-append, function_params, head_crosses}
 use Rattle.sc_back_performer_laws.proofs.Common.{head_holds, head_in, head_of, heads_in, imported_agrees, list_all}
 use Rattle.sc_back_performer_laws.proofs.Common.{main_holds, map, not, option_map, param_of, prefix_empty, promised}
-use Rattle.sc_back_performer_laws.proofs.Common.{proto_params, refl, result_crosses, rule_holds, same_base}
+use Rattle.sc_back_performer_laws.proofs.Common.{proto_params, refl, result_crosses, rule_holds, same_named_base}
 use Rattle.sc_back_performer_laws.proofs.Common.{same_either_way, same_params, same_result, same_type, scalar_of, subst}
 use Rattle.sc_back_performer_laws.proofs.Common.{suc, true, type_name, unless, ℕ, ◌&&◌, ◌++◌, ◌||◌, ◌∙◌, ◌∷◌, ◌≡◌}
 use Rattle.sc_ast.specs.declared.section.Decl.TheVariants as decl
@@ -19,8 +19,8 @@ use Rattle.sc_back_performer_laws.proofs.Uses.{IsAmong, first, later}
 
 -- Types that cross come back from the interface.
 
-base_back : (b : BaseTree) → (same_base b base.Int || same_base b base.Unsigned) ≡ true →
-    same_base b (base_tree (base_scalar b)) ≡ true
+base_back : (b : BaseTree) → (same_named_base b base.Int || same_named_base b base.Unsigned) ≡ true →
+    same_named_base b (base_tree (base_scalar b)) ≡ true
 base_back base.Int h = refl
 base_back base.Unsigned h = refl
 base_back (base.Struct tag) h = absurd (false≢true h)

@@ -17,7 +17,7 @@ pub use Rattle.sc_base.proofs.Bools.{and_first, and_rest, implied, implies}
 pub use Rattle.sc_base.proofs.Lists.{get_after, map_twice, position-cons}
 pub use Rattle.sc_base.proofs.Texts.{bytes_eq_self, same_either_way, same_text}
 pub use Rattle.sc_base.specs.Prelude.{IsWord, IsWordOrNone, Text, all_hold, is_name, most_compartments, most_exports}
-pub use Rattle.sc_base.specs.Prelude.{number_of}
+pub use Rattle.sc_base.specs.Prelude.{number_by_name}
 pub use Rattle.sc_base.specs.declared.op.BinaryOp.TheVariants.{Equal, Sub}
 pub use Rattle.sc_base.specs.declared.op.UnaryOp.TheVariants.{Minus}
 pub use Rattle.sc_event.specs.Prelude.{Activation, Standing, action_of, at_start, awaits, export_at, fits_result}
@@ -53,20 +53,22 @@ pub use Rattle.sc_ast.specs.declared.stmt.StmtKind.{out-roll-StmtKind, roll-Stmt
 pub use Rattle.sc_ast.specs.declared.stmt.StmtTree.{StmtTree}
 pub use Rattle.sc_types_scope.specs.Prelude.{Known, among, are_distinct, base_known, base_scalar, body_lines}
 pub use Rattle.sc_types_scope.specs.Prelude.{call_known, declared, defines_main, environment, export_names, expr_known}
-pub use Rattle.sc_types_scope.specs.Prelude.{function_named, function_names, functions_in, global_known, globals_in}
+pub use Rattle.sc_types_scope.specs.Prelude.{function_named, function_names, function_decls, global_known, globals_in}
 pub use Rattle.sc_types_scope.specs.Prelude.{head_in, head_of_known, heads_in, import_names, import_of, interface_of}
 pub use Rattle.sc_types_scope.specs.Prelude.{interfaces_from, interfaces_of, is_callable, is_environment, is_new}
 pub use Rattle.sc_types_scope.specs.Prelude.{line_of_text, main_from, main_name, number_or_zero, offered, offering}
 pub use Rattle.sc_types_scope.specs.Prelude.{offers, promised, proto_known, proto_names, protos_in, result_known}
-pub use Rattle.sc_types_scope.specs.Prelude.{scalar_of, stmt_lines, struct_names, structs_in, unless}
+pub use Rattle.sc_types_scope.specs.Prelude.{scalar_of, stmt_name_lines, struct_names, structs_in, unless}
 pub use Rattle.sc_types_interfaces.proofs.Allowing.{agree_left, agree_symm}
 pub use Rattle.sc_types_interfaces.specs.Prelude.{agree, agrees_as, agrees_there, agrees_with, crosses, decls_from}
 pub use Rattle.sc_types_interfaces.specs.Prelude.{environment_offers, export_holds, exports_from, head_crosses}
 pub use Rattle.sc_types_interfaces.specs.Prelude.{head_holds, import_fits, import_holds, imported_agrees, imports_from}
-pub use Rattle.sc_types_interfaces.specs.Prelude.{input_name, interface_broken, is_input, is_main, is_offered}
-pub use Rattle.sc_types_interfaces.specs.Prelude.{is_output, is_plain, lines_from, main_holds, name_fits, name_holds}
-pub use Rattle.sc_types_interfaces.specs.Prelude.{output_name, result_crosses, same_base, same_params, same_result}
-pub use Rattle.sc_types_interfaces.specs.Prelude.{same_type, section_lines}
+pub use Rattle.sc_types_interfaces.specs.Prelude.{input_name, interface_broken, is_input_head, is_main_head, is_offered}
+pub use Rattle.sc_types_interfaces.specs.Prelude.{is_output_head, is_plain, interface_lines_from, main_holds, name_fits}
+pub use Rattle.sc_types_interfaces.specs.Prelude.{name_holds}
+pub use Rattle.sc_types_interfaces.specs.Prelude.{output_name, result_crosses, same_named_base, same_params}
+pub use Rattle.sc_types_interfaces.specs.Prelude.{same_result}
+pub use Rattle.sc_types_interfaces.specs.Prelude.{same_type, section_interface_lines}
 pub use Rattle.sc_core.specs.Prelude.{Scope, all_go_into, args_fit, assign_fits, expr_nodes, goes_into, is_scalar}
 pub use Rattle.sc_core.specs.Prelude.{judged, local_nodes, most_nodes, most_params, nodes, place_judged}
 pub use Rattle.sc_core.specs.Prelude.{proto_signature, result_ty, scalar_ty, stmt_nodes, total, value_judged}
@@ -77,10 +79,11 @@ pub use Rattle.sc_core.specs.declared.section.TypedParam.{TypedParam}
 pub use Rattle.sc_core.specs.declared.stmt.TypedStmt.{TypedStmt}
 pub use Rattle.sc_core.specs.declared.stmt.TypedStmtKind.{TypedStmtKind}
 pub use Rattle.sc_core.specs.declared.ty.Ty.{Ty}
-pub use Rattle.sc_types_elab_expr.specs.Prelude.{Callees, Visible, found, found_in, going_to, or_else, target_or, typed}
-pub use Rattle.sc_types_elab_stmt.specs.Prelude.{assign_holds, call_holds, cond_holds, going_to_all, params_of}
+pub use Rattle.sc_types_elab_expr.specs.Prelude.{Callees, Visible, variable_named, variable_in, going_to, or_else}
+pub use Rattle.sc_types_elab_expr.specs.Prelude.{target_or, typed}
+pub use Rattle.sc_types_elab_stmt.specs.Prelude.{assign_holds, call_holds, cond_holds, going_to_all, params_called}
 pub use Rattle.sc_types_elab_stmt.specs.Prelude.{return_value_holds, typed_call, typed_stmt}
-pub use Rattle.sc_types_elab.specs.Prelude.{callees_of, decl_lines, global_variable, head_named, import_named}
+pub use Rattle.sc_types_elab.specs.Prelude.{callees_of, decl_type_lines, global_variable, head_named, import_named}
 pub use Rattle.sc_types_elab.specs.Prelude.{import_target, imported_target, or_first, param_ty, program_of, result_of}
 pub use Rattle.sc_types_elab.specs.Prelude.{scope_in, sections_from, signature_by, structs, type_of, type_of_name}
 pub use Rattle.sc_types_elab.specs.Prelude.{typed_function, typed_global, typed_param, typed_section, visible_of}
@@ -89,7 +92,8 @@ pub use Rattle.sc_types.proofs.Facts.{DeclFacts, ExportFacts, Fresh, ImportFacts
 pub use Rattle.sc_types.proofs.Lookups.{Each, FoundFunction, back_empty, each_at, each_empty, is_at_most, map_empty}
 pub use Rattle.sc_types.proofs.Lookups.{none_some, prefix_empty, rule_holds, some_item}
 pub use Rattle.sc_types.proofs.Sections.{agrees, both_distinct, crossing, g, none_beyond, promised_name}
-pub use Rattle.sc_types.specs.Prelude.{IsTyped, counts_broken, function_lines, global_lines, head_lines, line_beyond}
+pub use Rattle.sc_types.specs.Prelude.{IsTyped, counts_broken, function_count_lines, global_count_lines, head_lines}
+pub use Rattle.sc_types.specs.Prelude.{line_beyond}
 pub use Rattle.sc_types.specs.Prelude.{line_of_some, param_small, section_nodes, structs_from}
 pub use Rattle.sc_back.specs.Prelude.{AllBecome, AreNumbered, Becomes, IsCalled, IsImported, IsSpoken, action_kind}
 pub use Rattle.sc_back.specs.Prelude.{all_functions, back_tree, base_tree, body_tree, call_kind, counter_name}

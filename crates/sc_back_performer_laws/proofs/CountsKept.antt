@@ -3,15 +3,16 @@ use Rattle.sc_back_performer_laws.proofs.Common.{AllByRecursion, Bool, Callees, 
 use Rattle.sc_back_performer_laws.proofs.Common.{FunctionTree, HeadTree, Import, ImportLine, Int, Interface, Interfaces}
 use Rattle.sc_back_performer_laws.proofs.Common.{IsPerformer, IsUsable, List, Main, None, Option, Proto, Row, Scalar}
 use Rattle.sc_back_performer_laws.proofs.Common.{SectionTree, Some, StmtTree, TypedFunction, Unsigned, [], and_from, ap}
-use Rattle.sc_back_performer_laws.proofs.Common.{ap₂, arith, callees_of, concat, false, filter, function_lines}
-use Rattle.sc_back_performer_laws.proofs.Common.{function_params, global_lines, head_lines, if◌then◌else◌, imported}
+use Rattle.sc_back_performer_laws.proofs.Common.{ap₂, arith, callees_of, concat, false, filter, function_count_lines}
+use Rattle.sc_back_performer_laws.proofs.Common.{function_params, global_count_lines, head_lines, if◌then◌else◌}
+use Rattle.sc_back_performer_laws.proofs.Common.{imported}
 use Rattle.sc_back_performer_laws.proofs.Common.{is_of, le-leb, length, length-append, length-map, line_beyond}
 use Rattle.sc_back_performer_laws.proofs.Common.{line_of_some, list_all, local_nodes, main_proto, map, most_nodes}
 use Rattle.sc_back_performer_laws.proofs.Common.{most_params, nat_le, nodes, param_of, param_small, proto_of}
 use Rattle.sc_back_performer_laws.proofs.Common.{proto_params, refl, section_nodes, slice_get, stmt_nodes, struct_names}
 use Rattle.sc_back_performer_laws.proofs.Common.{structs_from, suc, total, true, typed_function, typed_param, unless}
 use Rattle.sc_back_performer_laws.proofs.Common.{zero, ℕ, ◌*◌, ◌++◌, ◌+◌, ◌==◌, ◌∙◌, ◌∷◌, ◌≡◌, ◌≤◌}
-use Rattle.sc_types.specs.Prelude.{section_lines}
+use Rattle.sc_types.specs.Prelude.{section_count_lines}
 use Rattle.sc_ast.specs.declared.section.Decl.TheVariants as decl
 use Rattle.sc_back_performer_laws.proofs.BackTree.{AreFunctions, AreHeads, AreImports, IsBackBody, IsBackTree}
 use Rattle.sc_back_performer_laws.proofs.BackTree.{and_function, and_head, and_import, counter_at, entries_from}
@@ -203,24 +204,25 @@ module _ (interfaces : Interfaces) (comp : ℕ) (rows : List Row) (interface : I
   params_small n (Unsigned ∷ types) = params_small (suc n) types
 
   trees_none : (others : List (Entry × Proto)) (trees : List FunctionTree) →
-      AreFunctions interfaces rows others trees → concat (map (function_lines section) trees) ≡ []
+      AreFunctions interfaces rows others trees → concat (map (function_count_lines section) trees) ≡ []
   trees_none others trees no_functions = refl
   trees_none others trees (and_function entry f more rest line close body b h) =
       ap₂ (λ b x. (unless b line ++ []) ++ x) (params_small 0 f.params) (trees_none more rest h)
 
-  section_none : section_lines section callees ≡ []
+  section_none : section_count_lines section callees ≡ []
   section_none =
       all_none _ _ _ _ _ _ _
       (ap (λ b. unless b 1) (and_from _ _ few_nodes few_decls))
       (none_beyond {A = ExportLine} (λ line. line.line) section.exports 4096 few_export_lines)
       (none_beyond {A = ImportLine} (λ line. line.line) section.imports 4096 few_import_lines)
       (ap (structs_from section 0) (no_structs interfaces comp rows interface is section t))
-      (ap (λ x. concat (map (global_lines section) x)) (one_global interfaces comp rows interface is section t))
+      (ap (λ x. concat (map (global_count_lines section) x)) (one_global interfaces comp rows interface is section t))
       (ap (λ x. concat (map (head_lines section) x)) (heads_are interfaces comp rows interface is section t) ∙
       all_heads (uses interfaces interface.imports) t.heads (heads_of t.functions) t.are_heads
       (uses_usable interfaces comp rows interface is)
       (tree_heads all t.functions t.are_functions (entries_usable interfaces comp rows interface is)))
-      (ap (λ x. concat (map (function_lines section) x)) (functions_are interfaces comp rows interface is section t) ∙
+      (ap (λ x. concat (map (function_count_lines section) x)) (functions_are interfaces comp rows interface is section
+      t) ∙
       trees_none all t.functions t.are_functions)
 
 pub counts_hold : CountsHold

@@ -1,6 +1,7 @@
 -- What is found among the declarations of a performing section: prototypes, the counter and functions.
 use Rattle.sc_back_performer_laws.proofs.Common.{Decl, Function, FunctionTree, Global, GlobalTree, HeadTree, List, []}
-use Rattle.sc_back_performer_laws.proofs.Common.{ap, functions_in, globals_in, head_of, heads_in, map, protos_in, refl}
+use Rattle.sc_back_performer_laws.proofs.Common.{ap, function_decls, globals_in, head_of, heads_in, map, protos_in}
+use Rattle.sc_back_performer_laws.proofs.Common.{refl}
 use Rattle.sc_back_performer_laws.proofs.Common.{structs_in, ◌++◌, ◌∷◌, ◌≡◌}
 use Rattle.sc_ast.specs.declared.section.Decl.TheVariants.{Proto}
 
@@ -18,7 +19,7 @@ pub protos_globals : (heads : List HeadTree) → globals_in (map Proto heads) �
 protos_globals [] = refl
 protos_globals (h ∷ heads) = protos_globals heads
 
-pub protos_functions : (heads : List HeadTree) → functions_in (map Proto heads) ≡ []
+pub protos_functions : (heads : List HeadTree) → function_decls (map Proto heads) ≡ []
 protos_functions [] = refl
 protos_functions (h ∷ heads) = protos_functions heads
 
@@ -36,7 +37,7 @@ functions_globals : (trees : List FunctionTree) → globals_in (map Function tre
 functions_globals [] = refl
 functions_globals (t ∷ trees) = functions_globals trees
 
-functions_functions : (trees : List FunctionTree) → functions_in (map Function trees) ≡ trees
+functions_functions : (trees : List FunctionTree) → function_decls (map Function trees) ≡ trees
 functions_functions [] = refl
 functions_functions (t ∷ trees) = ap (λ x. t ∷ x) (functions_functions trees)
 
@@ -64,7 +65,7 @@ all_globals [] global trees = ap (λ x. global ∷ x) (functions_globals trees)
 all_globals (h ∷ heads) global trees = all_globals heads global trees
 
 pub all_functions : (heads : List HeadTree) (global : GlobalTree) (trees : List FunctionTree) →
-    functions_in (decls_of heads global trees) ≡ trees
+    function_decls (decls_of heads global trees) ≡ trees
 all_functions [] global trees = functions_functions trees
 all_functions (h ∷ heads) global trees = all_functions heads global trees
 

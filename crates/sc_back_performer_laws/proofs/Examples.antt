@@ -3,7 +3,7 @@ use Rattle.sc_back_performer_laws.proofs.Common.{Action, All-from_recursion, All
 use Rattle.sc_back_performer_laws.proofs.Common.{Interface, Interfaces, IsPerformer, IsUsable, IsWord, List, Main}
 use Rattle.sc_back_performer_laws.proofs.Common.{MayDo, None, Proto, Row, Some, [], all_of, arith, back_tree, codes}
 use Rattle.sc_back_performer_laws.proofs.Common.{main_proto, refl, subst, ◌∷◌, ◌≡◌}
-use Rattle.sc_types_scope.specs.Prelude.{section_lines}
+use Rattle.sc_types_scope.specs.Prelude.{section_name_lines}
 use Rattle.sc_event.specs.declared.interface.Import.TheVariants as import
 use Rattle.sc_event.specs.declared.row.Action.TheVariants.{Call, Ret, Out, End}
 use Rattle.sc_back_performer_laws.proofs.NamesKept.{names_hold}
@@ -92,5 +92,5 @@ performs = record {
 }
 
 -- so the tree of its section breaks no rule of names
-names_kept : section_lines (back_tree interfaces 0 rows both) ≡ []
+names_kept : section_name_lines (back_tree interfaces 0 rows both) ≡ []
 names_kept = names_hold interfaces 0 rows both (back_tree interfaces 0 rows both) performs refl

@@ -6,9 +6,10 @@ use Rattle.sc_back_performer_laws.proofs.Common.{SectionTree, Some, Text, [], al
 use Rattle.sc_back_performer_laws.proofs.Common.{arith, back_empty, both_distinct, bytes_eq, comp_is, cons_option}
 use Rattle.sc_back_performer_laws.proofs.Common.{counts_broken, defined, defines_main, eqb-true, export_names, false}
 use Rattle.sc_back_performer_laws.proofs.Common.{false≢true, filter_map, fresh_distinct, function_named, function_names}
-use Rattle.sc_back_performer_laws.proofs.Common.{functions_in, if◌then◌else◌, import_names, import_of, imported}
+use Rattle.sc_back_performer_laws.proofs.Common.{function_decls, if◌then◌else◌, import_names, import_of, imported}
 use Rattle.sc_back_performer_laws.proofs.Common.{interface_broken, interface_of, interfaces_of, is_plain, legal, length}
-use Rattle.sc_back_performer_laws.proofs.Common.{length-map, lines_from, list_any, main_from, main_name, main_proto}
+use Rattle.sc_back_performer_laws.proofs.Common.{length-map, interface_lines_from, list_any, main_from, main_name}
+use Rattle.sc_back_performer_laws.proofs.Common.{main_proto}
 use Rattle.sc_back_performer_laws.proofs.Common.{map, map-append, names_of, none_some, part, promised_name, refl}
 use Rattle.sc_back_performer_laws.proofs.Common.{rule_holds, same_Some, same_text, slice_get, subst, suc, sym, true}
 use Rattle.sc_back_performer_laws.proofs.Common.{used, zero, ℕ, ◌++◌, ◌+◌, ◌==◌, ◌||◌, ◌∙◌, ◌∷◌, ◌≡◌, ◌≤◌}
@@ -93,7 +94,7 @@ all_both P [] ys h k = k
 all_both P (x ∷ xs) ys h k = (h.0, all_both P xs ys h.1 k)
 
 pub proto_named : (old : SectionTree) (line : ExportLine) → (proto_of old line).name ≡ line.name
-proto_named old line = promised_name line.name (function_named line.name (functions_in old.decls))
+proto_named old line = promised_name line.name (function_named line.name (function_decls old.decls))
 
 pub exports_named : (old : SectionTree) (lines : List ExportLine) →
     names_of (map (proto_of old) lines) ≡ map {A = ExportLine} (λ line. line.name) lines
@@ -112,7 +113,7 @@ module _ (olds : List SectionTree) (in_interfaces : interface_broken olds ≡ []
   facts = facts_at olds in_interfaces in_counts number old got
 
   some_main : list_any defines_main olds ≡ true
-  some_main = rule_holds _ 0 (back_empty (lines_from olds 0 [] olds) _ in_interfaces)
+  some_main = rule_holds _ 0 (back_empty (interface_lines_from olds 0 [] olds) _ in_interfaces)
 
   pub main_here : (number == interfaces.main) ≡ true → defines_main old ≡ true
   main_here is =

@@ -34,3 +34,4 @@ pub mod Turned
 pub mod Recomposed
 pub mod PartsPerform
 pub mod EmptyTrace
+pub mod Lengths

@@ -11,9 +11,10 @@ use Rattle.sc_back_performer_laws.proofs.Common.{head_of_known, import_names, im
 use Rattle.sc_back_performer_laws.proofs.Common.{is_function, is_new, is_of, length, list_all, map, map-append, not}
 use Rattle.sc_back_performer_laws.proofs.Common.{option_map, option_map_or, or_from, or_left, output_proto, param_of}
 use Rattle.sc_back_performer_laws.proofs.Common.{proto_known, proto_of, proto_params, refl, result_known}
-use Rattle.sc_back_performer_laws.proofs.Common.{same_either_way, stmt_lines, subst, suc, sym, true, type_name, unless}
+use Rattle.sc_back_performer_laws.proofs.Common.{same_either_way, stmt_name_lines, subst, suc, sym, true, type_name}
+use Rattle.sc_back_performer_laws.proofs.Common.{unless}
 use Rattle.sc_back_performer_laws.proofs.Common.{ℕ, ◌++◌, ◌==◌, ◌||◌, ◌∙◌, ◌∷◌, ◌≡◌}
-use Rattle.sc_types_scope.specs.Prelude.{decl_lines, function_lines, lines_from}
+use Rattle.sc_types_scope.specs.Prelude.{decl_name_lines, function_name_lines, name_lines_from}
 use Rattle.sc_event.specs.declared.interface.Import.TheVariants as import
 use Rattle.sc_event.specs.declared.row.Action.TheVariants as action
 use Rattle.sc_ast.specs.declared.section.Decl.TheVariants as decl
@@ -65,14 +66,15 @@ module _ (interfaces : Interfaces) (comp : ℕ) (rows : List Row) (interface : I
   cross_known : (to index : ℕ) (args : List ℕ) (line : ℕ) → imports interfaces comp (is_function to index) ≡ true →
       (o : Option Proto) → export_at interfaces to index ≡ o →
       option_map_or (λ found. length found.params == length args) o false ≡ true →
-      stmt_lines (known own callables hiding) (stmt_at line (option_map_or (call_kind args) o stmt.Empty)) false ≡ []
+      stmt_name_lines (known own callables hiding) (stmt_at line (option_map_or (call_kind args) o stmt.Empty)) false ≡
+      []
   cross_known to index args line h None at t = absurd (false≢true t)
   cross_known to index args line h (Some f) at t =
       calls_known own callables hiding line args f false
       (callable (import.Function to index, f) (calls_use interfaces comp rows interface is to index f h at))
 
   action_known : (result : Option Scalar) (a : Action) (line : ℕ) → MayDo interfaces comp result a →
-      stmt_lines (known own callables hiding) (stmt_at line (action_kind interfaces result a)) false ≡ []
+      stmt_name_lines (known own callables hiding) (stmt_at line (action_kind interfaces result a)) false ≡ []
   action_known result (action.Call to index args) line h =
       cross_known to index args line h.0 (export_at interfaces to index) refl h.1
   action_known result (action.Ret value) line h = returns_known own callables hiding line result value false
@@ -156,18 +158,18 @@ module _ (interfaces : Interfaces) (comp : ℕ) (rows : List Row) (interface : I
 
   protos_lines : (others : List (Import × Proto)) (rest : List HeadTree) → AreHeads others rest →
       (prefix : List HeadTree) (decls : List Decl) →
-      lines_from section (map decl.Proto prefix) (map decl.Proto rest ++ decls) ≡
-      lines_from section (map decl.Proto (prefix ++ rest)) decls
+      name_lines_from section (map decl.Proto prefix) (map decl.Proto rest ++ decls) ≡
+      name_lines_from section (map decl.Proto (prefix ++ rest)) decls
   protos_lines others rest no_heads prefix decls =
-      ap (λ x. lines_from section (map decl.Proto x) decls) (sym (append-nil prefix))
+      ap (λ x. name_lines_from section (map decl.Proto x) decls) (sym (append-nil prefix))
   protos_lines others rest (and_head u more heads line h) prefix decls =
       let head = head_at u.1 line in
-      ap₂ (λ x y. x ++ lines_from section y (map decl.Proto heads ++ decls))
-      (ap (λ n. decl_lines n (decl.Proto head)) (before_protos prefix) ∙
+      ap₂ (λ x y. x ++ name_lines_from section y (map decl.Proto heads ++ decls))
+      (ap (λ n. decl_name_lines n (decl.Proto head)) (before_protos prefix) ∙
       ap (λ b. unless b line) (proto_holds [] (head_names prefix) u.1 line))
       (sym (map-append decl.Proto prefix (head ∷ []))) ∙
       protos_lines more heads h (prefix ++ head ∷ []) decls ∙
-      ap (λ x. lines_from section (map decl.Proto x) decls) (append_assoc prefix (head ∷ []) heads)
+      ap (λ x. name_lines_from section (map decl.Proto x) decls) (append_assoc prefix (head ∷ []) heads)
 
   -- the counter
 
@@ -213,7 +215,7 @@ module _ (interfaces : Interfaces) (comp : ℕ) (rows : List Row) (interface : I
   function_none : (entry : Entry) (f : Proto) (line close_line : ℕ) (body : List StmtTree)
       (functions protos : List Text) → IsBackBody interfaces f.result (filter (is_of entry) rows) body →
       proto_of interfaces comp entry ≡ Some f → IsUsable f → among functions f.name ≡ false →
-      function_lines (names (counter_name ∷ []) functions protos) (function_at f line close_line body) ≡ []
+      function_name_lines (names (counter_name ∷ []) functions protos) (function_at f line close_line body) ≡ []
   function_none entry f line close_line body functions protos b named usable new =
       ap₂ (λ b x. unless b line ++ ([] ++ x))
       (function_holds f line close_line body functions protos usable new)
@@ -225,7 +227,7 @@ module _ (interfaces : Interfaces) (comp : ℕ) (rows : List Row) (interface : I
       AreFunctions interfaces rows others rest → (prefix : List FunctionTree) → AreEntries interfaces comp others →
       AllByRecursion (λ e. IsUsable e.1) others →
       are_distinct (tree_names prefix ++ entry_names others) ≡ true →
-      lines_from section (decls_of heads (counter_at line) prefix) (map decl.Function rest) ≡ []
+      name_lines_from section (decls_of heads (counter_at line) prefix) (map decl.Function rest) ≡ []
   functions_lines heads line others rest no_functions prefix named usable distinct = refl
   functions_lines heads line others rest (and_function entry f more trees at close body b h) prefix named usable
       distinct =
@@ -233,8 +235,8 @@ module _ (interfaces : Interfaces) (comp : ℕ) (rows : List Row) (interface : I
       let new : among (tree_names prefix) f.name ≡ false =
       apart (tree_names prefix) (f.name ∷ entry_names more) f.name distinct
       (or_left (bytes_eq f.name f.name) (among (entry_names more) f.name) (bytes_eq_self f.name)) in
-      let none : function_lines (declared section (decls_of heads (counter_at line) prefix)) tree ≡ [] =
-      ap (λ n. function_lines n tree) (before_functions heads line prefix) ∙
+      let none : function_name_lines (declared section (decls_of heads (counter_at line) prefix)) tree ≡ [] =
+      ap (λ n. function_name_lines n tree) (before_functions heads line prefix) ∙
       function_none entry f at close body (tree_names prefix) (head_names heads) b named.0 usable.0 new in
       let next : decls_of heads (counter_at line) prefix ++ decl.Function tree ∷ [] ≡
       decls_of heads (counter_at line) (prefix ++ tree ∷ []) =
@@ -246,19 +248,19 @@ module _ (interfaces : Interfaces) (comp : ℕ) (rows : List Row) (interface : I
       subst (λ x. are_distinct x ≡ true) (sym (ap (λ x. x ++ entry_names more)
       (map-append {A = FunctionTree} (λ tree. tree.head.name) prefix (tree ∷ [])) ∙
       append_assoc (tree_names prefix) (f.name ∷ []) (entry_names more))) distinct in
-      ap₂ (λ x y. x ++ lines_from section y (map decl.Function trees)) none next ∙
+      ap₂ (λ x y. x ++ name_lines_from section y (map decl.Function trees)) none next ∙
       functions_lines heads line more trees h (prefix ++ tree ∷ []) named.1 usable.1 still
 
   -- all of them
-  section_none : lines_from section [] section.decls ≡ []
+  section_none : name_lines_from section [] section.decls ≡ []
   section_none =
       let heads = t.heads in
       let global = counter_at t.counter_line in
-      ap (λ d. lines_from section [] d) t.decls ∙
+      ap (λ d. name_lines_from section [] d) t.decls ∙
       protos_lines used heads t.are_heads [] (decl.Global global ∷ map decl.Function t.functions) ∙
-      ap (λ x. x ++ lines_from section (map decl.Proto heads ++ decl.Global global ∷ [])
+      ap (λ x. x ++ name_lines_from section (map decl.Proto heads ++ decl.Global global ∷ [])
       (map decl.Function t.functions))
-      (ap (λ n. decl_lines n (decl.Global global)) (before_protos heads) ∙
+      (ap (λ n. decl_name_lines n (decl.Global global)) (before_protos heads) ∙
       ap (λ b. unless b t.counter_line) (counter_holds heads t.counter_line t.are_heads)) ∙
       functions_lines heads t.counter_line defined t.functions t.are_functions []
       (are_entries interfaces comp rows interface is) (entries_usable interfaces comp rows interface is)

@@ -3,10 +3,12 @@ use Rattle.sc_back_performer_laws.proofs.Common.{Bool, Decl, Each, Function, Glo
 use Rattle.sc_back_performer_laws.proofs.Common.{[], among, and_rest, ap, arith, back_empty, bytes_eq, decls_from}
 use Rattle.sc_back_performer_laws.proofs.Common.{defines_main, each_at, eq-eqb, exports_from, false, false≢true}
 use Rattle.sc_back_performer_laws.proofs.Common.{function_names, head_holds, head_of, if◌then◌else◌, imported_agrees}
-use Rattle.sc_back_performer_laws.proofs.Common.{imports_from, is_main, line_of_text, lines_from, list_any, main_from}
+use Rattle.sc_back_performer_laws.proofs.Common.{imports_from, is_main_head, line_of_text, interface_lines_from}
+use Rattle.sc_back_performer_laws.proofs.Common.{list_any, main_from}
 use Rattle.sc_back_performer_laws.proofs.Common.{main_holds, main_name, map, map_empty, name_holds, none_some, not}
 use Rattle.sc_back_performer_laws.proofs.Common.{prefix_empty, refl, rule_holds, same_Some, same_either_way}
-use Rattle.sc_back_performer_laws.proofs.Common.{section_lines, slice_get, subst, suc, sym, true, unless, zero, ℕ, ◌&&◌}
+use Rattle.sc_back_performer_laws.proofs.Common.{section_interface_lines, slice_get, subst, suc, sym, true, unless}
+use Rattle.sc_back_performer_laws.proofs.Common.{zero, ℕ, ◌&&◌}
 use Rattle.sc_back_performer_laws.proofs.Common.{◌++◌, ◌+◌, ◌==◌, ◌||◌, ◌∙◌, ◌∷◌, ◌≡◌}
 use Rattle.sc_ast.specs.declared.section.Decl.TheVariants.{Proto}
 
@@ -62,13 +64,13 @@ module _ (sections : List SectionTree) (number : ℕ) (section : SectionTree) wh
       main_holds true (head_of tree.head)) ≡ true = rule_holds _ tree.head.line (prefix_empty _ _ h) in
       or_false (bytes_eq main_name tree.head.name) (among (function_names decls) main_name)
       (same_either_way main_name tree.head.name ∙ not_main (bytes_eq tree.head.name main_name)
-      (is_main (head_of tree.head))
+      (is_main_head (head_of tree.head))
       (and_rest (head_holds sections number section before (head_of tree.head)) _ was))
       (no_main (before ++ Function tree ∷ []) decls
       (back_empty (unless (head_holds sections number section before (head_of tree.head) &&
       main_holds true (head_of tree.head)) tree.head.line) _ h))
 
-  no_other : (before : List SectionTree) → section_lines sections number section true before ≡ [] →
+  no_other : (before : List SectionTree) → section_interface_lines sections number section true before ≡ [] →
       defines_main section ≡ false
   no_other before h =
       no_main [] section.decls (back_empty (imports_from sections number section [] section.imports) _
@@ -76,18 +78,20 @@ module _ (sections : List SectionTree) (number : ℕ) (section : SectionTree) wh
       (back_empty (unless (name_holds sections number section true before) 1) _ h)))
 
 module _ (sections : List SectionTree) where
-  none_after : (k : ℕ) (before rest : List SectionTree) → lines_from sections k before rest ≡ [] →
+  none_after : (k : ℕ) (before rest : List SectionTree) → interface_lines_from sections k before rest ≡ [] →
       list_any defines_main before ≡ true → Each (λ s. defines_main s ≡ false) rest
   none_after k before [] h some = tt
   none_after k before (s ∷ rest) h some = (
     no_other sections k s before
-        (subst (λ mains. section_lines sections k s mains before ≡ []) some (map_empty _ _ (prefix_empty _ _ h))),
+        (subst (λ mains. section_interface_lines sections k s mains before ≡ []) some (map_empty _ _ (prefix_empty _ _
+        h))),
     none_after (suc k) (before ++ s ∷ []) rest
-        (back_empty (map (line_of_text s.line) (section_lines sections k s (list_any defines_main before) before)) _ h)
+        (back_empty (map (line_of_text s.line) (section_interface_lines sections k s (list_any defines_main before)
+        before)) _ h)
         (any_snoc before s some),
   )
 
-  main_once : (k : ℕ) (before rest : List SectionTree) → lines_from sections k before rest ≡ [] →
+  main_once : (k : ℕ) (before rest : List SectionTree) → interface_lines_from sections k before rest ≡ [] →
       list_any defines_main before ≡ false → (i : ℕ) (x : SectionTree) → slice_get rest i ≡ Some x →
       (k + i == main_from k rest) ≡ false → defines_main x ≡ false
   main_once k before [] h none i x got other = none_some x got
@@ -95,10 +99,10 @@ module _ (sections : List SectionTree) where
       by (defines_main s) refl i got other
       (λ some. none_after (suc k) (before ++ s ∷ []) rest following (last_any before s some))
       (λ none_here. main_once (suc k) (before ++ s ∷ []) rest following (none_snoc before s none none_here)) where
-        following : lines_from sections (suc k) (before ++ s ∷ []) rest ≡ []
+        following : interface_lines_from sections (suc k) (before ++ s ∷ []) rest ≡ []
         following =
             back_empty (map (line_of_text s.line)
-            (section_lines sections k s (list_any defines_main before) before)) _ h
+            (section_interface_lines sections k s (list_any defines_main before) before)) _ h
 
         same : (n : ℕ) → (n + 0 == n) ≡ true
         same n = eq-eqb (n + 0) n (omega arith)
@@ -118,7 +122,7 @@ module _ (sections : List SectionTree) where
             next is i x got (subst (λ n. (n == main_from (suc k) rest) ≡ false) (shift k i) other)
 
   -- it is the one that the interfaces name
-  pub main_only : lines_from sections 0 [] sections ≡ [] → (number : ℕ) (section : SectionTree) →
+  pub main_only : interface_lines_from sections 0 [] sections ≡ [] → (number : ℕ) (section : SectionTree) →
       slice_get sections number ≡ Some section → (number == main_from 0 sections) ≡ false →
       defines_main section ≡ false
   main_only h number section got other =

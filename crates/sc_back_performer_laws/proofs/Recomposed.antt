@@ -65,7 +65,7 @@ mapped_empty : (f : ℕ → ℕ) (lines : List ℕ) → lines ≡ [] → map f l
 mapped_empty f lines h = ap (map f) h
 
 moved_counts : (line : ℕ) (old : SectionTree) (callees : Callees) →
-    counts.section_lines (moved line old) callees ≡ counts.section_lines old callees
+    counts.section_count_lines (moved line old) callees ≡ counts.section_count_lines old callees
 unfolding elab.typed_locals elab.typed_structs
 moved_counts line old callees = refl
 
@@ -97,32 +97,34 @@ module _ (olds news : List SectionTree) (typed : IsTyped olds (program_of olds))
         both_empty (map (line_of_text y.line) (lines_of y)) _
         (mapped_empty (line_of_text y.line) (lines_of y) (h k x y t.0)) (listed_empty lines_of h (suc k) xs ys t.1)
 
-    names_one : (k : ℕ) (old new : SectionTree) → OneTurns k old new → names.section_lines new ≡ []
+    names_one : (k : ℕ) (old new : SectionTree) → OneTurns k old new → names.section_name_lines new ≡ []
     names_one k old new (stays got off line is) =
-        ap names.section_lines is ∙
-        map_empty _ _ (each_at (λ s. map (line_of_text s.line) (names.section_lines s) ≡ []) olds k old
-        (each_empty {A = SectionTree} (λ s. map (line_of_text s.line) (names.section_lines s)) olds typed.names) got)
+        ap names.section_name_lines is ∙
+        map_empty _ _ (each_at (λ s. map (line_of_text s.line) (names.section_name_lines s) ≡ []) olds k old
+        (each_empty {A = SectionTree} (λ s. map (line_of_text s.line) (names.section_name_lines s)) olds typed.names)
+        got)
     names_one k old new (turns got on can same) =
         names_hold (interfaces_of olds) k (part (interfaces_of olds).main k trace)
         (interface_of olds k old) new can same
 
     types_one : (k : ℕ) (old new : SectionTree) → OneTurns k old new →
-        elab.section_lines new (callees_of news 0 new) ≡ []
+        elab.section_type_lines new (callees_of news 0 new) ≡ []
     types_one k old new (stays got off line is) =
-        ap (λ s. elab.section_lines s (callees_of news 0 s)) is ∙ types_same olds news all line old ∙
-        map_empty _ _ (each_at (λ s. map (line_of_text s.line) (elab.section_lines s (callees_of olds 0 s)) ≡ []) olds k
+        ap (λ s. elab.section_type_lines s (callees_of news 0 s)) is ∙ types_same olds news all line old ∙
+        map_empty _ _ (each_at (λ s. map (line_of_text s.line) (elab.section_type_lines s (callees_of olds 0 s)) ≡ [])
+        olds k
         old (each_empty {A = SectionTree} (λ s.
-        map (line_of_text s.line) (elab.section_lines s (callees_of olds 0 s))) olds typed.types) got)
+        map (line_of_text s.line) (elab.section_type_lines s (callees_of olds 0 s))) olds typed.types) got)
     types_one k old new (turns got on can same) =
         types_hold (interfaces_of olds) k (part (interfaces_of olds).main k trace)
         (interface_of olds k old) new can same
         news 0
 
     counts_one : (k : ℕ) (old new : SectionTree) → OneTurns k old new →
-        counts.section_lines new (callees_of news k new) ≡ []
+        counts.section_count_lines new (callees_of news k new) ≡ []
     counts_one k old new (stays got off line is) =
-        ap (λ s. counts.section_lines s (callees_of news k s)) is ∙
-        ap (counts.section_lines (moved line old)) (callees_same olds news all k line old) ∙
+        ap (λ s. counts.section_count_lines s (callees_of news k s)) is ∙
+        ap (counts.section_count_lines (moved line old)) (callees_same olds news all k line old) ∙
         moved_counts line old (callees_of olds k old) ∙
         counted_at olds typed.interfaces typed.counts k old got
     counts_one k old new (turns got on can same) =
@@ -130,12 +132,12 @@ module _ (olds news : List SectionTree) (typed : IsTyped olds (program_of olds))
         (interface_of olds k old) new can same
         news k
 
-    counts_from : (k : ℕ) (xs ys : List SectionTree) → AllOnesTurn k xs ys → counts.lines_from news k ys ≡ []
+    counts_from : (k : ℕ) (xs ys : List SectionTree) → AllOnesTurn k xs ys → counts.count_lines_from news k ys ≡ []
     counts_from k [] [] t = refl
     counts_from k [] (y ∷ ys) t = absurd t
     counts_from k (x ∷ xs) [] t = absurd t
     counts_from k (x ∷ xs) (y ∷ ys) t =
-        both_empty (map (line_of_text y.line) (counts.section_lines y (callees_of news k y))) _
+        both_empty (map (line_of_text y.line) (counts.section_count_lines y (callees_of news k y))) _
         (mapped_empty (line_of_text y.line) _ (counts_one k x y t.0)) (counts_from (suc k) xs ys t.1)
 
     -- Interfaces.
@@ -143,8 +145,8 @@ module _ (olds news : List SectionTree) (typed : IsTyped olds (program_of olds))
     interface_holds : (k : ℕ) (old new : SectionTree) → OneTurns k old new → (mains : Bool)
         (before others : List SectionTree) → AreSeenAs before others → IsSeenAs old new →
         ((k == (interfaces_of olds).main) ≡ true → mains ≡ false) →
-        interface_rules.section_lines olds k old mains before ≡ [] →
-        interface_rules.section_lines news k new mains others ≡ []
+        interface_rules.section_interface_lines olds k old mains before ≡ [] →
+        interface_rules.section_interface_lines news k new mains others ≡ []
     interface_holds k old new t mains before others around seen first_main h =
         both_empty (unless (name_holds news k new mains others) 1) _
         (ap (λ b. unless b 1) (λ i. name_fits (names_same before others around i) (seen.name i)) ∙
@@ -192,23 +194,23 @@ module _ (olds news : List SectionTree) (typed : IsTyped olds (program_of olds))
 
     interfaces_hold_from : (k : ℕ) (before others xs ys : List SectionTree) → k ≡ length others → others ++ ys ≡ news →
         AreSeenAs before others → AllOnesTurn k xs ys → AreSeenAs xs ys →
-        interface_rules.lines_from olds k before xs ≡ [] →
-        interface_rules.lines_from news k others ys ≡ []
+        interface_rules.interface_lines_from olds k before xs ≡ [] →
+        interface_rules.interface_lines_from news k others ys ≡ []
     interfaces_hold_from k before others [] [] at whole around t seen h = refl
     interfaces_hold_from k before others [] (y ∷ ys) at whole around t seen h = absurd t
     interfaces_hold_from k before others (x ∷ xs) [] at whole around t seen h = absurd t
     interfaces_hold_from k before others (x ∷ xs) (y ∷ ys) at whole around t seen h =
         both_empty (map (line_of_text y.line)
-        (interface_rules.section_lines news k y (list_any defines_main others) others)) _
+        (interface_rules.section_interface_lines news k y (list_any defines_main others) others)) _
         (mapped_empty (line_of_text y.line) _
         (interface_holds k x y t.0 (list_any defines_main others) before others around
-        seen.0 first_main (subst (λ mains. interface_rules.section_lines olds k x mains before ≡ [])
+        seen.0 first_main (subst (λ mains. interface_rules.section_interface_lines olds k x mains before ≡ [])
         (sym (mains_same before others around)) (map_empty _ _ (prefix_empty _ _ h)))))
         (interfaces_hold_from (suc k) (before ++ x ∷ []) (others ++ y ∷ []) xs ys
         (ap suc at ∙ sym (length_snoc others y))
         (append_assoc others (y ∷ []) ys ∙ whole) (seen_snoc before others x y around seen.0) t.1 seen.1
         (back_empty (map (line_of_text x.line)
-        (interface_rules.section_lines olds k x (list_any defines_main before) before)) _ h)) where
+        (interface_rules.section_interface_lines olds k x (list_any defines_main before) before)) _ h)) where
           first_main : (k == (interfaces_of olds).main) ≡ true → list_any defines_main others ≡ false
           first_main here =
               none_before 0 others (y ∷ ys) (ap (main_from 0) whole ∙
@@ -217,10 +219,10 @@ module _ (olds news : List SectionTree) (typed : IsTyped olds (program_of olds))
 
     interfaces_hold : interface_broken news ≡ []
     interfaces_hold =
-        both_empty (interface_rules.lines_from news 0 [] news) _
+        both_empty (interface_rules.interface_lines_from news 0 [] news) _
         (interfaces_hold_from 0 [] [] olds news refl refl tt turn all (prefix_empty _ _ typed.interfaces))
         (ap (λ b. unless b 0) (mains_same olds news all) ∙
-        back_empty (interface_rules.lines_from olds 0 [] olds) _ typed.interfaces)
+        back_empty (interface_rules.interface_lines_from olds 0 [] olds) _ typed.interfaces)
 
     few_sections : counts.line_beyond {A = SectionTree} (λ s. line_of_text s.line 1) most_compartments news ≡ []
     few_sections =
@@ -230,8 +232,8 @@ module _ (olds news : List SectionTree) (typed : IsTyped olds (program_of olds))
 
     pub all_typed : IsTyped news (program_of news)
     all_typed = record {
-      names = listed_empty names.section_lines names_one 0 olds news turn;
-      types = listed_empty (λ s. elab.section_lines s (callees_of news 0 s)) types_one 0 olds news turn;
+      names = listed_empty names.section_name_lines names_one 0 olds news turn;
+      types = listed_empty (λ s. elab.section_type_lines s (callees_of news 0 s)) types_one 0 olds news turn;
       interfaces = interfaces_hold;
       counts = both_empty (counts.line_beyond {A = SectionTree} (λ s. line_of_text s.line 1) most_compartments news) _
           few_sections (counts_from 0 olds news turn);

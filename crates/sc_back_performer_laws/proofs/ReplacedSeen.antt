@@ -4,7 +4,7 @@ use Rattle.sc_back_performer_laws.proofs.Common.{ImportLine, InterfaceFacts, Int
 use Rattle.sc_back_performer_laws.proofs.Common.{Row, SectionTree, Some, StmtTree, Text, [], agree, agree_left}
 use Rattle.sc_back_performer_laws.proofs.Common.{agrees_with, among, ap, append-nil, are_distinct, bytes_eq}
 use Rattle.sc_back_performer_laws.proofs.Common.{bytes_eq_self, counts_broken, defines_main, export_names, false}
-use Rattle.sc_back_performer_laws.proofs.Common.{false≢true, function_named, function_names, functions_in, head_of}
+use Rattle.sc_back_performer_laws.proofs.Common.{false≢true, function_named, function_names, function_decls, head_of}
 use Rattle.sc_back_performer_laws.proofs.Common.{heads_in, if◌then◌else◌, import_of, inl, inr, interface_broken}
 use Rattle.sc_back_performer_laws.proofs.Common.{interface_of, interfaces_of, main_name, main_proto, map, map_twice}
 use Rattle.sc_back_performer_laws.proofs.Common.{names_of, not, prefix_empty, promised, refl, same_either_way}
@@ -57,8 +57,8 @@ module _ (olds : List SectionTree) (in_interfaces : interface_broken olds ≡ []
   pub exports_same : export_names new ≡ export_names old
   exports_same = t.exports ∙ exports_named old old.exports
 
-  functions_are : functions_in new.decls ≡ t.functions
-  functions_are = ap functions_in t.decls ∙ all_functions t.heads (counter_at t.counter_line) t.functions
+  functions_are : function_decls new.decls ≡ t.functions
+  functions_are = ap function_decls t.decls ∙ all_functions t.heads (counter_at t.counter_line) t.functions
 
   -- what is promised
 

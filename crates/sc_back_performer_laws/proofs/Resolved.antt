@@ -6,16 +6,19 @@ use Rattle.sc_back_performer_laws.proofs.Common.{agree_left, agree_symm, agrees_
 use Rattle.sc_back_performer_laws.proofs.Common.{and_first, and_rest, ap, arith, back_empty, bytes_eq, bytes_eq_self}
 use Rattle.sc_back_performer_laws.proofs.Common.{callees_of, comp_is, concat, counts_broken, crossing, defines_main}
 use Rattle.sc_back_performer_laws.proofs.Common.{each_at, each_empty, environment, export_is, false, false≢true}
-use Rattle.sc_back_performer_laws.proofs.Common.{find_offering, found_by, functions_in, g, globals_in, head_crosses}
+use Rattle.sc_back_performer_laws.proofs.Common.{find_offering, found_by, function_decls, g, globals_in, head_crosses}
 use Rattle.sc_back_performer_laws.proofs.Common.{head_of, heads_in, if◌then◌else◌, implied, import_of, imported}
 use Rattle.sc_back_performer_laws.proofs.Common.{input_name, input_proto, interface_broken, interfaces_of, is_at_most}
-use Rattle.sc_back_performer_laws.proofs.Common.{is_environment, is_input, is_offered, is_output, is_plain, is_some}
-use Rattle.sc_back_performer_laws.proofs.Common.{length, length-map, line_of_text, lines_from, list_any, map, map_empty}
+use Rattle.sc_back_performer_laws.proofs.Common.{is_environment, is_input_head, is_offered, is_output_head, is_plain}
+use Rattle.sc_back_performer_laws.proofs.Common.{is_some}
+use Rattle.sc_back_performer_laws.proofs.Common.{length, length-map, line_of_text, interface_lines_from, list_any, map}
+use Rattle.sc_back_performer_laws.proofs.Common.{map_empty}
 use Rattle.sc_back_performer_laws.proofs.Common.{most_compartments, most_exports, most_nodes, most_params, nat_le}
 use Rattle.sc_back_performer_laws.proofs.Common.{none_beyond, none_some, not, number_or_zero, offered, offering}
 use Rattle.sc_back_performer_laws.proofs.Common.{option_map_or, output_name, output_proto, owner_name, param_of}
 use Rattle.sc_back_performer_laws.proofs.Common.{prefix_empty, promised, promised_name, refl, rule_holds, same_Some}
-use Rattle.sc_back_performer_laws.proofs.Common.{same_text, scalar_of, section_lines, slice_get, structs_in, subst, suc}
+use Rattle.sc_back_performer_laws.proofs.Common.{same_text, scalar_of, section_interface_lines, slice_get, structs_in}
+use Rattle.sc_back_performer_laws.proofs.Common.{subst, suc}
 use Rattle.sc_back_performer_laws.proofs.Common.{sym, true, unless, zero, ℕ, ◌&&◌, ◌++◌, ◌+◌, ◌==◌, ◌||◌, ◌∙◌, ◌∷◌, ◌≡◌}
 use Rattle.sc_back_performer_laws.proofs.Common.{◌≤◌}
 use Rattle.sc_types_scope.specs.Prelude.{proto_of}
@@ -29,7 +32,7 @@ use Rattle.sc_back_performer_laws.proofs.BackTree.{head_at}
 use Rattle.sc_back_performer_laws.proofs.Uses.{IsAmong, first, later}
 
 -- a function's head is one of its section's
-head_there : (decls : List Decl) (i : ℕ) (tree : FunctionTree) → slice_get (functions_in decls) i ≡ Some tree →
+head_there : (decls : List Decl) (i : ℕ) (tree : FunctionTree) → slice_get (function_decls decls) i ≡ Some tree →
     IsAmong (head_of tree.head) (heads_in decls)
 head_there [] i tree got = none_some tree got
 head_there (decl.Struct other ∷ decls) i tree got = head_there decls i tree got
@@ -91,7 +94,7 @@ pub record IsResolved (olds : List SectionTree) (number : ℕ) (old : SectionTre
 pub record AreRules (olds : List SectionTree) (number : ℕ) (section : SectionTree) : Type 0 where
   pub mains : Bool
   pub before : List SectionTree
-  pub hold : section_lines olds number section mains before ≡ []
+  pub hold : section_interface_lines olds number section mains before ≡ []
 
 module _ (olds : List SectionTree) where
   abbrev interfaces : Interfaces
@@ -104,7 +107,7 @@ module _ (olds : List SectionTree) where
   plus_one n m = omega arith
 
   rules_from : (k : ℕ) (before rest : List SectionTree) (j : ℕ) (section : SectionTree) →
-      lines_from olds k before rest ≡ [] → slice_get rest j ≡ Some section → AreRules olds (k + j) section
+      interface_lines_from olds k before rest ≡ [] → slice_get rest j ≡ Some section → AreRules olds (k + j) section
   rules_from k before [] j section h got = none_some section got
   rules_from k before (s ∷ rest) zero section h got =
       subst (λ n. AreRules olds n section) (plus_zero k)
@@ -116,7 +119,8 @@ module _ (olds : List SectionTree) where
   rules_from k before (s ∷ rest) (suc j) section h got =
       subst (λ n. AreRules olds n section) (plus_one k j)
       (rules_from (suc k) (before ++ s ∷ []) rest j section
-      (back_empty (map (line_of_text s.line) (section_lines olds k s (list_any defines_main before) before)) _ h) got)
+      (back_empty (map (line_of_text s.line) (section_interface_lines olds k s (list_any defines_main before) before)) _
+      h) got)
 
   plus_none : (n : ℕ) → 0 + n ≡ n
   plus_none n = omega arith
@@ -132,7 +136,7 @@ module _ (olds : List SectionTree) where
     facts_at = hold olds in_interfaces
 
     pub counted_at : (j : ℕ) (section : SectionTree) → slice_get olds j ≡ Some section →
-        counts.section_lines section (callees_of olds j section) ≡ []
+        counts.section_count_lines section (callees_of olds j section) ≡ []
     counted_at =
         count_at olds (back_empty (counts.line_beyond {A = SectionTree}
         (λ section. line_of_text section.line 1) most_compartments olds) _ in_counts)
@@ -141,9 +145,9 @@ module _ (olds : List SectionTree) where
       after_nodes : counts.line_beyond {A = ExportLine} (λ line. line.line) most_exports section.exports ++
           (counts.line_beyond {A = ImportLine} (λ line. line.line) most_exports section.imports ++
           (counts.structs_from section 0 (structs_in section.decls) ++
-          (concat (map (counts.global_lines section) (globals_in section.decls)) ++
+          (concat (map (counts.global_count_lines section) (globals_in section.decls)) ++
           (concat (map (counts.head_lines section) (heads_in section.decls)) ++
-          concat (map (counts.function_lines section) (functions_in section.decls)))))) ≡ []
+          concat (map (counts.function_count_lines section) (function_decls section.decls)))))) ≡ []
       after_nodes = back_empty (unless (nat_le (counts.section_nodes section (callees_of olds j section)) most_nodes &&
           nat_le (length section.decls) most_nodes) 1) _ (counted_at j section got)
 
@@ -155,9 +159,9 @@ module _ (olds : List SectionTree) where
 
       after_exports : counts.line_beyond {A = ImportLine} (λ line. line.line) most_exports section.imports ++
           (counts.structs_from section 0 (structs_in section.decls) ++
-          (concat (map (counts.global_lines section) (globals_in section.decls)) ++
+          (concat (map (counts.global_count_lines section) (globals_in section.decls)) ++
           (concat (map (counts.head_lines section) (heads_in section.decls)) ++
-          concat (map (counts.function_lines section) (functions_in section.decls))))) ≡ []
+          concat (map (counts.function_count_lines section) (function_decls section.decls))))) ≡ []
       after_exports =
           back_empty (counts.line_beyond {A = ExportLine} (λ line. line.line) most_exports section.exports) _
           after_nodes
@@ -170,7 +174,7 @@ module _ (olds : List SectionTree) where
 
       heads_few : concat (map (counts.head_lines section) (heads_in section.decls)) ≡ []
       heads_few =
-          prefix_empty _ _ (back_empty (concat (map (counts.global_lines section) (globals_in section.decls))) _
+          prefix_empty _ _ (back_empty (concat (map (counts.global_count_lines section) (globals_in section.decls))) _
           (back_empty (counts.structs_from section 0 (structs_in section.decls)) _
           (back_empty (counts.line_beyond {A = ImportLine} (λ line. line.line) most_exports section.imports) _
           after_exports)))
@@ -188,7 +192,7 @@ module _ (olds : List SectionTree) where
         fact =
             each_at (ExportFacts olds j section) section.exports index line (facts_at j section got).exports there
 
-        abbrev function : FoundFunction line.name (functions_in section.decls)
+        abbrev function : FoundFunction line.name (function_decls section.decls)
         function = g olds facts_at j section got index line there fact
 
         is_head : IsAmong (head_of function.tree.head) (heads_in section.decls)
@@ -228,8 +232,8 @@ module _ (olds : List SectionTree) where
           if env then (if input then import.Input else import.Output) else offered a (offering number a 0 olds)
 
       abbrev agrees_by : HeadTree → Bool → Bool
-      agrees_by head env = if env then (if bytes_eq head.name input_name then is_input head else
-          if bytes_eq head.name output_name then is_output head else true) else
+      agrees_by head env = if env then (if bytes_eq head.name input_name then is_input_head head else
+          if bytes_eq head.name output_name then is_output_head head else true) else
           agrees_there olds number old head (offering number a 0 olds)
 
       abbrev offered_by : Bool → Bool → Bool → Bool

@@ -4,11 +4,11 @@ use Rattle.sc_back_performer_laws.proofs.Common.{Interface, Interfaces, IsPerfor
 use Rattle.sc_back_performer_laws.proofs.Common.{Row, Scalar, SectionTree, Some, StmtTree, StructTree, Text, TypedParam}
 use Rattle.sc_back_performer_laws.proofs.Common.{Unsigned, [], among, ap, ap₂, are_distinct, arith, bytes_eq}
 use Rattle.sc_back_performer_laws.proofs.Common.{bytes_eq_self, callees_of, codes, cond, counter_name, decimal}
-use Rattle.sc_back_performer_laws.proofs.Common.{digits_decimal, drop, false, false≢true, found_in, function_named}
-use Rattle.sc_back_performer_laws.proofs.Common.{function_names, function_params, functions_in, global_variable}
+use Rattle.sc_back_performer_laws.proofs.Common.{digits_decimal, drop, false, false≢true, variable_in, function_named}
+use Rattle.sc_back_performer_laws.proofs.Common.{function_names, function_params, function_decls, global_variable}
 use Rattle.sc_back_performer_laws.proofs.Common.{globals_in, head_named, heads_in, if◌then◌else◌, import_named}
 use Rattle.sc_back_performer_laws.proofs.Common.{import_of, import_target, imported_target, inl, inr, is_some, length}
-use Rattle.sc_back_performer_laws.proofs.Common.{map, number_of, option_and_then, option_map, or_first, or_parts}
+use Rattle.sc_back_performer_laws.proofs.Common.{map, number_by_name, option_and_then, option_map, or_first, or_parts}
 use Rattle.sc_back_performer_laws.proofs.Common.{param_name, param_ty, position, position-cons, proto_params}
 use Rattle.sc_back_performer_laws.proofs.Common.{proto_signature, refl, result_of, result_ty, same_either_way}
 use Rattle.sc_back_performer_laws.proofs.Common.{same_text, scalar_ty, scope_in, signature_by, struct_names, structs}
@@ -55,7 +55,7 @@ no_place number (type ∷ types) low =
     (no_place (suc number) types (omega arith))
 
 pub no_counter : (types : List Scalar) → length types ≤ 8 →
-    found_in Param (typed_params 0 types) counter_name ≡ None
+    variable_in Param (typed_params 0 types) counter_name ≡ None
 no_counter types few =
     ap (option_and_then _) (no_place 0 types (omega (arith, few)))
 
@@ -163,8 +163,8 @@ module _ (interfaces : Interfaces) (comp : ℕ) (rows : List Row) (interface : I
   pub one_global : globals_in section.decls ≡ counter_at t.counter_line ∷ []
   one_global = ap globals_in t.decls ∙ all_globals t.heads (counter_at t.counter_line) t.functions
 
-  pub functions_are : functions_in section.decls ≡ t.functions
-  functions_are = ap functions_in t.decls ∙ all_functions t.heads (counter_at t.counter_line) t.functions
+  pub functions_are : function_decls section.decls ≡ t.functions
+  functions_are = ap function_decls t.decls ∙ all_functions t.heads (counter_at t.counter_line) t.functions
 
   pub heads_are : heads_in section.decls ≡ t.heads ++ heads_of t.functions
   heads_are = ap heads_in t.decls ∙ all_heads t.heads (counter_at t.counter_line) t.functions
@@ -174,7 +174,7 @@ module _ (interfaces : Interfaces) (comp : ℕ) (rows : List Row) (interface : I
   structs_none = λ i. typed_structs (no_tags i) [] (no_structs i)
 
   pub visible_is : (callees : Callees) (f : Proto) (line close_line : ℕ) (body : List StmtTree)
-      (absent : found_in Param (typed_params 0 f.params) counter_name ≡ None) →
+      (absent : variable_in Param (typed_params 0 f.params) counter_name ≡ None) →
       visible_of section (function_at f line close_line body) ≡ visible (typed_params 0 f.params) absent callees
   visible_is callees f line close_line body absent = λ i. record {
     structs = structs_none i;
@@ -205,7 +205,7 @@ module _ (interfaces : Interfaces) (comp : ℕ) (rows : List Row) (interface : I
   no_locals callees f line close_line body = refl
 
   pub body_is : (callees : Callees) (f : Proto) (line close_line : ℕ) (body : List StmtTree)
-      (absent : found_in Param (typed_params 0 f.params) counter_name ≡ None) →
+      (absent : variable_in Param (typed_params 0 f.params) counter_name ≡ None) →
       (typed_function section callees (function_at f line close_line body)).body ≡
       map (typed_stmt (visible (typed_params 0 f.params) absent callees) callees (result_ty f.result)) body
   body_is callees f line close_line body absent = λ i. map (typed_stmt
@@ -253,8 +253,8 @@ module _ (interfaces : Interfaces) (comp : ℕ) (rows : List Row) (interface : I
   targets sections number u there leads =
       let found : FoundImport interfaces u section.imports =
       find_import interfaces u used section.imports t.imports used_distinct there in
-      let none : number_of (function_names section.decls) u.1.name ≡ None =
-      not_numbered (number_of (function_names section.decls) u.1.name)
+      let none : number_by_name (function_names section.decls) u.1.name ≡ None =
+      not_numbered (number_by_name (function_names section.decls) u.1.name)
       (has-number (function_names section.decls) u.1.name ∙ ap (λ names. among names u.1.name) function_names_are ∙
       not_defined u there) in
       ap₂ (λ n l. target_or n (imported_target sections number l)) none found.is ∙

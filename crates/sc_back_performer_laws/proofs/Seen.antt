@@ -3,7 +3,7 @@ use Rattle.sc_back_performer_laws.proofs.Common.{Bool, HeadTree, ImportLine, Lis
 use Rattle.sc_back_performer_laws.proofs.Common.{agrees_with, all_hold, among, and_rest, ap, bytes_eq, codes}
 use Rattle.sc_back_performer_laws.proofs.Common.{defines_main, environment, export_names, false, heads_in}
 use Rattle.sc_back_performer_laws.proofs.Common.{if◌then◌else◌, import_of, interface_of, interfaces_from, interfaces_of}
-use Rattle.sc_back_performer_laws.proofs.Common.{is_some, main_from, map, not, number_of, number_or_zero, offered}
+use Rattle.sc_back_performer_laws.proofs.Common.{is_some, main_from, map, not, number_by_name, number_or_zero, offered}
 use Rattle.sc_back_performer_laws.proofs.Common.{offering, offers, refl, subst, suc, true, ℕ, ◌==◌, ◌∙◌, ◌∷◌, ◌≡◌}
 use Rattle.sc_types_scope.specs.Prelude.{proto_of}
 use Rattle.sc_event.specs.declared.interface.Import.TheVariants as import
@@ -57,7 +57,7 @@ module _ (importer : ℕ) (a b : ImportLine) (alike : IsAlike a b) where
             offered b (offering importer b (suc k) news) ≡ offered a (offering importer a (suc k) olds) →
             offered b (if t then Some (k, new) else offering importer b (suc k) news) ≡
             offered a (if t then Some (k, old) else offering importer a (suc k) olds)
-        by true rest = λ i. import.Function k (number_or_zero (number_of (h.0.exports i) (alike.name i)))
+        by true rest = λ i. import.Function k (number_or_zero (number_by_name (h.0.exports i) (alike.name i)))
         by false rest = rest
 
   pub some_same : (k : ℕ) (olds news : List SectionTree) → AreSeenAs olds news →

@@ -6,8 +6,9 @@ use Rattle.sc_back_performer_laws.proofs.Common.{bytes_eq, callees_of, decls_fro
 use Rattle.sc_back_performer_laws.proofs.Common.{export_holds, exports_from, false, function_names, head_holds, head_of}
 use Rattle.sc_back_performer_laws.proofs.Common.{if◌then◌else◌, import_fits, import_holds, import_named, import_target}
 use Rattle.sc_back_performer_laws.proofs.Common.{imported_agrees, imported_target, imports_from, input_name}
-use Rattle.sc_back_performer_laws.proofs.Common.{is_environment, is_input, is_new, is_offered, is_output, is_plain}
-use Rattle.sc_back_performer_laws.proofs.Common.{list_all, main_holds, not, number_of, offering, output_name}
+use Rattle.sc_back_performer_laws.proofs.Common.{is_environment, is_input_head, is_new, is_offered, is_output_head}
+use Rattle.sc_back_performer_laws.proofs.Common.{is_plain}
+use Rattle.sc_back_performer_laws.proofs.Common.{list_all, main_holds, not, number_by_name, offering, output_name}
 use Rattle.sc_back_performer_laws.proofs.Common.{prefix_empty, proto_names, refl, rule_holds, same_text, subst, sym}
 use Rattle.sc_back_performer_laws.proofs.Common.{target_or, true, typed_section, unless, ℕ, ◌&&◌, ◌++◌, ◌||◌, ◌∙◌, ◌∷◌}
 use Rattle.sc_back_performer_laws.proofs.Common.{◌≡◌}
@@ -43,7 +44,7 @@ module _ (olds news : List SectionTree) (all : AreSeenAs olds news) where
       callees_of news number (moved line tree) ≡ callees_of olds number tree
   callees_same number line tree = λ i. record {
     signature = (callees_of olds number tree).signature;
-    target = λ name. target_or (number_of (function_names tree.decls) name)
+    target = λ name. target_or (number_by_name (function_names tree.decls) name)
         (targets (import_named name tree.imports) i);
   } where
     targets : (found : Option ImportLine) → imported_target news number found ≡ imported_target olds number found
@@ -58,16 +59,16 @@ module _ (olds news : List SectionTree) (all : AreSeenAs olds news) where
   typed_same number line tree = ap (typed_section tree) (callees_same number line tree)
 
   pub types_same : (line : ℕ) (tree : SectionTree) →
-      elab.section_lines (moved line tree) (callees_of news 0 (moved line tree)) ≡
-      elab.section_lines tree (callees_of olds 0 tree)
-  types_same line tree = ap (elab.section_lines tree) (callees_same 0 line tree)
+      elab.section_type_lines (moved line tree) (callees_of news 0 (moved line tree)) ≡
+      elab.section_type_lines tree (callees_of olds 0 tree)
+  types_same line tree = ap (elab.section_type_lines tree) (callees_same 0 line tree)
 
   -- Prototypes of what is imported.
 
   abbrev agrees_by : (olds : List SectionTree) → ℕ → SectionTree → HeadTree → ImportLine → Bool → Bool
   agrees_by all number section head line environs =
-      if environs then (if bytes_eq head.name input_name then is_input head else
-      if bytes_eq head.name output_name then is_output head else true)
+      if environs then (if bytes_eq head.name input_name then is_input_head head else
+      if bytes_eq head.name output_name then is_output_head head else true)
       else agrees_there all number section head (offering number line 0 all)
 
   pub agrees_as_too : (number : ℕ) (old new : SectionTree) (head : HeadTree) (a b : ImportLine) → IsAlike a b →

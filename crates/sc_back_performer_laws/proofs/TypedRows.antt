@@ -3,9 +3,10 @@ use Rattle.sc_back_performer_laws.proofs.Common.{Action, Binary, Callees, Equal,
 use Rattle.sc_back_performer_laws.proofs.Common.{IsPerformer, List, MayDo, None, Option, Param, Proto, Row, Scalar}
 use Rattle.sc_back_performer_laws.proofs.Common.{Some, StmtTree, TypedParam, TypedStmt, TypedStmtKind, Unsigned}
 use Rattle.sc_back_performer_laws.proofs.Common.{Variable, [], action_kind, ap, call_kind, calls_out, counter}
-use Rattle.sc_back_performer_laws.proofs.Common.{counter_is, counter_name, export_at, false, false≢true, found_in}
+use Rattle.sc_back_performer_laws.proofs.Common.{counter_is, counter_name, export_at, false, false≢true, variable_in}
 use Rattle.sc_back_performer_laws.proofs.Common.{going_to_all, imports, input_proto, int_expr, is_function, length, map}
-use Rattle.sc_back_performer_laws.proofs.Common.{option_map_or, or_int, output_proto, params_of, proto_signature, refl}
+use Rattle.sc_back_performer_laws.proofs.Common.{option_map_or, or_int, output_proto, params_called, proto_signature}
+use Rattle.sc_back_performer_laws.proofs.Common.{refl}
 use Rattle.sc_back_performer_laws.proofs.Common.{result_ty, scalar_ty, stmt_at, subst, suc, sym, true, typed}
 use Rattle.sc_back_performer_laws.proofs.Common.{typed_stmt, value_tree, value_trees, waits, word_expr, word_exprs, ℕ}
 use Rattle.sc_back_performer_laws.proofs.Common.{◌==◌, ◌∙◌, ◌∷◌, ◌≡◌}
@@ -52,7 +53,7 @@ abbrev pub HasSignatures : Callees → List (Import × Proto) → Type 0
 HasSignatures callees used = (u : Import × Proto) → IsAmong u used →
     callees.signature u.1.name ≡ Some (proto_signature u.1)
 
-module _ (params : List TypedParam) (absent : found_in Param params counter_name ≡ None) (callees : Callees)
+module _ (params : List TypedParam) (absent : variable_in Param params counter_name ≡ None) (callees : Callees)
     (interfaces : Interfaces) (comp : ℕ) (rows : List Row) (interface : Interface)
     (is : IsPerformer interfaces comp rows interface)
     (signatures : HasSignatures callees (uses interfaces interface.imports)) where
@@ -64,7 +65,8 @@ module _ (params : List TypedParam) (absent : found_in Param params counter_name
       call_at params absent callees (result_ty result) line
       (record { name = f.name; args = value_trees f.params args }) ∙
       ap (λ x. stmt_at line (calls_out (callees.target f.name) x))
-      (ap (λ s. going_to_all (params_of s) (map (typed (visible params absent callees)) (value_trees f.params args)))
+      (ap (λ s. going_to_all (params_called s) (map (typed (visible params absent callees)) (value_trees f.params
+      args)))
       has ∙ typed_values params absent callees f.params args)
 
   typed_cross : (result : Option Scalar) (line to index : ℕ) (args : List ℕ) →

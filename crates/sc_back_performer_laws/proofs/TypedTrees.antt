@@ -3,7 +3,8 @@ use Rattle.sc_back_performer_laws.proofs.Common.{Binary, Bool, CallTree, Callees
 use Rattle.sc_back_performer_laws.proofs.Common.{None, Option, Param, Scalar, Some, StmtTree, Sub, Ty, TypedExpr}
 use Rattle.sc_back_performer_laws.proofs.Common.{TypedParam, TypedStmtKind, Unary, Unsigned, Variable, Visible, [], ap}
 use Rattle.sc_back_performer_laws.proofs.Common.{ap₂, arith, calls_out, counter, counter_is, counter_name, eqb-true}
-use Rattle.sc_back_performer_laws.proofs.Common.{false, found, found_in, going_to, going_to_all, if◌then◌else◌}
+use Rattle.sc_back_performer_laws.proofs.Common.{false, variable_named, variable_in, going_to, going_to_all}
+use Rattle.sc_back_performer_laws.proofs.Common.{if◌then◌else◌}
 use Rattle.sc_back_performer_laws.proofs.Common.{int_expr, least_int, leb-true, literal, map, minus, nat_le, or_else}
 use Rattle.sc_back_performer_laws.proofs.Common.{refl, rules, scalar_ty, stmt_at, true, typed, typed_call, typed_stmt}
 use Rattle.sc_back_performer_laws.proofs.Common.{value_tree, value_trees, waits, word_expr, word_exprs, ℕ, ◌-◌, ◌==◌}
@@ -22,7 +23,7 @@ pub goes : (type : Scalar) (e : TypedExpr) → going_to (scalar_ty type) e ≡ e
 goes Int e = refl
 goes Unsigned e = refl
 
-module _ (params : List TypedParam) (absent : found_in Param params counter_name ≡ None) (callees : Callees) where
+module _ (params : List TypedParam) (absent : variable_in Param params counter_name ≡ None) (callees : Callees) where
   -- what is visible in a function: the counter, and parameters that aren't called so
   abbrev pub visible : Visible
   visible = record {
@@ -34,7 +35,7 @@ module _ (params : List TypedParam) (absent : found_in Param params counter_name
 
   -- Expressions.
 
-  found_counter : found visible counter_name ≡ Some (record { variable = Global 0; ty = ty.Unsigned })
+  found_counter : variable_named visible counter_name ≡ Some (record { variable = Global 0; ty = ty.Unsigned })
   found_counter = ap (λ o. or_else o (Some (record { variable = Global 0; ty = ty.Unsigned }))) absent
 
   pub typed_counter : typed visible (Variable counter_name) ≡ counter

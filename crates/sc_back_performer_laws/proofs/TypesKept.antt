@@ -5,15 +5,17 @@ use Rattle.sc_back_performer_laws.proofs.Common.{IsPerformer, IsUsable, IsWord, 
 use Rattle.sc_back_performer_laws.proofs.Common.{Row, Scalar, SectionTree, Some, StmtTree, Ty, TypedParam, TypesHold}
 use Rattle.sc_back_performer_laws.proofs.Common.{Unsigned, Variable, [], action_kind, ap, ap₂, args_fit, arith}
 use Rattle.sc_back_performer_laws.proofs.Common.{assign_fits, assign_holds, call_holds, call_kind, callees_of, concat}
-use Rattle.sc_back_performer_laws.proofs.Common.{cond_holds, counter_name, decl_lines, export_at, false, false≢true}
-use Rattle.sc_back_performer_laws.proofs.Common.{filter, found_in, goes_into, going_to, going_to_all, imports}
+use Rattle.sc_back_performer_laws.proofs.Common.{cond_holds, counter_name, decl_type_lines, export_at, false}
+use Rattle.sc_back_performer_laws.proofs.Common.{false≢true}
+use Rattle.sc_back_performer_laws.proofs.Common.{filter, variable_in, goes_into, going_to, going_to_all, imports}
 use Rattle.sc_back_performer_laws.proofs.Common.{input_proto, is_function, is_of, is_scalar, is_some, judged, length}
-use Rattle.sc_back_performer_laws.proofs.Common.{literal, map, not, option_map_or, output_proto, params_of, proto_of}
+use Rattle.sc_back_performer_laws.proofs.Common.{literal, map, not, option_map_or, output_proto, params_called}
+use Rattle.sc_back_performer_laws.proofs.Common.{proto_of}
 use Rattle.sc_back_performer_laws.proofs.Common.{proto_signature, recursion_from_All, refl, result_ty}
 use Rattle.sc_back_performer_laws.proofs.Common.{return_value_holds, rules, scalar_ty, suc, true, typed, unless}
 use Rattle.sc_back_performer_laws.proofs.Common.{value_tree, value_trees, ℕ, ◌++◌, ◌<◌, ◌==◌, ◌^◌, ◌∙◌, ◌∷◌, ◌≡◌}
-use Rattle.sc_types_elab_stmt.specs.Prelude.{stmt_lines}
-use Rattle.sc_types_elab.specs.Prelude.{function_lines, section_lines}
+use Rattle.sc_types_elab_stmt.specs.Prelude.{stmt_type_lines}
+use Rattle.sc_types_elab.specs.Prelude.{function_type_lines, section_type_lines}
 use Rattle.sc_event.specs.declared.interface.Import.TheVariants as import
 use Rattle.sc_event.specs.declared.row.Action.TheVariants as action
 use Rattle.sc_ast.specs.declared.expr.ExprTree as exprs
@@ -34,12 +36,12 @@ use Rattle.sc_back_performer_laws.proofs.TypedTrees.{typed_values, typed_word, v
 use Rattle.sc_back_performer_laws.proofs.Uses.{AllFit, AreEntries, are_entries, calls_use, input_use, output_use}
 use Rattle.sc_back_performer_laws.proofs.Uses.{rows_fit}
 
-module _ (params : List TypedParam) (absent : found_in Param params counter_name ≡ None) (types : List Ty)
+module _ (params : List TypedParam) (absent : variable_in Param params counter_name ≡ None) (types : List Ty)
     (callees : Callees) where
   module _ (result : Option Ty) where
     -- the lines of a statement that break a rule
     abbrev lines : StmtTree → List ℕ
-    lines = stmt_lines (visible params absent callees) callees (scope types) result
+    lines = stmt_type_lines (visible params absent callees) callees (scope types) result
 
     if_at : (line : ℕ) (test : ExprTree) (first : List StmtTree) → lines (stmt_at line (stmt.If test first [])) ≡
         unless (cond_holds (visible params absent callees) callees (scope types) result test) line ++
@@ -89,7 +91,7 @@ module _ (params : List TypedParam) (absent : found_in Param params counter_name
     called line args f has many words =
         call_at line (record { name = f.name; args = value_trees f.params args }) ∙
         ap (λ b. unless b line)
-        (ap (λ s. args_fit s (map (judged (scope types)) (going_to_all (params_of s)
+        (ap (λ s. args_fit s (map (judged (scope types)) (going_to_all (params_called s)
         (map (typed (visible params absent callees)) (value_trees f.params args))))) has ∙
         ap (λ es. args_fit (Some (proto_signature f)) (map (judged (scope types)) es))
         (typed_values params absent callees f.params args) ∙ words_go types f.params args many words)
@@ -160,10 +162,11 @@ module _ (interfaces : Interfaces) (comp : ℕ) (rows : List Row) (interface : I
 
   function_none : (entry : Entry) (f : Proto) (line close_line : ℕ) (body : List StmtTree) →
       IsBackBody interfaces f.result (filter (is_of entry) rows) body → proto_of interfaces comp entry ≡ Some f →
-      IsUsable f → function_lines section callees (function_at f line close_line body) ≡ []
+      IsUsable f → function_type_lines section callees (function_at f line close_line body) ≡ []
   function_none entry f line close_line body b named usable =
       let absent = no_counter f.params usable.few in
-      (λ i. concat (map (stmt_lines (visible_is interfaces comp rows interface is section t callees f line close_line
+      (λ i. concat (map (stmt_type_lines (visible_is interfaces comp rows interface is section t callees f line
+      close_line
       body absent i) callees (scope_is interfaces comp rows interface is section t f line close_line body i)
       (result_is interfaces comp rows interface is section t f line close_line body i)) body)) ∙
       body_none (typed_params 0 f.params) absent _ callees interfaces comp rows interface is
@@ -173,22 +176,22 @@ module _ (interfaces : Interfaces) (comp : ℕ) (rows : List Row) (interface : I
   functions_none : (others : List (Entry × Proto)) (trees : List FunctionTree) →
       AreFunctions interfaces rows others trees → AreEntries interfaces comp others →
       AllByRecursion (λ e. IsUsable e.1) others →
-      concat (map (decl_lines section callees) (map decl.Function trees)) ≡ []
+      concat (map (decl_type_lines section callees) (map decl.Function trees)) ≡ []
   functions_none others trees no_functions named usable = refl
   functions_none others trees (and_function entry f more rest line close body b h) named usable =
       ap₂ (λ x y. x ++ y) (function_none entry f line close body b named.0 usable.0)
       (functions_none more rest h named.1 usable.1)
 
   decls_none : (heads : List HeadTree) (line : ℕ) (trees : List FunctionTree) →
-      concat (map (decl_lines section callees) (map decl.Function trees)) ≡ [] →
-      concat (map (decl_lines section callees)
+      concat (map (decl_type_lines section callees) (map decl.Function trees)) ≡ [] →
+      concat (map (decl_type_lines section callees)
       (map decl.Proto heads ++ decl.Global (counter_at line) ∷ map decl.Function trees)) ≡ []
   decls_none [] line trees h = h
   decls_none (x ∷ heads) line trees h = decls_none heads line trees h
 
-  section_none : section_lines section callees ≡ []
+  section_none : section_type_lines section callees ≡ []
   section_none =
-      ap (λ decls. concat (map (decl_lines section callees) decls)) t.decls ∙
+      ap (λ decls. concat (map (decl_type_lines section callees) decls)) t.decls ∙
       decls_none t.heads t.counter_line t.functions
       (functions_none (entries interfaces comp rows interface is) t.functions t.are_functions
       (are_entries interfaces comp rows interface is) (entries_usable interfaces comp rows interface is))

@@ -12,14 +12,14 @@ use Rattle.sc_back_performer_laws.specs.Performer.{FitsRow, IsImportedAs, IsPerf
 abbrev pub NamesHold : Type 0
 NamesHold = (interfaces : Interfaces) (comp : ℕ) (rows : List Row) (interface : Interface) (section : SectionTree) →
     IsPerformer interfaces comp rows interface → SameButLines section (back_tree interfaces comp rows interface) →
-    names.section_lines section ≡ []
+    names.section_name_lines section ≡ []
 
 -- it breaks no rule of types, wherever it stands in a text
 abbrev pub TypesHold : Type 0
 TypesHold = (interfaces : Interfaces) (comp : ℕ) (rows : List Row) (interface : Interface) (section : SectionTree) →
     IsPerformer interfaces comp rows interface → SameButLines section (back_tree interfaces comp rows interface) →
     (sections : List SectionTree) (number : ℕ) →
-    types.section_lines section (callees_of sections number section) ≡ []
+    types.section_type_lines section (callees_of sections number section) ≡ []
 
 -- with its types, its functions perform the rows, each those of its entry, where its imports lead as they should
 abbrev pub RowsPerform : Type 0
@@ -34,7 +34,7 @@ abbrev pub CountsHold : Type 0
 CountsHold = (interfaces : Interfaces) (comp : ℕ) (rows : List Row) (interface : Interface) (section : SectionTree) →
     IsPerformer interfaces comp rows interface → SameButLines section (back_tree interfaces comp rows interface) →
     (sections : List SectionTree) (number : ℕ) →
-    counts.section_lines section (callees_of sections number section) ≡ []
+    counts.section_count_lines section (callees_of sections number section) ≡ []
 
 -- the rows of a part of a legal trace that isn't too long are such as a section can perform
 abbrev pub LegalRowsFit : Type 0

@@ -37,7 +37,8 @@ pub use Rattle.sc_core.specs.Prelude.{main_signature, may_call, next_input, of_b
 pub use Rattle.sc_core.specs.Prelude.{place_named, place_of_export, proto_signature, read_input, roles_in, rounds}
 pub use Rattle.sc_core.specs.Prelude.{rows_left, run_by, run_in, run_step, run_to, same_signature, scripted_meaning}
 pub use Rattle.sc_core.specs.Prelude.{scripted_step, signature_of, stmt_does, stopped_at, store, struct_zeros, test}
-pub use Rattle.sc_core.specs.Prelude.{turn, turn_of, values, variable_at, with_blocks, with_memory, within, word_in}
+pub use Rattle.sc_core.specs.Prelude.{turn, turn_of, values, variable, variable_at, with_blocks, with_memory, within}
+pub use Rattle.sc_core.specs.Prelude.{word_in}
 pub use Rattle.sc_core.specs.declared.cause.Cause.{Cause}
 pub use Rattle.sc_core.specs.declared.expr.CallTarget.{CallTarget}
 pub use Rattle.sc_core.specs.declared.expr.CallTarget.TheVariants.{Cross, Input, Output, Own}

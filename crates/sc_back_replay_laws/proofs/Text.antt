@@ -8,9 +8,9 @@ use Rattle.sc_back_replay_laws.proofs.Common.{action_kind, all_do, and_then, ap,
 use Rattle.sc_back_replay_laws.proofs.Common.{call_statement, calls_out, choose, computed, counter, counter_is, eq-eqb}
 use Rattle.sc_back_replay_laws.proofs.Common.{evaluated, expr, follow, in_order, leave, lines_are, lines_do, map}
 use Rattle.sc_back_replay_laws.proofs.Common.{ne_eqb, of_bool, or_int, params_at, refl, rolls-Binary, rolls-Variable}
-use Rattle.sc_back_replay_laws.proofs.Common.{rounds, row_kind, stmt_at, stmt_does, stmts, store, suc, sym, test, true}
-use Rattle.sc_back_replay_laws.proofs.Common.{turn_of, values, variable_at, waits, way, with_memory, zero, ℕ, ◌++◌}
-use Rattle.sc_back_replay_laws.proofs.Common.{◌==◌, ◌∙◌, ◌∷◌, ◌≡◌}
+use Rattle.sc_back_replay_laws.proofs.Common.{rounds, row_kind, stmt_at, stmt_does, stmts, store, suc, sym, test}
+use Rattle.sc_back_replay_laws.proofs.Common.{turn_of, values, variable, variable_at, waits, way, with_memory, zero, ℕ}
+use Rattle.sc_back_replay_laws.proofs.Common.{◌++◌, ◌==◌, ◌∙◌, ◌∷◌, ◌≡◌}
 use Rattle.sc_base.specs.declared.op.BinaryOp.TheVariants as op
 use Rattle.sc_event.specs.declared.row.Action.TheVariants as act
 use Rattle.sc_core.specs.declared.expr.TypedKind
@@ -92,7 +92,7 @@ waits_is line =
 -- THE COUNTER
 -- the block of `bt_n`
 abbrev pub counting : ℕ → Block
-counting n = record { live = true; cells = cell.Word n ∷ [] }
+counting n = variable (cell.Word n ∷ [])
 
 -- the state in which the counter of a compartment stands so
 abbrev pub counted : ℕ → ℕ → Blocks → State → State

@@ -21,7 +21,7 @@ pub use Rattle.sc_event.specs.declared.interface.Proto.{Proto}
 pub use Rattle.sc_event.specs.declared.interface.Scalar.{Scalar}
 pub use Rattle.sc_event.specs.declared.row.Entry.{Entry}
 pub use Rattle.sc_lex.specs.Prelude.{AreSections, IsCut, IsSection, IsSplit, NoHeading, begins_heading, begins_line}
-pub use Rattle.sc_lex.specs.Prelude.{directive_kind, first_line, is_blank, is_directive, is_export, is_heading}
+pub use Rattle.sc_lex.specs.Prelude.{directive_kind, line_text, is_blank, is_directive, is_export, is_heading}
 pub use Rattle.sc_lex.specs.Prelude.{is_import, is_inside_line, is_pragma, line_at, line_len, mark_kind, marks, name_at}
 pub use Rattle.sc_lex.specs.Prelude.{none, only_name, section}
 pub use Rattle.sc_lex.specs.declared.section.Section.{Section}
@@ -40,7 +40,8 @@ pub use Rattle.sc_ast.specs.declared.section.Decl.{Decl}
 pub use Rattle.sc_ast.specs.declared.section.FunctionTree.{FunctionTree}
 pub use Rattle.sc_ast.specs.declared.section.ImportLine.{ImportLine}
 pub use Rattle.sc_ast.specs.declared.stmt.StmtTree.{StmtTree}
-pub use Rattle.sc_parse_expr.specs.Prelude.{fourth_word, ident_in, import_of, keyword_of, mark_of, most_open, number_in}
+pub use Rattle.sc_parse_expr.specs.Prelude.{fourth_word, ident_in, import_symbol, keyword_of, mark_of, most_open}
+pub use Rattle.sc_parse_expr.specs.Prelude.{number_in}
 pub use Rattle.sc_parse_expr.specs.Prelude.{open_after, open_after_mark, or_unused, symbol_of, third_word}
 pub use Rattle.sc_parse_expr.specs.declared.lexeme.Lexeme.{Lexeme}
 pub use Rattle.sc_parse_expr.specs.declared.lexeme.Symbol.{Symbol}

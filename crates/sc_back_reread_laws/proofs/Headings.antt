@@ -2,7 +2,7 @@
 use Rattle.sc_back_reread_laws.proofs.Common.{Bool, List, [], and_from, and_parts, ap, append-nil, append_assoc, ap₂}
 use Rattle.sc_back_reread_laws.proofs.Common.{arith, begins_heading, begins_line, codes, cond, drop, drop-append-le}
 use Rattle.sc_back_reread_laws.proofs.Common.{drop-append_seam, drop-drop, eq-eqb, eqb-true, false, false≢true}
-use Rattle.sc_back_reread_laws.proofs.Common.{first_line, get_or-drop, get_or_append_left, heading_begins, inl, inr}
+use Rattle.sc_back_reread_laws.proofs.Common.{line_text, get_or-drop, get_or_append_left, heading_begins, inl, inr}
 use Rattle.sc_back_reread_laws.proofs.Common.{is_heading, is_inside_line, length, length-drop, line_len, list_all}
 use Rattle.sc_back_reread_laws.proofs.Common.{ne_eqb, not, refl, slice_index, subst, suc, sym, take, take-append-drop}
 use Rattle.sc_back_reread_laws.proofs.Common.{take-append-le, true, zero, ℕ, ◌&&◌, ◌++◌, ◌+◌, ◌-◌, ◌<◌, ◌==◌, ◌||◌, ◌∙◌}
@@ -195,9 +195,9 @@ line_len_kept (x ∷ y ∷ text) following d l some =
     by false e low = (refl, omega arith)
 
 pub first_line_kept : (text following : List ℕ) → 0 < length text → Ends text following →
-    first_line (text ++ following) ≡ first_line text
+    line_text (text ++ following) ≡ line_text text
 first_line_kept text following some ends = elim ends [
-  | inl none ↦ ap first_line (ap (λ x. text ++ x) none ∙ append-nil text)
+  | inl none ↦ ap line_text (ap (λ x. text ++ x) none ∙ append-nil text)
   | inr newline ↦ let k = line_len_kept text following 10 newline some in
       ap (λ n. take n (text ++ following)) k.0 ∙ take-append-le (line_len text) text following (omega (arith, k.1))
 ]

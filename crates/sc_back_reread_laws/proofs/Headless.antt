@@ -3,7 +3,7 @@ use Rattle.sc_back_reread_laws.proofs.Common.{AllByRecursion, Bool, CanPerform, 
 use Rattle.sc_back_reread_laws.proofs.Common.{IsCalled, IsImported, IsTrue, List, None, Option, Piece, Proto, Row, Some}
 use Rattle.sc_back_reread_laws.proofs.Common.{TokenKind, [], and_from, and_parts, ap, append-nil, append_assoc, arith}
 use Rattle.sc_back_reread_laws.proofs.Common.{begins_heading, begins_line, codes, directive_kind, drop, drop_all}
-use Rattle.sc_back_reread_laws.proofs.Common.{export_text, false, false≢true, filter, first_line, flat_map}
+use Rattle.sc_back_reread_laws.proofs.Common.{export_text, false, false≢true, filter, line_text, flat_map}
 use Rattle.sc_back_reread_laws.proofs.Common.{function_text, functions_text, head_text, heading_begins, heading_is}
 use Rattle.sc_back_reread_laws.proofs.Common.{heading_line_is, if◌then◌else◌, import_text, is_digit, is_directive}
 use Rattle.sc_back_reread_laws.proofs.Common.{is_export, is_heading, is_import, is_inside_line, is_name, is_name_byte}
@@ -15,7 +15,7 @@ use Rattle.sc_back_reread_laws.proofs.Common.{take-append_seam, text_of, true, z
 use Rattle.sc_back_reread_laws.proofs.Common.{◌≡◌, ◌≤◌}
 use Rattle.sc_base.proofs.Lists.{list_all_along}
 use Rattle.sc_event.specs.declared.row.Entry.TheVariants as entry
-unfoldable use Rattle.sc_lex.specs.Prelude.{heading_name, is_mark, kind_of, line_kind, word_kind, words}
+unfoldable use Rattle.sc_lex.specs.Prelude.{heading_name, is_mark, token_kind, line_kind, word_kind, words}
 use Rattle.sc_lex.specs.declared.token.TokenKind.TheVariants as kind
 use Rattle.sc_lex.proofs.Texts.{word_run}
 use Rattle.sc_parse_print_laws.proofs.Spacing.{IsWord}
@@ -68,8 +68,9 @@ mark_plain text h = by (plain text) refl
     by true e = e
     by false e = absurd (false≢true (sym (no_table plain marks text refl e) ∙ h))
 
-kind_plain : (text : List ℕ) (k : TokenKind) → kind_of text ≡ Some k → (is_directive k ≡ true → ⊥) → plain text ≡ true
-unfolding kind_of
+kind_plain : (text : List ℕ) (k : TokenKind) → token_kind text ≡ Some k → (is_directive k ≡ true → ⊥) → plain text ≡
+    true
+unfolding token_kind
 kind_plain text k h never = by (word_kind text) refl h
   where
     pragma : (b : Bool) → (if b then line_kind text else None) ≡ Some k → plain text ≡ true
@@ -89,7 +90,7 @@ kind_plain text k h never = by (word_kind text) refl h
 word_plain : (text rest : List ℕ) → IsWord text rest → plain text ≡ true
 word_plain text rest w =
     let t = w.token false in
-    let spelled : kind_of text ≡ Some w.kind = ap kind_of (sym (take-append_seam text rest)) ∙ t.spelled in
+    let spelled : token_kind text ≡ Some w.kind = ap token_kind (sym (take-append_seam text rest)) ∙ t.spelled in
     kind_plain text w.kind spelled (λ d. false≢true (t.allowed d))
 
 blanks_plain : (n : ℕ) → plain (replicate n 32) ≡ true
@@ -185,7 +186,7 @@ module _ (name following : List ℕ) where
     whole (suc at) low h = tail_headless at
         (and_parts (begins_line headed (suc at)) (begins_heading (drop (suc at) headed)) h).1
 
-    first_is : first_line headed ≡ mark ++ name
+    first_is : line_text headed ≡ mark ++ name
     first_is =
         let line : List ℕ = mark ++ name in
         let long = run_is is_inside_line line (10 ∷ following) (heading_line_is name named).inside refl in

@@ -1,6 +1,6 @@
 -- Joined texts of sections are split into them.
 use Rattle.sc_back_reread_laws.proofs.Common.{AreSections, IsSection, IsSplit, List, Section, [], ap, append-nil}
-use Rattle.sc_back_reread_laws.proofs.Common.{append_assoc, ap₂, arith, concat, drop, drop-append_seam, first_line, inl}
+use Rattle.sc_back_reread_laws.proofs.Common.{append_assoc, ap₂, arith, concat, drop, drop-append_seam, line_text, inl}
 use Rattle.sc_back_reread_laws.proofs.Common.{inr, is_heading, length, length-append, line_at, map, none, refl, section}
 use Rattle.sc_back_reread_laws.proofs.Common.{subst, sym, take, take-append-drop, take-append_seam, true, ℕ, ◌++◌, ◌+◌}
 use Rattle.sc_back_reread_laws.proofs.Common.{◌-◌, ◌∙◌, ◌∷◌, ◌≡◌, ◌⊎◌}
@@ -40,7 +40,7 @@ module _ (prefix u following : List ℕ) (t : IsText u) (newline : last 10 prefi
       let size : length (prefix ++ u) - length prefix ≡ length u = omega (arith, long) in
       record {
         heading = heading_first prefix (u ++ following) newline (begins_outside u following t.begins);
-        name = ap (λ b. heading_name (first_line b)) seam ∙
+        name = ap (λ b. heading_name (line_text b)) seam ∙
             ap heading_name (first_line_kept u following some ends) ∙ t.named;
         start = refl;
         line = refl;

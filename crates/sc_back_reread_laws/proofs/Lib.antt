@@ -13,4 +13,5 @@ pub mod Joining
 pub mod Headless
 pub mod Replaced
 pub mod Names
+pub mod Sizes
 mod Examples

@@ -4,7 +4,8 @@ use Rattle.sc_back_reread_laws.proofs.Common.{Grouped, ImportLine, IsRead, IsTru
 use Rattle.sc_back_reread_laws.proofs.Common.{SectionTree, Some, SpellsDecl, SpellsDirectives, SpellsFunction}
 use Rattle.sc_back_reread_laws.proofs.Common.{SpellsHead, SpellsSection, Symbol, TextPart, Token, TokenKind, []}
 use Rattle.sc_back_reread_laws.proofs.Common.{and_from, ap, begins_heading, drop, false, fourth_word, get_or, head_of}
-use Rattle.sc_back_reread_laws.proofs.Common.{ident_in, ident_of, if◌then◌else◌, import_of, is_blank, is_ident, is_name}
+use Rattle.sc_back_reread_laws.proofs.Common.{ident_in, ident_of, if◌then◌else◌, import_symbol, is_blank, is_ident}
+use Rattle.sc_back_reread_laws.proofs.Common.{is_name}
 use Rattle.sc_back_reread_laws.proofs.Common.{is_reserved, keyword_of, lexemes_of, map, mark_of, name_of, not}
 use Rattle.sc_back_reread_laws.proofs.Common.{number_in, only_name, option_and_then, option_map, or_unused, refl}
 use Rattle.sc_back_reread_laws.proofs.Common.{slice_index, slice_range, subst, third_word, true, ℕ, ◌&&◌, ◌++◌, ◌∷◌}
@@ -84,7 +85,7 @@ good_export None h = tt
 good_export (Some name) h = h name refl
 
 good_import : (o p : Option (List ℕ)) → ((name : List ℕ) → o ≡ Some name → is_name name ≡ true) →
-    ((name : List ℕ) → p ≡ Some name → is_name name ≡ true) → Good (or_unused (import_of o p))
+    ((name : List ℕ) → p ≡ Some name → is_name name ≡ true) → Good (or_unused (import_symbol o p))
 good_import None p h k = tt
 good_import (Some comp) None h k = tt
 good_import (Some comp) (Some name) h k = (h comp refl, k name refl)

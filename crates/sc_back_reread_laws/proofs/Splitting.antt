@@ -1,7 +1,7 @@
 -- Texts of sections, joined and split.
 use Rattle.sc_back_reread_laws.proofs.Common.{AreSections, IsSection, IsTrue, List, NoHeading, Section, Some, [], ap}
 use Rattle.sc_back_reread_laws.proofs.Common.{append_assoc, ap₂, arith, begins_heading, drop, drop-append_seam}
-use Rattle.sc_back_reread_laws.proofs.Common.{drop-drop, drop_all, first_line, inl, inr, is_heading, length}
+use Rattle.sc_back_reread_laws.proofs.Common.{drop-drop, drop_all, line_text, inl, inr, is_heading, length}
 use Rattle.sc_back_reread_laws.proofs.Common.{length-append, length-drop, length-take-le, map, name_at, none, refl}
 use Rattle.sc_back_reread_laws.proofs.Common.{section, slice_range, sym, take, take-append-drop, true, ℕ, ◌++◌, ◌+◌}
 use Rattle.sc_back_reread_laws.proofs.Common.{◌-◌, ◌<◌, ◌∙◌, ◌∷◌, ◌≡◌, ◌≤◌, ◌⊎◌}
@@ -14,7 +14,7 @@ use Rattle.sc_back_reread_laws.proofs.Headings.{mark, to_begins}
 pub record IsText (text : List ℕ) : Type 0 where
   pub begins : begins_heading text ≡ true
   pub name : List ℕ
-  pub named : heading_name (first_line text) ≡ Some name
+  pub named : heading_name (line_text text) ≡ Some name
   pub whole : NoHeading text 1 (length text)
 
 pub some_bytes : (text : List ℕ) → begins_heading text ≡ true → 0 < length text
@@ -47,7 +47,7 @@ module _ (prefix u following : List ℕ) where
         begins = begins_inside u following some ends (heading_begins_after prefix (u ++ following) heading);
         name = name;
         named = ap heading_name (sym (first_line_kept u following some ends)) ∙
-            ap (λ b. heading_name (first_line b)) (sym seam) ∙ named;
+            ap (λ b. heading_name (line_text b)) (sym seam) ∙ named;
         whole = λ at low high is. whole at low high
             (heading_after prefix (u ++ following) at low ∙ heading_outside u following at high is);
       }

@@ -9,5 +9,6 @@ pub use Rattle.std.proofs.lemmas.Bool.{and_from, and_parts, cases_lt}
 pub use Rattle.std.proofs.lemmas.List.{drop-replicate, take_more}
 pub use Rattle.std.specs.Cmp.Lexicographic.{pointwise, same_text}
 pub use Rattle.std.specs.List.{find, list_all, list_any, position_from, position_or_len}
-pub use Rattle.sc_base.specs.Prelude.{HasPlaces, IsFilled, filled, first_by_name, is_numbered, number_of, zeros_after}
+pub use Rattle.sc_base.specs.Prelude.{HasPlaces, IsFilled, filled, first_by_name, is_numbered, number_by_name}
+pub use Rattle.sc_base.specs.Prelude.{zeros_after}
 unfoldable pub use Rattle.sc_base.specs.Prelude.{is_name}

@@ -1,7 +1,7 @@
 -- Identifiers (C11 6.4.2.1).
 use Rattle.sc_base.specs.Limits.{most_name_bytes}
 use Rattle.std.specs.Prelude.{ℕ, Bool, false, ◌&&◌, ◌||◌, ◌==◌, nat_le, nat_lt, List, [], ◌∷◌, length, Option, Some}
-use Rattle.std.specs.Prelude.{None, if◌then◌else◌}
+use Rattle.std.specs.Prelude.{None, if◌then◌else◌, codes}
 use Rattle.std.specs.List.{list_all}
 
 -- a byte of the range, both ends included
@@ -24,6 +24,10 @@ is_name_byte byte = is_nondigit byte || is_digit byte
 unfoldable pub is_name : List ℕ → Bool
 is_name [] = false
 is_name (first ∷ rest) = is_nondigit first && (list_all is_name_byte rest && nat_lt (length rest) most_name_bytes)
+
+-- the function in which a run starts (C11 5.1.2.2.1)
+abbrev pub main_name : List ℕ
+main_name = codes "main"
 
 -- the text as a name, if it is one
 abbrev pub name_of : List ℕ → Option (List ℕ)

@@ -8,8 +8,8 @@ abbrev pub is_numbered : List (List ℕ) → List ℕ → Bool
 is_numbered names name = list_any (pointwise ◌==◌ name) names
 
 -- its number, if it has one
-abbrev pub number_of : List (List ℕ) → List ℕ → Option ℕ
-number_of names name = position (pointwise ◌==◌ name) names
+abbrev pub number_by_name : List (List ℕ) → List ℕ → Option ℕ
+number_by_name names name = position (pointwise ◌==◌ name) names
 
 -- the number that a name gets, if it is new
 abbrev pub next_number : List (List ℕ) → List ℕ → Option ℕ

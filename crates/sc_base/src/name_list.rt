@@ -1,5 +1,5 @@
 ghost use Rattle.std.specs.Prelude.{◌≡◌, ℕ, List, [], ◌∷◌, ◌++◌, length, OnOk, OnErr};
-ghost use Rattle.sc_base.specs.Numbering.{is_numbered, number_of};
+ghost use Rattle.sc_base.specs.Numbering.{is_numbered, number_by_name};
 ghost use Rattle.sc_base.specs.Places.{HasPlaces};
 
 use crate::{Name, OutOfMemory};
@@ -65,7 +65,7 @@ impl NameList {
 
     /// The first place of the name, counted from 0, `None` where it isn't there.
     pub fn number_of(&self, name: &Name) -> Option<u32>
-        ensures { result ≡ number_of self.now name.now }
+        ensures { result ≡ number_by_name self.now name.now }
     {
         self.places.get(name).copied()
     }

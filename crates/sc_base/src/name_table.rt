@@ -1,5 +1,5 @@
 ghost use Rattle.std.specs.Prelude.{◌≡◌, [], ◌<◌, length, IfOk, OnOk, OnErr};
-ghost use Rattle.sc_base.specs.Numbering.{is_numbered, number_of, next_number, numbered, HasOneNumberEach};
+ghost use Rattle.sc_base.specs.Numbering.{is_numbered, number_by_name, next_number, numbered, HasOneNumberEach};
 
 use crate::{Name, OutOfMemory};
 use indexmap::IndexSet;
@@ -59,7 +59,7 @@ impl NameTable {
 
     /// The number of a name, `None` where it isn't there.
     pub fn number_of(&self, name: &Name) -> Option<u32>
-        ensures number { result ≡ number_of self.now name.now }
+        ensures number { result ≡ number_by_name self.now name.now }
         ensures once { HasOneNumberEach self.now }
     {
         let number = self.names.get_index_of(name)?;

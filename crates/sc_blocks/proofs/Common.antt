@@ -7,9 +7,9 @@ pub use Rattle.std.proofs.Common.{◌++◌, ◌+◌, ◌-◌, ◌<◌, ◌==◌,
 pub use Rattle.std.proofs.lemmas.Bool.{cases_lt, eqb-false}
 pub use Rattle.std.proofs.lemmas.List.Sorted.{answers_always, searchable_from_sorted}
 pub use Rattle.std.specs.List.{HoldsAt, remove_range}
-pub use Rattle.sc_core.specs.Prelude.{Block, Blocks, Memory, bind, live_cells, with_blocks}
+pub use Rattle.sc_core.specs.Prelude.{Block, Blocks, Memory, bind, live_cells, living, variable, with_blocks}
 pub use Rattle.sc_core.specs.declared.value.Cell.{Cell}
 pub use Rattle.sc_blocks.specs.Cells.{block_of, stored_in}
-pub use Rattle.sc_blocks.specs.Rows.{cause_of, cleared, given_back, living, memory_of, put_in, store_cell}
+pub use Rattle.sc_blocks.specs.Rows.{cause_of, cleared, given_back, memory_of, put_in, store_cell}
 pub use Rattle.sc_blocks.specs.Slots.{IsOver, IsRising, cells_among, count_below, laid_out, without}
 pub use Rattle.sc_blocks.specs.declared.slots.Slot.{Slot}

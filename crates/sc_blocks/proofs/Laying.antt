@@ -1,8 +1,8 @@
 -- A row of blocks, by what is found at each number.
 use Rattle.sc_blocks.proofs.Common.{Bool, Cell, IsOver, List, None, Option, Some, [], ap, arith, block_of, cleared}
-use Rattle.sc_blocks.proofs.Common.{false, given_back, inl, inr, laid_out, leb-false, leb-true, length, living, nat_le}
-use Rattle.sc_blocks.proofs.Common.{refl, slice_get, slice_set, suc, sym, true, zero, ℕ, ◌++◌, ◌+◌, ◌<◌, ◌∙◌, ◌∷◌, ◌≡◌}
-use Rattle.sc_blocks.proofs.Common.{◌≤◌}
+use Rattle.sc_blocks.proofs.Common.{false, given_back, inl, inr, laid_out, leb-false, leb-true, length, nat_le, refl}
+use Rattle.sc_blocks.proofs.Common.{slice_get, slice_set, suc, sym, true, variable, zero, ℕ, ◌++◌, ◌+◌, ◌<◌, ◌∙◌, ◌∷◌}
+use Rattle.sc_blocks.proofs.Common.{◌≡◌, ◌≤◌}
 use Rattle.std.proofs.lemmas.Option.{slice_get_past}
 
 abbrev Found : Type 0
@@ -20,7 +20,7 @@ get_laid f (suc count) from zero n h is =
 get_laid f (suc count) from (suc at) n h is = get_laid f count _ at n (omega (arith, h)) (omega (arith, is))
 
 pub lives_at : (f : Found) (made n : ℕ) (cells : List Cell) → n < made → f n ≡ Some cells →
-    slice_get (laid_out f made 0) n ≡ Some (living cells)
+    slice_get (laid_out f made 0) n ≡ Some (variable cells)
 lives_at f made n cells h is = get_laid f made 0 n n h (omega arith) ∙ ap (λ o. Some (block_of o)) is
 
 pub over_at : (f : Found) (made n : ℕ) → f n ≡ None → IsOver (slice_get (laid_out f made 0) n)
@@ -41,7 +41,7 @@ same_laid f g (suc count) from same = (λ i. block_of (same from (omega arith) (
 
 -- one block more
 pub push_laid : (f g : Found) (count from at : ℕ) (cells : List Cell) → at ≡ from + count → f at ≡ Some cells →
-    ((n : ℕ) → n < at → f n ≡ g n) → laid_out f (suc count) from ≡ laid_out g count from ++ living cells ∷ []
+    ((n : ℕ) → n < at → f n ≡ g n) → laid_out f (suc count) from ≡ laid_out g count from ++ variable cells ∷ []
 push_laid f g zero from at cells is new same =
     let here : from ≡ at = omega (arith, is) in ap (λ m. block_of (f m) ∷ []) here ∙ ap (λ o. block_of o ∷ []) new
 push_laid f g (suc count) from at cells is new same = (λ i. block_of (same from (omega (arith, is)) i) ∷ push_laid f g
@@ -49,7 +49,7 @@ push_laid f g (suc count) from at cells is new same = (λ i. block_of (same from
 
 -- other cells at a number
 pub set_laid : (f g : Found) (count from at n : ℕ) (cells : List Cell) → n ≡ from + at → at < count → g n ≡ Some cells →
-    ((m : ℕ) → (m ≡ n → ⊥) → g m ≡ f m) → slice_set (laid_out f count from) at (living cells) ≡ laid_out g count from
+    ((m : ℕ) → (m ≡ n → ⊥) → g m ≡ f m) → slice_set (laid_out f count from) at (variable cells) ≡ laid_out g count from
 set_laid f g zero from at n cells is h new same = absurd (omega (arith, h))
 set_laid f g (suc count) from zero n cells is h new same =
     let here : n ≡ from = omega (arith, is) in

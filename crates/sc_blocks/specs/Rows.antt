@@ -1,5 +1,5 @@
 -- Rows of blocks as a memory, and loads and stores of single cells (C11 6.2.4, 6.5.3.2, 6.5.6).
-use Rattle.sc_core.specs.Prelude.{Block, Blocks, Memory, bind, cells_at, ended, is_live}
+use Rattle.sc_core.specs.Prelude.{Block, Blocks, Memory, bind, cells_at, ended, is_live, living}
 use Rattle.std.specs.Prelude.{ℕ, Bool, true, false, if◌then◌else◌, nat_lt, List, [], length, map, Option, None, Some}
 use Rattle.std.specs.Prelude.{Result, Ok, Err, slice_get, slice_set, slice_index_or}
 use Rattle.sc_core.specs.declared.cause.Cause.{Cause}
@@ -24,13 +24,9 @@ abbrev pub or_cause : {A : Type 0} → Result A BlockFault → Result A Cause
 or_cause (Ok x) = Ok x
 or_cause (Err fault) = Err (cause_of fault)
 
--- a block that lives, with these cells
-abbrev pub living : List Cell → Block
-living cells = record { live = true; cells = cells }
-
--- a block that has ended: it keeps its number, and gives its cells back
+-- a variable that has ended: it keeps its number, and gives its cells back
 abbrev pub ended_block : Block
-ended_block = record { live = false; cells = [] }
+ended_block = record { live = false; cells = []; place = None }
 
 -- a block that has ended gives its cells back
 abbrev pub given_back : Block → Block
@@ -66,8 +62,8 @@ put_in cells index cell = if nat_lt index (length cells) then Ok (slice_set cell
 -- the blocks once a place holds this cell
 abbrev pub store_cell : Blocks → Cell → Cell → Result Blocks Cause
 store_cell blocks (Ptr p) cell =
-    bind (cells_at blocks p.block) (λ cells. bind (put_in cells p.index cell)
-    (λ cells. Ok (slice_set blocks p.block (living cells))))
+    bind (living (slice_get blocks p.block)) (λ block. bind (put_in block.cells p.index cell)
+    (λ cells. Ok (slice_set blocks p.block (record block { cells = cells }))))
 store_cell blocks _ cell = Err cause.NullUse
 
 -- how many cells a block has, if it lives

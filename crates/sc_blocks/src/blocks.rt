@@ -1,8 +1,8 @@
 ghost use Rattle.std.specs.Prelude.{◌≡◌, ◌<◌, ◌^◌, ℕ, [], ◌∷◌, ◌++◌, length, replicate, IfOk, IfSome, OnOk, OnErr, Ok};
 ghost use Rattle.std.specs.Prelude.{Err, MatchResult, IsTrue, slice_get};
 ghost use Rattle.sc_core.specs.declared.value.Cell.TheVariants.{Undef};
-ghost use Rattle.sc_core.specs.Memory.{with_blocks};
-ghost use Rattle.sc_blocks.specs.Rows.{memory_of, or_cause, cause_of, living, cleared, is_place, load_cell, store_cell};
+ghost use Rattle.sc_core.specs.Memory.{variable, with_blocks};
+ghost use Rattle.sc_blocks.specs.Rows.{memory_of, or_cause, cause_of, cleared, is_place, load_cell, store_cell};
 ghost use Rattle.sc_blocks.specs.Rows.{cell_count};
 
 use crate::BlockFault;
@@ -65,7 +65,7 @@ impl Blocks {
     fn add(&mut self, comp: CompId, cells: Cells) -> Result<u64, OutOfMemory>
         ensures number { IfOk result (λ number. number ≡ length (memory_of self.old comp)) }
         ensures made { OnOk result (memory_of self.new ≡
-            with_blocks comp (memory_of self.old comp ++ living cells ∷ []) (memory_of self.old)) }
+            with_blocks comp (memory_of self.old comp ++ variable cells ∷ []) (memory_of self.old)) }
         ensures err { OnErr result (memory_of self.new ≡ memory_of self.old) }
     {
         self.make_row(comp)?;
@@ -80,7 +80,7 @@ impl Blocks {
         requires { length cells.now < 2 ^ 32 }
         ensures number { IfOk result (λ number. number ≡ length (memory_of self.old comp)) }
         ensures made { OnOk result (memory_of self.new ≡
-            with_blocks comp (memory_of self.old comp ++ living cells.now ∷ []) (memory_of self.old)) }
+            with_blocks comp (memory_of self.old comp ++ variable cells.now ∷ []) (memory_of self.old)) }
         ensures err { OnErr result (memory_of self.new ≡ memory_of self.old) }
     {
         let cells = Cells::copied(self.alloc, cells)?;
@@ -91,7 +91,7 @@ impl Blocks {
     pub fn new_blank(&mut self, comp: CompId, count: u32) -> Result<u64, OutOfMemory>
         ensures number { IfOk result (λ number. number ≡ length (memory_of self.old comp)) }
         ensures made { OnOk result (memory_of self.new ≡
-            with_blocks comp (memory_of self.old comp ++ living (replicate count Undef) ∷ []) (memory_of self.old)) }
+            with_blocks comp (memory_of self.old comp ++ variable (replicate count Undef) ∷ []) (memory_of self.old)) }
         ensures err { OnErr result (memory_of self.new ≡ memory_of self.old) }
     {
         let cells = Cells::blank(self.alloc, count)?;

@@ -2,8 +2,8 @@ ghost use Rattle.std.specs.Prelude.{◌≡◌, [], ◌∷◌, ◌++◌, length, 
 ghost use Rattle.std.specs.Prelude.{Some, slice_get};
 ghost use Rattle.std.specs.Option.{option_copied};
 ghost use Rattle.sc_core.specs.declared.value.Cell.TheVariants.{Ptr, Word};
-ghost use Rattle.sc_core.specs.Memory.{is_live, cells_at};
-ghost use Rattle.sc_blocks.specs.Rows.{or_cause, cause_of, living, cleared, read_cell, load_cell, store_cell};
+ghost use Rattle.sc_core.specs.Memory.{is_live, cells_at, variable};
+ghost use Rattle.sc_blocks.specs.Rows.{or_cause, cause_of, cleared, read_cell, load_cell, store_cell};
 ghost use Rattle.sc_blocks.specs.Rows.{cell_count};
 ghost use Rattle.sc_blocks.specs.Slots.{IsOver};
 
@@ -53,7 +53,7 @@ impl Row {
 
     /// One more block, with these cells.
     pub fn push(&mut self, cells: Cells) -> Result<(), AllocError>
-        ensures ok { OnOk result (self.new ≡ self.old ++ living cells ∷ []) }
+        ensures ok { OnOk result (self.new ≡ self.old ++ variable cells ∷ []) }
         ensures err { OnErr result (self.new ≡ self.old) }
     {
         if self.made == usize::MAX {
@@ -78,7 +78,7 @@ impl Row {
     #[inline(always)]
     fn living(&self, block: usize) -> Option<&Cells>
         ensures { MatchOption result (IsOver (slice_get self.now block))
-            (λ cells. slice_get self.now block ≡ Some (living cells.now)) }
+            (λ cells. slice_get self.now block ≡ Some (variable cells.now)) }
     {
         match place_of(self.slots.as_slice(), block) {
             Some(place) => Some(&self.slots[place].cells),

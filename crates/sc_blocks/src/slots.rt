@@ -2,7 +2,8 @@ ghost use Rattle.std.specs.Prelude.{◌≡◌, ◌<◌, ◌≤◌, ℕ, length, 
 ghost use Rattle.std.specs.Prelude.{Ok, Err, None};
 ghost use Rattle.std.specs.List.{HoldsAt, remove_range};
 ghost use Rattle.sc_blocks.specs.Cells.{stored_in};
-ghost use Rattle.sc_blocks.specs.Rows.{cause_of, living};
+ghost use Rattle.sc_blocks.specs.Rows.{cause_of};
+ghost use Rattle.sc_core.specs.Memory.{variable};
 ghost use Rattle.sc_blocks.specs.Slots.{IsRising, cells_among, count_below};
 
 use crate::BlockFault;
@@ -94,8 +95,8 @@ pub(crate) fn remove(slots: &mut Vec<Slot>, from: usize, to: usize)
 /// Puts a cell into a block.
 pub(crate) fn put(slot: &mut Slot, index: u32, cell: Cell) -> Result<(), BlockFault>
     ensures value { MatchResult result
-        (λ _. stored_in (living slot.old.cells) index cell ≡ Ok (living slot.new.cells))
-        (λ fault. stored_in (living slot.old.cells) index cell ≡ Err (cause_of fault)) }
+        (λ _. stored_in (variable slot.old.cells) index cell ≡ Ok (variable slot.new.cells))
+        (λ fault. stored_in (variable slot.old.cells) index cell ≡ Err (cause_of fault)) }
     ensures number { slot.new.number ≡ slot.old.number }
     ensures err { OnErr result (slot.new ≡ slot.old) }
 {

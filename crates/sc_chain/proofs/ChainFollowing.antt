@@ -1,11 +1,11 @@
 -- How the chain of a trace is followed, link by link, from the run in which nobody performs on.
 use Rattle.sc_chain.proofs.Common.{All, All-push, Blamed, Bool, Cause, Event, IsBlamedOutside, IsLink, IsNextLink}
-use Rattle.sc_chain.proofs.Common.{IsRising, Link, List, Set, SourceParts, SourceRun, [], among, ap, append-nil}
+use Rattle.sc_chain.proofs.Common.{IsRising, Link, List, CompSet, SourceParts, SourceRun, [], is_listed, ap, append-nil}
 use Rattle.sc_chain.proofs.Common.{append_assoc, arith, blamed_are_there, c_arith, cases_eq, chain_exists, chains_rise}
 use Rattle.sc_chain.proofs.Common.{empty_set, eq-eqb, false, length, length-append, length-map, map, map-append}
 use Rattle.sc_chain.proofs.Common.{meaning, ne_eqb, nobody, performed, performing_text, subst, suc, sym, true, with, ℕ}
 use Rattle.sc_chain.proofs.Common.{⊎_elim, ◌++◌, ◌+◌, ◌-◌, ◌<◌, ◌==◌, ◌||◌, ◌∙◌, ◌∷◌, ◌≡◌, ◌≤◌, ◌⊎◌}
-use Rattle.sc_core_laws.specs.Prelude.{IsChain, Link as Blame}
+use Rattle.sc_core_laws.specs.Prelude.{IsBlameChain, BlameLink as Blame}
 use Rattle.std.proofs.lemmas.List.Folds.{list_any-append}
 
 -- SETS
@@ -21,15 +21,15 @@ or_swapped false true c is = ap (λ d. d || false) is
 or_swapped false false c is = ap (λ d. d || false) is
 
 -- one compartment more, at the end of the list or at its head
-pub among_more : (comps : List ℕ) (comp : ℕ) → among (comps ++ comp ∷ []) ≡ with comp (among comps)
+pub among_more : (comps : List ℕ) (comp : ℕ) → is_listed (comps ++ comp ∷ []) ≡ with comp (is_listed comps)
 among_more comps comp = λ i. λ one. at one i where
-  at : (one : ℕ) → among (comps ++ comp ∷ []) one ≡ with comp (among comps) one
+  at : (one : ℕ) → is_listed (comps ++ comp ∷ []) one ≡ with comp (is_listed comps) one
   at one =
       list_any-append (λ c. c == one) comps (comp ∷ []) ∙
-      or_swapped (among comps one) (comp == one) (one == comp) (same_swapped comp one)
+      or_swapped (is_listed comps one) (comp == one) (one == comp) (same_swapped comp one)
 
-pub among_also : (comps : List ℕ) (comp : ℕ) → among (comp ∷ comps) ≡ with comp (among comps)
-among_also comps comp = λ i. λ one. ap (λ b. b || among comps one) (same_swapped comp one) i
+pub among_also : (comps : List ℕ) (comp : ℕ) → is_listed (comp ∷ comps) ≡ with comp (is_listed comps)
+among_also comps comp = λ i. λ one. ap (λ b. b || is_listed comps one) (same_swapped comp one) i
 
 -- LINKS
 -- what a link says of a blame
@@ -47,7 +47,7 @@ same_blame comp comp' cause cause' line line' is = record { same_comp = cc; same
 
 module _ (source : SourceParts) (inputs : List ℕ) (steps : ℕ) (trace : List Event) where
   -- the runs in which sets perform their parts of the trace
-  abbrev pub runs : Set → SourceRun
+  abbrev pub runs : CompSet → SourceRun
   runs = performed c_arith source.program inputs steps trace
 
   abbrev pub count : ℕ
@@ -58,24 +58,24 @@ module _ (source : SourceParts) (inputs : List ℕ) (steps : ℕ) (trace : List 
 
   -- the links are a whole chain
   pub record IsFound (links : List Link) : Type 0 where
-    pub chain : IsChain runs trace nobody (map blame_of links)
+    pub chain : IsBlameChain runs trace nobody (map blame_of links)
     pub few : length links ≤ count
     pub texts : All Performs links
 
   -- the links are those of a chain up to here, and this is the run in which their compartments perform
   pub record IsAt (run : SourceRun) (links : List Link) (comps : List ℕ) : Type 0 where
     pub rest : List Blame
-    pub whole : IsChain runs trace nobody (map blame_of links ++ rest)
+    pub whole : IsBlameChain runs trace nobody (map blame_of links ++ rest)
     pub few : length (map blame_of links ++ rest) ≤ count
-    pub same : run ≡ runs (among comps)
-    pub chain : IsChain runs trace (among comps) rest
+    pub same : run ≡ runs (is_listed comps)
+    pub chain : IsBlameChain runs trace (is_listed comps) rest
     pub least : ℕ
     pub rising : IsRising least (length trace) rest
     pub texts : All Performs links
     pub known : All (λ comp. comp < count) comps
 
   pub begins : length source.program.interfaces.comps ≡ length source.program.sections →
-      ((set : Set) → ((runs set).trace ≡ trace) ⊎
+      ((set : CompSet) → ((runs set).trace ≡ trace) ⊎
       IsBlamedOutside (length source.program.sections) set (runs set) trace) → (run : SourceRun) →
       run ≡ meaning source.program inputs steps (length trace) → IsAt run [] []
   begins as_many each run is =
@@ -97,7 +97,7 @@ module _ (source : SourceParts) (inputs : List ℕ) (steps : ℕ) (trace : List 
 
   module _ (run : SourceRun) (links : List Link) (comps : List ℕ) where
     -- the next link of the chain is that of the blame
-    next_is : (set : Set) (link : Link) (blame : Blame) → IsNextLink source.program.interfaces trace run link →
+    next_is : (set : CompSet) (link : Link) (blame : Blame) → IsNextLink source.program.interfaces trace run link →
         run ≡ runs set →
         IsLink (runs set) trace blame → blame ≡ blame_of link
     next_is set link blame next same is =
@@ -120,26 +120,28 @@ module _ (source : SourceParts) (inputs : List ℕ) (steps : ℕ) (trace : List 
 
     pub goes_on : length source.program.interfaces.comps ≡ length source.program.sections → IsAt run links comps →
         (link : Link) → IsNextLink source.program.interfaces trace run link → (later : SourceRun) →
-        later ≡ runs (among (comps ++ link.comp ∷ [])) → IsAt later (links ++ link ∷ []) (comps ++ link.comp ∷ [])
+        later ≡ runs (is_listed (comps ++ link.comp ∷ [])) → IsAt later (links ++ link ∷ []) (comps ++ link.comp ∷ [])
     goes_on as_many at link next later later_is = by at.rest at.whole at.few at.chain at.rising where
-      by : (rest : List Blame) → IsChain runs trace nobody (map blame_of links ++ rest) →
-          length (map blame_of links ++ rest) ≤ count → IsChain runs trace (among comps) rest →
+      by : (rest : List Blame) → IsBlameChain runs trace nobody (map blame_of links ++ rest) →
+          length (map blame_of links ++ rest) ≤ count → IsBlameChain runs trace (is_listed comps) rest →
           IsRising at.least (length trace) rest → IsAt later (links ++ link ∷ []) (comps ++ link.comp ∷ [])
       by [] whole few is_trace rising =
           let here : length run.trace ≡ length trace = ap (λ r. length r.trace) at.same ∙ ap length is_trace in
           absurd (omega (arith, here, next.after, next.proper))
       by (blame ∷ rest) whole few chain rising =
-          let is : blame ≡ blame_of link = next_is (among comps) link blame next at.same chain.0 in
-          let there = blamed_are_there.programs c_arith source.program (among comps) trace inputs steps (length trace)
+          let is : blame ≡ blame_of link = next_is (is_listed comps) link blame next at.same chain.0 in
+          let there = blamed_are_there.programs c_arith source.program (is_listed comps) trace inputs steps (length
+          trace)
           link.comp link.cause link.line (ap (λ r. r.end) (sym at.same) ∙ next.blamed) in
           record {
             rest = rest;
-            whole = subst (λ blames. IsChain runs trace nobody blames) (ap (λ b. map blame_of links ++ b ∷ rest) is ∙
+            whole = subst (λ blames. IsBlameChain runs trace nobody blames) (ap (λ b. map blame_of links ++ b ∷ rest) is
+                ∙
                 sym (one_more link rest)) whole;
             few = subst (λ blames. length blames ≤ count) (ap (λ b. map blame_of links ++ b ∷ rest) is ∙
                 sym (one_more link rest)) few;
             same = later_is;
-            chain = subst (λ set. IsChain runs trace set rest) (ap (λ b. with b.comp (among comps)) is ∙
+            chain = subst (λ set. IsBlameChain runs trace set rest) (ap (λ b. with b.comp (is_listed comps)) is ∙
                 sym (among_more comps link.comp)) chain.1;
             least = suc blame.after;
             rising = rising.2;
@@ -150,12 +152,12 @@ module _ (source : SourceParts) (inputs : List ℕ) (steps : ℕ) (trace : List 
     pub ends : IsAt run links comps → ((comp : ℕ) (cause : Cause) (line : ℕ) → run.end ≡ Blamed comp cause line →
         length trace ≤ length run.trace) → IsFound links
     ends at over = by at.rest at.whole at.few at.chain at.rising where
-      by : (rest : List Blame) → IsChain runs trace nobody (map blame_of links ++ rest) →
-          length (map blame_of links ++ rest) ≤ count → IsChain runs trace (among comps) rest →
+      by : (rest : List Blame) → IsBlameChain runs trace nobody (map blame_of links ++ rest) →
+          length (map blame_of links ++ rest) ≤ count → IsBlameChain runs trace (is_listed comps) rest →
           IsRising at.least (length trace) rest → IsFound links
       by [] whole few is_trace rising =
           record {
-            chain = subst (λ blames. IsChain runs trace nobody blames) (append-nil (map blame_of links)) whole;
+            chain = subst (λ blames. IsBlameChain runs trace nobody blames) (append-nil (map blame_of links)) whole;
             few = omega (arith, few, length-append (map blame_of links) [], length-map links blame_of);
             texts = at.texts;
           }

@@ -1,7 +1,8 @@
 -- The loop that follows the chain of a trace: how it begins, goes on and ends.
 use Rattle.sc_chain.proofs.Common.{Accepts, All, EmitsOrIsBlamed, Event, HasWords, Interfaces, IsChain, IsNextOf}
-use Rattle.sc_chain.proofs.Common.{IsReplaced, IsSource, IsWellTyped, Link, List, None, Option, ProgramTree, Set, Some}
-use Rattle.sc_chain.proofs.Common.{SourceParts, SourceRun, [], among, ap, inl, inr, legal, length, meaning, refl}
+use Rattle.sc_chain.proofs.Common.{IsReplaced, IsSource, IsWellTyped, Link, List, None, Option, ProgramTree, CompSet}
+use Rattle.sc_chain.proofs.Common.{Some}
+use Rattle.sc_chain.proofs.Common.{SourceParts, SourceRun, [], is_listed, ap, inl, inr, legal, length, meaning, refl}
 use Rattle.sc_chain.proofs.Common.{scripted_meaning, subst, sym, true, ℕ, ⊎_elim, ◌++◌, ◌-◌, ◌<◌, ◌∙◌, ◌∷◌, ◌≡◌, ◌≤◌}
 use Rattle.sc_chain.proofs.Common.{◌⊎◌}
 use Rattle.sc_linker.proofs.Comps.{same_count}
@@ -15,7 +16,7 @@ sections_are source program same typed = same_count source.program (subst IsWell
 
 module _ (source : SourceParts) (inputs : List ℕ) (steps : ℕ) (trace : List Event)
     (as_many : length source.program.interfaces.comps ≡ length source.program.sections) where
-  pub at_first : ((set : Set) → EmitsOrIsBlamed (length source.program.sections) set trace
+  pub at_first : ((set : CompSet) → EmitsOrIsBlamed (length source.program.sections) set trace
       (scripted_meaning source.program set trace inputs steps (length trace))) →
       (program : ProgramTree) → program ≡ source.program → (run : SourceRun) →
       run ≡ meaning program inputs steps (length trace) → (links : List Link) → links ≡ [] → (comps : List ℕ) →
@@ -31,18 +32,18 @@ module _ (source : SourceParts) (inputs : List ℕ) (steps : ℕ) (trace : List 
       (found : Option Link) (next : IsNextOf interfaces trace run found) where
     module _ (link : Link) (is : found ≡ Some link) (links' : List Link) (more_links : links' ≡ links ++ link ∷ [])
         (comps' : List ℕ) (more_comps : comps' ≡ comps ++ link.comp ∷ []) where
-      pub at_next : (later : SourceRun) → later ≡ runs source inputs steps trace (among comps') →
+      pub at_next : (later : SourceRun) → later ≡ runs source inputs steps trace (is_listed comps') →
           IsAt source inputs steps trace later links' comps'
       at_next later later_is =
           subst (λ cs. IsAt source inputs steps trace later links' cs) (sym more_comps)
           (subst (λ ls. IsAt source inputs steps trace later ls (comps ++ link.comp ∷ [])) (sym more_links)
           (goes_on source inputs steps trace run links comps as_many at link
           (subst (λ i. IsNextOf i trace run (Some link)) same (subst (IsNextOf interfaces trace run) is next)) later
-          (later_is ∙ ap (λ cs. runs source inputs steps trace (among cs)) more_comps)))
+          (later_is ∙ ap (λ cs. runs source inputs steps trace (is_listed cs)) more_comps)))
 
       -- the set's run itself
-      here : IsAt source inputs steps trace (runs source inputs steps trace (among comps')) links' comps'
-      here = at_next (runs source inputs steps trace (among comps')) refl
+      here : IsAt source inputs steps trace (runs source inputs steps trace (is_listed comps')) links' comps'
+      here = at_next (runs source inputs steps trace (is_listed comps')) refl
 
       pub known_next : All (λ comp. comp < length source.program.interfaces.comps) comps'
       known_next = here.known
@@ -50,7 +51,8 @@ module _ (source : SourceParts) (inputs : List ℕ) (steps : ℕ) (trace : List 
       pub fewer_next : length source.program.interfaces.comps - length links'
           < length source.program.interfaces.comps - length links
       fewer_next =
-          let few = few_links source inputs steps trace (runs source inputs steps trace (among comps')) links' comps'
+          let few = few_links source inputs steps trace (runs source inputs steps trace (is_listed comps')) links'
+          comps'
           here in
           subst (λ ls. length source.program.interfaces.comps - length ls
           < length source.program.interfaces.comps - length links) (sym more_links)
@@ -68,9 +70,10 @@ module _ (source : SourceParts) (inputs : List ℕ) (steps : ℕ) (trace : List 
 
 -- the run of the text in which a set performs
 pub run_of_text : (source : SourceParts) (inputs : List ℕ) (steps : ℕ) (trace : List Event) (comps comps' : List ℕ)
-    (text : SourceParts) → IsReplaced source trace (among comps) text → comps ≡ comps' → (program : ProgramTree) →
+    (text : SourceParts) → IsReplaced source trace (is_listed comps) text → comps ≡ comps' → (program : ProgramTree) →
     program ≡ text.program → (run : SourceRun) → run ≡ meaning program inputs steps (length trace) →
-    run ≡ runs source inputs steps trace (among comps')
+    run ≡ runs source inputs steps trace (is_listed comps')
 run_of_text source inputs steps trace comps comps' text replaced same program program_is run is =
-    is ∙ (ap (λ p. meaning p inputs steps (length trace)) program_is ∙ (replaced.scripted.means inputs steps (length trace) ∙
-    ap (λ cs. runs source inputs steps trace (among cs)) same))
+    is ∙ (ap (λ p. meaning p inputs steps (length trace)) program_is ∙ (replaced.scripted.means inputs steps (length
+    trace) ∙
+    ap (λ cs. runs source inputs steps trace (is_listed cs)) same))

@@ -1,7 +1,8 @@
 -- The chain of a trace as a chain of texts: each set's text is accepted, and means what the set's scripts say.
 use Rattle.sc_chain.proofs.Common.{Accepts, All, All-append, All-push, AreFresh, Bool, Event, HasProgram, Includes}
-use Rattle.sc_chain.proofs.Common.{IsChain, IsChainFrom, IsRising, IsSource, Link, List, MeansTrace, ProgramTree, Set}
-use Rattle.sc_chain.proofs.Common.{SourceParts, SourceRun, [], among, ap, arith, blamed_are_there, c_arith}
+use Rattle.sc_chain.proofs.Common.{IsChain, IsChainFrom, IsRising, IsSource, Link, List, MeansTrace, ProgramTree}
+use Rattle.sc_chain.proofs.Common.{CompSet}
+use Rattle.sc_chain.proofs.Common.{SourceParts, SourceRun, [], is_listed, ap, arith, blamed_are_there, c_arith}
 use Rattle.sc_chain.proofs.Common.{chain_is_least, chains_rise, concat, empty_set, eqb-true, false, length, map}
 use Rattle.sc_chain.proofs.Common.{meaning, new_texts, nobody, performing, recomposed, refl, scripted_meaning, subst}
 use Rattle.sc_chain.proofs.Common.{suc, sym, take, take-append-le, take_all, true, ℕ, ◌++◌, ◌<◌, ◌==◌, ◌||◌, ◌∙◌, ◌∷◌}
@@ -27,12 +28,13 @@ prefix_taken run trace n prefix long =
     sym (take_all n run (omega (arith, long))) ∙
     (sym (take-append-le n run prefix.more (omega (arith, long))) ∙ ap (take n) (sym prefix.is))
 
-among_known : (comps : List ℕ) (n : ℕ) → All (λ comp. comp < n) comps → (comp : ℕ) → among comps comp ≡ true →
+among_known : (comps : List ℕ) (n : ℕ) → All (λ comp. comp < n) comps → (comp : ℕ) → is_listed comps comp ≡ true →
     comp < n
 among_known [] n known comp is = cc
 among_known (one ∷ comps) n known comp is =
     by (among_known comps n (tail_of (λ comp. comp < n) one comps known) comp) (one == comp) refl is where
-      by : (among comps comp ≡ true → comp < n) → (b : Bool) → (one == comp) ≡ b → (b || among comps comp) ≡ true →
+      by : (is_listed comps comp ≡ true → comp < n) → (b : Bool) → (one == comp) ≡ b → (b || is_listed comps comp) ≡
+          true →
           comp < n
       by others true same is =
           subst (λ c. c < n) (eqb-true one comp same) (head_of (λ comp. comp < n) one comps known)
@@ -50,51 +52,51 @@ module _ (source : SourceParts) (inputs : List ℕ) (steps : ℕ) (trace : List 
     (as_many : length source.program.interfaces.comps ≡ length source.program.sections)
     (one_program : (text : List ℕ) (program other : ProgramTree) → Accepts text program → Accepts text other →
     program ≡ other)
-    (meant : (set : Set) → ((comp : ℕ) → set comp ≡ true → comp < length source.program.interfaces.comps) →
+    (meant : (set : CompSet) → ((comp : ℕ) → set comp ≡ true → comp < length source.program.interfaces.comps) →
     (program : ProgramTree) × Accepts (recomposed source trace set) program ×
     ((inputs : List ℕ) (turns events : ℕ) →
     meaning program inputs turns events ≡ scripted_meaning source.program set trace inputs turns events)) where
-  abbrev run_of : Set → SourceRun
+  abbrev run_of : CompSet → SourceRun
   run_of = runs source inputs steps trace
 
-  abbrev IsKnown : Set → Type 0
+  abbrev IsKnown : CompSet → Type 0
   IsKnown set = (comp : ℕ) → set comp ≡ true → comp < length source.program.interfaces.comps
 
   abbrev Perform : Link → Type 0
   Perform = Performs source inputs steps trace
 
-  has_program : (set : Set) → IsKnown set → HasProgram source inputs steps trace set
+  has_program : (set : CompSet) → IsKnown set → HasProgram source inputs steps trace set
   has_program set known = let text = meant set known in record { program = text.0; accepted = text.1 }
 
   -- each program of the text of a set has the run in which the set performs
-  means : (set : Set) → IsKnown set → (text : HasProgram source inputs steps trace set) →
+  means : (set : CompSet) → IsKnown set → (text : HasProgram source inputs steps trace set) →
       meaning text.program inputs steps (length trace) ≡ run_of set
   means set known text =
       ap (λ program. meaning program inputs steps (length trace)) (one_program (recomposed source trace set)
       text.program (meant set known).0 text.accepted (meant set known).1)
       ∙ (meant set known).2 inputs steps (length trace)
 
-  is_trace : (set : Set) → IsKnown set → (run_of set).trace ≡ trace → MeansTrace source inputs steps trace set
+  is_trace : (set : CompSet) → IsKnown set → (run_of set).trace ≡ trace → MeansTrace source inputs steps trace set
   is_trace set known emitted =
       let text = has_program set known in
       record { text = text; is_trace = ap (λ r. r.trace) (means set known text) ∙ emitted }
 
-  emitted_by : (set : Set) → IsKnown set → MeansTrace source inputs steps trace set → (run_of set).trace ≡ trace
+  emitted_by : (set : CompSet) → IsKnown set → MeansTrace source inputs steps trace set → (run_of set).trace ≡ trace
   emitted_by set known that = sym (ap (λ r. r.trace) (means set known that.text)) ∙ that.is_trace
 
   -- the links of a chain of blames that rise and are fresh are a chain of texts
   texts_from : (comps : List ℕ) (least : ℕ) (links : List Link) →
       All (λ comp. comp < length source.program.interfaces.comps) comps →
-      laws.IsChain run_of trace (among comps) (map blame_of links) →
-      IsRising least (length trace) (map blame_of links) → AreFresh (among comps) (map blame_of links) →
+      laws.IsBlameChain run_of trace (is_listed comps) (map blame_of links) →
+      IsRising least (length trace) (map blame_of links) → AreFresh (is_listed comps) (map blame_of links) →
       All Perform links → IsChainFrom source inputs steps trace comps least links
   texts_from comps least [] known chain rising fresh texts =
-      is_trace (among comps) (among_known comps _ known) chain
+      is_trace (is_listed comps) (among_known comps _ known) chain
   texts_from comps least (link ∷ links) known chain rising fresh texts =
       let here = among_known comps (length source.program.interfaces.comps) known in
-      let text = has_program (among comps) here in
-      let same = means (among comps) here text in
-      let there = blamed_are_there.programs c_arith source.program (among comps) trace inputs steps (length trace)
+      let text = has_program (is_listed comps) here in
+      let same = means (is_listed comps) here text in
+      let there = blamed_are_there.programs c_arith source.program (is_listed comps) trace inputs steps (length trace)
       link.comp link.cause link.line chain.0.blamed in
       let below : link.comp < length source.program.interfaces.comps = omega (arith, there, as_many) in
       let also = sym (among_also comps link.comp) in (
@@ -103,7 +105,7 @@ module _ (source : SourceParts) (inputs : List ℕ) (steps : ℕ) (trace : List 
           blamed = record {
             end = ap (λ r. r.end) same ∙ chain.0.blamed;
             prefix = ap (λ r. r.trace) same ∙
-                prefix_taken (run_of (among comps)).trace trace link.after chain.0.prefix chain.0.after;
+                prefix_taken (run_of (is_listed comps)).trace trace link.after chain.0.prefix chain.0.after;
             proper = rising.1;
           };
           later = rising.0;
@@ -113,17 +115,17 @@ module _ (source : SourceParts) (inputs : List ℕ) (steps : ℕ) (trace : List 
         },
         texts_from (link.comp ∷ comps) (suc link.after) links
             (one_also (λ comp. comp < length source.program.interfaces.comps) link.comp comps below known)
-            (subst (λ set. laws.IsChain run_of trace set (map blame_of links)) also chain.1) rising.2
+            (subst (λ set. laws.IsBlameChain run_of trace set (map blame_of links)) also chain.1) rising.2
             (subst (λ set. AreFresh set (map blame_of links)) also fresh.1) (tail_of Perform link links texts),
       )
 
-  includes : (set : Set) (links : List Link) → laws.Includes set (map blame_of links) →
+  includes : (set : CompSet) (links : List Link) → laws.HasAllBlamed set (map blame_of links) →
       Includes source inputs steps trace set links
   includes set [] all = tt
   includes set (link ∷ links) all = (all.0, includes set links all.1)
 
-  included : (set : Set) (links : List Link) → Includes source inputs steps trace set links →
-      laws.Includes set (map blame_of links)
+  included : (set : CompSet) (links : List Link) → Includes source inputs steps trace set links →
+      laws.HasAllBlamed set (map blame_of links)
   included set [] all = tt
   included set (link ∷ links) all = (all.0, included set links all.1)
 
@@ -140,9 +142,9 @@ module _ (source : SourceParts) (inputs : List ℕ) (steps : ℕ) (trace : List 
     no_links : links ≡ [] → own_meaning.trace ≡ trace
     no_links is =
         sym (ap (λ r. r.trace) own_is) ∙
-        subst (λ ls. laws.IsChain run_of trace nobody (map blame_of ls)) is found.chain
+        subst (λ ls. laws.IsBlameChain run_of trace nobody (map blame_of ls)) is found.chain
 
-    no_blame : (ls : List Link) → laws.IsChain run_of trace nobody (map blame_of ls) →
+    no_blame : (ls : List Link) → laws.IsBlameChain run_of trace nobody (map blame_of ls) →
         IsRising 0 (length trace) (map blame_of ls) → own_meaning.trace ≡ trace → ls ≡ []
     no_blame [] chain rising emitted = refl
     no_blame (link ∷ ls) chain rising emitted =

@@ -1,7 +1,8 @@
 -- The machine's trace on the image of a program, as the chain of texts needs it.
 use Rattle.sc_chain.proofs.Common.{All, All-map, EmitsOrIsBlamed, Event, ImageParts, IsChain, IsCompiled, IsExplained}
-use Rattle.sc_chain.proofs.Common.{IsWord, Link, List, Ok, ProgramTree, Run, Set, SourceParts, Stop, get_or, image_of}
-use Rattle.sc_chain.proofs.Common.{legal, length, machine, map, scripted_meaning, subst, sym, true, word_of, ℕ, ℤ, ◌≡◌}
+use Rattle.sc_chain.proofs.Common.{CompSet, IsWord, Link, List, MachineRun, Ok, ProgramTree, SourceParts, Stop, get_or}
+use Rattle.sc_chain.proofs.Common.{image_of, legal, length, machine, map, recomposed, scripted_meaning, subst, sym}
+use Rattle.sc_chain.proofs.Common.{true, word_of, ℕ, ℤ, ◌≡◌, ◌≤◌}
 use Rattle.sc_word.proofs.Words.{word_of-lt}
 
 -- words of inputs are words
@@ -10,7 +11,7 @@ inputs_are_words inputs = All-map IsWord word_of inputs (λ i d inside. word_of-
 
 module _ (source : SourceParts) (inputs : List ℤ) (steps events : ℕ) (program : ProgramTree)
     (same : program ≡ source.program) (image : ImageParts) (is : IsCompiled program image) where
-  abbrev run : Run
+  abbrev run : MachineRun
   run = machine image (map word_of inputs) steps events
 
   compiled : IsCompiled source.program image
@@ -22,7 +23,7 @@ module _ (source : SourceParts) (inputs : List ℤ) (steps events : ℕ) (progra
         subst (λ t. legal source.program.interfaces t ≡ true) (sym emits)
         (compiled.allowed (map word_of inputs) steps events (inputs_are_words inputs))
 
-    pub emitted_scripted : (set : Set) → EmitsOrIsBlamed (length source.program.sections) set trace
+    pub emitted_scripted : (set : CompSet) → EmitsOrIsBlamed (length source.program.sections) set trace
         (scripted_meaning source.program set trace (map word_of inputs) steps (length trace))
     emitted_scripted set =
         subst (λ t. EmitsOrIsBlamed (length source.program.sections) set t
@@ -32,12 +33,14 @@ module _ (source : SourceParts) (inputs : List ℤ) (steps events : ℕ) (progra
   pub explained : image_of program ≡ Ok image → (observed trace : List Event) → trace ≡ observed →
       observed ≡ run.state.trace → (stop : Stop) → stop ≡ run.stop → (links : List Link) →
       IsChain source (map word_of inputs) steps trace links →
+      (length source.bytes ≤ 1048576 → (set : CompSet) → length (recomposed source observed set) ≤ 8388608) →
       IsExplained source (map word_of inputs) steps events (record { trace = observed; stop = stop; links = links })
-  explained has_image observed trace same_trace emits stop stops links chain = record {
+  explained has_image observed trace same_trace emits stop stops links chain short = record {
     image = image;
     compiled = subst (λ p. image_of p ≡ Ok image) same has_image;
     right = compiled;
     trace = emits;
     stop = stops;
     chain = subst (λ t. IsChain source (map word_of inputs) steps t links) same_trace chain;
+    short = short;
   }

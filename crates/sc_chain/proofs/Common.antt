@@ -16,8 +16,10 @@ pub use Rattle.sc_core.specs.Prelude.{IsWellTyped, c_arith, meaning, scripted_me
 pub use Rattle.sc_core.specs.declared.run.SourceRun.{SourceRun}
 pub use Rattle.sc_types.specs.Prelude.{Accepts, IsSource, IsSplitInto, IsTyped, SourceParts}
 pub use Rattle.sc_core_laws.proofs.ProgramLaws.{blamed_are_there, chain_exists, chain_is_least, chains_rise, empty_set}
-pub use Rattle.sc_core_laws.specs.Prelude.{AreFresh, IsBlamedOutside, IsLink, IsRising, Set, nobody, performed, with}
-pub use Rattle.sc_image.specs.Prelude.{Goes, IsWellFormed, IsWord, Outcome, Run, State, Traps, machine, run, start}
+pub use Rattle.sc_core_laws.specs.Prelude.{AreFresh, IsBlamedOutside, IsLink, IsRising, CompSet, nobody, performed}
+pub use Rattle.sc_core_laws.specs.Prelude.{with}
+pub use Rattle.sc_image.specs.Prelude.{Goes, IsWellFormed, IsWord, Outcome, MachineRun, MachineState, Traps, machine}
+pub use Rattle.sc_image.specs.Prelude.{run, start}
 pub use Rattle.sc_image.specs.Prelude.{step, stopped}
 pub use Rattle.sc_image.specs.declared.parts.ImageParts.{ImageParts}
 pub use Rattle.sc_compile.specs.Prelude.{EmitsOrIsBlamed, IsCompiled, image_of}
@@ -25,5 +27,6 @@ pub use Rattle.sc_back.specs.Prelude.{HasNext, new_text, new_texts}
 pub use Rattle.sc_back_replay_laws.specs.Replay.{HasWords, IsRecomposed, IsReplay}
 pub use Rattle.sc_chain.specs.Common.{Blamed, Cause, Event, Interfaces, Link, ProgramTree, Replacement}
 pub use Rattle.sc_chain.specs.Prelude.{HasProgram, Includes, IsChain, IsChainFrom, IsExplained, IsNextLink, IsNextOf}
-pub use Rattle.sc_chain.specs.Prelude.{IsReplaced, IsScripted, MeansTrace, among, joined, performing, performing_text, recomposed}
+pub use Rattle.sc_chain.specs.Prelude.{IsReplaced, IsScripted, MeansTrace, is_listed, joined_text, performing}
+pub use Rattle.sc_chain.specs.Prelude.{performing_text, recomposed}
 pub use Rattle.sc_chain.specs.Prelude.{replacement_of, text_for}

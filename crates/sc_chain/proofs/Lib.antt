@@ -6,6 +6,7 @@ mod ChainMachine
 mod ChainTrace
 mod ChainTexts
 pub mod Joined
+mod Lengths
 pub mod Recomposed
 pub mod Rows
 pub mod Words

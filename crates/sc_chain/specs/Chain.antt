@@ -1,13 +1,14 @@
 -- The account of a run of the machine: a chain of texts. The first is the program's own; each later one has one section
 -- more that performs its part of the trace, that of the compartment which the meaning of the text before it blames
 -- after a proper, ever longer prefix of the trace; the meaning of the last is the trace.
+use Rattle.sc_base.specs.Prelude.{most_compiled, most_text}
 use Rattle.sc_chain.specs.Common.{Accepts, Blamed, Event, Link, ProgramTree, SourceParts, image_of, meaning}
 use Rattle.sc_compile.specs.Prelude.{IsCompiled}
 use Rattle.sc_image.specs.Prelude.{machine}
 use Rattle.std.specs.Prelude.{◌≡◌, ◌↔◌, ℕ, suc, ◌<◌, ◌≤◌, Bool, true, false, List, [], ◌∷◌, length, take, Ok}
 use Rattle.sc_image.specs.declared.parts.ImageParts.{ImageParts}
-use Rattle.sc_chain.specs.Recompose.{among, performing_text, recomposed}
-use Rattle.sc_chain.specs.declared.explanation.Explanation.{Explanation}
+use Rattle.sc_chain.specs.Recompose.{is_listed, performing_text, recomposed}
+use Rattle.sc_core.specs.declared.explanation.Explanation.{Explanation}
 
 -- The meaning of a program, with as many turns as the machine had steps and as many events as it emitted, is blamed so,
 -- after a proper prefix of the trace.
@@ -31,16 +32,16 @@ module _ (source : SourceParts) (inputs : List ℕ) (steps : ℕ) (trace : List 
   -- the text in which these compartments perform is blamed by the link's account, on none of them, after at least
   -- `least` events; and the link's text is that of the blamed compartment's section
   pub record IsNext (comps : List ℕ) (least : ℕ) (link : Link) : Type 0 where
-    pub text : HasProgram (among comps)
+    pub text : HasProgram (is_listed comps)
     pub blamed : IsBlamedSo text.program inputs steps trace link
     pub later : least ≤ link.after
-    pub outside : among comps link.comp ≡ false
+    pub outside : is_listed comps link.comp ≡ false
     pub there : link.comp < length source.program.interfaces.comps
     pub performs : link.text ≡ performing_text source.program.interfaces trace link.comp
 
   -- from the text in which these compartments perform on
   abbrev pub IsChainFrom : (comps : List ℕ) → (least : ℕ) → List Link → Type 0
-  IsChainFrom comps least [] = MeansTrace (among comps)
+  IsChainFrom comps least [] = MeansTrace (is_listed comps)
   IsChainFrom comps least (link ∷ links) =
       IsNext comps least link × IsChainFrom (link.comp ∷ comps) (suc link.after) links
 
@@ -51,7 +52,7 @@ module _ (source : SourceParts) (inputs : List ℕ) (steps : ℕ) (trace : List 
 
   pub record IsChain (links : List Link) : Type 0 where
     -- the first text is the source's own
-    pub own : recomposed source trace (among []) ≡ source.bytes
+    pub own : recomposed source trace (is_listed []) ≡ source.bytes
     pub chain : IsChainFrom [] 0 links
     pub few : length links ≤ length source.program.interfaces.comps
     -- nothing is replaced exactly where the program's own meaning is the trace
@@ -71,3 +72,6 @@ pub record IsExplained (source : SourceParts) (inputs : List ℕ) (steps events 
   pub trace : explanation.trace ≡ (machine image inputs steps events).state.trace
   pub stop : explanation.stop ≡ (machine image inputs steps events).stop
   pub chain : IsChain source inputs steps explanation.trace explanation.links
+  -- where the program's text isn't too long to be compiled, no text in which compartments perform is too long to be read
+  pub short : length source.bytes ≤ most_compiled → (set : ℕ → Bool) →
+      length (recomposed source explanation.trace set) ≤ most_text

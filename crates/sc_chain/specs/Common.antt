@@ -9,4 +9,4 @@ pub use Rattle.sc_types.specs.Prelude.{Accepts, SourceParts}
 pub use Rattle.sc_compile.specs.Prelude.{image_of}
 pub use Rattle.sc_back.specs.Prelude.{back_text, new_text, new_texts}
 pub use Rattle.sc_chain.specs.declared.composed.Replacement.{Replacement}
-pub use Rattle.sc_chain.specs.declared.explanation.Link.{Link}
+pub use Rattle.sc_core.specs.declared.explanation.Link.{Link}

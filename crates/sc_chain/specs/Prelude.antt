@@ -4,6 +4,6 @@ pub use Rattle.sc_types.specs.Prelude.{Accepts, IsSource}
 pub use Rattle.sc_chain.specs.Chain.{HasProgram, Includes, IsChain, IsChainFrom, IsExplained, IsNext, MeansTrace}
 pub use Rattle.sc_chain.specs.Faults.{IsFault}
 pub use Rattle.sc_chain.specs.Following.{IsNextLink, IsNextOf}
-pub use Rattle.sc_chain.specs.Recompose.{among, joined, performing, performing_text, recomposed, text_for}
+pub use Rattle.sc_chain.specs.Recompose.{is_listed, joined_text, performing, performing_text, recomposed, text_for}
 pub use Rattle.sc_chain.specs.Replaced.{IsReplaced, IsScripted}
 pub use Rattle.sc_chain.specs.Sections.{replacement_of, section_at}

@@ -11,12 +11,12 @@ text_for (replacement ∷ replacements) comp =
     if replacement.comp == comp then Some replacement.text else text_for replacements comp
 
 -- the preamble and the sections, where those of some compartments are replaced by these texts
-abbrev pub joined : SourceParts → (replace : ℕ → Option (List ℕ)) → List ℕ
-joined source replace = source.preamble ++ concat (new_texts replace 0 source.sections)
+abbrev pub joined_text : SourceParts → (replace : ℕ → Option (List ℕ)) → List ℕ
+joined_text source replace = source.preamble ++ concat (new_texts replace 0 source.sections)
 
 -- the compartments of a list
-abbrev pub among : List ℕ → (comp : ℕ) → Bool
-among comps comp = list_any (λ one. one == comp) comps
+abbrev pub is_listed : List ℕ → (comp : ℕ) → Bool
+is_listed comps comp = list_any (λ one. one == comp) comps
 
 -- the text by which a compartment performs its part of a trace
 abbrev pub performing_text : Interfaces → List Event → (comp : ℕ) → List ℕ
@@ -28,4 +28,4 @@ performing interfaces trace set comp = if set comp then Some (performing_text in
 
 -- the text in which the compartments of a set perform their parts of a trace, and the others keep their sections
 abbrev pub recomposed : SourceParts → List Event → (set : ℕ → Bool) → List ℕ
-recomposed source trace set = joined source (performing source.program.interfaces trace set)
+recomposed source trace set = joined_text source (performing source.program.interfaces trace set)

@@ -1,7 +1,8 @@
 -- What a text is in which the compartments of a set perform their parts of a trace.
+use Rattle.sc_base.specs.Prelude.{most_compiled, most_text}
 use Rattle.sc_chain.specs.Common.{Accepts, Blamed, Cause, Event, ProgramTree, SourceParts, meaning, new_texts}
 use Rattle.sc_chain.specs.Common.{scripted_meaning}
-use Rattle.std.specs.Prelude.{◌≡◌, ℕ, Bool, false, List}
+use Rattle.std.specs.Prelude.{◌≡◌, ◌≤◌, ℕ, Bool, false, List, length}
 use Rattle.sc_chain.specs.Recompose.{performing, recomposed}
 
 -- the text is accepted, as this program
@@ -15,6 +16,8 @@ pub record IsScripted (source : SourceParts) (trace : List Event) (set : ℕ →
   -- and nobody of the set is blamed
   pub blames : (inputs : List ℕ) (turns events comp : ℕ) (cause : Cause) (line : ℕ) →
       (meaning program inputs turns events).end ≡ Blamed comp cause line → set comp ≡ false
+  -- it isn't too long to be read, where the program's text isn't too long to be compiled
+  pub short : length source.bytes ≤ most_compiled → length (recomposed source trace set) ≤ most_text
 
 -- the text as it is read
 pub record IsReplaced (source : SourceParts) (trace : List Event) (set : ℕ → Bool) (new : SourceParts) : Type 0 where

@@ -8,11 +8,11 @@ ghost use Rattle.sc_image.specs.Prelude.{machine};
 ghost use Rattle.sc_compile.specs.Prelude.{EmitsOrIsBlamed};
 ghost use Rattle.std.specs.Prelude.{◌≡◌, ◌≤◌, ℕ, Bool, true, length, map, IfOk, IfErr};
 
-use crate::explanation::{ExplainFault, Explanation, Link, Links};
+use crate::fault::ExplainFault;
 use crate::replacing::{have_words, performing_text, replaced};
 use sc_base::{OutOfMemory, Stop};
 use sc_compile::{CompileFault, compile};
-use sc_core::{RunEnd, SourceRun};
+use sc_core::{Explanation, Link, Links, RunEnd, SourceRun};
 use sc_event::{CompId, Event, Interfaces, Trace};
 use sc_image::Image;
 use sc_machine::{LoadFault, Machine};
@@ -180,7 +180,9 @@ pub fn explain(
     let Ok(observed) = run_image(alloc, image, inputs, steps, events) else {
         return Err(ExplainFault::OutOfMemory);
     };
-    let Ok(links) = chain(alloc, source, inputs, steps, observed.trace.as_slice()) else {
+    let emitted = observed.trace.as_slice();
+    have_words(emitted);
+    let Ok(links) = chain(alloc, source, inputs, steps, emitted) else {
         return Err(ExplainFault::OutOfMemory);
     };
     let MachineRun { trace, stop } = observed;

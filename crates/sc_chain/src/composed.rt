@@ -1,6 +1,6 @@
 //! Texts in which some sections are replaced.
 
-ghost use Rattle.sc_chain.specs.Prelude.{IsSource, joined, section_at, text_for};
+ghost use Rattle.sc_chain.specs.Prelude.{IsSource, joined_text, section_at, text_for};
 ghost use Rattle.std.specs.Prelude.{◌≡◌, ◌++◌, ◌<◌, ◌≤◌, length, slice_get, Some, IfOk, OnOk};
 ghost use Rattle.std.specs.Option.{option_copied};
 
@@ -52,7 +52,7 @@ pub fn recompose(
     source: &SourceText,
     replacements: &[Replacement],
 ) -> Result<Text, OutOfMemory>
-    ensures { IfOk result (λ text. text ≡ joined source.now (text_for replacements.now)) }
+    ensures { IfOk result (λ text. text ≡ joined_text source.now (text_for replacements.now)) }
 {
     let mut text = Text::new(alloc);
     text.append(source.preamble())?;

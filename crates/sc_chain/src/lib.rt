@@ -4,10 +4,10 @@
 
 mod account;
 mod composed;
-mod explanation;
+mod fault;
 mod replacing;
 
 pub use account::explain;
 pub use composed::{Replacement, recompose};
-pub use explanation::{ExplainFault, Explanation, Link, Links};
+pub use fault::ExplainFault;
 pub use replacing::replaced;

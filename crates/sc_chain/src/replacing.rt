@@ -1,7 +1,7 @@
 //! Texts in which compartments perform their parts of a trace.
 
 ghost use Rattle.sc_base.specs.Prelude.{most_events};
-ghost use Rattle.sc_chain.specs.Prelude.{Accepts, IsReplaced, IsScripted, IsSource, among, legal, part};
+ghost use Rattle.sc_chain.specs.Prelude.{Accepts, IsReplaced, IsScripted, IsSource, is_listed, legal, part};
 ghost use Rattle.sc_chain.specs.Prelude.{performing_text, replacement_of};
 ghost use Rattle.std.specs.Prelude.{◌≡◌, ◌<◌, ◌≤◌, ◌^◌, true, length, map, All, IfOk};
 ghost use Rattle.sc_core.specs.declared.program.ProgramTree.{ProgramTree};
@@ -98,7 +98,8 @@ fn read_accepted(alloc: Global, text: &[u8]) -> Result<SourceText, OutOfMemory>
 }
 
 /// The text in which these compartments perform their parts of a trace, in place of running their functions; one may be
-/// named twice. The text is accepted, and means what the compartments' scripts say, whether memory suffices to write it or
+/// named twice. The text is accepted, and means what the compartments' scripts say, whether memory suffices to write it
+/// or
 /// not.
 pub fn replaced(
     alloc: Global,
@@ -109,9 +110,9 @@ pub fn replaced(
     requires allowed { legal source.now.program.interfaces trace.now ≡ true }
     requires few { length trace.now ≤ most_events }
     requires known { All (λ comp. comp < length source.now.program.interfaces.comps) comps.now }
-    ensures scripted { (program : ProgramTree) × IsScripted source.now trace.now (among comps.now) program }
+    ensures scripted { (program : ProgramTree) × IsScripted source.now trace.now (is_listed comps.now) program }
     ensures source { IfOk result IsSource }
-    ensures replaced { IfOk result (IsReplaced source.now trace.now (among comps.now)) }
+    ensures replaced { IfOk result (IsReplaced source.now trace.now (is_listed comps.now)) }
 {
     have_words(trace);
     one_program();

@@ -3,11 +3,12 @@
 use Rattle.sc_compile.proofs.Common.{All, Bool, CodeTree, Entry, Event, Export, Interface, Interfaces, IsWellFormed}
 use Rattle.sc_compile.proofs.Common.{IsWord, List, Main, None, Option, ProgramTree, Proto, Some, Standing, [], ap, ap₂}
 use Rattle.sc_compile.proofs.Common.{at_start, awaits, comp_at, comp_part, export_at, export_part, false, fits_result}
-use Rattle.sc_compile.proofs.Common.{flat_map, if◌then◌else◌, import_of, import_part, imports, interface_of}
-use Rattle.sc_compile.proofs.Common.{interfaces_of, is_function, is_input, is_legal_from, is_output, is_some, legal}
+use Rattle.sc_compile.proofs.Common.{flat_map, if◌then◌else◌, image_import, import_part, imports, image_interface}
+use Rattle.sc_compile.proofs.Common.{image_interfaces, is_function, is_input, is_legal_from, is_output, is_some, legal}
 use Rattle.sc_compile.proofs.Common.{length, length-replicate, linked_image, list_any, machine, map, may_perform}
 use Rattle.sc_compile.proofs.Common.{may_return, option_and_then, option_map_or, part_at, part_first, performer}
-use Rattle.sc_compile.proofs.Common.{proto_of, refl, slice_get, slice_get-map, stands_after, sym, takes, true, ℕ, ◌&&◌}
+use Rattle.sc_compile.proofs.Common.{image_proto, refl, slice_get, slice_get-map, stands_after, sym, takes, true, ℕ}
+use Rattle.sc_compile.proofs.Common.{◌&&◌}
 use Rattle.sc_compile.proofs.Common.{◌++◌, ◌==◌, ◌||◌, ◌∙◌, ◌∷◌, ◌≡◌}
 use Rattle.std.proofs.Common.{option_map}
 use Rattle.sc_event.specs.declared.event.Event.TheVariants.{Call, Ret, Out, In, End}
@@ -22,13 +23,13 @@ use Rattle.sc_image.proofs.Traces.{all_traces_legal}
 -- as an image says them: input, output, and then functions
 abbrev image_imports : (input output : Bool) → List ImportPart → List Import
 image_imports input output parts =
-    (if input then Input ∷ [] else []) ++ ((if output then Output ∷ [] else []) ++ map import_of parts)
+    (if input then Input ∷ [] else []) ++ ((if output then Output ∷ [] else []) ++ map image_import parts)
 
-no_input : (parts : List ImportPart) → list_any is_input (map import_of parts) ≡ false
+no_input : (parts : List ImportPart) → list_any is_input (map image_import parts) ≡ false
 no_input [] = refl
 no_input (part ∷ parts) = no_input parts
 
-no_output : (parts : List ImportPart) → list_any is_output (map import_of parts) ≡ false
+no_output : (parts : List ImportPart) → list_any is_output (map image_import parts) ≡ false
 no_output [] = refl
 no_output (part ∷ parts) = no_output parts
 
@@ -46,7 +47,8 @@ same_output_import true false parts = no_output parts
 same_output_import false false parts = no_output parts
 
 same_function_imports : (to index : ℕ) (each : List Import) →
-    list_any (is_function to index) (map import_of (flat_map import_part each)) ≡ list_any (is_function to index) each
+    list_any (is_function to index) (map image_import (flat_map import_part each)) ≡ list_any (is_function to index)
+    each
 same_function_imports to index [] = refl
 same_function_imports to index (Input ∷ each) = same_function_imports to index each
 same_function_imports to index (Output ∷ each) = same_function_imports to index each
@@ -71,23 +73,24 @@ fits_by (Some type) (Some word) = refl
 
 module _ (program : ProgramTree) (codes : List CodeTree) where
   abbrev observed : Interfaces
-  observed = interfaces_of (linked_image program codes)
+  observed = image_interfaces (linked_image program codes)
 
   abbrev wanted : Interfaces
   wanted = program.interfaces
 
   abbrev part_interface : (comp : ℕ) → Interface → Interface
-  part_interface comp interface = interface_of (comp_part program codes comp interface)
+  part_interface comp interface = image_interface (comp_part program codes comp interface)
 
   interface_by : (comp : ℕ) (found : Option Interface) →
-      option_map interface_of (option_map (comp_part program codes comp) found) ≡ option_map (part_interface comp) found
+      option_map image_interface (option_map (comp_part program codes comp) found) ≡ option_map (part_interface comp)
+      found
   interface_by comp None = refl
   interface_by comp (Some interface) = refl
 
   same_comp : (comp : ℕ) → comp_at observed comp ≡ option_map (part_interface comp) (comp_at wanted comp)
   same_comp comp =
-      slice_get-map interface_of (linked_image program codes).comps comp
-      ∙ ap (option_map interface_of) (part_at program codes comp) ∙ interface_by comp (comp_at wanted comp)
+      slice_get-map image_interface (linked_image program codes).comps comp
+      ∙ ap (option_map image_interface) (part_at program codes comp) ∙ interface_by comp (comp_at wanted comp)
 
   abbrev any_import : (Import → Bool) → Option Interface → Bool
   any_import is_it found = list_any is_it (option_map_or (λ (i : Interface). i.imports) found [])
@@ -127,29 +130,29 @@ module _ (program : ProgramTree) (codes : List CodeTree) where
   export_in index found = option_and_then (λ (i : Interface). slice_get i.exports index) found
 
   part_by : (comp index : ℕ) (found : Option Proto) →
-      option_map proto_of (option_map (export_part comp index) found)
-      ≡ option_map (λ proto. proto_of (export_part comp index proto)) found
+      option_map image_proto (option_map (export_part comp index) found)
+      ≡ option_map (λ proto. image_proto (export_part comp index proto)) found
   part_by comp index None = refl
   part_by comp index (Some proto) = refl
 
   export_by : (comp index : ℕ) (found : Option Interface) →
       export_in index (option_map (part_interface comp) found)
-      ≡ option_map (λ proto. proto_of (export_part comp index proto)) (export_in index found)
+      ≡ option_map (λ proto. image_proto (export_part comp index proto)) (export_in index found)
   export_by comp index None = refl
   export_by comp index (Some interface) =
-      slice_get-map proto_of (comp_part program codes comp interface).exports index
-      ∙ ap (option_map proto_of) (part_first comp interface.exports index)
+      slice_get-map image_proto (comp_part program codes comp interface).exports index
+      ∙ ap (option_map image_proto) (part_first comp interface.exports index)
       ∙ part_by comp index (slice_get interface.exports index)
 
   same_export : (comp index : ℕ) → export_at observed comp index
-      ≡ option_map (λ proto. proto_of (export_part comp index proto)) (export_at wanted comp index)
+      ≡ option_map (λ proto. image_proto (export_part comp index proto)) (export_at wanted comp index)
   same_export comp index = ap (export_in index) (same_comp comp) ∙ export_by comp index (comp_at wanted comp)
 
   abbrev takes_count : ℕ → Option Proto → Bool
   takes_count count found = option_map_or (λ (p : Proto). length p.params == count) found false
 
   takes_by : (comp index count : ℕ) (found : Option Proto) →
-      takes_count count (option_map (λ proto. proto_of (export_part comp index proto)) found)
+      takes_count count (option_map (λ proto. image_proto (export_part comp index proto)) found)
       ≡ takes_count count found
   takes_by comp index count None = refl
   takes_by comp index count (Some proto) = ap (λ (n : ℕ). n == count) (length-replicate (length proto.params) Int)
@@ -162,7 +165,7 @@ module _ (program : ProgramTree) (codes : List CodeTree) where
   gives_back value found = option_map_or (λ (p : Proto). fits_result p.result value) found false
 
   result_by : (comp index : ℕ) (value : Option ℕ) (found : Option Proto) →
-      gives_back value (option_map (λ proto. proto_of (export_part comp index proto)) found) ≡ gives_back value found
+      gives_back value (option_map (λ proto. image_proto (export_part comp index proto)) found) ≡ gives_back value found
   result_by comp index value None = refl
   result_by comp index value (Some proto) = fits_by proto.result value
 

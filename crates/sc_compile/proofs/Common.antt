@@ -31,11 +31,11 @@ pub use Rattle.sc_core.specs.Prelude.{section_fits, signature_of, struct_zeros, 
 pub use Rattle.sc_core.specs.Prelude.{variables, wrapping}
 pub use Rattle.sc_core.specs.declared.section.TypedFunction.{TypedFunction}
 pub use Rattle.sc_core.specs.declared.section.TypedStruct.{TypedStruct}
-pub use Rattle.sc_core_laws.specs.Prelude.{AgreesInDepth, Set, piece_without_line, same, same_run}
+pub use Rattle.sc_core_laws.specs.Prelude.{AgreesInDepth, CompSet, piece_without_line, same, same_run}
 pub use Rattle.sc_core_kind_laws.proofs.Sections.{found_passes, main_so, named_so, own_names_differ}
 pub use Rattle.rv_code.specs.declared.instr.Instr.{Instr}
-pub use Rattle.sc_image.specs.Prelude.{IsWellFormed, IsWord, import_of, interface_of, interfaces_of, machine}
-pub use Rattle.sc_image.specs.Prelude.{most_globals, proto_of, start_memory, stretch}
+pub use Rattle.sc_image.specs.Prelude.{IsWellFormed, IsWord, image_import, image_interface, image_interfaces, machine}
+pub use Rattle.sc_image.specs.Prelude.{most_globals, image_proto, start_memory, stretch}
 pub use Rattle.sc_tac.proofs.Matching.{wrapped_code_agrees}
 pub use Rattle.sc_tac.specs.Prelude.{IsAssignment, IsFunction, IsProgram, branch_step, calls_exports, calls_own}
 pub use Rattle.sc_tac.specs.Prelude.{code_globals, code_run, cross_call_fits, everywhere, frame_of, function_entered}
@@ -70,9 +70,10 @@ pub use Rattle.sc_emit_run_laws.specs.Prelude.{IsLinked, KeepsTo, SimulatesRun, 
 pub use Rattle.sc_compile.specs.Common.{CodeTooLarge, CompileFault, ImageParts, ProgramTree, TacFnTree, TacSection}
 pub use Rattle.sc_compile.specs.Common.{TypedGlobal, TypedSection}
 pub use Rattle.sc_compile.specs.Prelude.{AreEmitted, BeginAsWords, BeginsAsWords, EachEmits, EmitsAll, EmitsOrIsBlamed}
-pub use Rattle.sc_compile.specs.Prelude.{EmitsSo, FitAll, ForwardSimulation, HasNoTests, HasParts, IsCompiled, IsCounted, above}
-pub use Rattle.sc_compile.specs.Prelude.{all_codes, built_image, cells_in, code_bytes, counted_all, counted_code}
-pub use Rattle.sc_compile.specs.Prelude.{counted_data, counted_frame, counted_frames, data_bytes, first, found_in}
+pub use Rattle.sc_compile.specs.Prelude.{EmitsSo, FitAll, ForwardSimulation, HasNoTests, HasParts, IsCompiled}
+pub use Rattle.sc_compile.specs.Prelude.{IsCounted, above}
+pub use Rattle.sc_compile.specs.Prelude.{all_codes, built_image, cells_in, code_size, counted_all, counted_code}
+pub use Rattle.sc_compile.specs.Prelude.{counted_data, counted_frame, counted_frames, data_size, first, faults_from}
 pub use Rattle.sc_compile.specs.Prelude.{function_code, large_code, large_data, large_frame, large_frames}
 pub use Rattle.sc_core.specs.Prelude.{most_code, most_frame}
 pub use Rattle.sc_compile.specs.Prelude.{program_nodes, section_codes, test_word, too_large}

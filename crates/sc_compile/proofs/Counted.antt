@@ -6,7 +6,7 @@ use Rattle.sc_compile.proofs.Common.{ProgramTree, Some, TacFnTree, TacSection, T
 use Rattle.sc_compile.proofs.Common.{TypedSection, TypedStruct, [], above, all_at as of_all, all_by, and_first}
 use Rattle.sc_compile.proofs.Common.{and_rest, ap, arith, callable_in, cells_in, cells_of, counted_all, counted_code}
 use Rattle.sc_compile.proofs.Common.{counted_data, counted_frame, counted_frames, decl_count, few_so, first, first_at}
-use Rattle.sc_compile.proofs.Common.{flat_map, found_in, frame_bound, function_fits, functions_or_none, global_fits}
+use Rattle.sc_compile.proofs.Common.{flat_map, faults_from, frame_bound, function_fits, functions_or_none, global_fits}
 use Rattle.sc_compile.proofs.Common.{large_code, large_data, large_frame, large_frames, leb-true, length, length-map}
 use Rattle.sc_compile.proofs.Common.{list_all, local_fits, local_nodes, lowered_function, lowered_program}
 use Rattle.sc_compile.proofs.Common.{lowered_section, lowered_sections, map, most_cells, most_frame, most_nodes}
@@ -47,7 +47,7 @@ none_at find (y ∷ ys) (suc i) x none is = none_at find ys i x (rest_none (find
 -- THE SAME SIZES
 module _ (interfaces : Interfaces) where
   data_same : (k : ℕ) (sections : List TypedSection) →
-      found_in counted_data k (lowered_sections interfaces k sections) ≡ found_in large_data k sections
+      faults_from counted_data k (lowered_sections interfaces k sections) ≡ faults_from large_data k sections
   data_same k [] = refl
   data_same k (section ∷ sections) = ap (λ later. large_data k section ++ later) (data_same (suc k) sections)
 
@@ -58,7 +58,7 @@ module _ (interfaces : Interfaces) where
   functions_same k section (f ∷ fs) = ap (λ later. large_frame k section f ++ later) (functions_same k section fs)
 
   frames_same : (k : ℕ) (sections : List TypedSection) →
-      found_in counted_frames k (lowered_sections interfaces k sections) ≡ found_in large_frames k sections
+      faults_from counted_frames k (lowered_sections interfaces k sections) ≡ faults_from large_frames k sections
   frames_same k [] = refl
   frames_same k (section ∷ sections) = λ i.
       functions_same k section section.functions i ++ frames_same (suc k) sections i
@@ -69,7 +69,7 @@ module _ (interfaces : Interfaces) where
   nodes_same k structs (f ∷ fs) = ap (λ n. nodes f + n) (nodes_same k structs fs)
 
   code_same : (k : ℕ) (sections : List TypedSection) →
-      found_in counted_code k (lowered_sections interfaces k sections) ≡ found_in large_code k sections
+      faults_from counted_code k (lowered_sections interfaces k sections) ≡ faults_from large_code k sections
   code_same k [] = refl
   code_same k (section ∷ sections) = λ i.
       above stretch (96 * nodes_same k section.structs section.functions i)

@@ -1,5 +1,5 @@
 -- The code of a program stands in its image.
-use Rattle.sc_compile.proofs.Common.{Addresses, AreEmitted, AreNamed, Block, CodeTree, EntersBy, EntriesStand, Entry}
+use Rattle.sc_compile.proofs.Common.{Addresses, AreEmitted, AreNamed, CodeTree, EntersBy, EntriesStand, Entry}
 use Rattle.sc_compile.proofs.Common.{Export, Fits, FunctionsStand, GlobalStands, GlobalsAreWords, GlobalsStand, HasCode}
 use Rattle.sc_compile.proofs.Common.{ImageParts, ImportsStand, Instr, IsCodeAddress, IsLinkable, IsLinked, IsStart}
 use Rattle.sc_compile.proofs.Common.{IsWellTyped, List, Main, None, Option, ProgramTree, Some, StandFrom, StandsAt}
@@ -10,13 +10,16 @@ use Rattle.sc_compile.proofs.Common.{function_entered, functions_in, functions_o
 use Rattle.sc_compile.proofs.Common.{inr, intervals_of, keeps_meaning, length, linked_image, lowered_program}
 use Rattle.sc_compile.proofs.Common.{lowered_section, map, nodes, number_below, option_map, program_nodes, refl}
 use Rattle.sc_compile.proofs.Common.{section_or_none, slice_get, start_memory, struct_zeros, subst, suc, sym, too_large}
-use Rattle.sc_compile.proofs.Common.{total, total_upto, true, wrapping, ℕ, ◌*◌, ◌+◌, ◌<◌, ◌∙◌, ◌∷◌, ◌≡◌, ◌≤◌, ◌⊎◌}
-use Rattle.sc_store.specs.Prelude.{Memory, load_of}
+use Rattle.sc_compile.proofs.Common.{total, total_upto, wrapping, ℕ, ◌*◌, ◌+◌, ◌<◌, ◌∙◌, ◌∷◌, ◌≡◌, ◌≤◌, ◌⊎◌}
+use Rattle.std.proofs.Common.{Ok}
+use Rattle.sc_store.specs.Prelude.{ByteMemory, load_of}
+use Rattle.sc_core.specs.Prelude.{cells_at}
 use Rattle.sc_tac.specs.Prelude.{first_blocks as code_blocks}
 use Rattle.sc_emit_hart.specs.Prelude.{CodeAt, Fetches, word}
 use Rattle.sc_emit_relation.specs.Prelude.{InCell}
 use Rattle.sc_core.specs.declared.value.Cell.{Cell}
 use Rattle.sc_core.specs.declared.value.Cell.TheVariants as cell
+use Rattle.sc_emit_relation.proofs.Access.{living_block}
 use Rattle.sc_linker.proofs.Whole.{linked_images_hold}
 use Rattle.sc_compile.proofs.Codes.{code_there}
 use Rattle.sc_compile.proofs.Linkable.{is_linkable}
@@ -38,7 +41,7 @@ code_at image comp address (instr ∷ instrs) stand = (
       subst (λ a. StandsAt image comp a one) same (stand (suc i) one is)),
 )
 
-word_is : (memory : Memory) (a : ℕ) → word memory a ≡ load_of memory a 4
+word_is : (memory : ByteMemory) (a : ℕ) → word memory a ≡ load_of memory a 4
 unfolding word
 word_is memory a = refl
 
@@ -50,12 +53,13 @@ in_cell cell.Null w known same = record { word = omega (arith, same); means = sa
 in_cell (cell.Ptr p) w known same = absurd known
 
 -- a block of the start is of a global
-global_there : (o : Option TypedSection) (number : ℕ) (block : Block) →
-    slice_get (first_blocks o) number ≡ Some block →
+global_there : (o : Option TypedSection) (number : ℕ) (cells : List Cell) →
+    cells_at (first_blocks o) number ≡ Ok cells →
     (g : TypedGlobal) × (slice_get (section_or_none o).globals number ≡ Some g)
-global_there None number block is = absurd (cc)
-global_there (Some section) number block is =
-    let found = mapped (global_block (struct_zeros [] section.structs)) section.globals number block is in
+global_there None number cells is = absurd (cc)
+global_there (Some section) number cells is =
+    let block = living_block (first_blocks (Some section)) number cells is in
+    let found = mapped (global_block (struct_zeros [] section.structs)) section.globals number block.block block.at in
     (found.0, found.1.0)
 
 module _ (program : ProgramTree) (typed : IsWellTyped program) where
@@ -147,15 +151,16 @@ module _ (program : ProgramTree) (typed : IsWellTyped program) where
       globals : GlobalsStand program codes
       globals = linked_images_hold.globals program codes typed given linkable
 
-      its_block : (comp number : ℕ) (block : Block) → slice_get (code_globals code.sections comp) number ≡ Some block →
-          slice_get (globals_of program.sections comp) number ≡ Some block
-      its_block comp number block is = ap (λ blocks. slice_get blocks number) (sym (globals_same comp)) ∙ is
+      its_cells : (comp number : ℕ) (cells : List Cell) →
+          cells_at (code_globals code.sections comp) number ≡ Ok cells →
+          cells_at (globals_of program.sections comp) number ≡ Ok cells
+      its_cells comp number cells is = ap (λ blocks. cells_at blocks number) (sym (globals_same comp)) ∙ is
 
       stands : (comp number : ℕ) (cells : List Cell) →
-          slice_get (globals_of program.sections comp) number ≡ Some (record { live = true; cells = cells }) →
+          cells_at (globals_of program.sections comp) number ≡ Ok cells →
           GlobalStands image comp ((addresses comp).global number) cells
       stands comp number cells is =
-          let g = global_there (slice_get program.sections comp) number _ is in
+          let g = global_there (slice_get program.sections comp) number cells is in
           record {
             placed = record {
               aligned = globals.aligned comp number;
@@ -194,10 +199,10 @@ module _ (program : ProgramTree) (typed : IsWellTyped program) where
           calls = λ from to index is. imports.function from to index ∙ is;
           inputs = λ comp is. imports.input comp ∙ is;
           outputs = λ comp is. imports.output comp ∙ is;
-          globals = λ comp number cells is. stands comp number cells (its_block comp number _ is);
+          globals = λ comp number cells is. stands comp number cells (its_cells comp number _ is);
           globals_apart = λ comp number other cells more differ is at.
-              globals.apart comp number other cells more differ (its_block comp number _ is)
-              (its_block comp other _ at);
+              globals.apart comp number other cells more differ (its_cells comp number _ is)
+              (its_cells comp other _ at);
         }
 
 pub is_linked : (program : ProgramTree) → IsWellTyped program → AreNamed program.interfaces →

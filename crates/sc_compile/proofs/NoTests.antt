@@ -13,7 +13,7 @@ use Rattle.sc_compile.proofs.Common.{option_map, option_map_or, part_is, pos, re
 use Rattle.sc_compile.proofs.Common.{slice_get, subst, suc, sym, target_at, test_word, total, true, upper_part}
 use Rattle.sc_compile.proofs.Common.{with_low, with_target, ℕ, ℤ, ◌*◌, ◌++◌, ◌+◌, ◌-ℤ◌, ◌∙◌, ◌∷◌, ◌≡◌, ◌≤◌}
 use Rattle.rv_code.specs.Prelude.{IsInstr, word_of}
-use Rattle.sc_image.specs.Prelude.{code_of}
+use Rattle.sc_image.specs.Prelude.{code_in}
 use Rattle.sc_tac.specs.Prelude.{branches as code_ifs}
 use Rattle.std.proofs.lemmas.List.Elements.{All-cons, All-head, All-map, All-nil, All-tail, All-weaker}
 use Rattle.std.proofs.lemmas.List.{map-append}
@@ -337,7 +337,7 @@ module _ (program : ProgramTree) (typed : IsWellTyped program) where
           code_instrs comp (exports_at program comp) (section_at program comp) (codes_at program codes comp)
           (can_link program codes emitted.whole linkable comp fits)
 
-      code_is : code_of (built_image program) comp ≡ map word_of (comp_code program codes comp)
+      code_is : code_in (built_image program) comp ≡ map word_of (comp_code program codes comp)
       code_is = ap (λ o. option_map_or (λ (part : CompPart). part.code) o []) (part_is program codes comp fits)
 
       abbrev lower : TypedFunction → TacFnTree
@@ -398,7 +398,7 @@ module _ (program : ProgramTree) (typed : IsWellTyped program) where
 pub no_tests : (program : ProgramTree) → IsWellTyped program →
     IsLinkable program (all_codes (lowered_program program)) → AreEmitted program →
     (comp : ℕ) (section : TypedSection) → slice_get program.sections comp ≡ Some section →
-    HasNoTests section (code_of (built_image program) comp)
+    HasNoTests section (code_in (built_image program) comp)
 no_tests program typed linkable emitted comp section is =
     subst (HasNoTests section) (sym (code_is program typed linkable emitted comp section is))
     (words_without program typed linkable emitted comp section is)

@@ -1,8 +1,10 @@
 -- An instance: images that aren't those of a small program, and code that isn't that of a division.
 use Rattle.sc_compile.proofs.Common.{All, Bool, HasNoTests, ImageParts, IsCompiled, IsWord, List, Option, ProgramTree}
-use Rattle.sc_compile.proofs.Common.{Some, TypedFunction, TypedSection, [], ap, ap₂, arith, c_arith, cond, count_by, false}
+use Rattle.sc_compile.proofs.Common.{Some, TypedFunction, TypedSection, [], ap, ap₂, arith, c_arith, cond, count_by}
+use Rattle.sc_compile.proofs.Common.{false}
 use Rattle.sc_compile.proofs.Common.{frame_bound, if◌then◌else◌, is_branch, leb-true, machine, nodes, program_nodes}
-use Rattle.sc_compile.proofs.Common.{refl, subst, suc, sym, test_word, true, variables, zero, ℕ, ⊎_elim, ◌&&◌, ◌*◌, ◌++◌}
+use Rattle.sc_compile.proofs.Common.{refl, subst, suc, sym, test_word, true, variables, zero, ℕ, ⊎_elim, ◌&&◌, ◌*◌}
+use Rattle.sc_compile.proofs.Common.{◌++◌}
 use Rattle.sc_compile.proofs.Common.{◌+◌, ◌<◌, ◌==◌, ◌∙◌, ◌∷◌, ◌≡◌, ◌≤◌}
 use Rattle.std.specs.Prelude.{codes, max, ◌-◌}
 use Rattle.std.specs.List.{AllZip, concat}
@@ -19,7 +21,7 @@ use Rattle.sc_core.specs.declared.stmt.TypedStmtKind.TheOpen as layer
 use Rattle.sc_core.specs.declared.ty.Ty.TheVariants.{Int}
 use Rattle.sc_core.proofs.Layers.{expr_at, on_line, stmt_at, typed}
 use Rattle.sc_image.specs.Machine.{after, run, stopped, stops_or}
-use Rattle.sc_image.specs.Prelude.{Run, State, Traps, start, step}
+use Rattle.sc_image.specs.Prelude.{MachineRun, MachineState, Traps, start, step}
 use Rattle.sc_lower.specs.Branches.{branches, expr_branches, kind_branches, term_branches}
 use Rattle.sc_compile.specs.Prelude.{HasFewBranches}
 use Rattle.sc_compile.proofs.NoTests.{counted, counted_append, passed_over}
@@ -66,7 +68,7 @@ silent_is_refused image silent is =
     (is.forward [] 1 2 (All-nil IsWord))
 
 -- and one that traps at its entry is such
-stays : (o : Option Stop) (state : State) (later : Run) → later.state ≡ state →
+stays : (o : Option Stop) (state : MachineState) (later : MachineRun) → later.state ≡ state →
     (stops_or o state later).state ≡ state
 stays (Some stop) state later is = refl
 stays _ state later is = is
@@ -82,7 +84,7 @@ trapped image reason traps events (suc steps) =
 trap_is_refused : (image : ImageParts) (reason : TrapReason) → step image [] (start image) ≡ Traps reason →
     IsCompiled alone image → ⊥
 trap_is_refused image reason traps =
-    silent_is_refused image (ap (λ (s : State). s.trace)
+    silent_is_refused image (ap (λ (s : MachineState). s.trace)
     (trapped image reason traps 2 (24 * program_nodes alone * suc 1)))
 
 -- `int f(void) { return 8 / 2; }`: it has no `if`

@@ -1,6 +1,8 @@
 -- A run is reported by the names of an image as by those of the interfaces that it says.
-use Rattle.sc_compile.proofs.Common.{Event, ImageParts, Interface, Interfaces, List, Proto, [], ap, ap₂, interface_of}
-use Rattle.sc_compile.proofs.Common.{interfaces_of, map, option_and_then, option_map_or, proto_of, refl, slice_get, suc}
+use Rattle.sc_compile.proofs.Common.{Event, ImageParts, Interface, Interfaces, List, Proto, [], ap, ap₂}
+use Rattle.sc_compile.proofs.Common.{image_interface}
+use Rattle.sc_compile.proofs.Common.{image_interfaces, map, option_and_then, option_map_or, image_proto, refl}
+use Rattle.sc_compile.proofs.Common.{slice_get, suc}
 use Rattle.sc_compile.proofs.Common.{zero, ℕ, ◌++◌, ◌∙◌, ◌∷◌, ◌≡◌}
 use Rattle.std.specs.List.{AllZip}
 use Rattle.std.specs.Prelude.{codes, flat_map}
@@ -13,7 +15,7 @@ use Rattle.sc_image.specs.declared.parts.ExportPart.{ExportPart}
 use Rattle.sc_linker.specs.Prelude.{HasInterface, HasInterfaces, HasProto}
 
 name_along : (interfaces : List Interface) (parts : List CompPart) → AllZip HasInterface interfaces parts →
-    (comp : ℕ) → option_map_or (λ (found : Interface). found.name) (slice_get (map interface_of parts) comp) []
+    (comp : ℕ) → option_map_or (λ (found : Interface). found.name) (slice_get (map image_interface parts) comp) []
     ≡ option_map_or (λ (found : Interface). found.name) (slice_get interfaces comp) []
 name_along [] [] all comp = refl
 name_along [] (part ∷ parts) all comp = absurd all
@@ -22,7 +24,7 @@ name_along (interface ∷ interfaces) (part ∷ parts) all zero = all.0.name
 name_along (interface ∷ interfaces) (part ∷ parts) all (suc comp) = name_along interfaces parts all.1 comp
 
 export_along : (protos : List Proto) (exports : List ExportPart) → AllZip HasProto protos exports → (index : ℕ) →
-    option_map_or (λ (found : Proto). found.name) (slice_get (map proto_of exports) index) []
+    option_map_or (λ (found : Proto). found.name) (slice_get (map image_proto exports) index) []
     ≡ option_map_or (λ (found : Proto). found.name) (slice_get protos index) []
 export_along [] [] all index = refl
 export_along [] (export ∷ exports) all index = absurd all
@@ -32,7 +34,8 @@ export_along (proto ∷ protos) (export ∷ exports) all (suc index) = export_al
 
 exports_along : (interfaces : List Interface) (parts : List CompPart) → AllZip HasInterface interfaces parts →
     (comp index : ℕ) → option_map_or (λ (found : Proto). found.name)
-    (option_and_then (λ (found : Interface). slice_get found.exports index) (slice_get (map interface_of parts) comp))
+    (option_and_then (λ (found : Interface). slice_get found.exports index) (slice_get (map image_interface parts)
+    comp))
     [] ≡ option_map_or (λ (found : Proto). found.name)
     (option_and_then (λ (found : Interface). slice_get found.exports index) (slice_get interfaces comp)) []
 exports_along [] [] all comp index = refl
@@ -44,16 +47,16 @@ exports_along (interface ∷ interfaces) (part ∷ parts) all (suc comp) index =
     exports_along interfaces parts all.1 comp index
 
 module _ (interfaces : Interfaces) (image : ImageParts) (has : HasInterfaces interfaces image) where
-  same_name : (comp : ℕ) → comp_name (interfaces_of image) comp ≡ comp_name interfaces comp
+  same_name : (comp : ℕ) → comp_name (image_interfaces image) comp ≡ comp_name interfaces comp
   same_name comp = name_along interfaces.comps image.comps has.comps comp
 
-  same_export : (comp index : ℕ) → export_name (interfaces_of image) comp index ≡ export_name interfaces comp index
+  same_export : (comp index : ℕ) → export_name (image_interfaces image) comp index ≡ export_name interfaces comp index
   same_export comp index = exports_along interfaces.comps image.comps has.comps comp index
 
-  same_line : (event : Event) → event_line (interfaces_of image) event ≡ event_line interfaces event
+  same_line : (event : Event) → event_line (image_interfaces image) event ≡ event_line interfaces event
   same_line (Call from to index args) =
-      ap (λ name. line (codes "call") (name ∷ comp_name (interfaces_of image) to ∷
-      export_name (interfaces_of image) to index ∷ []) args) (same_name from) ∙
+      ap (λ name. line (codes "call") (name ∷ comp_name (image_interfaces image) to ∷
+      export_name (image_interfaces image) to index ∷ []) args) (same_name from) ∙
       ap₂ (λ name export. line (codes "call") (comp_name interfaces from ∷ name ∷ export ∷ []) args) (same_name to)
       (same_export to index)
   same_line (Ret from to value) =
@@ -65,6 +68,6 @@ module _ (interfaces : Interfaces) (image : ImageParts) (has : HasInterfaces int
 
   -- the lines of a trace
   pub same_lines : (trace : List Event) →
-      flat_map (event_line (interfaces_of image)) trace ≡ flat_map (event_line interfaces) trace
+      flat_map (event_line (image_interfaces image)) trace ≡ flat_map (event_line interfaces) trace
   same_lines [] = refl
   same_lines (event ∷ trace) = ap₂ (λ one rest. one ++ rest) (same_line event) (same_lines trace)

@@ -1,6 +1,6 @@
 -- The program in which a set performs its part of the machine's trace, by the run of its code.
 use Rattle.sc_compile.proofs.Common.{Bool, EmitsOrIsBlamed, Event, IsBlamed, IsStop, IsWellTyped, KeepsTo, List}
-use Rattle.sc_compile.proofs.Common.{ProgramTree, Run, Set, ap, c_arith, false, inl, inr, keeps_meaning, length}
+use Rattle.sc_compile.proofs.Common.{ProgramTree, Run, CompSet, ap, c_arith, false, inl, inr, keeps_meaning, length}
 use Rattle.sc_compile.proofs.Common.{lowered_program, ltb-false, ltb-true, nat_lt, refl, scripted_by, scripted_code_run}
 use Rattle.sc_compile.proofs.Common.{scripted_run_of, shorter_first, subst, sym, true, unstopped, wrapped_code_agrees}
 use Rattle.sc_compile.proofs.Common.{wrapping, ℕ, ⊎_elim, ◌<◌, ◌∙◌, ◌≡◌}
@@ -34,7 +34,7 @@ stops_so (Blamed comp cause line) h = tt
 stops_so TurnsOut h = absurd h
 stops_so EventsOut h = absurd h
 
-module _ (program : ProgramTree) (typed : IsWellTyped program) (set : Set) (inputs : List ℕ) (turns : ℕ)
+module _ (program : ProgramTree) (typed : IsWellTyped program) (set : CompSet) (inputs : List ℕ) (turns : ℕ)
     (observed : List Event) where
   abbrev whole : Run
   whole = scripted_run_of c_arith program inputs turns set observed

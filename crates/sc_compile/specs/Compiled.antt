@@ -5,9 +5,9 @@ use Rattle.sc_compile.specs.Common.{branches, c_arith, is_branch, is_ebreak, mac
 use Rattle.sc_compile.specs.Common.{run_of, scripted_meaning, total, wrapping}
 use Rattle.sc_base.specs.Prelude.{IsPrefix}
 use Rattle.sc_event.specs.Prelude.{legal}
-use Rattle.sc_core_laws.specs.Prelude.{IsBlamedOutside, Set}
+use Rattle.sc_core_laws.specs.Prelude.{IsBlamedOutside, CompSet}
 use Rattle.rv_code.specs.Prelude.{decoded}
-use Rattle.sc_image.specs.Prelude.{IsWellFormed, code_of}
+use Rattle.sc_image.specs.Prelude.{IsWellFormed, code_in}
 use Rattle.sc_linker.specs.Prelude.{HasInterfaces}
 use Rattle.std.specs.Prelude.{◌≡◌, ℕ, suc, ◌*◌, ◌<◌, ◌≤◌, ◌⊎◌, Bool, true, false, List, ◌++◌, length, map, All, Option}
 use Rattle.std.specs.Prelude.{None, Some, slice_get}
@@ -39,7 +39,7 @@ BackwardSimulation program image = (inputs : List ℕ) (steps events : ℕ) → 
 
 -- A run in which a set performs its part of a trace has this trace, or is blamed before its end, on one of `count`
 -- compartments, outside of the set.
-abbrev pub EmitsOrIsBlamed : (count : ℕ) → Set → List Event → SourceRun → Type 0
+abbrev pub EmitsOrIsBlamed : (count : ℕ) → CompSet → List Event → SourceRun → Type 0
 EmitsOrIsBlamed count set trace run =
     (run.trace ≡ trace) ⊎ (IsBlamedOutside count set run trace × (length run.trace < length trace))
 
@@ -74,10 +74,10 @@ pub record IsCompiled (program : ProgramTree) (image : ImageParts) : Type 0 wher
   pub wrapped : ForwardSimulation wrapping program image
   pub backward : BackwardSimulation program image
   pub no_tests : (comp : ℕ) (section : TypedSection) → slice_get program.sections comp ≡ Some section →
-      HasNoTests section (code_of image comp)
+      HasNoTests section (code_in image comp)
   -- where a set of compartments performs its part of the machine's trace, the run with as many turns as there were
   -- steps has the same trace, or a compartment outside of the set is blamed before
-  pub scripted : (inputs : List ℕ) (steps events : ℕ) (set : Set) → All IsWord inputs →
+  pub scripted : (inputs : List ℕ) (steps events : ℕ) (set : CompSet) → All IsWord inputs →
       let observed = (machine image inputs steps events).state.trace in
       EmitsOrIsBlamed (length program.sections) set observed
       (scripted_meaning program set observed inputs steps (length observed))

@@ -3,7 +3,7 @@ use Rattle.sc_core.specs.Prelude.{bytes_a_node, most_code, most_frame}
 use Rattle.sc_compile.specs.Common.{CodeTooLarge, CompileFault, DataTooLarge, FrameTooLarge, TacFnTree, TacSection}
 use Rattle.sc_compile.specs.Common.{TypedGlobal, cells_of, frame_bound, most_globals, total}
 use Rattle.std.specs.Prelude.{ℕ, ◌+◌, ◌*◌, ◌^◌, ◌<◌, List, ◌++◌, map, flat_map, All, Option}
-use Rattle.sc_compile.specs.Sizes.{above, first, found_in}
+use Rattle.sc_compile.specs.Sizes.{above, first, faults_from}
 
 abbrev pub cells_in : TacSection → ℕ
 cells_in section = total (map {A = TypedGlobal} (λ g. cells_of section.structs g.ty) section.globals)
@@ -27,8 +27,8 @@ counted_code comp section =
 
 abbrev pub counted_all : List TacSection → Option CompileFault
 counted_all sections =
-    first (found_in counted_data 0 sections ++
-    (found_in counted_frames 0 sections ++ found_in counted_code 0 sections))
+    first (faults_from counted_data 0 sections ++
+    (faults_from counted_frames 0 sections ++ faults_from counted_code 0 sections))
 
 -- no count of a program passes what a word of 64 bits holds
 pub record IsCounted (section : TacSection) : Type 0 where

@@ -8,5 +8,5 @@ pub use Rattle.sc_compile.specs.Globals.{BeginAsWords, BeginsAsWords}
 pub use Rattle.sc_compile.specs.Image.{HasParts, IsFault, PartsAreSeparate, all_codes, built_image, function_code}
 pub use Rattle.sc_compile.specs.Image.{image_of, section_codes, section_part, unless_large}
 pub use Rattle.sc_compile.specs.Passes.{AreEmitted, EachEmits, EmitsAll, EmitsSo, FitAll, Fits}
-pub use Rattle.sc_compile.specs.Sizes.{above, code_bytes, data_bytes, first, found_in, frame_bytes, large_code}
+pub use Rattle.sc_compile.specs.Sizes.{above, code_size, data_size, first, faults_from, frame_bytes, large_code}
 pub use Rattle.sc_compile.specs.Sizes.{large_data, large_frame, large_frames, too_large}

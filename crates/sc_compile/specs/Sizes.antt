@@ -12,18 +12,18 @@ use Rattle.sc_core.specs.declared.section.TypedFunction.{TypedFunction}
 abbrev pub above : (limit size : ℕ) → CompileFault → List CompileFault
 above limit size fault = if nat_lt limit size then fault ∷ [] else []
 
-abbrev pub data_bytes : TypedSection → ℕ
-data_bytes section = 4 * total (map {A = TypedGlobal} (λ g. cells_of section.structs g.ty) section.globals)
+abbrev pub data_size : TypedSection → ℕ
+data_size section = 4 * total (map {A = TypedGlobal} (λ g. cells_of section.structs g.ty) section.globals)
 
 abbrev pub frame_bytes : TypedSection → TypedFunction → ℕ
 frame_bytes section f = frame_bound (variables section.structs f) (nodes f)
 
-abbrev pub code_bytes : TypedSection → ℕ
-code_bytes section = code_bound (map nodes section.functions)
+abbrev pub code_size : TypedSection → ℕ
+code_size section = code_bound (map nodes section.functions)
 
 abbrev pub large_data : (comp : ℕ) → TypedSection → List CompileFault
 large_data comp section =
-    above most_globals (data_bytes section) (DataTooLarge comp (data_bytes section))
+    above most_globals (data_size section) (DataTooLarge comp (data_size section))
 
 abbrev pub large_frame : (comp : ℕ) → TypedSection → TypedFunction → List CompileFault
 large_frame comp section f =
@@ -35,12 +35,12 @@ large_frames comp section = flat_map (large_frame comp section) section.function
 
 abbrev pub large_code : (comp : ℕ) → TypedSection → List CompileFault
 large_code comp section =
-    above most_code (code_bytes section) (CodeTooLarge comp (code_bytes section))
+    above most_code (code_size section) (CodeTooLarge comp (code_size section))
 
 -- what is found in sections, from this number on
-abbrev pub found_in : {A : Type 0} → (ℕ → A → List CompileFault) → ℕ → List A → List CompileFault
-found_in find comp [] = []
-found_in find comp (section ∷ sections) = find comp section ++ found_in find (suc comp) sections
+abbrev pub faults_from : {A : Type 0} → (ℕ → A → List CompileFault) → ℕ → List A → List CompileFault
+faults_from find comp [] = []
+faults_from find comp (section ∷ sections) = find comp section ++ faults_from find (suc comp) sections
 
 abbrev pub first : List CompileFault → Option CompileFault
 first [] = None
@@ -49,5 +49,5 @@ first (fault ∷ later) = Some fault
 -- what is too large first, if anything is
 abbrev pub too_large : ProgramTree → Option CompileFault
 too_large program =
-    first (found_in large_data 0 program.sections ++
-    (found_in large_frames 0 program.sections ++ found_in large_code 0 program.sections))
+    first (faults_from large_data 0 program.sections ++
+    (faults_from large_frames 0 program.sections ++ faults_from large_code 0 program.sections))

@@ -2,7 +2,7 @@
 
 ghost use Rattle.sc_base.specs.Prelude.{most_compartments};
 ghost use Rattle.sc_compile.specs.Prelude.{IsCounted, cells_in, cells_of, counted_all, counted_code, counted_data};
-ghost use Rattle.sc_compile.specs.Prelude.{counted_frame, counted_frames, first, found_in, frame_bound, nodes_in};
+ghost use Rattle.sc_compile.specs.Prelude.{counted_frame, counted_frames, first, faults_from, frame_bound, nodes_in};
 ghost use Rattle.sc_compile.specs.Prelude.{total};
 ghost use Rattle.std.specs.Prelude.{◌≡◌, ◌≤◌, ◌<◌, ◌+◌, ◌^◌, [], length, map, All, IfErr, IfOk, None, Some};
 ghost use Rattle.sc_core.specs.declared.section.TypedGlobal.{TypedGlobal};
@@ -113,8 +113,8 @@ fn check_code(comp: CompId, section: &TacSection) -> Result<(), CompileFault>
 fn check_all_data(sections: &[TacSection]) -> Result<(), CompileFault>
     requires few { length sections.now ≤ most_compartments }
     requires counted { All IsCounted sections.now }
-    ensures none { IfOk result (λ _. found_in counted_data 0 sections.now ≡ []) }
-    ensures found { IfErr result (λ fault. first (found_in counted_data 0 sections.now) ≡ Some fault) }
+    ensures none { IfOk result (λ _. faults_from counted_data 0 sections.now ≡ []) }
+    ensures found { IfErr result (λ fault. first (faults_from counted_data 0 sections.now) ≡ Some fault) }
 {
     for number in 0..sections.len() {
         check_data(comp_id(number), &sections[number])?;
@@ -125,8 +125,8 @@ fn check_all_data(sections: &[TacSection]) -> Result<(), CompileFault>
 fn check_all_frames(sections: &[TacSection]) -> Result<(), CompileFault>
     requires few { length sections.now ≤ most_compartments }
     requires counted { All IsCounted sections.now }
-    ensures none { IfOk result (λ _. found_in counted_frames 0 sections.now ≡ []) }
-    ensures found { IfErr result (λ fault. first (found_in counted_frames 0 sections.now) ≡ Some fault) }
+    ensures none { IfOk result (λ _. faults_from counted_frames 0 sections.now ≡ []) }
+    ensures found { IfErr result (λ fault. first (faults_from counted_frames 0 sections.now) ≡ Some fault) }
 {
     for number in 0..sections.len() {
         check_frames(comp_id(number), &sections[number])?;
@@ -137,8 +137,8 @@ fn check_all_frames(sections: &[TacSection]) -> Result<(), CompileFault>
 fn check_all_code(sections: &[TacSection]) -> Result<(), CompileFault>
     requires few { length sections.now ≤ most_compartments }
     requires counted { All IsCounted sections.now }
-    ensures none { IfOk result (λ _. found_in counted_code 0 sections.now ≡ []) }
-    ensures found { IfErr result (λ fault. first (found_in counted_code 0 sections.now) ≡ Some fault) }
+    ensures none { IfOk result (λ _. faults_from counted_code 0 sections.now ≡ []) }
+    ensures found { IfErr result (λ fault. first (faults_from counted_code 0 sections.now) ≡ Some fault) }
 {
     for number in 0..sections.len() {
         check_code(comp_id(number), &sections[number])?;

@@ -1,7 +1,8 @@
 -- What a program means.
+pub use Rattle.sc_base.specs.Identifier.{main_name}
 use Rattle.sc_core.specs.Common.{End, Entry, Event, Export, Main, Proto, export_at}
 use Rattle.std.specs.Prelude.{ℕ, zero, suc, ◌+◌, ◌-◌, ◌++◌, max, Bool, true, ◌&&◌, if◌then◌else◌, ◌==◌, nat_lt, List}
-use Rattle.std.specs.Prelude.{[], ◌∷◌, codes, bytes_eq, length, map, Option, None, Some, is_some, Ok, slice_get}
+use Rattle.std.specs.Prelude.{[], ◌∷◌, bytes_eq, length, map, Option, None, Some, is_some, Ok, slice_get}
 use Rattle.std.specs.Prelude.{slice_index_or}
 use Rattle.std.specs.List.{position}
 use Rattle.sc_core.specs.declared.cause.Cause.TheVariants.{NoReturn}
@@ -34,9 +35,6 @@ use Rattle.sc_core.specs.Combinators.{Next, Break, Continue, Return, leave, foll
 use Rattle.sc_core.specs.Tree.{Acts, at_place, variable_at, ways, assign, block_does}
 use Rattle.sc_core.specs.Calls.{Function, Denotations, Step, found, word_in, call_own, run_step, within}
 use Rattle.sc_core.specs.Scripts.{roles_in, scripted_step}
-
-abbrev pub main_name : List ℕ
-main_name = codes "main"
 
 -- the closing brace: a function with a result must not reach it, except `main`, which gives 0 (C11 5.1.2.2.3, 6.9.1p12)
 abbrev pub at_brace : Bool → Bool → ℕ → Here → State → Piece (Option Value)

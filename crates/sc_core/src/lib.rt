@@ -2,6 +2,7 @@
 #![tactic(auto)]
 
 mod cause;
+mod explanation;
 mod expr;
 mod place;
 mod program;
@@ -13,6 +14,7 @@ mod ty;
 mod value;
 
 pub use cause::Cause;
+pub use explanation::{Explanation, Link, Links};
 pub use expr::{CallTarget, TypedCall, TypedExpr, TypedExprs, TypedKind, VarRef};
 pub use place::TypedPlace;
 pub use program::{Program, ProgramTree};

@@ -1,7 +1,8 @@
 -- No compartment that performs is blamed, whatever the trace is, and only compartments that there are.
 use Rattle.sc_core_laws.proofs.Common.{AreFresh, Blamed, Bool, Cause, ChainRises, Denotations, Ended, Event, EventsOut}
-use Rattle.sc_core_laws.proofs.Common.{Function, HasChain, IsBlamedOutside, IsChain, IsRising, IsWithin, Kept, Link}
-use Rattle.sc_core_laws.proofs.Common.{List, Memory, Obedient, Option, PassesBlame, Piece, Roles, RunEnd, Set}
+use Rattle.sc_core_laws.proofs.Common.{Function, HasChain, IsBlamedOutside, IsBlameChain, IsRising, IsSubset, Kept}
+use Rattle.sc_core_laws.proofs.Common.{BlameLink}
+use Rattle.sc_core_laws.proofs.Common.{List, Memory, Obedient, Option, PassesBlame, Piece, Roles, RunEnd, CompSet}
 use Rattle.sc_core_laws.proofs.Common.{SourceRun, TurnsOut, Value, [], ap, arith, cases_eq, eq-eqb, false, first_state}
 use Rattle.sc_core_laws.proofs.Common.{function, if◌then◌else◌, is_some, leb-false, length, length-append, longer}
 use Rattle.sc_core_laws.proofs.Common.{nat_le, ne_eqb, nobody, performed_by, reaches, refl, roles_in, roles_run}
@@ -104,12 +105,12 @@ early n x comp cause line ends = by _ refl ends where
       length (cut_if n b x).trace < n
   by b is ends = grind (arith, is, ends)
 
-within_with : (set : Set) (comp : ℕ) → IsWithin set (with comp set)
+within_with : (set : CompSet) (comp : ℕ) → IsSubset set (with comp set)
 within_with set comp c is = grind (arith, is)
 
 module _ (L : Denotations) (obedient : Obedient L) (globals : Memory) (inputs : List ℕ) (turns : ℕ) (t : List Event)
   where
-    abbrev behaviour : Set → SourceRun
+    abbrev behaviour : CompSet → SourceRun
     behaviour set = performed_by L globals inputs turns t set
 
     -- where the next run is blamed it has emitted more
@@ -121,9 +122,9 @@ module _ (L : Denotations) (obedient : Obedient L) (globals : Memory) (inputs : 
         let long = length-append (run.trace ++ event ∷ []) prefix.more in
         omega (arith, ap length prefix.is, long, length-append run.trace (event ∷ []))
 
-    rises : (set : Set) (least : ℕ) (links : List Link) → ((comp : ℕ) (cause : Cause) (line : ℕ) →
+    rises : (set : CompSet) (least : ℕ) (links : List BlameLink) → ((comp : ℕ) (cause : Cause) (line : ℕ) →
         (behaviour set).end ≡ Blamed comp cause line → least ≤ length (behaviour set).trace) →
-        IsChain (performed_by L globals inputs turns t) t set links → IsRising least (length t) links
+        IsBlameChain (performed_by L globals inputs turns t) t set links → IsRising least (length t) links
     rises set least [] h chain = tt
     rises set least (link ∷ links) h chain =
         let here = chain.0 in
@@ -142,7 +143,8 @@ module _ (L : Denotations) (obedient : Obedient L) (globals : Memory) (inputs : 
               omega (arith, more, same)) chain.1,
         )
 
-    are_fresh : (set : Set) (links : List Link) → IsChain (performed_by L globals inputs turns t) t set links →
+    are_fresh : (set : CompSet) (links : List BlameLink) → IsBlameChain (performed_by L globals inputs turns t) t set
+        links →
         AreFresh set links
     are_fresh set [] chain = tt
     are_fresh set (link ∷ links) chain =
@@ -155,18 +157,19 @@ module _ (L : Denotations) (obedient : Obedient L) (globals : Memory) (inputs : 
         (rises nobody 0 links (λ comp cause line ends. omega arith) chain, are_fresh nobody links chain)
 
 -- how many compartments below a number are not of a set
-missing : Set → ℕ → ℕ
+missing : CompSet → ℕ → ℕ
 missing set zero = 0
 missing set (suc n) = (if set n then 0 else 1) + missing set n
 
 -- a compartment at or above the number doesn't count
-above_counts : (set : Set) (comp n : ℕ) → n ≤ comp → missing (with comp set) n ≡ missing set n
+above_counts : (set : CompSet) (comp n : ℕ) → n ≤ comp → missing (with comp set) n ≡ missing set n
 unfolding missing
 above_counts set comp zero le = refl
 above_counts set comp (suc n) le = grind (arith, ne_eqb n comp, above_counts set comp n (omega (arith, le)))
 
 -- one below it that isn't of the set counts once
-below_counts : (set : Set) (comp n : ℕ) → set comp ≡ false → comp < n → suc (missing (with comp set) n) ≡ missing set n
+below_counts : (set : CompSet) (comp n : ℕ) → set comp ≡ false → comp < n → suc (missing (with comp set) n) ≡ missing
+    set n
 unfolding missing
 below_counts set comp zero clear lt = absurd (omega (arith, lt))
 below_counts set comp (suc n) clear lt = grind (
@@ -183,12 +186,12 @@ unfolding missing
 nobody_missing zero = refl
 nobody_missing (suc n) = let rest = nobody_missing n in omega (arith, rest)
 
-module _ (t : List Event) (runs : Set → SourceRun) (count : ℕ)
-    (each : (set : Set) → ((runs set).trace ≡ t) ⊎ IsBlamedOutside count set (runs set) t) where
-  abbrev Found : Set → ℕ → Type 0
-  Found set most = (links : List Link) × IsChain runs t set links × (length links ≤ most)
+module _ (t : List Event) (runs : CompSet → SourceRun) (count : ℕ)
+    (each : (set : CompSet) → ((runs set).trace ≡ t) ⊎ IsBlamedOutside count set (runs set) t) where
+  abbrev Found : CompSet → ℕ → Type 0
+  Found set most = (links : List BlameLink) × IsBlameChain runs t set links × (length links ≤ most)
 
-  found : (most : ℕ) (set : Set) → missing set count ≤ most → Found set most
+  found : (most : ℕ) (set : CompSet) → missing set count ≤ most → Found set most
   found zero set few = ⊎_elim (λ emits_trace. ([], emits_trace, omega arith)) (λ b.
       let counts = below_counts set b.comp count b.outside b.compartment in absurd (omega (arith, few, counts)))
       (each set)
@@ -199,7 +202,7 @@ module _ (t : List Event) (runs : Set → SourceRun) (count : ℕ)
 
         goes_on : (b : IsBlamedOutside count set (runs set) t) → Found (with b.comp set) most → Found set (suc most)
         goes_on b rest =
-            let link : Link =
+            let link : BlameLink =
             record { comp = b.comp; after = length (runs set).trace; cause = b.cause; line = b.line } in
             let few_links = rest.2 in (
               link ∷ rest.0,
@@ -207,7 +210,7 @@ module _ (t : List Event) (runs : Set → SourceRun) (count : ℕ)
               omega (arith, few_links),
             )
 
-pub has_chain : (trace : List Event) (runs : Set → SourceRun) → HasChain trace runs
+pub has_chain : (trace : List Event) (runs : CompSet → SourceRun) → HasChain trace runs
 has_chain trace runs count each =
     let result = found trace runs count each count nobody (omega (arith, nobody_missing count)) in
     (result.0, result.1, result.2)

@@ -66,13 +66,16 @@ pub use Rattle.sc_core_laws.specs.Prelude.{ChangesAreWithin, DeepestIsReached, D
 pub use Rattle.sc_core_laws.specs.Prelude.{DepthsAreKept, Doing, EmitsNoEnd, EmitsWithMore, EmptySetIsMeaning}
 pub use Rattle.sc_core_laws.specs.Prelude.{ExportsLead, ExtendedByMore, Extends, FixedPoint, FunctionsAgree}
 pub use Rattle.sc_core_laws.specs.Prelude.{FunctionsMatch, Gives, GoFrom, Goes, Gone, Grown, Halts, HasChain}
-pub use Rattle.sc_core_laws.specs.Prelude.{HasFixedPoint, HoldsOfSets, Includes, InteractionTree, IsArithmetic}
-pub use Rattle.sc_core_laws.specs.Prelude.{IsBlamedOutside, IsChain, IsFinal, IsFixed, IsRising, IsSteady, IsWithin}
-pub use Rattle.sc_core_laws.specs.Prelude.{KeepsBlames, KeepsDepths, Lasts, LeastIsChain, LeavesDepths, Link, Match}
+pub use Rattle.sc_core_laws.specs.Prelude.{HasFixedPoint, HoldsOfSets, HasAllBlamed, InteractionTree, IsArithmetic}
+pub use Rattle.sc_core_laws.specs.Prelude.{IsBlamedOutside, IsBlameChain, IsFinal, IsFixed, IsRising, IsSteady}
+pub use Rattle.sc_core_laws.specs.Prelude.{IsSubset}
+pub use Rattle.sc_core_laws.specs.Prelude.{KeepsBlames, KeepsDepths, Lasts, LeastIsChain, LeavesDepths, BlameLink}
+pub use Rattle.sc_core_laws.specs.Prelude.{Match}
 pub use Rattle.sc_core_laws.specs.Prelude.{MeaningGoesOn, Meets, MoreGoesOn, MoreMayPerform, Never}
 pub use Rattle.sc_core_laws.specs.Prelude.{NobodyWhoPerformsIsBlamed, Obedient, OnlyGoesOn, OtherLinesAgree}
 pub use Rattle.sc_core_laws.specs.Prelude.{PassesBlame, PassesBlames, PiecesAgree, Plays, ProgramsObey, Reads}
-pub use Rattle.sc_core_laws.specs.Prelude.{RunsAgree, RunsUntilBlame, Set, Spends, SpendsAlong, SpendsTurns, StopsSo}
+pub use Rattle.sc_core_laws.specs.Prelude.{RunsAgree, RunsUntilBlame, CompSet, Spends, SpendsAlong, SpendsTurns}
+pub use Rattle.sc_core_laws.specs.Prelude.{StopsSo}
 pub use Rattle.sc_core_laws.specs.Prelude.{StopsSpent, Stores, TracesAreLegal, TurnsOutMeansTurns, WrappedAgrees}
 pub use Rattle.sc_core_laws.specs.Prelude.{WrappingAgrees, blamed, blamed_run, denotations_run, depth_after, has_no_end}
 pub use Rattle.sc_core_laws.specs.Prelude.{last, longer, main_call, nobody, now, performed, performed_by}

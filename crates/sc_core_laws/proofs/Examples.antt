@@ -1,6 +1,7 @@
 -- Chains of worked programs, computed, and the least sets that they give.
-use Rattle.sc_core_laws.proofs.Common.{Blamed, Call, End, Ended, Event, Includes, IsChain, IsPrefix, Link, List, Out}
-use Rattle.sc_core_laws.proofs.Common.{OutOfBounds, ProgramTree, Ret, Set, Some, SourceRun, [], ap, c_arith, length}
+use Rattle.sc_core_laws.proofs.Common.{Blamed, Call, End, Ended, Event, HasAllBlamed, IsBlameChain, IsPrefix, BlameLink}
+use Rattle.sc_core_laws.proofs.Common.{List, Out}
+use Rattle.sc_core_laws.proofs.Common.{OutOfBounds, ProgramTree, Ret, CompSet, Some, SourceRun, [], ap, c_arith, length}
 use Rattle.sc_core_laws.proofs.Common.{nobody, performed, sym, true, with, ◌++◌, ◌∷◌, ◌≡◌}
 use Rattle.sc_core.proofs.Plans.{program}
 use Rattle.sc_core.proofs.Programs.{two_stores_interfaces, two_stores, reentry_interfaces, reentry}
@@ -15,10 +16,10 @@ link_of run other more is = record { more = more; is = ap (λ r. r.trace ++ more
 abbrev stores : ProgramTree
 stores = program two_stores_interfaces two_stores
 
-abbrev first_link : Link
+abbrev first_link : BlameLink
 first_link = record { comp = 1; after = 1; cause = OutOfBounds; line = 6 }
 
-abbrev second_link : Link
+abbrev second_link : BlameLink
 second_link = record { comp = 2; after = 4; cause = OutOfBounds; line = 6 }
 
 nobody_stores : performed c_arith stores [] 5 two_stores_trace nobody ≡ record {
@@ -38,7 +39,7 @@ both_store : performed c_arith stores [] 5 two_stores_trace (with 2 (with 1 nobo
     ≡ record { trace = two_stores_trace; end = Ended }
 both_store = scripted_by_plan two_stores_interfaces two_stores (with 2 (with 1 nobody)) two_stores_trace [] 5 7
 
-pub stores_chain : IsChain (performed c_arith stores [] 5 two_stores_trace) two_stores_trace nobody
+pub stores_chain : IsBlameChain (performed c_arith stores [] 5 two_stores_trace) two_stores_trace nobody
     (first_link ∷ second_link ∷ [])
 stores_chain = (
   record {
@@ -58,14 +59,14 @@ stores_chain = (
 )
 
 -- no run emits the trace in which one of the two performs nothing
-pub stores_need_both : (set : Set) → (performed c_arith stores [] 5 two_stores_trace set).trace ≡ two_stores_trace →
+pub stores_need_both : (set : CompSet) → (performed c_arith stores [] 5 two_stores_trace set).trace ≡ two_stores_trace →
     (set 1 ≡ true) × (set 2 ≡ true)
 stores_need_both set emits_trace =
-    (let all : Includes set (first_link ∷ second_link ∷ []) = (chain_is_least.programs c_arith stores [] 5
+    (let all : HasAllBlamed set (first_link ∷ second_link ∷ []) = (chain_is_least.programs c_arith stores [] 5
     two_stores_trace (first_link ∷ second_link ∷ []) set stores_chain).0 emits_trace in (all.0, all.1.0))
 
 -- RE-ENTRY: the compartment that is blamed is entered again while it performs
-abbrev entered_again : Link
+abbrev entered_again : BlameLink
 entered_again = record { comp = 1; after = 1; cause = OutOfBounds; line = 10 }
 
 nobody_reenters : performed c_arith (program reentry_interfaces reentry) [] 5 reentry_trace nobody
@@ -76,7 +77,8 @@ first_reenters : performed c_arith (program reentry_interfaces reentry) [] 5 ree
     ≡ record { trace = reentry_trace; end = Ended }
 first_reenters = scripted_by_plan reentry_interfaces reentry (with 1 nobody) reentry_trace [] 5 8
 
-pub reentry_chain : IsChain (performed c_arith (program reentry_interfaces reentry) [] 5 reentry_trace) reentry_trace
+pub reentry_chain : IsBlameChain (performed c_arith (program reentry_interfaces reentry) [] 5 reentry_trace)
+    reentry_trace
     nobody (entered_again ∷ [])
 reentry_chain = (
   record {
@@ -89,7 +91,7 @@ reentry_chain = (
 )
 
 -- any set with that compartment emits the trace, whoever else performs
-pub reentry_suffices : (set : Set) → set 1 ≡ true →
+pub reentry_suffices : (set : CompSet) → set 1 ≡ true →
     (performed c_arith (program reentry_interfaces reentry) [] 5 reentry_trace set).trace ≡ reentry_trace
 reentry_suffices set has = (chain_is_least.programs c_arith (program reentry_interfaces reentry) [] 5 _
     (entered_again ∷ []) set reentry_chain).1 (has, tt)

@@ -1,8 +1,8 @@
 -- Whole runs along one trace, of which the second has more compartments that perform their parts of it; the least set.
 use Rattle.sc_core_laws.proofs.Common.{Blamed, Bool, Cause, Denotations, EmitsWithMore, Ended, Event, Function}
-use Rattle.sc_core_laws.proofs.Common.{Includes, IsChain, IsFixed, IsPrefix, IsStop, IsWithin, KeepsBlames}
-use Rattle.sc_core_laws.proofs.Common.{LeastIsChain, Link, List, Main, Memory, Never, None, Obedient, Option}
-use Rattle.sc_core_laws.proofs.Common.{PassesBlame, PassesBlames, Piece, Reached, RunEnd, Set, Some, SourceRun}
+use Rattle.sc_core_laws.proofs.Common.{HasAllBlamed, IsBlameChain, IsFixed, IsPrefix, IsStop, IsSubset, KeepsBlames}
+use Rattle.sc_core_laws.proofs.Common.{LeastIsChain, BlameLink, List, Main, Memory, Never, None, Obedient, Option}
+use Rattle.sc_core_laws.proofs.Common.{PassesBlame, PassesBlames, Piece, Reached, RunEnd, CompSet, Some, SourceRun}
 use Rattle.sc_core_laws.proofs.Common.{Standing, State, Step, Stopped, StopsSo, TurnsOut, Value, [], and_then, ap}
 use Rattle.sc_core_laws.proofs.Common.{append-nil, arith, begun, done, drop, eqb-true, exit_word, false, first_state}
 use Rattle.sc_core_laws.proofs.Common.{found, function, inl, inr, last, leb-false, length, length-append, longer}
@@ -27,7 +27,7 @@ behaviour_prefix : (main : ℕ) (o : Piece (Option Value)) → IsPrefix (last o)
 behaviour_prefix main (Reached v s) = record { more = event.End main _ ∷ []; is = refl }
 behaviour_prefix main (Stopped end s) = prefix_same s.trace
 
-module _ (t : List Event) (S' : Set) where
+module _ (t : List Event) (S' : CompSet) where
   -- the second run emits the whole trace; or it ends as the first; or it goes on where that stopped, by whether the
   -- blamed compartment performs
   pub data RunsFollow (x y : SourceRun) : Type 0 where
@@ -89,7 +89,7 @@ module _ (t : List Event) (S' : Set) where
     both_end st o p stop (follows.stop end u is by) =
         stops_by end u o p _ is stop by (λ x same. passes_on x u.trace p same)
 
-module _ (L : Denotations) (obedient : Obedient L) (t : List Event) (S S' : Set) (larger : IsWithin S S') where
+module _ (L : Denotations) (obedient : Obedient L) (t : List Event) (S S' : CompSet) (larger : IsSubset S S') where
   abbrev main : ℕ
   main = L.interfaces.main
 
@@ -212,7 +212,7 @@ module _ (t : List Event) (x y : SourceRun) where
   emits : IsPrefix t y.trace → (stopped_at (length t) y).trace ≡ t
   emits prefix = trace_is _ y ∙ ap (take _) prefix.is ∙ take_prefix t prefix.more
 
-  emits_too : (S' : Set) → (InLine t x.trace → RunsFollow t S' x y) → (stopped_at (length t) x).trace ≡ t →
+  emits_too : (S' : CompSet) → (InLine t x.trace → RunsFollow t S' x y) → (stopped_at (length t) x).trace ≡ t →
       (stopped_at (length t) y).trace ≡ t
   emits_too S' h emits_trace = by_run (h (inr prefix)) where
     prefix : IsPrefix t x.trace
@@ -231,7 +231,7 @@ module _ (t : List Event) (x y : SourceRun) where
       reaches (length t) x x.end ≡ false → length x.trace < length t
   blamed_early comp cause line ends is = leb-false _ _ (ap (reaches _ x) (sym ends) ∙ is)
 
-  module _ (S' : Set) (h : InLine t x.trace → RunsFollow t S' x y) (comp : ℕ) (cause : Cause) (line : ℕ) where
+  module _ (S' : CompSet) (h : InLine t x.trace → RunsFollow t S' x y) (comp : ℕ) (cause : Cause) (line : ℕ) where
     not_all : x.end ≡ Blamed comp cause line → reaches (length t) x x.end ≡ false → IsPrefix t x.trace → ⊥
     not_all ends is emitted =
         let few = blamed_early comp cause line ends is in
@@ -276,12 +276,12 @@ module _ (t : List Event) (x y : SourceRun) where
       (cut b x).end ≡ Blamed comp cause line → (cut b x).trace ≡ t → ⊥
   blamed_below comp cause line b is ends emits_trace = grind (arith, is, ends, emits_trace)
 
-with_link : (set small : Set) (comp : ℕ) → IsWithin small set → set comp ≡ true → IsWithin (with comp small) set
+with_link : (set small : CompSet) (comp : ℕ) → IsSubset small set → set comp ≡ true → IsSubset (with comp small) set
 with_link set small comp larger has c is = grind (arith, larger c, eqb-true c comp, has, is)
 
 module _ (L : Denotations) (obedient : Obedient L) (globals : Memory) (inputs : List ℕ) (turns : ℕ) (t : List Event)
   where
-    abbrev behaviour : Set → SourceRun
+    abbrev behaviour : CompSet → SourceRun
     behaviour = performed_by L globals inputs turns t
 
     pub emits_with_more : EmitsWithMore t behaviour
@@ -296,14 +296,15 @@ module _ (L : Denotations) (obedient : Obedient L) (globals : Memory) (inputs : 
     passes_blames small large larger comp cause line ends prefix set = passes_so t _ _ large
         (run_follows L obedient t small large larger globals inputs turns) comp cause line set _ refl ends prefix
 
-    module _ (set : Set) where
-      is_needed : (links : List Link) (small : Set) → IsWithin small set → IsChain behaviour t small links →
-          (behaviour set).trace ≡ t → Includes set links
+    module _ (set : CompSet) where
+      is_needed : (links : List BlameLink) (small : CompSet) → IsSubset small set → IsBlameChain behaviour t small links
+          →
+          (behaviour set).trace ≡ t → HasAllBlamed set links
       is_needed [] small larger chain emits_trace = tt
       is_needed (link ∷ links) small larger chain emits_trace = by_test (set link.comp) refl
           (λ has. is_needed links (with _ small) (with_link set small _ larger has) chain.1 emits_trace) where
-            by_test : (b : Bool) → set link.comp ≡ b → (set link.comp ≡ true → Includes set links) →
-                (set link.comp ≡ true) × Includes set links
+            by_test : (b : Bool) → set link.comp ≡ b → (set link.comp ≡ true → HasAllBlamed set links) →
+                (set link.comp ≡ true) × HasAllBlamed set links
             by_test true has rest = (has, rest has)
             by_test false clear rest =
                 let equal : behaviour set ≡ behaviour small =
@@ -312,8 +313,9 @@ module _ (L : Denotations) (obedient : Obedient L) (globals : Memory) (inputs : 
                 (behaviour small) link.comp link.cause link.line _ refl chain.0.blamed (ap (λ r. r.trace) (sym equal) ∙
                 emits_trace))
 
-      is_enough : (links : List Link) (small : Set) → IsWithin small set → IsChain behaviour t small links →
-          Includes set links → (behaviour set).trace ≡ t
+      is_enough : (links : List BlameLink) (small : CompSet) → IsSubset small set → IsBlameChain behaviour t small links
+          →
+          HasAllBlamed set links → (behaviour set).trace ≡ t
       is_enough [] small larger chain all = emits_with_more small set larger chain
       is_enough (link ∷ links) small larger chain all =
           is_enough links _ (with_link set small _ larger all.0) chain.1 all.1

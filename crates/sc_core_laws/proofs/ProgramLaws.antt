@@ -2,7 +2,8 @@
 use Rattle.sc_core_laws.proofs.Common.{BlameIsPassed, BlameRemains, BlamedAreThere, ChainExists, ChainIsLeast}
 use Rattle.sc_core_laws.proofs.Common.{ChainsRise, Denotations, DepthsAreKept, EmptySetIsMeaning, Event, FixedPoint}
 use Rattle.sc_core_laws.proofs.Common.{HoldsOfSets, List, MeaningGoesOn, Memory, MoreGoesOn, MoreMayPerform}
-use Rattle.sc_core_laws.proofs.Common.{NobodyWhoPerformsIsBlamed, Obedient, OnlyGoesOn, ProgramsObey, Set, SourceRun}
+use Rattle.sc_core_laws.proofs.Common.{NobodyWhoPerformsIsBlamed, Obedient, OnlyGoesOn, ProgramsObey, CompSet}
+use Rattle.sc_core_laws.proofs.Common.{SourceRun}
 use Rattle.sc_core_laws.proofs.Common.{TracesAreLegal, TurnsOutMeansTurns, WrappedAgrees, WrappingAgrees, c_arith}
 use Rattle.sc_core_laws.proofs.Common.{denotations_of, functions_in, globals_of, length-map, performed_by, refl}
 use Rattle.sc_core_laws.proofs.Common.{roles_in, run_step, scripted_step, subst, wrapping, ℕ, ◌<◌}
@@ -102,7 +103,7 @@ blamed_are_there = record {
 }
 
 -- what holds of denotations that obey holds of programs
-of_sets : (law : List Event → (Set → SourceRun) → Type 0) →
+of_sets : (law : List Event → (CompSet → SourceRun) → Type 0) →
     ((denotations : Denotations) → Obedient denotations →
     (globals : Memory) (inputs : List ℕ) (turns : ℕ) (trace : List Event) →
     law trace (performed_by denotations globals inputs turns trace)) → HoldsOfSets law

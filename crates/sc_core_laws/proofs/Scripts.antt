@@ -3,7 +3,8 @@
 use Rattle.sc_core_laws.proofs.Common.{Action, BadType, Blamed, Body, Bool, Call, CallTarget, Cross, Denotations, End}
 use Rattle.sc_core_laws.proofs.Common.{Ended, Event, EventsOut, Export, ExportsLead, Here, In, Input, Interfaces, Kept}
 use Rattle.sc_core_laws.proofs.Common.{List, Main, Memory, None, Obedient, Option, Out, Output, Piece, Property, Ret}
-use Rattle.sc_core_laws.proofs.Common.{Roles, Row, RunEnd, Set, Some, SpendsAlong, Standing, State, Stopped, TurnsOut}
+use Rattle.sc_core_laws.proofs.Common.{Roles, Row, RunEnd, CompSet, Some, SpendsAlong, Standing, State, Stopped}
+use Rattle.sc_core_laws.proofs.Common.{TurnsOut}
 use Rattle.sc_core_laws.proofs.Common.{Value, Word, [], action_of, acts, and_from, and_parts, and_then, ap, arith, asks}
 use Rattle.sc_core_laws.proofs.Common.{at_start, called, count_of, drop, drop_next, emit_event, eq-eqb, eqb-true, false}
 use Rattle.sc_core_laws.proofs.Common.{false≢true, first_state, function, if◌then◌else◌, imports, is_allowed}
@@ -55,7 +56,7 @@ module _ (main : ℕ) (trace : List Event) where
 
 -- FUNCTIONS
 module _ (denotations : Denotations) (leads_on : ExportsLead denotations) (trace : List Event)
-    (legal_trace : legal denotations.interfaces trace ≡ true) (set : Set) where
+    (legal_trace : legal denotations.interfaces trace ≡ true) (set : CompSet) where
   abbrev main : ℕ
   main = denotations.interfaces.main
 

@@ -9,33 +9,33 @@ pub data PassesBlame (run other : SourceRun) : Type 0 where
   longer : (event : Event) → IsPrefix (run.trace ++ event ∷ []) other.trace → PassesBlame run other
 
 -- sets of compartments
-abbrev pub Set : Type 0
-Set = ℕ → Bool
+abbrev pub CompSet : Type 0
+CompSet = ℕ → Bool
 
-abbrev pub IsWithin : Set → Set → Type 0
-IsWithin small large = (comp : ℕ) → small comp ≡ true → large comp ≡ true
+abbrev pub IsSubset : CompSet → CompSet → Type 0
+IsSubset small large = (comp : ℕ) → small comp ≡ true → large comp ≡ true
 
-abbrev pub nobody : Set
+abbrev pub nobody : CompSet
 nobody comp = false
 
-abbrev pub with : ℕ → Set → Set
+abbrev pub with : ℕ → CompSet → CompSet
 with more set comp = comp == more || set comp
 
 -- a compartment that was blamed after `after` events, and why
-pub record Link : Type 0 where
+pub record BlameLink : Type 0 where
   pub comp : ℕ
   pub after : ℕ
   pub cause : Cause
   pub line : ℕ
 
 -- the run is blamed so, while it keeps to the trace
-pub record IsLink (run : SourceRun) (trace : List Event) (link : Link) : Type 0 where
+pub record IsLink (run : SourceRun) (trace : List Event) (link : BlameLink) : Type 0 where
   pub blamed : run.end ≡ Blamed link.comp link.cause link.line
   pub prefix : IsPrefix run.trace trace
   pub after : length run.trace ≡ link.after
 
 -- the run is blamed on a compartment below this number that isn't of the set, while it keeps to the trace
-pub record IsBlamedOutside (count : ℕ) (set : Set) (run : SourceRun) (trace : List Event) : Type 0 where
+pub record IsBlamedOutside (count : ℕ) (set : CompSet) (run : SourceRun) (trace : List Event) : Type 0 where
   pub comp : ℕ
   pub cause : Cause
   pub line : ℕ
@@ -45,29 +45,29 @@ pub record IsBlamedOutside (count : ℕ) (set : Set) (run : SourceRun) (trace : 
   pub prefix : IsPrefix run.trace trace
 
 -- the run in which a set performs its part of a trace, stopped where it has as many events as the trace
-abbrev pub performed : Arith → ProgramTree → List ℕ → ℕ → List Event → Set → SourceRun
+abbrev pub performed : Arith → ProgramTree → List ℕ → ℕ → List Event → CompSet → SourceRun
 performed arith program inputs turns trace set = scripted_by arith program set trace inputs turns (length trace)
 
 -- by the runs in which sets perform
-module _ (runs : Set → SourceRun) (trace : List Event) where
+module _ (runs : CompSet → SourceRun) (trace : List Event) where
   -- from this set on, each next run keeps to the trace until it is blamed, and then the blamed compartment performs
   -- too; the last run emits the trace
-  abbrev pub IsChain : Set → List Link → Type 0
-  IsChain set [] = (runs set).trace ≡ trace
-  IsChain set (link ∷ links) = IsLink (runs set) trace link × IsChain (with link.comp set) links
+  abbrev pub IsBlameChain : CompSet → List BlameLink → Type 0
+  IsBlameChain set [] = (runs set).trace ≡ trace
+  IsBlameChain set (link ∷ links) = IsLink (runs set) trace link × IsBlameChain (with link.comp set) links
 
 -- the blames come after ever more events, at least `least` before the first, and after fewer than `count`
-abbrev pub IsRising : (least count : ℕ) → List Link → Type 0
+abbrev pub IsRising : (least count : ℕ) → List BlameLink → Type 0
 IsRising least count [] = Unit {0}
 IsRising least count (link ∷ links) =
     (least ≤ link.after) × (link.after < count) × IsRising (suc link.after) count links
 
 -- no compartment is of the set, and none is blamed twice
-abbrev pub AreFresh : Set → List Link → Type 0
+abbrev pub AreFresh : CompSet → List BlameLink → Type 0
 AreFresh set [] = Unit {0}
 AreFresh set (link ∷ links) = (set link.comp ≡ false) × AreFresh (with link.comp set) links
 
 -- all blamed compartments are in the set
-abbrev pub Includes : Set → List Link → Type 0
-Includes set [] = Unit {0}
-Includes set (link ∷ links) = (set link.comp ≡ true) × Includes set links
+abbrev pub HasAllBlamed : CompSet → List BlameLink → Type 0
+HasAllBlamed set [] = Unit {0}
+HasAllBlamed set (link ∷ links) = (set link.comp ≡ true) × HasAllBlamed set links

@@ -5,8 +5,9 @@ use Rattle.sc_core_laws.specs.Common.{call_own, deepest, denotations_of, legal, 
 use Rattle.sc_core_laws.specs.Common.{run_step, scripted_by, scripted_meaning, scripted_run_of, scripted_step}
 use Rattle.sc_core_laws.specs.Common.{scripted_wrapped, stopped_at, within, wrapped, wrapping}
 use Rattle.std.specs.Prelude.{◌≡◌, ◌⊎◌, ℕ, suc, ◌<◌, ◌≤◌, ◌++◌, true, false, List, length, Option}
-use Rattle.sc_core_laws.specs.Chains.{Set, IsWithin, nobody, Link, IsBlamedOutside, performed, IsChain, IsRising}
-use Rattle.sc_core_laws.specs.Chains.{AreFresh, Includes, PassesBlame}
+use Rattle.sc_core_laws.specs.Chains.{CompSet, IsSubset, nobody, BlameLink, IsBlamedOutside, performed, IsBlameChain}
+use Rattle.sc_core_laws.specs.Chains.{IsRising}
+use Rattle.sc_core_laws.specs.Chains.{AreFresh, HasAllBlamed, PassesBlame}
 use Rattle.sc_core_laws.specs.Ends.{IsArithmetic}
 use Rattle.sc_core_laws.specs.Growth.{Gone, last}
 use Rattle.sc_core_laws.specs.InteractionTrees.{DenotationsMatch, Obedient}
@@ -68,7 +69,7 @@ pub record MoreGoesOn : Type 0 where
   pub any_denotations : (denotations : Denotations) → Obedient denotations →
       (globals : Memory) (inputs : List ℕ) (roles : Roles) →
       ExtendedByMore (λ turns events. stopped_at events (roles_run denotations globals inputs turns roles).behaviour)
-  pub programs : (arith : Arith) (program : ProgramTree) (set : Set) (trace : List Event) (inputs : List ℕ) →
+  pub programs : (arith : Arith) (program : ProgramTree) (set : CompSet) (trace : List Event) (inputs : List ℕ) →
       ExtendedByMore (scripted_by arith program set trace inputs)
 
 -- and so the meaning goes on
@@ -84,7 +85,7 @@ pub record WrappingAgrees : Type 0 where
   pub any_denotations : (denotations other : Denotations) → DenotationsMatch IsArithmetic denotations other →
       (globals : Memory) (inputs : List ℕ) (turns : ℕ) (roles : Roles) →
       AgreesInDepth (roles_run denotations globals inputs turns roles) (roles_run other globals inputs turns roles)
-  pub programs : (program : ProgramTree) (set : Set) (trace : List Event) (inputs : List ℕ) (turns : ℕ) →
+  pub programs : (program : ProgramTree) (set : CompSet) (trace : List Event) (inputs : List ℕ) (turns : ℕ) →
       AgreesInDepth (scripted_run_of c_arith program inputs turns set trace)
       (scripted_run_of wrapping program inputs turns set trace)
 
@@ -108,7 +109,7 @@ pub record TracesAreLegal : Type 0 where
       (roles_run denotations globals inputs turns roles).behaviour).trace ≡ true
   pub meaning : (arith : Arith) (program : ProgramTree) (inputs : List ℕ) (turns events : ℕ) →
       legal program.interfaces (meaning_by arith program inputs turns events).trace ≡ true
-  pub scripted : (arith : Arith) (program : ProgramTree) (set : Set) (trace : List Event) (inputs : List ℕ)
+  pub scripted : (arith : Arith) (program : ProgramTree) (set : CompSet) (trace : List Event) (inputs : List ℕ)
       (turns events : ℕ) →
       legal program.interfaces (scripted_by arith program set trace inputs turns events).trace ≡ true
 
@@ -119,7 +120,7 @@ pub record NobodyWhoPerformsIsBlamed : Type 0 where
       (comp : ℕ) (cause : Cause) (line : ℕ) →
       (stopped_at events (roles_run denotations globals inputs turns roles).behaviour).end ≡ Blamed comp cause line →
       roles.scripted comp ≡ false
-  pub programs : (arith : Arith) (program : ProgramTree) (set : Set) (trace : List Event) (inputs : List ℕ)
+  pub programs : (arith : Arith) (program : ProgramTree) (set : CompSet) (trace : List Event) (inputs : List ℕ)
       (turns events : ℕ) →
       (comp : ℕ) (cause : Cause) (line : ℕ) →
       (scripted_by arith program set trace inputs turns events).end ≡ Blamed comp cause line → set comp ≡ false
@@ -131,7 +132,7 @@ pub record BlamedAreThere : Type 0 where
       (comp : ℕ) (cause : Cause) (line : ℕ) →
       (stopped_at events (roles_run denotations globals inputs turns roles).behaviour).end ≡ Blamed comp cause line →
       comp < length denotations.functions
-  pub programs : (arith : Arith) (program : ProgramTree) (set : Set) (trace : List Event) (inputs : List ℕ)
+  pub programs : (arith : Arith) (program : ProgramTree) (set : CompSet) (trace : List Event) (inputs : List ℕ)
       (turns events : ℕ) →
       (comp : ℕ) (cause : Cause) (line : ℕ) →
       (scripted_by arith program set trace inputs turns events).end ≡ Blamed comp cause line →
@@ -139,47 +140,48 @@ pub record BlamedAreThere : Type 0 where
 
 -- SETS THAT PERFORM THEIR PARTS OF A TRACE
 -- what holds of the runs in which sets perform: of all denotations that obey, and so of every program
-pub record HoldsOfSets (law : List Event → (Set → SourceRun) → Type 0) : Type 0 where
+pub record HoldsOfSets (law : List Event → (CompSet → SourceRun) → Type 0) : Type 0 where
   pub any_denotations : (denotations : Denotations) → Obedient denotations →
       (globals : Memory) (inputs : List ℕ) (turns : ℕ) (trace : List Event) →
       law trace (performed_by denotations globals inputs turns trace)
   pub programs : (arith : Arith) (program : ProgramTree) (inputs : List ℕ) (turns : ℕ) (trace : List Event) →
       law trace (performed arith program inputs turns trace)
 
-module _ (trace : List Event) (runs : Set → SourceRun) where
+module _ (trace : List Event) (runs : CompSet → SourceRun) where
   -- where more compartments perform their parts of a trace that the run emits, it emits the trace too
   abbrev pub EmitsWithMore : Type 0
-  EmitsWithMore = (small large : Set) → IsWithin small large → (runs small).trace ≡ trace → (runs large).trace ≡ trace
+  EmitsWithMore = (small large : CompSet) → IsSubset small large → (runs small).trace ≡ trace → (runs large).trace ≡
+      trace
 
   -- a blame that comes while the run keeps to the trace comes in the same run where more compartments perform, unless
   -- the blamed one does
   abbrev pub KeepsBlames : Type 0
-  KeepsBlames = (small large : Set) → IsWithin small large → (comp : ℕ) (cause : Cause) (line : ℕ) →
+  KeepsBlames = (small large : CompSet) → IsSubset small large → (comp : ℕ) (cause : Cause) (line : ℕ) →
       (runs small).end ≡ Blamed comp cause line → IsPrefix (runs small).trace trace → large comp ≡ false →
       runs large ≡ runs small
 
   -- where the blamed compartment performs too, the run passes that point, unless it wants a turn or a row right there
   abbrev pub PassesBlames : Type 0
-  PassesBlames = (small large : Set) → IsWithin small large → (comp : ℕ) (cause : Cause) (line : ℕ) →
+  PassesBlames = (small large : CompSet) → IsSubset small large → (comp : ℕ) (cause : Cause) (line : ℕ) →
       (runs small).end ≡ Blamed comp cause line → IsPrefix (runs small).trace trace → large comp ≡ true →
       PassesBlame (runs small) (runs large)
 
   -- of all sets those give the trace that have every compartment of the chain: the compartments of the chain are the
   -- least
   abbrev pub LeastIsChain : Type 0
-  LeastIsChain = (links : List Link) (set : Set) → IsChain runs trace nobody links →
-      ((runs set).trace ≡ trace → Includes set links) × (Includes set links → (runs set).trace ≡ trace)
+  LeastIsChain = (links : List BlameLink) (set : CompSet) → IsBlameChain runs trace nobody links →
+      ((runs set).trace ≡ trace → HasAllBlamed set links) × (HasAllBlamed set links → (runs set).trace ≡ trace)
 
   -- the links of a chain come after ever more events of the trace, all before its end, and their compartments differ
   abbrev pub ChainRises : Type 0
-  ChainRises = (links : List Link) → IsChain runs trace nobody links →
+  ChainRises = (links : List BlameLink) → IsBlameChain runs trace nobody links →
       IsRising 0 (length trace) links × AreFresh nobody links
 
   -- where every set emits the trace or is blamed outside of itself, there is a chain, of at most as many links as
   -- compartments
   abbrev pub HasChain : Type 0
-  HasChain = (count : ℕ) → ((set : Set) → ((runs set).trace ≡ trace) ⊎ IsBlamedOutside count set (runs set) trace) →
-      (links : List Link) × IsChain runs trace nobody links × (length links ≤ count)
+  HasChain = (count : ℕ) → ((set : CompSet) → ((runs set).trace ≡ trace) ⊎ IsBlamedOutside count set (runs set) trace) →
+      (links : List BlameLink) × IsBlameChain runs trace nobody links × (length links ≤ count)
 
 abbrev pub MoreMayPerform : Type 0
 MoreMayPerform = HoldsOfSets EmitsWithMore

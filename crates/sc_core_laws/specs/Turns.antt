@@ -4,7 +4,7 @@ use Rattle.sc_core_laws.specs.Common.{Stopped, TurnsOut, Value, and_then, call_o
 use Rattle.sc_core_laws.specs.Common.{function, leads, legal, roles_in, run_step, scripted_step, takes, within}
 use Rattle.std.specs.Prelude.{◌≡◌, ℕ, suc, ◌++◌, true, List, [], ◌∷◌, Option, is_some}
 use Rattle.sc_event.specs.declared.row.Entry.TheVariants.{Export, Main}
-use Rattle.sc_core_laws.specs.Chains.{Set}
+use Rattle.sc_core_laws.specs.Chains.{CompSet}
 use Rattle.sc_core_laws.specs.InteractionTrees.{Obedient}
 use Rattle.sc_core_laws.specs.Runs.{denotations_run}
 use Rattle.sc_core_laws.specs.Steady.{now}
@@ -50,7 +50,7 @@ ExportsLead denotations = (to index count : ℕ) → takes denotations.interface
 -- where sets perform their parts of a trace: a run that is out of turns, while it keeps to the trace and hasn't emitted
 -- all of it, has no turn left
 abbrev pub SpendsAlong : Denotations → List Event → Type 0
-SpendsAlong denotations trace = (set : Set) (globals : Memory) (inputs : List ℕ) (turns : ℕ) (s : State) →
+SpendsAlong denotations trace = (set : CompSet) (globals : Memory) (inputs : List ℕ) (turns : ℕ) (s : State) →
     scripted_call denotations (roles_in denotations.interfaces.main set trace) globals inputs turns ≡ Stopped TurnsOut
     s →
     (event : Event) (more : List Event) → trace ≡ s.trace ++ event ∷ more → s.turns ≡ 0

@@ -1,14 +1,14 @@
 -- Values brought into registers that temporaries don't have: the arguments of a call, and what a function returns.
 use Rattle.sc_emit.proofs.Common.{AreInPlace, Comes, Computes, Does, Ends, FrameMatches, FrameTree, Goes, HasNoOtherUse}
-use Rattle.sc_emit.proofs.Common.{Here, InPlace, Instr, IsActivation, IsInPlace, IsWritable, Joint, Left, List, Lives}
-use Rattle.sc_emit.proofs.Common.{Piece, Place, Reached, Register, Registers, Running, Set, Setting, Slot, Some}
-use Rattle.sc_emit.proofs.Common.{StandsFor, State as Meant, Temps, Value, Walks, [], and_then, ap, arith, at, brought}
-use Rattle.sc_emit.proofs.Common.{comes_read, computes, eq-eqb, in_row, is_one, length, load_word, loads_word, look_at}
-use Rattle.sc_emit.proofs.Common.{moves, no_other_use, or_right, pass, place_of, read, read_all, refl, register_of}
-use Rattle.sc_emit.proofs.Common.{register_there, same_Some, slice_get, slot_offset, sp, stays, subst, suc, sym}
-use Rattle.sc_emit.proofs.Common.{then_goes, then_then, true, unwrap_or, word, zero, ℕ, ◌*◌, ◌+◌, ◌<◌, ◌==◌, ◌∙◌, ◌∷◌}
-use Rattle.sc_emit.proofs.Common.{◌≡◌, ◌≢◌, ◌≤◌}
-use Rattle.sc_emit.proofs.Operands.{IsPlace, ArePlaced, slot_from_sp, world}
+use Rattle.sc_emit.proofs.Common.{Here, InPlace, Instr, IsInPlace, IsPlace, IsRunning, IsWritable, Joint, Left, List}
+use Rattle.sc_emit.proofs.Common.{Lives, Piece, Place, Reached, Register, Registers, Running, Setting, Slot, Some}
+use Rattle.sc_emit.proofs.Common.{StandsFor, State as Meant, TempSet, Temps, Value, Walks, [], and_then, ap, arith, at}
+use Rattle.sc_emit.proofs.Common.{brought, comes_read, computes, eq-eqb, in_row, is_one, length, load_word, loads_word}
+use Rattle.sc_emit.proofs.Common.{look_at, moves, no_other_use, or_right, pass, place_of, read, read_all, refl}
+use Rattle.sc_emit.proofs.Common.{register_of, register_there, same_Some, slice_get, slot_offset, sp, stays, subst, suc}
+use Rattle.sc_emit.proofs.Common.{sym, then_goes, then_then, true, unwrap_or, word, zero, ℕ, ◌*◌, ◌+◌, ◌<◌, ◌==◌, ◌∙◌}
+use Rattle.sc_emit.proofs.Common.{◌∷◌, ◌≡◌, ◌≢◌, ◌≤◌}
+use Rattle.sc_emit.proofs.Operands.{slot_from_sp, world}
 use Rattle.sc_emit.proofs.Straight.{read_goes}
 
 -- Arguments are read.
@@ -60,8 +60,7 @@ positive q h = omega (arith, h)
 only_one : (t : ℕ) (rest : List ℕ) → is_one t (t ∷ rest) ≡ true
 only_one t rest = rw (eq-eqb t t refl) refl
 
-module _ (T : Setting) (R : Running) (cells : List ℕ) (nodes : ℕ)
-    (is : IsActivation T.performs cells R.places nodes R.activation) (placed : ArePlaced R) (x : Joint)
+module _ {T : Setting} {R : Running} (valid : IsRunning T R) (x : Joint)
     (frame : FrameMatches T.image R.activation x.inj x.meant.memory x.bytes) (sp_is : x.regs sp ≡ R.activation.sp) where
   abbrev its_frame : FrameTree
   its_frame = R.activation.frame
@@ -95,7 +94,7 @@ module _ (T : Setting) (R : Running) (cells : List ℕ) (nodes : ℕ)
             same_offset value.2;
         piece =
             loads_word T.image T.inputs (world T R x) x.bytes regs rd offset (R.activation.sp + offset) w
-            (slot_from_sp T R x cells nodes is placed frame sp_is regs k offset there.1 same);
+            (slot_from_sp T R x valid frame sp_is regs k offset there.1 same);
       })
 
   -- a temporary that has its value, also where registers with another use changed
@@ -105,7 +104,7 @@ module _ (T : Setting) (R : Running) (cells : List ℕ) (nodes : ℕ)
       Brings regs (brought its_frame rd (place_of its_frame R.places t)) rd v
   brings regs rd t v w held same others =
       subst (λ o. Brings regs (brought its_frame rd o) rd v) (sym held.its)
-      (brings_by regs rd held.place v w (placed t held.place held.its) (value held.place held.value) same)
+      (brings_by regs rd held.place v w (valid.placed t held.place held.its) (value held.place held.value) same)
     where
       value : (place : Place) → InPlace R.activation x.inj x.regs x.bytes place v →
           InPlace R.activation x.inj regs x.bytes place v
@@ -176,26 +175,27 @@ module _ (T : Setting) (R : Running) (cells : List ℕ) (nodes : ℕ)
         others = λ q h. rest.others q h ∙ kept regs code rd v low high b q h;
       }
 
-  module _ (live : Set) (temps : Temps) (held : AreInPlace R.activation R.places x.inj x.regs x.bytes live temps) where
-    pub passes : (regs : Registers) (rd : ℕ) (ts : List ℕ) (vs : List Value) → 10 ≤ rd → rd + length ts ≤ 18 →
-        ((t : ℕ) → is_one t ts ≡ true → live t ≡ true) → AreRead temps ts vs → regs sp ≡ x.regs sp →
-        ((q : ℕ) → HasNoOtherUse q → regs q ≡ x.regs q) → Passes regs rd ts vs
-    passes regs rd [] [] low high on all same others = record {
-      after = regs;
-      does = record { walks = λ pc code. no_steps regs pc };
-      passed = λ i v e. cc e;
-      below = λ q l n. refl;
-      others = λ q h. refl;
-    }
-    passes regs rd [] (v ∷ vs) low high on all same others = absurd all
-    passes regs rd (t ∷ ts) [] low high on all same others = absurd all
-    passes regs rd (t ∷ ts) (v ∷ vs) low high on all same others =
-        let code : List Instr = brought its_frame rd (place_of its_frame R.places t) in
-        let frame_fits : rd < 18 = omega (arith, high) in
-        let b : Brings regs code rd v =
-        brings regs rd t v (record { above = omega (arith, low); below = omega (arith, frame_fits) })
-        (held t v (on t (only_one t ts)) all.0) same others in
-        joined regs rd t ts v vs low frame_fits b
-        (passes b.piece.after (suc rd) ts vs (omega (arith, low)) (omega (arith, high))
-        (λ u e. on u (or_right (t == u) _ e)) all.1 (kept_sp regs code rd v low frame_fits b same)
-        (kept_all regs code rd v low frame_fits b others))
+  module _ (live : TempSet) (temps : Temps) (held : AreInPlace R.activation R.places x.inj x.regs x.bytes live temps)
+    where
+      pub passes : (regs : Registers) (rd : ℕ) (ts : List ℕ) (vs : List Value) → 10 ≤ rd → rd + length ts ≤ 18 →
+          ((t : ℕ) → is_one t ts ≡ true → live t ≡ true) → AreRead temps ts vs → regs sp ≡ x.regs sp →
+          ((q : ℕ) → HasNoOtherUse q → regs q ≡ x.regs q) → Passes regs rd ts vs
+      passes regs rd [] [] low high on all same others = record {
+        after = regs;
+        does = record { walks = λ pc code. no_steps regs pc };
+        passed = λ i v e. cc e;
+        below = λ q l n. refl;
+        others = λ q h. refl;
+      }
+      passes regs rd [] (v ∷ vs) low high on all same others = absurd all
+      passes regs rd (t ∷ ts) [] low high on all same others = absurd all
+      passes regs rd (t ∷ ts) (v ∷ vs) low high on all same others =
+          let code : List Instr = brought its_frame rd (place_of its_frame R.places t) in
+          let frame_fits : rd < 18 = omega (arith, high) in
+          let b : Brings regs code rd v =
+          brings regs rd t v (record { above = omega (arith, low); below = omega (arith, frame_fits) })
+          (held t v (on t (only_one t ts)) all.0) same others in
+          joined regs rd t ts v vs low frame_fits b
+          (passes b.piece.after (suc rd) ts vs (omega (arith, low)) (omega (arith, high))
+          (λ u e. on u (or_right (t == u) _ e)) all.1 (kept_sp regs code rd v low frame_fits b same)
+          (kept_all regs code rd v low frame_fits b others))

@@ -1,12 +1,12 @@
 -- Calls of functions, of the own compartment and of others.
 use Rattle.sc_emit.proofs.Common.{Activation, Addresses, All, ArePassed, Arrives, CallGives, CallStands, CallTarget}
 use Rattle.sc_emit.proofs.Common.{Calls, CallsFollow, CodeAt, Codes, Comes, ComesBack, Computes, Cross, Does, Ends}
-use Rattle.sc_emit.proofs.Common.{Follows, FrameMatches, FrameTree, Goes, HasNoGap, HasNoOtherUse, Instr, IsActivation}
-use Rattle.sc_emit.proofs.Common.{IsBack, IsClear, IsInside, IsSome, IsWellFormed, IsWord, Jal, Jalr, Joint, Left, Line}
-use Rattle.sc_emit.proofs.Common.{List, Lives, Lui, MovesOn, Next, None, Option, Overflows, Own, Piece, Place, Point}
-use Rattle.sc_emit.proofs.Common.{Reached, Ready, Register, Registers, ReturnsValue, Running, Setting, Slot, Some}
-use Rattle.sc_emit.proofs.Common.{Standpoint, StandsFor, State as Meant, Stopped, Stores, Temps, Trail, Upper, Value}
-use Rattle.sc_emit.proofs.Common.{[], a0, add_word, all_at, and_from, and_then, ap, append_assoc, arith, arrives_with}
+use Rattle.sc_emit.proofs.Common.{Follows, FrameMatches, FrameTree, Goes, HasNoOtherUse, Instr, IsBack, IsClear}
+use Rattle.sc_emit.proofs.Common.{IsInside, IsPlace, IsRunning, IsSome, Jal, Jalr, Joint, Left, Line, List, Lives, Lui}
+use Rattle.sc_emit.proofs.Common.{MovesOn, Next, None, Option, Overflows, Own, Piece, Place, Point, Reached, Ready}
+use Rattle.sc_emit.proofs.Common.{Register, Registers, ReturnsValue, Running, Setting, Slot, Some, Standpoint}
+use Rattle.sc_emit.proofs.Common.{StandsFor, State as Meant, Stopped, Stores, Temps, Trail, Upper, Value, [], a0}
+use Rattle.sc_emit.proofs.Common.{add_word, all_at, and_from, and_then, ap, append_assoc, arith, arrives_with}
 use Rattle.sc_emit.proofs.Common.{assigned_at, assigns_register, assigns_slot, back_at, call_cross, call_does}
 use Rattle.sc_emit.proofs.Common.{call_from, call_own, code_inside, code_step, comes_after, completed, completed_length}
 use Rattle.sc_emit.proofs.Common.{completed_plainly, emits_from, emits_less, false, first_scratch, in_row, inl, inr}
@@ -24,10 +24,10 @@ use Rattle.sc_emit.proofs.Needed.{one_of_all}
 use Rattle.sc_tac.specs.declared.machine_code.Target.TheVariants.{Function, Entry}
 use Rattle.sc_tac.specs.declared.stmt.TacStmt.TheOpen as tac
 use Rattle.sc_emit_hart.proofs.Numbers.{two_parts}
-use Rattle.sc_emit_relation.proofs.Straight.{moves_on}
+use Rattle.sc_emit_relation.proofs.Assigning.{moves_on}
 use Rattle.sc_emit.proofs.Arguments.{AreRead, read_all_goes, comes_read_all, Passes, passes, read_length}
 use Rattle.sc_emit.proofs.Straight.{ComesStraight, lines_follow}
-use Rattle.sc_emit.proofs.Operands.{IsPlace, ArePlaced, slot_from_sp, world, walks_to}
+use Rattle.sc_emit.proofs.Operands.{slot_from_sp, world, walks_to}
 
 -- Lines of which some are linked.
 
@@ -93,8 +93,7 @@ HasPlace places (Some dest) = (place : Place) × (slice_get places dest ≡ Some
 abbrev pub last_point : Option ℕ → Lives → Point
 last_point dest lives = record { assigned = dest; calls = false; live = lives.following }
 
-module _ (T : Setting) (R : Running) (formed : IsWellFormed T.image) (inputs : All IsWord T.inputs) (cells : List ℕ)
-    (nodes : ℕ) (is : IsActivation T.performs cells R.places nodes R.activation) (placed : ArePlaced R) where
+module _ {T : Setting} {R : Running} (valid : IsRunning T R) where
   abbrev A : Activation
   A = R.activation
 
@@ -130,7 +129,7 @@ module _ (T : Setting) (R : Running) (formed : IsWellFormed T.image) (inputs : A
         moves T.image T.inputs (world T R y) y.bytes y.regs (register_of r) a0 (y.regs a0)
         (record { above = positive (register_of r) (no_other_use r).zero; below = register_there r small })
         (omega arith) (look_at y.regs a0 (omega arith)) stands.word in
-        assigned_at T R formed inputs cells nodes is (live_across reads true (Some dest) lives)
+        assigned_at valid (live_across reads true (Some dest) lives)
         (last_point (Some dest) lives) temps y 1 left dest (y.pc + 4 * 1) (Register r) v piece.after y.bytes ready clear
         refl its (across_after reads lives dest)
         (assigns_register T R y r v piece.after
@@ -145,13 +144,13 @@ module _ (T : Setting) (R : Running) (formed : IsWellFormed T.image) (inputs : A
         (A.sp + offset) (y.regs a0) =
         stores_word T.image T.inputs (world T R y) y.bytes y.regs a0 offset (A.sp + offset) (y.regs a0) (omega arith)
         (λ e. omega (arith, e)) (look_at y.regs a0 (omega arith))
-        (slot_from_sp T R y cells nodes is placed ready.frame ready.sp y.regs k offset there.1 refl) in
+        (slot_from_sp T R y valid ready.frame ready.sp y.regs k offset there.1 refl) in
         subst (λ code. After code (with_temp dest v temps)) (sym same_code)
-        (assigned_at T R formed inputs cells nodes is (live_across reads true (Some dest) lives)
+        (assigned_at valid (live_across reads true (Some dest) lives)
         (last_point (Some dest) lives) temps y (length (store_word a0 offset)) left dest
         (y.pc + 4 * length (store_word a0 offset)) (Slot k) v stores.after
         (put_word y.bytes (A.sp + offset) (y.regs a0)) ready clear refl its (across_after reads lives dest)
-        (assigns_slot T R formed inputs cells nodes is (live_across reads true (Some dest) lives) temps y k offset
+        (assigns_slot valid (live_across reads true (Some dest) lives) temps y k offset
         (y.regs a0) v stores.after ready there.1 (stores.others sp ((λ e. omega (arith, e)), tt)) stands
         (λ q h. stores.others q (h.address, tt)))
         (walks_to T R y (store_word a0 offset) stores.after (put_word y.bytes (A.sp + offset) (y.regs a0)) stores.does
@@ -177,7 +176,7 @@ module _ (T : Setting) (R : Running) (formed : IsWellFormed T.image) (inputs : A
     receives (Some dest) None ready clear back given there code = absurd given
     receives (Some dest) (Some v) ready clear back given there code =
         subst (λ o. After (put frame a0 o) (with_temp dest v temps)) (sym there.1)
-        (receives_by dest there.0 v ready clear back there.1 (placed dest there.0 there.1)
+        (receives_by dest there.0 v ready clear back there.1 (valid.placed dest there.0 there.1)
         (subst (λ o. CodeAt T.image A.here.comp y.pc (put frame a0 o)) there.1 code))
 
   -- The call.
@@ -252,10 +251,14 @@ module _ (T : Setting) (R : Running) (formed : IsWellFormed T.image) (inputs : A
         call_comes vs count passed stands =
             ⊎_elim (came_back (calls A.here.comp target vs y.meant) (answers vs y.meant))
             (λ o. inr (overflowed (calls A.here.comp target vs y.meant) o))
-            (follow.follow (call_from T R) y target vs is.honest
+            (follow.follow (call_from T R) y target vs valid.is.honest
             (subst (λ n. T.makes A.here.comp target n ≡ true) (sym count) made) (settled_to T R y ready.settled)
-            (record { floor = is.floor; aligned = is.aligned; high = omega (arith, is.high); floors = is.floors })
-            ready.sp passed stands)
+            (record {
+              floor = valid.is.floor;
+              aligned = valid.is.aligned;
+              high = omega (arith, valid.is.high);
+              floors = valid.is.floors;
+            }) ready.sp passed stands)
 
       -- the registers are prepared, the call is made, and its value goes to where it is wanted
       pub call_runs : (x : Joint) (before : List Instr) (call : Instr) (left : ℕ) (ends : Ends) → ends.left ≡ left →
@@ -274,10 +277,9 @@ module _ (T : Setting) (R : Running) (formed : IsWellFormed T.image) (inputs : A
           length-append before (call ∷ to_place) in
           let rest : ℕ = 1 + (length to_place + left) in
           let whole : n + rest ≡ length (before ++ call ∷ to_place) + left = omega (arith, long) in
-          let m : MovesOn T R formed inputs cells nodes is (live_plain args dest lives) temps x n rest (x.pc + 4 * n)
+          let m : MovesOn valid (live_plain args dest lives) temps x n rest (x.pc + 4 * n)
           p.after =
-          moves_on T R formed inputs cells nodes is (live_plain args dest lives) temps x n rest (x.pc + 4 * n) p.after
-          ready p.same p.others
+          moves_on valid (live_plain args dest lives) temps x n rest (x.pc + 4 * n) p.after ready p.same p.others
           (walks_to T R x before p.after x.bytes p.does
           (prefix_at T.image A.here.comp x.pc before (call ∷ to_place) code)) in
           let y : Joint = moved x (x.pc + 4 * n) p.after x.bytes in
@@ -293,9 +295,9 @@ module _ (T : Setting) (R : Running) (formed : IsWellFormed T.image) (inputs : A
 
   pub passes_args : (args : List ℕ) (dest : Option ℕ) (lives : Lives) (temps : Temps) (x : Joint) (vs : List Value) →
       length args ≤ 8 → list_all R.plan.needed args ≡ true → (ready : Ready T R (live_plain args dest lives) temps x) →
-      AreRead temps args vs → Passes T R cells nodes is placed x ready.frame ready.sp x.regs a0 args vs
+      AreRead temps args vs → Passes valid x ready.frame ready.sp x.regs a0 args vs
   passes_args args dest lives temps x vs few needs ready read =
-      passes T R cells nodes is placed x ready.frame ready.sp (wanted R.plan.needed (live_plain args dest lives)) temps
+      passes valid x ready.frame ready.sp (wanted R.plan.needed (live_plain args dest lives)) temps
       ready.held x.regs a0 args vs (omega arith) (omega (arith, few))
       (λ t e. and_from (live_plain args dest lives t) (R.plan.needed t) (or_left (is_one t args) _ e)
       (one_of_all R.plan.needed args t needs e)) read refl (λ q h. refl)
@@ -303,8 +305,7 @@ module _ (T : Setting) (R : Running) (formed : IsWellFormed T.image) (inputs : A
   -- the arguments, and then another register that no temporary has and no argument
   pub prepared : (args : List ℕ) (x : Joint) (vs : List Value)
       (frame_is : FrameMatches T.image A x.inj x.meant.memory x.bytes) (sp_is : x.regs sp ≡ A.sp)
-      (p : Passes T R cells nodes is placed x frame_is sp_is x.regs a0 args vs)
-      (target : CallTarget) (one : List Instr) (r w : ℕ) →
+      (p : Passes valid x frame_is sp_is x.regs a0 args vs) (target : CallTarget) (one : List Instr) (r w : ℕ) →
       (u : Computes T.image T.inputs (world T R x) one [] p.after x.bytes r w) → sp ≢ r →
       ((q : ℕ) → HasNoOtherUse q → q ≢ r) → ((i : ℕ) → i < length vs → a0 + i ≢ r) →
       (x.pc + 4 * length (pass frame R.places a0 args ++ one) < 2 ^ 32 → u.after r ≡ w → CallStands T (call_from T R)
@@ -339,20 +340,20 @@ module _ (T : Setting) (R : Running) (formed : IsWellFormed T.image) (inputs : A
         Jal ra (pos (addresses.function function) -ℤ pos (pc + 4 * length (pass frame R.places a0 args)))
 
     -- after the jump there is code
-    has_after : (pc : ℕ) (before : List Instr) (instr : Instr) (after : List Instr) → HasNoGap T R →
+    has_after : (pc : ℕ) (before : List Instr) (instr : Instr) (after : List Instr) →
         CodeAt T.image A.here.comp pc (before ++ instr ∷ after) →
         pc + 4 * length (before ++ instr ∷ after) ≤ R.last →
         IsSome (word_at T.image A.here.comp (pc + 4 * length before + 4))
-    has_after pc before instr after gapless code inside =
+    has_after pc before instr after code inside =
         let at = (back_at T.image A.here.comp pc before (instr ∷ after) code).0 in
         let here : IsInside (pc + 4 * length before) =
-        code_inside T.image formed A.here.comp (pc + 4 * length before) at.word at.fetched in
+        code_inside T.image valid.formed A.here.comp (pc + 4 * length before) at.word at.fetched in
         let long : length (before ++ instr ∷ after) ≡ length before + suc (length after) =
         length-append before (instr ∷ after) in
-        ap is_some (gapless (pc + 4 * length before) (pc + 4 * length before + 4) (ap is_some at.fetched) (omega arith)
-        (omega (arith, inside, long)) (omega (arith, here.aligned))).1
+        ap is_some (valid.gapless (pc + 4 * length before) (pc + 4 * length before + 4) (ap is_some at.fetched)
+        (omega arith) (omega (arith, inside, long)) (omega (arith, here.aligned))).1
 
-    pub call_own_follows : HasNoGap T R → (function : ℕ) (args : List ℕ) → length args ≤ 8 →
+    pub call_own_follows : (function : ℕ) (args : List ℕ) → length args ≤ 8 →
         list_all R.plan.needed args ≡ true →
         addresses.function function < 2 ^ 32 →
         T.makes A.here.comp (Own function) (length args) ≡ true →
@@ -360,7 +361,7 @@ module _ (T : Setting) (R : Running) (formed : IsWellFormed T.image) (inputs : A
         Follows T R (code_step wrapping A.here calls (tac.CallOwn dest function args))
         (select_step frame R.places R.plan (tac.CallOwn dest function args)) (trail_step (tac.CallOwn dest function
         args))
-    call_own_follows gapless function args few needs below made answers =
+    call_own_follows function args few needs below made answers =
         let before : List Instr = pass frame R.places a0 args in
         linked_follows T R (code_step wrapping A.here calls (tac.CallOwn dest function args))
         (call_own frame R.places dest function args)
@@ -377,11 +378,9 @@ module _ (T : Setting) (R : Running) (formed : IsWellFormed T.image) (inputs : A
         (λ lives temps x left ready clear code inside ends left_is after_is.
         call_runs calls follow (Own function) dest args there made answers lives temps
         (all_at (IsClear R.places) (plain_points args true dest lives) 2 _ clear refl)
-        (λ y left v s ready b. is_back T R args dest lives temps y (Own function) left v s is.honest ready clear b) x
-        before
-        (own_call function args x.pc) left ends left_is after_is code ready
-        (λ vs read.
-        (let p : Passes T R cells nodes is placed x ready.frame ready.sp x.regs a0 args vs =
+        (λ y left v s ready b. is_back T R args dest lives temps y (Own function) left v s valid.is.honest ready clear
+        b) x before (own_call function args x.pc) left ends left_is after_is code ready (λ vs read.
+        (let p : Passes valid x ready.frame ready.sp x.regs a0 args vs =
         passes_args args dest lives temps x vs few needs ready read in
         record {
           after = p.after;
@@ -394,7 +393,7 @@ module _ (T : Setting) (R : Running) (formed : IsWellFormed T.image) (inputs : A
             (back_at T.image A.here.comp x.pc before
                 (own_call function args x.pc ∷ receive frame R.places dest) code).0,
             jump_to (x.pc + 4 * length before) (addresses.function function) low below,
-            has_after x.pc before (own_call function args x.pc) (receive frame R.places dest) gapless code inside,
+            has_after x.pc before (own_call function args x.pc) (receive frame R.places dest) code inside,
           );
         })))
 
@@ -431,10 +430,10 @@ module _ (T : Setting) (R : Running) (formed : IsWellFormed T.image) (inputs : A
         call_runs calls follow (Cross comp index) dest args there made answers lives temps
         (all_at (IsClear R.places) (plain_points args true dest lives) 2 _ clear refl)
         (λ y left v s ready b.
-        is_back T R args dest lives temps y (Cross comp index) left v s is.honest ready clear b) x
+        is_back T R args dest lives temps y (Cross comp index) left v s valid.is.honest ready clear b) x
         before (Jalr ra first_scratch (lower_part address)) left ends left_is after_is code ready
         (λ vs read.
-        (let p : Passes T R cells nodes is placed x ready.frame ready.sp x.regs a0 args vs =
+        (let p : Passes valid x ready.frame ready.sp x.regs a0 args vs =
         passes_args args dest lives temps x vs few needs ready read in
         prepared args x vs ready.frame ready.sp p (Cross comp index) high first_scratch (upper_part address)
         (upper T.image T.inputs (world T R x) p.after x.bytes first_scratch (upper_part address)

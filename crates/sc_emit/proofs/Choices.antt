@@ -1,25 +1,24 @@
 -- Choices: one branch, over the jump to the second part, or over the second part.
 use Rattle.sc_emit.proofs.Common.{All, All-tail, Arrives, Bne, Bool, Branch, Break, CodeAt, Codes, Comes, Continue}
-use Rattle.sc_emit.proofs.Common.{Ends, Exit, ExitGives, Fetches, Follows, FrameTree, Goes, Gone, HasNoGap, InParts}
-use Rattle.sc_emit.proofs.Common.{Instr, IsActivation, IsClear, IsInside, IsWellFormed, IsWord, Jal, Joint, Left, Line}
-use Rattle.sc_emit.proofs.Common.{List, Lives, MovesOn, Next, None, Null, Option, Piece, Ptr, Reached, Ready, Registers}
-use Rattle.sc_emit.proofs.Common.{Return, Running, Set, Setting, Settled, Some, Standpoint, StandsAt, StandsFor, Starts}
-use Rattle.sc_emit.proofs.Common.{State as Meant, Stopped, Temps, Trail, Value, Walks, Word, [], add_word, all_back}
-use Rattle.sc_emit.proofs.Common.{all_prefix, and_first, and_from, and_rest, and_then, ap, arith, arrives_with, at}
-use Rattle.sc_emit.proofs.Common.{back_at, choice, choose, choosing, code_inside, comes_after, comes_read, completed}
-use Rattle.sc_emit.proofs.Common.{ends_of, eq-eqb, eqb-true, false, first_scratch, fork, if◌then◌else◌, in_order}
-use Rattle.sc_emit.proofs.Common.{in_parts, inl, inr, is_empty, is_some, is_true, jump_over, kind_of_fork, leads_less}
-use Rattle.sc_emit.proofs.Common.{leads_none, length, length-append, length-map, live_at, live_before, look, low_after}
-use Rattle.sc_emit.proofs.Common.{low_append, low_plainly, machine, moved, ne_eqb, not, operand, or_left, or_right}
-use Rattle.sc_emit.proofs.Common.{over, past, plain, plainly, plainly_at, point, pos, prefix_at, read, ready_less, refl}
-use Rattle.sc_emit.proofs.Common.{row, row_points, seen_from, skipping, sp, subst, suc, sym, take, trail_step, true}
-use Rattle.sc_emit.proofs.Common.{word_at, word_of, zero, ℕ, ℤ, ⊎_elim, ◌%◌, ◌&&◌, ◌*◌, ◌++◌, ◌+◌, ◌==◌, ◌∙◌, ◌∷◌, ◌≡◌}
-use Rattle.sc_emit.proofs.Common.{◌≤◌}
+use Rattle.sc_emit.proofs.Common.{Ends, Exit, ExitGives, Fetches, Follows, FrameTree, Goes, Gone, InParts, Instr}
+use Rattle.sc_emit.proofs.Common.{IsClear, IsInside, IsRunning, Jal, Joint, Left, Line, List, Lives, MovesOn, Next}
+use Rattle.sc_emit.proofs.Common.{None, Null, Option, Piece, Ptr, Reached, Ready, Registers, Return, Running, Setting}
+use Rattle.sc_emit.proofs.Common.{Settled, Some, Standpoint, StandsAt, StandsFor, Starts, State as Meant, Stopped}
+use Rattle.sc_emit.proofs.Common.{TempSet, Temps, Trail, Value, Walks, Word, [], add_word, all_back, all_prefix}
+use Rattle.sc_emit.proofs.Common.{and_first, and_from, and_rest, and_then, ap, arith, arrives_with, at, back_at, choice}
+use Rattle.sc_emit.proofs.Common.{choose, choosing, code_inside, comes_after, comes_read, completed, ends_of, eq-eqb}
+use Rattle.sc_emit.proofs.Common.{eqb-true, false, first_scratch, fork, if◌then◌else◌, in_order, in_parts, inl, inr}
+use Rattle.sc_emit.proofs.Common.{is_empty, is_some, is_true, jump_over, kind_of_fork, leads_less, leads_none, length}
+use Rattle.sc_emit.proofs.Common.{length-append, length-map, live_at, live_before, look, low_after, low_append}
+use Rattle.sc_emit.proofs.Common.{low_plainly, machine, moved, ne_eqb, not, operand, or_left, or_right, over, past}
+use Rattle.sc_emit.proofs.Common.{plain, plainly, plainly_at, point, pos, prefix_at, read, ready_less, refl, row}
+use Rattle.sc_emit.proofs.Common.{row_points, seen_from, skipping, sp, subst, suc, sym, take, trail_step, true, word_at}
+use Rattle.sc_emit.proofs.Common.{word_of, zero, ℕ, ℤ, ⊎_elim, ◌%◌, ◌&&◌, ◌*◌, ◌++◌, ◌+◌, ◌==◌, ◌∙◌, ◌∷◌, ◌≡◌, ◌≤◌}
 use Rattle.sc_emit_select.specs.Prelude.{Piece as Code}
 use Rattle.sc_emit_hart.proofs.Steps.{then_go, branch_taken, branch_not_taken}
 use Rattle.sc_tac.specs.declared.stmt.TacStmt.TheOpen as tac
-use Rattle.sc_emit_relation.proofs.Straight.{moves_on}
-use Rattle.sc_emit.proofs.Operands.{ArePlaced, AtHand, first_is, brings, world}
+use Rattle.sc_emit_relation.proofs.Assigning.{moves_on}
+use Rattle.sc_emit.proofs.Operands.{AtHand, first_is, brings, world}
 use Rattle.sc_emit.proofs.Straight.{read_goes, with_kind}
 
 -- a value is true where its word isn't 0
@@ -28,9 +27,7 @@ truth_is place (Word n) w h = ap (λ n. not (n == 0)) (sym h.means)
 truth_is place Null w h = rw h.means refl
 truth_is place (Ptr p) w h = rw (ne_eqb w 0 (λ e. omega (arith, h.means.3.above, e))) refl
 
-module _ (T : Setting) (R : Running) (formed : IsWellFormed T.image) (inputs : All IsWord T.inputs) (cells : List ℕ)
-    (nodes : ℕ) (is : IsActivation T.performs cells R.places nodes R.activation) (placed : ArePlaced R)
-    (gapless : HasNoGap T R) where
+module _ {T : Setting} {R : Running} (valid : IsRunning T R) where
   abbrev frame : FrameTree
   frame = R.activation.frame
 
@@ -41,7 +38,7 @@ module _ (T : Setting) (R : Running) (formed : IsWellFormed T.image) (inputs : A
   comp = R.activation.here.comp
 
   -- a jump past `lines` lines arrives after them, and where there are none it is there
-  past_arrives : (live : Set) (temps : Temps) (x : Joint) (lines left : ℕ) → Ready T R live temps x →
+  past_arrives : (live : TempSet) (temps : Temps) (x : Joint) (lines left : ℕ) → Ready T R live temps x →
       CodeAt T.image comp x.pc (completed (T.addresses comp) x.pc None (past lines)) →
       x.pc + 4 * (length (past lines) + lines) ≤ R.last →
       Arrives T R live x (length (past lines) + left) left temps x.meant (x.pc + 4 * (length (past lines) + lines))
@@ -55,7 +52,7 @@ module _ (T : Setting) (R : Running) (formed : IsWellFormed T.image) (inputs : A
   past_arrives live temps x (suc lines) left ready code fits =
       arrives_with T R live x (suc left) (1 + left) left left temps x.meant (x.pc + 4 * suc (suc lines))
       (x.pc + 4 * (1 + suc lines)) (omega arith) (omega arith) (omega arith)
-      (over T R formed inputs gapless live temps x (suc lines) left ready code.0 (omega (arith, fits)))
+      (over valid live temps x (suc lines) left ready code.0 (omega (arith, fits)))
 
   past_closed : (lines : ℕ) → low_after (T.addresses comp) None (past lines) ≡ None
   past_closed zero = refl
@@ -89,11 +86,11 @@ module _ (T : Setting) (R : Running) (formed : IsWellFormed T.image) (inputs : A
       branches = (back_at T.image comp L its_take (its_branch ∷ []) code).0;
     }
 
-    module _ (live : Set) (temps : Temps) (x : Joint) (ready : Ready T R live temps x) (code : Branches x.pc)
+    module _ (live : TempSet) (temps : Temps) (x : Joint) (ready : Ready T R live temps x) (code : Branches x.pc)
         (on : live cond ≡ true) (need : R.plan.needed cond ≡ true) (v : Value) (known : temps cond ≡ Some v) where
       pub held : AtHand T R x x.regs first_scratch cond v
       held =
-          brings T R x cells nodes is placed ready.frame ready.sp x.regs first_scratch cond v first_is
+          brings T R x valid ready.frame ready.sp x.regs first_scratch cond v first_is
           (ready.held cond v (and_from (live cond) (R.plan.needed cond) on need) known) refl (λ q h. refl)
 
       -- the steps of the operand's code and of the branch
@@ -128,9 +125,9 @@ module _ (T : Setting) (R : Running) (formed : IsWellFormed T.image) (inputs : A
 
       -- control moves on
       pub branch_moves : (pc rest : ℕ) → Branched pc →
-          MovesOn T R formed inputs cells nodes is live temps x (length its_take + 1) rest pc held.after
+          MovesOn valid live temps x (length its_take + 1) rest pc held.after
       branch_moves pc rest walks =
-          moves_on T R formed inputs cells nodes is live temps x (length its_take + 1) rest pc held.after ready
+          moves_on valid live temps x (length its_take + 1) rest pc held.after ready
           (held.others sp ((λ e. omega (arith, e)), ((λ e. omega (arith, e)), tt)))
           (λ q h. held.others q (h.first, (h.address, tt))) walks
 
@@ -184,7 +181,7 @@ module _ (T : Setting) (R : Running) (formed : IsWellFormed T.image) (inputs : A
 
     -- what is live in the parts is live before
     module _ (lives : Lives) where
-      abbrev live : Set
+      abbrev live : TempSet
       live = live_at trail lives
 
       first_live : (t : ℕ) → live_before fs lives t ≡ true → live t ≡ true
@@ -208,7 +205,7 @@ module _ (T : Setting) (R : Running) (formed : IsWellFormed T.image) (inputs : A
         L = x.pc
 
         here : IsInside (L + 4 * length before)
-        here = code_inside T.image formed comp (L + 4 * length before) code.branches.word code.branches.fetched
+        here = code_inside T.image valid.formed comp (L + 4 * length before) code.branches.word code.branches.fetched
 
         module _ (v : Value) (known : temps cond ≡ Some v) where
           abbrev after : Registers
@@ -216,7 +213,7 @@ module _ (T : Setting) (R : Running) (formed : IsWellFormed T.image) (inputs : A
 
           -- control moves on by the operand's code and the branch
           moved_to : (pc rest : ℕ) → Branched cond (pos 8) live temps x ready code cond_live need v known pc →
-              MovesOn T R formed inputs cells nodes is live temps x (length before + 1) rest pc after
+              MovesOn valid live temps x (length before + 1) rest pc after
           moved_to = branch_moves cond (pos 8) live temps x ready code cond_live need v known
 
           -- the value is true: what comes of the first part, after the line that the branch leads over
@@ -226,9 +223,9 @@ module _ (T : Setting) (R : Running) (formed : IsWellFormed T.image) (inputs : A
               Comes T R lives x budget ends (one temps x.meant)
           first_comes rest few true_is on =
               let aligned : taken L % 4 ≡ 0 = omega (arith, here.aligned, count_is) in
-              let there = gapless (L + 4 * length before) (taken L) (ap is_some code.branches.fetched)
+              let there = valid.gapless (L + 4 * length before) (taken L) (ap is_some code.branches.fetched)
               (omega (arith, count_is)) last aligned in
-              let low : IsInside (taken L) = code_inside T.image formed comp (taken L) there.0 there.1 in
+              let low : IsInside (taken L) = code_inside T.image valid.formed comp (taken L) there.0 there.1 in
               let target : add_word (L + 4 * length before) (word_of (pos 8)) ≡ taken L =
               omega (arith, low.low, count_is) in
               let m = moved_to (taken L) rest (branch_goes cond (pos 8) live temps x ready code cond_live need v known
@@ -419,7 +416,7 @@ module _ (T : Setting) (R : Running) (formed : IsWellFormed T.image) (inputs : A
       from_second y place same ready =
           let a : Arrives T R (live_before ss lives) y (suc (second.size + left)) (second.size + left) temps y.meant
           (y.pc + 4 * suc ahead) =
-          over T R formed inputs gapless (live_before ss lives) temps y ahead (second.size + left) ready
+          over valid (live_before ss lives) temps y ahead (second.size + left) ready
           (subst (λ pc. Fetches T.image comp pc (Jal 0 (pos (4 * suc ahead)))) (sym place) code.to_second)
           (omega (arith, place, starts.breaks, test_is)) in
           let z : Joint = a.y in

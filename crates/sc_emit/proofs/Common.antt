@@ -38,14 +38,15 @@ pub use Rattle.rv_code.specs.declared.instr.Instr.TheVariants.{Upper}
 pub use Rattle.rv_code.specs.declared.instr.OpImmOp.TheVariants.{Addi}
 pub use Rattle.rv_code.specs.declared.instr.StoreOp.TheVariants.{Sw}
 pub use Rattle.rv_code.specs.declared.instr.UpperOp.TheVariants.{Lui}
-pub use Rattle.sc_store.specs.Prelude.{Memory}
-pub use Rattle.sc_image.specs.Prelude.{IsWellFormed, IsWord, Traps, Walks, code_start, data_start, gate, globals_of}
-pub use Rattle.sc_image.specs.Prelude.{jalr_target, refused, stack_size, stack_top, start, start_memory, step, unless}
+pub use Rattle.sc_store.specs.Prelude.{ByteMemory}
+pub use Rattle.sc_image.specs.Prelude.{IsWellFormed, IsWord, Traps, Walks, code_start, data_start, gate}
+pub use Rattle.sc_image.specs.Prelude.{initial_globals, jalr_target, refused, stack_size, stack_top, start}
+pub use Rattle.sc_image.specs.Prelude.{start_memory, step, unless_trap}
 unfoldable pub use Rattle.sc_image.specs.Prelude.{are_data, word_at}
 pub use Rattle.sc_image.specs.declared.parts.ImageParts.{ImageParts}
 pub use Rattle.sc_tac.proofs.Induction.{Inside, stmt_induction}
 pub use Rattle.sc_tac.specs.Prelude.{Ahead, ArePlaces, Codes, FrameFits, IsAssignment, IsClear, IsFrame, IsFunction}
-pub use Rattle.sc_tac.specs.Prelude.{Lives, Point, Set, Temps, Trail, ahead_at, all_true, branch_step, branches}
+pub use Rattle.sc_tac.specs.Prelude.{Lives, Point, TempSet, Temps, Trail, ahead_at, all_true, branch_step, branches}
 pub use Rattle.sc_tac.specs.Prelude.{call_does, code_denotations, code_does, code_function, code_step, constant_value}
 pub use Rattle.sc_tac.specs.Prelude.{counts_elements, entry_weight, function_points, gets, has_elements, has_operands}
 pub use Rattle.sc_tac.specs.Prelude.{has_words, interval_of, intervals_of, is_one, is_place, known, live_across}
@@ -106,17 +107,19 @@ pub use Rattle.sc_emit_relation.proofs.Clear.{all_back, all_prefix}
 pub use Rattle.sc_emit_relation.proofs.Following.{IsBack, back_with, comes_computed, comes_read, is_back}
 pub use Rattle.sc_emit_relation.proofs.Frames.{object_inside, object_there, objects_apart, own_beside, own_inside}
 pub use Rattle.sc_emit_relation.proofs.Functions.{function_follows, overflows_entering}
-pub use Rattle.sc_emit_relation.proofs.Jumps.{HasNoGap, back_to, break_follows, continue_follows, over}
+pub use Rattle.sc_emit_relation.proofs.Jumps.{back_to, break_follows, continue_follows, over}
 pub use Rattle.sc_emit_relation.proofs.Lines.{InParts, completed_length, completed_plainly, in_parts, low_append}
 pub use Rattle.sc_emit_relation.proofs.Lines.{low_plainly, plainly_at}
 pub use Rattle.sc_emit_relation.proofs.Operators.{operator_stands}
 pub use Rattle.sc_emit_relation.proofs.Registers.{HasNoOtherUse, no_other_use, register_there}
 pub use Rattle.sc_emit_relation.proofs.Rotated.{ArrivesLate, HeadComes, HeadFollows, rotated_follows}
 pub use Rattle.sc_emit_relation.proofs.Rounds.{ready_less}
+pub use Rattle.sc_emit_relation.proofs.Running.{ArePlaced, HasNoGap, IsPlace, IsRunning}
 pub use Rattle.sc_emit_relation.proofs.Settling.{leads_moved, moved, settled_moved}
-pub use Rattle.sc_emit_relation.proofs.Straight.{IsLoaded, MovesOn, across_live, asked, assigned, assigned_at}
-pub use Rattle.sc_emit_relation.proofs.Straight.{assigns_register, assigns_slot, call_from, emits_from, live_plain}
-pub use Rattle.sc_emit_relation.proofs.Straight.{loads, may_store, overflows_from, settled_to, stores}
+pub use Rattle.sc_emit_relation.proofs.Assigning.{IsLoaded, MovesOn, assigned, assigned_at, assigns_slot, loads}
+pub use Rattle.sc_emit_relation.proofs.Assigning.{may_store, stores}
+pub use Rattle.sc_emit_relation.proofs.Straight.{across_live, asked, assigns_register, call_from, emits_from}
+pub use Rattle.sc_emit_relation.proofs.Straight.{live_plain, overflows_from, settled_to}
 pub use Rattle.sc_emit_relation.proofs.Stretches.{arrives_with, comes_after, effect_still, emits_after, emits_here}
 pub use Rattle.sc_emit_relation.proofs.Stretches.{emits_less, leads_less, leads_none, leads_then, leads_then_steps}
 pub use Rattle.sc_emit_relation.proofs.Stretches.{overflows_then, overflows_with, returns_with}

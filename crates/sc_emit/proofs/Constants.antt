@@ -1,25 +1,23 @@
 -- An operator whose second operand is a constant: one instruction, where the result takes the constant's temporary.
 use Rattle.sc_emit.proofs.Common.{All, All-cons, All-nil, Arrives, Bool, Calls, Cause, CodeAt, Codes, Computes}
-use Rattle.sc_emit.proofs.Common.{Constant, Err, Follows, FrameTree, Goes, Gone, Instr, IsActivation, IsClear, IsSound}
-use Rattle.sc_emit.proofs.Common.{IsWellFormed, IsWord, Joint, List, Lives, Next, Ok, Place, Point, Ready, Result}
-use Rattle.sc_emit.proofs.Common.{Running, Set, Setting, ShortForm, Some, State as Meant, TacOp, Temps, Trail, Value}
-use Rattle.sc_emit.proofs.Common.{[], all_at, and_from, and_then, ap, arith, code_step, comes_computed, comes_read}
-use Rattle.sc_emit.proofs.Common.{constant_value, eq-eqb, eqb-true, false, first_scratch, gets, if◌then◌else◌, in_row}
-use Rattle.sc_emit.proofs.Common.{is_one, keep, leave, length, live_across, live_at, live_plain, ne_eqb, not, op_word}
-use Rattle.sc_emit.proofs.Common.{operand, operated, operator_stands, or_left, plain_points, point, read, refl}
-use Rattle.sc_emit.proofs.Common.{result_register, row, same, same_Some, short_code, short_form, short_operation}
-use Rattle.sc_emit.proofs.Common.{slice_get, sp, stays, straightly, subst, sym, take, trail_step, true, true≢false}
-use Rattle.sc_emit.proofs.Common.{wanted_less, with_temp, word_of_constant, wrapping, ℕ, ◌&&◌, ◌*◌, ◌++◌, ◌+◌, ◌==◌}
-use Rattle.sc_emit.proofs.Common.{◌||◌, ◌∙◌, ◌∷◌, ◌≡◌}
+use Rattle.sc_emit.proofs.Common.{Constant, Err, Follows, FrameTree, Goes, Gone, Instr, IsClear, IsRunning, IsSound}
+use Rattle.sc_emit.proofs.Common.{Joint, List, Lives, Next, Ok, Place, Point, Ready, Result, Running, Setting}
+use Rattle.sc_emit.proofs.Common.{ShortForm, Some, State as Meant, TacOp, TempSet, Temps, Trail, Value, [], all_at}
+use Rattle.sc_emit.proofs.Common.{and_from, and_then, ap, arith, code_step, comes_computed, comes_read, constant_value}
+use Rattle.sc_emit.proofs.Common.{eq-eqb, eqb-true, false, first_scratch, gets, if◌then◌else◌, in_row, is_one, keep}
+use Rattle.sc_emit.proofs.Common.{leave, length, live_across, live_at, live_plain, ne_eqb, not, op_word, operand}
+use Rattle.sc_emit.proofs.Common.{operated, operator_stands, or_left, plain_points, point, read, refl, result_register}
+use Rattle.sc_emit.proofs.Common.{row, same, same_Some, short_code, short_form, short_operation, slice_get, sp, stays}
+use Rattle.sc_emit.proofs.Common.{straightly, subst, sym, take, trail_step, true, true≢false, wanted_less, with_temp}
+use Rattle.sc_emit.proofs.Common.{word_of_constant, wrapping, ℕ, ◌&&◌, ◌*◌, ◌++◌, ◌+◌, ◌==◌, ◌||◌, ◌∙◌, ◌∷◌, ◌≡◌}
 use Rattle.sc_tac.specs.declared.stmt.TacStmt.TheOpen as tac
 use Rattle.sc_emit_hart.proofs.ShortForms.{gives_short}
-use Rattle.sc_emit.proofs.Operands.{ArePlaced, AtHand, Gives, brings, first_is, keeps, world}
+use Rattle.sc_emit.proofs.Operands.{AtHand, Gives, brings, first_is, keeps, world}
 use Rattle.sc_emit.proofs.Pairs.{again, fewer_clear}
 use Rattle.sc_emit.proofs.Plain.{IsResult, IsWordConstant, constant_stands, result_is}
 use Rattle.sc_emit.proofs.Straight.{comes_past, read_goes, straight_follows}
 
-module _ (T : Setting) (R : Running) (formed : IsWellFormed T.image) (inputs : All IsWord T.inputs) (cells : List ℕ)
-    (nodes : ℕ) (is : IsActivation T.performs cells R.places nodes R.activation) (placed : ArePlaced R) (calls : Calls)
+module _ {T : Setting} {R : Running} (valid : IsRunning T R) (calls : Calls)
     (dest left : ℕ) (value : Constant) (o : TacOp) (apart : (left == dest) ≡ false)
     (need : R.plan.needed left ≡ true) where
   abbrev frame : FrameTree
@@ -135,14 +133,14 @@ module _ (T : Setting) (R : Running) (formed : IsWellFormed T.image) (inputs : A
 
   -- the code gives what the operator gives, where what it reads is live
   module _ (form : ShortForm) (form_is : short_form o word ≡ Some form) (for : IsSound o)
-      (small : IsWordConstant T R formed inputs cells nodes is placed calls value) where
-    pub gives : (rd : ℕ) → IsResult rd → (live : Set) (temps : Temps) (x : Joint) (v r : Value) →
+      (small : IsWordConstant valid calls value) where
+    pub gives : (rd : ℕ) → IsResult rd → (live : TempSet) (temps : Temps) (x : Joint) (v r : Value) →
         Ready T R live temps x → live left ≡ true → temps left ≡ Some v →
         operated wrapping (x.meant.memory comp) o v start ≡ Ok r → Gives T R x (short_into form rd) rd r
     gives rd w live temps x v r ready on known gave =
         let rs : ℕ = operand frame R.places first_scratch left in
         let h : AtHand T R x x.regs first_scratch left v =
-        brings T R x cells nodes is placed ready.frame ready.sp x.regs first_scratch left v first_is
+        brings T R x valid ready.frame ready.sp x.regs first_scratch left v first_is
         (ready.held left v (and_from (live left) (R.plan.needed left) on need) known) refl (λ q k. refl) in
         let piece : Computes T.image T.inputs (world T R x) (short_code rd rs (Some form)) [] h.after x.bytes rd
         (op_word o h.word word) =
@@ -150,9 +148,8 @@ module _ (T : Setting) (R : Running) (formed : IsWellFormed T.image) (inputs : A
         h.stands.word small o form form_is in
         record {
           word = op_word o h.word word;
-          stands = operator_stands T.image formed T.performs R.activation.floor x.inj x.meant.memory x.bytes
-              ready.settled.blocks comp is.honest is.known o v start r h.word word for gave small h.stands
-              (λ two. constant_stands T R formed inputs cells nodes is placed calls (x.inj comp) value small);
+          stands = operator_stands valid.formed ready.settled.blocks valid.is.honest valid.is.known o v start r h.word
+              word for gave small h.stands (λ two. constant_stands valid calls (x.inj comp) value small);
           after = piece.after;
           does = in_row T.image T.inputs (world T R x) h.does piece.does;
           result = piece.result;
@@ -163,8 +160,7 @@ module _ (T : Setting) (R : Running) (formed : IsWellFormed T.image) (inputs : A
 
   -- it is kept in the place of the temporary
   module _ (form : ShortForm) (form_is : short_form o word ≡ Some form) (for : IsSound o)
-      (small : IsWordConstant T R formed inputs cells nodes is placed calls value) (place : Place)
-      (its : slice_get R.places dest ≡ Some place) where
+      (small : IsWordConstant valid calls value) (place : Place) (its : slice_get R.places dest ≡ Some place) where
     abbrev rd : ℕ
     rd = result_register frame R.places dest
 
@@ -194,13 +190,12 @@ module _ (T : Setting) (R : Running) (formed : IsWellFormed T.image) (inputs : A
         (operated wrapping (x.meant.memory comp) o v w) (λ r s. leave Next (with_temp dest r (set temps)) s)
         (λ r gave.
         (let g : Gives T R x code rd r =
-        gives form form_is for small rd (result_is R placed dest place its) (live_at both_steps lives) temps x v r ready
-        (left_live lives) (left_is temps v known)
+        gives form form_is for small rd (result_is R valid.placed dest place its) (live_at both_steps lives) temps x v
+        r ready (left_live lives) (left_is temps v known)
         (ap (operated wrapping (x.meant.memory comp) o v) (right_is temps w known') ∙ gave) in
         comes_past T R lives x whole n (with_temp dest r (set temps)) x.meant
         (again T R dest start lives.following x (length whole + n) n temps r x.meant (x.pc + 4 * length whole)
         (subst (λ code. Arrives T R lives.following x (length code + n) n (with_temp dest r temps) x.meant
-        (x.pc + 4 * length code)) in_parts
-        (keeps T R x cells nodes is placed ready.frame ready.sp formed inputs lives temps (left ∷ []) dest n
+        (x.pc + 4 * length code)) in_parts (keeps T R x valid ready.frame ready.sp lives temps (left ∷ []) dest n
         (fewer_ready lives temps x ready) (clear_after lives clear) r code place its g
         (subst (CodeAt T.image comp x.pc) (sym in_parts) at)))) ends e f)))))

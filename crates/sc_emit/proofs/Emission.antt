@@ -1,7 +1,7 @@
 -- The code that is selected keeps what code keeps.
-use Rattle.sc_emit.proofs.Common.{Activation, ArePlaces, AreReached, Bool, CodeAt, CodeTree, Err, Follows, FrameFits}
-use Rattle.sc_emit.proofs.Common.{FrameTree, FunctionFollows, IfOk, Instr, IsAssignment, IsEmitted, IsFrame, IsFunction}
-use Rattle.sc_emit.proofs.Common.{IsPlaced, Line, List, Ok, Place, Register, Result, Running, Setting, Slot, Some}
+use Rattle.sc_emit.proofs.Common.{ArePlaces, AreReached, Bool, CodeAt, CodeTree, Err, Follows, FrameFits, FrameTree}
+use Rattle.sc_emit.proofs.Common.{FunctionFollows, IfOk, Instr, IsAssignment, IsEmitted, IsFrame, IsFunction, IsPlaced}
+use Rattle.sc_emit.proofs.Common.{IsRunning, Line, List, Ok, Place, Register, Result, Running, Setting, Slot, Some}
 use Rattle.sc_emit.proofs.Common.{TacFnTree, [], and_parts, ap, append_assoc, arith, branch_reach, calls_only, closing}
 use Rattle.sc_emit.proofs.Common.{code_does, code_function, code_of, entry_weight, frame_taken, function_lines}
 use Rattle.sc_emit.proofs.Common.{function_points, interval_of, intervals_of, is_near, is_place, length, length-append}
@@ -16,8 +16,7 @@ use Rattle.sc_emit.proofs.Needed.{all_among}
 use Rattle.std.proofs.lemmas.List.FromFn.{length-range_with_len}
 use Rattle.sc_emit_relation.proofs.Linking.{linked_is}
 use Rattle.sc_emit.proofs.Branches.{few_branches, known_jumps, no_ebreak}
-use Rattle.sc_emit.proofs.Functions.{in_call, BodyFollows, code_follows}
-use Rattle.sc_emit.proofs.Operands.{ArePlaced}
+use Rattle.sc_emit.proofs.Functions.{PlacesAll, in_call, BodyFollows, code_follows}
 use Rattle.sc_emit.proofs.Returns.{brace_returns}
 use Rattle.sc_emit.proofs.Repeating.{repeats_by_rounds}
 use Rattle.sc_emit.proofs.Rounds.{few_back, has_rounds}
@@ -80,10 +79,9 @@ module _ (f : TacFnTree) (places : List Place) (frame : FrameTree) (rules : IsFu
   temps_are = sym (assigned.each ∙ length-map (range_with_len 0 f.temps) (interval_of (function_points f)) ∙
       length-range_with_len 0 f.temps)
 
-  all_placed : (A : Activation) (last : ℕ) → A.frame ≡ frame →
-      ArePlaced (record { activation = A; places = places; plan = plan_of f near; last = last })
-  all_placed A last same t (Register r) e = register_below (length places) places t r kept.known e
-  all_placed A last same t (Slot k) e =
+  all_placed : (T : Setting) → PlacesAll T f frame places near
+  all_placed T A last same t (Register r) e = register_below (length places) places t r kept.known e
+  all_placed T A last same t (Slot k) e =
       let below : k < length frame.slots = omega (arith, slot_below places t k e, frame_fits.slots) in
       (_, ap (λ (frame : FrameTree). slice_get frame.slots k) same ∙ slice_get-get_or frame.slots k 0 below)
 
@@ -91,6 +89,15 @@ module _ (f : TacFnTree) (places : List Place) (frame : FrameTree) (rules : IsFu
     body : BodyFollows T f frame places near comp
     body calls follow A last run gapless =
         let R : Running = in_call T f frame places near A last in
+        let valid : IsRunning T R = record {
+          formed = is.image;
+          inputs = is.inputs;
+          cells = f.objects;
+          nodes = f.nodes;
+          is = run.is;
+          placed = all_placed T A last run.frame_is;
+          gapless = gapless;
+        } in
         let size : (select_all A.frame places (plan_of f near) f.body).size ≤ length lines =
         subst (λ (frame : FrameTree). (select_all frame places (plan_of f near) f.body).size ≤ length lines) (sym
         run.frame_is) body_within in
@@ -101,10 +108,7 @@ module _ (f : TacFnTree) (places : List Place) (frame : FrameTree) (rules : IsFu
         let temps : everywhere (names_own_temps (length places)) f.body ≡ true =
         subst (λ n. everywhere (names_own_temps n) f.body ≡ true) temps_are rules.own_temps in
         subst (λ frame. Follows T R (code_does wrapping A.here calls f.body) (select_all frame places (plan_of f near)
-        f.body)
-        (row (map trail f.body))) run.frame_is
-        (body_follows T R is.image is.inputs f.objects f.nodes run.is (all_placed A last run.frame_is) gapless calls
-        follow
+        f.body) (row (map trail f.body))) run.frame_is (body_follows valid calls follow
         is.function is.entry is.global reached (length lines) (omega (arith, all_instrs, is.paid)) reaches f.body (
           temps,
           (
@@ -133,8 +137,7 @@ module _ (f : TacFnTree) (places : List Place) (frame : FrameTree) (rules : IsFu
         (subst (CodeAt T.image comp address) (linked_is (T.addresses comp) address lines) is.stands) (omega (
           arith,
           all_instrs,
-        ))
-        body (brace_returns T f frame places near is.image is.inputs comp)
+        )) body (brace_returns T f frame places near is.image is.inputs (all_placed T) comp)
 
   -- the prologue comes first
   enters : IsPrefix (frame_taken frame.bytes) code.instrs

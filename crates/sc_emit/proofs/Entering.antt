@@ -1,19 +1,19 @@
 -- The code of the prologue: the frame is taken and arguments go into their variables, or the machine stands trapped
 -- where the frame goes below the data.
-use Rattle.sc_emit.proofs.Common.{All, Apart, Begins, CodeAt, Computes, Does, Enters, Fetches, FrameFits}
-use Rattle.sc_emit.proofs.Common.{FrameOverflows, FrameTree, Function, Grown, ImageParts, Instr, IsFrame, IsFromSp}
-use Rattle.sc_emit.proofs.Common.{IsWellFormed, IsWord, Joint, List, Memory as Bytes, Option, Overflows, Piece, Place}
+use Rattle.sc_emit.proofs.Common.{All, Apart, Begins, ByteMemory as Bytes, CodeAt, Computes, Does, Enters, Fetches}
+use Rattle.sc_emit.proofs.Common.{FrameFits, FrameOverflows, FrameTree, Function, Grown, ImageParts, Instr, IsFrame}
+use Rattle.sc_emit.proofs.Common.{IsFromSp, IsWellFormed, IsWord, Joint, List, Option, Overflows, Piece, Place}
 use Rattle.sc_emit.proofs.Common.{Registers, Setting, Some, Standpoint, Store, Stores, Sw, TakesFrame, Traps, Value}
 use Rattle.sc_emit.proofs.Common.{Walks, World, [], a0, add_word, all_at, ap, are_data, arith, at, back_at, begun}
-use Rattle.sc_emit.proofs.Common.{cases_eq, cases_lt, computes, data_start, eq-eqb, false, frame_taken, globals_of}
-use Rattle.sc_emit.proofs.Common.{in_row, inl, inr, is_there, last, le-leb, le-ltb, length, length-append, look_at}
-use Rattle.sc_emit.proofs.Common.{moved_by, moved_to, moves_on, nat_le, nat_lt, object_inside, object_there}
+use Rattle.sc_emit.proofs.Common.{cases_eq, cases_lt, computes, data_start, eq-eqb, false, frame_taken, in_row}
+use Rattle.sc_emit.proofs.Common.{initial_globals, inl, inr, is_there, last, le-leb, le-ltb, length, length-append}
+use Rattle.sc_emit.proofs.Common.{look_at, moved_by, moved_to, moves_on, nat_le, nat_lt, object_inside, object_there}
 use Rattle.sc_emit.proofs.Common.{objects_apart, overflows, overflows_entering, own_beside, own_inside, pos, prefix_at}
 use Rattle.sc_emit.proofs.Common.{prologue, put_word, ra, refl, refused, same_Some, slice_get, sp, stack_size}
 use Rattle.sc_emit.proofs.Common.{stack_top, step, store_arguments, store_word, stores_word, sub_word, subst, suc, sym}
-use Rattle.sc_emit.proofs.Common.{takes_frame, true, unless, unwrap_or, word, word_of-lt, word_of-unsigned_sub, zero, ℕ}
-use Rattle.sc_emit.proofs.Common.{⊎_elim, ◌%◌, ◌*◌, ◌++◌, ◌+◌, ◌-◌, ◌<◌, ◌^◌, ◌∙◌, ◌∷◌, ◌≡◌, ◌≢◌, ◌≤◌, ◌⊎◌}
-use Rattle.sc_store.specs.Prelude.{stored}
+use Rattle.sc_emit.proofs.Common.{takes_frame, true, unless_trap, unwrap_or, word, word_of-lt, word_of-unsigned_sub}
+use Rattle.sc_emit.proofs.Common.{zero, ℕ, ⊎_elim, ◌%◌, ◌*◌, ◌++◌, ◌+◌, ◌-◌, ◌<◌, ◌^◌, ◌∙◌, ◌∷◌, ◌≡◌, ◌≢◌, ◌≤◌, ◌⊎◌}
+use Rattle.sc_store.specs.Prelude.{with_bytes}
 use Rattle.sc_image.specs.Prelude.{Goes}
 use Rattle.sc_base.specs.declared.stop.TrapReason.TheVariants.{Owner}
 use Rattle.sc_image.proofs.Memory.{few_globals}
@@ -23,11 +23,10 @@ use Rattle.sc_emit_hart.specs.Prelude.{LacksRoom}
 
 -- Arguments, each into its variable.
 
-module _ (image : ImageParts) (inputs : List ℕ) (world : World) (cells : List ℕ) (places : List Place) (nodes low : ℕ)
-    (frame : FrameTree) (whole : IsFrame frame) (frame_fits : FrameFits cells places nodes frame)
-    (aligned : low % 4 ≡ 0)
-    (start : data_start world.active ≤ low) (high : low + frame.bytes ≤ stack_top world.active)
-    (known : world.active < 32) where
+module _ (image : ImageParts) (inputs : List ℕ) (world : World) (low : ℕ) {cells : List ℕ} {places : List Place}
+    {nodes : ℕ} {frame : FrameTree} (whole : IsFrame frame) (frame_fits : FrameFits cells places nodes frame)
+    (aligned : low % 4 ≡ 0) (start : data_start world.active ≤ low)
+    (high : low + frame.bytes ≤ stack_top world.active) (known : world.active < 32) where
   -- a word meets none of `count` variables from `from` on
   abbrev MeetsNone : (count from q : ℕ) → Type 0
   MeetsNone count from q =
@@ -40,7 +39,7 @@ module _ (image : ImageParts) (inputs : List ℕ) (world : World) (cells : List 
     does : Does image inputs world (store_arguments frame places count from) regs bytes after later
     sp : after sp ≡ low
     others : (q : ℕ) → MeetsNone count from q → word later q ≡ word bytes q
-    stored : (o offset : ℕ) → from ≤ o → o < from + count → slice_get frame.objects o ≡ Some offset →
+    with_bytes : (o offset : ℕ) → from ≤ o → o < from + count → slice_get frame.objects o ≡ Some offset →
         word later (low + offset) ≡ regs (a0 + o)
 
   no_steps : (regs : Registers) (bytes : Bytes) → Does image inputs world [] regs bytes regs bytes
@@ -168,8 +167,8 @@ module _ (image : ImageParts) (formed : IsWellFormed image) (inputs : List ℕ) 
       let few = few_globals image world.active formed in
       let stack : nat_lt (a + 0) (data_start world.active + stack_size) ≡ false =
       le-ltb (a + 0) (data_start world.active + stack_size) (omega (arith, high, known)) in
-      let globals : nat_lt (a + 0) (stack_top world.active + length (globals_of image world.active)) ≡ false =
-      le-ltb (a + 0) (stack_top world.active + length (globals_of image world.active))
+      let globals : nat_lt (a + 0) (stack_top world.active + length (initial_globals image world.active)) ≡ false =
+      le-ltb (a + 0) (stack_top world.active + length (initial_globals image world.active))
       (omega (arith, high, known, few)) in
       let above_stack : nat_le (data_start world.active) (a + 0) ≡ true =
       le-leb (data_start world.active) (a + 0) (omega (arith, high, known)) in
@@ -187,7 +186,7 @@ module _ (image : ImageParts) (formed : IsWellFormed image) (inputs : List ℕ) 
   beyond_traps pc regs memory a f e aligned high =
       steps_by_instruction.stores image inputs (at pc regs memory world) Sw sp ra (pos 0) a
       (record { word = f.word; fetched = f.fetched; decodes = f.decodes }) e ∙
-      ap (λ why. unless why (Goes (at (pc + 4) regs (stored memory a 4 (regs ra)) world)))
+      ap (λ why. unless_trap why (Goes (at (pc + 4) regs (with_bytes memory a 4 (regs ra)) world)))
       (beyond_refused a aligned high)
 
   wrapped : (bound bytes : ℕ) → bound < bytes → bytes ≤ 2 ^ 31 →
@@ -232,9 +231,9 @@ module _ (image : ImageParts) (formed : IsWellFormed image) (inputs : List ℕ) 
         (omega (arith, low, few, known)) (omega (arith, aligned, place, more)) (omega (arith, low, more)) code)
         (cases_lt (regs sp) bytes)
 
-module _ (T : Setting) (formed : IsWellFormed T.image) (inputs : All IsWord T.inputs) (P : Standpoint) (f : Function)
-    (args : List Value) (address ra_is : ℕ) (x : Joint) (begins : Begins T P f args address ra_is x)
-    (frame : FrameTree) (places : List Place) (nodes params : ℕ) (whole : IsFrame frame)
+module _ (T : Setting) (formed : IsWellFormed T.image) (inputs : All IsWord T.inputs) {P : Standpoint} {f : Function}
+    {args : List Value} {address ra_is : ℕ} {x : Joint} (begins : Begins T P f args address ra_is x)
+    {frame : FrameTree} {places : List Place} {nodes : ℕ} (params : ℕ) (whole : IsFrame frame)
     (frame_fits : FrameFits f.cells places nodes frame) (roomy : frame.bytes ≤ f.frame_size)
     (code : CodeAt T.image P.comp x.pc (prologue frame places params)) where
   abbrev world : World
@@ -277,7 +276,7 @@ module _ (T : Setting) (formed : IsWellFormed T.image) (inputs : All IsWord T.in
       goes_below T.image formed T.inputs world known x.regs x.bytes frame.bytes few whole.bytes
       (omega (arith, begins.sp, begins.base.aligned)) x.pc
       frame_code (omega (arith, begins.sp, low)) in
-      overflows_entering T formed inputs P f args address ra_is x begins frame o.steps budget
+      overflows_entering T formed inputs begins frame o.steps budget
       (at o.following o.after x.bytes world) piece roomy low o.walks o.traps (lacks o low)
       (record { begins = x.pc; code = frame_code; last = o.last }) refl refl
       (omega (arith, o.few, enough)) grown
@@ -292,8 +291,8 @@ module _ (T : Setting) (formed : IsWellFormed T.image) (inputs : All IsWord T.in
     pub record HasEntered : Type 0 where
       pub regs : Registers
       pub bytes : Bytes
-      pub enters : Enters T formed inputs P f args address ra_is x begins frame places nodes low whole frame_fits roomy
-          bound_is start steps (x.pc + 4 * steps) regs bytes
+      pub enters : Enters T formed inputs begins low whole frame_fits roomy bound_is start steps (x.pc + 4 * steps)
+          regs bytes
 
     aligned : low % 4 ≡ 0
     aligned = omega (arith, bound_is, whole.bytes, begins.base.aligned)
@@ -321,10 +320,10 @@ module _ (T : Setting) (formed : IsWellFormed T.image) (inputs : All IsWord T.in
     abbrev between : Bytes
     between = put_word x.bytes low (x.regs ra)
 
-    stores : StoresArguments T.image T.inputs world f.cells places nodes low frame whole frame_fits aligned start
+    stores : StoresArguments T.image T.inputs world low whole frame_fits aligned start
         (omega (arith, bound_is, begins.base.high)) known params 0 takes.after between
     stores =
-        stores_arguments T.image T.inputs world f.cells places nodes low frame whole frame_fits aligned start
+        stores_arguments T.image T.inputs world low whole frame_fits aligned start
         (omega (arith, bound_is, begins.base.high)) known params few there some params 0 takes.after between (omega
         arith)
         takes.lowered argument_word
@@ -335,7 +334,7 @@ module _ (T : Setting) (formed : IsWellFormed T.image) (inputs : All IsWord T.in
         let n = is_there f.cells o (omega (arith, less, there)) in (n.0, n.1, some o n.0 less n.1)
 
     -- the return address lies beside all variables
-    ra_beside : MeetsNone T.image T.inputs world f.cells places nodes low frame whole frame_fits aligned start
+    ra_beside : MeetsNone T.image T.inputs world low whole frame_fits aligned start
         (omega (arith, bound_is, begins.base.high)) known params 0 low
     ra_beside o offset above below e =
         let n = object_of o offset (omega (arith, below)) e in
@@ -344,7 +343,7 @@ module _ (T : Setting) (formed : IsWellFormed T.image) (inputs : All IsWord T.in
 
     -- and variables lie inside the frame
     outside_beside : (q : ℕ) → (q + 4 ≤ low) ⊎ (low + frame.bytes ≤ q) →
-        MeetsNone T.image T.inputs world f.cells places nodes low frame whole frame_fits aligned start
+        MeetsNone T.image T.inputs world low whole frame_fits aligned start
         (omega (arith, bound_is, begins.base.high)) known params 0 q
     outside_beside q h o offset above below e =
         let n = object_of o offset (omega (arith, below)) e in

@@ -1,22 +1,21 @@
 -- Calls of the environment.
-use Rattle.sc_emit.proofs.Common.{Activation, Addi, All, CallStands, CallTarget, Calls, CallsFollow, CodeAt, ComesBack}
-use Rattle.sc_emit.proofs.Common.{Computes, Ecall, Fetches, Follows, FrameTree, Input, Instr, IsActivation, IsBack}
-use Rattle.sc_emit.proofs.Common.{IsClear, IsWellFormed, IsWord, Joint, List, Lives, None, OpImm, Option, Output, Ready}
-use Rattle.sc_emit.proofs.Common.{Running, Setting, State as Meant, Temps, Value, [], a0, a7, across_live, all_at, ap}
-use Rattle.sc_emit.proofs.Common.{append-nil, append_assoc, arith, asked, back_at, back_with, brought, call_does}
-use Rattle.sc_emit.proofs.Common.{call_from, code_step, environment_call, false, length, list_all, live_across}
-use Rattle.sc_emit.proofs.Common.{live_plain, moved, of_environment, pass, place_of, plain_points, pos, receive, refl}
-use Rattle.sc_emit.proofs.Common.{select_step, subst, sym, trail_step, true, wanted_less, with_number, wrapping, ℕ, ◌*◌}
-use Rattle.sc_emit.proofs.Common.{◌++◌, ◌+◌, ◌<◌, ◌^◌, ◌∙◌, ◌∷◌, ◌≡◌, ◌≤◌}
+use Rattle.sc_emit.proofs.Common.{Activation, Addi, CallStands, CallTarget, Calls, CallsFollow, CodeAt, ComesBack}
+use Rattle.sc_emit.proofs.Common.{Computes, Ecall, Fetches, Follows, FrameTree, Input, Instr, IsBack, IsClear}
+use Rattle.sc_emit.proofs.Common.{IsRunning, Joint, List, Lives, None, OpImm, Option, Output, Ready, Running, Setting}
+use Rattle.sc_emit.proofs.Common.{State as Meant, Temps, Value, [], a0, a7, across_live, all_at, ap, append-nil}
+use Rattle.sc_emit.proofs.Common.{append_assoc, arith, asked, back_at, back_with, brought, call_does, call_from}
+use Rattle.sc_emit.proofs.Common.{code_step, environment_call, false, length, list_all, live_across, live_plain, moved}
+use Rattle.sc_emit.proofs.Common.{of_environment, pass, place_of, plain_points, pos, receive, refl, select_step, subst}
+use Rattle.sc_emit.proofs.Common.{sym, trail_step, true, wanted_less, with_number, wrapping, ℕ, ◌*◌, ◌++◌, ◌+◌, ◌<◌}
+use Rattle.sc_emit.proofs.Common.{◌^◌, ◌∙◌, ◌∷◌, ◌≡◌, ◌≤◌}
 use Rattle.sc_tac.specs.declared.stmt.TacStmt.TheOpen as tac
 use Rattle.sc_emit.proofs.Arguments.{AreRead, read_length, Passes}
 use Rattle.sc_emit.proofs.Calls.{Answers, none_wanted, HasPlace, last_point, Prepares, goes, call_runs, passes_args}
 use Rattle.sc_emit.proofs.Calls.{prepared}
-use Rattle.sc_emit.proofs.Operands.{ArePlaced, world}
+use Rattle.sc_emit.proofs.Operands.{world}
 use Rattle.sc_emit.proofs.Straight.{ComesStraight, straight_follows}
 
-module _ (T : Setting) (R : Running) (formed : IsWellFormed T.image) (inputs : All IsWord T.inputs) (cells : List ℕ)
-    (nodes : ℕ) (is : IsActivation T.performs cells R.places nodes R.activation) (placed : ArePlaced R) where
+module _ {T : Setting} {R : Running} (valid : IsRunning T R) where
   abbrev A : Activation
   A = R.activation
 
@@ -30,7 +29,7 @@ module _ (T : Setting) (R : Running) (formed : IsWellFormed T.image) (inputs : A
       IsBack T R reads dest lives temps x left v meant
   asked_back reads dest lives temps x target left v meant environment ready b =
       let r : Ready T R (live_plain reads dest lives) temps b.y =
-      asked T R is.honest x b.y b.leads.effect (live_plain reads dest lives) temps ready b.settled b.sp
+      asked T R valid.is.honest x b.y b.leads.effect (live_plain reads dest lives) temps ready b.settled b.sp
       (λ q h. b.registers environment q (λ e. omega (arith, h.argument, e))) in
       back_with T R reads dest lives temps x target left v meant b
       (record {
@@ -61,16 +60,15 @@ module _ (T : Setting) (R : Running) (formed : IsWellFormed T.image) (inputs : A
         (lives : Lives) (temps : Temps) (x : Joint) →
         Ready T R (live_plain args dest lives) temps x →
         CodeAt T.image A.here.comp x.pc (asking number dest args) → (vs : List Value) → AreRead temps args vs →
-        Prepares T R formed inputs cells nodes is placed target x (pass frame R.places a0 args ++ ask number) vs
+        Prepares valid target x (pass frame R.places a0 args ++ ask number) vs
     asks_prepared target number dest args few needs small stands lives temps x ready code vs read =
         let before : List Instr = pass frame R.places a0 args ++ ask number in
-        let p : Passes T R cells nodes is placed x ready.frame ready.sp x.regs a0 args vs =
-        passes_args T R formed inputs cells nodes is placed args dest lives temps x vs (omega (arith, few)) needs ready
-        read in
+        let p : Passes valid x ready.frame ready.sp x.regs a0 args vs =
+        passes_args valid args dest lives temps x vs (omega (arith, few)) needs ready read in
         let u : Computes T.image T.inputs (world T R x) (ask number) [] p.after x.bytes a7 number =
         with_number T.image T.inputs (world T R x) p.after x.bytes Addi a7 0 (pos number) 0 number
         (record { above = omega arith; below = omega arith }) (omega arith) refl (omega (arith, small)) in
-        prepared T R formed inputs cells nodes is placed args x vs ready.frame ready.sp p target (ask number) a7 number
+        prepared valid args x vs ready.frame ready.sp p target (ask number) a7 number
         u (λ e. omega (arith, e)) (λ q h e. omega (arith, h.argument, e))
         (λ i l e. omega (arith, l, e, few, read_length temps args vs read))
         (λ low is_number. stands (moved x (x.pc + 4 * length before) u.after x.bytes)
@@ -86,7 +84,7 @@ module _ (T : Setting) (R : Running) (formed : IsWellFormed T.image) (inputs : A
     asks target number dest args environment few needs small stands there made answers lives temps x left ready clear
         code
         ends left_is after_is =
-        call_runs T R formed inputs cells nodes is placed calls follow target dest args there made answers lives temps
+        call_runs valid calls follow target dest args there made answers lives temps
         clear (λ y left v s ready b. asked_back args dest lives temps y target left v s environment ready b) x
         (pass frame R.places a0 args ++ ask number) Ecall left ends left_is after_is code ready
         (asks_prepared target number dest args few needs small stands lives temps x ready code)
@@ -99,8 +97,7 @@ module _ (T : Setting) (R : Running) (formed : IsWellFormed T.image) (inputs : A
     input_follows dest there made answers =
         straight_follows T R (code_step wrapping A.here calls (tac.Input dest))
         (environment_call 1 ++ receive frame R.places dest) (trail_step (tac.Input dest))
-        (goes T R formed inputs cells nodes is placed calls follow Input dest [])
-        (λ lives temps x left ready clear code.
+        (goes valid calls follow Input dest []) (λ lives temps x left ready clear code.
         asks Input 1 dest [] refl (omega arith) refl (omega arith) (λ y f e. (
           f,
           e,
@@ -117,8 +114,7 @@ module _ (T : Setting) (R : Running) (formed : IsWellFormed T.image) (inputs : A
         let whole : asking 2 None (value ∷ []) ≡ first ++ environment_call 2 =
         ap (λ code. (code ++ ask 2) ++ Ecall ∷ []) (append-nil first) ∙ append_assoc first (ask 2) (Ecall ∷ []) in
         straight_follows T R (code_step wrapping A.here calls (tac.Output value)) (first ++ environment_call 2)
-        (trail_step (tac.Output value))
-        (goes T R formed inputs cells nodes is placed calls follow Output None (value ∷ []))
+        (trail_step (tac.Output value)) (goes valid calls follow Output None (value ∷ []))
         (λ lives temps x left ready clear code.
         subst (λ code. ComesStraight T R lives x code left
         (call_does A.here calls None Output (value ∷ []) temps x.meant)) whole

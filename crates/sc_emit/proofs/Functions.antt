@@ -1,11 +1,11 @@
 -- The code of a function follows the function, where the code of its body follows what its statements do.
-use Rattle.sc_emit.proofs.Common.{Activation, All, Arrives, Begins, Bool, Break, Calls, CallsFollow, CodeAt, Comes}
-use Rattle.sc_emit.proofs.Common.{Continue, Emits, Ends, Entry, Exit, ExitGives, Export, Follows, FrameFits, FrameTree}
-use Rattle.sc_emit.proofs.Common.{Function, FunctionFollows, FunctionGives, FunctionGoes, Gives, Goes, Grown, HasNoGap}
-use Rattle.sc_emit.proofs.Common.{Here, InParts, Instr, IsActivation, IsAssignment, IsFrame, IsFunction, IsTrue}
-use Rattle.sc_emit.proofs.Common.{IsWellFormed, IsWord, Joint, Left, Line, List, Main, Next, None, Option, Overflows}
-use Rattle.sc_emit.proofs.Common.{Piece, Place, Reached, Ready, Return, Returns, Running, Setting, Settled, Some}
-use Rattle.sc_emit.proofs.Common.{Standpoint, Starts, State as Meant, Stopped, TacFnTree, Temps, Value, Word, []}
+use Rattle.sc_emit.proofs.Common.{Activation, All, ArePlaced, Arrives, Begins, Bool, Break, Calls, CallsFollow, CodeAt}
+use Rattle.sc_emit.proofs.Common.{Comes, Continue, Emits, Ends, Entry, Exit, ExitGives, Export, Follows, FrameFits}
+use Rattle.sc_emit.proofs.Common.{FrameTree, Function, FunctionFollows, FunctionGives, FunctionGoes, Gives, Goes, Grown}
+use Rattle.sc_emit.proofs.Common.{HasNoGap, Here, InParts, Instr, IsActivation, IsAssignment, IsFrame, IsFunction}
+use Rattle.sc_emit.proofs.Common.{IsTrue, IsWellFormed, IsWord, Joint, Left, Line, List, Main, Next, None, Option}
+use Rattle.sc_emit.proofs.Common.{Overflows, Piece, Place, Reached, Ready, Return, Returns, Running, Setting, Settled}
+use Rattle.sc_emit.proofs.Common.{Some, Standpoint, Starts, State as Meant, Stopped, TacFnTree, Temps, Value, Word, []}
 use Rattle.sc_emit.proofs.Common.{activated, and_parts, and_then, ap, append_assoc, arith, arrives_with, at_brace}
 use Rattle.sc_emit.proofs.Common.{begun, cases_lt, closed, closing, code_denotations, code_does, code_function}
 use Rattle.sc_emit.proofs.Common.{completed, completed_length, data_start, done, done_goes, emits_after, emits_here}
@@ -154,6 +154,10 @@ module _ (T : Setting) (f : TacFnTree) (frame : FrameTree) (places : List Place)
     pub frame_is : A.frame ≡ frame
     pub comp_is : A.here.comp ≡ comp
 
+  -- each temporary has a place of the frame
+  abbrev pub PlacesAll : Type 0
+  PlacesAll = (A : Activation) (last : ℕ) → A.frame ≡ frame → ArePlaced (in_call A last)
+
   -- the code of the body follows what its statements do, in each call
   abbrev pub BodyFollows : ℕ → Type 0
   BodyFollows comp =
@@ -165,7 +169,7 @@ module _ (T : Setting) (f : TacFnTree) (frame : FrameTree) (places : List Place)
   -- the code of the closing brace comes to the jump back
   abbrev pub BraceReturns : ℕ → Type 0
   BraceReturns comp =
-      (A : Activation) (last : ℕ) → IsRun comp A → (x : Joint) (temps : Temps) →
+      (A : Activation) (last : ℕ) → IsRun comp A → HasNoGap T (in_call A last) → (x : Joint) (temps : Temps) →
       Ready T (in_call A last) nothing temps x → CodeAt T.image A.here.comp x.pc (closing frame places f.entry) →
       Returns T (in_call A last) x (length (closing frame places f.entry)) (given_at_brace (same_entry Main f.entry))
       x.meant
@@ -267,21 +271,18 @@ module _ (T : Setting) (f : TacFnTree) (frame : FrameTree) (places : List Place)
       too_low : P.bound < data_start P.comp + frame.bytes → Goal
       too_low low =
           let both = length-append (frame_taken frame.bytes) (store_arguments frame places f.params 0) in
-          inr (overflows_below T formed inputs P function args address ra_is x begins frame places f.nodes f.params
-          whole frame_fits frame_fits.bounded entrance_at budget timed (omega (arith, frame_fits.bounded, fits)) low
-          (omega (arith, both, all_lines, enough)) timed_grown)
+          inr (overflows_below T formed inputs begins f.params whole frame_fits frame_fits.bounded entrance_at budget
+          timed (omega (arith, frame_fits.bounded, fits)) low (omega (arith, both, all_lines, enough)) timed_grown)
 
       -- The frame fits.
       module _ (runs : BodyFollows P.comp) (way : BraceReturns P.comp) (low : ℕ)
           (bound_is : P.bound ≡ low + frame.bytes) (start : data_start P.comp ≤ low) where
-        entering : HasEntered T formed inputs P function args address ra_is x begins frame places f.nodes f.params whole
-            frame_fits frame_fits.bounded entrance_at low bound_is start long (omega (arith, rules.few_params))
-            rules.params_stored
+        entering : HasEntered T formed inputs begins f.params whole frame_fits frame_fits.bounded entrance_at low
+            bound_is start long (omega (arith, rules.few_params)) rules.params_stored
             (λ o n less e. variables_some f.params o n refl less e)
         entering =
-            has_entered T formed inputs P function args address ra_is x begins frame places f.nodes f.params whole
-            frame_fits frame_fits.bounded entrance_at low bound_is start long (omega (arith, rules.few_params))
-            rules.params_stored
+            has_entered T formed inputs begins f.params whole frame_fits frame_fits.bounded entrance_at low bound_is
+            start long (omega (arith, rules.few_params)) rules.params_stored
             (λ o n less e. variables_some f.params o n refl less e)
 
         abbrev A : Activation
@@ -298,15 +299,16 @@ module _ (T : Setting) (f : TacFnTree) (frame : FrameTree) (places : List Place)
 
         run : IsRun P.comp A
         run = record {
-          is = is_activation T formed inputs P function args address ra_is x begins frame places f.nodes low whole
-              frame_fits
-              frame_fits.bounded bound_is start;
+          is = is_activation T formed inputs begins low whole frame_fits frame_fits.bounded bound_is start;
           frame_is = refl;
           comp_is = refl;
         }
 
+        gapless : HasNoGap T R
+        gapless = no_gap T R end_word.0 end_word.1
+
         F : Follows T R (code_does wrapping here calls f.body) body (row (map trail f.body))
-        F = runs calls follow A end run (no_gap T R end_word.0 end_word.1)
+        F = runs calls follow A end run gapless
 
         in_back : InParts (T.addresses P.comp) T.image P.comp (x.pc + 4 * steps) (body.lines 0 0)
             (plainly epilogue_code)
@@ -325,9 +327,8 @@ module _ (T : Setting) (f : TacFnTree) (frame : FrameTree) (places : List Place)
 
         starts : Starts T R body (row (map trail f.body)) nothing_live no_temps y 0 0
         starts = record {
-          ready = ready_entered T formed inputs P function args address ra_is x begins frame places f.nodes low whole
-              frame_fits frame_fits.bounded bound_is start steps (x.pc + 4 * steps) entering.regs entering.bytes
-              entering.enters
+          ready = ready_entered T formed inputs begins low whole frame_fits frame_fits.bounded bound_is start steps
+              (x.pc + 4 * steps) entering.regs entering.bytes entering.enters
               (λ o n less e. variables_some (length args) o n long less e) (plan_of f near) end
               (live_at (row (map trail f.body)) nothing_live);
           clear = places_are_clear f places rules assigned;
@@ -341,7 +342,8 @@ module _ (T : Setting) (f : TacFnTree) (frame : FrameTree) (places : List Place)
         brace_returns z temps here ready =
             returns_with T R z (length epilogue_code) left (given_at_brace (same_entry Main f.entry)) z.meant
             (omega (arith, all_lines, F.sized 0 0, enough))
-            (way A end run z temps ready (subst (λ pc. CodeAt T.image P.comp pc epilogue_code) (sym here) closing_at))
+            (way A end run gapless z temps ready (subst (λ pc. CodeAt T.image P.comp pc epilogue_code) (sym here)
+            closing_at))
 
         abbrev stated : Piece (Left Temps)
         stated = code_does wrapping here calls f.body no_temps start_state
@@ -365,9 +367,8 @@ module _ (T : Setting) (f : TacFnTree) (frame : FrameTree) (places : List Place)
         high_enough =
             let all : steps + (body.size + left) ≡ budget = omega (arith, all_lines, F.sized 0 0, enough) in
             subst (λ n. FunctionGives T P x n ra_is timed ⊎ Overflows T P x n timed) all
-            (function_follows T formed inputs P function args address ra_is x begins frame places f.nodes low whole
-            frame_fits
-            frame_fits.bounded bound_is start steps (x.pc + 4 * steps) entering.regs entering.bytes entering.enters
+            (function_follows T formed inputs begins low whole frame_fits frame_fits.bounded bound_is start steps
+            (x.pc + 4 * steps) entering.regs entering.bytes entering.enters
             (λ o n less e. variables_some (length args) o n long less e) end (plan_of f near) (body.size + left) value
             closes)
 

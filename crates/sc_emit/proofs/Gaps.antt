@@ -4,7 +4,7 @@ use Rattle.sc_emit.proofs.Common.{[], and_parts, arith, code_start, eq-eqb, fals
 use Rattle.sc_emit.proofs.Common.{leb-true, length, nat_eq, nat_le, refl, slice_get, slice_get_within, some_value}
 use Rattle.sc_emit.proofs.Common.{subst, suc, true, word_at, zero, ℕ, ◌%◌, ◌&&◌, ◌*◌, ◌+◌, ◌-◌, ◌/◌, ◌<◌, ◌∙◌, ◌∷◌, ◌≡◌}
 use Rattle.sc_emit.proofs.Common.{◌≤◌}
-use Rattle.sc_image.specs.Prelude.{code_of}
+use Rattle.sc_image.specs.Prelude.{code_in}
 
 -- each instruction of code is a word
 pub word_in : (image : ImageParts) (c : ℕ) (instrs : List Instr) (pc k : ℕ) → k < length instrs →
@@ -22,13 +22,13 @@ module _ (image : ImageParts) (c : ℕ) where
   -- an address of a word
   record IsWordOf (a : ℕ) : Type 0 where
     from : code_start c ≤ a
-    within : (a - code_start c) / 4 < length (code_of image c)
+    within : (a - code_start c) / 4 < length (code_in image c)
 
   by_place : (a w : ℕ) (b : Bool) → (nat_eq (a % 4) 0 && nat_le (code_start c) a) ≡ b →
-      (if b then slice_get (code_of image c) ((a - code_start c) / 4) else None) ≡ Some w → IsWordOf a
+      (if b then slice_get (code_in image c) ((a - code_start c) / 4) else None) ≡ Some w → IsWordOf a
   by_place a w true e h = record {
     from = leb-true (code_start c) a (and_parts (nat_eq (a % 4) 0) (nat_le (code_start c) a) e).1;
-    within = slice_get_within (code_of image c) ((a - code_start c) / 4) w h;
+    within = slice_get_within (code_in image c) ((a - code_start c) / 4) w h;
   }
   by_place a w false e h = let none : ◌≡◌ {A = Option ℕ} None (Some w) = h in cc none
 
@@ -37,7 +37,7 @@ module _ (image : ImageParts) (c : ℕ) where
   is_word_of a w h = by_place a w (nat_eq (a % 4) 0 && nat_le (code_start c) a) refl h
 
   at_place : (a : ℕ) → a % 4 ≡ 0 → code_start c ≤ a →
-      word_at image c a ≡ slice_get (code_of image c) ((a - code_start c) / 4)
+      word_at image c a ≡ slice_get (code_in image c) ((a - code_start c) / 4)
   unfolding word_at
   at_place a aligned from = rw (eq-eqb (a % 4) 0 aligned, le-leb (code_start c) a from) refl
 
@@ -47,7 +47,7 @@ module _ (image : ImageParts) (c : ℕ) where
       let low : IsWordOf p = is_word_of p v first in
       let high : IsWordOf last = is_word_of last w end in
       let from : code_start c ≤ a = omega (arith, low.from, above) in
-      let word = is_there (code_of image c) ((a - code_start c) / 4) (omega (arith, high.within, below)) in
+      let word = is_there (code_in image c) ((a - code_start c) / 4) (omega (arith, high.within, below)) in
       (word.0, at_place a aligned from ∙ word.1)
 
 -- up to a word of code there is none

@@ -2,31 +2,29 @@
 -- back to the body.
 use Rattle.sc_emit.proofs.Common.{Ahead, All, Arrives, ArrivesLate, Bne, Bool, Branch, Break, CallTarget, Calls, Cause}
 use Rattle.sc_emit.proofs.Common.{CodeAt, Codes, Continue, Cross, Each, Ends, Err, Exit, ExitGives, Fetches, Follows}
-use Rattle.sc_emit.proofs.Common.{FrameTree, Gives, Goes, Gone, HasNoGap, HeadComes, HeadFollows, Here, InParts, Input}
-use Rattle.sc_emit.proofs.Common.{Inside, Instr, IsActivation, IsClear, IsInside, IsTested, IsWellFormed, IsWord, Joint}
-use Rattle.sc_emit.proofs.Common.{Leads, Left, Line, List, Lives, Next, None, Ok, Option, Output, Overflows, Own, Piece}
-use Rattle.sc_emit.proofs.Common.{Place, Plan, Reached, Ready, Registers, Result, Return, Running, Set, Setting, Some}
-use Rattle.sc_emit.proofs.Common.{Standpoint, Starts, State as Meant, Stopped, TacStmt, TacStmt-F, Temps, Trail, Value}
-use Rattle.sc_emit.proofs.Common.{Walks, [], add_word, ahead_at, all_do, all_plain, all_prefix, and_parts, and_then, ap}
-use Rattle.sc_emit.proofs.Common.{append_assoc, ap₂, arith, back_to, branch_back, branch_reach, call_does, choose}
-use Rattle.sc_emit.proofs.Common.{code_inside, code_step, completed, computed, each_plain, effect_still, emits_after}
-use Rattle.sc_emit.proofs.Common.{emits_here, ends_of, eq-eqb, false, first_scratch, fold-roll-TacStmt}
-use Rattle.sc_emit.proofs.Common.{follow as then_follow, follow_goes, fork_kind, gets, if◌then◌else◌, in_loop, in_parts}
-use Rattle.sc_emit.proofs.Common.{inl, inr, is_plain, is_true, jump_back, kind_is, kind_of, known as is_known}
-use Rattle.sc_emit.proofs.Common.{layer_kind, leads_then, leads_then_steps, leave, length, length-map, live_before}
-use Rattle.sc_emit.proofs.Common.{load, loop_kind, low_plainly, lt-ltb, machine, map, map-TacStmt, map-append, moved}
-use Rattle.sc_emit.proofs.Common.{neg_ℤ, operand, operated, or_left, or_right, overflows_with, plain, plain_fork}
-use Rattle.sc_emit.proofs.Common.{plainly, plainly_at, pos, read, read_all, readings, ready_less, received, refl}
-use Rattle.sc_emit.proofs.Common.{roll-TacStmt, rounds, row, row_first, row_points, second, seen_from, select, stays}
-use Rattle.sc_emit.proofs.Common.{stmt_does, stmt_induction, store, stored, subst, suc, sym, take, test_stmt, testing}
-use Rattle.sc_emit.proofs.Common.{then_from, trail, trail_step, true, turn, with_memory, with_temp, word_at, word_of}
-use Rattle.sc_emit.proofs.Common.{wrapping, zero, ℕ, ℤ, ⊎_elim, ◌*◌, ◌++◌, ◌+◌, ◌<◌, ◌==◌, ◌∙◌, ◌∷◌, ◌≡◌, ◌≤◌}
+use Rattle.sc_emit.proofs.Common.{FrameTree, Gives, Goes, Gone, HeadComes, HeadFollows, Here, InParts, Input, Inside}
+use Rattle.sc_emit.proofs.Common.{Instr, IsClear, IsInside, IsRunning, IsTested, Joint, Leads, Left, Line, List, Lives}
+use Rattle.sc_emit.proofs.Common.{Next, None, Ok, Option, Output, Overflows, Own, Piece, Place, Plan, Reached, Ready}
+use Rattle.sc_emit.proofs.Common.{Registers, Result, Return, Running, Setting, Some, Standpoint, Starts, State as Meant}
+use Rattle.sc_emit.proofs.Common.{Stopped, TacStmt, TacStmt-F, TempSet, Temps, Trail, Value, Walks, [], add_word}
+use Rattle.sc_emit.proofs.Common.{ahead_at, all_do, all_plain, all_prefix, and_parts, and_then, ap, append_assoc, ap₂}
+use Rattle.sc_emit.proofs.Common.{arith, back_to, branch_back, branch_reach, call_does, choose, code_inside, code_step}
+use Rattle.sc_emit.proofs.Common.{completed, computed, each_plain, effect_still, emits_after, emits_here, ends_of}
+use Rattle.sc_emit.proofs.Common.{eq-eqb, false, first_scratch, fold-roll-TacStmt, follow as then_follow, follow_goes}
+use Rattle.sc_emit.proofs.Common.{gets, if◌then◌else◌, in_loop, in_parts, inl, inr, is_plain, is_true, jump_back}
+use Rattle.sc_emit.proofs.Common.{kind_is, kind_of, known as is_known, layer_kind, leads_then, leads_then_steps, leave}
+use Rattle.sc_emit.proofs.Common.{length, length-map, live_before, load, low_plainly, lt-ltb, machine, map, map-TacStmt}
+use Rattle.sc_emit.proofs.Common.{map-append, moved, neg_ℤ, operand, operated, or_left, or_right, overflows_with, plain}
+use Rattle.sc_emit.proofs.Common.{plain_fork, plainly, plainly_at, pos, read, read_all, readings, ready_less, received}
+use Rattle.sc_emit.proofs.Common.{refl, roll-TacStmt, rounds, row, row_first, row_points, second, seen_from, select}
+use Rattle.sc_emit.proofs.Common.{stays, stmt_does, stmt_induction, store, stored, subst, suc, sym, take, test_stmt}
+use Rattle.sc_emit.proofs.Common.{testing, then_from, trail, trail_step, true, turn, with_memory, with_temp, word_at}
+use Rattle.sc_emit.proofs.Common.{word_of, wrapping, zero, ℕ, ℤ, ⊎_elim, ◌*◌, ◌++◌, ◌+◌, ◌<◌, ◌==◌, ◌∙◌, ◌∷◌, ◌≡◌, ◌≤◌}
 use Rattle.sc_core.specs.Prelude.{in_order as one_by_one, take as take_route}
 use Rattle.sc_emit_select.specs.Prelude.{Piece as Code}
 use Rattle.sc_tac.specs.declared.stmt.TacStmt.TheOpen as tac
 use Rattle.std.proofs.Math.Path.{fun_ext}
 use Rattle.sc_emit.proofs.Choices.{Branches, branch_goes, branch_moves, branch_passes, held}
-use Rattle.sc_emit.proofs.Operands.{ArePlaced}
 use Rattle.sc_emit.proofs.Straight.{read_goes}
 
 -- PLAIN STATEMENTS
@@ -255,9 +253,7 @@ module _ (here : Here) (cond : ℕ) where
   abbrev pub then_test : Codes → Codes
   then_test first temps s = then_follow one_by_one (first temps s) tests
 
-module _ (T : Setting) (R : Running) (formed : IsWellFormed T.image) (inputs : All IsWord T.inputs) (cells : List ℕ)
-    (nodes : ℕ) (is : IsActivation T.performs cells R.places nodes R.activation) (placed : ArePlaced R)
-    (gapless : HasNoGap T R) where
+module _ {T : Setting} {R : Running} (valid : IsRunning T R) where
   abbrev frame : FrameTree
   frame = R.activation.frame
 
@@ -315,7 +311,7 @@ module _ (T : Setting) (R : Running) (formed : IsWellFormed T.image) (inputs : A
       }
 
       -- what is live before the test
-      abbrev live : Set
+      abbrev live : TempSet
       live = live_before (test_trail cond ∷ []) lives
 
       abbrev inner : Lives
@@ -340,7 +336,7 @@ module _ (T : Setting) (R : Running) (formed : IsWellFormed T.image) (inputs : A
           in_parts (T.addresses comp) T.image comp x.pc (i.lines test_size 0)
           (testing frame R.places cond (body_lines + i.size)) (I.closed test_size 0) code
 
-      branches : Branches T R formed inputs cells nodes is placed gapless cond back test_pc
+      branches : Branches valid cond back test_pc
       branches =
           let addresses = T.addresses comp in
           let lines : List Line = plainly before ++ plain branch ∷ [] in
@@ -375,17 +371,15 @@ module _ (T : Setting) (R : Running) (formed : IsWellFormed T.image) (inputs : A
         abbrev y : Joint
         y = g.y
 
-        code_here : Branches T R formed inputs cells nodes is placed gapless cond back y.pc
-        code_here = subst (Branches T R formed inputs cells nodes is placed gapless cond back) (sym g.pc_is) branches
+        code_here : Branches valid cond back y.pc
+        code_here = subst (Branches valid cond back) (sym g.pc_is) branches
 
         abbrev branch_pc : ℕ
         branch_pc = y.pc + 4 * length before
 
         module _ (v : Value) (known : temps' cond ≡ Some v) where
           abbrev after : Registers
-          after =
-              (held T R formed inputs cells nodes is placed gapless cond back live temps' y g.ready code_here cond_live
-              need v known).after
+          after = (held valid cond back live temps' y g.ready code_here cond_live need v known).after
 
           abbrev at_pc : (pc : ℕ) → Joint
           at_pc pc = moved y pc after y.bytes
@@ -402,7 +396,7 @@ module _ (T : Setting) (R : Running) (formed : IsWellFormed T.image) (inputs : A
             effect = effect_still T P y pc after;
           }
 
-          arrives : (less : Set) (pc : ℕ) → ((t : ℕ) → less t ≡ true → live t ≡ true) → Tested pc →
+          arrives : (less : TempSet) (pc : ℕ) → ((t : ℕ) → less t ≡ true → live t ≡ true) → Tested pc →
               Arrives T R less x budget left temps' y.meant pc
           arrives less pc fewer walks = record {
             y = at_pc pc;
@@ -411,12 +405,12 @@ module _ (T : Setting) (R : Running) (formed : IsWellFormed T.image) (inputs : A
             leads = leads_then T P x y (at_pc pc) budget (test_size + left) left ready.settled g.leads
                 (tested_leads pc walks);
             ready = ready_less T R live less temps' (at_pc pc) fewer
-                (branch_moves T R formed inputs cells nodes is placed gapless cond back live temps' y g.ready code_here
+                (branch_moves valid cond back live temps' y g.ready code_here
                 cond_live need v known pc left walks).ready;
           }
 
           -- the branch is a step more than what came before has turns
-          arrives_late : (less : Set) (pc : ℕ) → ((t : ℕ) → less t ≡ true → live t ≡ true) → Tested pc →
+          arrives_late : (less : TempSet) (pc : ℕ) → ((t : ℕ) → less t ≡ true → live t ≡ true) → Tested pc →
               ArrivesLate T R less x budget left temps' y.meant pc
           unfolding arrives
           arrives_late less pc fewer walks =
@@ -432,14 +426,14 @@ module _ (T : Setting) (R : Running) (formed : IsWellFormed T.image) (inputs : A
           -- the value is true: back to the body
           goes_back : is_true v ≡ true → ArrivesLate T R lives.following x budget left temps' y.meant body_pc
           goes_back true_is =
-              let here : IsInside branch_pc = code_inside T.image formed comp branch_pc code_here.branches.word
+              let here : IsInside branch_pc = code_inside T.image valid.formed comp branch_pc code_here.branches.word
               code_here.branches.fetched in
-              let body : IsInside body_pc = code_inside T.image formed comp body_pc w there in
+              let body : IsInside body_pc = code_inside T.image valid.formed comp body_pc w there in
               let target : add_word branch_pc (word_of back) ≡ body_pc =
               back_to branch_pc back_lines (omega (arith, g.pc_is, place)) (omega (arith, here.low)) ∙
               omega (arith, g.pc_is, place) in
               arrives_late lives.following body_pc after_live
-              (branch_goes T R formed inputs cells nodes is placed gapless cond back live temps' y g.ready code_here
+              (branch_goes valid cond back live temps' y g.ready code_here
               cond_live need v known body_pc w true_is target body.aligned there)
 
           -- it is false: after the loop
@@ -448,8 +442,7 @@ module _ (T : Setting) (R : Running) (formed : IsWellFormed T.image) (inputs : A
               let following : branch_pc + 4 ≡ ends.broken = omega (arith, g.pc_is) in
               subst (Arrives T R lives.broken x budget left temps' y.meant) following
               (arrives lives.broken (branch_pc + 4) broken_live
-              (branch_passes T R formed inputs cells nodes is placed gapless cond back live temps' y g.ready code_here
-              cond_live need v known false_is))
+              (branch_passes valid cond back live temps' y g.ready code_here cond_live need v known false_is))
 
         -- by what the value is
         by_value : (v : Value) (known : temps' cond ≡ Some v) (b : Bool) → is_true v ≡ b →

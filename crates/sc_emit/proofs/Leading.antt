@@ -1,6 +1,7 @@
 -- Where a step of a function leads: on, but by an instruction that leads back.
 use Rattle.sc_emit.proofs.Common.{Bool, ImageParts, Instr, List, None, Option, Some, add_word, ap, arith, eqb-true}
-use Rattle.sc_emit.proofs.Common.{false, if◌then◌else◌, inl, inr, not, pos, ra, refl, subst, suc, sym, true, unless}
+use Rattle.sc_emit.proofs.Common.{false, if◌then◌else◌, inl, inr, not, pos, ra, refl, subst, suc, sym, true}
+use Rattle.sc_emit.proofs.Common.{unless_trap}
 use Rattle.sc_emit.proofs.Common.{word_of, zero, ℕ, ℤ, ⊎_elim, ◌&&◌, ◌+◌, ◌<◌, ◌==◌, ◌^◌, ◌||◌, ◌∙◌, ◌≡◌, ◌⊎◌}
 use Rattle.std.specs.Prelude.{negsuc}
 use Rattle.rv_code.specs.declared.instr.Instr.TheVariants.{Branch, Ebreak, Ecall, Fence, Jal, Jalr, Load, Op, OpImm}
@@ -8,7 +9,8 @@ use Rattle.rv_code.specs.declared.instr.Instr.TheVariants.{Shift, Store, Upper}
 use Rattle.rv_code.specs.declared.instr.UpperOp.TheVariants.{Auipc, Lui}
 use Rattle.rv_code.specs.declared.instr.BranchOp.{BranchOp}
 use Rattle.rv_code.specs.Prelude.{IsBranchOffset, IsInstr, IsJumpOffset}
-use Rattle.sc_image.specs.Prelude.{Goes, IsAt, Outcome, State, Traps, calls, compares, jump, next, reg, step}
+use Rattle.sc_image.specs.Prelude.{Goes, IsAt, Outcome, MachineState, Traps, jump_outside, compares, jump, next, reg}
+use Rattle.sc_image.specs.Prelude.{step}
 use Rattle.sc_base.specs.declared.stop.TrapReason.{TrapReason}
 use Rattle.sc_base.specs.declared.stop.TrapReason.TheVariants.{BadJump, Breakpoint}
 use Rattle.sc_image.proofs.Running.{steps_by_instruction}
@@ -18,19 +20,20 @@ use Rattle.std.proofs.lemmas.Int.{ints}
 
 -- WHERE A STEP LEADS
 -- an outcome that is known, of what came of it
-went_on : (o : Outcome) (s t u : State) → o ≡ Goes u → u.pc ≡ s.pc + 4 → o ≡ Goes t → t.pc ≡ s.pc + 4
+went_on : (o : Outcome) (s t u : MachineState) → o ≡ Goes u → u.pc ≡ s.pc + 4 → o ≡ Goes t → t.pc ≡ s.pc + 4
 went_on o s t u is pc h =
     let both : Goes u ≡ Goes t = sym is ∙ h in
     let same : u ≡ t = cc both in
     subst (λ v. v.pc ≡ s.pc + 4) same pc
 
 -- an access that isn't refused
-accessed : (why : Option TrapReason) (s t u : State) → u.pc ≡ s.pc → unless why (next u) ≡ Goes t → t.pc ≡ s.pc + 4
+accessed : (why : Option TrapReason) (s t u : MachineState) → u.pc ≡ s.pc → unless_trap why (next u) ≡ Goes t → t.pc ≡
+    s.pc + 4
 accessed None s t u same h = went_on (next u) s t (record u { pc = u.pc + 4 }) refl (ap (λ p. p + 4) same) h
 accessed (Some reason) s t u same h = cc h
 
 -- a jump, where nothing comes of a target outside of the code
-jumped : (aligned in_code : Bool) (why : TrapReason) (t u : State) →
+jumped : (aligned in_code : Bool) (why : TrapReason) (t u : MachineState) →
     (if not aligned then Traps why else if in_code then Goes u else Traps BadJump) ≡ Goes t → t.pc ≡ u.pc
 jumped true true why t u h = let same : u ≡ t = cc h in ap (λ v. v.pc) (sym same)
 jumped true false why t u h = cc h
@@ -46,14 +49,14 @@ other_one true b h k = refl
 other_one false true h k = cc k
 other_one false false h k = cc h
 
-module _ (image : ImageParts) (inputs : List ℕ) (s t : State) (goes : step image inputs s ≡ Goes t) where
+module _ (image : ImageParts) (inputs : List ℕ) (s t : MachineState) (goes : step image inputs s ≡ Goes t) where
   -- to the next instruction, or as far as the instruction says
   abbrev pub Leads : Instr → Type 0
   Leads instr =
       (t.pc ≡ s.pc + 4)
       ⊎ ((imm : ℤ) × ((distance instr ≡ Some imm) × (t.pc ≡ add_word s.pc (word_of imm))))
 
-  on : (instr : Instr) (u : State) → step image inputs s ≡ Goes u → u.pc ≡ s.pc + 4 → Leads instr
+  on : (instr : Instr) (u : MachineState) → step image inputs s ≡ Goes u → u.pc ≡ s.pc + 4 → Leads instr
   on instr u is pc = inl (went_on (step image inputs s) s t u is pc goes)
 
   jal_leads : (rd : ℕ) (imm : ℤ) → IsAt image s (Jal rd imm) → (rd == 0) ≡ true → Leads (Jal rd imm)
@@ -61,7 +64,7 @@ module _ (image : ImageParts) (inputs : List ℕ) (s t : State) (goes : step ima
       let at_zero : IsAt image s (Jal 0 imm) =
       subst (λ r. IsAt image s (Jal r imm)) (eqb-true rd 0 zero_is) at in
       let target : ℕ = add_word s.pc (word_of imm) in
-      let is : step image inputs s ≡ jump image s 0 target (calls image s 0 target) =
+      let is : step image inputs s ≡ jump image s 0 target (jump_outside image s 0 target) =
       steps_by_instruction.jal image inputs s 0 imm target at_zero refl in
       inr (imm, (rw zero_is refl, jumped _ _ _ t _ (sym is ∙ goes)))
 
@@ -132,7 +135,7 @@ near Ecall n fits is = let none : ◌≡◌ {A = Option ℤ} None (Some (pos n))
 near Ebreak n fits is = let none : ◌≡◌ {A = Option ℤ} None (Some (pos n)) = is in cc none
 
 -- an instruction that doesn't lead back leads on
-pub rises : (image : ImageParts) (inputs : List ℕ) (s t : State) (instr : Instr) → step image inputs s ≡ Goes t →
+pub rises : (image : ImageParts) (inputs : List ℕ) (s t : MachineState) (instr : Instr) → step image inputs s ≡ Goes t →
     IsAt image s instr → IsInstr instr → s.pc < 2 ^ 26 → is_known_jump instr ≡ true → makes_call instr ≡ false →
     ends_call instr ≡ false → leads_back instr ≡ false → s.pc < t.pc
 rises image inputs s t instr goes at fits low known call end on_is =

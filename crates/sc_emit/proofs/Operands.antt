@@ -1,24 +1,15 @@
 -- Operands at hand, and results in their places.
-use Rattle.sc_emit.proofs.Common.{Activation, All, Arrives, Besides, CodeAt, Computes, Does, FrameMatches}
-use Rattle.sc_emit.proofs.Common.{HasNoOtherUse, InPlace, Instr, IsActivation, IsClear, IsFromSp, IsInPlace}
-use Rattle.sc_emit.proofs.Common.{IsWellFormed, IsWord, IsWritable, Joint, List, Lives, Memory as Bytes, Place, Ready}
-use Rattle.sc_emit.proofs.Common.{Register, Registers, Running, Setting, Slot, Some, Standpoint, StandsFor, Stores}
-use Rattle.sc_emit.proofs.Common.{Temps, Value, Walks, World, [], address_scratch, ap, append-nil, arith, assigned}
-use Rattle.sc_emit.proofs.Common.{assigns_register, assigns_slot, at, at_hand, false, first_scratch, in_row, inl, inr}
-use Rattle.sc_emit.proofs.Common.{keep, kept, length, live_plain, load_word, loads_word, look, look_at, machine, moved}
-use Rattle.sc_emit.proofs.Common.{no_other_use, operand, own_inside, plain_points, put_word, refl, register_count}
-use Rattle.sc_emit.proofs.Common.{register_of, register_there, result_register, same_Some, second_scratch, seen_from}
-use Rattle.sc_emit.proofs.Common.{slice_get, slot_offset, sp, store_word, stores_word, subst, suc, sym, take, taken}
-use Rattle.sc_emit.proofs.Common.{unwrap_or, with_temp, word, zero, ℕ, ◌*◌, ◌++◌, ◌+◌, ◌<◌, ◌∙◌, ◌∷◌, ◌≡◌, ◌≢◌, ◌⊎◌}
-
--- what a place is that temporaries have: a register that there is, or a slot of the frame
-abbrev pub IsPlace : Activation → Place → Type 0
-IsPlace A (Register r) = r < register_count
-IsPlace A (Slot k) = (offset : ℕ) × (slice_get A.frame.slots k ≡ Some offset)
-
--- the places of all temporaries are such
-abbrev pub ArePlaced : Running → Type 0
-ArePlaced R = (t : ℕ) (place : Place) → slice_get R.places t ≡ Some place → IsPlace R.activation place
+use Rattle.sc_emit.proofs.Common.{Activation, All, Arrives, Besides, ByteMemory as Bytes, CodeAt, Computes, Does}
+use Rattle.sc_emit.proofs.Common.{FrameMatches, HasNoOtherUse, InPlace, Instr, IsClear, IsFromSp, IsInPlace, IsPlace}
+use Rattle.sc_emit.proofs.Common.{IsRunning, IsWritable, Joint, List, Lives, Place, Ready, Register, Registers, Running}
+use Rattle.sc_emit.proofs.Common.{Setting, Slot, Some, Standpoint, StandsFor, Stores, Temps, Value, Walks, World, []}
+use Rattle.sc_emit.proofs.Common.{address_scratch, ap, append-nil, arith, assigned, assigns_register, assigns_slot, at}
+use Rattle.sc_emit.proofs.Common.{at_hand, false, first_scratch, in_row, inl, inr, keep, kept, length, live_plain}
+use Rattle.sc_emit.proofs.Common.{load_word, loads_word, look, look_at, machine, moved, no_other_use, operand}
+use Rattle.sc_emit.proofs.Common.{own_inside, plain_points, put_word, refl, register_of, register_there}
+use Rattle.sc_emit.proofs.Common.{result_register, same_Some, second_scratch, seen_from, slice_get, slot_offset, sp}
+use Rattle.sc_emit.proofs.Common.{store_word, stores_word, subst, suc, sym, take, taken, unwrap_or, with_temp, word}
+use Rattle.sc_emit.proofs.Common.{zero, ℕ, ◌*◌, ◌++◌, ◌+◌, ◌<◌, ◌∙◌, ◌∷◌, ◌≡◌, ◌≢◌, ◌⊎◌}
 
 -- an operand may be brought to this register without loss of the other one
 pub record IsScratch (scratch : ℕ) : Type 0 where
@@ -80,8 +71,7 @@ module _ (T : Setting) (R : Running) (x : Joint) where
       Walks T.image T.inputs (length code) (machine P x) (machine P (moved x (x.pc + 4 * length code) after later))
   walks_to code after later does at = does.walks x.pc at
 
-  module _ (cells : List ℕ) (nodes : ℕ) (is : IsActivation T.performs cells R.places nodes R.activation)
-      (placed : ArePlaced R) (frame : FrameMatches T.image R.activation x.inj x.meant.memory x.bytes)
+  module _ (valid : IsRunning T R) (frame : FrameMatches T.image R.activation x.inj x.meant.memory x.bytes)
       (sp_is : x.regs sp ≡ R.activation.sp) where
     -- a slot is near enough
     pub slot_from_sp : (regs : Registers) (k offset : ℕ) → slice_get A.frame.slots k ≡ Some offset →
@@ -89,7 +79,12 @@ module _ (T : Setting) (R : Running) (x : Joint) where
         IsFromSp T.image world regs offset (A.sp + offset)
     slot_from_sp regs k offset e same = record {
       sum = ap (λ s. s + offset) (same ∙ sp_is);
-      below = omega (arith, own_inside cells R.places nodes A.frame is.frame_fits (suc k) offset e, is.high, is.known);
+      below = omega (
+        arith,
+        own_inside valid.cells R.places valid.nodes A.frame valid.is.frame_fits (suc k) offset e,
+        valid.is.high,
+        valid.is.known,
+      );
       owned = (frame.guard (suc k) offset e).owned;
     }
 
@@ -153,7 +148,7 @@ module _ (T : Setting) (R : Running) (x : Joint) where
         IsInPlace A R.places x.inj x.regs x.bytes t v → regs sp ≡ x.regs sp →
         ((q : ℕ) → HasNoOtherUse q → regs q ≡ x.regs q) → AtHand regs scratch t v
     brings regs scratch t v s held same others =
-        at_hand_by regs scratch t v held.place s held.its (placed t held.place held.its) (value held.place
+        at_hand_by regs scratch t v held.place s held.its (valid.placed t held.place held.its) (value held.place
         held.value) same
       where
         value : (place : Place) → InPlace A x.inj x.regs x.bytes place v → InPlace A x.inj regs x.bytes place v
@@ -161,7 +156,7 @@ module _ (T : Setting) (R : Running) (x : Joint) where
             subst (λ w. StandsFor (x.inj A.here.comp) w v) (sym (others (register_of r) (no_other_use r))) h
         value (Slot k) h = h
 
-    module _ (formed : IsWellFormed T.image) (inputs : All IsWord T.inputs) (lives : Lives) (temps : Temps)
+    module _ (lives : Lives) (temps : Temps)
         (reads : List ℕ) (dest left : ℕ) (ready : Ready T R (live_plain reads (Some dest) lives) temps x)
         (clear : All (IsClear R.places) (plain_points reads false (Some dest) lives)) (v : Value) where
       abbrev End : List Instr → Type 0
@@ -173,7 +168,7 @@ module _ (T : Setting) (R : Running) (x : Joint) where
       pub keeps_register : (code : List Instr) (r : ℕ) → slice_get R.places dest ≡ Some (Register r) →
           Gives code (register_of r) v → CodeAt T.image A.here.comp x.pc code → End code
       keeps_register code r its g at =
-          assigned T R formed inputs cells nodes is reads lives temps x (length code) left dest
+          assigned valid reads lives temps x (length code) left dest
           (x.pc + 4 * length code) (Register r) v g.after x.bytes ready clear its
           (assigns_register T R x r v g.after g.same
           (subst (λ w. StandsFor (x.inj A.here.comp) w v) (sym g.result) g.stands) g.others)
@@ -192,9 +187,9 @@ module _ (T : Setting) (R : Running) (x : Joint) where
           (slot_from_sp g.after k offset e g.same) in
           let whole : List Instr = code ++ store_word source offset in
           let same : stores.after sp ≡ x.regs sp = stores.others sp ((λ e. omega (arith, e)), tt) ∙ g.same in
-          assigned T R formed inputs cells nodes is reads lives temps x (length whole) left dest
+          assigned valid reads lives temps x (length whole) left dest
           (x.pc + 4 * length whole) (Slot k) v stores.after (put_word x.bytes (A.sp + offset) g.word) ready clear its
-          (assigns_slot T R formed inputs cells nodes is (live_plain reads (Some dest) lives) temps x k offset g.word v
+          (assigns_slot valid (live_plain reads (Some dest) lives) temps x k offset g.word v
           stores.after ready e same g.stands (λ q h. stores.others q (h.address, tt) ∙ all q h))
           (walks_to whole stores.after (put_word x.bytes (A.sp + offset) g.word)
           (in_row T.image T.inputs world g.does stores.does) at)
@@ -218,7 +213,6 @@ module _ (T : Setting) (R : Running) (x : Joint) where
           CodeAt T.image A.here.comp x.pc (code ++ keep A.frame R.places dest) →
           End (code ++ keep A.frame R.places dest)
       keeps code place its g at =
-          subst (λ o. End (code ++ kept A.frame o)) (sym its)
-          (keeps_by code place its (placed dest place its)
+          subst (λ o. End (code ++ kept A.frame o)) (sym its) (keeps_by code place its (valid.placed dest place its)
           (subst (λ o. Gives code (at_hand first_scratch o) v) its g)
           (subst (λ o. CodeAt T.image A.here.comp x.pc (code ++ kept A.frame o)) its at))

@@ -1,14 +1,14 @@
 -- Operators, loads and stores.
 use Rattle.sc_emit.proofs.Common.{All, AreOperands, Arrives, Blocks, Bool, Calls, Cause, CodeAt, Comes, Computes, Does}
-use Rattle.sc_emit.proofs.Common.{Ends, Err, Follows, FrameTree, Goes, Gone, HasNoOtherUse, Instr, IsActivation}
-use Rattle.sc_emit.proofs.Common.{IsClear, IsLoaded, IsSound, IsWellFormed, IsWord, Joint, List, Lives, Load, Next}
-use Rattle.sc_emit.proofs.Common.{None, Ok, Option, Other, Place, Reached, Ready, Registers, Result, Running, Set}
-use Rattle.sc_emit.proofs.Common.{Setting, Settled, Some, StandsFor, State as Meant, Store, Stores, Sw, TacOp, Temps}
-use Rattle.sc_emit.proofs.Common.{Value, [], add_word, and_first, and_from, and_rest, and_then, ap, append-nil}
-use Rattle.sc_emit.proofs.Common.{append_assoc, arith, code_step, comes_computed, comes_read, computed, emits_here}
-use Rattle.sc_emit.proofs.Common.{eq-eqb, false, first_scratch, gets, in_row, inl, is_one, is_some, keep, leave, length}
-use Rattle.sc_emit.proofs.Common.{list_all, live_plain, load, load_from, loads, look, looked, may_store, one_or_none}
-use Rattle.sc_emit.proofs.Common.{op_code, op_word, operand, operated, operation, operator_stands, or_left, or_right}
+use Rattle.sc_emit.proofs.Common.{Ends, Err, Follows, FrameTree, Goes, Gone, HasNoOtherUse, Instr, IsClear, IsLoaded}
+use Rattle.sc_emit.proofs.Common.{IsRunning, IsSound, Joint, List, Lives, Load, Next, None, Ok, Option, Other, Place}
+use Rattle.sc_emit.proofs.Common.{Reached, Ready, Registers, Result, Running, Setting, Settled, Some, StandsFor}
+use Rattle.sc_emit.proofs.Common.{State as Meant, Store, Stores, Sw, TacOp, TempSet, Temps, Value, [], add_word}
+use Rattle.sc_emit.proofs.Common.{and_first, and_from, and_rest, and_then, ap, append-nil, append_assoc, arith}
+use Rattle.sc_emit.proofs.Common.{code_step, comes_computed, comes_read, computed, emits_here, eq-eqb, false}
+use Rattle.sc_emit.proofs.Common.{first_scratch, gets, in_row, inl, is_one, is_some, keep, leave, length, list_all}
+use Rattle.sc_emit.proofs.Common.{live_plain, load, load_from, loads, look, looked, may_store, one_or_none, op_code}
+use Rattle.sc_emit.proofs.Common.{op_word, operand, operated, operation, operator_stands, or_left, or_right}
 use Rattle.sc_emit.proofs.Common.{plain_points, pos, prefix_same, read, refl, result_register, role_of_load}
 use Rattle.sc_emit.proofs.Common.{role_of_operation, role_of_store, same, second_operand, second_scratch, seen_from}
 use Rattle.sc_emit.proofs.Common.{select_step, slice_get, sp, stays, store, store_to, stored, stores, straightly, subst}
@@ -18,12 +18,11 @@ use Rattle.rv_code.specs.declared.instr.LoadOp.TheVariants.{Lw}
 use Rattle.sc_emit_hart.proofs.Rows.{stores as stores_to, loads as loads_from}
 use Rattle.sc_tac.specs.declared.stmt.TacStmt.TheOpen as tac
 use Rattle.sc_emit_hart.proofs.Operators.{gives_word}
-use Rattle.sc_emit.proofs.Operands.{ArePlaced, AtHand, Gives, first_is, second_is, brings, keeps, world}
+use Rattle.sc_emit.proofs.Operands.{AtHand, Gives, first_is, second_is, brings, keeps, world}
 use Rattle.sc_emit.proofs.Plain.{IsResult, result_is}
 use Rattle.sc_emit.proofs.Straight.{comes_past, read_goes, computed_goes, straight_follows, with_role}
 
-module _ (T : Setting) (R : Running) (formed : IsWellFormed T.image) (inputs : All IsWord T.inputs) (cells : List ℕ)
-    (nodes : ℕ) (is : IsActivation T.performs cells R.places nodes R.activation) (placed : ArePlaced R) (calls : Calls)
+module _ {T : Setting} {R : Running} (valid : IsRunning T R) (calls : Calls)
   where
     abbrev frame : FrameTree
     frame = R.activation.frame
@@ -38,12 +37,12 @@ module _ (T : Setting) (R : Running) (formed : IsWellFormed T.image) (inputs : A
         live_plain reads dest lives t ≡ true
     live_read reads dest lives t h = or_left (is_one t reads) _ h
 
-    module _ (live : Set) (temps : Temps) (x : Joint) (ready : Ready T R live temps x) where
+    module _ (live : TempSet) (temps : Temps) (x : Joint) (ready : Ready T R live temps x) where
       -- one operand at hand
       first_at_hand : (t : ℕ) (v : Value) → live t ≡ true → R.plan.needed t ≡ true → temps t ≡ Some v →
           AtHand T R x x.regs first_scratch t v
       first_at_hand t v on need known =
-          brings T R x cells nodes is placed ready.frame ready.sp x.regs first_scratch t v first_is
+          brings T R x valid ready.frame ready.sp x.regs first_scratch t v first_is
           (ready.held t v (and_from (live t) (R.plan.needed t) on need) known)
           refl (λ q h. refl)
 
@@ -68,7 +67,7 @@ module _ (T : Setting) (R : Running) (formed : IsWellFormed T.image) (inputs : A
           let g : AtHand T R x x.regs first_scratch left v = first_at_hand left v on need known in
           let same : g.after sp ≡ x.regs sp = g.others sp ((λ e. omega (arith, e)), ((λ e. omega (arith, e)), tt)) in
           let h : AtHand T R x g.after second_scratch right w =
-          brings T R x cells nodes is placed ready.frame ready.sp g.after second_scratch right w second_is
+          brings T R x valid ready.frame ready.sp g.after second_scratch right w second_is
           (ready.held right w (and_from (live right) (R.plan.needed right) on' need') known') same (λ q k. g.others q
           (k.first, (k.address, tt))) in
           record {
@@ -128,13 +127,13 @@ module _ (T : Setting) (R : Running) (formed : IsWellFormed T.image) (inputs : A
         comes_computed T R lives x (length (load_from frame R.places dest place) + left) ends R.activation.here 0
         (load (x.meant.memory R.activation.here.comp) pointer q) (λ v s. leave Next (with_temp dest v temps) s)
         (λ v found.
-        (let live : Set = live_plain (place ∷ []) (Some dest) lives in
+        (let live : TempSet = live_plain (place ∷ []) (Some dest) lives in
         let h : AtHand T R x x.regs first_scratch place q =
         first_at_hand live temps x ready place q
         (live_read (place ∷ []) (Some dest) lives place (only_one place [])) need known in
-        let got : IsLoaded T R formed inputs cells nodes is x h.word v =
-        loads T R formed inputs cells nodes is live temps x h.word pointer q v ready h.stands found in
-        let w : IsResult rd = result_is R placed dest to its in
+        let got : IsLoaded valid x h.word v =
+        loads valid live temps x h.word pointer q v ready h.stands found in
+        let w : IsResult rd = result_is R valid.placed dest to its in
         let sum : add_word (look h.after rs) (word_of (pos 0)) ≡ h.word =
         ap (λ a. add_word a (word_of (pos 0))) h.result ∙ omega (arith, h.stands.word) in
         let piece : Computes T.image T.inputs (world T R x) (Load Lw rd rs (pos 0) ∷ []) [] h.after x.bytes rd
@@ -153,8 +152,7 @@ module _ (T : Setting) (R : Running) (formed : IsWellFormed T.image) (inputs : A
         } in
         comes_past T R lives x (load_from frame R.places dest place) left (with_temp dest v temps) x.meant
         (subst (λ code. Arrives T R lives.following x (length code + left) left (with_temp dest v temps) x.meant
-        (x.pc + 4 * length code)) whole
-        (keeps T R x cells nodes is placed ready.frame ready.sp formed inputs lives temps (place ∷ []) dest left ready
+        (x.pc + 4 * length code)) whole (keeps T R x valid ready.frame ready.sp lives temps (place ∷ []) dest left ready
         clear v
         code to its g (subst (CodeAt T.image R.activation.here.comp x.pc) (sym whole) at))) ends e f)))))
 
@@ -221,7 +219,7 @@ module _ (T : Setting) (R : Running) (formed : IsWellFormed T.image) (inputs : A
         (λ v known'.
         comes_stored lives x (length (store_to frame R.places place value) + left) ends q v temps
         (λ after found.
-        (let live : Set = live_plain reads None lives in
+        (let live : TempSet = live_plain reads None lives in
         let h : Both live temps x ready place value q v =
         both_at_hand live temps x ready place value q v
         (live_read reads None lives place (only_one place (value ∷ []))) need known
@@ -231,12 +229,11 @@ module _ (T : Setting) (R : Running) (formed : IsWellFormed T.image) (inputs : A
         let piece : Stores T.image T.inputs (world T R x) last [] h.after x.bytes h.one h.two =
         stores_to T.image T.inputs (world T R x) h.after x.bytes base rs (pos 0) h.one h.two h.operands.left_below
         h.operands.right_below sum h.operands.right_is
-        (may_store T R formed inputs cells nodes is live temps x h.one q v after ready h.one_stands found) in
+        (may_store valid live temps x h.one q v after ready h.one_stands found) in
         let does = in_row T.image T.inputs (world T R x) h.does piece.does in
         let code : List Instr = store_to frame R.places place value in
         comes_past T R lives x code left temps (with_memory comp after x.meant)
-        (stores T R formed inputs cells nodes is reads lives temps x (length code) left (x.pc + 4 * length code) h.one
-        h.two
+        (stores valid reads lives temps x (length code) left (x.pc + 4 * length code) h.one h.two
         q v after piece.after ready h.one_stands found h.two_stands (piece.others sp tt ∙ h.same)
         (λ r k. piece.others r tt ∙ h.others r k)
         (does.walks x.pc at)) ends e f))))))
@@ -258,15 +255,15 @@ module _ (T : Setting) (R : Running) (formed : IsWellFormed T.image) (inputs : A
           operated wrapping (x.meant.memory comp) o v w ≡ Ok r → after sp ≡ x.regs sp →
           ((q : ℕ) → HasNoOtherUse q → after q ≡ x.regs q) → Gives T R x (before ++ op_code rd left right o) rd r
       operated_gives x before after left right a b v w r settled does operands one two for gave same others =
-          let d : IsResult rd = result_is R placed dest to its in
+          let d : IsResult rd = result_is R valid.placed dest to its in
           let piece : Computes T.image T.inputs (world T R x) (op_code rd left right o) (5 ∷ 6 ∷ 7 ∷
           []) after x.bytes rd
           (op_word o a b) =
           gives_word T.image T.inputs (world T R x) x.bytes after rd left right a b d.writable operands o in
           record {
             word = op_word o a b;
-            stands = operator_stands T.image formed T.performs R.activation.floor x.inj x.meant.memory x.bytes
-                settled.blocks comp is.honest is.known o v w r a b for gave operands.right_word one two;
+            stands = operator_stands valid.formed settled.blocks valid.is.honest valid.is.known o v w r a b for gave
+                operands.right_word one two;
             after = piece.after;
             does = in_row T.image T.inputs (world T R x) does piece.does;
             result = piece.result;
@@ -330,8 +327,7 @@ module _ (T : Setting) (R : Running) (formed : IsWellFormed T.image) (inputs : A
             comes_past T R lives x (Whole right) left (with_temp dest r temps) x.meant
             (subst (λ code. Arrives T R lives.following x (length code + left) left (with_temp dest r temps) x.meant
             (x.pc + 4 * length code)) (sym whole)
-            (keeps T R x cells nodes is placed ready.frame ready.sp formed inputs lives temps (reads right) dest left
-            ready
+            (keeps T R x valid ready.frame ready.sp lives temps (reads right) dest left ready
             clear r code to its g (subst (CodeAt T.image comp x.pc) whole at_pc))) ends e f))
 
       -- an operator that takes one value
@@ -348,7 +344,7 @@ module _ (T : Setting) (R : Running) (formed : IsWellFormed T.image) (inputs : A
           comes_read T R lives x (length (Whole None) + left) ends R.activation.here left_one temps
           (λ v s. gets R.activation.here dest (operated wrapping (s.memory comp) o v v) temps s)
           (λ v known.
-          (let live : Set = live_plain (left_one ∷ []) (Some dest) lives in
+          (let live : TempSet = live_plain (left_one ∷ []) (Some dest) lives in
           let h : AtHand T R x x.regs first_scratch left_one v =
           first_at_hand live temps x ready left_one v
           (live_read (left_one ∷ []) (Some dest) lives left_one (only_one left_one [])) need known in
@@ -401,7 +397,7 @@ module _ (T : Setting) (R : Running) (formed : IsWellFormed T.image) (inputs : A
           (λ w s. gets R.activation.here dest (operated wrapping (s.memory comp) o v w) temps s)
           (λ w known'.
           (let pair : List ℕ = left_one ∷ right_one ∷ [] in
-          let live : Set = live_plain pair (Some dest) lives in
+          let live : TempSet = live_plain pair (Some dest) lives in
           let h : Both live temps x ready left_one right_one v w =
           both_at_hand live temps x ready left_one right_one v w
           (live_read pair (Some dest) lives left_one (only_one left_one (right_one ∷ []))) need known

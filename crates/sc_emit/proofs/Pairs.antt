@@ -1,10 +1,10 @@
 -- Two statements that are one piece of code: the second assigns the temporary that the first assigned.
-use Rattle.sc_emit.proofs.Common.{Arrives, Bool, IsClear, Joint, List, Place, Running, Set, Setting, Some}
+use Rattle.sc_emit.proofs.Common.{Arrives, Bool, IsClear, Joint, List, Place, Running, TempSet, Setting, Some}
 use Rattle.sc_emit.proofs.Common.{State as Meant, Temps, Value, false, if◌then◌else◌, point, refl, sym, true, with_temp}
 use Rattle.sc_emit.proofs.Common.{ℕ, ◌==◌, ◌∙◌, ◌≡◌}
 
 -- where less is live and nothing is assigned, a point is as clear
-pub fewer_clear : (places : List Place) (more fewer : Set) → ((t : ℕ) → fewer t ≡ true → more t ≡ true) →
+pub fewer_clear : (places : List Place) (more fewer : TempSet) → ((t : ℕ) → fewer t ≡ true → more t ≡ true) →
     IsClear places (point false more) → IsClear places (point false fewer)
 fewer_clear places more fewer h clear = record {
   assigned = λ d t e. cc e;
@@ -24,7 +24,7 @@ module _ (T : Setting) (R : Running) (dest : ℕ) (first : Value) where
       by true = refl
       by false = refl
 
-  pub again : (live : Set) (x : Joint) (budget left : ℕ) (temps : Temps) (v : Value) (s : Meant) (pc : ℕ) →
+  pub again : (live : TempSet) (x : Joint) (budget left : ℕ) (temps : Temps) (v : Value) (s : Meant) (pc : ℕ) →
       Arrives T R live x budget left (with_temp dest v temps) s pc →
       Arrives T R live x budget left (with_temp dest v (with_temp dest first temps)) s pc
   again live x budget left temps v s pc g = record {

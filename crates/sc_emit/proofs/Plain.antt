@@ -1,6 +1,6 @@
 -- Statements that assign what no store decides: constants, copies, places.
-use Rattle.sc_emit.proofs.Common.{Addi, All, Arrives, Calls, CodeAt, Comes, Computes, Constant, Follows, FrameTree}
-use Rattle.sc_emit.proofs.Common.{InPlace, Instr, IsActivation, IsAddress, IsClear, IsInPlace, IsWellFormed, IsWord}
+use Rattle.sc_emit.proofs.Common.{Addi, All, ArePlaced, Arrives, Calls, CodeAt, Comes, Computes, Constant, Follows}
+use Rattle.sc_emit.proofs.Common.{FrameTree, InPlace, Instr, IsAddress, IsClear, IsInPlace, IsPlace, IsRunning}
 use Rattle.sc_emit.proofs.Common.{IsWritable, Joint, Line, List, Lives, Lui, Next, OpImm, Option, Place, Places, Ready}
 use Rattle.sc_emit.proofs.Common.{Register, Running, Sets, Setting, Slot, Some, StandsFor, Temps, Upper, Value, Walks}
 use Rattle.sc_emit.proofs.Common.{[], add_word, and_from, ap, ap₂, arith, at, at_hand, brought, code_step, comes_read}
@@ -14,7 +14,7 @@ use Rattle.sc_emit.proofs.Common.{subst, sym, trail_step, true, unwrap_or, upper
 use Rattle.sc_emit.proofs.Common.{word_of_constant, wrapping, ℕ, ◌*◌, ◌++◌, ◌+◌, ◌<◌, ◌^◌, ◌∙◌, ◌∷◌, ◌≡◌, ◌≢◌, ◌≤◌}
 use Rattle.sc_tac.specs.declared.stmt.Constant.TheVariants as constant
 use Rattle.sc_tac.specs.declared.stmt.TacStmt.TheOpen as tac
-use Rattle.sc_emit.proofs.Operands.{IsPlace, ArePlaced, Gives, keeps, keeps_register, keeps_slot, slot_from_sp, world}
+use Rattle.sc_emit.proofs.Operands.{Gives, keeps, keeps_register, keeps_slot, slot_from_sp, world}
 use Rattle.sc_emit.proofs.Straight.{comes_past, read_goes, lines_follow, straight_follows, with_role}
 
 -- a register that may be written, and isn't sp
@@ -45,8 +45,7 @@ module _ (R : Running) (placed : ArePlaced R) where
   result_is dest place its =
       subst (λ o. IsResult (at_hand first_scratch o)) (sym its) (result_by place (placed dest place its))
 
-module _ (T : Setting) (R : Running) (formed : IsWellFormed T.image) (inputs : All IsWord T.inputs) (cells : List ℕ)
-    (nodes : ℕ) (is : IsActivation T.performs cells R.places nodes R.activation) (placed : ArePlaced R) (calls : Calls)
+module _ {T : Setting} {R : Running} (valid : IsRunning T R) (calls : Calls)
   where
     -- computed by a piece that uses x7 besides
     pub gives_by : (x : Joint) (code : List Instr) (rd w : ℕ) (v : Value) → sp ≢ rd →
@@ -89,13 +88,11 @@ module _ (T : Setting) (R : Running) (formed : IsWellFormed T.image) (inputs : A
         (λ temps. stays (record { exit = Next; carried = with_temp dest (constant_value value) temps }))
         (λ lives temps x left ready clear at.
         comes_past T R lives x (code ++ keep frame R.places dest) left (with_temp dest (constant_value value)
-        temps) x.meant
-        (keeps T R x cells nodes is placed ready.frame ready.sp formed inputs lives temps [] dest left ready clear
-        (constant_value value) code place its
-        (gives_by x code rd (word_of_constant value) (constant_value value) (result_is R placed dest place its).not_sp
-        (constant_stands (x.inj R.activation.here.comp) value small)
+        temps) x.meant (keeps T R x valid ready.frame ready.sp lives temps [] dest left ready clear
+        (constant_value value) code place its (gives_by x code rd (word_of_constant value) (constant_value value)
+        (result_is R valid.placed dest place its).not_sp (constant_stands (x.inj R.activation.here.comp) value small)
         (with_scratch x (loads_number T.image T.inputs (world T R x) x.bytes x.regs rd (word_of_constant value)
-        (result_is R placed dest place its).writable small))) at)))
+        (result_is R valid.placed dest place its).writable small))) at)))
       where
         with_scratch : (x : Joint) {code : List Instr} {rd w : ℕ} →
             Computes T.image T.inputs (world T R x) code [] x.regs x.bytes rd w →
@@ -147,24 +144,21 @@ module _ (T : Setting) (R : Running) (formed : IsWellFormed T.image) (inputs : A
           (gives_by x (load_word rd offset) rd (word x.bytes (R.activation.sp + offset)) v not
           (subst (λ o. StandsFor (x.inj R.activation.here.comp) (word x.bytes (R.activation.sp + o)) v) same value.2)
           (loads_word T.image T.inputs (world T R x) x.bytes x.regs rd offset (R.activation.sp + offset) w
-          (slot_from_sp T R x cells nodes is placed ready.frame ready.sp x.regs k offset there.1 refl)))
+          (slot_from_sp T R x valid ready.frame ready.sp x.regs k offset there.1 refl)))
 
       copied_by : (to place : Place) → slice_get R.places dest ≡ Some to → IsPlace R.activation to →
           IsPlace R.activation place → InPlace R.activation x.inj x.regs x.bytes place v →
           CodeAt T.image R.activation.here.comp x.pc (copied frame (Some to) (Some place)) →
           End (copied frame (Some to) (Some place))
       copied_by (Register r) place its small known value code =
-          keeps_register T R x cells nodes is placed ready.frame ready.sp formed inputs lives temps (from ∷
-          []) dest left ready
+          keeps_register T R x valid ready.frame ready.sp lives temps (from ∷ []) dest left ready
           clear v (brought frame (register_of r) (Some place)) r its
           (brought_gives (register_of r) place (record { above = above r; below = register_there r small }) (not_sp r)
           (no_other_use r).address known value) code
       copied_by (Slot k) (Register q) its there known value code =
           let to_slot : [] ++ store_word (register_of q) (slot_offset frame k) ≡ store_word (register_of q) there.0 =
           ap (λ o. store_word (register_of q) (unwrap_or o 0)) there.1 in
-          subst End (sym to_slot)
-          (keeps_slot T R x cells nodes is placed ready.frame ready.sp formed inputs lives temps (from ∷ []) dest left
-          ready
+          subst End (sym to_slot) (keeps_slot T R x valid ready.frame ready.sp lives temps (from ∷ []) dest left ready
           clear v [] k there.0 (register_of q) its there.1 (above q) (register_there q known) (no_other_use q).address
           (record {
             word = x.regs (register_of q);
@@ -182,9 +176,7 @@ module _ (T : Setting) (R : Running) (formed : IsWellFormed T.image) (inputs : A
           let to_slot : brought frame first_scratch (Some (Slot j)) ++ store_word first_scratch (slot_offset frame k) ≡
           brought frame first_scratch (Some (Slot j)) ++ store_word first_scratch there.0 =
           ap (λ o. brought frame first_scratch (Some (Slot j)) ++ store_word first_scratch (unwrap_or o 0)) there.1 in
-          subst End (sym to_slot)
-          (keeps_slot T R x cells nodes is placed ready.frame ready.sp formed inputs lives temps (from ∷ []) dest left
-          ready
+          subst End (sym to_slot) (keeps_slot T R x valid ready.frame ready.sp lives temps (from ∷ []) dest left ready
           clear v (brought frame first_scratch (Some (Slot j))) k there.0 first_scratch its there.1 (omega arith)
           (omega arith) (λ e. omega (arith, e)) g (λ q h. g.others q h h.first)
           (subst (CodeAt T.image R.activation.here.comp x.pc) to_slot code))
@@ -249,19 +241,18 @@ module _ (T : Setting) (R : Running) (formed : IsWellFormed T.image) (inputs : A
         (λ temps. stays (record { exit = Next; carried = with_temp dest (start_of block) temps }))
         (λ lives temps x left ready clear at.
         comes_past T R lives x (code ++ keep frame R.places dest) left (with_temp dest (start_of block) temps) x.meant
-        (keeps T R x cells nodes is placed ready.frame ready.sp formed inputs lives temps [] dest left ready clear
-        (start_of block) code place its
+        (keeps T R x valid ready.frame ready.sp lives temps [] dest left ready clear (start_of block) code place its
         (let sum : add_word R.activation.sp (object_offset frame object) ≡ R.activation.sp + offset =
-        ap (add_word R.activation.sp) is_offset ∙ omega (arith, is.high, is.known, inside) in
-        let w : IsResult rd = result_is R placed dest place its in
+        ap (add_word R.activation.sp) is_offset ∙ omega (arith, valid.is.high, valid.is.known, inside) in
+        let w : IsResult rd = result_is R valid.placed dest place its in
         gives_by x code rd (R.activation.sp + offset) (start_of block) w.not_sp
         (start_stands block (R.activation.sp + offset) x (ready.frame.objects object offset there)
-        (record { above = omega (arith, is.low); below = omega (arith, is.high, is.known, inside) }))
+        (record { above = omega (arith, valid.is.low); below = omega (arith, valid.is.high, valid.is.known, inside) }))
         (computes T.image T.inputs (world T R x) (7 ∷ []) (R.activation.sp + offset)
         (moves_on T.image T.inputs (world T R x) x.bytes x.regs rd sp (object_offset frame object) R.activation.sp
         w.writable (omega arith) (λ e. omega (arith, e)) ready.sp
-        (subst (λ o. o < 2 ^ 32) (sym is_offset) (omega (arith, is.high, is.known, inside)))) sum (λ q h. h)))
-        at)))
+        (subst (λ o. o < 2 ^ 32) (sym is_offset) (omega (arith, valid.is.high, valid.is.known, inside)))) sum
+        (λ q h. h))) at)))
 
     pub global_follows : (dest global : ℕ) (place : Place) → slice_get R.places dest ≡ Some place →
         global < T.globals R.activation.here.comp → IsAddress ((T.addresses R.activation.here.comp).global global) →
@@ -276,7 +267,7 @@ module _ (T : Setting) (R : Running) (formed : IsWellFormed T.image) (inputs : A
         let long : length (code ++ keep frame R.places dest) ≡ length lines =
         (let n : length (plainly (keep frame R.places dest)) ≡ length (keep frame R.places dest) =
         length-map (keep frame R.places dest) plain in omega (arith, n)) in
-        let d : IsResult rd = result_is R placed dest place its in
+        let d : IsResult rd = result_is R valid.placed dest place its in
         lines_follow T R (code_step wrapping R.activation.here calls (tac.GlobalPlace dest global)) lines
         (trail_step (tac.GlobalPlace dest global)) (low_plainly (T.addresses comp) (keep frame R.places dest))
         (λ temps. stays (record { exit = Next; carried = with_temp dest (start_of global) temps }))
@@ -292,13 +283,12 @@ module _ (T : Setting) (R : Running) (formed : IsWellFormed T.image) (inputs : A
         ) in
         let g : Gives T R x code rd (start_of global) =
         gives_by x code rd w (start_of global) d.not_sp
-        (start_stands global w x (ready.settled.globals comp global is.honest there) address)
+        (start_stands global w x (ready.settled.globals comp global valid.is.honest there) address)
         (computes T.image T.inputs (world T R x) (7 ∷ []) w
         (loads_long T.image T.inputs (world T R x) x.bytes x.regs rd w d.writable (omega (arith, address.below))) refl
         (λ q h. (h.0, tt))) in
         subst (λ n. Comes T R lives x (n + left) ends (code_step wrapping R.activation.here calls (tac.GlobalPlace
         dest global) temps x.meant)) long
         (comes_past T R lives x (code ++ keep frame R.places dest) left (with_temp dest (start_of global) temps)
-        x.meant
-        (keeps T R x cells nodes is placed ready.frame ready.sp formed inputs lives temps [] dest left ready clear
+        x.meant (keeps T R x valid ready.frame ready.sp lives temps [] dest left ready clear
         (start_of global) code place its g stands) ends e (f ∙ ap (λ n. x.pc + 4 * n) (sym long)))))

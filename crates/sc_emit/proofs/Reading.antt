@@ -1,21 +1,20 @@
 -- A variable that is read: one load, where its place is wanted only for that load.
-use Rattle.sc_emit.proofs.Common.{All, All-cons, All-nil, Bool, Calls, Codes, Follows, FrameTree, Goes, Instr}
-use Rattle.sc_emit.proofs.Common.{IsActivation, IsClear, IsFromSp, IsLoaded, IsWellFormed, IsWord, Joint, List, Lives}
-use Rattle.sc_emit.proofs.Common.{Next, Ok, Place, Point, Ready, Running, Setting, Some, StandsFor, Temps, Trail, Value}
-use Rattle.sc_emit.proofs.Common.{[], all_at, ap, arith, code_step, comes_computed, comes_read, eq-eqb, false, gets}
-use Rattle.sc_emit.proofs.Common.{is_one, leave, length, live_across, live_at, live_plain, load, load_word, loads}
-use Rattle.sc_emit.proofs.Common.{loads_word, not, object_offset, object_read, plain_points, point, refl}
-use Rattle.sc_emit.proofs.Common.{result_register, row, same_Some, slice_get, start_of, stays, straightly, subst, sym}
-use Rattle.sc_emit.proofs.Common.{trail_step, true, unwrap_or, wanted_less, with_temp, word, wrapping, ℕ, ◌&&◌, ◌*◌}
-use Rattle.sc_emit.proofs.Common.{◌+◌, ◌||◌, ◌∙◌, ◌∷◌, ◌≡◌, ◌≤◌}
+use Rattle.sc_emit.proofs.Common.{All, All-cons, All-nil, Bool, Calls, Codes, Follows, FrameTree, Goes, Instr, IsClear}
+use Rattle.sc_emit.proofs.Common.{IsFromSp, IsLoaded, IsRunning, Joint, List, Lives, Next, Ok, Place, Point, Ready}
+use Rattle.sc_emit.proofs.Common.{Running, Setting, Some, StandsFor, Temps, Trail, Value, [], all_at, ap, arith}
+use Rattle.sc_emit.proofs.Common.{code_step, comes_computed, comes_read, eq-eqb, false, gets, is_one, leave, length}
+use Rattle.sc_emit.proofs.Common.{live_across, live_at, live_plain, load, load_word, loads, loads_word, not}
+use Rattle.sc_emit.proofs.Common.{object_offset, object_read, plain_points, point, refl, result_register, row}
+use Rattle.sc_emit.proofs.Common.{same_Some, slice_get, start_of, stays, straightly, subst, sym, trail_step, true}
+use Rattle.sc_emit.proofs.Common.{unwrap_or, wanted_less, with_temp, word, wrapping, ℕ, ◌&&◌, ◌*◌, ◌+◌, ◌||◌, ◌∙◌, ◌∷◌}
+use Rattle.sc_emit.proofs.Common.{◌≡◌, ◌≤◌}
 use Rattle.sc_tac.specs.declared.stmt.TacStmt.TheOpen as tac
-use Rattle.sc_emit.proofs.Operands.{ArePlaced, Gives, keeps, world}
+use Rattle.sc_emit.proofs.Operands.{Gives, keeps, world}
 use Rattle.sc_emit.proofs.Pairs.{again, fewer_clear}
 use Rattle.sc_emit.proofs.Plain.{IsResult, gives_by, result_is, start_stands}
 use Rattle.sc_emit.proofs.Straight.{comes_past, computed_goes, read_goes, straight_follows}
 
-module _ (T : Setting) (R : Running) (formed : IsWellFormed T.image) (inputs : All IsWord T.inputs) (cells : List ℕ)
-    (nodes : ℕ) (is : IsActivation T.performs cells R.places nodes R.activation) (placed : ArePlaced R) (calls : Calls)
+module _ {T : Setting} {R : Running} (valid : IsRunning T R) (calls : Calls)
     (dest object : ℕ) (pointer : Bool) where
   abbrev frame : FrameTree
   frame = R.activation.frame
@@ -93,22 +92,20 @@ module _ (T : Setting) (R : Running) (formed : IsWellFormed T.image) (inputs : A
         Gives T R x (load_word rd (object_offset frame object)) rd v
     gives lives temps x v ready found =
         let stands : StandsFor (x.inj R.activation.here.comp) address start =
-        start_stands T R formed inputs cells nodes is placed calls (R.activation.here.first + object) address x
-        (ready.frame.objects object offset there)
-        (record { above = omega (arith, is.low); below = omega (arith, is.high, is.known, inside) }) in
-        let got : IsLoaded T R formed inputs cells nodes is x address v =
-        loads T R formed inputs cells nodes is (live_at both_trails lives) temps x address pointer start v ready stands
-        found in
-        let w : IsResult rd = result_is R placed dest place its in
+        start_stands valid calls (R.activation.here.first + object) address x (ready.frame.objects object offset there)
+        (record { above = omega (arith, valid.is.low); below = omega (arith, valid.is.high, valid.is.known, inside) })
+        in
+        let got : IsLoaded valid x address v =
+        loads valid (live_at both_trails lives) temps x address pointer start v ready stands found in
+        let w : IsResult rd = result_is R valid.placed dest place its in
         let from_sp : IsFromSp T.image (world T R x) x.regs offset address = record {
           sum = ap (λ s. s + offset) ready.sp;
-          below = omega (arith, is.high, is.known, inside);
+          below = omega (arith, valid.is.high, valid.is.known, inside);
           owned = got.owned;
         } in
         let is_offset : object_offset frame object ≡ offset = ap (λ o. unwrap_or o 0) there in
         subst (λ o. Gives T R x (load_word rd o) rd v) (sym is_offset)
-        (gives_by T R formed inputs cells nodes is placed calls x (load_word rd offset) rd (word x.bytes address) v
-        w.not_sp got.stands
+        (gives_by valid calls x (load_word rd offset) rd (word x.bytes address) v w.not_sp got.stands
         (loads_word T.image T.inputs (world T R x) x.bytes x.regs rd offset address w.writable from_sp))
 
     pub read_follows :
@@ -132,6 +129,6 @@ module _ (T : Setting) (R : Running) (formed : IsWellFormed T.image) (inputs : A
         (subst (λ q. load (x.meant.memory R.activation.here.comp) pointer q ≡ Ok v) (sym start_is) found) in
         comes_past T R lives x code left (with_temp dest v (with_temp dest start temps)) x.meant
         (again T R dest start lives.following x (length code + left) left temps v x.meant (x.pc + 4 * length code)
-        (keeps T R x cells nodes is placed ready.frame ready.sp formed inputs lives temps [] dest left
+        (keeps T R x valid ready.frame ready.sp lives temps [] dest left
         (fewer_ready lives temps x ready) (clear_after lives clear) v (load_word rd (object_offset frame object)) place
         its g at)) ends e f))))

@@ -14,7 +14,7 @@ use Rattle.sc_emit_hart.specs.Prelude.{Fetches}
 use Rattle.sc_emit_relation.proofs.Jumps.{back_to}
 use Rattle.sc_emit_relation.proofs.Linking.{linked_is}
 use Rattle.sc_emit_select.specs.Prelude.{low_of_target, with_low, with_target}
-use Rattle.sc_image.specs.Prelude.{Goes, IsAt, State, code_of as words_of, step}
+use Rattle.sc_image.specs.Prelude.{Goes, IsAt, MachineState, code_in as words_of, step}
 use Rattle.sc_image.specs.declared.parts.CompPart.{CompPart}
 use Rattle.sc_tac.specs.declared.machine_code.Target.{Target}
 use Rattle.sc_tac.specs.declared.machine_code.Target.TheVariants.{Entry, Function, Global}
@@ -143,14 +143,14 @@ module _ (f : TacFnTree) (places : List Place) (frame : FrameTree) (image : Imag
 
   module _ (stands : CodeAt image comp address instrs) where
     -- what code has at a moment
-    record Has (number : ℕ) (instr : Instr) (s : State) : Type 0 where
+    record Has (number : ℕ) (instr : Instr) (s : MachineState) : Type 0 where
       at : IsAt image s instr
       inside : IsInside s.pc
       fits : IsInstr instr
       of : IsOf A lines number instr
       known : is_known_jump instr ≡ true
 
-    has : (number : ℕ) (instr : Instr) (s : State) → IsNext image inputs comp address instrs number instr s →
+    has : (number : ℕ) (instr : Instr) (s : MachineState) → IsNext image inputs comp address instrs number instr s →
         Has number instr s
     has number instr s is_next =
         let fetches : Fetches image comp (address + 4 * number) instr =
@@ -170,14 +170,14 @@ module _ (f : TacFnTree) (places : List Place) (frame : FrameTree) (image : Imag
               test_at is_known_jump code.instrs number of.instr (known_jumps f places frame) of.there;
         }
 
-    abbrev Begins : (pc number : ℕ) (s t : State) → Type 0
+    abbrev Begins : (pc number : ℕ) (s t : MachineState) → Type 0
     Begins pc number s t = BeginsRound image inputs comp address instrs f.body code.instrs pc number s t
 
-    abbrev Rounds : (pc : ℕ) {s t : State} → Moments image inputs comp address instrs s t → Type 0
+    abbrev Rounds : (pc : ℕ) {s t : MachineState} → Moments image inputs comp address instrs s t → Type 0
     Rounds pc way = RoundBegins image inputs comp address instrs f.body code.instrs pc way
 
     -- an instruction that leads back, at or after an address, to it or before
-    leads_around : (pc number : ℕ) (instr : Instr) (s t : State) →
+    leads_around : (pc number : ℕ) (instr : Instr) (s t : MachineState) →
         IsNext image inputs comp address instrs number instr s → Has number instr s → leads_back instr ≡ true →
         makes_call instr ≡ false → ends_call instr ≡ false → step image inputs s ≡ Goes t → pc ≤ s.pc → t.pc ≤ pc →
         Begins pc number s t
@@ -210,7 +210,8 @@ module _ (f : TacFnTree) (places : List Place) (frame : FrameTree) (image : Imag
               }
 
     -- whatever leads from an address on to it or before begins a round
-    around : (pc number : ℕ) (instr : Instr) (s t : State) → IsNext image inputs comp address instrs number instr s →
+    around : (pc number : ℕ) (instr : Instr) (s t : MachineState) → IsNext image inputs comp address instrs number instr
+        s →
         Moves image inputs comp address instrs instr s t → pc ≤ s.pc → t.pc ≤ pc → Begins pc number s t
     around pc number instr s t is_next (returns call taken walks next sp cross) from to =
         absurd (omega (arith, next, from, to))
@@ -227,14 +228,15 @@ module _ (f : TacFnTree) (places : List Place) (frame : FrameTree) (image : Imag
               absurd (omega (arith, more, from, to))
 
     -- on the way from after an address to it or before
-    rounds_of : (pc : ℕ) {s t : State} (way : Moments image inputs comp address instrs s t) → pc < s.pc → t.pc ≤ pc →
+    rounds_of : (pc : ℕ) {s t : MachineState} (way : Moments image inputs comp address instrs s t) → pc < s.pc → t.pc ≤
+        pc →
         Rounds pc way
     rounds_of pc (here s) less to = absurd (omega (arith, less, to))
     rounds_of pc (onward number instr s next t is_next moves rest) less to =
         ⊎_elim (λ far. inr (rounds_of pc rest far to))
         (λ near. inl (around pc number instr s next is_next moves (omega (arith, less)) near)) (cases_lt pc next.pc)
 
-    repeats : (number : ℕ) (instr : Instr) (s next t : State)
+    repeats : (number : ℕ) (instr : Instr) (s next t : MachineState)
         (is_next : IsNext image inputs comp address instrs number instr s)
         (moves : Moves image inputs comp address instrs instr s next)
         (rest : Moments image inputs comp address instrs next t) → t.pc ≡ s.pc →

@@ -1,19 +1,18 @@
 -- An operator whose second operand is a constant, and a return of its result: it is computed where it is returned.
-use Rattle.sc_emit.proofs.Common.{All, Calls, Cause, CodeAt, Codes, Comes, Constant, Ends, Follows, FrameTree, Goes}
-use Rattle.sc_emit.proofs.Common.{Gone, Here, Instr, IsActivation, IsSound, IsWellFormed, IsWord, Joint, Left, List}
-use Rattle.sc_emit.proofs.Common.{Lives, Next, Ok, Piece, Ready, Result, Return, Returns, Running, Setting, ShortForm}
-use Rattle.sc_emit.proofs.Common.{Some, StandsFor, State as Meant, TacOp, Temps, Trail, Value, [], a0, and_then, ap}
-use Rattle.sc_emit.proofs.Common.{arith, code_step, comes_computed, comes_read, computed, constant_value, ends_of}
-use Rattle.sc_emit.proofs.Common.{eq-eqb, false, follow as then_follow, follow_goes, gets, inl, is_one, leave, length}
-use Rattle.sc_emit.proofs.Common.{live_at, operated, read, refl, row, same_Some, short_form, short_return, straightly}
-use Rattle.sc_emit.proofs.Common.{subst, sym, then_then, trail_step, true, with_temp, word_of_constant, wrapping, ℕ}
-use Rattle.sc_emit.proofs.Common.{◌+◌, ◌==◌, ◌∙◌, ◌∷◌, ◌≡◌}
+use Rattle.sc_emit.proofs.Common.{Calls, Cause, CodeAt, Codes, Comes, Constant, Ends, Follows, FrameTree, Goes, Gone}
+use Rattle.sc_emit.proofs.Common.{Here, Instr, IsRunning, IsSound, Joint, Left, List, Lives, Next, Ok, Piece, Ready}
+use Rattle.sc_emit.proofs.Common.{Result, Return, Returns, Running, Setting, ShortForm, Some, StandsFor, State as Meant}
+use Rattle.sc_emit.proofs.Common.{TacOp, Temps, Trail, Value, [], a0, and_then, ap, arith, code_step, comes_computed}
+use Rattle.sc_emit.proofs.Common.{comes_read, computed, constant_value, ends_of, eq-eqb, false, follow as then_follow}
+use Rattle.sc_emit.proofs.Common.{follow_goes, gets, inl, is_one, leave, length, live_at, operated, read, refl, row}
+use Rattle.sc_emit.proofs.Common.{same_Some, short_form, short_return, straightly, subst, sym, then_then, trail_step}
+use Rattle.sc_emit.proofs.Common.{true, with_temp, word_of_constant, wrapping, ℕ, ◌+◌, ◌==◌, ◌∙◌, ◌∷◌, ◌≡◌}
 use Rattle.sc_core.specs.Prelude.{in_order as one_by_one, take as taken_by}
 use Rattle.sc_emit_select.specs.Prelude.{Piece as Code}
 use Rattle.sc_core_laws.proofs.Order.{follow_assoc}
 use Rattle.sc_tac.specs.declared.stmt.TacStmt.TheOpen as tac
 use Rattle.sc_emit.proofs.Constants.{applies, applies_goes, gives, left_is, left_live, right_is, set, short_into}
-use Rattle.sc_emit.proofs.Operands.{ArePlaced, Gives}
+use Rattle.sc_emit.proofs.Operands.{Gives}
 use Rattle.sc_emit.proofs.Plain.{IsResult, IsWordConstant}
 use Rattle.sc_emit.proofs.Returns.{Puts, leaves_with, return_goes}
 use Rattle.sc_emit.proofs.Straight.{straight_follows}
@@ -39,8 +38,7 @@ follows_same T R one other same code trail F = record {
       (F.runs lives temps x left to_break to_continue starts);
 }
 
-module _ (T : Setting) (R : Running) (formed : IsWellFormed T.image) (inputs : All IsWord T.inputs) (cells : List ℕ)
-    (nodes : ℕ) (is : IsActivation T.performs cells R.places nodes R.activation) (placed : ArePlaced R) (calls : Calls)
+module _ {T : Setting} {R : Running} (valid : IsRunning T R) (calls : Calls)
     (dest left : ℕ) (value : Constant) (o : TacOp) (apart : (left == dest) ≡ false)
     (need : R.plan.needed left ≡ true) where
   abbrev frame : FrameTree
@@ -51,11 +49,11 @@ module _ (T : Setting) (R : Running) (formed : IsWellFormed T.image) (inputs : A
 
   -- what the operator does after the constant
   abbrev operates : Codes
-  operates = applies T R formed inputs cells nodes is placed calls dest left value o apart need
+  operates = applies valid calls dest left value o apart need
 
   -- the temporaries where the constant is set
   abbrev set_temps : Temps → Temps
-  set_temps = set T R formed inputs cells nodes is placed calls dest left value o apart need
+  set_temps = set valid calls dest left value o apart need
 
   -- what the return does
   abbrev returns : Codes
@@ -72,8 +70,7 @@ module _ (T : Setting) (R : Running) (formed : IsWellFormed T.image) (inputs : A
   gives_back_goes : (temps : Temps) → Goes (gives_back temps)
   gives_back_goes temps s =
       follow_goes one_by_one s (operates temps s) returns
-      (applies_goes T R formed inputs cells nodes is placed calls dest left value o apart need temps s)
-      (return_goes T R formed inputs cells nodes is placed calls (Some dest))
+      (applies_goes valid calls dest left value o apart need temps s) (return_goes valid calls (Some dest))
 
   -- what the operator does with its operands
   abbrev result_known : Temps → Value → Value → Meant → Piece (Left Temps)
@@ -108,16 +105,15 @@ module _ (T : Setting) (R : Running) (formed : IsWellFormed T.image) (inputs : A
       (sym (then_then (computed here 0 result x.meant) (λ r s. leave Next (with_temp dest r (set_temps temps)) s)
       (goes_on more)))
       (comes_computed T R lives x budget ends here 0 result (λ r s. more (with_temp dest r (set_temps temps)) s)
-      (λ r gave.
-      h v r (left_is T R formed inputs cells nodes is placed calls dest left value o apart need temps v known)
+      (λ r gave. h v r (left_is valid calls dest left value o apart need temps v known)
       (ap (operated wrapping (x.meant.memory here.comp) o v)
-      (right_is T R formed inputs cells nodes is placed calls dest left value o apart need temps w known') ∙ gave)))))))
+      (right_is valid calls dest left value o apart need temps w known') ∙ gave)))))))
 
   module _ (form : ShortForm) (form_is : short_form o (word_of_constant value) ≡ Some form) (for : IsSound o)
-      (small : IsWordConstant T R formed inputs cells nodes is placed calls value) where
+      (small : IsWordConstant valid calls value) where
     -- the result in a0
     abbrev code : List Instr
-    code = short_into T R formed inputs cells nodes is placed calls dest left value o apart need form a0
+    code = short_into valid calls dest left value o apart need form a0
 
     abbrev whole : List Instr
     whole = short_return frame R.places left (Some form)
@@ -125,13 +121,12 @@ module _ (T : Setting) (R : Running) (formed : IsWellFormed T.image) (inputs : A
     puts : (lives : Lives) (temps : Temps) (x : Joint) (v r : Value)
         (ready : Ready T R (live_at all_three lives) temps x) → temps left ≡ Some v →
         operated wrapping (x.meant.memory here.comp) o v (constant_value value) ≡ Ok r →
-        Puts T R formed inputs cells nodes is (live_at all_three lives) temps x ready code (Some r)
+        Puts valid (live_at all_three lives) temps x ready code (Some r)
     puts lives temps x v r ready known gave =
         let on : live_at all_three lives left ≡ true =
-        left_live T R formed inputs cells nodes is placed calls dest left value o apart need
-        (record lives { following = λ t. is_one t (dest ∷ []) }) in
+        left_live valid calls dest left value o apart need (record lives { following = λ t. is_one t (dest ∷ []) }) in
         let g : Gives T R x code a0 r =
-        gives T R formed inputs cells nodes is placed calls dest left value o apart need form form_is for small a0 a0_is
+        gives valid calls dest left value o apart need form form_is for small a0 a0_is
         (live_at all_three lives) temps x v r ready on known gave in
         record {
           after = g.after;
@@ -149,7 +144,7 @@ module _ (T : Setting) (R : Running) (formed : IsWellFormed T.image) (inputs : A
         let now : with_temp dest r (set_temps temps) dest ≡ Some r = rw (eq-eqb dest dest refl) refl in
         let same : r ≡ u = same_Some r u (sym now ∙ given) in
         subst (λ u. Returns T R x (length whole + n) (Some u) x.meant) same
-        (leaves_with T R formed inputs cells nodes is (live_at all_three lives) temps x ready code (Some r)
+        (leaves_with valid (live_at all_three lives) temps x ready code (Some r)
         (length whole + n) (puts lives temps x v r ready known gave) (omega arith) at)
 
     pub gives_back_follows : Follows T R gives_back

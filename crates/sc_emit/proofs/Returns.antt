@@ -1,24 +1,23 @@
 -- The epilogue of a function: a return, and the closing brace.
 use Rattle.sc_emit.proofs.Common.{Activation, Addi, All, Bool, Calls, CodeAt, Computes, Does, Entry, Export, Follows}
-use Rattle.sc_emit.proofs.Common.{FrameTree, Goes, Instr, IsActivation, IsWellFormed, IsWord, Jalr, Joint, LeavesFrame}
+use Rattle.sc_emit.proofs.Common.{FrameTree, Goes, Instr, IsRunning, IsWellFormed, IsWord, Jalr, Joint, LeavesFrame}
 use Rattle.sc_emit.proofs.Common.{List, Lives, Main, None, OpImm, Option, Owned, Place, Ready, Registers, Return}
-use Rattle.sc_emit.proofs.Common.{Returns, ReturnsValue, Running, Set, Setting, Some, Standpoint, StandsFor, TacFnTree}
-use Rattle.sc_emit.proofs.Common.{Temps, Value, Walks, Word, [], a0, and_first, and_from, ap, append_assoc, arith, at}
-use Rattle.sc_emit.proofs.Common.{back_at, brought, closing, code_step, comes_read, epilogue, epilogue_to_jump, eq-eqb}
-use Rattle.sc_emit.proofs.Common.{in_row, inl, is_one, leads_less, leads_moved, leave, leaves_frame, length}
-use Rattle.sc_emit.proofs.Common.{length-append, list_all, machine, moved, one_or_none, place_of, pos, prefix_at, ra}
-use Rattle.sc_emit.proofs.Common.{refl, return, return_does, role_of_return, same_entry, seen_from, select_step}
-use Rattle.sc_emit.proofs.Common.{settled_moved, sp, stays, straightly, subst, sym, trail_step, true, with_number, word}
-use Rattle.sc_emit.proofs.Common.{wrapping, ℕ, ◌*◌, ◌++◌, ◌+◌, ◌∙◌, ◌∷◌, ◌≡◌, ◌≤◌}
+use Rattle.sc_emit.proofs.Common.{Returns, ReturnsValue, Running, Setting, Some, Standpoint, StandsFor, TacFnTree}
+use Rattle.sc_emit.proofs.Common.{TempSet, Temps, Value, Walks, Word, [], a0, and_first, and_from, ap, append_assoc}
+use Rattle.sc_emit.proofs.Common.{arith, at, back_at, brought, closing, code_step, comes_read, epilogue}
+use Rattle.sc_emit.proofs.Common.{epilogue_to_jump, eq-eqb, in_row, inl, is_one, leads_less, leads_moved, leave}
+use Rattle.sc_emit.proofs.Common.{leaves_frame, length, length-append, list_all, machine, moved, one_or_none, place_of}
+use Rattle.sc_emit.proofs.Common.{pos, prefix_at, ra, refl, return, return_does, role_of_return, same_entry, seen_from}
+use Rattle.sc_emit.proofs.Common.{select_step, settled_moved, sp, stays, straightly, subst, sym, trail_step, true}
+use Rattle.sc_emit.proofs.Common.{with_number, word, wrapping, ℕ, ◌*◌, ◌++◌, ◌+◌, ◌∙◌, ◌∷◌, ◌≡◌, ◌≤◌}
 use Rattle.sc_tac.specs.Prelude.{nothing}
 use Rattle.sc_tac.specs.declared.stmt.TacStmt.TheOpen as tac
 use Rattle.sc_emit.proofs.Arguments.{Brings, brings}
-use Rattle.sc_emit.proofs.Functions.{given_at_brace, in_call, BraceReturns}
-use Rattle.sc_emit.proofs.Operands.{ArePlaced, world, walks_to}
+use Rattle.sc_emit.proofs.Functions.{PlacesAll, given_at_brace, in_call, BraceReturns}
+use Rattle.sc_emit.proofs.Operands.{world, walks_to}
 use Rattle.sc_emit.proofs.Straight.{ComesStraight, read_goes, straight_follows, with_role}
 
-module _ (T : Setting) (R : Running) (formed : IsWellFormed T.image) (inputs : All IsWord T.inputs) (cells : List ℕ)
-    (nodes : ℕ) (is : IsActivation T.performs cells R.places nodes R.activation) where
+module _ {T : Setting} {R : Running} (valid : IsRunning T R) where
   abbrev A : Activation
   A = R.activation
 
@@ -28,7 +27,7 @@ module _ (T : Setting) (R : Running) (formed : IsWellFormed T.image) (inputs : A
   abbrev frame : FrameTree
   frame = R.activation.frame
 
-  module _ (live : Set) (temps : Temps) (x : Joint) (ready : Ready T R live temps x) where
+  module _ (live : TempSet) (temps : Temps) (x : Joint) (ready : Ready T R live temps x) where
     -- code leaves the value in a0
     pub record Puts (code : List Instr) (v : Option Value) : Type 0 where
       pub after : Registers
@@ -43,7 +42,8 @@ module _ (T : Setting) (R : Running) (formed : IsWellFormed T.image) (inputs : A
         let at_sp : after sp ≡ A.sp = same ∙ ready.sp in
         let here : A.sp + 0 ≡ A.sp = omega arith in
         let owned : Owned T.image A.here.comp (A.sp + 0) = (ready.frame.guard 0 0 refl).owned in
-        leaves_frame T.image T.inputs (world T R x) x.bytes after frame.bytes (omega (arith, at_sp, is.high, is.known))
+        leaves_frame T.image T.inputs (world T R x) x.bytes after frame.bytes
+        (omega (arith, at_sp, valid.is.high, valid.is.known))
         (subst (Owned T.image A.here.comp) (here ∙ sym at_sp) owned)
 
     left_by : (code : List Instr) (v : Option Value) (budget : ℕ) (p : Puts code v)
@@ -76,8 +76,8 @@ module _ (T : Setting) (R : Running) (formed : IsWellFormed T.image) (inputs : A
           leads = leads_less T P x (moved x (x.pc + 4 * n) l.after x.bytes) (n + 1) 1 budget 1
               (omega (arith, long, enough))
               (omega arith)
-              (leads_moved T formed inputs P x n 1 (x.pc + 4 * n) l.after x.bytes (λ k q g. refl) walks);
-          settled = settled_moved T formed inputs P x n (x.pc + 4 * n) l.after x.bytes ready.settled
+              (leads_moved T valid.formed valid.inputs P x n 1 (x.pc + 4 * n) l.after x.bytes (λ k q g. refl) walks);
+          settled = settled_moved T valid.formed valid.inputs P x n (x.pc + 4 * n) l.after x.bytes ready.settled
               (λ k b a i cells h on e l. refl) walks;
         }
       where
@@ -136,15 +136,14 @@ module _ (T : Setting) (R : Running) (formed : IsWellFormed T.image) (inputs : A
 
   -- Returns.
 
-  module _ (placed : ArePlaced R) (calls : Calls) where
-    puts : (t : ℕ) (v : Value) (live : Set) (temps : Temps) (x : Joint) (ready : Ready T R live temps x) →
+  module _ (calls : Calls) where
+    puts : (t : ℕ) (v : Value) (live : TempSet) (temps : Temps) (x : Joint) (ready : Ready T R live temps x) →
         live t ≡ true → R.plan.needed t ≡ true → temps t ≡ Some v →
         Puts live temps x ready (brought frame a0 (place_of frame R.places t)) (Some v)
     puts t v live temps x ready on need known =
-        let b : Brings T R cells nodes is placed x ready.frame ready.sp x.regs
+        let b : Brings valid x ready.frame ready.sp x.regs
         (brought frame a0 (place_of frame R.places t)) a0 v =
-        brings T R cells nodes is placed x ready.frame ready.sp x.regs a0 t v
-        (record { above = omega arith; below = omega arith })
+        brings valid x ready.frame ready.sp x.regs a0 t v (record { above = omega arith; below = omega arith })
         (ready.held t v (and_from (live t) (R.plan.needed t) on need)
         known) refl
         (λ q h. refl) in
@@ -170,7 +169,7 @@ module _ (T : Setting) (R : Running) (formed : IsWellFormed T.image) (inputs : A
         inl (leaves_alone (λ t. is_one t (one_or_none None)) temps x ready (length (epilogue frame.bytes) + left)
         (omega arith) code)
     returns (Some t) needs lives temps x left ready code ends e f =
-        let live : Set = λ u. is_one u (one_or_none (Some t)) in
+        let live : TempSet = λ u. is_one u (one_or_none (Some t)) in
         let before : List Instr = brought frame a0 (place_of frame R.places t) in
         let budget : ℕ = length (before ++ epilogue frame.bytes) + left in
         comes_read T R lives x budget ends A.here t temps (λ v s. leave (Return (Some v)) temps s)
@@ -191,13 +190,22 @@ module _ (T : Setting) (R : Running) (formed : IsWellFormed T.image) (inputs : A
 
 -- the code of a closing brace comes to the jump back, in each call of its function
 pub brace_returns : (T : Setting) (f : TacFnTree) (frame : FrameTree) (places : List Place) (near : Bool) →
-    IsWellFormed T.image →
-    All IsWord T.inputs → (comp : ℕ) → BraceReturns T f frame places near comp
-brace_returns T f frame places near formed inputs comp A last run x temps ready code =
+    IsWellFormed T.image → All IsWord T.inputs → PlacesAll T f frame places near → (comp : ℕ) →
+    BraceReturns T f frame places near comp
+brace_returns T f frame places near formed inputs placed comp A last run gapless x temps ready code =
     let R : Running = in_call T f frame places near A last in
     let same : closing A.frame places f.entry ≡ closing frame places f.entry =
     ap (λ frame. closing frame places f.entry) run.frame_is in
-    leaves_at_brace T R formed inputs f.objects f.nodes run.is nothing temps x ready f.entry
+    let valid : IsRunning T R = record {
+      formed = formed;
+      inputs = inputs;
+      cells = f.objects;
+      nodes = f.nodes;
+      is = run.is;
+      placed = placed A last run.frame_is;
+      gapless = gapless;
+    } in
+    leaves_at_brace valid nothing temps x ready f.entry
     (length (closing frame places f.entry)) (let e : length (closing A.frame places f.entry) ≡
     length (closing frame places f.entry) = ap length same in omega (arith, e))
     (subst (CodeAt T.image A.here.comp x.pc) (sym same) code)

@@ -1,23 +1,22 @@
 -- The code of statements follows what they do: by induction over their layers.
-use Rattle.sc_emit.proofs.Common.{All, Applies, AreReached, Bool, CallTarget, Calls, CallsFollow, Codes, Constant}
-use Rattle.sc_emit.proofs.Common.{Cross, Each, Follows, FrameTree, GivesValue, HasNoGap, Here, Input, Inside}
-use Rattle.sc_emit.proofs.Common.{IsActivation, IsRead, IsReturned, IsShort, IsSound, IsStored, IsWellFormed, IsWord}
-use Rattle.sc_emit.proofs.Common.{List, Need, None, Option, Other, Output, Own, Piece, Reached, Register, Role, Running}
-use Rattle.sc_emit.proofs.Common.{Setting, ShortForm, Some, State as Meant, Stopped, TacOp, TacStmt, TacStmt-F, Trail}
-use Rattle.sc_emit.proofs.Common.{Value, [], all_do, and_first, and_parts, ap, ap₂, arith, as_one, between}
-use Rattle.sc_emit.proofs.Common.{branch_reach, break_follows, calls_only, code_does, code_step, continue_follows}
-use Rattle.sc_emit.proofs.Common.{counts_elements, each_before, eq-eqb, everywhere, false, fold-roll-TacStmt}
-use Rattle.sc_emit.proofs.Common.{follow as then_follow, followed, gives_place, has_elements, has_operands, has_words}
-use Rattle.sc_emit.proofs.Common.{if◌then◌else◌, in_order, in_turn, is_call, is_some, joined, joins, leb-true, length}
-use Rattle.sc_emit.proofs.Common.{list_all, loads_it, ltb-true, map, map-TacStmt, names_only, names_own_object}
-use Rattle.sc_emit.proofs.Common.{names_own_temps, nat_lt, need, need_step, needs_of, never_applies, none_after, not}
-use Rattle.sc_emit.proofs.Common.{nothing as no_lines, object_inside, object_read, object_store, object_there}
-use Rattle.sc_emit.proofs.Common.{one_or_none, operates_it, parts_least, passes_few, place_needed, read_is_last, refl}
-use Rattle.sc_emit.proofs.Common.{return_is_last, return_of, returns_it, role_first, role_to_next, role_unjoined}
-use Rattle.sc_emit.proofs.Common.{roll-TacStmt, rotated_follows, row, row_needs, select, select_all, select_step}
-use Rattle.sc_emit.proofs.Common.{sets_it, short_form, short_operation, short_return, slice_get-get_or, stmt_does}
-use Rattle.sc_emit.proofs.Common.{stmt_induction, store_is_last, stores_it, straightly, subst, sym, takes_two}
-use Rattle.sc_emit.proofs.Common.{test_stmt, third_is_last, trail, trail_step, true, turning_by, which_pair}
+use Rattle.sc_emit.proofs.Common.{Applies, AreReached, Bool, CallTarget, Calls, CallsFollow, Codes, Constant, Cross}
+use Rattle.sc_emit.proofs.Common.{Each, Follows, FrameTree, GivesValue, Here, Input, Inside, IsRead, IsReturned}
+use Rattle.sc_emit.proofs.Common.{IsRunning, IsShort, IsSound, IsStored, List, Need, None, Option, Other, Output, Own}
+use Rattle.sc_emit.proofs.Common.{Piece, Reached, Register, Role, Running, Setting, ShortForm, Some, State as Meant}
+use Rattle.sc_emit.proofs.Common.{Stopped, TacOp, TacStmt, TacStmt-F, Trail, Value, [], all_do, and_first, and_parts}
+use Rattle.sc_emit.proofs.Common.{ap, ap₂, arith, as_one, between, branch_reach, break_follows, calls_only, code_does}
+use Rattle.sc_emit.proofs.Common.{code_step, continue_follows, counts_elements, each_before, eq-eqb, everywhere, false}
+use Rattle.sc_emit.proofs.Common.{fold-roll-TacStmt, follow as then_follow, followed, gives_place, has_elements}
+use Rattle.sc_emit.proofs.Common.{has_operands, has_words, if◌then◌else◌, in_order, in_turn, is_call, is_some, joined}
+use Rattle.sc_emit.proofs.Common.{joins, leb-true, length, list_all, loads_it, ltb-true, map, map-TacStmt, names_only}
+use Rattle.sc_emit.proofs.Common.{names_own_object, names_own_temps, nat_lt, need, need_step, needs_of, never_applies}
+use Rattle.sc_emit.proofs.Common.{none_after, not, nothing as no_lines, object_inside, object_read, object_store}
+use Rattle.sc_emit.proofs.Common.{object_there, one_or_none, operates_it, parts_least, passes_few, place_needed}
+use Rattle.sc_emit.proofs.Common.{read_is_last, refl, return_is_last, return_of, returns_it, role_first, role_to_next}
+use Rattle.sc_emit.proofs.Common.{role_unjoined, roll-TacStmt, rotated_follows, row, row_needs, select, select_all}
+use Rattle.sc_emit.proofs.Common.{select_step, sets_it, short_form, short_operation, short_return, slice_get-get_or}
+use Rattle.sc_emit.proofs.Common.{stmt_does, stmt_induction, store_is_last, stores_it, straightly, subst, sym}
+use Rattle.sc_emit.proofs.Common.{takes_two, test_stmt, third_is_last, trail, trail_step, true, turning_by, which_pair}
 use Rattle.sc_emit.proofs.Common.{word_of_constant, wrapping, ℕ, ⊎_elim, ◌&&◌, ◌++◌, ◌+◌, ◌<◌, ◌==◌, ◌^◌, ◌||◌, ◌∙◌}
 use Rattle.sc_emit.proofs.Common.{◌∷◌, ◌≡◌, ◌≤◌}
 use Rattle.sc_core.specs.Prelude.{in_order as one_by_one}
@@ -35,7 +34,6 @@ use Rattle.sc_emit_relation.proofs.Rows.{nothing_follows, row_follows}
 use Rattle.sc_emit.proofs.Calls.{Answers, HasPlace, call_own_follows, call_cross_follows}
 use Rattle.sc_emit.proofs.Choices.{fork_follows}
 use Rattle.sc_emit.proofs.Environment.{input_follows, output_follows}
-use Rattle.sc_emit.proofs.Operands.{ArePlaced}
 use Rattle.sc_emit.proofs.Operations.{op_follows, load_follows, store_follows}
 use Rattle.sc_emit.proofs.Passing.{Test, PassesAll, AllPass, PassesHere, first_passes, prefix_passes, rest_pass}
 use Rattle.sc_emit.proofs.Passing.{passes_here, choice_passes, loop_passes}
@@ -52,10 +50,8 @@ beq_same true false h = cc h
 beq_same false true h = cc h
 beq_same false false h = refl
 
-module _ (T : Setting) (R : Running) (formed : IsWellFormed T.image) (inputs : All IsWord T.inputs) (cells : List ℕ)
-    (nodes : ℕ) (is : IsActivation T.performs cells R.places nodes R.activation) (placed : ArePlaced R)
-    (gapless : HasNoGap T R) (calls : Calls) (follow : CallsFollow T calls) (function : ℕ → Bool)
-    (entry : (comp index : ℕ) → Bool) (global : ℕ → Bool)
+module _ {T : Setting} {R : Running} (valid : IsRunning T R) (calls : Calls) (follow : CallsFollow T calls)
+    (function : ℕ → Bool) (entry : (comp index : ℕ) → Bool) (global : ℕ → Bool)
     (reached : AreReached T R.activation.here.comp function entry global) (limit : ℕ) (pays : limit ≤ T.turn_pays)
     (reach : R.plan.near ≡ true → limit < branch_reach) where
   abbrev here : Here
@@ -67,8 +63,8 @@ module _ (T : Setting) (R : Running) (formed : IsWellFormed T.image) (inputs : A
   -- what statements of the function keep
   abbrev tests : List Test
   tests =
-      names_own_temps (length R.places) ∷ names_own_object (length cells) ∷ has_operands ∷ passes_few ∷ has_words ∷
-      has_elements ∷ names_only function entry global ∷ calls_only (T.makes here.comp) (T.gives here.comp) ∷ []
+      names_own_temps (length R.places) ∷ names_own_object (length valid.cells) ∷ has_operands ∷ passes_few ∷ has_words
+      ∷ has_elements ∷ names_only function entry global ∷ calls_only (T.makes here.comp) (T.gives here.comp) ∷ []
 
   abbrev does : TacStmt → Codes
   does = stmt_does wrapping here calls
@@ -134,17 +130,19 @@ module _ (T : Setting) (R : Running) (formed : IsWellFormed T.image) (inputs : A
   -- the word of a variable, which two statements read
   read_follows_here : (dest object : ℕ) (pointer : Bool) →
       PassesAll tests (roll-TacStmt (tac.ObjectPlace dest object)) →
-      Follows T R (reads T R formed inputs cells nodes is placed calls dest object pointer)
-      (straightly frame R.places (object_read frame R.places dest object))
-      (both_trails T R formed inputs cells nodes is placed calls dest object pointer)
+      Follows T R (reads valid calls dest object pointer)
+      (straightly frame R.places (object_read frame R.places dest object)) (both_trails valid calls dest object pointer)
   read_follows_here dest object pointer pass =
       let h = passes_here tests (tac.ObjectPlace dest object) pass in
       let place = place_there dest [] h.0 in
-      let below : object < length cells = ltb-true object (length cells) h.1.0 in
-      let its = slice_get-get_or cells object 0 below in
-      let there = object_there cells R.places nodes frame is.frame_fits object _ its in
-      read_follows T R formed inputs cells nodes is placed calls dest object pointer there.0 place.0 place.1 there.1
-      (omega (arith, object_inside cells R.places nodes frame is.frame_fits object there.0 _ there.1 its))
+      let below : object < length valid.cells = ltb-true object (length valid.cells) h.1.0 in
+      let its = slice_get-get_or valid.cells object 0 below in
+      let there = object_there valid.cells R.places valid.nodes frame valid.is.frame_fits object _ its in
+      read_follows valid calls dest object pointer there.0 place.0 place.1 there.1 (omega (
+        arith,
+        object_inside valid.cells R.places valid.nodes frame valid.is.frame_fits object there.0 _ there.1
+            its,
+      ))
 
   -- what a statement of a known layer reads
   reads_of : (stmt : TacStmt) (layer : TacStmt-F TacStmt) → stmt ≡ roll-TacStmt layer → AllNeeded (need stmt).reads →
@@ -156,16 +154,19 @@ module _ (T : Setting) (R : Running) (formed : IsWellFormed T.image) (inputs : A
   assigns_follow_here : (temp object value : ℕ) (lone : R.plan.needed temp ≡ false)
       (wants : R.plan.needed value ≡ true) →
       PassesAll tests (roll-TacStmt (tac.ObjectPlace temp object)) →
-      Follows T R (assigns T R formed inputs cells nodes is placed calls temp object value lone wants)
+      Follows T R (assigns valid calls temp object value lone wants)
       (straightly frame R.places (object_store frame R.places value object))
-      (both_parts T R formed inputs cells nodes is placed calls temp object value lone wants)
+      (both_parts valid calls temp object value lone wants)
   assigns_follow_here temp object value lone wants pass =
       let h = passes_here tests (tac.ObjectPlace temp object) pass in
-      let below : object < length cells = ltb-true object (length cells) h.1.0 in
-      let its = slice_get-get_or cells object 0 below in
-      let there = object_there cells R.places nodes frame is.frame_fits object _ its in
-      assigns_follow T R formed inputs cells nodes is placed calls temp object value lone wants there.0 there.1
-      (omega (arith, object_inside cells R.places nodes frame is.frame_fits object there.0 _ there.1 its))
+      let below : object < length valid.cells = ltb-true object (length valid.cells) h.1.0 in
+      let its = slice_get-get_or valid.cells object 0 below in
+      let there = object_there valid.cells R.places valid.nodes frame valid.is.frame_fits object _ its in
+      assigns_follow valid calls temp object value lone wants there.0 there.1 (omega (
+        arith,
+        object_inside valid.cells R.places valid.nodes frame valid.is.frame_fits object there.0 _ there.1
+            its,
+      ))
 
   -- a constant is a word
   is_word : (dest : ℕ) (value : Constant) → has_words (tac.Const dest value) ≡ true → word_of_constant value < 2 ^ 32
@@ -191,17 +192,17 @@ module _ (T : Setting) (R : Running) (formed : IsWellFormed T.image) (inputs : A
       →
       PassesAll tests (roll-TacStmt (tac.Const dest value)) →
       PassesAll tests (roll-TacStmt (tac.Op dest o left (Some dest))) →
-      Follows T R (applies T R formed inputs cells nodes is placed calls dest left value o apart read)
+      Follows T R (applies valid calls dest left value o apart read)
       (straightly frame R.places (short_operation frame R.places dest left (short_form o (word_of_constant value))))
-      (both_steps T R formed inputs cells nodes is placed calls dest left value o apart read)
+      (both_steps valid calls dest left value o apart read)
   short_follows_here dest left value o form apart read form_is pass pass' =
       let h = passes_here tests (tac.Const dest value) pass in
       let k = passes_here tests (tac.Op dest o left (Some dest)) pass' in
       let place = place_there dest [] h.0 in
-      subst (λ form. Follows T R (applies T R formed inputs cells nodes is placed calls dest left value o apart read)
+      subst (λ form. Follows T R (applies valid calls dest left value o apart read)
       (straightly frame R.places (short_operation frame R.places dest left form))
-      (both_steps T R formed inputs cells nodes is placed calls dest left value o apart read)) (sym form_is)
-      (short_follows T R formed inputs cells nodes is placed calls dest left value o apart read form form_is
+      (both_steps valid calls dest left value o apart read)) (sym form_is)
+      (short_follows valid calls dest left value o apart read form form_is
       (is_sound o k.1.1.1.1.1.0) (is_word dest value h.1.1.1.1.0) place.0 place.1)
 
   -- the same, returned
@@ -210,16 +211,16 @@ module _ (T : Setting) (R : Running) (formed : IsWellFormed T.image) (inputs : A
       short_form o (word_of_constant value) ≡ Some form →
       PassesAll tests (roll-TacStmt (tac.Const dest value)) →
       PassesAll tests (roll-TacStmt (tac.Op dest o left (Some dest))) →
-      Follows T R (gives_back T R formed inputs cells nodes is placed calls dest left value o apart read)
+      Follows T R (gives_back valid calls dest left value o apart read)
       (straightly frame R.places (short_return frame R.places left (short_form o (word_of_constant value))))
-      (all_three T R formed inputs cells nodes is placed calls dest left value o apart read)
+      (all_three valid calls dest left value o apart read)
   back_follows_here dest left value o form apart read form_is pass pass' =
       let h = passes_here tests (tac.Const dest value) pass in
       let k = passes_here tests (tac.Op dest o left (Some dest)) pass' in
-      subst (λ form. Follows T R (gives_back T R formed inputs cells nodes is placed calls dest left value o apart read)
+      subst (λ form. Follows T R (gives_back valid calls dest left value o apart read)
       (straightly frame R.places (short_return frame R.places left form))
-      (all_three T R formed inputs cells nodes is placed calls dest left value o apart read)) (sym form_is)
-      (gives_back_follows T R formed inputs cells nodes is placed calls dest left value o apart read form form_is
+      (all_three valid calls dest left value o apart read)) (sym form_is)
+      (gives_back_follows valid calls dest left value o apart read form form_is
       (is_sound o k.1.1.1.1.1.0) (is_word dest value h.1.1.1.1.0))
 
   -- the first operand of an operator is read in its place
@@ -377,8 +378,8 @@ module _ (T : Setting) (R : Running) (formed : IsWellFormed T.image) (inputs : A
           two_follow before stmt next rest (tac.ObjectPlace pair.temp pair.object)
           (tac.Load pair.temp pair.temp second.pointer)
           (straightly frame R.places (object_read frame R.places pair.temp pair.object))
-          (reads T R formed inputs cells nodes is placed calls pair.temp pair.object second.pointer)
-          (both_trails T R formed inputs cells nodes is placed calls pair.temp pair.object second.pointer) first
+          (reads valid calls pair.temp pair.object second.pointer)
+          (both_trails valid calls pair.temp pair.object second.pointer) first
           second.is c1 (c2 ∙ ap₂ (as_one frame R.places) pair.gives pair.loads)
           (read_follows_here pair.temp pair.object second.pointer (subst (PassesAll tests) first pass)) (λ c F. F)
           following
@@ -393,8 +394,8 @@ module _ (T : Setting) (R : Running) (formed : IsWellFormed T.image) (inputs : A
           let wants : R.plan.needed pair.value ≡ true = and_first (R.plan.needed pair.value) true reads_value in
           two_follow before stmt next rest (tac.ObjectPlace pair.temp pair.object) (tac.Store pair.temp pair.value)
           (straightly frame R.places (object_store frame R.places pair.value pair.object))
-          (assigns T R formed inputs cells nodes is placed calls pair.temp pair.object pair.value second.lone wants)
-          (both_parts T R formed inputs cells nodes is placed calls pair.temp pair.object pair.value second.lone wants)
+          (assigns valid calls pair.temp pair.object pair.value second.lone wants)
+          (both_parts valid calls pair.temp pair.object pair.value second.lone wants)
           first second.is c1 (c2 ∙ ap₂ (as_one frame R.places) pair.gives pair.stores)
           (assigns_follow_here pair.temp pair.object pair.value second.lone wants
           (subst (PassesAll tests) first pass)) (λ c F. F) following
@@ -409,11 +410,8 @@ module _ (T : Setting) (R : Running) (formed : IsWellFormed T.image) (inputs : A
           (tac.Op pair.temp pair.op pair.left (Some pair.temp))
           (straightly frame R.places
           (short_operation frame R.places pair.temp pair.left (short_form pair.op (word_of_constant first.value))))
-          (applies T R formed inputs cells nodes is placed calls pair.temp pair.left first.value pair.op second.apart
-          wants)
-          (both_steps T R formed inputs cells nodes is placed calls pair.temp pair.left first.value pair.op second.apart
-          wants)
-          first.is second.is c1
+          (applies valid calls pair.temp pair.left first.value pair.op second.apart wants)
+          (both_steps valid calls pair.temp pair.left first.value pair.op second.apart wants) first.is second.is c1
           (c2 ∙ ap₂ (as_one frame R.places) pair.sets pair.operates ∙
           ap (λ w. straightly frame R.places (short_operation frame R.places pair.temp pair.left (short_form pair.op
           w)))
@@ -489,15 +487,13 @@ module _ (T : Setting) (R : Running) (formed : IsWellFormed T.image) (inputs : A
               (tac.Op pair.temp pair.op pair.left (Some pair.temp)) (tac.Return (Some pair.temp))
               (straightly frame R.places
               (short_return frame R.places pair.left (short_form pair.op (word_of_constant first.value))))
-              (gives_back T R formed inputs cells nodes is placed calls pair.temp pair.left first.value pair.op
-              second.apart wants)
-              (all_three T R formed inputs cells nodes is placed calls pair.temp pair.left first.value pair.op
-              second.apart wants)
+              (gives_back valid calls pair.temp pair.left first.value pair.op second.apart wants)
+              (all_three valid calls pair.temp pair.left first.value pair.op second.apart wants)
               first.is second.is third_is c1 c2 c3
               (back_follows_here pair.temp pair.left first.value pair.op pair.form second.apart wants
               (ap (short_form pair.op) first.word_is ∙ pair.form_is) (subst (PassesAll tests) first.is pass)
               (subst (PassesAll tests) second.is pass'))
-              (three_as_one T R formed inputs cells nodes is placed calls pair.temp pair.left first.value pair.op
+              (three_as_one valid calls pair.temp pair.left first.value pair.op
               second.apart wants (all_do (map does rest)) (map trail rest))
               (subst (λ r. Row r rest) (sym after_last) later)
 
@@ -620,41 +616,40 @@ module _ (T : Setting) (R : Running) (formed : IsWellFormed T.image) (inputs : A
   const_level : (dest : ℕ) (value : Constant) → Shape (tac.Const dest value)
   const_level dest value h all needs at few =
       let place = place_there dest [] h.0 in
-      const_follows T R formed inputs cells nodes is placed calls dest value place.0 place.1
-      (is_word dest value h.1.1.1.1.0)
+      const_follows valid calls dest value place.0 place.1 (is_word dest value h.1.1.1.1.0)
 
   copy_level : (dest from : ℕ) → Shape (tac.Copy dest from)
   copy_level dest from h all needs at few =
       let place = place_there dest (from ∷ []) h.0 in
-      copy_follows T R formed inputs cells nodes is placed calls dest from place.0 place.1
-      (and_first (R.plan.needed from) true needs)
+      copy_follows valid calls dest from place.0 place.1 (and_first (R.plan.needed from) true needs)
 
   object_level : (dest object : ℕ) → Shape (tac.ObjectPlace dest object)
   object_level dest object h all needs at few =
       let place = place_there dest [] h.0 in
-      let below : object < length cells = ltb-true object (length cells) h.1.0 in
-      let its = slice_get-get_or cells object 0 below in
-      let there = object_there cells R.places nodes frame is.frame_fits object _ its in
-      object_follows T R formed inputs cells nodes is placed calls dest object there.0 place.0 place.1 there.1
-      (omega (arith, object_inside cells R.places nodes frame is.frame_fits object there.0 _ there.1 its))
+      let below : object < length valid.cells = ltb-true object (length valid.cells) h.1.0 in
+      let its = slice_get-get_or valid.cells object 0 below in
+      let there = object_there valid.cells R.places valid.nodes frame valid.is.frame_fits object _ its in
+      object_follows valid calls dest object there.0 place.0 place.1 there.1 (omega (
+        arith,
+        object_inside valid.cells R.places valid.nodes frame valid.is.frame_fits object there.0 _ there.1
+            its,
+      ))
 
   global_level : (dest number : ℕ) → Shape (tac.GlobalPlace dest number)
   global_level dest number h all needs at few =
       let place = place_there dest [] h.0 in
-      global_follows T R formed inputs cells nodes is placed calls dest number place.0 place.1
+      global_follows valid calls dest number place.0 place.1
       (reached.globals number h.1.1.1.1.1.1.0) (reached.places number h.1.1.1.1.1.1.0)
 
   load_level : (dest place : ℕ) (pointer : Bool) → Shape (tac.Load dest place pointer)
   load_level dest place pointer h all needs at few =
       let to = place_there dest (place ∷ []) h.0 in
-      load_follows T R formed inputs cells nodes is placed calls dest place pointer to.0 to.1
-      (and_first (R.plan.needed place) true needs)
+      load_follows valid calls dest place pointer to.0 to.1 (and_first (R.plan.needed place) true needs)
 
   own_level : (dest : Option ℕ) (number : ℕ) (args : List ℕ) → Shape (tac.CallOwn dest number args)
   own_level dest number args h all needs at few =
       let address = reached.functions number h.1.1.1.1.1.1.0 in
-      call_own_follows T R formed inputs cells nodes is placed calls follow dest (place_wanted dest args
-      h.0) gapless number args
+      call_own_follows valid calls follow dest (place_wanted dest args h.0) number args
       (leb-true (length args) 8 h.1.1.1.0) needs (omega (arith, address.low))
       (made dest (Own number) (length args) h.1.1.1.1.1.1.1.0)
       (answers dest (Own number) (length args) h.1.1.1.1.1.1.1.0)
@@ -662,15 +657,14 @@ module _ (T : Setting) (R : Running) (formed : IsWellFormed T.image) (inputs : A
   cross_level : (dest : Option ℕ) (comp index : ℕ) (args : List ℕ) → Shape (tac.CallCross dest comp index args)
   cross_level dest comp index args h all needs at few =
       let address = reached.entries comp index h.1.1.1.1.1.1.0 in
-      call_cross_follows T R formed inputs cells nodes is placed calls follow dest (place_wanted dest args
-      h.0) comp index
+      call_cross_follows valid calls follow dest (place_wanted dest args h.0) comp index
       args (leb-true (length args) 8 h.1.1.1.0) needs (omega (arith, address.low)) (omega (arith, address.aligned))
       (made dest (Cross comp index) (length args) h.1.1.1.1.1.1.1.0)
       (answers dest (Cross comp index) (length args) h.1.1.1.1.1.1.1.0)
 
   input_level : (dest : Option ℕ) → Shape (tac.Input dest)
   input_level dest h all needs at few =
-      input_follows T R formed inputs cells nodes is placed calls follow dest (place_wanted dest [] h.0)
+      input_follows valid calls follow dest (place_wanted dest [] h.0)
       (made dest Input 0 h.1.1.1.1.1.1.1.0) (answers dest Input 0 h.1.1.1.1.1.1.1.0)
 
   if_level : (cond : ℕ) (first second : List TacStmt) → Each Followed first → Each Followed second →
@@ -681,7 +675,7 @@ module _ (T : Setting) (R : Running) (formed : IsWellFormed T.image) (inputs : A
       let inner = all_append R.plan.needed (row_needs None (map need first)) (row_needs None (map need second))
       cond_read.1 in
       let least = parts_least frame R.places cond (map code first) (map code second) in
-      fork_follows T R formed inputs cells nodes is placed gapless cond (all_do (map does first)) (all_do (map does
+      fork_follows valid cond (all_do (map does first)) (all_do (map does
       second)) (map code first) (map code second) (map trail first) (map trail second)
       (row_of first each pass.0 inner.0 (omega (arith, few, least.0)))
       (row_of second each' pass.1 inner.1 (omega (arith, few, least.1))) cond_read.0
@@ -697,28 +691,27 @@ module _ (T : Setting) (R : Running) (formed : IsWellFormed T.image) (inputs : A
       let n : Code = in_order frame R.places (map code next) in
       turning_by frame R.places R.plan (λ piece. piece.size ≤ limit → Follows T R
       (layer_does (tac.Loop head body next)) piece (layer_trail (tac.Loop head body next))) head b n
-      (λ few. loop_follows T R formed inputs (all_do (map does head)) (all_do (map does body)) (all_do (map does next))
+      (λ few. loop_follows valid (all_do (map does head)) (all_do (map does body)) (all_do (map does next))
       (in_order frame R.places (map code head)) b n (map trail head) (map trail body) (map trail next)
       (row_of head each pass.0 first.0 (omega (arith, few)))
       (row_of body each' pass.1 second.0 (omega (arith, few)))
-      (row_of next each'' pass.2 second.1 (omega (arith, few))) gapless (omega (arith, few, pays)))
-      (λ cond near t few.
+      (row_of next each'' pass.2 second.1 (omega (arith, few))) (omega (arith, few, pays))) (λ cond near t few.
       let i : Code = in_order frame R.places (map code t.init) in
       let init_passes = prefix_passes tests t.init (test_stmt cond ∷ []) (subst (AllPass tests) t.is pass.0) in
       let reads = head_needs R.plan.needed cond head t.init t.is first.0 in
       let least : limit < branch_reach = reach near in
-      rotated_follows T R formed inputs cond (all_do (map does head)) (all_do (map does body))
+      rotated_follows valid cond (all_do (map does head)) (all_do (map does body))
       (all_do (map does next)) i b n (map trail head) (map trail body) (map trail next)
-      (head_of_stmts T R formed inputs cells nodes is placed gapless calls cond reads.1 head t i
+      (head_of_stmts valid calls cond reads.1 head t i
       (row_of t.init (each_before frame R.places R.plan Followed head t.init cond t.is each) init_passes reads.0
       (omega (arith, few))) (b.size + n.size) (omega (arith, few, least)))
       (row_of body each' pass.1 second.0 (omega (arith, few)))
-      (row_of next each'' pass.2 second.1 (omega (arith, few))) gapless (omega (arith, few, pays)))
+      (row_of next each'' pass.2 second.1 (omega (arith, few))) (omega (arith, few, pays)))
 
   op_level : (dest : ℕ) (o : TacOp) (left : ℕ) (right : Option ℕ) → Shape (tac.Op dest o left right)
   op_level dest o left right h all needs at few =
       let place = place_there dest (left ∷ one_or_none right) h.0 in
-      op_follows T R formed inputs cells nodes is placed calls dest o left place.0 place.1 right
+      op_follows valid calls dest o left place.0 place.1 right
       (beq_same (is_some right) (takes_two o) h.1.1.0) (is_sound o h.1.1.1.1.1.0) needs
 
   level : (layer : TacStmt-F TacStmt) → Inside Followed layer → Level layer
@@ -730,24 +723,23 @@ module _ (T : Setting) (R : Running) (formed : IsWellFormed T.image) (inputs : A
   level (tac.Load dest place pointer) inner = record { holds = load_level dest place pointer }
   level (tac.Store place value) inner =
       record {
-        holds = λ h all needs at few. store_follows T R formed inputs cells nodes is placed calls place value
+        holds = λ h all needs at few. store_follows valid calls place value
             (at place refl) (and_first (R.plan.needed value) true needs);
       }
   level (tac.If cond first second) inner = record { holds = if_level cond first second inner.0 inner.1 }
   level (tac.Loop head body next) inner = record { holds = loop_level head body next inner.0 inner.1 inner.2 }
-  level tac.Break inner = record { holds = λ h all needs at few. break_follows T R formed inputs gapless }
-  level tac.Continue inner = record { holds = λ h all needs at few. continue_follows T R formed inputs gapless }
+  level tac.Break inner = record { holds = λ h all needs at few. break_follows valid }
+  level tac.Continue inner = record { holds = λ h all needs at few. continue_follows valid }
   level (tac.CallOwn dest number args) inner = record { holds = own_level dest number args }
   level (tac.CallCross dest comp index args) inner = record { holds = cross_level dest comp index args }
   level (tac.Input dest) inner = record { holds = input_level dest }
   level (tac.Output value) inner =
       record {
-        holds = λ h all needs at few. output_follows T R formed inputs cells nodes is placed calls follow value needs
-            (made
+        holds = λ h all needs at few. output_follows valid calls follow value needs (made
             None Output 1 h.1.1.1.1.1.1.1.0);
       }
   level (tac.Return value) inner =
-      record { holds = λ h all needs at few. return_follows T R formed inputs cells nodes is placed calls value needs }
+      record { holds = λ h all needs at few. return_follows valid calls value needs }
 
   from_level : (layer : TacStmt-F TacStmt) → Level layer → Followed (roll-TacStmt layer)
   from_level layer l pass reads at few =

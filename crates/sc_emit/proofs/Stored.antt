@@ -1,22 +1,21 @@
 -- A variable that is assigned: one store, where only such stores read the temporary that gets its place.
-use Rattle.sc_emit.proofs.Common.{All, Arrives, Blocks, Bool, Calls, CodeAt, Codes, Follows, FrameTree, Goes, Instr}
-use Rattle.sc_emit.proofs.Common.{IsActivation, IsFromSp, IsWellFormed, IsWord, Joint, List, Lives, None, Ok, Ready}
-use Rattle.sc_emit.proofs.Common.{Running, Set, Setting, Some, StandsFor, State as Meant, Stores, Temps, Trail, Value}
-use Rattle.sc_emit.proofs.Common.{[], and_first, and_from, and_rest, and_then, ap, arith, code_step, comes_read, eq-eqb}
-use Rattle.sc_emit.proofs.Common.{false, if◌then◌else◌, in_row, is_one, length, live_at, live_plain, may_store, ne_eqb}
-use Rattle.sc_emit.proofs.Common.{not, object_offset, object_store, operand, or_left, read, refl, row, same_Some}
+use Rattle.sc_emit.proofs.Common.{Arrives, Blocks, Bool, Calls, CodeAt, Codes, Follows, FrameTree, Goes, Instr}
+use Rattle.sc_emit.proofs.Common.{IsFromSp, IsRunning, Joint, List, Lives, None, Ok, Ready, Running, Setting, Some}
+use Rattle.sc_emit.proofs.Common.{StandsFor, State as Meant, Stores, TempSet, Temps, Trail, Value, [], and_first}
+use Rattle.sc_emit.proofs.Common.{and_from, and_rest, and_then, ap, arith, code_step, comes_read, eq-eqb, false}
+use Rattle.sc_emit.proofs.Common.{if◌then◌else◌, in_row, is_one, length, live_at, live_plain, may_store, ne_eqb, not}
+use Rattle.sc_emit.proofs.Common.{object_offset, object_store, operand, or_left, read, refl, row, same_Some}
 use Rattle.sc_emit.proofs.Common.{second_scratch, slice_get, sp, start_of, store, store_word, stored, stores}
 use Rattle.sc_emit.proofs.Common.{stores_word, straightly, subst, sym, take, trail_step, true, true≢false, unwrap_or}
 use Rattle.sc_emit.proofs.Common.{wanted, with_memory, with_temp, wrapping, ℕ, ⊎_elim, ◌&&◌, ◌*◌, ◌++◌, ◌+◌, ◌==◌, ◌||◌}
 use Rattle.sc_emit.proofs.Common.{◌∙◌, ◌∷◌, ◌≡◌, ◌≢◌, ◌≤◌}
 use Rattle.sc_tac.specs.declared.stmt.TacStmt.TheOpen as tac
-use Rattle.sc_emit.proofs.Operands.{ArePlaced, AtHand, brings, second_is, world}
+use Rattle.sc_emit.proofs.Operands.{AtHand, brings, second_is, world}
 use Rattle.sc_emit.proofs.Operations.{comes_stored, stored_goes}
 use Rattle.sc_emit.proofs.Plain.{start_stands}
 use Rattle.sc_emit.proofs.Straight.{comes_past, read_goes, straight_follows}
 
-module _ (T : Setting) (R : Running) (formed : IsWellFormed T.image) (inputs : All IsWord T.inputs) (cells : List ℕ)
-    (nodes : ℕ) (is : IsActivation T.performs cells R.places nodes R.activation) (placed : ArePlaced R) (calls : Calls)
+module _ {T : Setting} {R : Running} (valid : IsRunning T R) (calls : Calls)
     (temp object value : ℕ) (lone : R.plan.needed temp ≡ false) (need : R.plan.needed value ≡ true) where
   abbrev frame : FrameTree
   frame = R.activation.frame
@@ -68,7 +67,7 @@ module _ (T : Setting) (R : Running) (formed : IsWellFormed T.image) (inputs : A
   }
 
   -- nobody misses the place in its temporary
-  without_place : (live : Set) (x : Joint) (budget left : ℕ) (temps : Temps) (s : Meant) (pc : ℕ) →
+  without_place : (live : TempSet) (x : Joint) (budget left : ℕ) (temps : Temps) (s : Meant) (pc : ℕ) →
       Arrives T R live x budget left temps s pc → Arrives T R live x budget left (set temps) s pc
   without_place live x budget left temps s pc g = record {
     y = g.y;
@@ -90,7 +89,7 @@ module _ (T : Setting) (R : Running) (formed : IsWellFormed T.image) (inputs : A
       (λ q s. and_then (read R.activation.here value (set temps) s)
       (λ v s. stored R.activation.here q v 0 (set temps) s))
       (λ q. read_goes R.activation.here value (set temps) (λ v s. stored R.activation.here q v 0 (set temps) s)
-      (λ v. stored_goes T R formed inputs cells nodes is placed calls q v (set temps)))
+      (λ v. stored_goes valid calls q v (set temps)))
 
   place_is : (temps : Temps) (q : Value) → set temps temp ≡ Some q → start ≡ q
   place_is temps q h =
@@ -116,21 +115,21 @@ module _ (T : Setting) (R : Running) (formed : IsWellFormed T.image) (inputs : A
         (x.pc + 4 * length code)
     arrives lives temps x left v after all_ready known found at =
         let ready : Ready T R (live_plain (value ∷ []) None lives) temps x = fewer_ready lives temps x all_ready in
-        let live : Set = live_plain (value ∷ []) None lives in
+        let live : TempSet = live_plain (value ∷ []) None lives in
         let only : is_one value (value ∷ []) ≡ true = rw (eq-eqb value value refl) refl in
         let on : live value ≡ true = or_left (is_one value (value ∷ [])) _ only in
         let h : AtHand T R x x.regs second_scratch value v =
-        brings T R x cells nodes is placed ready.frame ready.sp x.regs second_scratch value v second_is
+        brings T R x valid ready.frame ready.sp x.regs second_scratch value v second_is
         (ready.held value v (and_from (live value) (R.plan.needed value) on need) known) refl (λ q k. refl) in
         let same : h.after sp ≡ x.regs sp = h.others sp ((λ e. omega (arith, e)), ((λ e. omega (arith, e)), tt)) in
         let stands : StandsFor (x.inj comp) address start =
-        start_stands T R formed inputs cells nodes is placed calls (R.activation.here.first + object) address x
-        (ready.frame.objects object offset there)
-        (record { above = omega (arith, is.low); below = omega (arith, is.high, is.known, inside) }) in
+        start_stands valid calls (R.activation.here.first + object) address x (ready.frame.objects object offset there)
+        (record { above = omega (arith, valid.is.low); below = omega (arith, valid.is.high, valid.is.known, inside) })
+        in
         let from_sp : IsFromSp T.image (world T R x) h.after offset address = record {
           sum = ap (λ s. s + offset) (same ∙ ready.sp);
-          below = omega (arith, is.high, is.known, inside);
-          owned = may_store T R formed inputs cells nodes is live temps x address start v after ready stands found;
+          below = omega (arith, valid.is.high, valid.is.known, inside);
+          owned = may_store valid live temps x address start v after ready stands found;
         } in
         let not_address : rs ≢ 7 = ⊎_elim (λ e. (λ f. omega (arith, e, f))) (λ k. k.address) h.its in
         let piece : Stores T.image T.inputs (world T R x) (store_word rs offset) (7 ∷ []) h.after x.bytes address h.word
@@ -143,8 +142,7 @@ module _ (T : Setting) (R : Running) (formed : IsWellFormed T.image) (inputs : A
         without_place lives.following x (length code + left) left temps (with_memory comp after x.meant)
         (x.pc + 4 * length code)
         (subst (λ code. Arrives T R lives.following x (length code + left) left temps (with_memory comp after x.meant)
-        (x.pc + 4 * length code)) its
-        (stores T R formed inputs cells nodes is (value ∷ []) lives temps x
+        (x.pc + 4 * length code)) its (stores valid (value ∷ []) lives temps x
         (length (take frame R.places second_scratch value ++ store_word rs offset)) left
         (x.pc + 4 * length (take frame R.places second_scratch value ++ store_word rs offset)) address h.word start v
         after piece.after ready stands found h.stands (piece.others sp ((λ e. omega (arith, e)), tt) ∙ same)
@@ -162,9 +160,7 @@ module _ (T : Setting) (R : Running) (formed : IsWellFormed T.image) (inputs : A
         (λ q known.
         comes_read T R lives x (length code + left) ends R.activation.here value (set temps)
         (λ v s. stored R.activation.here q v 0 (set temps) s)
-        (λ v known'.
-        comes_stored T R formed inputs cells nodes is placed calls lives x (length code + left) ends q v (set temps)
-        (λ after found.
+        (λ v known'. comes_stored valid calls lives x (length code + left) ends q v (set temps) (λ after found.
         comes_past T R lives x code left (set temps) (with_memory comp after x.meant)
         (arrives lives temps x left v after ready (sym (temps_are temps value need) ∙ known')
         (ap (λ q. store (x.meant.memory comp) q v) (place_is temps q known) ∙ found) at) ends e f))))

@@ -2,7 +2,7 @@
 use Rattle.sc_emit.specs.Common.{CodeTree, Instr, TacStmt, linked, ra}
 use Rattle.sc_emit_hart.specs.Prelude.{CodeAt}
 use Rattle.sc_emit_select.specs.Prelude.{Addresses, sp}
-use Rattle.sc_image.specs.Prelude.{Goes, IsWellFormed, State, Walks, reg, step}
+use Rattle.sc_image.specs.Prelude.{Goes, IsWellFormed, MachineState, Walks, reg, step}
 use Rattle.std.specs.Prelude.{Bool, List, Some, [], false, length, slice_get, suc, true, ℕ, ◌&&◌, ◌*◌, ◌++◌, ◌+◌, ◌==◌}
 use Rattle.std.specs.Prelude.{◌∷◌, ◌≡◌, ◌≤◌, ◌⊎◌}
 use Rattle.rv_code.specs.declared.instr.Instr.TheVariants.{Ecall, Jal, Jalr}
@@ -49,26 +49,26 @@ pub record IsLoopCode (stmts : List TacStmt) (instrs : List Instr) (begins ends 
 
 module _ (image : ImageParts) (inputs : List ℕ) (comp address : ℕ) (instrs : List Instr) where
   -- this instruction of a function's code is next
-  pub record IsNext (number : ℕ) (instr : Instr) (s : State) : Type 0 where
+  pub record IsNext (number : ℕ) (instr : Instr) (s : MachineState) : Type 0 where
     pub active : s.active ≡ comp
     pub there : slice_get instrs number ≡ Some instr
     pub pc : s.pc ≡ address + 4 * number
 
   -- on from there in the same call of the function: by a step, or, where it makes a call itself, to where that returns
-  pub data Moves (instr : Instr) (s t : State) : Type 0 where
+  pub data Moves (instr : Instr) (s t : MachineState) : Type 0 where
     steps : makes_call instr ≡ false → ends_call instr ≡ false → step image inputs s ≡ Goes t → Moves instr s t
     returns : makes_call instr ≡ true → (taken : ℕ) → Walks image inputs taken s t → t.pc ≡ s.pc + 4 →
         reg t sp ≡ reg s sp → t.cross ≡ s.cross → Moves instr s t
 
   -- the moments of one call, from one on to another
-  pub data Moments : State → State → Type 0 where
-    here : (s : State) → Moments s s
-    onward : (number : ℕ) (instr : Instr) (s next t : State) → IsNext number instr s → Moves instr s next →
+  pub data Moments : MachineState → MachineState → Type 0 where
+    here : (s : MachineState) → Moments s s
+    onward : (number : ℕ) (instr : Instr) (s next t : MachineState) → IsNext number instr s → Moves instr s next →
         Moments next t → Moments s t
 
   -- a loop around an address begins a further round: its last instruction leads back to its first, or to the one after
   -- that
-  pub record BeginsRound (stmts : List TacStmt) (code : List Instr) (pc number : ℕ) (s t : State) : Type 0 where
+  pub record BeginsRound (stmts : List TacStmt) (code : List Instr) (pc number : ℕ) (s t : MachineState) : Type 0 where
     pub begins : ℕ
     pub loop : IsLoopCode stmts code begins number
     pub last : s.pc ≡ address + 4 * number
@@ -76,7 +76,7 @@ module _ (image : ImageParts) (inputs : List ℕ) (comp address : ℕ) (instrs :
     pub around : (t.pc ≤ pc) × (pc ≤ s.pc)
 
   -- some loop does, on the way
-  abbrev pub RoundBegins : List TacStmt → List Instr → (pc : ℕ) → {s t : State} → Moments s t → Type 0
+  abbrev pub RoundBegins : List TacStmt → List Instr → (pc : ℕ) → {s t : MachineState} → Moments s t → Type 0
   RoundBegins stmts code pc (here s) = ⊥
   RoundBegins stmts code pc (onward number instr s next t is_next moves rest) =
       BeginsRound stmts code pc number s next ⊎ RoundBegins stmts code pc rest
@@ -87,7 +87,7 @@ abbrev pub RepeatsByRounds : TacFnTree → CodeTree → Type 0
 RepeatsByRounds f code =
     (image : ImageParts) (inputs : List ℕ) (comp address : ℕ) (addresses : Addresses) → IsWellFormed image →
     let instrs = linked addresses address code in
-    CodeAt image comp address instrs → (number : ℕ) (instr : Instr) (s next t : State)
+    CodeAt image comp address instrs → (number : ℕ) (instr : Instr) (s next t : MachineState)
     (is_next : IsNext image inputs comp address instrs number instr s)
     (moves : Moves image inputs comp address instrs instr s next)
     (rest : Moments image inputs comp address instrs next t) → t.pc ≡ s.pc →

@@ -25,12 +25,14 @@ pub use Rattle.rv_code.specs.declared.instr.OpOp.TheVariants.{Sra, Srl, Sub, Xor
 pub use Rattle.rv_code.specs.declared.instr.ShiftOp.{ShiftOp}
 pub use Rattle.rv_code.specs.declared.instr.StoreOp.TheVariants.{Sw}
 pub use Rattle.rv_code.specs.declared.instr.UpperOp.TheVariants.{Lui}
-pub use Rattle.sc_store.specs.Prelude.{Memory, load_of, stored}
+pub use Rattle.sc_store.specs.Prelude.{ByteMemory, load_of, with_bytes}
 pub use Rattle.sc_image.proofs.Running.{image_in_memory, steps_by_instruction}
-pub use Rattle.sc_image.specs.Prelude.{Goes, IsAt, IsSteady, IsWellFormed, IsWord, Outcome, State, Traps, Walks}
-pub use Rattle.sc_image.specs.Prelude.{after_outcome, calls, code_of, code_start, compares, computed, data_start, gives}
+pub use Rattle.sc_image.specs.Prelude.{Goes, IsAt, IsSteadyState, IsWellFormed, IsWord, Outcome, MachineState, Traps}
+pub use Rattle.sc_image.specs.Prelude.{Walks}
+pub use Rattle.sc_image.specs.Prelude.{after_outcome, jump_outside, code_in, code_start, compares, op_result}
+pub use Rattle.sc_image.specs.Prelude.{data_start, gives}
 pub use Rattle.sc_image.specs.Prelude.{jalr_target, jump, leaves, on_registers, refused, shift_on_registers, stack_top}
-pub use Rattle.sc_image.specs.Prelude.{step, store, then_on, unless, walk, written}
+pub use Rattle.sc_image.specs.Prelude.{step, store, then_on, unless_trap, walk, written}
 unfoldable pub use Rattle.sc_image.specs.Prelude.{are_data, word_at}
 pub use Rattle.sc_tac.specs.Prelude.{is_unsigned}
 pub use Rattle.sc_tac.specs.declared.stmt.TacOp.{TacOp}

@@ -1,6 +1,6 @@
 -- Code lies low, at multiples of 4.
 use Rattle.sc_emit_hart.proofs.Common.{Bool, ImageParts, IsWellFormed, None, Option, Some, [], and_parts, arith}
-use Rattle.sc_emit_hart.proofs.Common.{code_of, code_start, eqb-true, false, if◌then◌else◌, leb-true, nat_eq, nat_le}
+use Rattle.sc_emit_hart.proofs.Common.{code_in, code_start, eqb-true, false, if◌then◌else◌, leb-true, nat_eq, nat_le}
 use Rattle.sc_emit_hart.proofs.Common.{refl, slice_get, true, word_at, ℕ, ◌%◌, ◌&&◌, ◌*◌, ◌-◌, ◌/◌, ◌<◌, ◌^◌, ◌≡◌, ◌≤◌}
 use Rattle.std.specs.Option.{option_map_or}
 use Rattle.std.proofs.lemmas.Option.{slice_get_within}
@@ -24,7 +24,7 @@ module _ (image : ImageParts) (formed : IsWellFormed image) where
   }
 
   by_place : (c a w : ℕ) (b : Bool) → (nat_eq (a % 4) 0 && nat_le (code_start c) a) ≡ b →
-      (if b then slice_get (code_of image c) ((a - code_start c) / 4) else None) ≡ Some w → IsInside a
+      (if b then slice_get (code_in image c) ((a - code_start c) / 4) else None) ≡ Some w → IsInside a
   by_place c a w true e h =
       let both = and_parts (nat_eq (a % 4) 0) (nat_le (code_start c) a) e in
       let aligned : a % 4 ≡ 0 = eqb-true (a % 4) 0 both.0 in

@@ -1,5 +1,6 @@
 -- Words loaded, and registers moved.
-use Rattle.sc_emit_hart.proofs.Common.{Add, Addi, Bool, Computes, ImageParts, IsWritable, List, Lui, Memory, Op, OpImm}
+use Rattle.sc_emit_hart.proofs.Common.{Add, Addi, Bool, Computes, ImageParts, IsWritable, List, Lui, ByteMemory, Op}
+use Rattle.sc_emit_hart.proofs.Common.{OpImm}
 use Rattle.sc_emit_hart.proofs.Common.{Registers, Upper, World, [], add_word, ap, arith, false, if◌then◌else◌, is_short}
 use Rattle.sc_emit_hart.proofs.Common.{loading, look, lower_part, move, moved_by, pos, refl, signed_of, true}
 use Rattle.sc_emit_hart.proofs.Common.{upper_part, word_of, ℕ, ◌++◌, ◌<◌, ◌^◌, ◌∙◌, ◌∷◌, ◌≡◌, ◌≢◌}
@@ -10,7 +11,7 @@ use Rattle.sc_emit_hart.proofs.Numbers.{word_of-signed_of, two_parts}
 scratch_writable : IsWritable 7
 scratch_writable = omega arith
 
-module _ (image : ImageParts) (inputs : List ℕ) (world : World) (memory : Memory) where
+module _ (image : ImageParts) (inputs : List ℕ) (world : World) (memory : ByteMemory) where
   pub moves : (regs : Registers) (rd rs a : ℕ) → IsWritable rd → rs < 32 → look regs rs ≡ a → a < 2 ^ 32 →
       Computes image inputs world (move rd rs ∷ []) [] regs memory rd a
   moves regs rd rs a h k is below =

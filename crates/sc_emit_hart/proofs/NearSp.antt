@@ -1,5 +1,6 @@
 -- Words of the frame, near the stack pointer and far from it.
-use Rattle.sc_emit_hart.proofs.Common.{Add, Bool, Computes, ImageParts, IsFromSp, IsWritable, List, Load, Lw, Memory}
+use Rattle.sc_emit_hart.proofs.Common.{Add, Bool, Computes, ImageParts, IsFromSp, IsWritable, List, Load, Lw}
+use Rattle.sc_emit_hart.proofs.Common.{ByteMemory}
 use Rattle.sc_emit_hart.proofs.Common.{Registers, Store, Stores, Sw, World, [], add_word, ap, arith, false, far_from_sp}
 use Rattle.sc_emit_hart.proofs.Common.{if◌then◌else◌, is_short, load_word, look, lower_part, refl, signed_of}
 use Rattle.sc_emit_hart.proofs.Common.{store_word, true, upper_part, word, word_of, ℕ, ◌++◌, ◌+◌, ◌<◌, ◌^◌, ◌∙◌, ◌∷◌}
@@ -7,7 +8,7 @@ use Rattle.sc_emit_hart.proofs.Common.{◌≡◌, ◌≢◌}
 use Rattle.sc_emit_hart.proofs.Rows.{followed_by, stores_after, computes, stored, looked, upper, of_two, loads, stores}
 use Rattle.sc_emit_hart.proofs.Numbers.{word_of-signed_of, parts}
 
-module _ (image : ImageParts) (inputs : List ℕ) (world : World) (memory : Memory) where
+module _ (image : ImageParts) (inputs : List ℕ) (world : World) (memory : ByteMemory) where
   -- all of the address but for what the access adds
   comes_near : (regs : Registers) (offset : ℕ) →
       Computes image inputs world (far_from_sp offset) [] regs memory 7 (add_word (upper_part offset) (regs 2))

@@ -1,9 +1,9 @@
 -- The code of each operator computes its word.
 use Rattle.sc_emit_hart.proofs.Common.{Add, And, AreOperands, BinaryOp, Bool, Computes, Div, Divu, ImageParts, Instr}
-use Rattle.sc_emit_hart.proofs.Common.{IsWritable, List, Memory, Mul, Op, OpImm, OpImmOp, OpOp, Or, Registers, Rem}
+use Rattle.sc_emit_hart.proofs.Common.{IsWritable, List, ByteMemory, Mul, Op, OpImm, OpImmOp, OpOp, Or, Registers, Rem}
 use Rattle.sc_emit_hart.proofs.Common.{Remu, Shift, Sll, Slt, Sltiu, Sltu, Sra, Srl, Sub, TacOp, UnaryOp, World, Xor}
 use Rattle.sc_emit_hart.proofs.Common.{Xori, [], add_word, address_scratch, ap, arith, binary_code, bit_or, bit_xor}
-use Rattle.sc_emit_hart.proofs.Common.{bytes_ahead, bytes_of, computed, div_word, eqb-true, false, if◌then◌else◌}
+use Rattle.sc_emit_hart.proofs.Common.{bytes_ahead, bytes_of, op_result, div_word, eqb-true, false, if◌then◌else◌}
 use Rattle.sc_emit_hart.proofs.Common.{is_unsigned, loading, mul_word, negated_word, negsuc, on_all_words, on_registers}
 use Rattle.sc_emit_hart.proofs.Common.{op_code, op_word, pointer_difference, pointer_move, pos, refl, second_scratch}
 use Rattle.sc_emit_hart.proofs.Common.{shift_on_registers, signed_wraps, slt_word, sltu_word, stepped_word, sub_word}
@@ -20,19 +20,19 @@ use Rattle.sc_emit_hart.proofs.Tests.{zero_test, equal_test, unequal_test, eithe
 bytes_below : (cells : ℕ) → bytes_of cells < 2 ^ 32
 bytes_below cells = omega arith
 
-module _ (image : ImageParts) (inputs : List ℕ) (world : World) (memory : Memory) (regs : Registers)
+module _ (image : ImageParts) (inputs : List ℕ) (world : World) (memory : ByteMemory) (regs : Registers)
     (rd left right a b : ℕ) (writable : IsWritable rd) (operands : AreOperands regs left right a b) where
   -- into rd, by way of scratch registers
   abbrev Gives : List Instr → ℕ → Type 0
   Gives code v = Computes image inputs world code (5 ∷ 6 ∷ 7 ∷ []) regs memory rd v
 
-  single : (o : OpOp) (v : ℕ) → computed o a b ≡ v → Gives (Op o rd left right ∷ []) v
+  single : (o : OpOp) (v : ℕ) → op_result o a b ≡ v → Gives (Op o rd left right ∷ []) v
   single o v e =
       computes image inputs world (5 ∷ 6 ∷ 7 ∷ []) v
       (of_two image inputs world regs memory o rd left right a b v writable operands.left_below operands.right_below
       operands.left_is operands.right_is e) refl (λ q k. (k.0, tt))
 
-  swapped : (o : OpOp) (v : ℕ) → computed o b a ≡ v → Gives (Op o rd right left ∷ []) v
+  swapped : (o : OpOp) (v : ℕ) → op_result o b a ≡ v → Gives (Op o rd right left ∷ []) v
   swapped o v e =
       computes image inputs world (5 ∷ 6 ∷ 7 ∷ []) v
       (of_two image inputs world regs memory o rd right left b a v writable operands.right_below operands.left_below
@@ -42,19 +42,19 @@ module _ (image : ImageParts) (inputs : List ℕ) (world : World) (memory : Memo
   abbrev First : (o : OpOp) (l r x : ℕ) → Type 0
   First o l r x = Computes image inputs world (Op o 5 l r ∷ []) [] regs memory 5 x
 
-  first : (o : OpOp) → First o left right (computed o a b)
+  first : (o : OpOp) → First o left right (op_result o a b)
   first o =
-      of_two image inputs world regs memory o 5 left right a b (computed o a b) (omega arith) operands.left_below
+      of_two image inputs world regs memory o 5 left right a b (op_result o a b) (omega arith) operands.left_below
       operands.right_below operands.left_is operands.right_is refl
 
-  first_swapped : (o : OpOp) → First o right left (computed o b a)
+  first_swapped : (o : OpOp) → First o right left (op_result o b a)
   first_swapped o =
-      of_two image inputs world regs memory o 5 right left b a (computed o b a) (omega arith) operands.right_below
+      of_two image inputs world regs memory o 5 right left b a (op_result o b a) (omega arith) operands.right_below
       operands.left_below operands.right_is operands.left_is refl
 
   -- then on x5 and a number
   then_number : (o : OpOp) (l r x : ℕ) (p : OpImmOp) (imm : ℤ) (v : ℕ) → First o l r x →
-      computed (on_registers p) x (word_of imm) ≡ v → Gives (Op o 5 l r ∷ OpImm p rd 5 imm ∷ []) v
+      op_result (on_registers p) x (word_of imm) ≡ v → Gives (Op o 5 l r ∷ OpImm p rd 5 imm ∷ []) v
   then_number o l r x p imm v one e =
       let two = with_number image inputs world one.after memory p rd 5 imm x v writable (omega arith) one.result e in
       computes image inputs world (5 ∷ 6 ∷ 7 ∷ []) v (followed_by image inputs world one two) refl
@@ -153,7 +153,7 @@ module _ (image : ImageParts) (inputs : List ℕ) (world : World) (memory : Memo
   gives_binary false op.Rem = single Rem _ refl
 
   -- the bytes of `b` elements, by a shift or by a product
-  times_four : mul_word b 4 ≡ computed (shift_on_registers Slli) b 2
+  times_four : mul_word b 4 ≡ op_result (shift_on_registers Slli) b 2
   times_four = omega (arith, operands.right_word)
 
   counts_bytes : (cells : ℕ) →
@@ -181,7 +181,7 @@ module _ (image : ImageParts) (inputs : List ℕ) (world : World) (memory : Memo
           (λ q k. (k.0, (k.1.0, tt)))
 
   -- the last instruction, over those bytes
-  moves_elements : (o : OpOp) (cells v : ℕ) → computed o a (mul_word b (bytes_of cells)) ≡ v →
+  moves_elements : (o : OpOp) (cells v : ℕ) → op_result o a (mul_word b (bytes_of cells)) ≡ v →
       Gives (bytes_ahead right cells ++ Op o rd left 6 ∷ []) v
   moves_elements o cells v e =
       let one = counts_bytes cells in

@@ -1,7 +1,8 @@
 -- Pieces of code in a row, and pieces of one instruction.
 use Rattle.sc_emit_hart.proofs.Common.{Besides, Computes, Does, Fetches, ImageParts, Instr, IsWritable, List, Load, Lui}
-use Rattle.sc_emit_hart.proofs.Common.{Lw, Memory, Op, OpImm, OpImmOp, OpOp, Owned, Registers, Shift, ShiftOp, Store}
-use Rattle.sc_emit_hart.proofs.Common.{Stores, Sw, Upper, Walks, World, [], add_word, ap, arith, at, computed}
+use Rattle.sc_emit_hart.proofs.Common.{Lw, ByteMemory, Op, OpImm, OpImmOp, OpOp, Owned, Registers, Shift, ShiftOp}
+use Rattle.sc_emit_hart.proofs.Common.{Store}
+use Rattle.sc_emit_hart.proofs.Common.{Stores, Sw, Upper, Walks, World, [], add_word, ap, arith, at, op_result}
 use Rattle.sc_emit_hart.proofs.Common.{if◌then◌else◌, length, length-append, look, nat_eq, ne_eqb, on_registers}
 use Rattle.sc_emit_hart.proofs.Common.{put_word, refl, set, shift_on_registers, subst, sym, word, word_of, ℕ, ℤ, ◌*◌}
 use Rattle.sc_emit_hart.proofs.Common.{◌++◌, ◌+◌, ◌<◌, ◌∙◌, ◌∷◌, ◌≡◌, ◌≢◌}
@@ -31,7 +32,7 @@ pub looked : (f g : Registers) (r a : ℕ) → f r ≡ g r → look g r ≡ a �
 looked f g r a same is = ap (λ x. if nat_eq r 0 then 0 else x) same ∙ is
 
 module _ (image : ImageParts) (inputs : List ℕ) (world : World) where
-  pub in_row : {xs ys : List Instr} {regs middle after : Registers} {memory between left : Memory} →
+  pub in_row : {xs ys : List Instr} {regs middle after : Registers} {memory between left : ByteMemory} →
       Does image inputs world xs regs memory middle between → Does image inputs world ys middle between after left →
       Does image inputs world (xs ++ ys) regs memory after left
   in_row {xs} {ys} {regs} {middle} {after} {memory} {between} {left} first second = record {
@@ -46,7 +47,7 @@ module _ (image : ImageParts) (inputs : List ℕ) (world : World) where
   }
 
   -- a piece that another follows, which begins with the registers after it
-  pub followed_by : {xs ys : List Instr} {rs ss : List ℕ} {regs : Registers} {memory : Memory} {r v rd w : ℕ} →
+  pub followed_by : {xs ys : List Instr} {rs ss : List ℕ} {regs : Registers} {memory : ByteMemory} {r v rd w : ℕ} →
       (first : Computes image inputs world xs rs regs memory r v) →
       Computes image inputs world ys ss first.after memory rd w →
       Computes image inputs world (xs ++ ys) (r ∷ (rs ++ ss)) regs memory rd w
@@ -58,7 +59,7 @@ module _ (image : ImageParts) (inputs : List ℕ) (world : World) where
         second.others q (h.0, besides_back rs ss q h.1.1) ∙ first.others q (h.1.0, besides_prefix rs ss q h.1.1);
   }
 
-  pub stores_after : {xs ys : List Instr} {rs ss : List ℕ} {regs : Registers} {memory : Memory} {r v a w : ℕ} →
+  pub stores_after : {xs ys : List Instr} {rs ss : List ℕ} {regs : Registers} {memory : ByteMemory} {r v a w : ℕ} →
       (first : Computes image inputs world xs rs regs memory r v) →
       Stores image inputs world ys ss first.after memory a w →
       Stores image inputs world (xs ++ ys) (r ∷ (rs ++ ss)) regs memory a w
@@ -69,7 +70,7 @@ module _ (image : ImageParts) (inputs : List ℕ) (world : World) where
   }
 
   -- the word under another name, and more registers that may change
-  pub computes : {code : List Instr} {rs : List ℕ} {regs : Registers} {memory : Memory} {rd v : ℕ} (ss : List ℕ)
+  pub computes : {code : List Instr} {rs : List ℕ} {regs : Registers} {memory : ByteMemory} {rd v : ℕ} (ss : List ℕ)
       (w : ℕ) → Computes image inputs world code rs regs memory rd v → v ≡ w →
       ((q : ℕ) → Besides (rd ∷ ss) q → Besides (rd ∷ rs) q) → Computes image inputs world code ss regs memory rd w
   computes ss w piece same more = record {
@@ -79,7 +80,7 @@ module _ (image : ImageParts) (inputs : List ℕ) (world : World) where
     others = λ q h. piece.others q (more q h);
   }
 
-  pub stored : {code : List Instr} {rs : List ℕ} {regs : Registers} {memory : Memory} {a v : ℕ} (ss : List ℕ) →
+  pub stored : {code : List Instr} {rs : List ℕ} {regs : Registers} {memory : ByteMemory} {a v : ℕ} (ss : List ℕ) →
       Stores image inputs world code rs regs memory a v → ((q : ℕ) → Besides ss q → Besides rs q) →
       Stores image inputs world code ss regs memory a v
   stored ss piece more = record {
@@ -88,7 +89,7 @@ module _ (image : ImageParts) (inputs : List ℕ) (world : World) where
     others = λ q h. piece.others q (more q h);
   }
 
-  module _ (regs : Registers) (memory : Memory) where
+  module _ (regs : Registers) (memory : ByteMemory) where
     -- one instruction that writes a register
     writes : (instr : Instr) (rd v : ℕ) → IsWritable rd →
         ((pc : ℕ) → Fetches image world.active pc instr →
@@ -107,28 +108,28 @@ module _ (image : ImageParts) (inputs : List ℕ) (world : World) where
         writes (Upper Lui rd imm) rd imm h (λ pc f. lui image inputs pc regs memory world rd imm h.below f)
 
     pub with_number : (op : OpImmOp) (rd rs : ℕ) (imm : ℤ) (a v : ℕ) → IsWritable rd → rs < 32 → look regs rs ≡ a →
-        computed (on_registers op) a (word_of imm) ≡ v →
+        op_result (on_registers op) a (word_of imm) ≡ v →
         Computes image inputs world (OpImm op rd rs imm ∷ []) [] regs memory rd v
     with_number op rd rs imm a v h k is e =
         writes (OpImm op rd rs imm) rd v h (λ pc f.
         op_imm image inputs pc regs memory world op rd rs imm v h.below k f
-        (ap (λ x. computed (on_registers op) x (word_of imm)) is ∙ e))
+        (ap (λ x. op_result (on_registers op) x (word_of imm)) is ∙ e))
 
     pub with_amount : (op : ShiftOp) (rd rs amount a v : ℕ) → IsWritable rd → rs < 32 → look regs rs ≡ a →
-        computed (shift_on_registers op) a amount ≡ v →
+        op_result (shift_on_registers op) a amount ≡ v →
         Computes image inputs world (Shift op rd rs amount ∷ []) [] regs memory rd v
     with_amount op rd rs amount a v h k is e =
         writes (Shift op rd rs amount) rd v h (λ pc f.
         shifts image inputs pc regs memory world op rd rs amount v h.below k f
-        (ap (λ x. computed (shift_on_registers op) x amount) is ∙ e))
+        (ap (λ x. op_result (shift_on_registers op) x amount) is ∙ e))
 
     pub of_two : (op : OpOp) (rd left right a b v : ℕ) → IsWritable rd → left < 32 → right < 32 → look regs left ≡ a →
-        look regs right ≡ b → computed op a b ≡ v →
+        look regs right ≡ b → op_result op a b ≡ v →
         Computes image inputs world (Op op rd left right ∷ []) [] regs memory rd v
     of_two op rd left right a b v h k l is its e =
         writes (Op op rd left right) rd v h (λ pc f.
         operate image inputs pc regs memory world op rd left right v h.below k l f
-        (ap (λ x. computed op x (look regs right)) is ∙ ap (computed op a) its ∙ e))
+        (ap (λ x. op_result op x (look regs right)) is ∙ ap (op_result op a) its ∙ e))
 
     pub loads : (rd rs : ℕ) (imm : ℤ) (a : ℕ) → IsWritable rd → rs < 32 → add_word (look regs rs) (word_of imm) ≡ a →
         Owned image world.active a →

@@ -1,7 +1,8 @@
 -- An operator whose second operand is a constant is one instruction, which computes the operator's word.
-use Rattle.sc_emit_hart.proofs.Common.{Addi, Andi, BinaryOp, Bool, Computes, ImageParts, IsWritable, List, Memory, None}
+use Rattle.sc_emit_hart.proofs.Common.{Addi, Andi, BinaryOp, Bool, Computes, ImageParts, IsWritable, List, ByteMemory}
+use Rattle.sc_emit_hart.proofs.Common.{None}
 use Rattle.sc_emit_hart.proofs.Common.{OpImmOp, Option, Ori, Registers, Slti, Sltiu, Some, TacOp, World, Xori, []}
-use Rattle.sc_emit_hart.proofs.Common.{add_word, ap, arith, binary_short, bytes_of, computed, false, if◌then◌else◌}
+use Rattle.sc_emit_hart.proofs.Common.{add_word, ap, arith, binary_short, bytes_of, op_result, false, if◌then◌else◌}
 use Rattle.sc_emit_hart.proofs.Common.{is_short, is_unsigned, look, mul_word, on_all_words, on_registers, op_word, pos}
 use Rattle.sc_emit_hart.proofs.Common.{refl, short, short_code, short_form, signed_of, signed_wraps, sub_word, subst}
 use Rattle.sc_emit_hart.proofs.Common.{sym, true, word_of-lt, word_of-unsigned_sub, ℕ, ◌%◌, ◌+◌, ◌-ℤ◌, ◌-◌, ◌<◌, ◌^◌}
@@ -22,14 +23,14 @@ negated a b h k =
 negation_below : (b : ℕ) → sub_word 0 b < 2 ^ 32
 negation_below b = word_of-lt (pos 0 -ℤ pos b)
 
-module _ (image : ImageParts) (inputs : List ℕ) (world : World) (memory : Memory) (regs : Registers)
+module _ (image : ImageParts) (inputs : List ℕ) (world : World) (memory : ByteMemory) (regs : Registers)
     (rd left a b : ℕ) (writable : IsWritable rd) (below : left < 32) (is : look regs left ≡ a) (left_word : a < 2 ^ 32)
     (right_word : b < 2 ^ 32) where
   abbrev Gives : ShortForm → ℕ → Type 0
   Gives form v = Computes image inputs world (short_code rd left (Some form)) [] regs memory rd v
 
   -- by the word that the immediate is
-  by_word : (o : OpImmOp) (w v : ℕ) (form : ShortForm) → w < 2 ^ 32 → computed (on_registers o) a w ≡ v →
+  by_word : (o : OpImmOp) (w v : ℕ) (form : ShortForm) → w < 2 ^ 32 → op_result (on_registers o) a w ≡ v →
       short o w ≡ Some form → Gives form v
   by_word o w v form h e found = by (is_short w) found
     where
@@ -38,7 +39,7 @@ module _ (image : ImageParts) (inputs : List ℕ) (world : World) (memory : Memo
           let same : ◌≡◌ {A = ShortForm} (record { op = o; imm = signed_of w }) form = cc found in
           subst (λ form. Gives form v) same
           (with_number image inputs world regs memory o rd left (signed_of w) a v writable below is
-          (ap (computed (on_registers o) a) (word_of-signed_of w h) ∙ e))
+          (ap (op_result (on_registers o) a) (word_of-signed_of w h) ∙ e))
       by false found = cc found
 
   by_binary : (unsigned : Bool) (o : BinaryOp) (form : ShortForm) → binary_short unsigned o b ≡ Some form →

@@ -1,16 +1,16 @@
 -- Words in memory, and which of them are owned.
-use Rattle.sc_emit_hart.proofs.Common.{Apart, ImageParts, Memory, None, Owned, Owner, Some, WordsAreKept, are_data}
+use Rattle.sc_emit_hart.proofs.Common.{Apart, ImageParts, ByteMemory, None, Owned, Owner, Some, WordsAreKept, are_data}
 use Rattle.sc_emit_hart.proofs.Common.{arith, cases_lt, data_start, eq-eqb, false, image_in_memory, inl, inr, lt-leb}
 use Rattle.sc_emit_hart.proofs.Common.{nat_le, put_word, refl, refused, stack_top, true, word, ℕ, ⊎_elim, ◌%◌, ◌+◌, ◌<◌}
 use Rattle.sc_emit_hart.proofs.Common.{◌^◌, ◌∙◌, ◌≡◌}
 use Rattle.sc_store.proofs.Words.{load_of-stored, load_of-apart}
 
-pub word_same : (memory : Memory) (a value : ℕ) → value < 2 ^ 32 → word (put_word memory a value) a ≡ value
+pub word_same : (memory : ByteMemory) (a value : ℕ) → value < 2 ^ 32 → word (put_word memory a value) a ≡ value
 unfolding word put_word
 word_same memory a value h =
     let whole : value % 4294967296 ≡ value = omega arith in load_of-stored memory a 4 value ∙ whole
 
-pub word_apart : (memory : Memory) (a value b : ℕ) → Apart b a → word (put_word memory a value) b ≡ word memory b
+pub word_apart : (memory : ByteMemory) (a value b : ℕ) → Apart b a → word (put_word memory a value) b ≡ word memory b
 unfolding word put_word
 word_apart memory a value b h = load_of-apart memory a 4 value b 4 h
 

@@ -1,6 +1,6 @@
 -- A hart (RISC-V Unprivileged ISA, 1.1) with its registers as a function of their numbers: what proofs about code work
 -- with. The machine's state is computed from it.
-use Rattle.sc_emit_hart.specs.Common.{Crossing, Memory, State}
+use Rattle.sc_emit_hart.specs.Common.{Crossing, ByteMemory, MachineState}
 use Rattle.std.specs.Prelude.{ℕ, zero, suc, List, [], ◌∷◌, nat_eq, if◌then◌else◌}
 use Rattle.sc_event.specs.declared.event.Event.{Event}
 
@@ -36,7 +36,7 @@ pub record World : Type 0 where
   pub input : ℕ
   pub trace : List Event
 
-abbrev pub at : (pc : ℕ) → Registers → Memory → World → State
+abbrev pub at : (pc : ℕ) → Registers → ByteMemory → World → MachineState
 at pc regs memory world = record {
   regs = listed regs;
   pc = pc;

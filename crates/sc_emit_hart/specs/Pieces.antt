@@ -1,5 +1,5 @@
 -- Helping: what straight code does wherever it stands, an instruction a step: to the registers and to memory.
-use Rattle.sc_emit_hart.specs.Common.{ImageParts, Instr, Memory, Walks, sp}
+use Rattle.sc_emit_hart.specs.Common.{ImageParts, Instr, ByteMemory, Walks, sp}
 use Rattle.sc_emit_hart.specs.Code.{CodeAt}
 use Rattle.sc_emit_hart.specs.Words.{Owned, put_word}
 use Rattle.sc_emit_hart.specs.Hart.{Registers, World, at}
@@ -23,13 +23,13 @@ pub record IsFromSp (image : ImageParts) (world : World) (regs : Registers) (off
 
 module _ (image : ImageParts) (inputs : List ℕ) (world : World) where
   -- code leads from registers and a memory to those after it
-  pub record Does (code : List Instr) (regs : Registers) (memory : Memory) (after : Registers) (left : Memory) :
+  pub record Does (code : List Instr) (regs : Registers) (memory : ByteMemory) (after : Registers) (left : ByteMemory) :
       Type 0 where
     pub walks : (pc : ℕ) → CodeAt image world.active pc code →
         Walks image inputs (length code) (at pc regs memory world) (at (pc + 4 * length code) after left world)
 
   -- code computes a word into a register; what other registers hold stays, but for these
-  pub record Computes (code : List Instr) (scratch : List ℕ) (regs : Registers) (memory : Memory) (rd value : ℕ) :
+  pub record Computes (code : List Instr) (scratch : List ℕ) (regs : Registers) (memory : ByteMemory) (rd value : ℕ) :
       Type 0 where
     pub after : Registers
     pub does : Does code regs memory after memory
@@ -37,7 +37,7 @@ module _ (image : ImageParts) (inputs : List ℕ) (world : World) where
     pub others : (q : ℕ) → Besides (rd ∷ scratch) q → after q ≡ regs q
 
   -- code stores a word at an address; what registers hold stays, but for these
-  pub record Stores (code : List Instr) (scratch : List ℕ) (regs : Registers) (memory : Memory) (a value : ℕ) :
+  pub record Stores (code : List Instr) (scratch : List ℕ) (regs : Registers) (memory : ByteMemory) (a value : ℕ) :
       Type 0 where
     pub after : Registers
     pub does : Does code regs memory after (put_word memory a value)

@@ -1,14 +1,15 @@
 -- Words of four bytes. Two laws are all that proofs about code use of them, so these definitions stay shut.
-use Rattle.sc_emit_hart.specs.Common.{ImageParts, Memory, data_start, globals_of, load_of, stack_top, stored}
+use Rattle.sc_emit_hart.specs.Common.{ImageParts, ByteMemory, data_start, initial_globals, load_of, stack_top}
+use Rattle.sc_emit_hart.specs.Common.{with_bytes}
 use Rattle.std.specs.Prelude.{◌≡◌, ℕ, ◌+◌, ◌%◌, ◌≤◌, ◌⊎◌, length}
 
 -- the word at an address
-unfoldable pub word : Memory → ℕ → ℕ
+unfoldable pub word : ByteMemory → ℕ → ℕ
 word memory a = load_of memory a 4
 
 -- the memory with a word at an address
-unfoldable pub put_word : Memory → (a value : ℕ) → Memory
-put_word memory a value = stored memory a 4 value
+unfoldable pub put_word : ByteMemory → (a value : ℕ) → ByteMemory
+put_word memory a value = with_bytes memory a 4 value
 
 -- two words that don't meet
 abbrev pub Apart : ℕ → ℕ → Type 0
@@ -16,7 +17,7 @@ Apart a b = (a + 4 ≤ b) ⊎ (b + 4 ≤ a)
 
 -- where the data of a compartment end
 abbrev pub data_end : ImageParts → ℕ → ℕ
-data_end image c = stack_top c + length (globals_of image c)
+data_end image c = stack_top c + length (initial_globals image c)
 
 -- a whole aligned word of c's data
 pub record Owned (image : ImageParts) (c a : ℕ) : Type 0 where

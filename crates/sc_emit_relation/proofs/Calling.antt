@@ -1,13 +1,15 @@
 -- A call of a function, from its first instruction to its jump back: what its code begins with, and what is left of it.
-use Rattle.sc_emit_relation.proofs.Common.{Activation, All, Begins, BlocksMatch, Cell, Effect, FrameFits, FrameMatches}
-use Rattle.sc_emit_relation.proofs.Common.{FrameTree, Function, IsActivation, IsFrame, IsLeft, IsWellFormed, IsWord}
-use Rattle.sc_emit_relation.proofs.Common.{Joint, Leads, List, LiveAt, Memory as Bytes, Option, Place, Placed, Plan}
-use Rattle.sc_emit_relation.proofs.Common.{Protected, Ready, Registers, Returns, Set, Setting, Settled, Some}
-use Rattle.sc_emit_relation.proofs.Common.{Standpoint, StandsFor, State as Meant, Value, Walks, a0, ap, arith, begun}
-use Rattle.sc_emit_relation.proofs.Common.{cases_eq, data_start, done, eq-eqb, false, inr, length, machine, ne_eqb}
-use Rattle.sc_emit_relation.proofs.Common.{no_temps, put, refl, same_Some, seen_from, slice_get, slice_get_within, sp}
-use Rattle.sc_emit_relation.proofs.Common.{stack_depth, stack_size, stack_top, subst, sym, then_go, walks_steady}
-use Rattle.sc_emit_relation.proofs.Common.{wanted, word, ℕ, ⊎_elim, ◌%◌, ◌+◌, ◌<◌, ◌∙◌, ◌≡◌, ◌≢◌, ◌≤◌, ◌⊎◌}
+use Rattle.sc_emit_relation.proofs.Common.{Activation, All, Begins, BlocksMatch, ByteMemory as Bytes, Cell, Effect}
+use Rattle.sc_emit_relation.proofs.Common.{FrameFits, FrameMatches, FrameTree, Function, IsActivation, IsFrame, IsLeft}
+use Rattle.sc_emit_relation.proofs.Common.{IsWellFormed, IsWord, Joint, Leads, List, LiveAt, Option, Place, Placed}
+use Rattle.sc_emit_relation.proofs.Common.{Plan, Protected, Ready, Registers, Returns, Setting, Settled, Some}
+use Rattle.sc_emit_relation.proofs.Common.{Standpoint, StandsFor, State as Meant, TempSet, Value, Walks, a0, ap, arith}
+use Rattle.sc_emit_relation.proofs.Common.{begun, cases_eq, data_start, done, eq-eqb, false, inl, inr, length, machine}
+use Rattle.sc_emit_relation.proofs.Common.{ne_eqb, no_temps, put, refl, same_Some, seen_from, slice_get}
+use Rattle.sc_emit_relation.proofs.Common.{slice_get_within, sp, stack_depth, stack_size, stack_top, subst, sym}
+use Rattle.sc_emit_relation.proofs.Common.{then_go, walks_steady, wanted, word, zone_start, ℕ, ⊎_elim, ◌%◌, ◌+◌, ◌<◌}
+use Rattle.sc_emit_relation.proofs.Common.{◌∙◌, ◌≡◌, ◌≢◌, ◌≤◌, ◌⊎◌}
+use Rattle.sc_emit_relation.proofs.Access.{live_within}
 use Rattle.sc_emit_relation.proofs.Ending.{lives_on, length_closed, LivesOn, depth_begun, depth_begun_else, depth_done}
 use Rattle.sc_emit_relation.proofs.Ending.{depth_done_else, timed_closed, timed_opened}
 use Rattle.sc_emit_relation.proofs.Held.{held_at_entry}
@@ -40,8 +42,8 @@ entered P x f args frame low pc regs bytes = record x {
 abbrev pub closed : Standpoint → Joint → Function → (first : ℕ) → Joint
 closed P x f first = record x { meant = done P.comp f first x.meant }
 
-module _ (T : Setting) (formed : IsWellFormed T.image) (inputs : All IsWord T.inputs) (P : Standpoint) (f : Function)
-    (args : List Value) (address ra_is : ℕ) (x : Joint) (begins : Begins T P f args address ra_is x) where
+module _ (T : Setting) (formed : IsWellFormed T.image) (inputs : All IsWord T.inputs) {P : Standpoint} {f : Function}
+    {args : List Value} {address ra_is : ℕ} {x : Joint} (begins : Begins T P f args address ra_is x) where
   -- the meaning's depth, where the frame goes below the stack
   pub too_deep : (frame : FrameTree) → frame.bytes ≤ f.frame_size → P.bound < data_start P.comp + frame.bytes →
       stack_size < stack_depth P.comp (begun P.comp f args x.meant)
@@ -55,7 +57,7 @@ module _ (T : Setting) (formed : IsWellFormed T.image) (inputs : All IsWord T.in
         depth_begun P.comp P.comp f x.meant args refl,
       )
 
-  module _ (frame : FrameTree) (places : List Place) (nodes low : ℕ) (whole : IsFrame frame)
+  module _ {frame : FrameTree} {places : List Place} {nodes : ℕ} (low : ℕ) (whole : IsFrame frame)
       (frame_fits : FrameFits f.cells places nodes frame) (roomy : frame.bytes ≤ f.frame_size)
       (bound_is : P.bound ≡ low + frame.bytes) (start : data_start P.comp ≤ low) where
     abbrev pub A : Activation
@@ -166,7 +168,7 @@ module _ (T : Setting) (formed : IsWellFormed T.image) (inputs : All IsWord T.in
       }
 
       -- the code of the body begins with all that it takes
-      pub ready_entered : (plan : Plan) (last : ℕ) (live : Set) →
+      pub ready_entered : (plan : Plan) (last : ℕ) (live : TempSet) →
           Ready T (record { activation = A; places = places; plan = plan; last = last }) live no_temps y
       ready_entered plan last live = record {
         settled = settled_entered;
@@ -204,20 +206,26 @@ module _ (T : Setting) (formed : IsWellFormed T.image) (inputs : All IsWord T.in
 
         -- what lives when the call has ended lived when it began
         record LivedLong (k b : ℕ) (xs : List Cell) : Type 0 where
-          now : LiveAt z.meant.memory k b xs
           old : List Cell
           was : LiveAt x.meant.memory k b old
           long : length xs ≡ length old
 
-        lived_long : (k b : ℕ) (xs : List Cell) → T.performs k ≡ false → LiveAt end.meant.memory k b xs →
-            LivedLong k b xs
-        lived_long k b xs honest h =
-            let on : LivesOn P.comp first (length f.cells) z.meant.memory k b xs =
-            lives_on P.comp first (length f.cells) z.meant.memory k b xs h in
-            let middle = leads.effect.lived k b xs honest on.live in
-            let below : b < length (y.meant.memory k) = slice_get_within (y.meant.memory k) b _ middle.1 in
+        -- a block lies in the zone of its compartment
+        abbrev InZone : (k b : ℕ) → Type 0
+        InZone k b = (a : ℕ) × (z.inj k b ≡ Some a) × (zone_start k ≤ a)
+
+        lives_still : (k b : ℕ) (xs : List Cell) → LiveAt end.meant.memory k b xs →
+            LivesOn P.comp first (length f.cells) z.meant.memory k b xs
+        lives_still k b xs h = lives_on P.comp first (length f.cells) z.meant.memory k b xs h
+
+        now_live : (k b : ℕ) (xs : List Cell) → LiveAt end.meant.memory k b xs → LiveAt z.meant.memory k b xs
+        now_live k b xs h = (lives_still k b xs h).live
+
+        lived_middle : (k b : ℕ) (xs : List Cell) → LivesOn P.comp first (length f.cells) z.meant.memory k b xs →
+            (old : List Cell) × LiveAt y.meant.memory k b old × (length xs ≡ length old) → LivedLong k b xs
+        lived_middle k b xs on middle =
+            let below : b < length (y.meant.memory k) = live_within (y.meant.memory k) b middle.0 middle.1 in
             record {
-              now = on.live;
               old = middle.0;
               was = lived_before T.image T.performs P.floor x.inj x.meant.memory x.bytes bytes P.comp low frame f.cells
                   args k b middle.0 middle.1
@@ -225,6 +233,11 @@ module _ (T : Setting) (formed : IsWellFormed T.image) (inputs : All IsWord T.in
                   ⊎_elim (λ l. l) (λ l. absurd (omega (arith, l, below, count))) (on.other e)));
               long = middle.2;
             }
+
+        lived_long : (k b : ℕ) (xs : List Cell) → T.performs k ≡ false → LiveAt end.meant.memory k b xs →
+            LivedLong k b xs ⊎ InZone k b
+        lived_long k b xs honest h = ⊎_elim (λ middle. inl (lived_middle k b xs (lives_still k b xs h) middle))
+            (λ far. inr far) (leads.effect.lived k b xs honest (now_live k b xs h))
 
         all_grows : (k b a : ℕ) → x.inj k b ≡ Some a → z.inj k b ≡ Some a
         all_grows k b a e = leads.effect.grows k b a (grows k b a e)
@@ -244,11 +257,15 @@ module _ (T : Setting) (formed : IsWellFormed T.image) (inputs : All IsWord T.in
               leads.effect.depths k,
             )) (cases_eq k P.comp)
 
+        long_parts : (k b : ℕ) (xs : List Cell) → LivedLong k b xs →
+            (old : List Cell) × LiveAt x.meant.memory k b old × (length xs ≡ length old)
+        long_parts k b xs l = (l.old, l.was, l.long)
+
         pub effect_closed : Effect T P x end
         effect_closed = record {
           grows = all_grows;
-          lived = λ k b xs honest h.
-              (let l : LivedLong k b xs = lived_long k b xs honest h in (l.old, l.was, l.long));
+          lived = λ k b xs honest h. ⊎_elim (λ l. inl (long_parts k b xs l)) (λ far. inr far)
+              (lived_long k b xs honest h);
           keeps = λ k q p. leads.effect.keeps k q (protected_entered k q p) ∙ kept_entered k q p;
           depths = depths_same;
         }
@@ -264,10 +281,9 @@ module _ (T : Setting) (formed : IsWellFormed T.image) (inputs : All IsWord T.in
           effect = effect_closed;
         }
 
-        placed_closed : (k b a : ℕ) (xs : List Cell) → T.performs k ≡ false → LiveAt end.meant.memory k b xs →
-            z.inj k b ≡ Some a → Placed T.image (P.floor k) k a (length xs)
-        placed_closed k b a xs honest h e =
-            let l : LivedLong k b xs = lived_long k b xs honest h in
+        placed_long : (k b a : ℕ) (xs : List Cell) → T.performs k ≡ false → z.inj k b ≡ Some a → LivedLong k b xs →
+            Placed T.image (P.floor k) k a (length xs)
+        placed_long k b a xs honest e l =
             let place = begins.settled.blocks.there k b l.old honest l.was in
             let same : place.0 ≡ a = same_Some place.0 a (sym (all_grows k b place.0 place.1) ∙ e) in
             let was : Placed T.image (P.floor k) k place.0 (length l.old) =
@@ -275,15 +291,32 @@ module _ (T : Setting) (formed : IsWellFormed T.image) (inputs : All IsWord T.in
             subst (λ m. Placed T.image (P.floor k) k a m) (sym l.long)
             (subst (λ a. Placed T.image (P.floor k) k a (length l.old)) same was)
 
+        -- a block of the zone lies above every floor
+        placed_far : (k b a : ℕ) (xs : List Cell) → T.performs k ≡ false → LiveAt end.meant.memory k b xs →
+            z.inj k b ≡ Some a → InZone k b → Placed T.image (P.floor k) k a (length xs)
+        placed_far k b a xs honest h e far =
+            let now = settled.blocks.placed k b a xs honest (now_live k b xs h) e in
+            let same : far.0 ≡ a = same_Some far.0 a (sym far.1 ∙ e) in
+            record {
+              aligned = now.aligned;
+              above = omega (arith, same, far.2, begins.base.floors.high k honest);
+              low = now.low;
+              high = now.high;
+            }
+
+        placed_closed : (k b a : ℕ) (xs : List Cell) → T.performs k ≡ false → LiveAt end.meant.memory k b xs →
+            z.inj k b ≡ Some a → Placed T.image (P.floor k) k a (length xs)
+        placed_closed k b a xs honest h e =
+            ⊎_elim (placed_long k b a xs honest e) (placed_far k b a xs honest h e) (lived_long k b xs honest h)
+
         blocks_closed : BlocksMatch T.image T.performs P.floor z.inj end.meant.memory z.bytes
         blocks_closed = record {
-          there = λ k b xs honest h. settled.blocks.there k b xs honest (lived_long k b xs honest h).now;
+          there = λ k b xs honest h. settled.blocks.there k b xs honest (now_live k b xs h);
           placed = placed_closed;
           holds = λ k b a i xs c honest h e get.
-              settled.blocks.holds k b a i xs c honest (lived_long k b xs honest h).now e get;
+              settled.blocks.holds k b a i xs c honest (now_live k b xs h) e get;
           apart = λ k b d a e xs ys honest l m p q other.
-              settled.blocks.apart k b d a e xs ys honest (lived_long k b xs honest l).now
-              (lived_long k d ys honest m).now p q other;
+              settled.blocks.apart k b d a e xs ys honest (now_live k b xs l) (now_live k d ys m) p q other;
           known = λ k b a e. subst (λ m. b < m) (sym (length_closed P.comp first (length f.cells) z.meant.memory k))
               (settled.blocks.known k b a e);
         }

@@ -17,9 +17,10 @@ pub use Rattle.sc_core.specs.Prelude.{Block, Blocks, Break, Closed, Continue, Do
 pub use Rattle.sc_core.specs.Prelude.{Left, Next, Opened, Piece, Reached, Return, State, Stopped, all_do, and_then}
 pub use Rattle.sc_core.specs.Prelude.{apart, applied_one, begun, between, bind, blocks_for, cell_of, cells_at, computed}
 pub use Rattle.sc_core.specs.Prelude.{done, ended, follow, in_elements, in_loop, in_order, is_inside, is_live, is_zero}
-pub use Rattle.sc_core.specs.Prelude.{leave, live_cells, load, loaded, loop, moved, moved_back, moved_on, negated_word}
-pub use Rattle.sc_core.specs.Prelude.{number_of, of_bool, on_all_words, on_words, ordered, place_at, rounds, same_place}
-pub use Rattle.sc_core.specs.Prelude.{store, take, truth, turn, turn_of, with_blocks, with_cell, with_memory, wrapping}
+pub use Rattle.sc_core.specs.Prelude.{leave, live_cells, living, load, loaded, loop, moved, moved_back, moved_on}
+pub use Rattle.sc_core.specs.Prelude.{negated_word, number_of, of_bool, on_all_words, on_words, ordered, place_at}
+pub use Rattle.sc_core.specs.Prelude.{rounds, same_place, store, take, truth, turn, turn_of, variable, with_blocks}
+pub use Rattle.sc_core.specs.Prelude.{with_cell, with_memory, wrapping}
 pub use Rattle.sc_core.specs.declared.cause.Cause.{Cause}
 pub use Rattle.sc_core.specs.declared.cause.Cause.TheVariants.{BadPointer, BadType, Dangling, OutOfBounds}
 pub use Rattle.sc_core.specs.declared.value.Pointer.{Pointer}
@@ -28,11 +29,12 @@ pub use Rattle.sc_core_laws.proofs.Growing.{done_goes, follow_goes, more, no_tur
 pub use Rattle.sc_core_laws.proofs.Growing.{turn_goes}
 pub use Rattle.sc_core_laws.specs.Prelude.{AllBefore, Goes, Grown, depth_after, last, stack_depth}
 pub use Rattle.rv_code.specs.declared.instr.Instr.{Instr}
-pub use Rattle.sc_store.specs.Prelude.{Memory}
+pub use Rattle.sc_store.specs.Prelude.{ByteMemory}
 pub use Rattle.sc_image.proofs.Memory.{few_globals}
 pub use Rattle.sc_image.specs.Prelude.{IsWellFormed, IsWord, Traps, Walks, data_start, stack_size, stack_top, step}
-pub use Rattle.sc_image.specs.Prelude.{word_at}
-pub use Rattle.sc_tac.specs.Prelude.{Codes, FrameFits, InSlot, IsClear, IsFrame, Lives, Point, Range, Set, Temps, Trail}
+pub use Rattle.sc_image.specs.Prelude.{word_at, zone_start}
+pub use Rattle.sc_tac.specs.Prelude.{Codes, FrameFits, InSlot, IsClear, IsFrame, Lives, Point, Range, TempSet, Temps}
+pub use Rattle.sc_tac.specs.Prelude.{Trail}
 pub use Rattle.sc_tac.specs.Prelude.{ahead_at, end_of, in_body, in_head, in_next, is_comparison, is_one, is_pointer}
 pub use Rattle.sc_tac.specs.Prelude.{is_unsigned, known, live_across, live_at_start, live_before, loop_points, no_temps}
 pub use Rattle.sc_tac.specs.Prelude.{object_range, one_or_none, operated, part_ahead, plain_points, point, ranges_of}

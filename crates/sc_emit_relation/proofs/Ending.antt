@@ -1,10 +1,9 @@
 -- A call ends: its blocks no longer live, and the stack depth is less by its frame size.
-use Rattle.sc_emit_relation.proofs.Common.{AllBefore, Block, Blocks, Bool, Cell, Closed, FrameChange, Function, List}
-use Rattle.sc_emit_relation.proofs.Common.{LiveAt, Opened, Option, Some, State as Meant, Value, [], ap, arith, begun}
-use Rattle.sc_emit_relation.proofs.Common.{cases_eq, depth_after, done, ended, eq-eqb, false, if◌then◌else◌, inl, inr}
-use Rattle.sc_emit_relation.proofs.Common.{length, ne_eqb, refl, same_Some, slice_get, stack_depth, suc, sym, true}
-use Rattle.sc_emit_relation.proofs.Common.{with_blocks, zero, ℕ, ⊎_elim, ◌++◌, ◌+◌, ◌-◌, ◌<◌, ◌==◌, ◌∙◌, ◌∷◌, ◌≡◌, ◌≢◌}
-use Rattle.sc_emit_relation.proofs.Common.{◌≤◌, ◌⊎◌}
+use Rattle.sc_emit_relation.proofs.Common.{AllBefore, Blocks, Bool, Cell, Closed, FrameChange, Function, List, LiveAt}
+use Rattle.sc_emit_relation.proofs.Common.{Opened, State as Meant, Value, [], ap, arith, begun, cases_eq, cells_at}
+use Rattle.sc_emit_relation.proofs.Common.{depth_after, done, ended, eq-eqb, false, if◌then◌else◌, inl, inr, length}
+use Rattle.sc_emit_relation.proofs.Common.{ne_eqb, refl, stack_depth, suc, sym, true, with_blocks, zero, ℕ, ⊎_elim}
+use Rattle.sc_emit_relation.proofs.Common.{◌++◌, ◌+◌, ◌-◌, ◌<◌, ◌==◌, ◌∙◌, ◌∷◌, ◌≡◌, ◌≢◌, ◌≤◌, ◌⊎◌}
 use Rattle.sc_core.specs.Prelude.{Memory}
 use Rattle.sc_emit_relation.proofs.Access.{LivesIn}
 
@@ -13,17 +12,11 @@ pub record StillLives (blocks : Blocks) (first count b : ℕ) (cells : List Cell
   pub live : LivesIn blocks b cells
   pub other : (b < first) ⊎ (first + count ≤ b)
 
-dead_lives : (block : Block) (cells : List Cell) →
-    ◌≡◌ {A = Option Block} (Some (record block { live = false })) (Some (record { live = true; cells = cells })) → ⊥
-dead_lives block cells h =
-    let e : record block { live = false } ≡ record { live = true; cells = cells } = same_Some _ _ h in
-    let clash : false ≡ true = ap (λ (b : Block). b.live) e in cc clash
-
 pub still_lives : (first count : ℕ) (blocks : Blocks) (b : ℕ) (cells : List Cell) →
     LivesIn (ended first count blocks) b cells → StillLives blocks first count b cells
 still_lives zero zero blocks b cells h = record { live = h; other = inr (omega arith) }
 still_lives zero (suc count) [] b cells h = cc h
-still_lives zero (suc count) (x ∷ xs) zero cells h = absurd (dead_lives x cells h)
+still_lives zero (suc count) (x ∷ xs) zero cells h = cc h
 still_lives zero (suc count) (x ∷ xs) (suc b) cells h =
     let r : StillLives xs zero count b cells = still_lives zero count xs b cells h in
     record { live = r.live; other = ⊎_elim (λ l. absurd (omega (arith, l))) (λ l. inr (omega (arith, l))) r.other }
@@ -59,11 +52,11 @@ module _ (c first count : ℕ) (memory : Memory) where
       LivesOn k b cells
   lives_on k b cells h = ⊎_elim
       (λ e. (let r : StillLives (memory c) first count b cells =
-      still_lives first count (memory c) b cells (sym (ap (λ bs. slice_get bs b) (closed_here k e)) ∙ h) in
+      still_lives first count (memory c) b cells (sym (ap (λ bs. cells_at bs b) (closed_here k e)) ∙ h) in
       let back : LivesOn k b cells =
-      record { live = ap (λ k. slice_get (memory k) b) e ∙ r.live; other = λ same. r.other } in back))
+      record { live = ap (λ k. cells_at (memory k) b) e ∙ r.live; other = λ same. r.other } in back))
       (λ n. (let back : LivesOn k b cells = record {
-        live = sym (ap (λ bs. slice_get bs b) (closed_there k n)) ∙ h;
+        live = sym (ap (λ bs. cells_at bs b) (closed_there k n)) ∙ h;
         other = λ same. absurd (n same);
       } in back)) (cases_eq k c)
 

@@ -1,20 +1,19 @@
 -- What comes of a call of a function, from what comes of its body; and of one whose frame goes below the stack.
-use Rattle.sc_emit_relation.proofs.Common.{All, Begins, Emits, FrameFits, FrameTree, Function, FunctionGives, Grown}
-use Rattle.sc_emit_relation.proofs.Common.{IsFrame, IsWellFormed, IsWord, Joint, List, Memory as Bytes, Option}
-use Rattle.sc_emit_relation.proofs.Common.{Overflows, Piece, Place, Plan, Reached, Registers, Returns, Running, Set}
-use Rattle.sc_emit_relation.proofs.Common.{Setting, Some, Standpoint, State as Meant, Stopped, Traps, Value, Walks}
-use Rattle.sc_emit_relation.proofs.Common.{and_then, ap, arith, begun, data_start, done, done_goes, inl, inr, last}
-use Rattle.sc_emit_relation.proofs.Common.{length, machine, more, reached, seen_from, slice_get, stack_depth}
-use Rattle.sc_emit_relation.proofs.Common.{stack_size, step, subst, sym, then_from, then_go, ℕ, ⊎_elim, ◌+◌, ◌<◌, ◌∙◌}
-use Rattle.sc_emit_relation.proofs.Common.{◌≡◌, ◌≤◌, ◌⊎◌}
-use Rattle.sc_image.specs.Prelude.{State}
+use Rattle.sc_emit_relation.proofs.Common.{All, Begins, ByteMemory as Bytes, Emits, FrameFits, FrameTree, Function}
+use Rattle.sc_emit_relation.proofs.Common.{FunctionGives, Grown, IsFrame, IsWellFormed, IsWord, Joint, List, Option}
+use Rattle.sc_emit_relation.proofs.Common.{Overflows, Piece, Place, Plan, Reached, Registers, Returns, Running, Setting}
+use Rattle.sc_emit_relation.proofs.Common.{Some, Standpoint, State as Meant, Stopped, Traps, Value, Walks, and_then, ap}
+use Rattle.sc_emit_relation.proofs.Common.{arith, begun, data_start, done, done_goes, inl, inr, last, length, machine}
+use Rattle.sc_emit_relation.proofs.Common.{more, reached, seen_from, slice_get, stack_depth, stack_size, step, subst}
+use Rattle.sc_emit_relation.proofs.Common.{sym, then_from, then_go, ℕ, ⊎_elim, ◌+◌, ◌<◌, ◌∙◌, ◌≡◌, ◌≤◌, ◌⊎◌}
+use Rattle.sc_image.specs.Prelude.{MachineState}
 use Rattle.sc_emit_hart.specs.Prelude.{LacksRoom, TakesLast}
 use Rattle.sc_base.specs.declared.stop.TrapReason.TheVariants.{Owner}
 use Rattle.sc_emit_relation.proofs.Ending.{timed_opened}
 use Rattle.sc_emit_relation.proofs.Calling.{activated, entered, Enters, is_left, too_deep}
 
-module _ (T : Setting) (formed : IsWellFormed T.image) (inputs : All IsWord T.inputs) (P : Standpoint) (f : Function)
-    (args : List Value) (address ra_is : ℕ) (x : Joint) (begins : Begins T P f args address ra_is x) where
+module _ (T : Setting) (formed : IsWellFormed T.image) (inputs : All IsWord T.inputs) {P : Standpoint} {f : Function}
+    {args : List Value} {address ra_is : ℕ} {x : Joint} (begins : Begins T P f args address ra_is x) where
   abbrev first : ℕ
   first = length (x.meant.memory P.comp)
 
@@ -23,8 +22,8 @@ module _ (T : Setting) (formed : IsWellFormed T.image) (inputs : All IsWord T.in
   with_end piece = and_then piece (λ v t. Reached v (done P.comp f first t))
 
   -- The frame doesn't fit: the machine stands trapped in the prologue.
-  pub overflows_entering : (frame : FrameTree) (steps budget : ℕ) (stands : State) (piece : Piece (Option Value)) →
-      frame.bytes ≤ f.frame_size → P.bound < data_start P.comp + frame.bytes →
+  pub overflows_entering : (frame : FrameTree) (steps budget : ℕ) (stands : MachineState)
+      (piece : Piece (Option Value)) → frame.bytes ≤ f.frame_size → P.bound < data_start P.comp + frame.bytes →
       Walks T.image T.inputs steps (machine P x) stands → step T.image T.inputs stands ≡ Traps Owner →
       (lacks : LacksRoom T.image stands) → TakesLast T.image lacks.bytes stands →
       stands.active ≡ P.comp → stands.trace ≡ x.meant.trace → steps ≤ budget →
@@ -40,19 +39,16 @@ module _ (T : Setting) (formed : IsWellFormed T.image) (inputs : All IsWord T.in
     begun = begun P.comp f args x.meant;
     trace = trace;
     deep = subst (λ c. stack_size < stack_depth c (begun P.comp f args x.meant)) (sym active)
-        (too_deep T formed inputs P f args address ra_is x begins frame roomy low);
+        (too_deep T formed inputs begins frame roomy low);
     timed = timed_opened (length x.meant.trace) P.comp f.frame_size x.meant.frames begins.settled.timed;
     grown = grown;
     costs = record { least = omega arith; most = λ all. omega (arith, few) };
   }
 
-  module _ (frame : FrameTree) (places : List Place) (nodes low : ℕ) (whole : IsFrame frame)
+  module _ {frame : FrameTree} {places : List Place} {nodes : ℕ} (low : ℕ) (whole : IsFrame frame)
       (frame_fits : FrameFits f.cells places nodes frame) (roomy : frame.bytes ≤ f.frame_size)
       (bound_is : P.bound ≡ low + frame.bytes) (start : data_start P.comp ≤ low) (n pc : ℕ) (regs : Registers)
-      (bytes : Bytes)
-      (enters : Enters T formed inputs P f args address ra_is x begins frame places nodes low whole frame_fits roomy
-      bound_is
-      start n pc regs bytes)
+      (bytes : Bytes) (enters : Enters T formed inputs begins low whole frame_fits roomy bound_is start n pc regs bytes)
       (params : (o n : ℕ) → o < length args → slice_get f.cells o ≡ Some n → 1 ≤ n) (to : ℕ) (plan : Plan) where
     abbrev y : Joint
     y = entered P x f args frame low pc regs bytes
@@ -80,8 +76,7 @@ module _ (T : Setting) (formed : IsWellFormed T.image) (inputs : All IsWord T.in
     gives_entered : (budget : ℕ) (piece : Piece (Option Value)) → BodyGives budget piece →
         FunctionGives T P x (n + budget) ra_is (with_end piece)
     gives_entered budget (Reached v s) g =
-        is_left T formed inputs P f args address ra_is x begins frame places nodes low whole frame_fits roomy bound_is
-        start n
+        is_left T formed inputs begins low whole frame_fits roomy bound_is start n
         pc regs bytes enters params plan to budget v s g
     gives_entered budget (Stopped end s) g = emits_entered budget s g
 

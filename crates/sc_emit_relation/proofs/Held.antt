@@ -1,7 +1,8 @@
 -- The frame of the running call and the values in its places, across what code does.
 use Rattle.sc_emit_relation.proofs.Common.{Activation, Apart, AreInPlace, FrameFits, FrameMatches, Guarded, ImageParts}
-use Rattle.sc_emit_relation.proofs.Common.{InPlace, InSlot, Injection, IsClear, IsInPlace, List, Means, Memory as Bytes}
-use Rattle.sc_emit_relation.proofs.Common.{Null, Option, Place, Point, Ptr, Register, Registers, Set, Slot, Some}
+use Rattle.sc_emit_relation.proofs.Common.{InPlace, InSlot, Injection, IsClear, IsInPlace, List, Means}
+use Rattle.sc_emit_relation.proofs.Common.{ByteMemory as Bytes}
+use Rattle.sc_emit_relation.proofs.Common.{Null, Option, Place, Point, Ptr, Register, Registers, TempSet, Slot, Some}
 use Rattle.sc_emit_relation.proofs.Common.{StandsFor, Temps, Value, Word, ap, apart_from, arith, cases_eq, eq-eqb}
 use Rattle.sc_emit_relation.proofs.Common.{ne_eqb, no_temps, own_words, put_word, refl, register_of, same_Some}
 use Rattle.sc_emit_relation.proofs.Common.{slice_get, subst, suc, sym, true, with_temp, word, word_apart, ℕ, ⊎_elim}
@@ -97,7 +98,7 @@ module _ (A : Activation) where
   module _ (places : List Place) (inj more : Injection) (regs after : Registers) (bytes later : Bytes)
       (grows : Grows (inj A.here.comp) (more A.here.comp)) where
     -- what is live afterwards was live, and its places are as they were
-    pub held_kept : (live less : Set) (temps : Temps) → ((t : ℕ) → less t ≡ true → live t ≡ true) →
+    pub held_kept : (live less : TempSet) (temps : Temps) → ((t : ℕ) → less t ≡ true → live t ≡ true) →
         ((t : ℕ) (place : Place) → less t ≡ true → slice_get places t ≡ Some place →
         PlaceKept regs after bytes later place) →
         AreInPlace A places inj regs bytes live temps → AreInPlace A places more after later less temps
@@ -110,7 +111,7 @@ module _ (A : Activation) where
         }
 
     -- over a call what is live lies in slots
-    pub held_over_call : (live : Set) (x : Point) (temps : Temps) → IsClear places x → x.calls ≡ true →
+    pub held_over_call : (live : TempSet) (x : Point) (temps : Temps) → IsClear places x → x.calls ≡ true →
         ((t : ℕ) → x.live t ≡ true → live t ≡ true) →
         ((k : ℕ) → PlaceKept regs after bytes later (Slot k)) →
         AreInPlace A places inj regs bytes live temps → AreInPlace A places more after later x.live temps
@@ -121,7 +122,7 @@ module _ (A : Activation) where
         subst (PlaceKept regs after bytes later) same (slots slot.0))) h
 
     -- a temporary is assigned at a clear point: its value is in its place, and each other place is as it was
-    pub held_assigned : (live : Set) (x : Point) (d : ℕ) (place : Place) (v : Value) (temps : Temps) →
+    pub held_assigned : (live : TempSet) (x : Point) (d : ℕ) (place : Place) (v : Value) (temps : Temps) →
         IsClear places x → x.assigned ≡ Some d → slice_get places d ≡ Some place →
         ((t : ℕ) → x.live t ≡ true → t ≢ d → live t ≡ true) →
         ((other : Place) → other ≢ place → PlaceKept regs after bytes later other) →
@@ -153,6 +154,6 @@ module _ (A : Activation) where
             }
 
   -- where a function begins no temporary is assigned
-  pub held_at_entry : (places : List Place) (inj : Injection) (regs : Registers) (bytes : Bytes) (live : Set) →
+  pub held_at_entry : (places : List Place) (inj : Injection) (regs : Registers) (bytes : Bytes) (live : TempSet) →
       AreInPlace A places inj regs bytes live no_temps
   held_at_entry places inj regs bytes live t v on e = cc e

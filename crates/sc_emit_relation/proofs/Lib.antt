@@ -1,5 +1,6 @@
 pub mod Common
 pub mod Access
+pub mod Assigning
 pub mod Calling
 pub mod Clear
 pub mod Coming
@@ -19,6 +20,7 @@ pub mod Registers
 pub mod Rotated
 pub mod Rounds
 pub mod Rows
+pub mod Running
 pub mod Settling
 pub mod Storing
 pub mod Straight

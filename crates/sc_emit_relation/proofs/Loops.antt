@@ -1,27 +1,28 @@
 -- Loops.
 use Rattle.sc_emit_relation.proofs.Common.{All, Arrives, Break, Codes, Comes, Continue, Ends, Exit, ExitGives, Fetches}
-use Rattle.sc_emit_relation.proofs.Common.{Follows, Gives, IsClear, IsWellFormed, IsWord, Jal, Joint, Leads, Left, Line}
-use Rattle.sc_emit_relation.proofs.Common.{List, Lives, Next, None, Piece, Reached, Ready, Return, Running, Set}
-use Rattle.sc_emit_relation.proofs.Common.{Setting, Settled, Standpoint, StandsAt, Starts, Stopped, Temps, Trail, Walks}
-use Rattle.sc_emit_relation.proofs.Common.{[], add_word, ap, arith, code_inside, cycle, ends_of, follow, in_body}
-use Rattle.sc_emit_relation.proofs.Common.{in_head, in_loop, inl, is_some, jump_back, length, length-append}
-use Rattle.sc_emit_relation.proofs.Common.{live_at_start, live_before, loop, loop_points, low_after, machine, neg_ℤ}
-use Rattle.sc_emit_relation.proofs.Common.{op_imm, pos, refl, rounds, row, seen_from, subst, suc, sym, take, trail_step}
-use Rattle.sc_emit_relation.proofs.Common.{word_of, zero, ℕ, ⊎_elim, ◌*◌, ◌++◌, ◌+◌, ◌∙◌, ◌∷◌, ◌≡◌, ◌≤◌}
+use Rattle.sc_emit_relation.proofs.Common.{Follows, Gives, IsClear, Jal, Joint, Leads, Left, Line, List, Lives, Next}
+use Rattle.sc_emit_relation.proofs.Common.{None, Piece, Reached, Ready, Return, Running, Setting, Settled, Standpoint}
+use Rattle.sc_emit_relation.proofs.Common.{StandsAt, Starts, Stopped, TempSet, Temps, Trail, Walks, [], add_word, ap}
+use Rattle.sc_emit_relation.proofs.Common.{arith, code_inside, cycle, ends_of, follow, in_body, in_head, in_loop, inl}
+use Rattle.sc_emit_relation.proofs.Common.{is_some, jump_back, length, length-append, live_at_start, live_before, loop}
+use Rattle.sc_emit_relation.proofs.Common.{loop_points, low_after, machine, neg_ℤ, op_imm, pos, refl, rounds, row}
+use Rattle.sc_emit_relation.proofs.Common.{seen_from, subst, suc, sym, take, trail_step, word_of, zero, ℕ, ⊎_elim, ◌*◌}
+use Rattle.sc_emit_relation.proofs.Common.{◌++◌, ◌+◌, ◌∙◌, ◌∷◌, ◌≡◌, ◌≤◌}
 use Rattle.sc_emit_select.specs.Prelude.{Piece as Code}
 use Rattle.rv_code.specs.declared.instr.Instr.TheVariants.{OpImm}
 use Rattle.rv_code.specs.declared.instr.OpImmOp.TheVariants.{Addi}
 use Rattle.sc_tac.specs.declared.stmt.TacStmt.TheOpen as tac
-use Rattle.sc_emit_relation.proofs.Jumps.{HasNoGap, back_to, jumps, jumps_once, ready_at}
+use Rattle.sc_emit_relation.proofs.Jumps.{back_to, jumps, jumps_once, ready_at}
 use Rattle.sc_emit_relation.proofs.Lines.{InParts, in_parts, low_append}
 use Rattle.sc_emit_relation.proofs.Rounds.{Round, past_head, clear_head, head_live, head_overflows, ready_less}
 use Rattle.sc_emit_relation.proofs.Rounds.{rounds_goes, turned}
 use Rattle.sc_emit_relation.proofs.Stretches.{arrives_with, comes_after, effect_still, leads_then, leads_then_steps}
 use Rattle.sc_emit_relation.proofs.Stretches.{emits_after, emits_here}
+use Rattle.sc_emit_relation.proofs.Running.{IsRunning}
 
-module _ (T : Setting) (R : Running) (formed : IsWellFormed T.image) (words : All IsWord T.inputs)
+module _ {T : Setting} {R : Running} (valid : IsRunning T R)
     (head body next : Codes) (h b n : Code) (hs bs ns : List Trail) (H : Follows T R head h (row hs))
-    (B : Follows T R body b (row bs)) (N : Follows T R next n (row ns)) (gapless : HasNoGap T R) where
+    (B : Follows T R body b (row bs)) (N : Follows T R next n (row ns)) where
   abbrev whole : Code
   whole = cycle R.activation.frame R.places h b n
 
@@ -82,7 +83,7 @@ module _ (T : Setting) (R : Running) (formed : IsWellFormed T.image) (words : Al
       abbrev W : ℕ
       W = T.turn_pays
 
-      abbrev begin : Set
+      abbrev begin : TempSet
       begin = live_at_start hs bs ns lives
 
       abbrev ends : Ends
@@ -126,10 +127,10 @@ module _ (T : Setting) (R : Running) (formed : IsWellFormed T.image) (words : Al
       again : (k : ℕ) → Rounds k → (temps : Temps) (u : Joint) → Ready T R begin temps u → u.pc ≡ back_pc L →
           Goal u (1 + (left + W)) (rounds k head body next temps u.meant)
       again k more temps u ready place =
-          let first = code_inside T.image formed comp L code.first.word code.first.fetched in
-          let there = gapless L (L + 4) (ap is_some code.first.fetched) (omega arith) (omega (arith, breaks))
+          let first = code_inside T.image valid.formed comp L code.first.word code.first.fetched in
+          let there = valid.gapless L (L + 4) (ap is_some code.first.fetched) (omega arith) (omega (arith, breaks))
           (omega (arith, first.aligned)) in
-          let from = code_inside T.image formed comp (back_pc L) code.back.word code.back.fetched in
+          let from = code_inside T.image valid.formed comp (back_pc L) code.back.word code.back.fetched in
           let target : add_word (back_pc L) (word_of (neg_ℤ (pos (4 * back_lines)))) ≡ L + 4 =
           back_to (back_pc L) back_lines (omega arith) (omega (arith, from.low)) ∙ omega arith in
           let jump : Fetches T.image comp u.pc (Jal 0 (neg_ℤ (pos (4 * back_lines)))) =
@@ -138,10 +139,10 @@ module _ (T : Setting) (R : Running) (formed : IsWellFormed T.image) (words : Al
           subst (λ pc. add_word pc (word_of (neg_ℤ (pos (4 * back_lines)))) ≡ L + 4) (sym place) target in
           let paid : suc (h.size + head_left) ≤ 1 + (left + W) = omega (arith, pays) in
           more temps u (1 + (left + W)) ready
-          (jumps T formed P u (neg_ℤ (pos (4 * back_lines))) (L + 4) there.0 (1 + (left + W)) (h.size + head_left) jump
-          leads there.1 paid)
-          (jumps_once T formed P u (neg_ℤ (pos (4 * back_lines))) (L + 4) there.0 (1 + (left + W)) (h.size + head_left)
-          jump leads there.1 paid)
+          (jumps T valid.formed P u (neg_ℤ (pos (4 * back_lines))) (L + 4) there.0 (1 + (left + W))
+          (h.size + head_left) jump leads there.1 paid)
+          (jumps_once T valid.formed P u (neg_ℤ (pos (4 * back_lines))) (L + 4) there.0 (1 + (left + W))
+          (h.size + head_left) jump leads there.1 paid)
 
       abbrev head_ends : Ends
       head_ends = record { left = head_left; following = body_pc L; broken = ends.following; continued = body_pc L }
@@ -199,7 +200,7 @@ module _ (T : Setting) (R : Running) (formed : IsWellFormed T.image) (words : Al
           let starts : Starts T R h (row hs) (in_head hs bs ns lives) temps y (b.size + suc n.size) 0 = record {
             ready =
                 ready_less T R begin (live_before hs (in_head hs bs ns lives)) temps y (head_live hs bs ns lives)
-                (ready_at T R formed words gapless begin temps x y.pc budget (h.size + head_left) leads ready);
+                (ready_at valid begin temps x y.pc budget (h.size + head_left) leads ready);
             clear = clear_head R.places hs bs ns lives clear;
             stands = code.of_head;
             breaks = omega (arith, breaks);

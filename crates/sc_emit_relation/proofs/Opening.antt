@@ -1,16 +1,17 @@
 -- A call begins: its blocks, their places in its frame, and how the bytes stand for all blocks then.
-use Rattle.sc_emit_relation.proofs.Common.{Block, BlocksMatch, Bool, Cell, FrameFits, FrameTree, Guarded, ImageParts}
-use Rattle.sc_emit_relation.proofs.Common.{InCell, Injection, IsFrame, IsWellFormed, List, LiveAt, Memory as Bytes}
-use Rattle.sc_emit_relation.proofs.Common.{None, Option, Owned, Place, Placed, Some, StandsFor, Value, [], all_at, ap}
-use Rattle.sc_emit_relation.proofs.Common.{arith, blocks_for, cases_eq, cases_lt, cases_order, cell_of, data_start}
-use Rattle.sc_emit_relation.proofs.Common.{eq-eqb, false, few_globals, get_prefix, if◌then◌else◌, inl, inr, le-leb}
-use Rattle.sc_emit_relation.proofs.Common.{length, length-append, lt-leb, nat_eq, nat_le, ne_eqb, own_words, put, refl}
-use Rattle.sc_emit_relation.proofs.Common.{replicate, same_Some, slice_get, slice_get_within, stack_top, subst, suc}
-use Rattle.sc_emit_relation.proofs.Common.{sym, true, with_blocks, word, zero, ℕ, ⊎_elim, ◌%◌, ◌&&◌, ◌*◌, ◌++◌, ◌+◌}
-use Rattle.sc_emit_relation.proofs.Common.{◌-◌, ◌<◌, ◌∙◌, ◌∷◌, ◌≡◌, ◌≢◌, ◌≤◌, ◌⊎◌}
+use Rattle.sc_emit_relation.proofs.Common.{Block, BlocksMatch, Bool, ByteMemory as Bytes, Cell, FrameFits, FrameTree}
+use Rattle.sc_emit_relation.proofs.Common.{Guarded, ImageParts, InCell, Injection, IsFrame, IsWellFormed, List, LiveAt}
+use Rattle.sc_emit_relation.proofs.Common.{None, Ok, Option, Owned, Place, Placed, Some, StandsFor, Value, [], all_at}
+use Rattle.sc_emit_relation.proofs.Common.{ap, arith, blocks_for, cases_eq, cases_lt, cases_order, cell_of, cells_at}
+use Rattle.sc_emit_relation.proofs.Common.{data_start, eq-eqb, false, few_globals, get_prefix, if◌then◌else◌, inl, inr}
+use Rattle.sc_emit_relation.proofs.Common.{le-leb, length, length-append, live_cells, lt-leb, nat_eq, nat_le, ne_eqb}
+use Rattle.sc_emit_relation.proofs.Common.{own_words, put, refl, replicate, same_Some, slice_get, slice_get_within}
+use Rattle.sc_emit_relation.proofs.Common.{stack_top, subst, suc, sym, variable, with_blocks, word, zero, ℕ, ⊎_elim}
+use Rattle.sc_emit_relation.proofs.Common.{◌%◌, ◌&&◌, ◌*◌, ◌++◌, ◌+◌, ◌-◌, ◌<◌, ◌∙◌, ◌∷◌, ◌≡◌, ◌≢◌, ◌≤◌, ◌⊎◌}
 use Rattle.sc_core.specs.Prelude.{Memory}
 use Rattle.std.specs.Option.{option_map}
 use Rattle.sc_core.specs.declared.value.Cell.TheVariants as cell
+use Rattle.sc_emit_relation.proofs.Access.{LivingBlock, living_block}
 use Rattle.sc_emit_relation.proofs.Frames.{get_back, own_inside, object_there, object_inside, objects_apart, own_beside}
 use Rattle.sc_emit_relation.proofs.Held.{Grows, stands_more}
 use Rattle.sc_emit_relation.proofs.Storing.{in_cell, block_owned}
@@ -35,7 +36,7 @@ new_block : (cells : List ℕ) (args : List Value) (o : ℕ) (block : Block) →
     slice_get (blocks_for cells args) o ≡ Some block → New cells args o block
 new_block [] args o block h = cc h
 new_block (n ∷ cells) [] zero block h =
-    let e : record { live = true; cells = replicate n cell.Undef } ≡ block = same_Some _ block h in
+    let e : variable (replicate n cell.Undef) ≡ block = same_Some _ block h in
     record { size = n; its = refl; holds = inr (sym (ap (λ b. b.cells) e)) }
 new_block (n ∷ cells) [] (suc o) block h =
     let r : New cells [] o block = new_block cells [] o block h in
@@ -45,7 +46,7 @@ new_block (n ∷ cells) [] (suc o) block h =
       holds = ⊎_elim (λ p. (let none : ◌≡◌ {A = Option Value} None (Some p.0) = p.1 in cc none)) (λ q. inr q) r.holds;
     }
 new_block (n ∷ cells) (v ∷ args) zero block h =
-    let e : record { live = true; cells = cell_of v ∷ [] } ≡ block = same_Some _ block h in
+    let e : variable (cell_of v ∷ []) ≡ block = same_Some _ block h in
     record { size = n; its = refl; holds = inl (v, refl, sym (ap (λ b. b.cells) e)) }
 new_block (n ∷ cells) (v ∷ args) (suc o) block h =
     let r : New cells args o block = new_block cells args o block h in
@@ -134,23 +135,26 @@ module _ (image : ImageParts) (performs : ℕ → Bool) (floor : ℕ → ℕ) (i
 
   origin_here : (k b : ℕ) (xs : List Cell) → LiveAt opened k b xs → k ≡ c → Origin k b xs
   origin_here k b xs h e =
-      let block : Block = record { live = true; cells = xs } in
-      let now : slice_get (memory c ++ blocks_for cells args) b ≡ Some block =
-      sym (ap (λ bs. slice_get bs b) (opened_here k e)) ∙ h in
+      let now : cells_at (memory c ++ blocks_for cells args) b ≡ Ok xs =
+      sym (ap (λ bs. cells_at bs b) (opened_here k e)) ∙ h in
       ⊎_elim
-      (λ l. Old (ap (λ k. slice_get (memory k) b) e ∙ sym (get_prefix (memory c) (blocks_for cells args) b l) ∙ now)
+      (λ l. Old (ap (λ k. cells_at (memory k) b) e ∙
+      sym (ap live_cells (get_prefix (memory c) (blocks_for cells args) b l)) ∙ now)
       (injection_old k b (λ e. l)))
       (λ past. (let place : first + (b - first) ≡ b = omega (arith, past) in
-      let got : slice_get (blocks_for cells args) (b - first) ≡ Some block =
+      let found : LivingBlock (memory c ++ blocks_for cells args) b xs =
+      living_block (memory c ++ blocks_for cells args) b xs now in
+      let got : slice_get (blocks_for cells args) (b - first) ≡ Some found.block =
       sym (get_back (memory c) (blocks_for cells args) (b - first)) ∙
-      ap (slice_get (memory c ++ blocks_for cells args)) place ∙ now in
-      Fresh (b - first) block e (sym place) (new_block cells args (b - first) block got) refl))
+      ap (slice_get (memory c ++ blocks_for cells args)) place ∙ found.at in
+      Fresh (b - first) found.block e (sym place) (new_block cells args (b - first) found.block got)
+      (sym found.its)))
       (cases_lt b first)
 
   origin : (k b : ℕ) (xs : List Cell) → LiveAt opened k b xs → Origin k b xs
   origin k b xs h =
       ⊎_elim (origin_here k b xs h)
-      (λ n. Old (sym (ap (λ bs. slice_get bs b) (opened_there k n)) ∙ h) (injection_old k b (λ e. absurd (n e))))
+      (λ n. Old (sym (ap (λ bs. cells_at bs b) (opened_there k n)) ∙ h) (injection_old k b (λ e. absurd (n e))))
       (cases_eq k c)
 
   -- an old block that lives afterwards lived before
@@ -221,7 +225,7 @@ module _ (image : ImageParts) (performs : ℕ → Bool) (floor : ℕ → ℕ) (i
         (λ same. inr (let above : floor k ≤ a = (blocks.placed k b a xs s live e).above in
         let floors : floor k ≡ floor c = ap floor same in omega (arith, above, floors, ready.floor_is)))
         (λ n. other_range image k c (a + 4 * i) low frame.bytes formed n
-        (block_owned image formed performs floor inj memory bytes blocks k b a i xs s live e l) ready.start
+        (block_owned formed blocks k b a i xs s live e l) ready.start
         (omega (arith, ready.floor_is, ready.high))) (cases_eq k c))
 
     old_above : (k b a : ℕ) (xs : List Cell) → performs k ≡ false → k ≡ c → LiveAt memory k b xs → inj k b ≡ Some a →
@@ -371,6 +375,7 @@ module _ (image : ImageParts) (performs : ℕ → Bool) (floor : ℕ → ℕ) (i
         low = omega (arith, ready.start);
         high = omega (arith, ready.floor_is, ready.high, own_inside cells places nodes frame frame_fits i u e);
       };
+      below = omega (arith, ready.floor_is, ready.high, own_inside cells places nodes frame frame_fits i u e);
       free = λ b a xs live is_at. own_free i u b a xs s e (origin c b xs live) is_at;
     }
 
@@ -387,6 +392,7 @@ module _ (image : ImageParts) (performs : ℕ → Bool) (floor : ℕ → ℕ) (i
         Guarded image more opened k q
     above_guarded k q g above = record {
       owned = g.owned;
+      below = g.below;
       free = λ b a xs live is_at. above_free k q b a xs g above (origin k b xs live) is_at;
     }
 

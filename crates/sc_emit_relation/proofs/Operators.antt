@@ -1,7 +1,7 @@
 -- The word that an operator's code computes stands for the operator's value.
-use Rattle.sc_emit_relation.proofs.Common.{BadPointer, BadType, BlocksMatch, Bool, Cause, Cell, Err, ImageParts}
-use Rattle.sc_emit_relation.proofs.Common.{Injection, IsAddress, IsElement, IsSound, IsWellFormed, List, LiveAt, Means}
-use Rattle.sc_emit_relation.proofs.Common.{Memory as Bytes, Null, Ok, Option, Pointer, Ptr, Result, Some, StandsFor}
+use Rattle.sc_emit_relation.proofs.Common.{BadPointer, BadType, BlocksMatch, Bool, ByteMemory as Bytes, Cause, Cell}
+use Rattle.sc_emit_relation.proofs.Common.{Err, ImageParts, Injection, IsAddress, IsElement, IsSound, IsWellFormed}
+use Rattle.sc_emit_relation.proofs.Common.{List, LiveAt, Means, Null, Ok, Option, Pointer, Ptr, Result, Some, StandsFor}
 use Rattle.sc_emit_relation.proofs.Common.{Value, Word, add_word, ap, apart, applied_one, ap₂, arith, between, bind}
 use Rattle.sc_emit_relation.proofs.Common.{bytes_of, data_end, div_word, eq-eqb, eqb-true, false, few_globals}
 use Rattle.sc_emit_relation.proofs.Common.{if◌then◌else◌, in_elements, int_div, int_rem, is_comparison, is_inside}
@@ -80,8 +80,8 @@ module _ (place : ℕ → Option ℕ) where
   binary_means unsigned o (Ptr p) w r a b is its h = cc h
 
 -- Pointers.
-module _ (image : ImageParts) (formed : IsWellFormed image) (performs : ℕ → Bool) (floor : ℕ → ℕ) (inj : Injection)
-    (memory : Memory) (bytes : Bytes) (matches : BlocksMatch image performs floor inj memory bytes) (comp : ℕ)
+module _ {image : ImageParts} (formed : IsWellFormed image) {performs : ℕ → Bool} {floor : ℕ → ℕ} {inj : Injection}
+    {memory : Memory} {bytes : Bytes} (matches : BlocksMatch image performs floor inj memory bytes) {comp : ℕ}
     (honest : performs comp ≡ false) (known : comp < 32) where
   -- where a place is
 

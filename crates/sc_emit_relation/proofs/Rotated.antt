@@ -1,22 +1,23 @@
 -- Loops that end with their head, and that with its test.
 use Rattle.sc_emit_relation.proofs.Common.{All, Arrives, Bool, Break, CodeAt, Codes, Comes, Continue, Emits, Ends, Exit}
-use Rattle.sc_emit_relation.proofs.Common.{Fetches, Follows, Goes, Instr, IsClear, IsWellFormed, IsWord, Jal, Joint}
-use Rattle.sc_emit_relation.proofs.Common.{Left, Line, List, Lives, Next, None, Overflows, Piece, Reached, Ready}
-use Rattle.sc_emit_relation.proofs.Common.{Return, Returns, Running, Set, Setting, Settled, Some, Standpoint, StandsAt}
-use Rattle.sc_emit_relation.proofs.Common.{State as Meant, Stopped, Temps, Trail, [], ap, arith, branch_back}
-use Rattle.sc_emit_relation.proofs.Common.{branch_reach, code_inside, completed, ends_of, false, first_scratch, follow}
-use Rattle.sc_emit_relation.proofs.Common.{in_body, in_head, in_loop, inl, is_some, length, length-append, length-map}
-use Rattle.sc_emit_relation.proofs.Common.{live_at_start, live_before, loop, loop_points, low_after, nat_lt, plain}
-use Rattle.sc_emit_relation.proofs.Common.{plainly, pos, refl, rotated, rounds, row, row_points, seen_from, subst, suc}
-use Rattle.sc_emit_relation.proofs.Common.{sym, take as onward, testing, trail_step, true, word_at, zero, ℕ, ⊎_elim}
-use Rattle.sc_emit_relation.proofs.Common.{◌*◌, ◌++◌, ◌+◌, ◌∙◌, ◌∷◌, ◌≡◌, ◌≤◌, ◌⊎◌}
+use Rattle.sc_emit_relation.proofs.Common.{Fetches, Follows, Goes, Instr, IsClear, Jal, Joint, Left, Line, List, Lives}
+use Rattle.sc_emit_relation.proofs.Common.{Next, None, Overflows, Piece, Reached, Ready, Return, Returns, Running}
+use Rattle.sc_emit_relation.proofs.Common.{Setting, Settled, Some, Standpoint, StandsAt, State as Meant, Stopped}
+use Rattle.sc_emit_relation.proofs.Common.{TempSet, Temps, Trail, [], ap, arith, branch_back, branch_reach, code_inside}
+use Rattle.sc_emit_relation.proofs.Common.{completed, ends_of, false, first_scratch, follow, in_body, in_head, in_loop}
+use Rattle.sc_emit_relation.proofs.Common.{inl, is_some, length, length-append, length-map, live_at_start, live_before}
+use Rattle.sc_emit_relation.proofs.Common.{loop, loop_points, low_after, nat_lt, plain, plainly, pos, refl, rotated}
+use Rattle.sc_emit_relation.proofs.Common.{rounds, row, row_points, seen_from, subst, suc, sym, take as onward, testing}
+use Rattle.sc_emit_relation.proofs.Common.{trail_step, true, word_at, zero, ℕ, ⊎_elim, ◌*◌, ◌++◌, ◌+◌, ◌∙◌, ◌∷◌, ◌≡◌}
+use Rattle.sc_emit_relation.proofs.Common.{◌≤◌, ◌⊎◌}
 use Rattle.sc_emit_select.specs.Prelude.{Piece as Code, take}
 use Rattle.sc_tac.specs.declared.stmt.TacStmt.TheOpen as tac
-use Rattle.sc_emit_relation.proofs.Jumps.{HasNoGap, over}
+use Rattle.sc_emit_relation.proofs.Jumps.{over}
 use Rattle.sc_emit_relation.proofs.Lines.{InParts, in_parts, low_append, low_plainly}
 use Rattle.sc_emit_relation.proofs.Rounds.{Round, past_head, clear_head, head_live, head_overflows, ready_less}
 use Rattle.sc_emit_relation.proofs.Rounds.{rounds_goes, turned}
 use Rattle.sc_emit_relation.proofs.Stretches.{arrives_with, comes_after, emits_here}
+use Rattle.sc_emit_relation.proofs.Running.{IsRunning}
 
 module _ (T : Setting) (R : Running) where
   -- the code comes to this place, and a step of it isn't paid for by turns that are over
@@ -69,10 +70,10 @@ module _ (T : Setting) (R : Running) where
             continued = body_pc;
           }) (head temps x.meant)
 
-module _ (T : Setting) (R : Running) (formed : IsWellFormed T.image) (words : All IsWord T.inputs) (cond : ℕ)
+module _ {T : Setting} {R : Running} (valid : IsRunning T R) (cond : ℕ)
     (head body next : Codes) (i b n : Code) (hs bs ns : List Trail)
     (H : HeadFollows T R cond head i hs (b.size + n.size)) (B : Follows T R body b (row bs))
-    (N : Follows T R next n (row ns)) (gapless : HasNoGap T R) where
+    (N : Follows T R next n (row ns)) where
   abbrev whole : Code
   whole = rotated R.activation.frame R.places cond i b n
 
@@ -129,7 +130,7 @@ module _ (T : Setting) (R : Running) (formed : IsWellFormed T.image) (words : Al
   module _ (pays : whole.size ≤ T.turn_pays) (lives : Lives) (L left to_break to_continue : ℕ) (code : Parts L)
       (clear : All (IsClear R.places) (loop_points hs bs ns lives)) (breaks : L + 4 * (whole.size + to_break) ≤ R.last)
     where
-      abbrev begin : Set
+      abbrev begin : TempSet
       begin = live_at_start hs bs ns lives
 
       abbrev ends : Ends
@@ -190,8 +191,8 @@ module _ (T : Setting) (R : Running) (formed : IsWellFormed T.image) (words : Al
       rounds_follow : (k : ℕ) → Rounds k
       rounds_follow zero temps x ready place = inl (emits_here T P x budget)
       rounds_follow (suc k) temps x ready place =
-          let first = code_inside T.image formed comp L code.first.word code.first.fetched in
-          let there = gapless L (L + 4) (ap is_some code.first.fetched) (omega arith) (omega (arith, breaks))
+          let first = code_inside T.image valid.formed comp L code.first.word code.first.fetched in
+          let there = valid.gapless L (L + 4) (ap is_some code.first.fetched) (omega arith) (omega (arith, breaks))
           (omega (arith, first.aligned)) in
           let e : x.pc + 4 * (i.size + test) ≡ ends.following = omega (arith, place) in
           let lines : List Line = i.lines test 0 ++ test_lines (b.size + n.size + i.size) in
@@ -216,8 +217,7 @@ module _ (T : Setting) (R : Running) (formed : IsWellFormed T.image) (words : Al
           let g : Arrives T R begin x (whole.size + left) budget temps x.meant (head_pc L) =
           arrives_with T R begin x (suc budget) (whole.size + left) budget budget temps x.meant
           (x.pc + 4 * suc (b.size + n.size)) (head_pc L) (omega arith) (omega arith) (omega (arith, place))
-          (over T R formed words gapless begin temps x (b.size + n.size) budget ready jump
-          (omega (arith, place, breaks))) in
+          (over valid begin temps x (b.size + n.size) budget ready jump (omega (arith, place, breaks))) in
           subst (λ s. Goal x (whole.size + left) (rounds k head body next temps s)) g.meant_is
           (comes_after T R lives x g.y (whole.size + left) budget ends (rounds k head body next temps g.y.meant)
           ready.settled g.leads (rounds_follow k temps g.y g.ready g.pc_is))

@@ -2,7 +2,8 @@
 use Rattle.sc_emit_relation.proofs.Common.{All, All-tail, Arrives, Bool, Break, Codes, Comes, Continue, Does, Ends}
 use Rattle.sc_emit_relation.proofs.Common.{Exit, ExitGives, Follows, Gives, Goes, IsClear, Joint, Leads, Left, List}
 use Rattle.sc_emit_relation.proofs.Common.{Lives, Next, Overflows, Piece, Place, Point, Reached, Ready, Return, Running}
-use Rattle.sc_emit_relation.proofs.Common.{Set, Setting, Settled, Standpoint, StandsAt, Starts, Stopped, Temps, Trail}
+use Rattle.sc_emit_relation.proofs.Common.{TempSet, Setting, Settled, Standpoint, StandsAt, Starts, Stopped, Temps}
+use Rattle.sc_emit_relation.proofs.Common.{Trail}
 use Rattle.sc_emit_relation.proofs.Common.{[], ahead_at, and_then, ap, arith, ends_of, false, follow, follow_goes}
 use Rattle.sc_emit_relation.proofs.Common.{in_body, in_head, in_loop, in_next, inl, inr, live_at_start, live_before}
 use Rattle.sc_emit_relation.proofs.Common.{loop_points, no_turn, part_ahead, point, readings, refl, rounds, row}
@@ -60,7 +61,7 @@ module _ {A : Type 0} (head body next : Does A) where
 
 module _ (T : Setting) (R : Running) where
   -- less is live
-  pub ready_less : (live less : Set) (temps : Temps) (x : Joint) → ((t : ℕ) → less t ≡ true → live t ≡ true) →
+  pub ready_less : (live less : TempSet) (temps : Temps) (x : Joint) → ((t : ℕ) → less t ≡ true → live t ≡ true) →
       Ready T R live temps x → Ready T R less temps x
   ready_less live less temps x fewer ready = record {
     settled = ready.settled;
@@ -125,7 +126,7 @@ module _ (T : Setting) (R : Running) (head body next : Codes) (b n : Code) (hs b
   abbrev P : Standpoint
   P = seen_from R.activation
 
-  abbrev begin : Set
+  abbrev begin : TempSet
   begin = live_at_start hs bs ns lives
 
   module _ (ends : Ends) where

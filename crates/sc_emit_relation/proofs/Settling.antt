@@ -1,11 +1,11 @@
 -- Both sides stay settled while code of the running call changes registers and words of its frame, and across a store
 -- through a pointer; and what such a stretch leaves unchanged.
-use Rattle.sc_emit_relation.proofs.Common.{Activation, All, Apart, Blocks, FrameMatches, IsActivation, IsWellFormed}
-use Rattle.sc_emit_relation.proofs.Common.{IsWord, Joint, Leads, List, Memory as Bytes, Ok, Place, Pointer, Protected}
-use Rattle.sc_emit_relation.proofs.Common.{Ptr, Registers, Setting, Settled, Some, Standpoint, StandsFor, Value, Walks}
-use Rattle.sc_emit_relation.proofs.Common.{arith, cases_eq, false, inr, machine, own_words, put_word, refl, seen_from}
-use Rattle.sc_emit_relation.proofs.Common.{slice_get, store, walks_steady, with_memory, word, word_apart, ℕ, ⊎_elim}
-use Rattle.sc_emit_relation.proofs.Common.{◌*◌, ◌+◌, ◌≡◌, ◌≤◌}
+use Rattle.sc_emit_relation.proofs.Common.{Activation, All, Apart, Blocks, ByteMemory as Bytes, FrameMatches}
+use Rattle.sc_emit_relation.proofs.Common.{IsActivation, IsWellFormed, IsWord, Joint, Leads, List, Ok, Place, Pointer}
+use Rattle.sc_emit_relation.proofs.Common.{Protected, Ptr, Registers, Setting, Settled, Some, Standpoint, StandsFor}
+use Rattle.sc_emit_relation.proofs.Common.{Value, Walks, arith, cases_eq, false, inl, inr, machine, own_words, put_word}
+use Rattle.sc_emit_relation.proofs.Common.{refl, seen_from, slice_get, store, walks_steady, with_memory, word}
+use Rattle.sc_emit_relation.proofs.Common.{word_apart, ℕ, ⊎_elim, ◌*◌, ◌+◌, ◌≡◌, ◌≤◌}
 use Rattle.sc_emit_relation.proofs.Frames.{own_inside}
 use Rattle.sc_emit_relation.proofs.Storing.{CellsKept, other_data, blocks_kept, guarded_cells, was, guarded_kept}
 use Rattle.sc_emit_relation.proofs.Storing.{blocks_after}
@@ -25,7 +25,7 @@ module _ (T : Setting) (formed : IsWellFormed T.image) (inputs : All IsWord T.in
       CellsKept T.performs x.inj x.meant.memory x.bytes later →
       Walks T.image T.inputs n (machine P x) (machine P (moved x pc regs later)) → Settled T P (moved x pc regs later)
   settled_moved x n pc regs later s kept walks = record {
-    blocks = blocks_kept T.image formed T.performs P.floor x.inj x.meant.memory x.bytes s.blocks later kept;
+    blocks = blocks_kept formed s.blocks later kept;
     globals = s.globals;
     saved = s.saved;
     inputs = s.inputs;
@@ -46,7 +46,7 @@ module _ (T : Setting) (formed : IsWellFormed T.image) (inputs : All IsWord T.in
     costs = record { least = omega arith; most = λ all. omega arith };
     effect = record {
       grows = λ k b a e. e;
-      lived = λ k b cells s live. (cells, live, refl);
+      lived = λ k b cells s live. inl (cells, live, refl);
       keeps = kept;
       depths = λ k. refl;
     };
@@ -65,8 +65,7 @@ module _ (T : Setting) (formed : IsWellFormed T.image) (inputs : All IsWord T.in
     pub settled_stored : StandsFor (x.inj P.comp) w v →
         Walks T.image T.inputs n (machine P x) (machine P stored_at) → Settled T P stored_at
     settled_stored stands walks = record {
-      blocks = blocks_after T.image formed T.performs P.floor x.inj x.meant.memory x.bytes s.blocks P.comp a w p v after
-          honest stores is_at stands;
+      blocks = blocks_after formed s.blocks P.comp a w p v after honest stores is_at stands;
       globals = s.globals;
       saved = s.saved;
       inputs = s.inputs;
@@ -85,11 +84,9 @@ module _ (T : Setting) (formed : IsWellFormed T.image) (inputs : All IsWord T.in
       effect = record {
         grows = λ k b a e. e;
         lived = λ k b cells h live.
-            (let old = was T.image formed T.performs P.floor x.inj x.meant.memory x.bytes s.blocks P.comp a w p v after
-            honest stores is_at k b cells live in
-            (old.old, old.live, old.long));
-        keeps = λ k q g. guarded_kept T.image formed T.performs P.floor x.inj x.meant.memory x.bytes s.blocks P.comp a w
-            p v after honest stores is_at k q g.guard;
+            (let old = was formed s.blocks P.comp a w p v after honest stores is_at k b cells live in
+            inl (old.old, old.live, old.long));
+        keeps = λ k q g. guarded_kept formed s.blocks P.comp a w p v after honest stores is_at k q g.guard;
         depths = λ k. refl;
       };
     }
@@ -103,9 +100,7 @@ module _ (T : Setting) (formed : IsWellFormed T.image) (cells : List ℕ) (place
 
   pub own_cells : Settled T P x → FrameMatches T.image A x.inj x.meant.memory x.bytes →
       CellsKept T.performs x.inj x.meant.memory x.bytes (put_word x.bytes (A.sp + offset) w)
-  own_cells s frame =
-      guarded_cells T.image formed T.performs A.floor x.inj x.meant.memory x.bytes s.blocks A.here.comp (A.sp + offset)
-      w (frame.guard i offset its)
+  own_cells s frame = guarded_cells formed s.blocks A.here.comp (A.sp + offset) w (frame.guard i offset its)
 
   -- what belongs to what lies above the frame is none of its words
   pub own_keeps : FrameMatches T.image A x.inj x.meant.memory x.bytes → (k q : ℕ) →

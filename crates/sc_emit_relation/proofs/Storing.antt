@@ -1,15 +1,15 @@
 -- Blocks and guarded words across stores: at a guarded word, and through a pointer to a live cell.
-use Rattle.sc_emit_relation.proofs.Common.{Apart, Beside, Block, Blocks, BlocksMatch, Bool, Cell, Guarded, ImageParts}
-use Rattle.sc_emit_relation.proofs.Common.{InCell, Injection, IsWellFormed, List, LiveAt, Memory as Bytes, Null, Ok}
+use Rattle.sc_emit_relation.proofs.Common.{Apart, Beside, Block, Blocks, BlocksMatch, Bool, ByteMemory as Bytes, Cell}
+use Rattle.sc_emit_relation.proofs.Common.{Guarded, ImageParts, InCell, Injection, IsWellFormed, List, LiveAt, Null, Ok}
 use Rattle.sc_emit_relation.proofs.Common.{Option, Owned, Placed, Pointer, Ptr, Some, StandsFor, Value, Word, ap}
-use Rattle.sc_emit_relation.proofs.Common.{apart_from, arith, cases_eq, cases_order, cell_of, eq-eqb, false}
-use Rattle.sc_emit_relation.proofs.Common.{few_globals, inl, inr, length, length-set, load, ne_eqb, put_word, refl}
-use Rattle.sc_emit_relation.proofs.Common.{same_Some, slice_get, slice_get-get_or, slice_get_within, slice_set, store}
-use Rattle.sc_emit_relation.proofs.Common.{subst, sym, true, with_blocks, word, word_apart, word_same, ℕ, ⊎_elim, ◌*◌}
-use Rattle.sc_emit_relation.proofs.Common.{◌+◌, ◌<◌, ◌∙◌, ◌≡◌, ◌≢◌, ◌≤◌, ◌⊎◌}
+use Rattle.sc_emit_relation.proofs.Common.{apart_from, arith, cases_eq, cases_order, cell_of, cells_at, eq-eqb, false}
+use Rattle.sc_emit_relation.proofs.Common.{few_globals, inl, inr, length, length-set, live_cells, load, ne_eqb}
+use Rattle.sc_emit_relation.proofs.Common.{put_word, refl, same_Some, slice_get, slice_get-get_or, slice_get_within}
+use Rattle.sc_emit_relation.proofs.Common.{slice_set, store, subst, sym, with_blocks, word, word_apart, word_same, ℕ}
+use Rattle.sc_emit_relation.proofs.Common.{⊎_elim, ◌*◌, ◌+◌, ◌<◌, ◌∙◌, ◌≡◌, ◌≢◌, ◌≤◌, ◌⊎◌}
 use Rattle.sc_core.specs.Prelude.{Memory}
-use Rattle.sc_emit_relation.proofs.Access.{get_set_same, get_set_other, with_value, Loads, load_found, Stores}
-use Rattle.sc_emit_relation.proofs.Access.{store_found}
+use Rattle.sc_emit_relation.proofs.Access.{alive, get_set_same, get_set_other, with_value, Loads, load_found, Stores}
+use Rattle.sc_emit_relation.proofs.Access.{store_found, written_to}
 
 -- the data of two compartments don't meet
 pub other_data : (image : ImageParts) (k c p q : ℕ) → IsWellFormed image → k ≢ c → Owned image k p → Owned image c q →
@@ -43,8 +43,8 @@ CellsKept performs inj memory bytes after =
     (k b a i : ℕ) (cells : List Cell) → performs k ≡ false → LiveAt memory k b cells → inj k b ≡ Some a →
     i < length cells → word after (a + 4 * i) ≡ word bytes (a + 4 * i)
 
-module _ (image : ImageParts) (formed : IsWellFormed image) (performs : ℕ → Bool) (floor : ℕ → ℕ) (inj : Injection)
-    (memory : Memory) (bytes : Bytes) (blocks : BlocksMatch image performs floor inj memory bytes) where
+module _ {image : ImageParts} (formed : IsWellFormed image) {performs : ℕ → Bool} {floor : ℕ → ℕ} {inj : Injection}
+    {memory : Memory} {bytes : Bytes} (blocks : BlocksMatch image performs floor inj memory bytes) where
   pub block_owned : (k b a i : ℕ) (cells : List Cell) → performs k ≡ false → LiveAt memory k b cells →
       inj k b ≡ Some a → i < length cells → Owned image k (a + 4 * i)
   block_owned k b a i cells honest live e l =
@@ -111,10 +111,10 @@ module _ (image : ImageParts) (formed : IsWellFormed image) (performs : ℕ → 
     did = store_found (memory c) p v after stores
 
     pub target_owned : Owned image c target
-    target_owned = block_owned c p.block a p.index did.cells honest did.live is_at did.below
+    target_owned = block_owned c p.block a p.index did.block.cells honest did.live is_at did.below
 
     abbrev written : Block
-    written = record { live = true; cells = slice_set did.cells p.index (cell_of v) }
+    written = written_to did.block p.index v
 
     -- the cell that is written
     record IsTarget (k b i : ℕ) : Type 0 where
@@ -145,7 +145,7 @@ module _ (image : ImageParts) (formed : IsWellFormed image) (performs : ℕ → 
         (λ n. inr (sym (get_set_other old p.index i (cell_of v) n) ∙ h, λ (t : IsTarget k b i). n t.index))
         (cases_eq i p.index)
 
-    memory_here : (k : ℕ) → k ≡ c → after_memory k ≡ with_value (memory c) p did.cells v
+    memory_here : (k : ℕ) → k ≡ c → after_memory k ≡ with_value (memory c) p did.block v
     memory_here k ek = rw (eq-eqb k c ek) did.is
 
     memory_there : (k : ℕ) → k ≢ c → after_memory k ≡ memory k
@@ -153,25 +153,27 @@ module _ (image : ImageParts) (formed : IsWellFormed image) (performs : ℕ → 
 
     was_here : (k b : ℕ) (cells : List Cell) → k ≡ c → b ≡ p.block → LiveAt after_memory k b cells → Was k b cells
     was_here k b cells ek eb h =
-        let block : Block = record { live = true; cells = cells } in
-        let now : slice_get (with_value (memory c) p did.cells v) p.block ≡ Some block =
-        sym (ap (λ bs. slice_get bs p.block) (memory_here k ek)) ∙
-        ap (λ j. slice_get (after_memory k) j) (sym eb) ∙ h in
-        let same : written ≡ block =
-        same_Some written block (sym (get_set_same (memory c) p.block written _ did.live) ∙ now) in
-        let those : cells ≡ slice_set did.cells p.index (cell_of v) = sym (ap (λ b. b.cells) same) in
+        let now : cells_at (with_value (memory c) p did.block v) p.block ≡ Ok cells =
+        sym (ap (λ bs. cells_at bs p.block) (memory_here k ek)) ∙
+        ap (λ j. cells_at (after_memory k) j) (sym eb) ∙ h in
+        let there : cells_at (with_value (memory c) p did.block v) p.block ≡ Ok written.cells =
+        alive (with_value (memory c) p did.block v) p.block written
+        (get_set_same (memory c) p.block written _ did.at) did.alive in
+        let same : Ok written.cells ≡ Ok cells = sym there ∙ now in
+        let those : cells ≡ slice_set did.block.cells p.index (cell_of v) = cc same in
         record {
-          old = did.cells;
-          live = ap (λ j. slice_get (memory k) j) eb ∙ ap (λ k. slice_get (memory k) p.block) ek ∙ did.live;
-          long = ap length those ∙ length-set did.cells p.index (cell_of v);
-          each = λ i x e. cell_was did.cells k b i x ek eb did.below (sym (ap (λ xs. slice_get xs i) those) ∙ e);
+          old = did.block.cells;
+          live = ap (λ j. cells_at (memory k) j) eb ∙ ap (λ k. cells_at (memory k) p.block) ek ∙ did.live;
+          long = ap length those ∙ length-set did.block.cells p.index (cell_of v);
+          each = λ i x e. cell_was did.block.cells k b i x ek eb did.below (sym (ap (λ xs. slice_get xs i) those) ∙ e);
         }
 
     was_there : (k b : ℕ) (cells : List Cell) → k ≡ c → b ≢ p.block → LiveAt after_memory k b cells → Was k b cells
     was_there k b cells ek nb h = record {
       old = cells;
-      live = ap (λ k. slice_get (memory k) b) ek ∙ sym (get_set_other (memory c) p.block b written nb) ∙
-          sym (ap (λ bs. slice_get bs b) (memory_here k ek)) ∙ h;
+      live = ap (λ k. cells_at (memory k) b) ek ∙
+          sym (ap live_cells (get_set_other (memory c) p.block b written nb)) ∙
+          sym (ap (λ bs. cells_at bs b) (memory_here k ek)) ∙ h;
       long = refl;
       each = λ i x e. inr (e, λ (t : IsTarget k b i). nb t.block);
     }
@@ -179,7 +181,7 @@ module _ (image : ImageParts) (formed : IsWellFormed image) (performs : ℕ → 
     was_else : (k b : ℕ) (cells : List Cell) → k ≢ c → LiveAt after_memory k b cells → Was k b cells
     was_else k b cells n h = record {
       old = cells;
-      live = sym (ap (λ bs. slice_get bs b) (memory_there k n)) ∙ h;
+      live = sym (ap (λ bs. cells_at bs b) (memory_there k n)) ∙ h;
       long = refl;
       each = λ i x e. inr (e, λ (t : IsTarget k b i). n t.comp);
     }
@@ -192,6 +194,7 @@ module _ (image : ImageParts) (formed : IsWellFormed image) (performs : ℕ → 
     pub guarded_after : (k q : ℕ) → Guarded image inj memory k q → Guarded image inj after_memory k q
     guarded_after k q g = record {
       owned = g.owned;
+      below = g.below;
       free = λ b d cells live e. subst (λ n. Beside d n q) (sym (was k b cells live).long)
           (g.free b d (was k b cells live).old (was k b cells live).live e);
     }
@@ -200,7 +203,7 @@ module _ (image : ImageParts) (formed : IsWellFormed image) (performs : ℕ → 
     pub guarded_kept : (k q : ℕ) → Guarded image inj memory k q → word (put_word bytes target w) q ≡ word bytes q
     guarded_kept k q g =
         let apart : Apart target q =
-        guarded_apart k q c p.block a p.index did.cells g honest did.live is_at did.below in
+        guarded_apart k q c p.block a p.index did.block.cells g honest did.live is_at did.below in
         word_apart bytes target w q (apart_from q target (λ x y. omega (arith, apart)))
 
     new_in_cell : (k b d i : ℕ) (x : Cell) → inj k b ≡ Some d → IsTarget k b i → x ≡ cell_of v →
@@ -223,9 +226,9 @@ module _ (image : ImageParts) (formed : IsWellFormed image) (performs : ℕ → 
     other_block : (k b d i : ℕ) (old : List Cell) → performs k ≡ false → LiveAt memory k b old → inj k b ≡ Some d →
         i < length old → k ≡ c → b ≢ p.block → Apart (d + 4 * i) target
     other_block k b d i old s live e l ek nb =
-        let beside : (d + 4 * length old ≤ a) ⊎ (a + 4 * length did.cells ≤ d) =
-        blocks.apart k b p.block d a old did.cells s live
-        (subst (λ k. LiveAt memory k p.block did.cells) (sym ek) did.live) e
+        let beside : (d + 4 * length old ≤ a) ⊎ (a + 4 * length did.block.cells ≤ d) =
+        blocks.apart k b p.block d a old did.block.cells s live
+        (subst (λ k. LiveAt memory k p.block did.block.cells) (sym ek) did.live) e
         (ap (λ k. inj k p.block) ek ∙ is_at) nb in
         apart_from (d + 4 * i) target (λ x y. omega (arith, beside, did.below))
 

@@ -2,7 +2,7 @@
 use Rattle.sc_emit_relation.proofs.Common.{Arrives, Beside, Break, Comes, Continue, Costs, Effect, Emits, Ends, Exit}
 use Rattle.sc_emit_relation.proofs.Common.{ExitGives, Gives, Goes, Grown, Joint, Leads, Left, Lives, Next, Option}
 use Rattle.sc_emit_relation.proofs.Common.{Overflows, Piece, Protected, Reached, Registers, Return, Returns, Running}
-use Rattle.sc_emit_relation.proofs.Common.{Set, Setting, Settled, Standpoint, State as Meant, Stopped, Temps, Value}
+use Rattle.sc_emit_relation.proofs.Common.{TempSet, Setting, Settled, Standpoint, State as Meant, Stopped, Temps, Value}
 use Rattle.sc_emit_relation.proofs.Common.{and_then, arith, inl, inr, last, length, machine, more, refl, same_Some}
 use Rattle.sc_emit_relation.proofs.Common.{seen_from, stay, subst, sym, then_from, then_go, ℕ, ⊎_elim, ◌+◌, ◌∙◌, ◌≡◌}
 use Rattle.sc_emit_relation.proofs.Common.{◌≤◌}
@@ -15,12 +15,15 @@ module _ (T : Setting) (P : Standpoint) where
     honest = p.honest;
     guard = record {
       owned = p.guard.owned;
-      free = λ b a cells live at.
-          (let old = effect.lived k b cells p.honest live in
-          let was = settled.blocks.there k b old.0 p.honest old.1 in
+      below = p.guard.below;
+      free = λ b a cells live at. ⊎_elim
+          (λ old. (let was = settled.blocks.there k b old.0 p.honest old.1 in
           let same : was.0 ≡ a = same_Some was.0 a (sym (effect.grows k b was.0 was.1) ∙ at) in
           subst (λ n. Beside a n q) (sym old.2)
-          (subst (λ a. Beside a (length old.0) q) same (p.guard.free b was.0 old.0 old.1 was.1)));
+          (subst (λ a. Beside a (length old.0) q) same (p.guard.free b was.0 old.0 old.1 was.1))))
+          (λ far. (let same : far.0 ≡ a = same_Some far.0 a (sym far.1 ∙ at) in
+          inl (omega (arith, same, far.2, p.guard.below))))
+          (effect.lived k b cells p.honest live);
     };
     own = p.own;
     other = p.other;
@@ -29,7 +32,7 @@ module _ (T : Setting) (P : Standpoint) where
   pub effect_still : (x : Joint) (pc : ℕ) (regs : Registers) → Effect T P x (record x { pc = pc; regs = regs })
   effect_still x pc regs = record {
     grows = λ k b a h. h;
-    lived = λ k b cells s live. (cells, live, refl);
+    lived = λ k b cells s live. inl (cells, live, refl);
     keeps = λ k q p. refl;
     depths = λ k. refl;
   }
@@ -40,9 +43,10 @@ module _ (T : Setting) (P : Standpoint) where
   pub effect_then : (x y z : Joint) → Settled T P x → Effect T P x y → Effect T P y z → Effect T P x z
   effect_then x y z settled e f = record {
     grows = λ k b a h. f.grows k b a (e.grows k b a h);
-    lived = λ k b cells s live.
-        (let middle = f.lived k b cells s live in
-        let old = e.lived k b middle.0 s middle.1 in (old.0, old.1, middle.2 ∙ old.2));
+    lived = λ k b cells s live. ⊎_elim
+        (λ middle. ⊎_elim (λ old. inl (old.0, old.1, middle.2 ∙ old.2))
+        (λ far. inr (far.0, f.grows k b far.0 far.1, far.2)) (e.lived k b middle.0 s middle.1))
+        (λ far. inr far) (f.lived k b cells s live);
     keeps = λ k q p. f.keeps k q (protected_on x y k q settled e p) ∙ e.keeps k q p;
     depths = λ k. f.depths k ∙ e.depths k;
   }
@@ -164,7 +168,7 @@ module _ (T : Setting) (R : Running) where
   abbrev P : Standpoint
   P = seen_from R.activation
 
-  arrives_after : (live : Set) (x y : Joint) (a b left : ℕ) (temps : Temps) (s : Meant) (pc : ℕ) → Settled T P x →
+  arrives_after : (live : TempSet) (x y : Joint) (a b left : ℕ) (temps : Temps) (s : Meant) (pc : ℕ) → Settled T P x →
       Leads T P x y a b → Arrives T R live y b left temps s pc → Arrives T R live x a left temps s pc
   arrives_after live x y a b left temps s pc settled l g = record {
     y = g.y;
@@ -212,7 +216,7 @@ module _ (T : Setting) (R : Running) where
       (λ o. inr (overflows_after T P x y a b piece leads o)) g
 
   -- an arrival with other numbers
-  pub arrives_with : (live : Set) (x : Joint) (a c left less : ℕ) (temps : Temps) (s : Meant) (pc to : ℕ) → a ≤ c →
+  pub arrives_with : (live : TempSet) (x : Joint) (a c left less : ℕ) (temps : Temps) (s : Meant) (pc to : ℕ) → a ≤ c →
       less ≤ left → pc ≡ to → Arrives T R live x a left temps s pc → Arrives T R live x c less temps s to
   arrives_with live x a c left less temps s pc to h k same g = record {
     y = g.y;

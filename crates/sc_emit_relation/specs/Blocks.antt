@@ -1,9 +1,10 @@
 -- How the bytes of the machine stand for the blocks of a meaning, for every compartment outside a set of those that
 -- perform.
-use Rattle.sc_emit_relation.specs.Common.{Cell, ImageParts, Memory, Owned, Value, data_end, data_start, word}
-use Rattle.sc_store.specs.Prelude.{Memory as Bytes}
+use Rattle.sc_emit_relation.specs.Common.{Cell, ImageParts, Memory, Owned, Value, cells_at, data_end, data_start, word}
+use Rattle.sc_emit_relation.specs.Common.{zone_start}
+use Rattle.sc_store.specs.Prelude.{ByteMemory as Bytes}
 use Rattle.std.specs.Prelude.{◌≡◌, ◌≢◌, ℕ, ◌+◌, ◌*◌, ◌%◌, ◌^◌, ◌<◌, ◌≤◌, ◌⊎◌, Bool, true, false, List, length, Option}
-use Rattle.std.specs.Prelude.{Some, slice_get}
+use Rattle.std.specs.Prelude.{Ok, Some, slice_get}
 use Rattle.sc_core.specs.declared.value.Cell.TheVariants as cell
 use Rattle.sc_core.specs.declared.value.Value.TheVariants.{Word, Null, Ptr}
 
@@ -36,7 +37,7 @@ InCell place w (cell.Ptr p) = StandsFor place w (Ptr p)
 
 -- block b of compartment k lives, with these cells
 abbrev pub LiveAt : Memory → (k b : ℕ) → List Cell → Type 0
-LiveAt memory k b cells = slice_get (memory k) b ≡ Some (record { live = true; cells = cells })
+LiveAt memory k b cells = cells_at (memory k) b ≡ Ok cells
 
 -- `words` words from a on don't meet the word at p
 abbrev pub Beside : (a words p : ℕ) → Type 0
@@ -63,7 +64,8 @@ pub record BlocksMatch (image : ImageParts) (performs : ℕ → Bool) (floor : �
   -- no block that will begin has an address yet
   pub known : (k b a : ℕ) → inj k b ≡ Some a → b < length (memory k)
 
--- a word of k's data that no live block meets, as a saved return address or a slot
+-- a word of k's data below its zone that no live block meets, as a saved return address or a slot
 pub record Guarded (image : ImageParts) (inj : Injection) (memory : Memory) (k p : ℕ) : Type 0 where
   pub owned : Owned image k p
+  pub below : p + 4 ≤ zone_start k
   pub free : (b a : ℕ) (cells : List Cell) → LiveAt memory k b cells → inj k b ≡ Some a → Beside a (length cells) p

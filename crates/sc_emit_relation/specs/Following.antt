@@ -1,6 +1,6 @@
 -- Helping: a piece of code follows what statements do: what it is to stand at its start, and what it gives.
 use Rattle.sc_emit_relation.specs.Common.{Break, CodeAt, Codes, Continue, Exit, Fetches, Goes, IsClear, Jalr, Left}
-use Rattle.sc_emit_relation.specs.Common.{Lives, Next, Piece, Place, Plan, Reached, Return, Set, State as Meant}
+use Rattle.sc_emit_relation.specs.Common.{Lives, Next, Piece, Place, Plan, Reached, Return, TempSet, State as Meant}
 use Rattle.sc_emit_relation.specs.Common.{Stopped, Temps, Trail, Value, a0, ahead_at, completed, low_after, ra}
 use Rattle.sc_emit_relation.specs.Common.{readings, row_first, row_fresh, row_points, sp}
 use Rattle.sc_emit_select.specs.Prelude.{Piece as Code}
@@ -16,7 +16,7 @@ row trails = record {
 }
 
 -- what is live where code begins
-abbrev pub live_at : Trail → Lives → Set
+abbrev pub live_at : Trail → Lives → TempSet
 live_at trail lives t = (trail.reading t).first (ahead_at lives t)
 
 -- code of the running call leaves unchanged what lies above its frame
@@ -24,7 +24,7 @@ abbrev pub seen_from : Activation → Standpoint
 seen_from A = record { comp = A.here.comp; cross = A.cross; bound = A.sp + A.frame.bytes; floor = A.floor }
 
 -- what is live and read in its place
-abbrev pub wanted : (needed live : Set) → Set
+abbrev pub wanted : (needed live : TempSet) → TempSet
 wanted needed live t = live t && needed t
 
 -- the code of a function, of which a piece is a part: the call that runs it, the places of its temporaries, by which
@@ -53,19 +53,20 @@ ends_of code pc left to_break to_continue = record {
 
 module _ (T : Setting) (R : Running) where
   -- all that a piece begins with, where these temporaries are live
-  pub record Ready (live : Set) (temps : Temps) (x : Joint) : Type 0 where
+  pub record Ready (live : TempSet) (temps : Temps) (x : Joint) : Type 0 where
     pub settled : Settled T (seen_from R.activation) x
     pub frame : FrameMatches T.image R.activation x.inj x.meant.memory x.bytes
     pub held : AreInPlace R.activation R.places x.inj x.regs x.bytes (wanted R.plan.needed live) temps
     pub sp : x.regs sp ≡ R.activation.sp
 
   -- the code comes to this place, with these temporaries and this state of the meaning
-  pub record Arrives (live : Set) (x : Joint) (budget left : ℕ) (temps : Temps) (meant : Meant) (pc : ℕ) : Type 0 where
-    pub y : Joint
-    pub meant_is : y.meant ≡ meant
-    pub pc_is : y.pc ≡ pc
-    pub leads : Leads T (seen_from R.activation) x y budget left
-    pub ready : Ready live temps y
+  pub record Arrives (live : TempSet) (x : Joint) (budget left : ℕ) (temps : Temps) (meant : Meant) (pc : ℕ) : Type 0
+    where
+      pub y : Joint
+      pub meant_is : y.meant ≡ meant
+      pub pc_is : y.pc ≡ pc
+      pub leads : Leads T (seen_from R.activation) x y budget left
+      pub ready : Ready live temps y
 
   -- it stands at the jump that ends the call: the frame has gone, and a0 has the value
   pub record Returns (x : Joint) (budget : ℕ) (v : Option Value) (meant : Meant) : Type 0 where

@@ -1,7 +1,8 @@
 -- The running call: its frame, and the places of its temporaries.
-use Rattle.sc_emit_relation.specs.Common.{Crossing, FrameFits, Here, ImageParts, IsFrame, Memory, Place, Registers, Set}
+use Rattle.sc_emit_relation.specs.Common.{Crossing, FrameFits, Here, ImageParts, IsFrame, Memory, Place, Registers}
+use Rattle.sc_emit_relation.specs.Common.{TempSet}
 use Rattle.sc_emit_relation.specs.Common.{Temps, Value, data_start, register_of, stack_top, word}
-use Rattle.sc_store.specs.Prelude.{Memory as Bytes}
+use Rattle.sc_store.specs.Prelude.{ByteMemory as Bytes}
 use Rattle.std.specs.Prelude.{◌≡◌, ℕ, ◌+◌, ◌%◌, ◌<◌, ◌≤◌, Bool, true, false, List, ◌∷◌, Some, slice_get}
 use Rattle.sc_tac.specs.declared.frame.FrameTree.{FrameTree}
 use Rattle.sc_tac.specs.declared.place.Place.TheVariants.{Register, Slot}
@@ -64,6 +65,6 @@ pub record IsInPlace (A : Activation) (places : List Place) (inj : Injection) (r
   pub value : InPlace A inj regs bytes place v
 
 -- each that is live and was assigned has
-abbrev pub AreInPlace : Activation → List Place → Injection → Registers → Bytes → Set → Temps → Type 0
+abbrev pub AreInPlace : Activation → List Place → Injection → Registers → Bytes → TempSet → Temps → Type 0
 AreInPlace A places inj regs bytes live temps =
     (t : ℕ) (v : Value) → live t ≡ true → temps t ≡ Some v → IsInPlace A places inj regs bytes t v

@@ -1,12 +1,13 @@
 -- Stretches of a run on both sides: of the machine, and of a meaning whose state stands beside the machine's.
-use Rattle.sc_emit_relation.specs.Common.{Addresses, AllBefore, CallTarget, Cell, Crossing, Grown, ImageParts, IsSteady}
+use Rattle.sc_emit_relation.specs.Common.{Addresses, AllBefore, CallTarget, Cell, Crossing, Grown, ImageParts}
+use Rattle.sc_emit_relation.specs.Common.{IsSteadyState}
 use Rattle.sc_emit_relation.specs.Common.{Memory, Piece, Registers, State as Meant, Traps, Value, Walks, at, last}
-use Rattle.sc_emit_relation.specs.Common.{stack_depth, stack_size, stack_top, step, word}
+use Rattle.sc_emit_relation.specs.Common.{stack_depth, stack_size, stack_top, step, word, zone_start}
 use Rattle.sc_emit_hart.specs.Prelude.{LacksRoom, TakesLast}
-use Rattle.sc_store.specs.Prelude.{Memory as Bytes}
-use Rattle.sc_image.specs.Prelude.{State}
-use Rattle.std.specs.Prelude.{◌≡◌, ◌≢◌, ℕ, suc, ◌+◌, ◌*◌, ◌<◌, ◌≤◌, Bool, false, List, length, drop, Option, None, Some}
-use Rattle.std.specs.Prelude.{slice_index}
+use Rattle.sc_store.specs.Prelude.{ByteMemory as Bytes}
+use Rattle.sc_image.specs.Prelude.{MachineState}
+use Rattle.std.specs.Prelude.{◌≡◌, ◌≢◌, ℕ, suc, ◌+◌, ◌*◌, ◌<◌, ◌≤◌, ◌⊎◌, Bool, false, List, length, drop, Option, None}
+use Rattle.std.specs.Prelude.{Some, slice_index}
 use Rattle.sc_base.specs.declared.stop.TrapReason.TheVariants.{Owner}
 use Rattle.sc_emit_relation.specs.Blocks.{Injection, StandsFor, LiveAt, BlocksMatch, Guarded}
 
@@ -16,7 +17,7 @@ use Rattle.sc_emit_relation.specs.Blocks.{Injection, StandsFor, LiveAt, BlocksMa
 pub record Setting : Type 0 where
   pub image : ImageParts
   pub inputs : List ℕ
-  pub from : State
+  pub from : MachineState
   pub performs : ℕ → Bool
   pub turn_pays : ℕ
   pub addresses : ℕ → Addresses
@@ -43,13 +44,13 @@ pub record Standpoint : Type 0 where
   pub floor : ℕ → ℕ
 
 -- the traces agree without a clause
-abbrev pub machine : Standpoint → Joint → State
+abbrev pub machine : Standpoint → Joint → MachineState
 machine P x = at x.pc x.regs x.bytes
     (record { active = P.comp; saved = x.saved; cross = P.cross; input = x.input; trace = x.meant.trace })
 
 module _ (T : Setting) where
   -- the machine's run came to a state
-  pub record Came (to : State) : Type 0 where
+  pub record Came (to : MachineState) : Type 0 where
     pub steps : ℕ
     pub walks : Walks T.image T.inputs steps T.from to
 
@@ -61,7 +62,7 @@ module _ (T : Setting) where
     -- a compartment that isn't active has its floor as its saved sp
     pub saved : (k : ℕ) → k ≢ P.comp → T.performs k ≡ false → slice_index x.saved k ≡ P.floor k
     pub inputs : x.meant.inputs ≡ drop x.input T.inputs
-    pub steady : IsSteady T.image (machine P x)
+    pub steady : IsSteadyState T.image (machine P x)
     pub came : Came (machine P x)
     -- what is in use of a stack is no more than its stack depth in the meaning
     pub depth : (k : ℕ) → T.performs k ≡ false → stack_top k ≤ P.floor k + stack_depth k x.meant
@@ -78,9 +79,10 @@ module _ (T : Setting) where
   -- what a stretch leaves unchanged
   pub record Effect (P : Standpoint) (x y : Joint) : Type 0 where
     pub grows : (k b a : ℕ) → x.inj k b ≡ Some a → y.inj k b ≡ Some a
-    -- what lives after it lived before, with as many cells
+    -- what lives after it lived before, with as many cells, or lies in the zone
     pub lived : (k b : ℕ) (cells : List Cell) → T.performs k ≡ false → LiveAt y.meant.memory k b cells →
-        (old : List Cell) × LiveAt x.meant.memory k b old × (length cells ≡ length old)
+        ((old : List Cell) × LiveAt x.meant.memory k b old × (length cells ≡ length old))
+        ⊎ ((a : ℕ) × (y.inj k b ≡ Some a) × (zone_start k ≤ a))
     pub keeps : (k q : ℕ) → Protected P x.inj x.meant.memory k q → word y.bytes q ≡ word x.bytes q
     pub depths : (k : ℕ) → stack_depth k y.meant ≡ stack_depth k x.meant
 
@@ -103,7 +105,7 @@ module _ (T : Setting) where
   -- the meaning ends: the machine has emitted its events
   pub record Emits (P : Standpoint) (x : Joint) (budget : ℕ) (meant : Meant) : Type 0 where
     pub steps : ℕ
-    pub reached : State
+    pub reached : MachineState
     pub run : Walks T.image T.inputs steps (machine P x) reached
     pub trace : reached.trace ≡ meant.trace
     pub costs : Costs steps budget 0 x.meant meant
@@ -112,7 +114,7 @@ module _ (T : Setting) where
   -- store, with sp below all data. The meaning goes on from there
   pub record Overflows {V : Type 0} (P : Standpoint) (x : Joint) (budget : ℕ) (piece : Piece V) : Type 0 where
     pub steps : ℕ
-    pub reached : State
+    pub reached : MachineState
     pub run : Walks T.image T.inputs steps (machine P x) reached
     pub traps : step T.image T.inputs reached ≡ Traps Owner
     pub lacks : LacksRoom T.image reached

@@ -8,7 +8,7 @@ use Rattle.sc_emit_run_laws.proofs.Common.{run_stopped, run_traps, slice_get, st
 use Rattle.sc_emit_run_laws.proofs.Common.{take, take_all, take_prefix as take_exactly, take_prefixes, then_on, true}
 use Rattle.sc_emit_run_laws.proofs.Common.{walk, walk_adds, zero, zero-add, ℕ, ◌++◌, ◌+◌, ◌-◌, ◌<◌, ◌||◌, ◌∙◌, ◌∷◌, ◌≡◌}
 use Rattle.sc_emit_run_laws.proofs.Common.{◌≤◌}
-use Rattle.sc_image.specs.Prelude.{State, is_end as ends}
+use Rattle.sc_image.specs.Prelude.{MachineState, is_end as ends}
 use Rattle.sc_base.specs.declared.stop.Stop.TheVariants.{EventsOut}
 
 -- LISTS
@@ -59,15 +59,15 @@ prefix_endless xs ys prefix h = fewer xs (subst (λ zs. has_no_end zs ≡ true) 
 -- STEPS
 
 module _ (image : ImageParts) (inputs : List ℕ) (formed : IsWellFormed image) where
-  pub goes_prefix : (state next : State) → step image inputs state ≡ Goes next → IsPrefix state.trace next.trace
+  pub goes_prefix : (state next : MachineState) → step image inputs state ≡ Goes next → IsPrefix state.trace next.trace
   goes_prefix state next goes = goes_adds image inputs formed state next goes
 
-  pub walk_prefix : (n : ℕ) (from to : State) → walk image inputs n from ≡ Goes to → IsPrefix from.trace to.trace
+  pub walk_prefix : (n : ℕ) (from to : MachineState) → walk image inputs n from ≡ Goes to → IsPrefix from.trace to.trace
   walk_prefix n from to goes = walk_adds image inputs formed n from to goes
 
   -- RUNS
   module _ (events : ℕ) where
-    pub no_steps : (state : State) → (run image inputs events 0 state).state ≡ state
+    pub no_steps : (state : MachineState) → (run image inputs events 0 state).state ≡ state
     no_steps state = by (stopped events state.trace) refl where
       by : (o : Option Stop) → stopped events state.trace ≡ o → (run image inputs events 0 state).state ≡ state
       by None is = ap (λ r. r.state) (run_out image inputs events state is)
@@ -79,21 +79,21 @@ module _ (image : ImageParts) (inputs : List ℕ) (formed : IsWellFormed image) 
     full_stops trace going le = rw (going, le-leb events (length trace) le) refl
 
     -- a run that has its events, and one that hasn't
-    pub at_full : (n : ℕ) (state : State) → is_ended state.trace ≡ false → events ≤ length state.trace →
+    pub at_full : (n : ℕ) (state : MachineState) → is_ended state.trace ≡ false → events ≤ length state.trace →
         (run image inputs events n state).state ≡ state
     at_full n state going le =
         ap (λ r. r.state) (run_stopped image inputs events n state EventsOut (full_stops state.trace going le))
 
-    module _ (to : State) (going : has_no_end to.trace ≡ true) where
+    module _ (to : MachineState) (going : has_no_end to.trace ≡ true) where
       -- what a run of this many steps, and more or fewer, emits of a stretch from this state
-      pub record Along (n : ℕ) (from : State) : Type 0 where
+      pub record Along (n : ℕ) (from : MachineState) : Type 0 where
         pub fewer : (m : ℕ) → m ≤ n → IsPrefix (run image inputs events m from).state.trace (take events to.trace)
         pub full : (m : ℕ) → n ≤ m → events ≤ length to.trace →
             (run image inputs events m from).state.trace ≡ take events to.trace
         pub further : (k : ℕ) → length to.trace < events →
             run image inputs events (n + k) from ≡ run image inputs events k to
 
-      before : (from : State) → IsPrefix from.trace to.trace → is_ended from.trace ≡ false
+      before : (from : MachineState) → IsPrefix from.trace to.trace → is_ended from.trace ≡ false
       before from prefix = not_over from.trace (prefix_endless from.trace to.trace prefix going)
 
       here : length to.trace ≤ events → Along 0 to
@@ -109,7 +109,7 @@ module _ (image : ImageParts) (inputs : List ℕ) (formed : IsWellFormed image) 
         zero_is m le = omega (arith, le)
 
       -- the run has its events already
-      done : (n : ℕ) (from : State) → IsPrefix from.trace to.trace → length from.trace ≤ events →
+      done : (n : ℕ) (from : MachineState) → IsPrefix from.trace to.trace → length from.trace ≤ events →
           events ≤ length from.trace → Along n from
       done n from prefix short full =
           let whole : take events to.trace ≡ from.trace =
@@ -124,7 +124,7 @@ module _ (image : ImageParts) (inputs : List ℕ) (formed : IsWellFormed image) 
           }
 
       -- it goes on by a step
-      further : (n : ℕ) (from next : State) → IsPrefix from.trace to.trace → length from.trace < events →
+      further : (n : ℕ) (from next : MachineState) → IsPrefix from.trace to.trace → length from.trace < events →
           step image inputs from ≡ Goes next → Along n next → Along (suc n) from
       further n from next prefix short goes rest =
           let early = not_stopped image inputs formed events from.trace (before from prefix) short in
@@ -151,9 +151,9 @@ module _ (image : ImageParts) (inputs : List ℕ) (formed : IsWellFormed image) 
           full_at on zero le long = absurd (omega (arith, le))
           full_at on (suc m) le long = ap (λ r. r.state.trace) (on m) ∙ rest.full m (omega (arith, le)) long
 
-      along_by : (n : ℕ) (from : State) (outcome : Outcome) → step image inputs from ≡ outcome →
+      along_by : (n : ℕ) (from : MachineState) (outcome : Outcome) → step image inputs from ≡ outcome →
           then_on outcome (walk image inputs n) ≡ Goes to → IsPrefix from.trace to.trace → length from.trace ≤ events →
-          ((next : State) → walk image inputs n next ≡ Goes to → length next.trace ≤ events → Along n next) →
+          ((next : MachineState) → walk image inputs n next ≡ Goes to → length next.trace ≤ events → Along n next) →
           Along (suc n) from
       along_by n from (Goes next) is goes prefix short later = by (nat_le events (length from.trace)) refl where
         by : (b : Bool) → nat_le events (length from.trace) ≡ b → Along (suc n) from
@@ -164,7 +164,7 @@ module _ (image : ImageParts) (inputs : List ℕ) (formed : IsWellFormed image) 
             (later next goes (omega (arith, less, goes_one image inputs formed from next is)))
       along_by n from (Traps reason) is goes prefix short later = cc goes
 
-      pub along : (n : ℕ) (from : State) → walk image inputs n from ≡ Goes to → length from.trace ≤ events →
+      pub along : (n : ℕ) (from : MachineState) → walk image inputs n from ≡ Goes to → length from.trace ≤ events →
           Along n from
       along zero from goes short =
           let same : from ≡ to = cc goes in
@@ -173,8 +173,8 @@ module _ (image : ImageParts) (inputs : List ℕ) (formed : IsWellFormed image) 
           along_by n from (step image inputs from) refl goes (walk_prefix (suc n) from to goes) short (along n)
 
   -- a run only adds to the trace
-  run_prefix_by : (events n : ℕ) (from : State) (outcome : Outcome) → step image inputs from ≡ outcome →
-      ((next : State) → IsPrefix next.trace (run image inputs events n next).state.trace) →
+  run_prefix_by : (events n : ℕ) (from : MachineState) (outcome : Outcome) → step image inputs from ≡ outcome →
+      ((next : MachineState) → IsPrefix next.trace (run image inputs events n next).state.trace) →
       (o : Option Stop) → stopped events from.trace ≡ o →
       IsPrefix from.trace (run image inputs events (suc n) from).state.trace
   run_prefix_by events n from outcome is later (Some stop) early =
@@ -188,7 +188,8 @@ module _ (image : ImageParts) (inputs : List ℕ) (formed : IsWellFormed image) 
       subst (λ r. IsPrefix from.trace r.state.trace) (sym (run_traps image inputs events n from reason early is))
       (prefix_same from.trace)
 
-  pub run_prefix : (events n : ℕ) (from : State) → IsPrefix from.trace (run image inputs events n from).state.trace
+  pub run_prefix : (events n : ℕ) (from : MachineState) → IsPrefix from.trace (run image inputs events n
+      from).state.trace
   run_prefix events zero from =
       subst (λ s. IsPrefix from.trace s.trace) (sym (no_steps events from)) (prefix_same from.trace)
   run_prefix events (suc n) from =

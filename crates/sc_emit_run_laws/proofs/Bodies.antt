@@ -1,17 +1,16 @@
 -- The induction on open calls: calls are followed where bodies with as many open calls are, and so bodies are followed
 -- in which one more may be open.
-use Rattle.sc_emit_run_laws.proofs.Common.{Addresses, All, ArePassed, BadType, Blamed, BodiesFollow, Bool, CallStands}
-use Rattle.sc_emit_run_laws.proofs.Common.{CallTarget, CallsFollow, Cross, Denotations, Function, FunctionGives}
-use Rattle.sc_emit_run_laws.proofs.Common.{GivesResults, HasCode, Here, ImageParts, Input, IsBase, IsFunction, IsLinked}
-use Rattle.sc_emit_run_laws.proofs.Common.{IsProgram, IsRun, IsWord, Joint, List, None, Null, Option, Output, Overflows}
-use Rattle.sc_emit_run_laws.proofs.Common.{Own, PerformersFollow, Piece, Ptr, Reached, Roles, Setting, Settled, Some}
-use Rattle.sc_emit_run_laws.proofs.Common.{Standpoint, State as Meant, TacFnTree, TacTree, Value, Word, [], and_parts}
-use Rattle.sc_emit_run_laws.proofs.Common.{and_then, ap, arith, begun, bodies, called, calls_of, code_denotations}
-use Rattle.sc_emit_run_laws.proofs.Common.{code_function, done, eqb-true, false, found, functions_in, gives}
-use Rattle.sc_emit_run_laws.proofs.Common.{if◌then◌else◌, imports, inl, is_output, length, machine, may_call, nat_lt}
-use Rattle.sc_emit_run_laws.proofs.Common.{not, or_parts, own_call_fits, passes_words, performs, ran, refl, rows_left}
-use Rattle.sc_emit_run_laws.proofs.Common.{run_step, setting, slice_get, sp, stay, subst, suc, sym, true, wrapping}
-use Rattle.sc_emit_run_laws.proofs.Common.{zero, ℕ, ◌+◌, ◌==◌, ◌∙◌, ◌∷◌, ◌≡◌, ◌⊎◌}
+use Rattle.sc_emit_run_laws.proofs.Common.{All, ArePassed, BadType, Blamed, BodiesFollow, Bool, CallStands, CallTarget}
+use Rattle.sc_emit_run_laws.proofs.Common.{CallsFollow, Cross, Denotations, Function, FunctionGives, HasCode, Here}
+use Rattle.sc_emit_run_laws.proofs.Common.{ImageParts, Input, IsBase, IsBuilt, IsRun, IsWord, Joint, List, None, Null}
+use Rattle.sc_emit_run_laws.proofs.Common.{Option, Output, Overflows, Own, PerformersFollow, Piece, Ptr, Reached, Roles}
+use Rattle.sc_emit_run_laws.proofs.Common.{Setting, Settled, Some, Standpoint, State as Meant, TacFnTree, TacTree}
+use Rattle.sc_emit_run_laws.proofs.Common.{Value, Word, [], and_parts, and_then, ap, arith, begun, bodies, called}
+use Rattle.sc_emit_run_laws.proofs.Common.{calls_of, code_denotations, code_function, done, eqb-true, false, found}
+use Rattle.sc_emit_run_laws.proofs.Common.{functions_in, gives, if◌then◌else◌, imports, inl, is_output, length, machine}
+use Rattle.sc_emit_run_laws.proofs.Common.{may_call, nat_lt, not, or_parts, own_call_fits, passes_words, performs, ran}
+use Rattle.sc_emit_run_laws.proofs.Common.{refl, rows_left, run_step, setting, slice_get, sp, stay, subst, suc, sym}
+use Rattle.sc_emit_run_laws.proofs.Common.{true, wrapping, zero, ℕ, ◌+◌, ◌==◌, ◌∙◌, ◌∷◌, ◌≡◌, ◌⊎◌}
 use Rattle.sc_emit_run_laws.proofs.Answering.{answers, calls_only_go, own_is}
 use Rattle.sc_emit_run_laws.proofs.CrossCalls.{cross_follows}
 use Rattle.sc_emit_run_laws.proofs.Environment.{input_comes, output_comes}
@@ -44,13 +43,10 @@ own_by program comp number count (Some f) its h =
       words = (and_parts (passes_words f.params f.objects) true one.1).0;
     }
 
-module _ (program : TacTree) (image : ImageParts) (inputs : List ℕ) (roles : Roles) (turn_pays : ℕ)
-    (addresses : ℕ → Addresses) (rules : IsProgram program)
-    (functions : (comp number : ℕ) (f : TacFnTree) → slice_get (functions_in program comp) number ≡ Some f →
-    IsFunction f) (results : GivesResults program roles) (linked : IsLinked program image turn_pays addresses)
-    (words : All IsWord inputs) where
+module _ {program : TacTree} {image : ImageParts} {turn_pays : ℕ} (built : IsBuilt program image turn_pays)
+    (inputs : List ℕ) (words : All IsWord inputs) (roles : Roles) where
   abbrev T : Setting
-  T = setting program image inputs roles.scripted turn_pays addresses
+  T = setting program image inputs roles.scripted turn_pays built.addresses
 
   abbrev denotations : Denotations
   denotations = code_denotations wrapping program
@@ -67,20 +63,20 @@ module _ (program : TacTree) (image : ImageParts) (inputs : List ℕ) (roles : R
       own_follows number makes stands =
           let own : IsOwn program P.comp number (length args) =
           own_by program P.comp number (length args) (slice_get (functions_in program P.comp) number) refl makes in
-          let code : HasCode image (addresses P.comp) turn_pays P.comp number own.f =
-          linked.functions P.comp number own.f own.its in
-          let address : ℕ = (addresses P.comp).function number in
-          let word = word_there image (addresses P.comp) turn_pays P.comp number own.f code in
+          let code : HasCode image (built.addresses P.comp) turn_pays P.comp number own.f =
+          built.linked.functions P.comp number own.f own.its in
+          let address : ℕ = (built.addresses P.comp).function number in
+          let word = word_there image (built.addresses P.comp) turn_pays P.comp number own.f code in
           let ra_is : ℕ = x.pc + 4 in
           subst (CallComes T P x (Own number)) (sym (own_is program roles n P.comp number own.f args x.meant own.its))
           (where_turns T P x (Own number) x.meant.turns (λ s. ran program roles n P.comp number own.f args s)
           (λ left few.
-          (let y : Joint = entered T linked.formed words P x address left in
+          (let y : Joint = entered T built.linked.formed words P x address left in
           let run : IsRun program roles T n number own.f P y args ra_is =
           runs P y number own.f args ra_is own.its own.words (sym own.takes)
-          (begins T linked.formed words P x address left few stands.0 stands.1 stands.2 word.0 word.1
+          (begins T built.linked.formed words P x address left few stands.0 stands.1 stands.2 word.0 word.1
           (code_function wrapping own.f) args honest settled base at_base passed) in
-          own_comes T linked.formed words P x address left few stands.0 stands.1 stands.2 word.0 word.1 number
+          own_comes T built.linked.formed words P x address left few stands.0 stands.1 stands.2 word.0 word.1 number
           stands.3 at_base run.0 run.1.0 (ran program roles n P.comp number own.f args y.meant)
           run.1.1)))
 
@@ -89,7 +85,8 @@ module _ (program : TacTree) (image : ImageParts) (inputs : List ℕ) (roles : R
       input_follows makes stands =
           where_made T P x Input (may_call denotations P.comp Input args) (Blamed P.comp BadType 0)
           (called denotations (bodies program roles n) P.comp Input args x.meant)
-          (λ may. inl (input_comes T linked.formed words P x settled stands.0 stands.1 (linked.inputs P.comp may)))
+          (λ may. inl (input_comes T built.linked.formed words P x settled stands.0 stands.1
+          (built.linked.inputs P.comp may)))
 
       output_by : (args : List Value) → ArePassed (x.inj P.comp) x.regs args →
           may_call denotations P.comp Output args ≡ true → T.makes P.comp Output (length args) ≡ true →
@@ -103,8 +100,8 @@ module _ (program : TacTree) (image : ImageParts) (inputs : List ℕ) (roles : R
           absurd (omega (arith, eqb-true (length (v ∷ w ∷ others)) 1 both.1))
       output_by (Word w ∷ []) passed may makes stands =
           let both = and_parts (imports program.interfaces P.comp is_output) true makes in
-          inl (output_comes T linked.formed words P x settled stands.0 stands.1 (linked.outputs P.comp both.0) w
-          (passed 0 (Word w) refl).means)
+          inl (output_comes T built.linked.formed words P x settled stands.0 stands.1
+          (built.linked.outputs P.comp both.0) w (passed 0 (Word w) refl).means)
       output_by (Null ∷ []) passed may makes stands =
           let both = and_parts (imports program.interfaces P.comp is_output) false may in
           let clash : false ≡ true = both.1 in cc clash
@@ -125,8 +122,7 @@ module _ (program : TacTree) (image : ImageParts) (inputs : List ℕ) (roles : R
       cross_by true to index is makes stands =
           perform P x to index args honest is makes settled base at_base passed stands
       cross_by false to index is makes stands =
-          cross_follows program image inputs roles turn_pays addresses rules functions results linked words n runs P x
-          to index args is makes settled base at_base passed stands
+          cross_follows built inputs words roles n runs P x to index args is makes settled base at_base passed stands
 
       follow : (target : CallTarget) → T.makes P.comp target (length args) ≡ true → CallStands T P x target →
           CallComes T P x target (calls_of program roles n P.comp target args x.meant)
@@ -139,7 +135,8 @@ module _ (program : TacTree) (image : ImageParts) (inputs : List ℕ) (roles : R
     calls_follow = record {
       answers = λ comp target args s h.
           (let both = and_parts (not (roles.scripted comp)) (gives program comp target) h in
-          answers program roles n results comp (not_true (roles.scripted comp) both.0) target args s both.1);
+          answers program roles n (built.results roles) comp (not_true (roles.scripted comp) both.0) target args s
+          both.1);
       goes = calls_only_go program roles n;
       follow = λ P x target args honest makes settled base at_base passed stands.
           follow P x args honest settled base at_base passed target makes stands;
@@ -158,8 +155,8 @@ module _ (program : TacTree) (image : ImageParts) (inputs : List ℕ) (roles : R
 
   pub none_follow : BodiesFollow program roles T 0
   none_follow P x number f args ra_is its passes long starts =
-      let code : HasCode image (addresses P.comp) turn_pays P.comp number f =
-      linked.functions P.comp number f its in (
+      let code : HasCode image (built.addresses P.comp) turn_pays P.comp number f =
+      built.linked.functions P.comp number f its in (
         length code.code.instrs,
         (
           code.paid,
@@ -177,8 +174,8 @@ module _ (program : TacTree) (image : ImageParts) (inputs : List ℕ) (roles : R
   pub more_follow : (n : ℕ) → BodiesFollow program roles T n → PerformersFollow program roles T n →
       BodiesFollow program roles T (suc n)
   more_follow n runs perform P x number f args ra_is its passes long starts =
-      let code : HasCode image (addresses P.comp) turn_pays P.comp number f =
-      linked.functions P.comp number f its in
+      let code : HasCode image (built.addresses P.comp) turn_pays P.comp number f =
+      built.linked.functions P.comp number f its in
       let budget : ℕ = length code.code.instrs in
       let F : Function = code_function wrapping f in
       let first : ℕ = length (x.meant.memory P.comp) in
@@ -192,8 +189,8 @@ module _ (program : TacTree) (image : ImageParts) (inputs : List ℕ) (roles : R
           subst (λ piece. FunctionGives T P x budget ra_is (and_then piece end) ⊎
               Overflows T P x budget (and_then piece end))
               (sym (does_is n number here f start honest its))
-              (code.emitted.follows T P.comp ((addresses P.comp).function number)
-              (is_placed program image inputs roles.scripted turn_pays addresses rules linked words P.comp number f
+              (code.emitted.follows T P.comp ((built.addresses P.comp).function number)
+              (is_placed built inputs words roles.scripted P.comp number f
               honest its passes code) (calls_of program roles n)
               (calls_follow n runs perform) P x args ra_is refl long starts),
         ),

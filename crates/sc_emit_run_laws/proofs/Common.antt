@@ -53,11 +53,13 @@ pub use Rattle.sc_image.proofs.Cases.{step_of}
 pub use Rattle.sc_image.proofs.Reached.{called_other, called_there, runs_are_steady}
 pub use Rattle.sc_image.proofs.Running.{run_goes, run_out, run_stopped, run_traps, walk_one}
 pub use Rattle.sc_image.proofs.Stretches.{goes_adds, goes_one, not_stopped, steps_emit, walk_adds}
-pub use Rattle.sc_image.specs.Prelude.{Crossing, Goes, IsAt, IsSteady, IsWellFormed, IsWord, Outcome, Traps, Walks}
-pub use Rattle.sc_image.specs.Prelude.{are_data, arguments, cleared_for_call, cleared_for_return, ended, exports_of}
-pub use Rattle.sc_image.specs.Prelude.{gate, given_back, has_result, input, input_at, is_argument, is_ended, is_result}
-pub use Rattle.sc_image.specs.Prelude.{jalr_target, kept, kept_from, may_input, may_output, output, params_of, reg}
-pub use Rattle.sc_image.specs.Prelude.{returned, returned_to, run, stack_size, stack_top, stack_tops, start}
+pub use Rattle.sc_image.specs.Prelude.{Crossing, Goes, IsAt, IsSteadyState, IsWellFormed, IsWord, Outcome, Traps, Walks}
+pub use Rattle.sc_image.specs.Prelude.{are_data, arguments, cleared_for_call, cleared_for_return, on_end, exported_by}
+pub use Rattle.sc_image.specs.Prelude.{gate, given_back, has_result, on_input, input_at, is_argument, is_ended}
+pub use Rattle.sc_image.specs.Prelude.{is_result}
+pub use Rattle.sc_image.specs.Prelude.{jalr_target, kept, kept_from, may_input, may_output, on_output, export_params}
+pub use Rattle.sc_image.specs.Prelude.{reg}
+pub use Rattle.sc_image.specs.Prelude.{on_return, on_return_to, run, stack_size, stack_top, stack_tops, start}
 pub use Rattle.sc_image.specs.Prelude.{start_memory, step, store_size, then_on, walk, with_pc, word_at, written}
 unfoldable pub use Rattle.sc_image.specs.Prelude.{stopped}
 pub use Rattle.sc_tac.proofs.Matching.{code_obeys}

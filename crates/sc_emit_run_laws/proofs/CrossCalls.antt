@@ -1,24 +1,23 @@
 -- Calls of functions of other compartments of a program: those that code makes, and those of functions that run theirs.
-use Rattle.sc_emit_run_laws.proofs.Common.{Addresses, All, ArePassed, BadType, Begins, Blamed, BodiesFollow, Bool, Call}
-use Rattle.sc_emit_run_laws.proofs.Common.{CallGives, CallStands, Cross, Denotations, EntersBy, Export, Function}
-use Rattle.sc_emit_run_laws.proofs.Common.{FunctionGives, GivesResults, HasCode, Here, ImageParts, IsBase, IsFunction}
-use Rattle.sc_emit_run_laws.proofs.Common.{IsLeft, IsLinked, IsProgram, IsRun, IsWord, Joint, List, None, Option}
-use Rattle.sc_emit_run_laws.proofs.Common.{Overflows, Piece, Proto, Reached, Ret, Roles, Setting, Settled, Some}
-use Rattle.sc_emit_run_laws.proofs.Common.{Standpoint, State as Meant, Stopped, TacFnTree, TacTree, Value, Walks}
-use Rattle.sc_emit_run_laws.proofs.Common.{and_parts, and_then, ap, arith, back_cross, back_goes, begun, bodies}
-use Rattle.sc_emit_run_laws.proofs.Common.{call_cross, called, called_there, calls_of, cases_eq, code_denotations}
-use Rattle.sc_emit_run_laws.proofs.Common.{code_function, code_inside, cross_call_fits, crossed, crossing, done}
-use Rattle.sc_emit_run_laws.proofs.Common.{emit_event, eqb-true, export_at, false, found, function_entered}
-use Rattle.sc_emit_run_laws.proofs.Common.{functions_in, gate, imports, inl, inr, is_function, is_some, is_word, jal}
-use Rattle.sc_emit_run_laws.proofs.Common.{jalr_target, leads, length, length-map, list_all, lt-ltb, machine, map}
-use Rattle.sc_emit_run_laws.proofs.Common.{may_call, nat_lt, not, option_map, option_value, overflows_then, pos, ra}
-use Rattle.sc_emit_run_laws.proofs.Common.{ran, read_listed, refl, reg, run_in, setting, settled_moved, slice_get}
-use Rattle.sc_emit_run_laws.proofs.Common.{slice_index, sp, steps_emit, subst, suc, sym, takes, then_go, then_then}
-use Rattle.sc_emit_run_laws.proofs.Common.{true, word_at, word_back, word_in, wrapping, ℕ, ⊎_elim, ◌<◌, ◌==◌, ◌||◌, ◌∙◌}
-use Rattle.sc_emit_run_laws.proofs.Common.{◌≡◌, ◌≢◌, ◌≤◌, ◌⊎◌}
-use Rattle.sc_image.specs.Prelude.{export_at as image_export}
-use Rattle.sc_emit_run_laws.proofs.Across.{IsDone, IsMade, across, comes_back, goes_across, low_is, opened, seen_across}
-use Rattle.sc_emit_run_laws.proofs.Across.{settled_in, walks_in}
+use Rattle.sc_emit_run_laws.proofs.Common.{All, ArePassed, BadType, Begins, Blamed, BodiesFollow, Bool, Call, CallGives}
+use Rattle.sc_emit_run_laws.proofs.Common.{CallStands, Cross, Denotations, EntersBy, Export, Function, FunctionGives}
+use Rattle.sc_emit_run_laws.proofs.Common.{HasCode, Here, ImageParts, IsBase, IsBuilt, IsLeft, IsRun, IsWord, Joint}
+use Rattle.sc_emit_run_laws.proofs.Common.{List, None, Option, Overflows, Piece, Proto, Reached, Ret, Roles, Setting}
+use Rattle.sc_emit_run_laws.proofs.Common.{Settled, Some, Standpoint, State as Meant, Stopped, TacFnTree, TacTree}
+use Rattle.sc_emit_run_laws.proofs.Common.{Value, Walks, and_parts, and_then, ap, arith, back_cross, back_goes, begun}
+use Rattle.sc_emit_run_laws.proofs.Common.{bodies, call_cross, called, called_there, calls_of, cases_eq}
+use Rattle.sc_emit_run_laws.proofs.Common.{code_denotations, code_function, code_inside, cross_call_fits, crossed}
+use Rattle.sc_emit_run_laws.proofs.Common.{crossing, done, emit_event, eqb-true, export_at, false, found}
+use Rattle.sc_emit_run_laws.proofs.Common.{function_entered, functions_in, gate, imports, inl, inr, is_function}
+use Rattle.sc_emit_run_laws.proofs.Common.{is_some, is_word, jal, jalr_target, leads, length, length-map, list_all}
+use Rattle.sc_emit_run_laws.proofs.Common.{lt-ltb, machine, map, may_call, nat_lt, not, option_map, option_value}
+use Rattle.sc_emit_run_laws.proofs.Common.{overflows_then, pos, ra, ran, read_listed, refl, reg, run_in, setting}
+use Rattle.sc_emit_run_laws.proofs.Common.{settled_moved, slice_get, slice_index, sp, steps_emit, subst, suc, sym}
+use Rattle.sc_emit_run_laws.proofs.Common.{takes, then_go, then_then, true, word_at, word_back, word_in, wrapping, ℕ}
+use Rattle.sc_emit_run_laws.proofs.Common.{⊎_elim, ◌<◌, ◌==◌, ◌||◌, ◌∙◌, ◌≡◌, ◌≢◌, ◌≤◌, ◌⊎◌}
+use Rattle.sc_image.specs.Prelude.{entered_export as image_export}
+use Rattle.sc_emit_run_laws.proofs.Across.{IsMade, across, opened, seen_across}
+use Rattle.sc_emit_run_laws.proofs.Made.{IsDone, comes_back, goes_across, low_is, settled_in, walks_in}
 use Rattle.sc_emit_run_laws.proofs.Placing.{word_there}
 use Rattle.sc_emit_run_laws.proofs.Sections.{IsEntered, function_found, function_is, is_export}
 use Rattle.sc_emit_run_laws.proofs.Turning.{CallComes, GoesIn, overflows_in, emits_in, turned, where_made, where_turns}
@@ -56,13 +55,10 @@ was_reached (Reached u t) end v s h =
     let same : u ≡ v = cc h in record { state = t; is = ap (λ u. Reached u t) same }
 was_reached (Stopped e t) end v s h = cc h
 
-module _ (program : TacTree) (image : ImageParts) (inputs : List ℕ) (roles : Roles) (turn_pays : ℕ)
-    (addresses : ℕ → Addresses) (rules : IsProgram program)
-    (functions : (comp number : ℕ) (f : TacFnTree) → slice_get (functions_in program comp) number ≡ Some f →
-    IsFunction f) (results : GivesResults program roles) (linked : IsLinked program image turn_pays addresses)
-    (words : All IsWord inputs) where
+module _ {program : TacTree} {image : ImageParts} {turn_pays : ℕ} (built : IsBuilt program image turn_pays)
+    (inputs : List ℕ) (words : All IsWord inputs) (roles : Roles) where
   abbrev T : Setting
-  T = setting program image inputs roles.scripted turn_pays addresses
+  T = setting program image inputs roles.scripted turn_pays built.addresses
 
   abbrev denotations : Denotations
   denotations = code_denotations wrapping program
@@ -119,14 +115,15 @@ module _ (program : TacTree) (image : ImageParts) (inputs : List ℕ) (roles : R
       (offered : IsOffered program to index (length args)) (all : list_all is_word args ≡ true)
       (led : IsLed to index) where
     abbrev entry_there : ℕ
-    entry_there = (addresses P.comp).entry to index
+    entry_there = (built.addresses P.comp).entry to index
 
     export_is : image_export image to entry_there ≡ Some index
-    export_is = linked.exports P.comp to index offered.proto offered.export
+    export_is = built.linked.exports P.comp to index offered.proto offered.export
 
     head_there : IsEntered program led.f offered.proto
     head_there =
-        is_export program rules functions to index led.number offered.proto led.f offered.export led.enters led.its
+        is_export program built.rules built.functions to index led.number offered.proto led.f offered.export led.enters
+        led.its
 
     over_floor : (k q : ℕ) → (k ≡ P.comp → P.bound ≤ q) → (k ≢ P.comp → P.floor k ≤ q) → P.floor k ≤ q
     over_floor k q own there =
@@ -135,15 +132,23 @@ module _ (program : TacTree) (image : ImageParts) (inputs : List ℕ) (roles : R
         there (cases_eq k P.comp)
 
     pub made_by_code : (left : ℕ) → x.meant.turns ≡ suc left →
-        IsMade T linked.formed words P x to index args left entry_there
+        IsMade T built.linked.formed words P x to index args left entry_there
     made_by_code left turns = record {
-      goes = (steps_emit.jalr_calls image inputs (machine P x) stands.0 stands.1.0 to index entry_there linked.formed
-          (record { word = stands.1.1.word; fetched = stands.1.1.fetched; decodes = stands.1.1.decodes })
-          (ap (λ b. jalr_target b stands.1.0) (read_listed x.regs stands.0 stands.1.2) ∙ stands.1.3)
-          (record { entry = export_is; may = linked.calls P.comp to index imported })).walks;
-      may = linked.calls P.comp to index imported;
-      takes = linked.params to index offered.proto offered.export ∙ offered.takes;
-      few_args = omega (arith, head_there.takes, offered.takes, (functions to led.number led.f led.its).few_params);
+      goes = (steps_emit.jalr_calls image inputs (machine P x) stands.0 stands.1.0 to index entry_there
+          built.linked.formed (record {
+            word = stands.1.1.word;
+            fetched = stands.1.1.fetched;
+            decodes = stands.1.1.decodes;
+          }) (ap (λ b. jalr_target b stands.1.0) (read_listed x.regs stands.0 stands.1.2) ∙ stands.1.3)
+          (record { entry = export_is; may = built.linked.calls P.comp to index imported })).walks;
+      may = built.linked.calls P.comp to index imported;
+      takes = built.linked.params to index offered.proto offered.export ∙ offered.takes;
+      few_args = omega (
+        arith,
+        head_there.takes,
+        offered.takes,
+        (built.functions to led.number led.f led.its).few_params,
+      );
       all = all;
       passed = passed;
       turn = turns;
@@ -158,7 +163,7 @@ module _ (program : TacTree) (image : ImageParts) (inputs : List ℕ) (roles : R
       T.makes P.comp (Cross to index) (length args) ≡ true → Settled T P x → IsBase T P → x.regs sp ≡ P.bound →
       ArePassed (x.inj P.comp) x.regs args → CallStands T P x (Cross to index) →
       ((offered : IsOffered program to index (length args)) (led : IsLed to index) (left : ℕ) →
-      IsMade T linked.formed words P x to index args left ((addresses P.comp).entry to index) →
+      IsMade T built.linked.formed words P x to index args left ((built.addresses P.comp).entry to index) →
       CallComes T P x (Cross to index)
       (call_cross denotations (bodies program roles n) P.comp to index args (turned left x.meant))) →
       CallComes T P x (Cross to index) (calls_of program roles n P.comp (Cross to index) args x.meant)
@@ -184,12 +189,12 @@ module _ (program : TacTree) (image : ImageParts) (inputs : List ℕ) (roles : R
 
   module _ (n : ℕ) (P : Standpoint) (x : Joint) (to index : ℕ) (args : List Value)
       (offered : IsOffered program to index (length args)) (led : IsLed to index) (turns entry : ℕ)
-      (made : IsMade T linked.formed words P x to index args turns entry) where
+      (made : IsMade T built.linked.formed words P x to index args turns entry) where
     abbrev Q : Standpoint
-    Q = seen_across T linked.formed words P x to index args
+    Q = seen_across T built.linked.formed words P x to index args
 
     abbrev entering : Joint
-    entering = across T linked.formed words P x to index args turns entry
+    entering = across T built.linked.formed words P x to index args turns entry
 
     abbrev F : Function
     F = code_function wrapping led.f
@@ -198,29 +203,30 @@ module _ (program : TacTree) (image : ImageParts) (inputs : List ℕ) (roles : R
     back = back_cross program.interfaces P.comp to index
 
     module _ (honest : roles.scripted to ≡ false) (run : BodiesFollow program roles T n)
-        (entry_is : entry ≡ (addresses P.comp).entry to index) where
+        (entry_is : entry ≡ (built.addresses P.comp).entry to index) where
       abbrev address : ℕ
-      address = (addresses to).function led.number
+      address = (built.addresses to).function led.number
 
       abbrev y : Joint
-      y = across T linked.formed words P x to index args turns address
+      y = across T built.linked.formed words P x to index args turns address
 
       head : IsEntered program led.f offered.proto
-      head = is_export program rules functions to index led.number offered.proto led.f offered.export led.enters led.its
+      head = is_export program built.rules built.functions to index led.number offered.proto led.f offered.export
+          led.enters led.its
 
-      code : HasCode image (addresses to) turn_pays to led.number led.f
-      code = linked.functions to led.number led.f led.its
+      code : HasCode image (built.addresses to) turn_pays to led.number led.f
+      code = built.linked.functions to led.number led.f led.its
 
       honest_there : T.performs to ≡ false
       honest_there =
           neither (roles.scripted to) (nat_lt to (length image.comps)) honest
-          (lt-ltb to (length image.comps)
-          (called_there image to ((addresses P.comp).entry to index) index
-          (linked.exports P.comp to index offered.proto offered.export)))
+          (lt-ltb to (length image.comps) (called_there image to ((built.addresses P.comp).entry to index) index
+          (built.linked.exports P.comp to index offered.proto offered.export)))
 
       enters : EntersBy image to entry address
       enters =
-          subst (λ e. EntersBy image to e address) (sym entry_is) (linked.entries P.comp to index led.number led.enters)
+          subst (λ e. EntersBy image to e address) (sym entry_is)
+          (built.linked.entries P.comp to index led.number led.enters)
 
       module _ (word : ℕ) (there : word_at image to address ≡ Some word) where
         walks_inside : Walks image inputs 1 (machine Q entering) (machine Q y)
@@ -233,16 +239,14 @@ module _ (program : TacTree) (image : ImageParts) (inputs : List ℕ) (roles : R
               input = x.input;
               trace = entering.meant.trace;
             }) 0 enters.imm address word (omega arith) enters.jump enters.leads
-            (code_inside image linked.formed to address word there).aligned there
+            (code_inside image built.linked.formed to address word there).aligned there
 
         walks : Walks image inputs 2 (machine P x) (machine Q y)
-        walks =
-            then_go image inputs (walks_in T linked.formed words P x to index args turns entry made) walks_inside
+        walks = then_go image inputs (walks_in made) walks_inside
 
         settled_there : Settled T Q y
         settled_there =
-            settled_moved T linked.formed words Q entering 1 address entering.regs x.bytes
-            (settled_in T linked.formed words P x to index args turns entry made)
+            settled_moved T built.linked.formed words Q entering 1 address entering.regs x.bytes (settled_in made)
             (λ k b a i cells honest live at below. refl) walks_inside
 
         begun_there : Begins T Q F (crossed args) address gate y
@@ -256,8 +260,7 @@ module _ (program : TacTree) (image : ImageParts) (inputs : List ℕ) (roles : R
             floors = made.floors;
           };
           pc = refl;
-          sp = called_sp (length args) (slice_index x.saved to) x.regs ∙
-              low_is T linked.formed words P x to index args turns entry made honest_there;
+          sp = called_sp (length args) (slice_index x.saved to) x.regs ∙ low_is made honest_there;
           ra = called_ra (length args) (slice_index x.saved to) x.regs;
           passed = crossed_passed (x.inj P.comp) (x.inj to) args (slice_index x.saved to) x.regs made.all made.passed;
         }
@@ -272,20 +275,17 @@ module _ (program : TacTree) (image : ImageParts) (inputs : List ℕ) (roles : R
             let start : Meant = begun to F (crossed args) y.meant in
             let was : WasReached (bodies program roles n led.number here start) v =
             was_reached (bodies program roles n led.number here start) (done to F (length (y.meant.memory to))) v s e in
-            results.crosses n index led.number here offered.proto start was.state v honest offered.export led.enters
-            was.is
+            (built.results roles).crosses n index led.number here offered.proto start was.state v honest offered.export
+            led.enters was.is
 
         goes : GoesIn T P Q x y 2
-        goes =
-            goes_across T linked.formed words P x to index args turns entry made 2 address (omega arith) (omega arith)
-            walks
+        goes = goes_across made 2 address (omega arith) (omega arith) walks
 
         module _ (budget : ℕ) (paid : budget < T.turn_pays) (v : Option Value) (s : Meant) (same : option_value
             (word_back offered.proto.result v) ≡ v) (g : IsLeft T Q y budget gate v s) where
-          left : IsDone T linked.formed words P x to index args turns entry made 2 address (omega arith) (omega arith)
-              walks budget offered.proto g.y v
+          left : IsDone made 2 address (omega arith) (omega arith) walks budget offered.proto g.y v
           left = record {
-            result_is = linked.result to index offered.proto offered.export;
+            result_is = built.linked.result to index offered.proto offered.export;
             steps = g.leads.steps;
             run = g.leads.run;
             costs = g.leads.costs;
@@ -294,7 +294,7 @@ module _ (program : TacTree) (image : ImageParts) (inputs : List ℕ) (roles : R
             given = g.value;
             same = same;
             leaves = (steps_emit.returns image inputs (machine Q g.y) ra (pos 0)
-                (opened T linked.formed words P x to index args) P.cross
+                (opened T built.linked.formed words P x to index args) P.cross
                 (record { word = g.jump.word; fetched = g.jump.fetched; decodes = g.jump.decodes })
                 (back_to (reg (machine Q g.y) ra) gate (read_listed g.y.regs ra (omega arith) ∙ g.ra) (omega arith)
                 (omega arith)) refl).walks;
@@ -305,8 +305,8 @@ module _ (program : TacTree) (image : ImageParts) (inputs : List ℕ) (roles : R
               subst (λ s. CallGives T P x (Cross to index) (back v s)) g.meant_is
               (subst (λ o. CallGives T P x (Cross to index) (Reached (option_value (crossing o v))
               (emit_event (Ret to P.comp (crossing o v)) g.y.meant))) (sym offered.export)
-              (comes_back T linked.formed words P x to index args turns entry made 2 address (omega arith) (omega arith)
-              walks budget (λ all. paid) offered.proto g.y v left))
+              (comes_back made 2 address (omega arith)
+              (omega arith) walks budget (λ all. paid) offered.proto g.y v left))
 
         gives_left : (budget : ℕ) → budget < T.turn_pays → (o : Piece (Option Value)) →
             ((v : Option Value) (s : Meant) → o ≡ Reached v s → option_value (word_back offered.proto.result v) ≡ v) →
@@ -334,7 +334,7 @@ module _ (program : TacTree) (image : ImageParts) (inputs : List ℕ) (roles : R
       pub into_code : CallComes T P x (Cross to index)
           (call_cross denotations (bodies program roles n) P.comp to index args (turned turns x.meant))
       into_code =
-          let word = word_there image (addresses to) turn_pays to led.number led.f code in
+          let word = word_there image (built.addresses to) turn_pays to led.number led.f code in
           subst (CallComes T P x (Cross to index))
           (sym (cross_is n P.comp to index led.number led.f args (turned turns x.meant) led.enters led.its))
           (comes_out word.0 word.1)
@@ -347,4 +347,4 @@ module _ (program : TacTree) (image : ImageParts) (inputs : List ℕ) (roles : R
   cross_follows n run P x to index args unscripted makes settled base at_base passed stands =
       cross_where n P x to index args makes settled base at_base passed stands
       (λ offered led left made.
-      into_code n P x to index args offered led left ((addresses P.comp).entry to index) made unscripted run refl)
+      into_code n P x to index args offered led left ((built.addresses P.comp).entry to index) made unscripted run refl)

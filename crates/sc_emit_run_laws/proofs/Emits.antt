@@ -5,14 +5,14 @@ use Rattle.sc_emit_run_laws.proofs.Common.{IsBlamed, IsFull, IsPrefix, IsStop, I
 use Rattle.sc_emit_run_laws.proofs.Common.{OutcomesSimulate, Owner, Reaches, Run, RunEnd, RunsAgree, RunsUntilBlame}
 use Rattle.sc_emit_run_laws.proofs.Common.{SimulatesRun, SourceRun, StackIsFull, Stands, Traps, TurnsOut, [], ap, arith}
 use Rattle.sc_emit_run_laws.proofs.Common.{before_more, blamed, blamed_run, deepest, deepest_is_reached, depth_after}
-use Rattle.sc_emit_run_laws.proofs.Common.{depth_in, drop, ended, false, finishes, inl, inr, is_full, leb-false}
+use Rattle.sc_emit_run_laws.proofs.Common.{depth_in, drop, on_end, false, finishes, inl, inr, is_full, leb-false}
 use Rattle.sc_emit_run_laws.proofs.Common.{leb-true, length, length-append, lt-leb, ltb-false, ltb-true, nat_le, nat_lt}
 use Rattle.sc_emit_run_laws.proofs.Common.{not_stopped, prefix_more, prefix_same, reaches, refl, reg, run, run_goes}
 use Rattle.sc_emit_run_laws.proofs.Common.{run_stopped, run_traps, same, same_run, stack_size, stands, start, step}
 use Rattle.sc_emit_run_laws.proofs.Common.{steps_emit, stopped, stopped_at, subst, suc, sym, take, take-append-drop}
 use Rattle.sc_emit_run_laws.proofs.Common.{take_prefixes, trace_is, true, without_line, zero, ℕ, ⊎_elim, ◌++◌, ◌+◌, ◌-◌}
 use Rattle.sc_emit_run_laws.proofs.Common.{◌<◌, ◌∙◌, ◌∷◌, ◌≡◌, ◌≤◌, ◌⊎◌}
-use Rattle.sc_image.specs.Prelude.{State, a0, machine}
+use Rattle.sc_image.specs.Prelude.{MachineState, a0, machine}
 use Rattle.sc_emit_run_laws.specs.Prelude.{ExceedsStack, Moment, Outcome}
 use Rattle.std.proofs.Common.{take_all}
 use Rattle.sc_base.specs.declared.stop.Stop.TheVariants.{Ended as EndedStop, Trap}
@@ -88,7 +88,7 @@ unstopped events run stop short = rw (unstopped_by events run run.end stop short
 module _ (image : ImageParts) (inputs : List ℕ) (formed : IsWellFormed image) where
   -- A stretch from the start.
   module _ (bound : ℕ) (place : Reaches image inputs bound) (events : ℕ) where
-    abbrev reached : State
+    abbrev reached : MachineState
     reached = place.reached
 
     abbrev observed : (steps : ℕ) → List Event
@@ -125,13 +125,13 @@ module _ (image : ImageParts) (inputs : List ℕ) (formed : IsWellFormed image) 
 
     -- where one more step ends the run
     pub ended_is : (steps : ℕ) → place.steps < steps → length reached.trace < events →
-        step image inputs reached ≡ Goes (ended reached) → observed steps ≡ (ended reached).trace
+        step image inputs reached ≡ Goes (on_end reached) → observed steps ≡ (on_end reached).trace
     ended_is steps less short goes =
         let one : steps - place.steps ≡ suc (steps - place.steps - 1) = omega (arith, less) in
         ap (λ r. r.state.trace) (on_from steps (omega (arith, less)) short ∙
         ap (λ k. run image inputs events k reached) one ∙
-        run_goes image inputs events (steps - place.steps - 1) reached (ended reached) (early short) goes ∙
-        run_stopped image inputs events (steps - place.steps - 1) (ended reached) EndedStop
+        run_goes image inputs events (steps - place.steps - 1) reached (on_end reached) (early short) goes ∙
+        run_stopped image inputs events (steps - place.steps - 1) (on_end reached) EndedStop
         (steps_emit.ended_stops events reached))
 
     -- where one more step is a trap
@@ -162,7 +162,7 @@ module _ (image : ImageParts) (inputs : List ℕ) (formed : IsWellFormed image) 
 
   -- WHERE `main` RETURNS
   module _ (bound turns : ℕ) (run : Run) (f : Finishes image inputs bound turns run) (events : ℕ) where
-    abbrev last : State
+    abbrev last : MachineState
     last = f.place.reached
 
     abbrev whole : List Event
@@ -196,7 +196,7 @@ module _ (image : ImageParts) (inputs : List ℕ) (formed : IsWellFormed image) 
 
   -- WHERE THE RUN STOPS
   module _ (bound turns : ℕ) (run : Run) (f : Stands image inputs bound turns run) (events : ℕ) where
-    abbrev there : State
+    abbrev there : MachineState
     there = f.place.reached
 
     abbrev all : List Event
@@ -259,7 +259,7 @@ module _ (image : ImageParts) (inputs : List ℕ) (formed : IsWellFormed image) 
 
   -- WHERE A STACK IS FULL
   module _ (bound turns : ℕ) (run : Run) (f : IsFull image inputs bound turns run) (events : ℕ) where
-    abbrev stuck : State
+    abbrev stuck : MachineState
     stuck = f.place.reached
 
     -- all of it, or it stands trapped
@@ -382,7 +382,7 @@ module _ (image : ImageParts) (inputs : List ℕ) (formed : IsWellFormed image) 
         (omega arith) trace))) h
 
     module _ (f : IsFull image inputs bound turns other) (events : ℕ) where
-      abbrev fixed : State
+      abbrev fixed : MachineState
       fixed = f.place.reached
 
       blamed_trap : length fixed.trace < events →

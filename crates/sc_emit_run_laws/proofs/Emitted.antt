@@ -2,18 +2,19 @@
 use Rattle.sc_emit_run_laws.proofs.Common.{Goes, HasEmitted, ImageParts, List, None, Option, Outcome, Some, Stop, Traps}
 use Rattle.sc_emit_run_laws.proofs.Common.{ap, refl, run, run_goes, run_out, run_stopped, run_traps, start, step}
 use Rattle.sc_emit_run_laws.proofs.Common.{stopped, suc, sym, then_on, walk, zero, ℕ, ◌∙◌, ◌≡◌}
-use Rattle.sc_image.specs.Prelude.{State, machine}
+use Rattle.sc_image.specs.Prelude.{MachineState, machine}
 
 module _ (image : ImageParts) (inputs : List ℕ) (events : ℕ) where
   -- `taken` steps lead from a state to where a run from it stops
-  record IsWalked (from to : State) : Type 0 where
+  record IsWalked (from to : MachineState) : Type 0 where
     taken : ℕ
     walks : walk image inputs taken from ≡ Goes to
 
-  stands : (from to : State) → to ≡ from → IsWalked from to
+  stands : (from to : MachineState) → to ≡ from → IsWalked from to
   stands from to same = record { taken = 0; walks = ap Goes (sym same) }
 
-  by_step : (n : ℕ) (from : State) → ((next : State) → IsWalked next (run image inputs events n next).state) →
+  by_step : (n : ℕ) (from : MachineState) → ((next : MachineState) → IsWalked next (run image inputs events n
+      next).state) →
       stopped events from.trace ≡ None → (outcome : Outcome) → step image inputs from ≡ outcome →
       IsWalked from (run image inputs events (suc n) from).state
   by_step n from later early (Goes next) is =
@@ -28,7 +29,7 @@ module _ (image : ImageParts) (inputs : List ℕ) (events : ℕ) where
       (ap (λ r. r.state) (run_traps image inputs events n from reason early is))
 
   -- it stops there, or goes on
-  or_stopped : (n : ℕ) (from : State) (o : Option Stop) → stopped events from.trace ≡ o →
+  or_stopped : (n : ℕ) (from : MachineState) (o : Option Stop) → stopped events from.trace ≡ o →
       (stopped events from.trace ≡ None → IsWalked from (run image inputs events n from).state) →
       IsWalked from (run image inputs events n from).state
   or_stopped n from None early going = going early
@@ -36,7 +37,7 @@ module _ (image : ImageParts) (inputs : List ℕ) (events : ℕ) where
       stands from (run image inputs events n from).state
       (ap (λ r. r.state) (run_stopped image inputs events n from stop early))
 
-  walked : (n : ℕ) (from : State) → IsWalked from (run image inputs events n from).state
+  walked : (n : ℕ) (from : MachineState) → IsWalked from (run image inputs events n from).state
   walked zero from =
       or_stopped 0 from (stopped events from.trace) refl
       (λ early. stands from (run image inputs events 0 from).state

@@ -2,10 +2,11 @@
 use Rattle.sc_emit_run_laws.proofs.Common.{All, ComesBack, Ecall, Fetches, In, Input, IsAt, IsWellFormed, IsWord, Joint}
 use Rattle.sc_emit_run_laws.proofs.Common.{List, None, Out, Output, Setting, Settled, Some, Standpoint, StandsFor}
 use Rattle.sc_emit_run_laws.proofs.Common.{Walks, Word, [], a0, a7, ap, arith, came_by, drop, drop_next, emit_event}
-use Rattle.sc_emit_run_laws.proofs.Common.{input_at, listed, machine, may_input, may_output, next_input, put, put_here}
-use Rattle.sc_emit_run_laws.proofs.Common.{put_there, read_input, read_listed, refl, sp, steps_emit, subst, suc, sym}
-use Rattle.sc_emit_run_laws.proofs.Common.{true, walks_steady, write_listed, written, zero, ℕ, ◌++◌, ◌+◌, ◌∙◌, ◌∷◌, ◌≡◌}
-use Rattle.sc_image.specs.Prelude.{State}
+use Rattle.sc_emit_run_laws.proofs.Common.{inl, input_at, listed, machine, may_input, may_output, next_input, put}
+use Rattle.sc_emit_run_laws.proofs.Common.{put_here, put_there, read_input, read_listed, refl, sp, steps_emit, subst}
+use Rattle.sc_emit_run_laws.proofs.Common.{suc, sym, true, walks_steady, write_listed, written, zero, ℕ, ◌++◌, ◌+◌, ◌∙◌}
+use Rattle.sc_emit_run_laws.proofs.Common.{◌∷◌, ◌≡◌}
+use Rattle.sc_image.specs.Prelude.{MachineState}
 use Rattle.sc_emit_run_laws.proofs.Turning.{before_timed}
 
 -- The next input.
@@ -26,7 +27,7 @@ module _ (T : Setting) (formed : IsWellFormed T.image) (inputs : All IsWord T.in
     w = next_input x.meant.inputs
 
     -- with these registers, and this word read
-    abbrev read : List ℕ → ℕ → State
+    abbrev read : List ℕ → ℕ → MachineState
     read regs word = record {
       regs = regs;
       pc = x.pc + 4;
@@ -88,7 +89,7 @@ module _ (T : Setting) (formed : IsWellFormed T.image) (inputs : All IsWord T.in
         costs = record { least = omega arith; most = λ all. omega arith };
         effect = record {
           grows = λ k b a e. e;
-          lived = λ k b cells h live. (cells, live, refl);
+          lived = λ k b cells h live. inl (cells, live, refl);
           keeps = λ k q p. refl;
           depths = λ k. refl;
         };
@@ -97,7 +98,7 @@ module _ (T : Setting) (formed : IsWellFormed T.image) (inputs : All IsWord T.in
     }
 
   module _ (asked : x.regs a7 ≡ 2) (may : may_output T.image P.comp ≡ true) (w : ℕ) (is : x.regs a0 ≡ w) where
-    abbrev observed : ℕ → State
+    abbrev observed : ℕ → MachineState
     observed word = record {
       regs = listed x.regs;
       pc = x.pc + 4;
@@ -133,7 +134,7 @@ module _ (T : Setting) (formed : IsWellFormed T.image) (inputs : All IsWord T.in
         costs = record { least = omega arith; most = λ all. omega arith };
         effect = record {
           grows = λ k b a e. e;
-          lived = λ k b cells h live. (cells, live, refl);
+          lived = λ k b cells h live. inl (cells, live, refl);
           keeps = λ k q p. refl;
           depths = λ k. refl;
         };

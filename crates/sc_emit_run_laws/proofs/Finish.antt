@@ -12,7 +12,7 @@ use Rattle.sc_emit_run_laws.proofs.Common.{leads, length, lt-ltb, machine, main_
 use Rattle.sc_emit_run_laws.proofs.Common.{prefix_more, prefix_same, ran, refl, reg, run_goes_on, run_step, run_to}
 use Rattle.sc_emit_run_laws.proofs.Common.{setting, slice_get, stands, steps_emit, subst, suc, sym, true, within}
 use Rattle.sc_emit_run_laws.proofs.Common.{within_goes, wrapping, ℕ, ◌*◌, ◌++◌, ◌+◌, ◌<◌, ◌∙◌, ◌∷◌, ◌≡◌, ◌≤◌, ◌⊎◌}
-use Rattle.sc_image.specs.Prelude.{State, a0, ra}
+use Rattle.sc_image.specs.Prelude.{MachineState, a0, ra}
 use Rattle.sc_emit_run_laws.specs.Prelude.{Outcome}
 use Rattle.sc_core_laws.proofs.Turns.{spends_turns}
 use Rattle.sc_emit_run_laws.proofs.Along.{prefix_endless}
@@ -64,10 +64,10 @@ module _ (program : TacTree) (image : ImageParts) (turn_pays : ℕ) (built : IsB
   T = setting program image inputs nobody.scripted turn_pays built.addresses
 
   abbrev P : Standpoint
-  P = P' program image inputs nobody.scripted turn_pays built.addresses built.linked turns
+  P = P' built inputs nobody.scripted turns
 
   abbrev x : Joint
-  x = x' program image inputs nobody.scripted turn_pays built.addresses built.linked turns
+  x = x' built inputs nobody.scripted turns
 
   abbrev body : Body
   body = within (run_step denotations) (suc turns)
@@ -133,7 +133,7 @@ module _ (program : TacTree) (image : ImageParts) (turn_pays : ℕ) (built : IsB
   abbrev bound : ℕ
   bound = turn_pays * suc turns
 
-  abbrev reaches : (steps budget left : ℕ) (reached : State) (meant : Meant) → budget < turn_pays →
+  abbrev reaches : (steps budget left : ℕ) (reached : MachineState) (meant : Meant) → budget < turn_pays →
       Walks image inputs steps (machine P x) reached → Costs T steps budget left x.meant meant →
       has_no_end reached.trace ≡ true → Reaches image inputs bound
   reaches steps budget left reached meant less walks costs going = record {
@@ -159,7 +159,7 @@ module _ (program : TacTree) (image : ImageParts) (turn_pays : ℕ) (built : IsB
         refl built.linked.main
         (ap (λ c. function_entered Main (slice_get program.sections c)) built.linked.main ∙ there.enters) gave.1
 
-    abbrev stands_at : State
+    abbrev stands_at : MachineState
     stands_at = machine P left.y
 
     trace_is : stands_at.trace ≡ s.trace
@@ -244,7 +244,6 @@ module _ (program : TacTree) (image : ImageParts) (turn_pays : ℕ) (built : IsB
   outcome follow =
       let ran_is : IsFollowed (ran program nobody (suc turns) image.main number f [] x.meant) =
       follow (suc turns) P x number f [] gate its (rw there.lone refl) (sym there.lone)
-      (begins program image inputs nobody.scripted turn_pays built.addresses built.linked turns refl number f
-      there.enters) in
+      (begins built inputs nobody.scripted turns refl number f there.enters) in
       let is : IsFollowed whole = subst IsFollowed (sym whole_ran) ran_is in
       subst (Outcome image inputs bound turns) (sym run_is) (outcome_of is.0 is.1.0 is.1.1)

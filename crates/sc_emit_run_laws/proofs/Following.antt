@@ -1,26 +1,22 @@
 -- The induction on open calls where some compartments perform their parts of the machine's own trace: what they perform
 -- is followed, whatever code they have, and all others are followed by their code.
-use Rattle.sc_emit_run_laws.proofs.Common.{Addresses, All, BodiesFollow, Bool, Event, GivesResults, HasEmitted, Here}
-use Rattle.sc_emit_run_laws.proofs.Common.{ImageParts, IsFunction, IsLinked, IsProgram, IsWord, List, PerformersDo}
-use Rattle.sc_emit_run_laws.proofs.Common.{Roles, Setting, Some, State as Meant, TacFnTree, TacTree, UnknownComes, ap}
-use Rattle.sc_emit_run_laws.proofs.Common.{bodies, code_denotations, emits_here, functions_in, if◌then◌else◌, inl}
-use Rattle.sc_emit_run_laws.proofs.Common.{legal, performs, roles_in, rows_left, run_step, setting, slice_get, subst}
-use Rattle.sc_emit_run_laws.proofs.Common.{suc, sym, true, wrapping, zero, ℕ, ◌≡◌}
+use Rattle.sc_emit_run_laws.proofs.Common.{All, BodiesFollow, Bool, Event, HasEmitted, Here, ImageParts, IsBuilt}
+use Rattle.sc_emit_run_laws.proofs.Common.{IsWord, List, PerformersDo, Roles, Setting, State as Meant, TacTree}
+use Rattle.sc_emit_run_laws.proofs.Common.{UnknownComes, ap, bodies, code_denotations, emits_here, if◌then◌else◌, inl}
+use Rattle.sc_emit_run_laws.proofs.Common.{legal, performs, roles_in, rows_left, run_step, setting, subst, suc, sym}
+use Rattle.sc_emit_run_laws.proofs.Common.{true, wrapping, zero, ℕ, ◌≡◌}
 use Rattle.sc_emit_run_laws.proofs.Bodies.{more_follow, none_follow}
 use Rattle.sc_emit_run_laws.proofs.Unknown.{followed}
 use Rattle.sc_emit_run_laws.proofs.Performing.{performers_follow}
 
-module _ (program : TacTree) (image : ImageParts) (inputs : List ℕ) (set : ℕ → Bool) (t : List Event) (turn_pays : ℕ)
-    (addresses : ℕ → Addresses) (rules : IsProgram program)
-    (functions : (comp number : ℕ) (f : TacFnTree) → slice_get (functions_in program comp) number ≡ Some f →
-    IsFunction f) (results : GivesResults program (roles_in program.interfaces.main set t))
-    (linked : IsLinked program image turn_pays addresses) (words : All IsWord inputs)
+module _ {program : TacTree} {image : ImageParts} {turn_pays : ℕ} (built : IsBuilt program image turn_pays)
+    (inputs : List ℕ) (words : All IsWord inputs) (set : ℕ → Bool) (t : List Event)
     (observed : HasEmitted image inputs t) (lawful : legal program.interfaces t ≡ true) where
   abbrev roles : Roles
   roles = roles_in program.interfaces.main set t
 
   abbrev T : Setting
-  T = setting program image inputs set turn_pays addresses
+  T = setting program image inputs set turn_pays built.addresses
 
   -- bodies with at most `n` open calls, of both kinds
   pub record AllFollow (n : ℕ) : Type 0 where
@@ -42,19 +38,17 @@ module _ (program : TacTree) (image : ImageParts) (inputs : List ℕ) (set : ℕ
   more_perform n all P x number first h =
       subst (UnknownComes program roles T P x)
       (sym (performs_is n number (record { comp = P.comp; first = first }) x.meant h.performs))
-      (followed program image inputs set t turn_pays addresses rules functions results linked words observed lawful n P
+      (followed built inputs words set t observed lawful n P
       number first h.performs h.entered all.run all.perform h.floors x h.settled)
 
   pub all_follow : (n : ℕ) → AllFollow n
   all_follow zero = record {
-    run = none_follow program image inputs roles turn_pays addresses rules functions results linked words;
+    run = none_follow built inputs words roles;
     perform = λ P x number first h. inl (emits_here T P x 0);
   }
   all_follow (suc n) =
       let all : AllFollow n = all_follow n in
       record {
-        run = more_follow program image inputs roles turn_pays addresses rules functions results linked words n all.run
-            (performers_follow program image inputs roles turn_pays addresses rules functions results linked words n
-            all.perform);
+        run = more_follow built inputs words roles n all.run (performers_follow built inputs words roles n all.perform);
         perform = more_perform n all;
       }

@@ -10,6 +10,7 @@ pub mod Exports
 pub mod Finish
 pub mod Following
 pub mod Kept
+pub mod Made
 pub mod OwnCalls
 pub mod Passing
 pub mod Performing

@@ -1,7 +1,7 @@
 -- A state that the machine reaches, and the trace of a run of `steps` steps: the run doesn't come so far, or it passes.
 use Rattle.sc_emit_run_laws.proofs.Common.{Blamed, Bool, End, Ended, Event, EventsOut, Goes, ImageParts, IsBlamed}
 use Rattle.sc_emit_run_laws.proofs.Common.{IsPrefix, IsStop, IsWellFormed, KeepsTo, List, Owner, Reaches, RunEnd}
-use Rattle.sc_emit_run_laws.proofs.Common.{SourceRun, Traps, TurnsOut, [], append-nil, arith, drop, ended, false, inl}
+use Rattle.sc_emit_run_laws.proofs.Common.{SourceRun, Traps, TurnsOut, [], append-nil, arith, drop, on_end, false, inl}
 use Rattle.sc_emit_run_laws.proofs.Common.{inr, leb-false, leb-true, length, ltb-false, ltb-true, nat_le, nat_lt}
 use Rattle.sc_emit_run_laws.proofs.Common.{prefix_more, prefix_same, refl, reg, step, subst, sym, take}
 use Rattle.sc_emit_run_laws.proofs.Common.{take-append-drop, true, ℕ, ⊎_elim, ◌++◌, ◌<◌, ◌∙◌, ◌∷◌, ◌≡◌, ◌≤◌, ◌⊎◌}
@@ -48,8 +48,8 @@ module _ (image : ImageParts) (inputs : List ℕ) (formed : IsWellFormed image) 
           (prefix_of_take events there))
 
     -- where the next step is the end of the run
-    pub emits_finish : step image inputs place.reached ≡ Goes (ended place.reached) → (whole : List Event) →
-        (ended place.reached).trace ≡ whole → IsPrefix observed whole
+    pub emits_finish : step image inputs place.reached ≡ Goes (on_end place.reached) → (whole : List Event) →
+        (on_end place.reached).trace ≡ whole → IsPrefix observed whole
     emits_finish goes whole is =
         ⊎_elim
         (λ prefix. prefix_more observed there whole prefix

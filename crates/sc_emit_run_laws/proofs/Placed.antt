@@ -3,24 +3,26 @@ use Rattle.sc_emit_run_laws.proofs.Common.{Activation, Bool, Call, Crossing, End
 use Rattle.sc_emit_run_laws.proofs.Common.{IsWellFormed, List, None, Option, Out, Outcome, Ret, Row, Some, Standing}
 use Rattle.sc_emit_run_laws.proofs.Common.{Traps, Walks, [], and_parts, ap, arguments, arith, at_start, count_of}
 use Rattle.sc_emit_run_laws.proofs.Common.{entered_by, false, filter, given_back, has_result, if◌then◌else◌, input_at}
-use Rattle.sc_emit_run_laws.proofs.Common.{is_allowed, is_legal_from, length, params_of, performer, refl, reg, returned}
+use Rattle.sc_emit_run_laws.proofs.Common.{is_allowed, is_legal_from, length, export_params, performer, refl, reg}
+use Rattle.sc_emit_run_laws.proofs.Common.{on_return}
 use Rattle.sc_emit_run_laws.proofs.Common.{rows_from, stands_after, stands_after_all, stands_last, start, step, step_of}
 use Rattle.sc_emit_run_laws.proofs.Common.{subst, suc, suc-add, sym, then_on, true, walk, zero, zero-add, ℕ, ◌++◌, ◌+◌}
 use Rattle.sc_emit_run_laws.proofs.Common.{◌==◌, ◌∙◌, ◌∷◌, ◌≡◌, ◌≤◌}
-use Rattle.sc_image.specs.Prelude.{State, a0}
+use Rattle.sc_image.specs.Prelude.{MachineState, a0}
 use Rattle.sc_event.specs.declared.interface.Interfaces.{Interfaces}
 
 -- THE REST OF A STRETCH
 
 module _ (image : ImageParts) (inputs : List ℕ) where
-  rest_by : (m k : ℕ) (outcome : Outcome) (middle last : State) → then_on outcome (walk image inputs m) ≡ Goes middle →
+  rest_by : (m k : ℕ) (outcome : Outcome) (middle last : MachineState) → then_on outcome (walk image inputs m) ≡ Goes
+      middle →
       then_on outcome (walk image inputs (m + k)) ≡ Goes last →
-      ((s : State) → walk image inputs m s ≡ Goes middle → walk image inputs (m + k) s ≡ Goes last →
+      ((s : MachineState) → walk image inputs m s ≡ Goes middle → walk image inputs (m + k) s ≡ Goes last →
       walk image inputs k middle ≡ Goes last) → walk image inputs k middle ≡ Goes last
   rest_by m k (Goes s) middle last first whole later = later s first whole
   rest_by m k (Traps reason) middle last first whole later = cc first
 
-  rest_at : (m k : ℕ) (from middle last : State) → walk image inputs m from ≡ Goes middle →
+  rest_at : (m k : ℕ) (from middle last : MachineState) → walk image inputs m from ≡ Goes middle →
       walk image inputs (m + k) from ≡ Goes last → walk image inputs k middle ≡ Goes last
   rest_at zero k from middle last first whole =
       let same : from ≡ middle = cc first in
@@ -30,22 +32,22 @@ module _ (image : ImageParts) (inputs : List ℕ) where
       rest_by m k (step image inputs from) middle last first
       (subst (λ n. walk image inputs n from ≡ Goes last) (suc-add m k) whole) (λ s. rest_at m k s middle last)
 
-  pub walk_rest : (m k : ℕ) (from middle last : State) → Walks image inputs m from middle →
+  pub walk_rest : (m k : ℕ) (from middle last : MachineState) → Walks image inputs m from middle →
       Walks image inputs (m + k) from last → Walks image inputs k middle last
   walk_rest m k from middle last first whole = record { by = rest_at m k from middle last first.by whole.by }
 
   -- the first step of a stretch
-  pub record StepsOn (m : ℕ) (from last : State) : Type 0 where
-    pub next : State
+  pub record StepsOn (m : ℕ) (from last : MachineState) : Type 0 where
+    pub next : MachineState
     pub goes : step image inputs from ≡ Goes next
     pub rest : Walks image inputs m next last
 
-  first_by : (m : ℕ) (from last : State) (outcome : Outcome) → step image inputs from ≡ outcome →
+  first_by : (m : ℕ) (from last : MachineState) (outcome : Outcome) → step image inputs from ≡ outcome →
       then_on outcome (walk image inputs m) ≡ Goes last → StepsOn m from last
   first_by m from last (Goes next) is goes = record { next = next; goes = is; rest = record { by = goes } }
   first_by m from last (Traps reason) is goes = cc goes
 
-  pub first_step : (m : ℕ) (from last : State) → Walks image inputs (suc m) from last → StepsOn m from last
+  pub first_step : (m : ℕ) (from last : MachineState) → Walks image inputs (suc m) from last → StepsOn m from last
   first_step m from last walks = first_by m from last (step image inputs from) refl walks.by
 
 -- WHO IS ACTIVE
@@ -55,7 +57,7 @@ abbrev pub waiting_in : List Crossing → List Activation
 waiting_in [] = []
 waiting_in (x ∷ xs) = record { comp = x.caller; entry = entered_by xs } ∷ waiting_in xs
 
-abbrev pub standing_in : State → Standing
+abbrev pub standing_in : MachineState → Standing
 standing_in s = record {
   active = record { comp = s.active; entry = entered_by s.cross };
   waiting = waiting_in s.cross;
@@ -79,14 +81,14 @@ stood_before (Some first) (x ∷ xs) ys at is =
 
 module _ (image : ImageParts) (inputs : List ℕ) (formed : IsWellFormed image) where
   -- where a trace stands, it stands where the state does
-  pub record StandsSo (s : State) : Type 0 where
+  pub record StandsSo (s : MachineState) : Type 0 where
     pub place : (at : Standing) → stands_after_all (at_start image.main) s.trace ≡ Some at → at ≡ standing_in s
 
   abbrev StandsAfter : Outcome → Type 0
   StandsAfter (Goes next) = StandsSo next
   StandsAfter (Traps reason) = Unit {0}
 
-  module _ (s : State) (stands : StandsSo s) where
+  module _ (s : MachineState) (stands : StandsSo s) where
     timed : (event : Event) (after : Option Standing) → stands_after (standing_in s) event ≡ after → (at : Standing) →
         stands_after_all (at_start image.main) (s.trace ++ event ∷ []) ≡ Some at → Some at ≡ after
     timed event after is at following =
@@ -98,7 +100,7 @@ module _ (image : ImageParts) (inputs : List ℕ) (formed : IsWellFormed image) 
     same_at : (at to : Standing) → ◌≡◌ {A = Option Standing} (Some at) (Some to) → at ≡ to
     same_at at to is = cc is
 
-    gone_back : (cross : List Crossing) → s.cross ≡ cross → StandsSo (returned image s cross)
+    gone_back : (cross : List Crossing) → s.cross ≡ cross → StandsSo (on_return image s cross)
     gone_back [] is = record {
       place = λ at following.
           (let never : ◌≡◌ {A = Option Standing} (Some at) None =
@@ -124,7 +126,7 @@ module _ (image : ImageParts) (inputs : List ℕ) (formed : IsWellFormed image) 
       stores = λ op a word allowed. record { place = stands.place };
       calls = λ to index target at may. record {
         place = λ at following. same_at at _
-            (timed (Call s.active to index (arguments (params_of image to index) s.regs)) _ refl at following);
+            (timed (Call s.active to index (arguments (export_params image to index) s.regs)) _ refl at following);
       };
       returns = gone_back s.cross refl;
       outputs = λ may. record {
@@ -135,18 +137,18 @@ module _ (image : ImageParts) (inputs : List ℕ) (formed : IsWellFormed image) 
       };
     })
 
-  stands_by : (n : ℕ) (s t : State) (outcome : Outcome) → StandsAfter outcome →
+  stands_by : (n : ℕ) (s t : MachineState) (outcome : Outcome) → StandsAfter outcome →
       then_on outcome (walk image inputs n) ≡ Goes t →
-      ((u : State) → StandsSo u → walk image inputs n u ≡ Goes t → StandsSo t) → StandsSo t
+      ((u : MachineState) → StandsSo u → walk image inputs n u ≡ Goes t → StandsSo t) → StandsSo t
   stands_by n s t (Goes u) stands walks later = later u stands walks
   stands_by n s t (Traps reason) stands walks later = cc walks
 
-  stands_on : (n : ℕ) (s t : State) → StandsSo s → walk image inputs n s ≡ Goes t → StandsSo t
+  stands_on : (n : ℕ) (s t : MachineState) → StandsSo s → walk image inputs n s ≡ Goes t → StandsSo t
   stands_on zero s t stands walks = (let same : s ≡ t = cc walks in subst StandsSo same stands)
   stands_on (suc n) s t stands walks =
       stands_by n s t (step image inputs s) (stands_next s stands) walks (λ u. stands_on n u t)
 
-  pub stands_so : (n : ℕ) (s : State) → Walks image inputs n (start image) s → StandsSo s
+  pub stands_so : (n : ℕ) (s : MachineState) → Walks image inputs n (start image) s → StandsSo s
   stands_so n s walks =
       stands_on n (start image) s (record { place = λ at following. cc following }) walks.by
 

@@ -1,10 +1,10 @@
 -- The code of a function of a program is placed where a linked image has it.
 use Rattle.sc_emit_run_laws.proofs.Common.{Addresses, All, Bool, CallTarget, CodeAt, Cross, HasCode, ImageParts, Input}
-use Rattle.sc_emit_run_laws.proofs.Common.{IsAddress, IsLinked, IsProgram, IsWord, List, None, Option, Output, Own}
-use Rattle.sc_emit_run_laws.proofs.Common.{Proto, Setting, Some, Store, TacFnTree, TacSection, TacStmt, TacStmt-F}
-use Rattle.sc_emit_run_laws.proofs.Common.{TacTree, [], all_true, and_from, and_parts, ap, arith, calls_exports}
-use Rattle.sc_emit_run_laws.proofs.Common.{calls_imports, calls_own, code_globals, cross_call_fits, everywhere}
-use Rattle.sc_emit_run_laws.proofs.Common.{export_at, false, first_blocks, fold-roll-TacStmt, frame_taken, functions_in}
+use Rattle.sc_emit_run_laws.proofs.Common.{IsAddress, IsBuilt, IsWord, List, None, Option, Output, Own, Proto, Setting}
+use Rattle.sc_emit_run_laws.proofs.Common.{Some, Store, TacFnTree, TacSection, TacStmt, TacStmt-F, TacTree, []}
+use Rattle.sc_emit_run_laws.proofs.Common.{all_true, and_from, and_parts, ap, arith, calls_exports, calls_imports}
+use Rattle.sc_emit_run_laws.proofs.Common.{calls_own, code_globals, cross_call_fits, everywhere, export_at, false}
+use Rattle.sc_emit_run_laws.proofs.Common.{first_blocks, fold-roll-TacStmt, frame_taken, functions_in}
 use Rattle.sc_emit_run_laws.proofs.Common.{functions_or_none, gives, gives_result, imports, is_function, is_some}
 use Rattle.sc_emit_run_laws.proofs.Common.{is_there, length, length-append, length-map, linked_from, ltb-true, makes}
 use Rattle.sc_emit_run_laws.proofs.Common.{map, map-TacStmt, moved_by, names_own_global, nat_lt, not, option_map}
@@ -22,6 +22,7 @@ use Rattle.sc_tac.specs.declared.machine_code.Relocation.{Relocation}
 use Rattle.sc_emit.proofs.Passing.{AllPass, PassesAll, PassesHere, Test, choice_passes, first_passes, loop_passes}
 use Rattle.sc_emit.proofs.Passing.{passes, passes_here, rest_pass}
 use Rattle.sc_emit_run_laws.proofs.Sections.{InSection, in_functions, its_section}
+use Rattle.sc_core.specs.Prelude.{live_cells}
 
 -- the first word of linked code
 first_word : (image : ImageParts) (A : Addresses) (comp address pc at : ℕ) (low : Option ℕ) (instrs : List Instr)
@@ -237,23 +238,22 @@ module _ (program : TacTree) (comp : ℕ) (section : TacSection) where
     pub calls_all : (stmts : List TacStmt) → AllPass rules_of stmts → everywhere its_calls stmts ≡ true
     calls_all stmts all = implied_everywhere rules_of its_calls calls_here stmts all
 
-module _ (program : TacTree) (image : ImageParts) (inputs : List ℕ) (performs : ℕ → Bool) (turn_pays : ℕ)
-    (addresses : ℕ → Addresses) (rules : IsProgram program) (linked : IsLinked program image turn_pays addresses)
-    (words : All IsWord inputs) where
+module _ {program : TacTree} {image : ImageParts} {turn_pays : ℕ} (built : IsBuilt program image turn_pays)
+    (inputs : List ℕ) (words : All IsWord inputs) (performs : ℕ → Bool) where
   abbrev T : Setting
-  T = setting program image inputs performs turn_pays addresses
+  T = setting program image inputs performs turn_pays built.addresses
 
   globals_are : (comp : ℕ) (section : TacSection) → slice_get program.sections comp ≡ Some section →
       length (code_globals program.sections comp) ≡ length section.globals
   globals_are comp section here = ap (λ o. length (first_blocks o)) here ∙ length-map section.globals _
 
   global_place : (comp number : ℕ) (section : TacSection) → slice_get program.sections comp ≡ Some section →
-      number < length section.globals → IsAddress ((addresses comp).global number)
+      number < length section.globals → IsAddress ((built.addresses comp).global number)
   global_place comp number section here below =
       let its = is_there section.globals number below in
-      (linked.globals comp number _
-      (ap (λ o. slice_get (first_blocks o) number) here ∙ slice_get-map _ section.globals number ∙
-      ap (option_map _) its.1)).is_address
+      (built.linked.globals comp number _
+      (ap live_cells (ap (λ o. slice_get (first_blocks o) number) here ∙ slice_get-map _ section.globals number ∙
+      ap (option_map _) its.1))).is_address
 
   some_within : {X : Type 0} (xs : List X) (i : ℕ) (o : Option X) → slice_get xs i ≡ o → is_some o ≡ true →
       i < length xs
@@ -261,28 +261,28 @@ module _ (program : TacTree) (image : ImageParts) (inputs : List ℕ) (performs 
   some_within xs i (Some x) e h = slice_get_within xs i x e
 
   entry_place : (comp to index : ℕ) (o : Option Proto) → export_at program.interfaces to index ≡ o →
-      is_some o ≡ true → IsCodeAddress ((addresses comp).entry to index)
+      is_some o ≡ true → IsCodeAddress ((built.addresses comp).entry to index)
   entry_place comp to index None e h = cc h
-  entry_place comp to index (Some proto) e h = linked.entry_at comp to index proto e
+  entry_place comp to index (Some proto) e h = built.linked.entry_at comp to index proto e
 
   pub is_placed : (comp number : ℕ) (f : TacFnTree) → performs comp ≡ false →
       slice_get (functions_in program comp) number ≡ Some f → passes_words f.params f.objects ≡ true →
-      (code : HasCode image (addresses comp) turn_pays comp number f) →
-      IsPlaced T comp ((addresses comp).function number) f code.code
+      (code : HasCode image (built.addresses comp) turn_pays comp number f) →
+      IsPlaced T comp ((built.addresses comp).function number) f code.code
   is_placed comp number f honest its passed code =
       let at : InSection program comp number f = its_section program comp number f its in
       let all : AllPass (rules_of program comp at.section) f.body = (
-        in_functions program (names_own_global program.interfaces) comp number f at rules.globals,
+        in_functions program (names_own_global program.interfaces) comp number f at built.rules.globals,
         (
-          in_functions program (calls_own program.interfaces) comp number f at rules.own_calls,
+          in_functions program (calls_own program.interfaces) comp number f at built.rules.own_calls,
           (
-            in_functions program (calls_exports program.interfaces) comp number f at rules.cross_calls,
-            (in_functions program (calls_imports program.interfaces) comp number f at rules.imported, tt),
+            in_functions program (calls_exports program.interfaces) comp number f at built.rules.cross_calls,
+            (in_functions program (calls_imports program.interfaces) comp number f at built.rules.imported, tt),
           ),
         ),
       ) in
       record {
-        image = linked.formed;
+        image = built.linked.formed;
         inputs = words;
         function = function program comp at.section;
         entry = entry program comp at.section;
@@ -290,7 +290,7 @@ module _ (program : TacTree) (image : ImageParts) (inputs : List ℕ) (performs 
         names = names_all program comp at.section f.body all;
         calls = calls_all program comp at.section at.here performs honest f.body all;
         reached = record {
-          functions = λ other h. linked.function_at comp other
+          functions = λ other h. built.linked.function_at comp other
               (subst (λ (fs : List TacFnTree). other < length fs) (sym (ap functions_or_none at.here))
               (some_within at.section.functions other (slice_get at.section.functions other) refl h));
           entries = λ to index h.

@@ -13,7 +13,7 @@ use Rattle.sc_emit_run_laws.proofs.Common.{own_goes, pos, prefix_more, ran, refl
 use Rattle.sc_emit_run_laws.proofs.Common.{scripted_call, scripted_code_run, scripted_goes_on, scripted_step, setting}
 use Rattle.sc_emit_run_laws.proofs.Common.{slice_get, spends_along, step, steps_emit, subst, suc, sym, true}
 use Rattle.sc_emit_run_laws.proofs.Common.{within_goes, wrapping, ℕ, ⊎_elim, ◌++◌, ◌∙◌, ◌∷◌, ◌≡◌, ◌≤◌, ◌⊎◌}
-use Rattle.sc_image.specs.Prelude.{State, a0, machine as ran_by, ra}
+use Rattle.sc_image.specs.Prelude.{MachineState, a0, machine as ran_by, ra}
 use Rattle.sc_emit_run_laws.proofs.Along.{prefix_endless}
 use Rattle.sc_emit_run_laws.proofs.Exports.{exports_lead}
 use Rattle.sc_emit_run_laws.proofs.Finish.{body_gave, run_prefix, word_given}
@@ -44,10 +44,10 @@ module _ (program : TacTree) (image : ImageParts) (turn_pays : ℕ) (built : IsB
   T = setting program image inputs set turn_pays built.addresses
 
   abbrev pub P : Standpoint
-  P = P' program image inputs set turn_pays built.addresses built.linked steps
+  P = P' built inputs set steps
 
   abbrev pub x : Joint
-  x = x' program image inputs set turn_pays built.addresses built.linked steps
+  x = x' built inputs set steps
 
   abbrev body : Body
   body = bodies program roles (suc steps)
@@ -96,7 +96,7 @@ module _ (program : TacTree) (image : ImageParts) (turn_pays : ℕ) (built : IsB
   led =
       ap (leads denotations main) there.enters ∙ ap is_some (function_found program main there.number there.f there.its)
 
-  abbrev reaches : (taken : ℕ) (reached : State) → Walks image inputs taken (machine P x) reached →
+  abbrev reaches : (taken : ℕ) (reached : MachineState) → Walks image inputs taken (machine P x) reached →
       has_no_end reached.trace ≡ true → Reaches image inputs (suc taken)
   reaches taken reached walks going = record {
     steps = taken;
@@ -114,7 +114,7 @@ module _ (program : TacTree) (image : ImageParts) (turn_pays : ℕ) (built : IsB
   -- the machine stands trapped, and has emitted a prefix of the piece's trace
   pub record IsTrapped (piece : Piece (Option Value)) : Type 0 where
     pub taken : ℕ
-    pub reached : State
+    pub reached : MachineState
     pub walks : Walks image inputs taken (machine P x) reached
     pub traps : step image inputs reached ≡ Traps Owner
     pub prefix : IsPrefix reached.trace (last piece).trace
@@ -190,7 +190,7 @@ module _ (program : TacTree) (image : ImageParts) (turn_pays : ℕ) (built : IsB
           (begun image.main (code_function wrapping there.f) [] x.meant) gave.0 v honest built.linked.main
           (ap (λ c. function_entered Main (slice_get program.sections c)) built.linked.main ∙ there.enters) gave.1
 
-      abbrev stands_at : State
+      abbrev stands_at : MachineState
       stands_at = machine P left.y
 
       trace_is : stands_at.trace ≡ s.trace
@@ -216,8 +216,7 @@ module _ (program : TacTree) (image : ImageParts) (turn_pays : ℕ) (built : IsB
     runs_code follow =
         let run : IsRun program roles T (suc steps) there.number there.f P x [] gate =
         follow (suc steps) P x there.number there.f [] gate its (rw there.lone refl) (sym there.lone)
-        (begins program image inputs set turn_pays built.addresses built.linked steps honest there.number there.f
-        there.enters) in
+        (begins built inputs set steps honest there.number there.f there.enters) in
         ⊎_elim (λ gives. inl (gives_by run.0 main_ran refl gives)) (λ over. inr (overflow_traps run.0 main_ran over))
         run.1.1
 
@@ -242,10 +241,8 @@ module _ (program : TacTree) (image : ImageParts) (turn_pays : ℕ) (built : IsB
     unknown : IsUnknown program roles T P opened there.number
     unknown = record {
       performs = performing;
-      settled =
-          settled_started T P image.main unknown_main F [] x
-          (settled program image inputs set turn_pays built.addresses built.linked steps);
-      floors = (base program image inputs set turn_pays built.addresses built.linked steps).floors;
+      settled = settled_started T P image.main unknown_main F [] x (settled built inputs set steps);
+      floors = (base built inputs set steps).floors;
       entered = ap (λ c. function_entered Main (slice_get program.sections c)) built.linked.main ∙ there.enters;
     }
 
@@ -259,7 +256,7 @@ module _ (program : TacTree) (image : ImageParts) (turn_pays : ℕ) (built : IsB
     departs : (v : Option Value) (s : Meant) → performed ≡ Reached v s → Departs program roles T P opened v s →
         MainGives (Reached v (close s))
     departs v s is left =
-        let y : State = machine P left.y in
+        let y : MachineState = machine P left.y in
         let trace_is : y.trace ≡ s.trace = ap (λ m. m.trace) left.meant_is in
         emits_finish image inputs built.linked.formed steps events (suc left.leads.steps)
         (reaches left.leads.steps y left.leads.run

@@ -1,18 +1,19 @@
 -- Where both sides stand at the start of a run: the machine, and the meaning of the program whose code it has.
-use Rattle.sc_emit_run_laws.proofs.Common.{Addresses, Begins, BlocksMatch, Bool, Cell, ImageParts, InCell, Injection}
-use Rattle.sc_emit_run_laws.proofs.Common.{IsBase, IsLinked, IsProgram, Joint, List, Main, Memory, None, Option, Placed}
+use Rattle.sc_emit_run_laws.proofs.Common.{Begins, BlocksMatch, Bool, Cell, ImageParts, InCell, Injection, IsBase}
+use Rattle.sc_emit_run_laws.proofs.Common.{IsBuilt, IsProgram, Joint, List, Main, Memory, None, Option, Placed}
 use Rattle.sc_emit_run_laws.proofs.Common.{Registers, Setting, Settled, Some, Standpoint, TacFnTree, TacSection}
 use Rattle.sc_emit_run_laws.proofs.Common.{TacTree, [], and_parts, ap, are_headed, arith, code_function, code_globals}
 use Rattle.sc_emit_run_laws.proofs.Common.{cond, count, eqb-true, false, first_state, function_entered, functions_in}
 use Rattle.sc_emit_run_laws.proofs.Common.{functions_or_none, gate, has_head, if◌then◌else◌, length, lt-ltb, ltb-true}
 use Rattle.sc_emit_run_laws.proofs.Common.{main_entered, nat_lt, not, option_map, or_parts, position, position-cons}
 use Rattle.sc_emit_run_laws.proofs.Common.{refl, runs_are_steady, same_Some, same_entry, setting, slice_get}
-use Rattle.sc_emit_run_laws.proofs.Common.{slice_get_within, slice_index, stack_top, stack_tops, start_memory, subst}
-use Rattle.sc_emit_run_laws.proofs.Common.{suc, sym, true, truth, word, wrapping, zero, zero-add, ℕ, ◌*◌, ◌+◌, ◌<◌}
-use Rattle.sc_emit_run_laws.proofs.Common.{◌==◌, ◌||◌, ◌∙◌, ◌∷◌, ◌≡◌, ◌≤◌, ◌⊎◌}
+use Rattle.sc_emit_run_laws.proofs.Common.{slice_index, stack_top, stack_tops, start_memory, subst, suc, sym, true}
+use Rattle.sc_emit_run_laws.proofs.Common.{truth, word, wrapping, zero, zero-add, ℕ, ◌*◌, ◌+◌, ◌<◌, ◌==◌, ◌||◌, ◌∙◌}
+use Rattle.sc_emit_run_laws.proofs.Common.{◌∷◌, ◌≡◌, ◌≤◌, ◌⊎◌}
 use Rattle.sc_core.specs.declared.value.Cell.TheVariants as cell
 use Rattle.sc_image.specs.declared.parts.CompPart.{CompPart}
 use Rattle.sc_emit_run_laws.proofs.Sections.{all_at, position_at}
+use Rattle.sc_emit_relation.proofs.Access.{live_within}
 
 -- THE FUNCTION OF `main`
 
@@ -117,10 +118,10 @@ placed_only count place b a h = by (nat_lt b count) refl h where
   by true is h = (ltb-true b count is, sym (same_Some (place b) a h))
   by false is h = cc h
 
-module _ (program : TacTree) (image : ImageParts) (inputs : List ℕ) (performs : ℕ → Bool) (turn_pays : ℕ)
-    (addresses : ℕ → Addresses) (linked : IsLinked program image turn_pays addresses) (turns : ℕ) where
+module _ {program : TacTree} {image : ImageParts} {turn_pays : ℕ} (built : IsBuilt program image turn_pays)
+    (inputs : List ℕ) (performs : ℕ → Bool) (turns : ℕ) where
   abbrev pub T : Setting
-  T = setting program image inputs performs turn_pays addresses
+  T = setting program image inputs performs turn_pays built.addresses
 
   abbrev pub P : Standpoint
   P = record { comp = image.main; cross = []; bound = stack_top image.main; floor = stack_top }
@@ -129,7 +130,7 @@ module _ (program : TacTree) (image : ImageParts) (inputs : List ℕ) (performs 
   globals = code_globals program.sections
 
   abbrev first_inj : Injection
-  first_inj k = placed_at (length (globals k)) (addresses k).global
+  first_inj k = placed_at (length (globals k)) (built.addresses k).global
 
   abbrev pub x : Joint
   x = record {
@@ -143,8 +144,8 @@ module _ (program : TacTree) (image : ImageParts) (inputs : List ℕ) (performs 
   }
 
   -- a global has its place
-  at_place : (k b a : ℕ) → first_inj k b ≡ Some a → a ≡ (addresses k).global b
-  at_place k b a e = (placed_only (length (globals k)) (addresses k).global b a e).1
+  at_place : (k b a : ℕ) → first_inj k b ≡ Some a → a ≡ (built.addresses k).global b
+  at_place k b a e = (placed_only (length (globals k)) (built.addresses k).global b a e).1
 
   within : (k : ℕ) → T.performs k ≡ false → k < length image.comps
   within k honest =
@@ -154,28 +155,29 @@ module _ (program : TacTree) (image : ImageParts) (inputs : List ℕ) (performs 
   blocks : BlocksMatch T.image T.performs P.floor x.inj x.meant.memory x.bytes
   blocks = record {
     there = λ k b cells honest live. (
-      (addresses k).global b,
-      placed_below (length (globals k)) (addresses k).global b (slice_get_within (globals k) b _ live),
+      (built.addresses k).global b,
+      placed_below (length (globals k)) (built.addresses k).global b (live_within (globals k) b cells live),
     );
     placed = λ k b a cells honest live e. subst (λ a. Placed image (stack_top k) k a (length cells))
-        (sym (at_place k b a e)) (linked.globals k b cells live).placed;
+        (sym (at_place k b a e)) (built.linked.globals k b cells live).placed;
     holds = λ k b a i cells c honest live e at.
         subst (λ a. InCell (first_inj k) (word (start_memory image) (a + 4 * i)) c) (sym (at_place k b a e))
-        (in_cell (first_inj k) _ c ((linked.globals k b cells live).holds i c at));
+        (in_cell (first_inj k) _ c ((built.linked.globals k b cells live).holds i c at));
     apart = λ k b c a d xs ys honest live more e f differ.
         subst (λ a. (a + 4 * length xs ≤ d) ⊎ (d + 4 * length ys ≤ a)) (sym (at_place k b a e))
-        (subst (λ d. ((addresses k).global b + 4 * length xs ≤ d) ⊎ (d + 4 * length ys ≤ (addresses k).global b))
-        (sym (at_place k c d f)) (linked.globals_apart k b c xs ys differ live more));
-    known = λ k b a e. (placed_only (length (globals k)) (addresses k).global b a e).0;
+        (subst (λ d. ((built.addresses k).global b + 4 * length xs ≤ d) ⊎
+        (d + 4 * length ys ≤ (built.addresses k).global b))
+        (sym (at_place k c d f)) (built.linked.globals_apart k b c xs ys differ live more));
+    known = λ k b a e. (placed_only (length (globals k)) (built.addresses k).global b a e).0;
   }
 
   pub settled : Settled T P x
   settled = record {
     blocks = blocks;
-    globals = λ k number honest below. placed_below (length (globals k)) (addresses k).global number below;
+    globals = λ k number honest below. placed_below (length (globals k)) (built.addresses k).global number below;
     saved = λ k other honest. tops_at 0 image.comps k (within k honest) ∙ ap stack_top (zero-add k);
     inputs = refl;
-    steady = runs_are_steady.first image linked.formed;
+    steady = runs_are_steady.first image built.linked.formed;
     came = record { steps = 0; walks = record { by = refl } };
     depth = λ k honest. omega arith;
     timed = tt;
@@ -194,7 +196,7 @@ module _ (program : TacTree) (image : ImageParts) (inputs : List ℕ) (performs 
   }
 
   main_honest : performs image.main ≡ false → T.performs image.main ≡ false
-  main_honest h = rw (h, lt-ltb image.main (length image.comps) linked.formed.main) refl
+  main_honest h = rw (h, lt-ltb image.main (length image.comps) built.linked.formed.main) refl
 
   -- `main` begins
   pub begins : performs image.main ≡ false → (number : ℕ) (f : TacFnTree) →
@@ -204,7 +206,7 @@ module _ (program : TacTree) (image : ImageParts) (inputs : List ℕ) (performs 
     honest = main_honest honest;
     settled = settled;
     base = base;
-    pc = linked.main_at number entered ∙ ap (λ c. (addresses c).function number) (sym linked.main);
+    pc = built.linked.main_at number entered ∙ ap (λ c. (built.addresses c).function number) (sym built.linked.main);
     sp = refl;
     ra = refl;
     passed = λ i v e. cc e;

@@ -1,25 +1,23 @@
 -- Unknown code: whatever code the compartments have that perform their parts of the machine's own trace, the machine
 -- follows what they perform, and what all others do.
-use Rattle.sc_emit_run_laws.proofs.Common.{Addresses, All, AllHonest, AreFloors, BodiesFollow, Bool, Call, ComesBack}
-use Rattle.sc_emit_run_laws.proofs.Common.{Cross, Crossing, Denotations, Emits, End, Event, GivesResults, Goes as Steps}
-use Rattle.sc_emit_run_laws.proofs.Common.{HasEmitted, Here, ImageParts, In, IsFunction, IsLinked, IsPrefix, IsProgram}
-use Rattle.sc_emit_run_laws.proofs.Common.{IsSteady, IsWord, Joint, Leads, List, None, Option, Out, Overflows}
-use Rattle.sc_emit_run_laws.proofs.Common.{PerformersDo, Piece, Reached, Ret, Roles, Setting, Settled, Some, Standpoint}
-use Rattle.sc_emit_run_laws.proofs.Common.{State as Meant, Stopped, TacFnTree, TacTree, Traps, UnknownComes}
-use Rattle.sc_emit_run_laws.proofs.Common.{UnknownGives, Value, Walks, Word, [], a0, allowed_at, and_then, ap}
-use Rattle.sc_emit_run_laws.proofs.Common.{append-nil, append_assoc, ap₂, arguments, arith, at_start, bodies}
+use Rattle.sc_emit_run_laws.proofs.Common.{All, AllHonest, AreFloors, BodiesFollow, Bool, Call, ComesBack, Cross}
+use Rattle.sc_emit_run_laws.proofs.Common.{Crossing, Denotations, Emits, End, Event, Goes as Steps, HasEmitted, Here}
+use Rattle.sc_emit_run_laws.proofs.Common.{ImageParts, In, IsBuilt, IsPrefix, IsSteadyState, IsWord, Joint, Leads, List}
+use Rattle.sc_emit_run_laws.proofs.Common.{None, Option, Out, Overflows, PerformersDo, Piece, Reached, Ret, Roles}
+use Rattle.sc_emit_run_laws.proofs.Common.{Setting, Settled, Some, Standpoint, State as Meant, Stopped, TacTree, Traps}
+use Rattle.sc_emit_run_laws.proofs.Common.{UnknownComes, UnknownGives, Value, Walks, Word, [], a0, allowed_at, and_then}
+use Rattle.sc_emit_run_laws.proofs.Common.{ap, append-nil, append_assoc, ap₂, arguments, arith, at_start, bodies}
 use Rattle.sc_emit_run_laws.proofs.Common.{call_cross, came_by, cases_lt, code_denotations, departing, drop, drop_next}
-use Rattle.sc_emit_run_laws.proofs.Common.{emit_event, emits_after, emits_here, entered_by, false, functions_in}
-use Rattle.sc_emit_run_laws.proofs.Common.{given_back, has_result, if◌then◌else◌, inl, input, input_at, inr}
-use Rattle.sc_emit_run_laws.proofs.Common.{leads_moved, leads_then, legal, length, listed, machine, nat_lt, next_input}
-use Rattle.sc_emit_run_laws.proofs.Common.{not, option_value, output, overflows_after, overflows_then, params_of}
-use Rattle.sc_emit_run_laws.proofs.Common.{read_input, read_listed, refl, reg, returned, roles_in, setting}
-use Rattle.sc_emit_run_laws.proofs.Common.{settled_moved, slice_get, slice_index, stands_after_all, start, step, subst}
-use Rattle.sc_emit_run_laws.proofs.Common.{suc, sym, true, turn, walk_one, walks_steady, with_pc, word, wrapping}
-use Rattle.sc_emit_run_laws.proofs.Common.{written, zero, ℕ, ◌*◌, ◌++◌, ◌+◌, ◌-◌, ◌<◌, ◌||◌, ◌∙◌, ◌∷◌, ◌≡◌, ◌≢◌, ◌≤◌}
-use Rattle.sc_emit_run_laws.proofs.Common.{◌⊎◌}
-use Rattle.sc_store.specs.Prelude.{Memory as Bytes}
-use Rattle.sc_image.specs.Prelude.{State, called, export_at as image_export, may_call as may_make}
+use Rattle.sc_emit_run_laws.proofs.Common.{emit_event, emits_after, emits_here, entered_by, export_params, false}
+use Rattle.sc_emit_run_laws.proofs.Common.{given_back, has_result, if◌then◌else◌, inl, input_at, inr, leads_moved}
+use Rattle.sc_emit_run_laws.proofs.Common.{leads_then, legal, length, listed, machine, nat_lt, next_input, not}
+use Rattle.sc_emit_run_laws.proofs.Common.{on_input, on_output, on_return, option_value, overflows_after}
+use Rattle.sc_emit_run_laws.proofs.Common.{overflows_then, read_input, read_listed, refl, reg, roles_in, setting}
+use Rattle.sc_emit_run_laws.proofs.Common.{settled_moved, slice_index, stands_after_all, start, step, subst, suc, sym}
+use Rattle.sc_emit_run_laws.proofs.Common.{true, turn, walk_one, walks_steady, with_pc, word, wrapping, written, zero}
+use Rattle.sc_emit_run_laws.proofs.Common.{ℕ, ◌*◌, ◌++◌, ◌+◌, ◌-◌, ◌<◌, ◌||◌, ◌∙◌, ◌∷◌, ◌≡◌, ◌≢◌, ◌≤◌, ◌⊎◌}
+use Rattle.sc_store.specs.Prelude.{ByteMemory as Bytes}
+use Rattle.sc_image.specs.Prelude.{MachineState, on_call, entered_export as image_export, may_call_export as may_make}
 use Rattle.sc_emit_relation.proofs.Storing.{block_owned}
 use Rattle.sc_emit_run_laws.proofs.Along.{walk_prefix}
 use Rattle.sc_emit_run_laws.proofs.Answering.{bodies_go}
@@ -76,20 +74,17 @@ module _ (T : Setting) (never : AllHonest T → ⊥) (P : Standpoint) where
     costs = record { least = o.costs.least; most = λ all. absurd (never all) };
   }
 
-same_state : (s u : State) → Steps s ≡ Steps u → s ≡ u
+same_state : (s u : MachineState) → Steps s ≡ Steps u → s ≡ u
 same_state s u is = cc is
 
-module _ (program : TacTree) (image : ImageParts) (inputs : List ℕ) (set : ℕ → Bool) (t : List Event) (turn_pays : ℕ)
-    (addresses : ℕ → Addresses) (rules : IsProgram program)
-    (functions : (comp number : ℕ) (f : TacFnTree) → slice_get (functions_in program comp) number ≡ Some f →
-    IsFunction f) (results : GivesResults program (roles_in program.interfaces.main set t))
-    (linked : IsLinked program image turn_pays addresses) (words : All IsWord inputs)
+module _ {program : TacTree} {image : ImageParts} {turn_pays : ℕ} (built : IsBuilt program image turn_pays)
+    (inputs : List ℕ) (words : All IsWord inputs) (set : ℕ → Bool) (t : List Event)
     (observed : HasEmitted image inputs t) (lawful : legal program.interfaces t ≡ true) where
   abbrev roles : Roles
   roles = roles_in program.interfaces.main set t
 
   abbrev T : Setting
-  T = setting program image inputs set turn_pays addresses
+  T = setting program image inputs set turn_pays built.addresses
 
   abbrev denotations : Denotations
   denotations = code_denotations wrapping program
@@ -139,12 +134,12 @@ module _ (program : TacTree) (image : ImageParts) (inputs : List ℕ) (set : ℕ
       abbrev moved : Joint
       moved = record x { pc = pc; regs = λ r. slice_index regs r; bytes = after }
 
-      abbrev next : State
+      abbrev next : MachineState
       next = record (machine P x) { regs = regs; pc = pc; memory = after }
 
-      next_steady : IsSteady image next
+      next_steady : IsSteadyState image next
       next_steady =
-          walks_steady image inputs linked.formed words 1 (machine P x) next
+          walks_steady image inputs built.linked.formed words 1 (machine P x) next
           (walk_one image inputs (machine P x) next goes) settled.steady
 
       next_is : machine P moved ≡ next
@@ -158,24 +153,23 @@ module _ (program : TacTree) (image : ImageParts) (inputs : List ℕ) (set : ℕ
 
       settled_silent : Settled T P moved
       settled_silent =
-          settled_moved T linked.formed words P x 1 pc (λ r. slice_index regs r) after settled
+          settled_moved T built.linked.formed words P x 1 pc (λ r. slice_index regs r) after settled
           (λ k b a i cells honest live at below.
-          keeps.word_is k (a + 4 * i) (other_than k honest)
-          (block_owned image linked.formed T.performs P.floor x.inj x.meant.memory x.bytes settled.blocks k b a i cells
-          honest live at below)) walks_moved
+          keeps.word_is k (a + 4 * i) (other_than k honest) (block_owned built.linked.formed settled.blocks k b a i
+          cells honest live at below)) walks_moved
 
       leads_silent : Leads T P x moved 0 0
       leads_silent =
           leads_free T (never x settled) P x moved (1 + 0) 0
-          (leads_moved T linked.formed words P x 1 0 pc (λ r. slice_index regs r) after
+          (leads_moved T built.linked.formed words P x 1 0 pc (λ r. slice_index regs r) after
           (λ k q p. keeps.word_is k q (other_than k p.honest) p.guard.owned) walks_moved)
 
     -- A STEP THAT EMITS AN EVENT
-    module _ (x : Joint) (settled : Settled T P x) (m : ℕ) (next : State) (event : Event)
+    module _ (x : Joint) (settled : Settled T P x) (m : ℕ) (next : MachineState) (event : Event)
         (goes : step image inputs (machine P x) ≡ Steps next) (emits_trace : next.trace ≡ x.meant.trace ++ event ∷ [])
         (rest : Walks image inputs m next observed.last) where
       prefix : IsPrefix next.trace observed.last.trace
-      prefix = walk_prefix image inputs linked.formed m next observed.last rest.by
+      prefix = walk_prefix image inputs built.linked.formed m next observed.last rest.by
 
       whole : t ≡ x.meant.trace ++ event ∷ prefix.more
       whole =
@@ -191,8 +185,8 @@ module _ (program : TacTree) (image : ImageParts) (inputs : List ℕ) (set : ℕ
 
       place : has_stood.at ≡ standing_in (machine P x)
       place =
-          (stands_so image inputs linked.formed settled.came.steps (machine P x) settled.came.walks).place has_stood.at
-          (ap (λ main. stands_after_all (at_start main) x.meant.trace) linked.main ∙ has_stood.stood)
+          (stands_so image inputs built.linked.formed settled.came.steps (machine P x) settled.came.walks).place
+          has_stood.at (ap (λ main. stands_after_all (at_start main) x.meant.trace) built.linked.main ∙ has_stood.stood)
 
       stood_here : stands_after_all (at_start program.interfaces.main) x.meant.trace ≡ Some (standing_in (machine P x))
       stood_here = has_stood.stood ∙ ap Some place
@@ -208,7 +202,7 @@ module _ (program : TacTree) (image : ImageParts) (inputs : List ℕ) (set : ℕ
 
     -- AN OUTPUT
     module _ (x : Joint) (settled : Settled T P x) (goes : step image inputs (machine P x) ≡
-        Steps (with_pc (output (machine P x)) (x.pc + 4))) where
+        Steps (with_pc (on_output (machine P x)) (x.pc + 4))) where
       abbrev emitted_word : ℕ
       emitted_word = reg (machine P x) a0
 
@@ -224,7 +218,7 @@ module _ (program : TacTree) (image : ImageParts) (inputs : List ℕ) (set : ℕ
         globals = settled.globals;
         saved = settled.saved;
         inputs = settled.inputs;
-        steady = walks_steady image inputs linked.formed words 1 _ _ walks_emitting settled.steady;
+        steady = walks_steady image inputs built.linked.formed words 1 _ _ walks_emitting settled.steady;
         came = came_by T 1 _ _ walks_emitting settled.came;
         depth = settled.depth;
         timed = before_timed x.meant.trace (Out P.comp emitted_word) x.meant.frames settled.timed;
@@ -237,7 +231,7 @@ module _ (program : TacTree) (image : ImageParts) (inputs : List ℕ) (set : ℕ
         costs = record { least = omega arith; most = λ all. absurd (never x settled all) };
         effect = record {
           grows = λ k b a e. e;
-          lived = λ k b cells h live. (cells, live, refl);
+          lived = λ k b cells h live. inl (cells, live, refl);
           keeps = λ k q p. refl;
           depths = λ k. refl;
         };
@@ -245,7 +239,7 @@ module _ (program : TacTree) (image : ImageParts) (inputs : List ℕ) (set : ℕ
 
     -- AN INPUT
     module _ (x : Joint) (settled : Settled T P x) (goes : step image inputs (machine P x) ≡
-        Steps (with_pc (input inputs (machine P x)) (x.pc + 4))) where
+        Steps (with_pc (on_input inputs (machine P x)) (x.pc + 4))) where
       abbrev read_regs : List ℕ
       read_regs = written (listed x.regs) a0 (input_at inputs x.input)
 
@@ -258,7 +252,7 @@ module _ (program : TacTree) (image : ImageParts) (inputs : List ℕ) (set : ℕ
       }
 
       -- with these registers, and this word read
-      abbrev read_with : List ℕ → ℕ → State
+      abbrev read_with : List ℕ → ℕ → MachineState
       read_with regs word = record (machine P x) {
         regs = regs;
         pc = x.pc + 4;
@@ -272,8 +266,8 @@ module _ (program : TacTree) (image : ImageParts) (inputs : List ℕ) (set : ℕ
       walks_read : Walks image inputs 1 (machine P x) (read_with read_regs (input_at inputs x.input))
       walks_read = walk_one image inputs (machine P x) (read_with read_regs (input_at inputs x.input)) goes
 
-      read_steady : IsSteady image (read_with read_regs (input_at inputs x.input))
-      read_steady = walks_steady image inputs linked.formed words 1 _ _ walks_read settled.steady
+      read_steady : IsSteadyState image (read_with read_regs (input_at inputs x.input))
+      read_steady = walks_steady image inputs built.linked.formed words 1 _ _ walks_read settled.steady
 
       reading_is : machine P reading ≡ read_with read_regs (input_at inputs x.input)
       reading_is = ap₂ read_with (listed_is read_regs read_steady.regs read_steady.zero) (sym word_is)
@@ -287,7 +281,7 @@ module _ (program : TacTree) (image : ImageParts) (inputs : List ℕ) (set : ℕ
         globals = settled.globals;
         saved = settled.saved;
         inputs = ap (drop 1) settled.inputs ∙ drop_next inputs x.input;
-        steady = walks_steady image inputs linked.formed words 1 _ _ walks_reading settled.steady;
+        steady = walks_steady image inputs built.linked.formed words 1 _ _ walks_reading settled.steady;
         came = came_by T 1 _ _ walks_reading settled.came;
         depth = settled.depth;
         timed = before_timed x.meant.trace (In P.comp (next_input x.meant.inputs)) x.meant.frames settled.timed;
@@ -300,7 +294,7 @@ module _ (program : TacTree) (image : ImageParts) (inputs : List ℕ) (set : ℕ
         costs = record { least = omega arith; most = λ all. absurd (never x settled all) };
         effect = record {
           grows = λ k b a e. e;
-          lived = λ k b cells h live. (cells, live, refl);
+          lived = λ k b cells h live. inl (cells, live, refl);
           keeps = λ k q p. refl;
           depths = λ k. refl;
         };
@@ -311,9 +305,9 @@ module _ (program : TacTree) (image : ImageParts) (inputs : List ℕ) (set : ℕ
       -- A CALL
       module _ (x : Joint) (settled : Settled T P x) (to index target : ℕ) (export : image_export image to target ≡
           Some index) (may : may_make image P.comp to index ≡ true) (goes : step image inputs (machine P x) ≡
-          Steps (called (machine P x) to index (params_of image to index) target)) where
+          Steps (on_call (machine P x) to index (export_params image to index) target)) where
         abbrev passed : List ℕ
-        passed = arguments (params_of image to index) (listed x.regs)
+        passed = arguments (export_params image to index) (listed x.regs)
 
         abbrev values : List Value
         values = as_values passed
@@ -324,37 +318,37 @@ module _ (program : TacTree) (image : ImageParts) (inputs : List ℕ) (set : ℕ
         module _ (next : IsNext program set t n x.meant (standing_in (machine P x)) calling) where
           offer : IsOffered program to index (length values)
           offer =
-              offered program set t n P.comp number first x.meant (standing_in (machine P x)) entered rules to index
-              passed next
+              offered program set t n P.comp number first x.meant (standing_in (machine P x)) entered built.rules to
+              index passed next
 
-          entry : IsExported program rules to index
+          entry : IsExported program built.rules to index
           entry =
-              enters program set t n P.comp number first x.meant (standing_in (machine P x)) entered rules to index
-              passed next
+              enters program set t n P.comp number first x.meant (standing_in (machine P x)) entered built.rules to
+              index passed next
 
-          led : IsLed program image inputs roles turn_pays addresses rules functions results linked words to index
+          led : IsLed built inputs words roles to index
           led = record { number = entry.number; enters = entry.enters; f = entry.f; its = entry.its }
 
           head : IsEntered program entry.f offer.proto
           head =
-              is_export program rules functions to index entry.number offer.proto entry.f offer.export entry.enters
-              entry.its
+              is_export program built.rules built.functions to index entry.number offer.proto entry.f offer.export
+              entry.enters entry.its
 
-          takes : params_of image to index ≡ length values
-          takes = linked.params to index offer.proto offer.export ∙ offer.takes
+          takes : export_params image to index ≡ length values
+          takes = built.linked.params to index offer.proto offer.export ∙ offer.takes
 
           few : length values ≤ 8
-          few = omega (arith, head.takes, offer.takes, (functions to entry.number entry.f entry.its).few_params)
+          few = omega (arith, head.takes, offer.takes, (built.functions to entry.number entry.f entry.its).few_params)
 
           made : (left : ℕ) → x.meant.turns ≡ suc left →
-              IsMade T linked.formed words P x to index values left target
+              IsMade T built.linked.formed words P x to index values left target
           made left turns = record {
             goes = walk_one image inputs (machine P x) _ goes;
             may = may;
             takes = takes;
             few_args = few;
             all = are_words passed;
-            passed = words_passed (x.inj P.comp) (params_of image to index) x.regs (omega (arith, takes, few))
+            passed = words_passed (x.inj P.comp) (export_params image to index) x.regs (omega (arith, takes, few))
                 settled.steady.words;
             turn = turns;
             settled = settled;
@@ -367,13 +361,12 @@ module _ (program : TacTree) (image : ImageParts) (inputs : List ℕ) (set : ℕ
               CallComes T P x (Cross to index)
               (call_cross denotations (bodies program roles n) P.comp to index values (turned left x.meant))
           callee_by true is left turns =
-              into_unknown program image inputs roles turn_pays addresses rules functions results linked words n P x to
+              into_unknown built inputs words roles n P x to
               index values offer led left target (made left turns) is perform
           callee_by false is left turns =
-              into_code program image inputs roles turn_pays addresses rules functions results linked words n P x
-              to index values offer led left target (made left turns) is follow
-              (entry_is image to index target ((addresses P.comp).entry to index) export
-              (linked.exports P.comp to index offer.proto offer.export))
+              into_code built inputs words roles n P x to index values offer led left target (made left turns) is follow
+              (entry_is image to index target ((built.addresses P.comp).entry to index) export
+              (built.linked.exports P.comp to index offer.proto offer.export))
 
           abbrev whole_call : Piece (Option Value)
           whole_call = and_then (turn x.meant) (λ u s.
@@ -408,13 +401,12 @@ module _ (program : TacTree) (image : ImageParts) (inputs : List ℕ) (set : ℕ
           call_followed : UnknownComes program roles T P x (does x.meant)
           call_followed =
               subst (UnknownComes program roles T P x)
-              (sym (call_is program set t n P.comp number first x.meant (standing_in (machine P x)) entered rules to
-              index passed next))
-              (after_by whole_call call_comes)
+              (sym (call_is program set t n P.comp number first x.meant (standing_in (machine P x)) entered built.rules
+              to index passed next)) (after_by whole_call call_comes)
 
       -- A RETURN
       module _ (x : Joint) (settled : Settled T P x) (goes : step image inputs (machine P x) ≡
-          Steps (returned image (machine P x) P.cross)) where
+          Steps (on_return image (machine P x) P.cross)) where
         a0_is : reg (machine P x) a0 ≡ x.regs a0
         a0_is = read_listed x.regs a0 (omega arith)
 
@@ -431,7 +423,7 @@ module _ (program : TacTree) (image : ImageParts) (inputs : List ℕ) (set : ℕ
             costs = record { least = omega arith; most = λ all. absurd (never x settled all) };
             effect = record {
               grows = λ k b a e. e;
-              lived = λ k b cells h live. (cells, live, refl);
+              lived = λ k b cells h live. inl (cells, live, refl);
               keeps = λ k q p. refl;
               depths = λ k. refl;
             };
@@ -439,16 +431,16 @@ module _ (program : TacTree) (image : ImageParts) (inputs : List ℕ) (set : ℕ
           settled = settled;
         })
 
-        module _ (m : ℕ) (next : State) (goes_to : step image inputs (machine P x) ≡ Steps next)
+        module _ (m : ℕ) (next : MachineState) (goes_to : step image inputs (machine P x) ≡ Steps next)
             (rest : Walks image inputs m next observed.last) where
-          same_next : next ≡ returned image (machine P x) P.cross
-          same_next = same_state next (returned image (machine P x) P.cross) (sym goes_to ∙ goes)
+          same_next : next ≡ on_return image (machine P x) P.cross
+          same_next = same_state next (on_return image (machine P x) P.cross) (sym goes_to ∙ goes)
 
           leave_by : (cross : List Crossing) → P.cross ≡ cross → UnknownComes program roles T P x (does x.meant)
           leave_by [] is =
               let w : ℕ = reg (machine P x) a0 in
               let emits_trace : next.trace ≡ x.meant.trace ++ End P.comp w ∷ [] =
-              ap (λ s. s.trace) (same_next ∙ ap (returned image (machine P x)) is) in
+              ap (λ s. s.trace) (same_next ∙ ap (on_return image (machine P x)) is) in
               subst (UnknownComes program roles T P x)
               (sym (end_is program set t n P.comp number first x.meant (standing_in (machine P x)) entered w
               (is_next x settled m next (End P.comp w) goes_to emits_trace rest)))
@@ -456,7 +448,7 @@ module _ (program : TacTree) (image : ImageParts) (inputs : List ℕ) (set : ℕ
           leave_by (c ∷ cs) is =
               let value : Option ℕ = given_back (has_result image c.callee c.entry) (machine P x) in
               let emits_trace : next.trace ≡ x.meant.trace ++ Ret P.comp c.caller value ∷ [] =
-              ap (λ s. s.trace) (same_next ∙ ap (returned image (machine P x)) is) in
+              ap (λ s. s.trace) (same_next ∙ ap (on_return image (machine P x)) is) in
               subst (UnknownComes program roles T P x)
               (sym (return_is program set t n P.comp number first x.meant (standing_in (machine P x)) entered c.caller
               value (is_next x settled m next (Ret P.comp c.caller value) goes_to emits_trace rest)))
@@ -469,8 +461,8 @@ module _ (program : TacTree) (image : ImageParts) (inputs : List ℕ) (set : ℕ
       Later m = (y : Joint) → Settled T P y → Walks image inputs m (machine P y) observed.last →
           UnknownComes program roles T P y (does y.meant)
 
-      by_step : (m : ℕ) (x : Joint) → Settled T P x → (next : State) → step image inputs (machine P x) ≡ Steps next →
-          Walks image inputs m next observed.last → Later m →
+      by_step : (m : ℕ) (x : Joint) → Settled T P x → (next : MachineState) → step image inputs (machine P x) ≡ Steps
+          next → Walks image inputs m next observed.last → Later m →
           StepIs image inputs (machine P x) (step image inputs (machine P x)) →
           UnknownComes program roles T P x (does x.meant)
       by_step m x settled next goes rest later (traps reason is) =
@@ -519,7 +511,8 @@ module _ (program : TacTree) (image : ImageParts) (inputs : List ℕ) (set : ℕ
       on_to_last (suc m) x settled walks =
           let on : StepsOn image inputs m (machine P x) observed.last =
           first_step image inputs m (machine P x) observed.last walks in
-          by_step m x settled on.next on.goes on.rest (on_to_last m) (step_is image inputs linked.formed (machine P x))
+          by_step m x settled on.next on.goes on.rest (on_to_last m)
+          (step_is image inputs built.linked.formed (machine P x))
 
       -- from any state of the run
       pub followed : (x : Joint) → Settled T P x → UnknownComes program roles T P x (does x.meant)
@@ -535,7 +528,7 @@ module _ (program : TacTree) (image : ImageParts) (inputs : List ℕ) (set : ℕ
               (subst (λ k. Walks image inputs k (start image) (machine P x)) whole settled.came.walks) in
               past x
               (subst (λ z. IsPrefix z x.meant.trace) observed.trace_is
-              (walk_prefix image inputs linked.formed gap observed.last (machine P x) rest.by))
+              (walk_prefix image inputs built.linked.formed gap observed.last (machine P x) rest.by))
           by (inr within) =
               let gap : ℕ = observed.steps - settled.came.steps in
               let whole : observed.steps ≡ settled.came.steps + gap = omega (arith, within) in

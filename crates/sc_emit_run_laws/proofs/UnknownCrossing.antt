@@ -1,18 +1,17 @@
 -- Calls of compartments that perform are followed, whoever makes them, where their functions are.
-use Rattle.sc_emit_run_laws.proofs.Common.{Addresses, All, AllHonest, Bool, Call, CallGives, Cross, Denotations}
-use Rattle.sc_emit_run_laws.proofs.Common.{Departs, Export, Function, GivesResults, Here, ImageParts, IsFunction}
-use Rattle.sc_emit_run_laws.proofs.Common.{IsLinked, IsProgram, IsUnknown, IsWord, Joint, List, None, Option}
-use Rattle.sc_emit_run_laws.proofs.Common.{PerformersDo, Piece, Reached, Ret, ReturnsValue, Roles, Scalar, Setting}
-use Rattle.sc_emit_run_laws.proofs.Common.{Some, Standpoint, State as Meant, Stopped, TacFnTree, TacTree, UnknownComes}
+use Rattle.sc_emit_run_laws.proofs.Common.{All, AllHonest, Bool, Call, CallGives, Cross, Denotations, Departs, Export}
+use Rattle.sc_emit_run_laws.proofs.Common.{Function, Here, ImageParts, IsBuilt, IsUnknown, IsWord, Joint, List, None}
+use Rattle.sc_emit_run_laws.proofs.Common.{Option, PerformersDo, Piece, Reached, Ret, ReturnsValue, Roles, Scalar}
+use Rattle.sc_emit_run_laws.proofs.Common.{Setting, Some, Standpoint, State as Meant, Stopped, TacTree, UnknownComes}
 use Rattle.sc_emit_run_laws.proofs.Common.{UnknownGives, Value, a0, and_then, ap, arith, back_cross, back_goes, begun}
 use Rattle.sc_emit_run_laws.proofs.Common.{bodies, call_cross, called_there, code_denotations, code_function, crossed}
-use Rattle.sc_emit_run_laws.proofs.Common.{crossing, done, done_goes, earlier, emit_event, false, found, functions_in}
-use Rattle.sc_emit_run_laws.proofs.Common.{has_result, if◌then◌else◌, inl, inr, is_some, length, machine, map, nat_lt}
-use Rattle.sc_emit_run_laws.proofs.Common.{not, option_value, overflows_then, read_listed, refl, run_in, setting}
-use Rattle.sc_emit_run_laws.proofs.Common.{slice_get, subst, sym, true, walk_one, word_back, word_in, wrapping, ℕ, ◌<◌}
-use Rattle.sc_emit_run_laws.proofs.Common.{◌||◌, ◌∙◌, ◌≡◌}
+use Rattle.sc_emit_run_laws.proofs.Common.{crossing, done, done_goes, earlier, emit_event, false, found, has_result}
+use Rattle.sc_emit_run_laws.proofs.Common.{if◌then◌else◌, inl, inr, is_some, length, machine, map, nat_lt, not}
+use Rattle.sc_emit_run_laws.proofs.Common.{option_value, overflows_then, read_listed, refl, run_in, setting, subst, sym}
+use Rattle.sc_emit_run_laws.proofs.Common.{true, walk_one, word_back, word_in, wrapping, ℕ, ◌<◌, ◌||◌, ◌∙◌, ◌≡◌}
 use Rattle.sc_core_laws.specs.Prelude.{Goes}
-use Rattle.sc_emit_run_laws.proofs.Across.{IsDone, IsMade, across, comes_back, seen_across, settled_in, walks_in}
+use Rattle.sc_emit_run_laws.proofs.Across.{IsMade, across, seen_across}
+use Rattle.sc_emit_run_laws.proofs.Made.{IsDone, comes_back, settled_in, walks_in}
 use Rattle.sc_emit_run_laws.proofs.CrossCalls.{IsLed, IsOffered}
 use Rattle.sc_emit_run_laws.proofs.Sections.{function_found}
 use Rattle.sc_emit_run_laws.proofs.Turning.{CallComes, GoesIn, overflows_in, emits_in, turned}
@@ -30,28 +29,25 @@ given_as : (T : Setting) (place : ℕ → Option ℕ) (result : Bool) (w : ℕ) 
 given_as T place true w v word is = subst (ReturnsValue T place w) (sym is) (record { word = word; means = refl })
 given_as T place false w v word is = subst (ReturnsValue T place w) (sym is) tt
 
-module _ (program : TacTree) (image : ImageParts) (inputs : List ℕ) (roles : Roles) (turn_pays : ℕ)
-    (addresses : ℕ → Addresses) (rules : IsProgram program)
-    (functions : (comp number : ℕ) (f : TacFnTree) → slice_get (functions_in program comp) number ≡ Some f →
-    IsFunction f) (results : GivesResults program roles) (linked : IsLinked program image turn_pays addresses)
-    (words : All IsWord inputs) where
+module _ {program : TacTree} {image : ImageParts} {turn_pays : ℕ} (built : IsBuilt program image turn_pays)
+    (inputs : List ℕ) (words : All IsWord inputs) (roles : Roles) where
   abbrev T : Setting
-  T = setting program image inputs roles.scripted turn_pays addresses
+  T = setting program image inputs roles.scripted turn_pays built.addresses
 
   abbrev denotations : Denotations
   denotations = code_denotations wrapping program
 
   abbrev Led : (to index : ℕ) → Type 0
-  Led = IsLed program image inputs roles turn_pays addresses rules functions results linked words
+  Led = IsLed built inputs words roles
 
   module _ (n : ℕ) (P : Standpoint) (x : Joint) (to index : ℕ) (args : List Value)
       (offered : IsOffered program to index (length args)) (led : Led to index) (turns entry : ℕ)
-      (made : IsMade T linked.formed words P x to index args turns entry) where
+      (made : IsMade T built.linked.formed words P x to index args turns entry) where
     abbrev Q : Standpoint
-    Q = seen_across T linked.formed words P x to index args
+    Q = seen_across T built.linked.formed words P x to index args
 
     abbrev entering : Joint
-    entering = across T linked.formed words P x to index args turns entry
+    entering = across T built.linked.formed words P x to index args turns entry
 
     abbrev F : Function
     F = code_function wrapping led.f
@@ -60,7 +56,7 @@ module _ (program : TacTree) (image : ImageParts) (inputs : List ℕ) (roles : R
     back = back_cross program.interfaces P.comp to index
 
     result_is : has_result image to (Export index) ≡ is_some offered.proto.result
-    result_is = linked.result to index offered.proto offered.export
+    result_is = built.linked.result to index offered.proto offered.export
 
     module _ (performs : roles.scripted to ≡ true) (perform : PerformersDo program roles T n) where
       at_work : T.performs to ≡ true
@@ -100,16 +96,15 @@ module _ (program : TacTree) (image : ImageParts) (inputs : List ℕ) (roles : R
       never : AllHonest T → ⊥
       never all =
           let clash : true ≡ false =
-          sym at_work ∙ all to
-          (called_there image to ((addresses P.comp).entry to index) index
-          (linked.exports P.comp to index offered.proto offered.export)) in cc clash
+          sym at_work ∙ all to (called_there image to ((built.addresses P.comp).entry to index) index
+          (built.linked.exports P.comp to index offered.proto offered.export)) in cc clash
 
       paid : AllHonest T → 0 < T.turn_pays
       paid all = absurd (never all)
 
       goes : GoesIn T P Q x begins 1
       goes = record {
-        walks = walks_in T linked.formed words P x to index args turns entry made;
+        walks = walks_in made;
         turn = made.turn;
         some = omega arith;
         few = omega arith;
@@ -118,8 +113,7 @@ module _ (program : TacTree) (image : ImageParts) (inputs : List ℕ) (roles : R
       is_unknown : IsUnknown program roles T Q begins led.number
       is_unknown = record {
         performs = performs;
-        settled = settled_started T Q to at_work F (crossed args) entering
-            (settled_in T linked.formed words P x to index args turns entry made);
+        settled = settled_started T Q to at_work F (crossed args) entering (settled_in made);
         floors = made.floors;
         entered = led.enters;
       }
@@ -132,8 +126,7 @@ module _ (program : TacTree) (image : ImageParts) (inputs : List ℕ) (roles : R
         value_is =
             d.value ∙ ap (λ b. option_value (if b then Some (d.y.regs a0) else None)) result_is
 
-        is_done : IsDone T linked.formed words P x to index args turns entry made 1 entry (omega arith) (omega arith)
-            (walks_in T linked.formed words P x to index args turns entry made) 0 offered.proto w v
+        is_done : IsDone made 1 entry (omega arith) (omega arith) (walks_in made) 0 offered.proto w v
         is_done = record {
           result_is = result_is;
           steps = d.leads.steps;
@@ -152,8 +145,7 @@ module _ (program : TacTree) (image : ImageParts) (inputs : List ℕ) (roles : R
             subst (λ s. CallGives T P x (Cross to index) (end v s)) d.meant_is
             (subst (λ o. CallGives T P x (Cross to index) (Reached (option_value (crossing o v))
             (emit_event (Ret to P.comp (crossing o v)) w.meant))) (sym offered.export)
-            (comes_back T linked.formed words P x to index args turns entry made 1 entry (omega arith) (omega arith)
-            (walks_in T linked.formed words P x to index args turns entry made) 0 paid offered.proto w v is_done))
+            (comes_back made 1 entry (omega arith) (omega arith) (walks_in made) 0 paid offered.proto w v is_done))
 
       gives : (o : Piece (Option Value)) → UnknownGives program roles T Q begins o →
           CallGives T P x (Cross to index) (and_then o end)

@@ -1,11 +1,12 @@
 -- The variables and the frame of a function that performs, only in the meaning: the machine knows nothing of them.
 use Rattle.sc_emit_run_laws.proofs.Common.{AllBefore, Cell, Effect, FrameChange, Function, Joint, List, LiveAt, Memory}
 use Rattle.sc_emit_run_laws.proofs.Common.{Protected, Setting, Settled, Standpoint, Value, ap, arith, begun, cases_eq}
-use Rattle.sc_emit_run_laws.proofs.Common.{depth_after, done, false, length, ne_eqb, refl, slice_get, stack_depth, suc}
+use Rattle.sc_emit_run_laws.proofs.Common.{depth_after, done, false, inl, inr, length, ne_eqb, refl, stack_depth, suc}
 use Rattle.sc_emit_run_laws.proofs.Common.{sym, true, ℕ, ⊎_elim, ◌∙◌, ◌≡◌, ◌≢◌, ◌≤◌}
 use Rattle.sc_emit_relation.proofs.Ending.{length_closed, memory_closed, depth_begun, depth_begun_else, depth_done}
 use Rattle.sc_emit_relation.proofs.Ending.{depth_done_else, timed_closed, timed_opened}
 use Rattle.sc_emit_relation.proofs.Opening.{length_opened, memory_opened}
+use Rattle.sc_core.specs.Prelude.{cells_at}
 
 module _ (T : Setting) (Q : Standpoint) (comp : ℕ) (performs : T.performs comp ≡ true) where
   pub other_than : (k : ℕ) → T.performs k ≡ false → k ≢ comp
@@ -24,7 +25,7 @@ module _ (T : Setting) (Q : Standpoint) (comp : ℕ) (performs : T.performs comp
 
   was_live : (memory later : Memory) (k b : ℕ) (cells : List Cell) → later k ≡ memory k → LiveAt later k b cells →
       LiveAt memory k b cells
-  was_live memory later k b cells same live = ap (λ blocks. slice_get blocks b) (sym same) ∙ live
+  was_live memory later k b cells same live = ap (λ blocks. cells_at blocks b) (sym same) ∙ live
 
   settled_elsewhere : (y : Joint) (memory : Memory) (frames : List FrameChange) → IsElsewhere y memory frames →
       Settled T Q y → Settled T Q (changed y memory frames)
@@ -117,6 +118,7 @@ module _ (T : Setting) (Q : Standpoint) (comp : ℕ) (performs : T.performs comp
         honest = p.honest;
         guard = record {
           owned = p.guard.owned;
+          below = p.guard.below;
           free = λ b a cells live at.
               p.guard.free b a cells
               (was_live y.meant.memory started.meant.memory k b cells (opened_there k (other_than k p.honest)) live) at;
@@ -129,13 +131,13 @@ module _ (T : Setting) (Q : Standpoint) (comp : ℕ) (performs : T.performs comp
       pub effect_whole : Effect T Q started z → Effect T Q y finished
       effect_whole effect = record {
         grows = effect.grows;
-        lived = λ k b cells honest live.
-            (let was = effect.lived k b cells honest
-            (was_live z.meant.memory finished.meant.memory k b cells (closed_there k (other_than k honest)) live) in (
+        lived = λ k b cells honest live. ⊎_elim
+            (λ was. inl (
               was.0,
               was_live y.meant.memory started.meant.memory k b was.0 (opened_there k (other_than k honest)) was.1,
               was.2,
-            ));
+            )) (λ far. inr far) (effect.lived k b cells honest
+            (was_live z.meant.memory finished.meant.memory k b cells (closed_there k (other_than k honest)) live));
         keeps = λ k q p. effect.keeps k q (protected_started k q p);
         depths = depths_same effect;
       }

@@ -1,11 +1,12 @@
 -- What the rules of a program and of its image say of calls that any code makes.
 use Rattle.sc_emit_run_laws.proofs.Common.{ArePassed, ImageParts, List, None, Option, Proto, Registers, Some, StandsFor}
 use Rattle.sc_emit_run_laws.proofs.Common.{TacTree, Value, Word, [], a0, ap, arguments, arith, count, eqb-true}
-use Rattle.sc_emit_run_laws.proofs.Common.{export_at, exports_of, false, is_word, length, list_all, listed, map, ne_eqb}
+use Rattle.sc_emit_run_laws.proofs.Common.{export_at, exported_by, false, is_word, length, list_all, listed, map}
+use Rattle.sc_emit_run_laws.proofs.Common.{ne_eqb}
 use Rattle.sc_emit_run_laws.proofs.Common.{option_map_or, position-Some, read_listed, refl, same_Some, slice_get}
 use Rattle.sc_emit_run_laws.proofs.Common.{slice_index, subst, suc, sym, takes, true, words_from, zero, ℕ, ◌+◌, ◌<◌}
 use Rattle.sc_emit_run_laws.proofs.Common.{◌==◌, ◌^◌, ◌∙◌, ◌∷◌, ◌≡◌, ◌≤◌}
-use Rattle.sc_image.specs.Prelude.{export_at as image_export}
+use Rattle.sc_image.specs.Prelude.{entered_export as image_export}
 use Rattle.sc_image.specs.declared.parts.ExportPart.{ExportPart}
 use Rattle.sc_emit_run_laws.proofs.CrossCalls.{IsOffered}
 use Rattle.sc_emit_run_laws.proofs.Crossing.{take_words}
@@ -36,9 +37,9 @@ no_export = record { name = []; params = 0; result = false; entry = 0 }
 pub entry_is : (image : ImageParts) (to index one other : ℕ) → image_export image to one ≡ Some index →
     image_export image to other ≡ Some index → one ≡ other
 entry_is image to index one other is at =
-    let first = (position-Some (λ (export : ExportPart). export.entry == one) (exports_of image to) index no_export
+    let first = (position-Some (λ (export : ExportPart). export.entry == one) (exported_by image to) index no_export
     is).1 in
-    let second = (position-Some (λ (export : ExportPart). export.entry == other) (exports_of image to) index no_export
+    let second = (position-Some (λ (export : ExportPart). export.entry == other) (exported_by image to) index no_export
     at).1 in
     sym (eqb-true _ one first) ∙ eqb-true _ other second
 

@@ -1,11 +1,13 @@
 -- What a step of a compartment comes to, whatever its code is: it touches no data of other compartments.
 use Rattle.sc_emit_run_laws.proofs.Common.{Goes, ImageParts, IsWellFormed, List, Outcome, Owned, Registers, Some, Traps}
-use Rattle.sc_emit_run_laws.proofs.Common.{[], ap, ap₂, are_data, arith, input, length, listed, may_input, may_output}
-use Rattle.sc_emit_run_laws.proofs.Common.{output, params_of, refl, returned, slice_index, step, step_of, store_size}
+use Rattle.sc_emit_run_laws.proofs.Common.{[], ap, ap₂, are_data, arith, on_input, length, listed, may_input}
+use Rattle.sc_emit_run_laws.proofs.Common.{may_output}
+use Rattle.sc_emit_run_laws.proofs.Common.{on_output, export_params, refl, on_return, slice_index, step, step_of}
+use Rattle.sc_emit_run_laws.proofs.Common.{store_size}
 use Rattle.sc_emit_run_laws.proofs.Common.{suc, sym, true, with_pc, word, words_from, zero, ℕ, ◌+◌, ◌<◌, ◌∙◌, ◌∷◌, ◌≡◌}
 use Rattle.sc_emit_run_laws.proofs.Common.{◌≢◌}
-use Rattle.sc_store.specs.Prelude.{Memory as Bytes, stored}
-use Rattle.sc_image.specs.Prelude.{State, called, export_at, may_call}
+use Rattle.sc_store.specs.Prelude.{ByteMemory as Bytes, with_bytes}
+use Rattle.sc_image.specs.Prelude.{MachineState, on_call, entered_export, may_call_export}
 use Rattle.sc_image.proofs.Memory.{allowed_data, within_data}
 use Rattle.sc_base.specs.declared.stop.TrapReason.{TrapReason}
 use Rattle.sc_store.proofs.Words.{load_of-same, stored-apart}
@@ -27,34 +29,35 @@ byte_owned image k q i owned h =
 -- a store in the own data
 stored_else : (image : ImageParts) (comp a size value k q : ℕ) (bytes : Bytes) → IsWellFormed image →
     are_data image comp a size ≡ true → comp ≢ k → Owned image k q →
-    word (stored bytes a size value) q ≡ word bytes q
+    word (with_bytes bytes a size value) q ≡ word bytes q
 unfolding word
 stored_else image comp a size value k q bytes formed mine other owned =
-    load_of-same (stored bytes a size value) bytes q 4
+    load_of-same (with_bytes bytes a size value) bytes q 4
     (λ i h. stored-apart bytes a size value (q + i)
     (λ from upto. apart image comp k a size (q + i) formed other mine (byte_owned image k q i owned h) from upto))
 
 -- STEPS
 
-pub data StepIs (image : ImageParts) (inputs : List ℕ) (s : State) (outcome : Outcome) : Type 0 where
+pub data StepIs (image : ImageParts) (inputs : List ℕ) (s : MachineState) (outcome : Outcome) : Type 0 where
   traps : (reason : TrapReason) → outcome ≡ Traps reason → StepIs image inputs s outcome
   moves : (regs : List ℕ) (pc : ℕ) (after : Bytes) → KeepsOthers image s.active s.memory after →
       outcome ≡ Goes (record s { regs = regs; pc = pc; memory = after }) → StepIs image inputs s outcome
-  calls : (to index target : ℕ) → export_at image to target ≡ Some index → may_call image s.active to index ≡ true →
-      outcome ≡ Goes (called s to index (params_of image to index) target) → StepIs image inputs s outcome
-  leaves : outcome ≡ Goes (returned image s s.cross) → StepIs image inputs s outcome
-  emits : may_output image s.active ≡ true → outcome ≡ Goes (with_pc (output s) (s.pc + 4)) →
+  calls : (to index target : ℕ) → entered_export image to target ≡ Some index → may_call_export image s.active to index
+      ≡ true →
+      outcome ≡ Goes (on_call s to index (export_params image to index) target) → StepIs image inputs s outcome
+  leaves : outcome ≡ Goes (on_return image s s.cross) → StepIs image inputs s outcome
+  emits : may_output image s.active ≡ true → outcome ≡ Goes (with_pc (on_output s) (s.pc + 4)) →
       StepIs image inputs s outcome
-  reads : may_input image s.active ≡ true → outcome ≡ Goes (with_pc (input inputs s) (s.pc + 4)) →
+  reads : may_input image s.active ≡ true → outcome ≡ Goes (with_pc (on_input inputs s) (s.pc + 4)) →
       StepIs image inputs s outcome
 
-pub step_is : (image : ImageParts) (inputs : List ℕ) → IsWellFormed image → (s : State) →
+pub step_is : (image : ImageParts) (inputs : List ℕ) → IsWellFormed image → (s : MachineState) →
     StepIs image inputs s (step image inputs s)
 step_is image inputs formed s = step_of image inputs formed s (StepIs image inputs s) (record {
   same = λ a owned. refl;
   traps = λ reason. traps reason refl;
   quiet = λ regs pc is. moves regs pc s.memory (kept_all image s.active s.memory) refl;
-  stores = λ op a value allowed. moves s.regs (s.pc + 4) (stored s.memory a (store_size op) value)
+  stores = λ op a value allowed. moves s.regs (s.pc + 4) (with_bytes s.memory a (store_size op) value)
       (record {
         word_is = λ k q other owned. stored_else image s.active a (store_size op) value k q s.memory formed
             (allowed_data image s.active (store_size op) a allowed) other owned;

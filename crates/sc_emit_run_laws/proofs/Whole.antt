@@ -1,5 +1,5 @@
 -- The machine on an image in which the code of a program stands does what that code does, where functions are followed.
-use Rattle.sc_emit_run_laws.proofs.Common.{Event, List, ScriptsSimulate, Simulates, nobody, roles_in}
+use Rattle.sc_emit_run_laws.proofs.Common.{Event, List, ScriptsSimulate, Simulates, nobody}
 use Rattle.sc_image.specs.Prelude.{machine}
 use Rattle.sc_emit_run_laws.proofs.Bodies.{bodies_follow}
 use Rattle.sc_emit_run_laws.proofs.Finish.{outcome}
@@ -9,15 +9,11 @@ use Rattle.sc_emit_run_laws.proofs.Emitted.{has_emitted}
 
 pub simulates : Simulates
 simulates program image turn_pays built inputs turns words =
-    outcome program image turn_pays built inputs turns
-    (bodies_follow program image inputs nobody turn_pays built.addresses built.rules built.functions
-    (built.results nobody) built.linked words
+    outcome program image turn_pays built inputs turns (bodies_follow built inputs words nobody
     (λ n P x to index args honest scripted makes settled base at passed stands. cc scripted))
 
 pub scripts_simulate : ScriptsSimulate
 scripts_simulate program image turn_pays built inputs steps events set words is_legal =
     let observed : List Event = (machine image inputs steps events).state.trace in
-    let all = all_follow program image inputs set observed turn_pays built.addresses built.rules built.functions
-    (built.results (roles_in program.interfaces.main set observed)) built.linked words
-    (has_emitted image inputs events steps) is_legal in
+    let all = all_follow built inputs words set observed (has_emitted image inputs events steps) is_legal in
     keeps program image turn_pays built inputs steps events set is_legal (λ n. (all n).run) (λ n. (all n).perform)

@@ -5,8 +5,8 @@ use Rattle.sc_emit_run_laws.specs.Common.{Emits, Event, FunctionGives, Goes, Ima
 use Rattle.sc_emit_run_laws.specs.Common.{Overflows, Piece, Reached, Roles, Setting, Settled, Standpoint}
 use Rattle.sc_emit_run_laws.specs.Common.{State as Meant, Stopped, TacFnTree, TacTree, Value, Walks, Word, a0, and_then}
 use Rattle.sc_emit_run_laws.specs.Common.{begun, calls, code_denotations, code_function, done, has_result, option_value}
-use Rattle.sc_emit_run_laws.specs.Common.{passes_words, returned, sp, start, step, wrapping}
-use Rattle.sc_image.specs.Prelude.{State}
+use Rattle.sc_emit_run_laws.specs.Common.{passes_words, on_return, sp, start, step, wrapping}
+use Rattle.sc_image.specs.Prelude.{MachineState}
 use Rattle.sc_emit_relation.specs.Prelude.{machine}
 use Rattle.std.specs.Prelude.{◌≡◌, ℕ, ◌<◌, ◌⊎◌, true, false, List, [], ◌∷◌, length, IsTrue, Option, None, Some}
 use Rattle.std.specs.Prelude.{slice_get, if◌then◌else◌}
@@ -27,7 +27,7 @@ departing image w (x ∷ xs) = option_value (if has_result image x.callee x.entr
 -- some steps from its start, the machine has emitted these events
 pub record HasEmitted (image : ImageParts) (inputs : List ℕ) (trace : List Event) : Type 0 where
   pub steps : ℕ
-  pub last : State
+  pub last : MachineState
   pub walks : Walks image inputs steps (start image) last
   pub trace_is : last.trace ≡ trace
 
@@ -73,7 +73,7 @@ module _ (program : TacTree) (roles : Roles) where
     pub record Departs (P : Standpoint) (x : Joint) (v : Option Value) (meant : Meant) : Type 0 where
       pub y : Joint
       pub meant_is : y.meant ≡ meant
-      pub goes : step T.image T.inputs (machine P y) ≡ Goes (returned T.image (machine P y) P.cross)
+      pub goes : step T.image T.inputs (machine P y) ≡ Goes (on_return T.image (machine P y) P.cross)
       pub value : v ≡ departing T.image (y.regs a0) P.cross
       pub leads : Leads T P x y 0 0
       pub settled : Settled T P y

@@ -1,15 +1,15 @@
 -- Images in which the code of a program stands.
 use Rattle.sc_emit_run_laws.specs.Common.{Addresses, Cross, Export, ImageParts, InCell, Input, IsAddress, IsWellFormed}
-use Rattle.sc_emit_run_laws.specs.Common.{Main, Output, Own, Placed, Proto, Setting, TacFnTree, TacTree, code_globals}
-use Rattle.sc_emit_run_laws.specs.Common.{cross_call_fits, export_at, function_entered, has_result, imports}
-use Rattle.sc_emit_run_laws.specs.Common.{is_function, is_input, is_output, linked, may_call, may_input, may_output}
-use Rattle.sc_emit_run_laws.specs.Common.{own_call_fits, params_of, stack_top, start, start_memory}
+use Rattle.sc_emit_run_laws.specs.Common.{Main, Output, Own, Placed, Proto, Setting, TacFnTree, TacTree, cells_at}
+use Rattle.sc_emit_run_laws.specs.Common.{code_globals, cross_call_fits, export_at, function_entered, has_result}
+use Rattle.sc_emit_run_laws.specs.Common.{imports, is_function, is_input, is_output, linked, may_call_export, may_input}
+use Rattle.sc_emit_run_laws.specs.Common.{may_output, own_call_fits, export_params, stack_top, start, start_memory}
 use Rattle.sc_word.specs.Prelude.{add_word, word_of}
-use Rattle.sc_image.specs.Prelude.{export_at as image_export}
+use Rattle.sc_image.specs.Prelude.{entered_export as image_export}
 use Rattle.sc_emit_hart.specs.Prelude.{CodeAt, Fetches, word}
 use Rattle.sc_emit.specs.Prelude.{IsCodeAddress, IsEmitted}
 use Rattle.std.specs.Prelude.{◌≡◌, ◌≢◌, ℕ, ℤ, ◌+◌, ◌*◌, ◌<◌, ◌≤◌, ◌⊎◌, Bool, true, false, not, ◌&&◌, ◌||◌, ◌==◌, nat_lt}
-use Rattle.std.specs.Prelude.{List, [], length, Option, None, Some, is_some, slice_get}
+use Rattle.std.specs.Prelude.{List, [], length, Option, None, Ok, Some, is_some, slice_get}
 use Rattle.rv_code.specs.declared.instr.Instr.TheVariants.{Jal}
 use Rattle.sc_core.specs.declared.expr.CallTarget.{CallTarget}
 use Rattle.sc_core.specs.declared.value.Cell.{Cell}
@@ -109,20 +109,20 @@ pub record IsLinked (program : TacTree) (image : ImageParts) (turn_pays : ℕ) (
   pub exports : (from to index : ℕ) (proto : Proto) → export_at program.interfaces to index ≡ Some proto →
       image_export image to ((addresses from).entry to index) ≡ Some index
   pub params : (to index : ℕ) (proto : Proto) → export_at program.interfaces to index ≡ Some proto →
-      params_of image to index ≡ length proto.params
+      export_params image to index ≡ length proto.params
   pub result : (to index : ℕ) (proto : Proto) → export_at program.interfaces to index ≡ Some proto →
       has_result image to (Export index) ≡ is_some proto.result
   -- imports
   pub calls : (from to index : ℕ) → imports program.interfaces from (is_function to index) ≡ true →
-      may_call image from to index ≡ true
+      may_call_export image from to index ≡ true
   pub inputs : (comp : ℕ) → imports program.interfaces comp is_input ≡ true → may_input image comp ≡ true
   pub outputs : (comp : ℕ) → imports program.interfaces comp is_output ≡ true → may_output image comp ≡ true
   -- globals
   pub globals : (comp number : ℕ) (cells : List Cell) →
-      slice_get (code_globals program.sections comp) number ≡ Some (record { live = true; cells = cells }) →
+      cells_at (code_globals program.sections comp) number ≡ Ok cells →
       GlobalStands image comp ((addresses comp).global number) cells
   pub globals_apart : (comp number other : ℕ) (cells more : List Cell) → number ≢ other →
-      slice_get (code_globals program.sections comp) number ≡ Some (record { live = true; cells = cells }) →
-      slice_get (code_globals program.sections comp) other ≡ Some (record { live = true; cells = more }) →
+      cells_at (code_globals program.sections comp) number ≡ Ok cells →
+      cells_at (code_globals program.sections comp) other ≡ Ok more →
       ((addresses comp).global number + 4 * length cells ≤ (addresses comp).global other)
       ⊎ ((addresses comp).global other + 4 * length more ≤ (addresses comp).global number)

@@ -2,7 +2,7 @@
 use Rattle.sc_emit_run_laws.specs.Common.{AgreesInDepth, Blamed, Ended, Event, EventsOut, ImageParts, IsPrefix}
 use Rattle.sc_emit_run_laws.specs.Common.{IsWellFormed, IsWord, LacksRoom, Owner, Run, RunsAgree, TurnsOut, depth_in}
 use Rattle.sc_emit_run_laws.specs.Common.{machine, stack_size, stopped_at}
-use Rattle.sc_image.specs.Prelude.{Run as MachineRun}
+use Rattle.sc_image.specs.Prelude.{MachineRun as MachineRun}
 use Rattle.std.specs.Prelude.{◌≡◌, ℕ, ◌<◌, ◌≤◌, ◌⊎◌, List, length, All}
 use Rattle.sc_base.specs.declared.stop.Stop.TheVariants.{Trap}
 use Rattle.sc_core.specs.declared.run.RunEnd.{RunEnd}

@@ -1,19 +1,14 @@
 -- Pieces of machine code: a word loaded into a register, words of the frame near the stack pointer and far from it, the
 -- places of temporaries, the prologue and the epilogue of a function (RISC-V Unprivileged ISA, RV32I).
+pub use Rattle.rv_code.specs.Registers.{a0, a7, ra, sp}
 use Rattle.sc_emit_select.specs.Common.{Add, Addi, Instr, Jalr, Load, Lui, Lw, Op, OpImm, Store, Sw, Upper, signed_of}
 use Rattle.sc_emit_select.specs.Common.{sub_word}
 use Rattle.rv_code.specs.Prelude.{signed}
 use Rattle.std.specs.Prelude.{ℕ, ℤ, pos, negsuc, ◌+◌, ◌*◌, ◌/◌, ◌%◌, ◌^◌, Bool, ◌&&◌, nat_lt, int_le, List, [], ◌∷◌}
 use Rattle.std.specs.Prelude.{◌++◌, if◌then◌else◌}
 
--- Registers by their numbers: the return address, the stack pointer, three that pieces compute in, and from a0 on those
--- of arguments. The rest are for temporaries.
-
-abbrev pub ra : ℕ
-ra = 1
-
-abbrev pub sp : ℕ
-sp = 2
+-- Registers by their numbers: three that pieces compute in; those from a0 on are of arguments, and the rest for
+-- temporaries.
 
 abbrev pub first_scratch : ℕ
 first_scratch = 5
@@ -24,12 +19,6 @@ second_scratch = 6
 -- for addresses of words far from the stack pointer, and for constants
 abbrev pub address_scratch : ℕ
 address_scratch = 7
-
-abbrev pub a0 : ℕ
-a0 = 10
-
-abbrev pub a7 : ℕ
-a7 = 17
 
 -- the registers for temporaries: x3, x4, x8, x9 and x18 to x31
 abbrev pub register_of : ℕ → ℕ

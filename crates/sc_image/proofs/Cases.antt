@@ -1,16 +1,23 @@
--- What a step can come to, in two states at once that a compartment can't distinguish: the same registers and pc, and the
+-- What a step can come to, in two states at once that a compartment can't distinguish: the same registers and pc, and
+-- the
 -- same bytes at its addresses. A relation between the outcomes holds if it holds of each kind of outcome.
 use Rattle.sc_image.proofs.Common.{Auipc, BadCall, BadJump, Bool, Branch, Breakpoint, Crossing, Ebreak, Ecall, Export}
 use Rattle.sc_image.proofs.Common.{Fence, Goes, HasWord, HoldsBytes, Illegal, ImageParts, Instr, IsWellFormed, IsWord}
-use Rattle.sc_image.proofs.Common.{Jal, Jalr, List, Load, LoadOp, Lui, Memory, Misaligned, NoImport, None, Op, OpImm}
-use Rattle.sc_image.proofs.Common.{Option, Outcome, Shift, ShiftOp, Some, State, Store, StoreOp, TrapReason, Traps}
-use Rattle.sc_image.proofs.Common.{Upper, a7, add_word-lt, ap, are_data, by_owner, called, calls, compares, computed}
-use Rattle.sc_image.proofs.Common.{decoded, execute, execute_by, export_at, export_called, extended, false, gives}
-use Rattle.sc_image.proofs.Common.{if_decoded, if_fetched, if◌then◌else◌, input, is_some, jalr_target, jump, leaves}
-use Rattle.sc_image.proofs.Common.{length, length-set, load_of-same, load_size, loaded, may_call, may_input, may_output}
-use Rattle.sc_image.proofs.Common.{nat_eq, next, not, on_registers, output, params_of, ra, refl, refused, reg, returned}
+use Rattle.sc_image.proofs.Common.{Jal, Jalr, List, Load, LoadOp, Lui, ByteMemory, Misaligned, NoImport, None, Op}
+use Rattle.sc_image.proofs.Common.{OpImm}
+use Rattle.sc_image.proofs.Common.{Option, Outcome, Shift, ShiftOp, Some, MachineState, Store, StoreOp, TrapReason}
+use Rattle.sc_image.proofs.Common.{Traps}
+use Rattle.sc_image.proofs.Common.{Upper, a7, add_word-lt, ap, are_data, by_owner, on_call, jump_outside, compares}
+use Rattle.sc_image.proofs.Common.{op_result}
+use Rattle.sc_image.proofs.Common.{decoded, execute, execute_by, entered_export, export_called, extended, false, gives}
+use Rattle.sc_image.proofs.Common.{if_decoded, if_fetched, if◌then◌else◌, on_input, is_some, jalr_target, jump, leaves}
+use Rattle.sc_image.proofs.Common.{length, length-set, load_of-same, load_size, word_loaded, may_call_export, may_input}
+use Rattle.sc_image.proofs.Common.{may_output}
+use Rattle.sc_image.proofs.Common.{nat_eq, next, not, on_registers, on_output, export_params, ra, refl, refused, reg}
+use Rattle.sc_image.proofs.Common.{on_return}
 use Rattle.sc_image.proofs.Common.{saved_sp, set, shift_on_registers, slice_index, sll_word-lt, sp, sra_word-lt}
-use Rattle.sc_image.proofs.Common.{srl_word-lt, step, step_by, store_size, subst, true, unless, with_pc, with_stored}
+use Rattle.sc_image.proofs.Common.{srl_word-lt, step, step_by, store_size, subst, true, unless_trap, with_pc}
+use Rattle.sc_image.proofs.Common.{with_stored}
 use Rattle.sc_image.proofs.Common.{word_at, word_of, word_of-lt, written, ℕ, ◌%◌, ◌+◌, ◌==◌, ◌≡◌}
 use Rattle.rv_code.specs.declared.instr.ShiftOp.TheVariants.{Slli, Srli, Srai}
 use Rattle.rv_code.proofs.OneEach.{HasWord-decoded}
@@ -26,13 +33,13 @@ length-written regs r word = by_zero _
     by_zero false = length-set regs r word
 
 -- a shift's amount may be any number
-shifted_word : (op : ShiftOp) (a amount : ℕ) → IsWord a → IsWord (computed (shift_on_registers op) a amount)
+shifted_word : (op : ShiftOp) (a amount : ℕ) → IsWord a → IsWord (op_result (shift_on_registers op) a amount)
 shifted_word Slli a amount h = sll_word-lt a amount
 shifted_word Srli a amount h = srl_word-lt a amount h
 shifted_word Srai a amount h = sra_word-lt a amount
 
 -- the crossing that a call opens
-abbrev pub crossing_to : State → (to index : ℕ) → Crossing
+abbrev pub crossing_to : MachineState → (to index : ℕ) → Crossing
 crossing_to state to index = record {
   caller = state.active;
   pc = state.pc + 4;
@@ -43,18 +50,18 @@ crossing_to state to index = record {
 }
 
 -- a property of the state, if any, that a step leads to
-abbrev pub AtNext : (State → Type 0) → Outcome → Type 0
+abbrev pub AtNext : (MachineState → Type 0) → Outcome → Type 0
 AtNext P (Goes next) = P next
 AtNext P (Traps reason) = Unit {0}
 
 -- The two states.
 
 -- the second state, where it has the registers, the pc and the active compartment of the first
-abbrev pub standing : (one rest : State) → State
+abbrev pub standing : (one rest : MachineState) → MachineState
 standing one rest = record rest { regs = one.regs; pc = one.pc; active = one.active }
 
-module _ (image : ImageParts) (inputs inputs' : List ℕ) (formed : IsWellFormed image) (one rest : State) where
-  abbrev other : State
+module _ (image : ImageParts) (inputs inputs' : List ℕ) (formed : IsWellFormed image) (one rest : MachineState) where
+  abbrev other : MachineState
   other = standing one rest
 
   -- the registers and the pc after a step that changes nothing else
@@ -73,14 +80,15 @@ module _ (image : ImageParts) (inputs inputs' : List ℕ) (formed : IsWellFormed
     pub stores : (op : StoreOp) (a word : ℕ) → refused image one.active (store_size op) a ≡ None →
         P (Goes (with_pc (with_stored one op a word) (one.pc + 4)))
         (Goes (with_pc (with_stored other op a word) (one.pc + 4)))
-    pub calls : (to index target : ℕ) → export_at image to target ≡ Some index →
-        may_call image one.active to index ≡ true → P (Goes (called one to index (params_of image to index) target))
-        (Goes (called other to index (params_of image to index) target))
-    pub returns : P (Goes (returned image one one.cross)) (Goes (returned image other rest.cross))
-    pub outputs : may_output image one.active ≡ true → P (Goes (with_pc (output one) (one.pc + 4)))
-        (Goes (with_pc (output other) (one.pc + 4)))
-    pub reads : may_input image one.active ≡ true → P (Goes (with_pc (input inputs one) (one.pc + 4)))
-        (Goes (with_pc (input inputs' other) (one.pc + 4)))
+    pub calls : (to index target : ℕ) → entered_export image to target ≡ Some index →
+        may_call_export image one.active to index ≡ true → P (Goes (on_call one to index (export_params image to index)
+        target))
+        (Goes (on_call other to index (export_params image to index) target))
+    pub returns : P (Goes (on_return image one one.cross)) (Goes (on_return image other rest.cross))
+    pub outputs : may_output image one.active ≡ true → P (Goes (with_pc (on_output one) (one.pc + 4)))
+        (Goes (with_pc (on_output other) (one.pc + 4)))
+    pub reads : may_input image one.active ≡ true → P (Goes (with_pc (on_input inputs one) (one.pc + 4)))
+        (Goes (with_pc (on_input inputs' other) (one.pc + 4)))
 
   module _ (P : Outcome → Outcome → Type 0) (h : Cases P) where
     either : (b : Bool) (x x' y y' : Outcome) → P x x' → P y y' → P (if b then x else y) (if b then x' else y')
@@ -121,37 +129,38 @@ module _ (image : ImageParts) (inputs inputs' : List ℕ) (formed : IsWellFormed
         (where_true (is_some (word_at image one.active target)) _ _ _ _ (λ some. h.quiet _ target
         (moves_with rd _ target (λ here w bytes. here) (λ here. code_address image formed _ target some))) elsewhere)
 
-    export_both : (to target : ℕ) (index : Option ℕ) → export_at image to target ≡ index →
+    export_both : (to target : ℕ) (index : Option ℕ) → entered_export image to target ≡ index →
         P (export_called image one to target index) (export_called image other to target index)
     export_both to target None at = h.traps BadJump
     export_both to target (Some index) at = may_by _ refl
       where
-        may_by : (may : Bool) → may_call image one.active to index ≡ may →
-            P (if may then Goes (called one to index (params_of image to index) target) else Traps NoImport)
-            (if may then Goes (called other to index (params_of image to index) target) else Traps NoImport)
+        may_by : (may : Bool) → may_call_export image one.active to index ≡ may →
+            P (if may then Goes (on_call one to index (export_params image to index) target) else Traps NoImport)
+            (if may then Goes (on_call other to index (export_params image to index) target) else Traps NoImport)
         may_by true is = h.calls to index target at is
         may_by false is = h.traps NoImport
 
-    calls_both : (rd target : ℕ) → P (calls image one rd target) (calls image other rd target)
+    calls_both : (rd target : ℕ) → P (jump_outside image one rd target) (jump_outside image other rd target)
     calls_both rd target = either (nat_eq rd ra) _ _ _ _ (export_both _ target _ refl) (h.traps BadJump)
 
     leaves_both : (rd target : ℕ) → P (leaves image one rd target) (leaves image other rd target)
     leaves_both rd target = either _ _ _ _ _ h.returns (calls_both rd target)
 
     loaded_same : (op : LoadOp) (a : ℕ) → refused image one.active (load_size op) a ≡ None →
-        loaded one op a ≡ loaded other op a
+        word_loaded one op a ≡ word_loaded other op a
     loaded_same op a allowed = ap (extended op) (load_of-same one.memory rest.memory a _
         (λ k within. h.same _ (one_of image one.active a _ k (allowed_data image one.active _ a allowed) within)))
 
     load_both : (op : LoadOp) (rd a : ℕ) (why : Option TrapReason) → refused image one.active (load_size op) a ≡ why →
-        P (unless why (gives one rd (loaded one op a))) (unless why (gives other rd (loaded other op a)))
+        P (unless_trap why (gives one rd (word_loaded one op a))) (unless_trap why (gives other rd (word_loaded other op
+        a)))
     load_both op rd a (Some reason) is = h.traps reason
-    load_both op rd a None is = subst (λ word. P (gives one rd (loaded one op a)) (gives other rd word))
+    load_both op rd a None is = subst (λ word. P (gives one rd (word_loaded one op a)) (gives other rd word))
         (loaded_same op a is) (gives_both rd _ (λ here w bytes. loaded_word one.memory op a bytes))
 
     store_both : (op : StoreOp) (a word : ℕ) (why : Option TrapReason) →
-        refused image one.active (store_size op) a ≡ why → P (unless why (next (with_stored one op a word)))
-        (unless why (next (with_stored other op a word)))
+        refused image one.active (store_size op) a ≡ why → P (unless_trap why (next (with_stored one op a word)))
+        (unless_trap why (next (with_stored other op a word)))
     store_both op a word (Some reason) is = h.traps reason
     store_both op a word None is = h.stores op a word is
 
@@ -166,10 +175,11 @@ module _ (image : ImageParts) (inputs inputs' : List ℕ) (formed : IsWellFormed
         either (compares op _ _) _ _ _ _ (jump_both 0 _ _ _ (h.traps BadJump)) next_both
     execute_both (Load op rd rs1 imm) word has = load_both op rd _ _ refl
     execute_both (Store op rs1 rs2 imm) word has = store_both op _ _ _ refl
-    execute_both (OpImm op rd rs1 imm) word has = gives_both rd (computed (on_registers op) (reg one rs1) (word_of imm))
+    execute_both (OpImm op rd rs1 imm) word has = gives_both rd (op_result (on_registers op) (reg one rs1) (word_of
+        imm))
         (λ here w bytes. computed_word (on_registers op) (reg one rs1) (word_of imm) (w rs1) (word_of-lt imm))
     execute_both (Shift op rd rs1 amount) word has = gives_both rd
-        (computed (shift_on_registers op) (reg one rs1) amount) (λ here w bytes. shifted_word op _ amount (w rs1))
+        (op_result (shift_on_registers op) (reg one rs1) amount) (λ here w bytes. shifted_word op _ amount (w rs1))
     execute_both (Op op rd rs1 rs2) word has = gives_both rd _ (λ here w bytes. computed_word op _ _ (w rs1) (w rs2))
     execute_both (Fence imm rs1 rd) word has = next_both
     execute_both Ecall word has = either (nat_eq (reg one a7) 1) _ _ _ _
@@ -193,7 +203,7 @@ module _ (image : ImageParts) (inputs inputs' : List ℕ) (formed : IsWellFormed
     step_both = fetched_both _ refl
 
 -- One state: a property of its outcome.
-module _ (image : ImageParts) (inputs : List ℕ) (formed : IsWellFormed image) (state : State)
+module _ (image : ImageParts) (inputs : List ℕ) (formed : IsWellFormed image) (state : MachineState)
     (P : Outcome → Type 0) where
   abbrev pub OneCases : Type 0
   OneCases = Cases image inputs inputs formed state state (λ x y. P x)

@@ -41,42 +41,53 @@ pub use Rattle.sc_word.proofs.Words.{word_of-lt}
 pub use Rattle.sc_word.specs.Prelude.{add_word, word_of}
 pub use Rattle.rv_code.specs.Prelude.{HasWord, decoded}
 pub use Rattle.sc_store.proofs.Words.{load_of-same, stored-apart}
-pub use Rattle.sc_store.specs.Prelude.{HoldsBytes, Memory, byte_of, is_in, load_of, stored}
+pub use Rattle.sc_store.specs.Prelude.{HoldsBytes, ByteMemory, byte_of, is_in, load_of, with_bytes}
 pub use Rattle.sc_image.specs.Common.{Auipc, BadCall, BadJump, Branch, Breakpoint, Call, Ebreak, Ecall, End, Ended}
 pub use Rattle.sc_image.specs.Common.{Entry, Event, EventsOut, Export, Fence, Illegal, In, Instr, Jal, Jalr, Load}
 pub use Rattle.sc_image.specs.Common.{LoadOp, Lui, Main, Misaligned, NoImport, Op, OpImm, OpOp, Out, Owner, Region, Ret}
 pub use Rattle.sc_image.specs.Common.{Shift, ShiftOp, StepsOut, Stop, Store, StoreOp, Trap, TrapReason, Upper}
 pub use Rattle.sc_image.specs.Common.{little_bytes, little_number}
-pub use Rattle.sc_image.specs.Prelude.{Adds, AgreeFor, AreSilent, BadOrImage, BytesNameOneImage, CallsComeBack}
+pub use Rattle.sc_image.specs.Prelude.{Adds, AgreeFor, BadOrImage, BytesNameOneImage, CallsComeBack}
 pub use Rattle.sc_image.specs.Prelude.{ComesBack, Crossing, Emits, EmittingComposes, Entered, EntersByEvent, Fails}
-pub use Rattle.sc_image.specs.Prelude.{FitsItsFields, FollowsFromOwn, Goes, GoesOnSame, HasCalled, ImageInMemory, IsAt}
-pub use Rattle.sc_image.specs.Prelude.{IsByte, IsCall, IsChain, IsComp, IsDistinct, IsEntry, IsImage, IsImport}
-pub use Rattle.sc_image.specs.Prelude.{IsReached, IsSilent, IsSilentFor, IsSteady, IsWellFormed, IsWord, KeepsWords}
+pub use Rattle.sc_image.specs.Prelude.{FitsItsFields, FollowsFromOwn, Goes, HasCalled, ImageInMemory, IsAt}
+pub use Rattle.sc_image.specs.Prelude.{IsByte, IsCall, AreNested, IsComp, IsDistinct, IsEntry, IsImage, IsImport}
+pub use Rattle.sc_image.specs.Prelude.{IsReached, IsSilentStep, IsSteadyState, IsWellFormed, IsWord}
+pub use Rattle.sc_image.specs.Prelude.{KeepsWords}
 pub use Rattle.sc_image.specs.Prelude.{Kept, LeavesData, LeavesOthers, LegalByWords, LooksSame, OpenCall, Outcome, Own}
-pub use Rattle.sc_image.specs.Prelude.{Point, Read, Run, Running, RunsAreSteady, RunsAt, State, StaysAbove}
-pub use Rattle.sc_image.specs.Prelude.{StepsByInstruction, StepsEmit, StretchesCompose, TracesAreLegal, Traps, Waits}
-pub use Rattle.sc_image.specs.Prelude.{Walks, a0, a7, activates, after, after_outcome, after_step, after_steps}
-pub use Rattle.sc_image.specs.Prelude.{are_distinct, arguments, bad, bit, by_owner, byte_at, bytes_at, bytes_in_version}
-pub use Rattle.sc_image.specs.Prelude.{call_of, called, calls, cause_of, code_bytes, code_of, code_start, comp_bytes}
-pub use Rattle.sc_image.specs.Prelude.{comp_of_code, comp_of_data, compares, comps_keep, computed, continued}
-pub use Rattle.sc_image.specs.Prelude.{count_read, data_of, data_regions, data_start, data_with, emits_entry, ended}
-pub use Rattle.sc_image.specs.Prelude.{execute, export_at, export_bytes, export_called, exports_bytes, exports_keep}
-pub use Rattle.sc_image.specs.Prelude.{exports_of, extended, flags, gate, given_back, gives, globals_bytes, globals_of}
-pub use Rattle.sc_image.specs.Prelude.{has_result, if_decoded, if_fetched, if_good, image_bytes, image_of, import_bytes}
-pub use Rattle.sc_image.specs.Prelude.{import_of, imports_bytes, imports_keep, input, input_at, inputs_in, interface_of}
-pub use Rattle.sc_image.specs.Prelude.{interfaces_of, is_argument, is_end, is_ended, is_entry, is_import, is_result}
+pub use Rattle.sc_image.specs.Prelude.{Point, Read, MachineRun, Running, RunsAreSteady, RunsAt, MachineState}
+pub use Rattle.sc_image.specs.Prelude.{StaysAbove}
+pub use Rattle.sc_image.specs.Prelude.{StepsByInstruction, StepsEmit, StretchesCompose, MachineTracesAreLegal, Traps}
+pub use Rattle.sc_image.specs.Prelude.{Waits}
+pub use Rattle.sc_image.specs.Prelude.{Walks, a0, a7, activates, after, after_outcome, after_step}
+pub use Rattle.sc_image.specs.Prelude.{are_distinct_by, arguments, bad, bit, by_owner, byte_at, bytes_at}
+pub use Rattle.sc_image.specs.Prelude.{bytes_in_version}
+pub use Rattle.sc_image.specs.Prelude.{call_of, on_call, jump_outside, read_cause, code_bytes, code_in, code_start}
+pub use Rattle.sc_image.specs.Prelude.{comp_bytes}
+pub use Rattle.sc_image.specs.Prelude.{comp_of_code, comp_of_data, compares, comps_keep, op_result, continued}
+pub use Rattle.sc_image.specs.Prelude.{count_read, data_of, data_regions, data_start, data_with, emits_entry, on_end}
+pub use Rattle.sc_image.specs.Prelude.{execute, entered_export, export_bytes, export_called, exports_bytes}
+pub use Rattle.sc_image.specs.Prelude.{exports_keep}
+pub use Rattle.sc_image.specs.Prelude.{exported_by, extended, flags, gate, given_back, gives, globals_bytes}
+pub use Rattle.sc_image.specs.Prelude.{initial_globals}
+pub use Rattle.sc_image.specs.Prelude.{has_result, if_decoded, if_fetched, if_good, image_bytes, image_in, import_bytes}
+pub use Rattle.sc_image.specs.Prelude.{image_import, imports_bytes, imports_keep, on_input, input_at, inputs_in}
+pub use Rattle.sc_image.specs.Prelude.{image_interface}
+pub use Rattle.sc_image.specs.Prelude.{image_interfaces, is_argument, is_end, is_ended, is_entry, is_importable}
+pub use Rattle.sc_image.specs.Prelude.{is_result}
 pub use Rattle.sc_image.specs.Prelude.{is_same_import, is_same_name, jalr_target, jump, jump_by, keeps_rules, kept}
-pub use Rattle.sc_image.specs.Prelude.{kept_by, kept_from, later, latest_call, leaves, load_by, load_size, loaded}
-pub use Rattle.sc_image.specs.Prelude.{machine, may_call, may_input, may_output, most_globals, name_bytes, next}
+pub use Rattle.sc_image.specs.Prelude.{kept_by, kept_from, later, latest_call, leaves, load_by, load_size, word_loaded}
+pub use Rattle.sc_image.specs.Prelude.{machine, may_call_export, may_input, may_output, most_globals, name_bytes, next}
 pub use Rattle.sc_image.specs.Prelude.{number_at, number_that, observation_at, observation_of, on_registers, open_after}
-pub use Rattle.sc_image.specs.Prelude.{open_calls, output, own, own_at, params_of, proto_of, ra, refused, reg, returned}
-pub use Rattle.sc_image.specs.Prelude.{returned_to, saved_sp, shift_on_registers, sp, stack_size, stack_top, stack_tops}
-pub use Rattle.sc_image.specs.Prelude.{start, step, stops_or, store_by, store_size, stretch, then_on, unless}
+pub use Rattle.sc_image.specs.Prelude.{open_calls, on_output, own, own_at, export_params, image_proto, ra, refused, reg}
+pub use Rattle.sc_image.specs.Prelude.{on_return}
+pub use Rattle.sc_image.specs.Prelude.{on_return_to, saved_sp, shift_on_registers, sp, stack_size, stack_top}
+pub use Rattle.sc_image.specs.Prelude.{stack_tops}
+pub use Rattle.sc_image.specs.Prelude.{start, step, stops_or, store_by, store_size, stretch, then_on, unless_trap}
 pub use Rattle.sc_image.specs.Prelude.{unless_stopped, version, walk, with_pc, with_stored, without_latest}
 pub use Rattle.sc_image.specs.Prelude.{word_interface, word_interfaces, word_proto, written, ◌>>=◌}
-unfoldable pub use Rattle.sc_image.specs.Prelude.{are_data, code_at, comp_at, comp_name_at, execute_by, exports_at}
+unfoldable pub use Rattle.sc_image.specs.Prelude.{are_data, code_at, read_comp, comp_name_at, execute_by, read_exports}
 unfoldable pub use Rattle.sc_image.specs.Prelude.{fields_at, globals_at, image_in_version, import_at, imports_at}
-unfoldable pub use Rattle.sc_image.specs.Prelude.{name_at, parts_in_version, run, start_memory, step_by, stopped}
+unfoldable pub use Rattle.sc_image.specs.Prelude.{read_name, parts_in_version, run, start_memory, step_by, stopped}
 unfoldable pub use Rattle.sc_image.specs.Prelude.{word_at}
 pub use Rattle.sc_image.specs.declared.fault.BadImage.{BadImage}
 pub use Rattle.sc_image.specs.declared.fault.BadImage.TheVariants.{Compartment, Contents, Count, Exports, Imports, Mark}

@@ -1,19 +1,25 @@
 -- What belongs to a compartment that a call or a return makes active.
 use Rattle.sc_image.proofs.Common.{Adds, Bool, Call, Crossing, Entered, EntersByEvent, Event, ExportPart, Goes}
-use Rattle.sc_image.proofs.Common.{ImageParts, In, IsChain, IsSteady, IsWellFormed, Kept, List, None, Option, Out}
-use Rattle.sc_image.proofs.Common.{Outcome, Own, Ret, Some, State, Waits, [], a0, activates, after_outcome, ap, ap₂}
-use Rattle.sc_image.proofs.Common.{arguments, arith, called, data_of, drop, drop-append_seam, drop-length, eq-eqb}
-use Rattle.sc_image.proofs.Common.{eqb-true, export_at, exports_of, false, flat_map, gate, get_or, get_or-drop}
+use Rattle.sc_image.proofs.Common.{ImageParts, In, AreNested, IsSteadyState, IsWellFormed, Kept, List, None, Option}
+use Rattle.sc_image.proofs.Common.{Out}
+use Rattle.sc_image.proofs.Common.{Outcome, Own, Ret, Some, MachineState, Waits, [], a0, activates, after_outcome, ap}
+use Rattle.sc_image.proofs.Common.{ap₂}
+use Rattle.sc_image.proofs.Common.{arguments, arith, on_call, data_of, drop, drop-append_seam, drop-length, eq-eqb}
+use Rattle.sc_image.proofs.Common.{eqb-true, entered_export, exported_by, false, flat_map, gate, get_or, get_or-drop}
 use Rattle.sc_image.proofs.Common.{get_or-set_other, get_or-take, get_or_from_slice_get, given_back, has_result}
 use Rattle.sc_image.proofs.Common.{if◌then◌else◌, input_at, is_argument, is_result, is_some, kept, kept_by, kept_from}
 use Rattle.sc_image.proofs.Common.{length, length-drop, length-take-le, nat_eq, nat_tests, ne_eqb, observation_of}
-use Rattle.sc_image.proofs.Common.{option_map_or, own, params_of, position-Some, ra, refl, reg, returned, returned_to}
+use Rattle.sc_image.proofs.Common.{option_map_or, own, export_params, position-Some, ra, refl, reg, on_return}
+use Rattle.sc_image.proofs.Common.{on_return_to}
 use Rattle.sc_image.proofs.Common.{saved_sp, slice_get, slice_get-get_or, slice_get_cases, slice_get_within, sp, step}
 use Rattle.sc_image.proofs.Common.{subst, suc, sym, true, unwrap_or, written, zero, ℕ, ⊎_elim, ◌++◌, ◌+◌, ◌-◌, ◌<◌}
 use Rattle.sc_image.proofs.Common.{◌==◌, ◌∙◌, ◌∷◌, ◌≡◌, ◌≢◌, ◌≤◌}
 use Rattle.sc_image.proofs.Events.{no_event, that_event}
 use Rattle.sc_image.proofs.Cases.{crossing_to, step_of}
 use Rattle.sc_image.proofs.Words.{comp_found, no_export}
+use Rattle.sc_image.proofs.Isolation.{follows_from_own, leaves_data, leaves_others}
+use Rattle.sc_image.specs.Isolation.{IsIsolating}
+use Rattle.sc_image.specs.Step.{step}
 
 -- The words of `count` registers from r on, with 0 in each that isn't kept.
 abbrev chosen : (keeps : ℕ → Bool) (word : ℕ → ℕ) (r count : ℕ) → List ℕ
@@ -71,14 +77,14 @@ result_same false regs same = all_kept (is_result false) (λ r. 0) regs same (λ
 
 -- The exports of a compartment.
 
-pub few_params : (image : ImageParts) (d index : ℕ) → IsWellFormed image → params_of image d index ≤ 8
+pub few_params : (image : ImageParts) (d index : ℕ) → IsWellFormed image → export_params image d index ≤ 8
 few_params image d index formed = ⊎_elim (λ at.
     let found = comp_found (λ comp. comp.exports) [] (λ exports. slice_get exports index ≡ Some at.0)
     (λ none. cc none) _ at.2 in
     let within = slice_get_within _ index at.0 found.2 in
     rw (at.2, ← get_or_from_slice_get _ index at.0 at.0 found.2)
     ((formed.comps d found.0 found.1).exports index at.0 within).params) (λ none. rw none.1 (omega arith))
-    (slice_get_cases (exports_of image d) index).1
+    (slice_get_cases (exported_by image d) index).1
 
 abbrev entry_of : List ExportPart → (index : ℕ) → ℕ
 entry_of exports index = option_map_or (λ export. export.entry) (slice_get exports index) 0
@@ -86,12 +92,12 @@ entry_of exports index = option_map_or (λ export. export.entry) (slice_get expo
 abbrev words_of : List ExportPart → (index : ℕ) → ℕ
 words_of exports index = option_map_or (λ export. export.params) (slice_get exports index) 0
 
-entry_is : (image : ImageParts) (c target index : ℕ) → export_at image c target ≡ Some index →
-    entry_of (exports_of image c) index ≡ target
+entry_is : (image : ImageParts) (c target index : ℕ) → entered_export image c target ≡ Some index →
+    entry_of (exported_by image c) index ≡ target
 entry_is image c target index at =
     let first = position-Some (λ (export : ExportPart). export.entry == target)
-    (exports_of image c) index no_export at in
-    rw (slice_get-get_or (exports_of image c) index no_export first.0) (eqb-true _ _ first.1)
+    (exported_by image c) index no_export at in
+    rw (slice_get-get_or (exported_by image c) index no_export first.0) (eqb-true _ _ first.1)
 
 -- What is entered.
 
@@ -124,27 +130,28 @@ last_same trace one other h =
     let same = sym (drop-append_seam trace _) ∙ ap (drop (length trace)) h ∙ drop-append_seam trace _ in
     cc same
 
-module _ (image : ImageParts) (inputs : List ℕ) (state : State) (d : ℕ) (formed : IsWellFormed image)
-    (h : IsSteady image state) (differ : state.active ≢ d) where
+module _ (image : ImageParts) (inputs : List ℕ) (state : MachineState) (d : ℕ) (formed : IsWellFormed image)
+    (h : IsSteadyState image state) (differ : state.active ≢ d) where
   abbrev Enters : Outcome → Type 0
   Enters outcome = (after_outcome state outcome).active ≡ d → (event : Event) →
       (after_outcome state outcome).trace ≡ state.trace ++ event ∷ [] →
-      own image (after_outcome state outcome) d ≡ entered (exports_of image d) (own image state d) event
+      own image (after_outcome state outcome) d ≡ entered (exported_by image d) (own image state d) event
 
   -- a call
-  enters_call : (to index target : ℕ) → export_at image to target ≡ Some index → to ≡ d →
-      own image (called state to index (params_of image to index) target) d ≡
-      entered (exports_of image d) (own image state d) (Call state.active to index (arguments (params_of image to index) state.regs))
+  enters_call : (to index target : ℕ) → entered_export image to target ≡ Some index → to ≡ d →
+      own image (on_call state to index (export_params image to index) target) d ≡
+      entered (exported_by image d) (own image state d) (Call state.active to index (arguments (export_params image to
+      index) state.regs))
   enters_call to index target at active =
       let kept_is : kept_by d (crossing_to state to index) ≡ Entered (saved_sp state d) ∷ [] =
       rw (ne_eqb state.active d differ, eq-eqb to d active) (ap (λ k. Entered (saved_sp state k) ∷ []) active) in
       let calls = ap (λ k. k ++ flat_map (kept_by d) state.cross) kept_is in
       let saved = get_or-set_other _ _ d _ 0 (λ same. differ (sym same)) in
-      let regs : kept (is_argument (params_of image to index)) state.regs ≡
-      regs_by (params_of image d index) (arguments (params_of image to index) state.regs) =
-      arguments_same (params_of image to index) _ h.regs ∙
-      ap (λ k. regs_by (params_of image k index) (arguments (params_of image to index) state.regs)) active in
-      let entry = sym (entry_is image to target index at) ∙ ap (λ k. entry_of (exports_of image k) index) active in
+      let regs : kept (is_argument (export_params image to index)) state.regs ≡
+      regs_by (export_params image d index) (arguments (export_params image to index) state.regs) =
+      arguments_same (export_params image to index) _ h.regs ∙
+      ap (λ k. regs_by (export_params image k index) (arguments (export_params image to index) state.regs)) active in
+      let entry = sym (entry_is image to target index at) ∙ ap (λ k. entry_of (exported_by image k) index) active in
       let runs : (if nat_eq to d then Some _ else None) ≡ Some _ =
       rw (eq-eqb to d active) (λ i. Some (record {
         regs = written (written (regs i) ra gate) sp (saved_sp state (active i));
@@ -153,13 +160,13 @@ module _ (image : ImageParts) (inputs : List ℕ) (state : State) (d : ℕ) (for
       λ i. record { bytes = data_of image d state.memory; saved = saved i; calls = calls i; running = runs i }
 
   -- a return
-  enters_return : (cross : List Crossing) → state.cross ≡ cross → Enters (Goes (returned image state cross))
+  enters_return : (cross : List Crossing) → state.cross ≡ cross → Enters (Goes (on_return image state cross))
   enters_return [] is = λ active event same. absurd (differ active)
   enters_return (x ∷ xs) is = λ active event same.
-      let chain : IsChain (length _) _ (x ∷ xs) = subst (IsChain _ state.active) is h.chain in
+      let chain : AreNested (length _) _ (x ∷ xs) = subst (AreNested _ state.active) is h.chain in
       let callee : x.callee ≢ d = λ e. differ (sym chain.0 ∙ e) in
       let result = has_result image x.callee x.entry in
-      let after = returned_to result state x xs in
+      let after = on_return_to result state x xs in
       let kept_is : kept_by d x ≡ Waits x.pc x.sp ∷ [] = rw (eq-eqb x.caller d active, ne_eqb x.callee d callee) refl in
       let calls = ap (flat_map (kept_by d)) is ∙ ap (λ k. k ++ flat_map (kept_by d) xs) kept_is in
       let saved = get_or-set_other state.saved state.active d x.saved 0 (λ e. differ (sym e)) in
@@ -176,7 +183,7 @@ module _ (image : ImageParts) (inputs : List ℕ) (state : State) (d : ℕ) (for
         calls = flat_map (kept_by d) xs;
         running = runs i;
       } in
-      subst (λ e. own image after d ≡ entered (exports_of image d) (own image state d) e) is_event (first ∙ before)
+      subst (λ e. own image after d ≡ entered (exported_by image d) (own image state d) e) is_event (first ∙ before)
 
   pub step_enters : Enters (step image inputs state)
   step_enters = step_of image inputs formed state Enters (record {
@@ -185,8 +192,8 @@ module _ (image : ImageParts) (inputs : List ℕ) (state : State) (d : ℕ) (for
     quiet = λ regs pc len active event same. absurd (differ active);
     stores = λ op a word allowed active event same. absurd (differ active);
     calls = λ to index target at may active event same.
-        subst (λ e. own image (called state to index (params_of image to index) target) d ≡
-        entered (exports_of image d) (own image state d) e) (last_same state.trace (Call _ to index _) event same)
+        subst (λ e. own image (on_call state to index (export_params image to index) target) d ≡
+        entered (exported_by image d) (own image state d) e) (last_same state.trace (Call _ to index _) event same)
         (enters_call to index target at active);
     returns = enters_return state.cross refl;
     outputs = λ may active event same. absurd (differ active);
@@ -195,7 +202,8 @@ module _ (image : ImageParts) (inputs : List ℕ) (state : State) (d : ℕ) (for
 
 -- Who is active after a step that emits this one event, a call of d or a return to it.
 
-module _ (image : ImageParts) (inputs : List ℕ) (state : State) (d : ℕ) (formed : IsWellFormed image) (event : Event)
+module _ (image : ImageParts) (inputs : List ℕ) (state : MachineState) (d : ℕ) (formed : IsWellFormed image) (event :
+    Event)
     (activating : activates d event ≡ true) where
   abbrev Activated : Outcome → Type 0
   Activated outcome = observation_of state outcome ≡ Adds (event ∷ []) →
@@ -204,7 +212,7 @@ module _ (image : ImageParts) (inputs : List ℕ) (state : State) (d : ℕ) (for
   activates_that : (one : Event) → one ≡ event → activates d one ≡ true
   activates_that one same = ap (activates d) same ∙ activating
 
-  return_activates : (cross : List Crossing) → Activated (Goes (returned image state cross))
+  return_activates : (cross : List Crossing) → Activated (Goes (on_return image state cross))
   return_activates [] emits =
       let never = activates_that _ (that_event state.trace _ event emits) in cc never
   return_activates (x ∷ xs) emits =
@@ -219,7 +227,7 @@ module _ (image : ImageParts) (inputs : List ℕ) (state : State) (d : ℕ) (for
     quiet = λ regs pc moves emits. absurd (no_event state.trace event emits);
     stores = λ op a word allowed emits. absurd (no_event state.trace event emits);
     calls = λ to index target at may emits.
-        let one : Event = Call state.active to index (arguments (params_of image to index) state.regs) in
+        let one : Event = Call state.active to index (arguments (export_params image to index) state.regs) in
         let same : one ≡ event = that_event state.trace one event emits in
         (eqb-true to d (activates_that one same), ap (λ e. state.trace ++ e ∷ []) same);
     returns = return_activates state.cross;
@@ -238,3 +246,8 @@ enters_by_event d = (
       let after = step_activates image inputs state d formed event activating emits in
       step_enters image inputs state d formed h (λ e. differ (sym e)) after.0 event after.1,
 )
+
+-- all laws together
+pub isolates : IsIsolating step
+isolates =
+    record { others = leaves_others; bytes = leaves_data; follows = follows_from_own; enters = enters_by_event }

@@ -2,14 +2,15 @@
 use Rattle.sc_image.proofs.Common.{AllByRecursion, BadImage, Bool, CompPart, Compartment, Contents, Count, ExportPart}
 use Rattle.sc_image.proofs.Common.{Exports, ImageParts, ImportPart, Imports, List, Mark, Start, Version, [], and_from}
 use Rattle.sc_image.proofs.Common.{and_parts, ap, append_assoc, arith, bit, bytes_in_version, code_at, code_bytes}
-use Rattle.sc_image.proofs.Common.{codes, comp_at, comp_bytes, comp_name_at, eq-eqb, eqb-true, export_bytes, exports_at}
+use Rattle.sc_image.proofs.Common.{codes, read_comp, comp_bytes, comp_name_at, eq-eqb, eqb-true, export_bytes}
+use Rattle.sc_image.proofs.Common.{read_exports}
 use Rattle.sc_image.proofs.Common.{exports_bytes, false, flags, globals_at, globals_bytes, import_at, import_bytes}
 use Rattle.sc_image.proofs.Common.{imports_at, imports_bytes, is_between, is_name, is_name_byte, is_nondigit}
 use Rattle.sc_image.proofs.Common.{is_same_name, le-leb, leb-true, length, list_all, little_bytes, lt-ltb, ltb-true}
-use Rattle.sc_image.proofs.Common.{most_globals, name_at, name_bytes, nat_le, nat_lt, nat_tests, not-true}
+use Rattle.sc_image.proofs.Common.{most_globals, read_name, name_bytes, nat_le, nat_lt, nat_tests, not-true}
 use Rattle.sc_image.proofs.Common.{not_from_false, number_at, parts_in_version, refl, same_text, stretch, suc, sym}
 use Rattle.sc_image.proofs.Common.{true, zero, ℕ, ◌%◌, ◌&&◌, ◌*◌, ◌++◌, ◌+◌, ◌/◌, ◌<◌, ◌==◌, ◌^◌, ◌∙◌, ◌∷◌, ◌≡◌, ◌≤◌}
-use Rattle.sc_image.specs.Reading.{export_at}
+use Rattle.sc_image.specs.Reading.{read_export}
 use Rattle.sc_base.proofs.Filled.{name_is_short}
 use Rattle.sc_image.proofs.Fields.{IsBytes, IsField, restated, made, tested, followed, bytes_field, number_field}
 use Rattle.sc_image.proofs.Fields.{byte_field, many_field, two_wide, four_wide}
@@ -29,8 +30,8 @@ name_is_bytes (first ∷ rest) named zero =
 name_is_bytes (first ∷ rest) named (suc i) =
     name_bytes_are_bytes rest (and_parts _ (nat_lt (length rest) 63) (and_parts _ _ named).1).0 i
 
-name_field : (cause : BadImage) → IsField (name_at cause) name_bytes (λ name. is_name name ≡ true)
-unfolding name_at
+name_field : (cause : BadImage) → IsField (read_name cause) name_bytes (λ name. is_name name ≡ true)
+unfolding read_name
 name_field cause = restated (followed (byte_field cause) _ (λ size ok. tested (bytes_field cause size) cause is_name)
     (λ size name a b. b.0.0)) (λ name h. refl) (λ name h. h.1.1)
     (λ name h. (omega (arith, name_is_short name h), ((refl, name_is_bytes name h), h)))
@@ -65,8 +66,8 @@ export_with name params result entry = record { name = name; params = params; re
 export_again : (export : ExportPart) → export ≡ export_with export.name export.params (bit export.result) export.entry
 export_again export = ap (λ (b : Bool). record export { result = b }) (sym (bit_again _))
 
-pub export_field : IsField export_at export_bytes FitsExport
-unfolding export_at
+pub export_field : IsField read_export export_bytes FitsExport
+unfolding read_export
 export_field = restated (followed (name_field Exports) (λ (export : ExportPart). export.name) (λ name ok.
     followed (tested (byte_field Exports) Exports (λ n. nat_le n 8)) (λ (export : ExportPart). export.params)
     (λ params ok.
@@ -88,8 +89,8 @@ pub record FitsExports (exports : List ExportPart) : Type 0 where
   pub few : length exports ≤ 4096
   pub each : AllByRecursion FitsExport exports
 
-pub exports_field : IsField exports_at exports_bytes FitsExports
-unfolding exports_at
+pub exports_field : IsField read_exports exports_bytes FitsExports
+unfolding read_exports
 exports_field = restated (followed (tested (number_field Exports 2 two_wide) Exports _) _
     (λ count ok. many_field _ export_bytes FitsExport export_field count) (λ count exports a b. b.0))
     (λ exports h. refl) (λ exports h. record { few = leb-true _ _ h.0.1; each = h.1.1 })
@@ -205,8 +206,8 @@ module _ (comps : ℕ) (few : comps ≤ 32) where
       (λ imports h. refl) (λ imports h. record { few = leb-true _ _ h.0.1; each = h.1.1 })
       (λ imports h. ((omega (arith, h.few), le-leb _ _ h.few), (refl, h.each)))
 
-  pub comp_field : IsField (comp_at comps) comp_bytes (FitsComp comps)
-  unfolding comp_at
+  pub comp_field : IsField (read_comp comps) comp_bytes (FitsComp comps)
+  unfolding read_comp
   comp_field = restated (followed comp_name_field (λ (comp : CompPart). comp.name) (λ name ok.
       followed (tested (byte_field Compartment) Compartment (λ f. nat_le f 3)) (λ (comp : CompPart). flags comp)
       (λ f ok. followed exports_field (λ (comp : CompPart). comp.exports) (λ exports ok.
@@ -267,7 +268,7 @@ parts_field version low = restated
     followed (tested (byte_field Start) Start (λ c. nat_lt c count)) (λ (parts : ImageParts). parts.main)
     (λ main ok_main.
     followed (number_field Start 4 four_wide) (λ (parts : ImageParts). parts.entry) (λ entry ok_entry.
-    made (many_field (comp_at count) comp_bytes (FitsComp count) (comp_field count (count_within count ok.1).1) count)
+    made (many_field (read_comp count) comp_bytes (FitsComp count) (comp_field count (count_within count ok.1).1) count)
     (λ comps. record { main = main; entry = entry; comps = comps }) (λ (parts : ImageParts). parts.comps)
     (λ comps. refl)) (λ entry y a b. ap (λ (p : ImageParts). p.entry) b.1))
     (λ main y a b. ap (λ (p : ImageParts). p.main) b.1.1)) (λ count y a b. b.1.1.0.0))

@@ -1,15 +1,18 @@
 -- A step leaves what belongs to other compartments, and what a compartment does follows from its own parts.
-use Rattle.sc_image.proofs.Common.{Adds, All, AreSilent, Bool, Call, Crossing, End, Entered, Event, FollowsFromOwn}
-use Rattle.sc_image.proofs.Common.{Goes, GoesOnSame, ImageParts, In, IsChain, IsSilent, IsSilentFor, IsSteady}
-use Rattle.sc_image.proofs.Common.{IsWellFormed, IsWord, LeavesData, LeavesOthers, List, LooksSame, Memory, None}
-use Rattle.sc_image.proofs.Common.{OpenCall, Out, Outcome, Point, Ret, Running, RunsAt, Some, State, Waits, [], a0}
-use Rattle.sc_image.proofs.Common.{activates, after_outcome, after_step, after_steps, ap, ap₂, are_data, arguments}
-use Rattle.sc_image.proofs.Common.{arith, byte_of, call_of, called, data_of, drop, drop-append_seam, drop-length}
+use Rattle.sc_image.proofs.Common.{Adds, All, Bool, Call, Crossing, End, Entered, Event, FollowsFromOwn}
+use Rattle.sc_image.proofs.Common.{Goes, ImageParts, In, AreNested, IsSilentStep}
+use Rattle.sc_image.proofs.Common.{IsSteadyState}
+use Rattle.sc_image.proofs.Common.{IsWellFormed, IsWord, LeavesData, LeavesOthers, List, LooksSame, ByteMemory, None}
+use Rattle.sc_image.proofs.Common.{OpenCall, Out, Outcome, Point, Ret, Running, RunsAt, Some, MachineState, Waits, []}
+use Rattle.sc_image.proofs.Common.{a0}
+use Rattle.sc_image.proofs.Common.{activates, after_outcome, after_step, ap, ap₂, are_data, arguments}
+use Rattle.sc_image.proofs.Common.{arith, byte_of, call_of, on_call, data_of, drop, drop-append_seam, drop-length}
 use Rattle.sc_image.proofs.Common.{emits_entry, eq-eqb, false, flat_map, get_or, get_or-set_other, get_or-set_same}
-use Rattle.sc_image.proofs.Common.{given_back, has_result, if◌then◌else◌, input, input_at, inputs_in, kept_by, later}
+use Rattle.sc_image.proofs.Common.{given_back, has_result, if◌then◌else◌, on_input, input_at, inputs_in, kept_by, later}
 use Rattle.sc_image.proofs.Common.{latest_call, length, map, nat_eq, nat_le, nat_lt, ne_eqb, observation_at}
-use Rattle.sc_image.proofs.Common.{observation_of, output, own, own_at, params_of, refl, reg, returned, returned_to}
-use Rattle.sc_image.proofs.Common.{saved_sp, set, sp, step, store_size, stored, stored-apart, subst, suc, sym, true}
+use Rattle.sc_image.proofs.Common.{observation_of, on_output, own, own_at, export_params, refl, reg, on_return}
+use Rattle.sc_image.proofs.Common.{on_return_to}
+use Rattle.sc_image.proofs.Common.{saved_sp, set, sp, step, store_size, with_bytes, stored-apart, subst, suc, sym, true}
 use Rattle.sc_image.proofs.Common.{with_pc, with_stored, written, zero, ℕ, ◌&&◌, ◌++◌, ◌+◌, ◌-◌, ◌<◌, ◌==◌, ◌||◌, ◌↔◌}
 use Rattle.sc_image.proofs.Common.{◌∙◌, ◌∷◌, ◌≡◌, ◌≢◌, ◌≤◌}
 use Rattle.sc_image.proofs.Cases.{crossing_to, step_of, standing, step_both}
@@ -28,15 +31,15 @@ apart image c d a size x formed differ mine others from upto =
     let o = data_bounds image d x 1 (omega arith) others in
     omega (arith, m.0, m.1, o.0, o.1, few_globals image c formed, few_globals image d formed)
 
-byte_kept : (image : ImageParts) (c d a size word x : ℕ) (memory : Memory) → IsWellFormed image → c ≢ d →
+byte_kept : (image : ImageParts) (c d a size word x : ℕ) (memory : ByteMemory) → IsWellFormed image → c ≢ d →
     are_data image c a size ≡ true → (others : Bool) → are_data image d x 1 ≡ others →
-    (if others then stored memory a size word x else None) ≡ (if others then memory x else None)
+    (if others then with_bytes memory a size word x else None) ≡ (if others then memory x else None)
 byte_kept image c d a size word x memory formed differ mine true is =
     stored-apart memory a size word x (apart image c d a size x formed differ mine is)
 byte_kept image c d a size word x memory formed differ mine false is = refl
 
-pub data_kept : (image : ImageParts) (c d a size word : ℕ) (memory : Memory) → IsWellFormed image → c ≢ d →
-    are_data image c a size ≡ true → data_of image d (stored memory a size word) ≡ data_of image d memory
+pub data_kept : (image : ImageParts) (c d a size word : ℕ) (memory : ByteMemory) → IsWellFormed image → c ≢ d →
+    are_data image c a size ≡ true → data_of image d (with_bytes memory a size word) ≡ data_of image d memory
 data_kept image c d a size word memory formed differ mine =
     λ i x. byte_kept image c d a size word x memory formed differ mine _ refl i
 
@@ -52,14 +55,14 @@ idle_both c e d one other differ differs = idle c d one differ ∙ sym (idle e d
 not_in : (d : ℕ) (crossing : Crossing) → crossing.caller ≢ d → crossing.callee ≢ d → kept_by d crossing ≡ []
 not_in d crossing caller callee = rw (ne_eqb _ d caller, ne_eqb _ d callee) refl
 
-module _ (image : ImageParts) (inputs : List ℕ) (state : State) (d : ℕ) (formed : IsWellFormed image)
-    (h : IsSteady image state) (differ : state.active ≢ d) where
+module _ (image : ImageParts) (inputs : List ℕ) (state : MachineState) (d : ℕ) (formed : IsWellFormed image)
+    (h : IsSteadyState image state) (differ : state.active ≢ d) where
   abbrev Kept_after : Outcome → Type 0
   Kept_after outcome = ((after_outcome state outcome).active ≢ d) →
       own image (after_outcome state outcome) d ≡ own image state d
 
   -- the own parts of d after a step to a state in which they are the same
-  own_kept : (next : State) → next.active ≢ d → data_of image d next.memory ≡ data_of image d state.memory →
+  own_kept : (next : MachineState) → next.active ≢ d → data_of image d next.memory ≡ data_of image d state.memory →
       saved_sp next d ≡ saved_sp state d → flat_map (kept_by d) next.cross ≡ flat_map (kept_by d) state.cross →
       own image next d ≡ own image state d
   own_kept next other bytes saved calls = λ i. record {
@@ -70,13 +73,13 @@ module _ (image : ImageParts) (inputs : List ℕ) (state : State) (d : ℕ) (for
         (record { regs = state.regs; pc = state.pc }) other differ i;
   }
 
-  return_keeps : (cross : List Crossing) → state.cross ≡ cross → Kept_after (Goes (returned image state cross))
-  return_keeps [] is = λ next. own_kept (returned image state []) next refl refl refl
+  return_keeps : (cross : List Crossing) → state.cross ≡ cross → Kept_after (Goes (on_return image state cross))
+  return_keeps [] is = λ next. own_kept (on_return image state []) next refl refl refl
   return_keeps (x ∷ xs) is = λ next.
-      let chain : IsChain (length image.comps) state.active (x ∷ xs) =
-      subst (IsChain (length image.comps) state.active) is h.chain in
+      let chain : AreNested (length image.comps) state.active (x ∷ xs) =
+      subst (AreNested (length image.comps) state.active) is h.chain in
       let callee : x.callee ≢ d = λ same. differ (sym chain.0 ∙ same) in
-      own_kept (returned image state (x ∷ xs)) next refl
+      own_kept (on_return image state (x ∷ xs)) next refl
       (get_or-set_other state.saved state.active d x.saved 0 (λ same. differ (sym same)))
       (sym (ap (flat_map (kept_by d)) is ∙ ap (λ kept. kept ++ flat_map (kept_by d) xs) (not_in d x next callee)))
 
@@ -88,12 +91,13 @@ module _ (image : ImageParts) (inputs : List ℕ) (state : State) (d : ℕ) (for
     stores = λ op a word allowed next. own_kept (with_pc (with_stored state op a word) (state.pc + 4)) next
         (data_kept image state.active d a (store_size op) word state.memory formed differ
         (allowed_data image state.active (store_size op) a allowed)) refl refl;
-    calls = λ to index target at may next. own_kept (called state to index (params_of image to index) target) next refl
+    calls = λ to index target at may next. own_kept (on_call state to index (export_params image to index) target) next
+        refl
         (get_or-set_other state.saved state.active d (reg state sp) 0 (λ same. differ (sym same)))
         (ap (λ kept. kept ++ flat_map (kept_by d) state.cross) (not_in d (crossing_to state to index) differ next));
     returns = return_keeps state.cross refl;
-    outputs = λ may next. own_kept (with_pc (output state) (state.pc + 4)) next refl refl refl;
-    reads = λ may next. own_kept (with_pc (input inputs state) (state.pc + 4)) next refl refl refl;
+    outputs = λ may next. own_kept (with_pc (on_output state) (state.pc + 4)) next refl refl refl;
+    reads = λ may next. own_kept (with_pc (on_input inputs state) (state.pc + 4)) next refl refl refl;
   })
 
 -- Who is active after a step that emits no entry of d.
@@ -102,7 +106,7 @@ entry_by : (to d : ℕ) → (to == d || false) ≡ false → to ≢ d
 entry_by to d none same = let yes : (to == d || false) ≡ true = rw (eq-eqb to d same) refl in let never =
     sym yes ∙ none in cc never
 
-module _ (image : ImageParts) (inputs : List ℕ) (state : State) (d : ℕ) (formed : IsWellFormed image)
+module _ (image : ImageParts) (inputs : List ℕ) (state : MachineState) (d : ℕ) (formed : IsWellFormed image)
     (differ : state.active ≢ d) where
   abbrev Elsewhere : Outcome → Type 0
   Elsewhere outcome = emits_entry d (observation_of state outcome) ≡ false → (after_outcome state outcome).active ≢ d
@@ -111,7 +115,7 @@ module _ (image : ImageParts) (inputs : List ℕ) (state : State) (d : ℕ) (for
       (activates d event || false) ≡ false
   one_event event none = sym (ap (λ events. emits_entry d (Adds events)) (drop-append_seam state.trace _)) ∙ none
 
-  return_elsewhere : (cross : List Crossing) → Elsewhere (Goes (returned image state cross))
+  return_elsewhere : (cross : List Crossing) → Elsewhere (Goes (on_return image state cross))
   return_elsewhere [] none = differ
   return_elsewhere (x ∷ xs) none = entry_by _ d (one_event _ none)
 
@@ -134,12 +138,12 @@ leaves_others image inputs state d formed h differ none =
 
 -- Whoever is active after a step, it leaves the data of those that weren't before.
 
-module _ (image : ImageParts) (inputs : List ℕ) (state : State) (d : ℕ) (formed : IsWellFormed image)
+module _ (image : ImageParts) (inputs : List ℕ) (state : MachineState) (d : ℕ) (formed : IsWellFormed image)
     (differ : state.active ≢ d) where
   abbrev DataAfter : Outcome → Type 0
   DataAfter outcome = data_of image d (after_outcome state outcome).memory ≡ data_of image d state.memory
 
-  return_leaves : (cross : List Crossing) → DataAfter (Goes (returned image state cross))
+  return_leaves : (cross : List Crossing) → DataAfter (Goes (on_return image state cross))
   return_leaves [] = refl
   return_leaves (x ∷ xs) = refl
 
@@ -162,19 +166,19 @@ leaves_data image inputs state d formed differ =
 
 -- A silent step leaves who is active, the open calls and the inputs as they are.
 
-pub record Stays (before after : State) : Type 0 where
+pub record Stays (before after : MachineState) : Type 0 where
   pub active : after.active ≡ before.active
   pub cross : after.cross ≡ before.cross
   pub input : after.input ≡ before.input
 
-module _ (image : ImageParts) (inputs : List ℕ) (state : State) (formed : IsWellFormed image) where
+module _ (image : ImageParts) (inputs : List ℕ) (state : MachineState) (formed : IsWellFormed image) where
   abbrev StaysSilent : Outcome → Type 0
   StaysSilent outcome = observation_of state outcome ≡ Adds [] → Stays state (after_outcome state outcome)
 
   same_stays : Stays state state
   same_stays = record { active = refl; cross = refl; input = refl }
 
-  loud_return : (cross : List Crossing) → StaysSilent (Goes (returned image state cross))
+  loud_return : (cross : List Crossing) → StaysSilent (Goes (on_return image state cross))
   loud_return [] silent = absurd (loud state.trace (End state.active (reg state a0)) silent)
   loud_return (x ∷ xs) silent = absurd (loud state.trace (Ret state.active x.caller _) silent)
 
@@ -194,29 +198,31 @@ module _ (image : ImageParts) (inputs : List ℕ) (state : State) (formed : IsWe
 
 -- The bytes of one compartment.
 
-same_at : (image : ImageParts) (c a : ℕ) (memory memory' : Memory) → data_of image c memory ≡ data_of image c memory' →
+same_at : (image : ImageParts) (c a : ℕ) (memory memory' : ByteMemory) → data_of image c memory ≡ data_of image c
+    memory' →
     are_data image c a 1 ≡ true → memory a ≡ memory' a
 same_at image c a memory memory' same owned = rw owned at (ap (λ bytes. bytes a) same)
 
-stored_at : (image : ImageParts) (c a size word x : ℕ) (memory memory' : Memory) →
+stored_at : (image : ImageParts) (c a size word x : ℕ) (memory memory' : ByteMemory) →
     ((b : ℕ) → are_data image c b 1 ≡ true → memory b ≡ memory' b) → (owned : Bool) → are_data image c x 1 ≡ owned →
-    (if owned then stored memory a size word x else None) ≡ (if owned then stored memory' a size word x else None)
+    (if owned then with_bytes memory a size word x else None) ≡ (if owned then with_bytes memory' a size word x else
+    None)
 stored_at image c a size word x memory memory' same true is =
     ap (λ before. if nat_le a x && nat_lt x (a + size) then Some (byte_of word (x - a)) else before) (same x is)
 stored_at image c a size word x memory memory' same false is = refl
 
-stored_same : (image : ImageParts) (c a size word : ℕ) (memory memory' : Memory) →
+stored_same : (image : ImageParts) (c a size word : ℕ) (memory memory' : ByteMemory) →
     ((b : ℕ) → are_data image c b 1 ≡ true → memory b ≡ memory' b) →
-    data_of image c (stored memory a size word) ≡ data_of image c (stored memory' a size word)
+    data_of image c (with_bytes memory a size word) ≡ data_of image c (with_bytes memory' a size word)
 stored_same image c a size word memory memory' same = λ i x. stored_at image c a size word x memory _ same _ refl i
 
 -- What comes next in two states that the compartment can't distinguish.
-pub record Follow (image : ImageParts) (c : ℕ) (s t : State) (x x' : Outcome) : Type 0 where
+pub record Follow (image : ImageParts) (c : ℕ) (s t : MachineState) (x x' : Outcome) : Type 0 where
   pub emits : observation_of s x ≡ observation_of t x'
   pub parts : own image (after_outcome s x) c ≡ own image (after_outcome t x') c
 
 -- the saved sp of the compartment that is left
-saved_left : (image : ImageParts) (state : State) (sp : ℕ) → IsSteady image state →
+saved_left : (image : ImageParts) (state : MachineState) (sp : ℕ) → IsSteadyState image state →
     get_or (set state.saved state.active sp) state.active 0 ≡ sp
 saved_left image state sp h = get_or-set_same state.saved state.active sp 0 (omega (arith, h.saved, h.active))
 
@@ -231,129 +237,131 @@ nothing_added trace trace' = ap Adds (drop-length trace ∙ sym (drop-length tra
 
 -- Two such states, of images that agree for the compartment, here with the step of the first image in both.
 
-module _ (image image' : ImageParts) (inputs inputs' : List ℕ) (formed : IsWellFormed image) (left rest : State) where
-  abbrev c : ℕ
-  c = left.active
+module _ (image image' : ImageParts) (inputs inputs' : List ℕ) (formed : IsWellFormed image) (left rest : MachineState)
+  where
+    abbrev c : ℕ
+    c = left.active
 
-  abbrev right : State
-  right = standing left rest
+    abbrev right : MachineState
+    right = standing left rest
 
-  module _ (steady : IsSteady image left) (steady' : IsSteady image' right) (parts : own image left c ≡ own image right c)
-      (call : latest_call left ≡ latest_call right) (read : input_at inputs left.input ≡ input_at inputs' rest.input)
-    where
-      bytes_same : data_of image c left.memory ≡ data_of image c rest.memory
-      bytes_same = ap (λ o. o.bytes) parts
+    module _ (steady : IsSteadyState image left) (steady' : IsSteadyState image' right) (parts : own image left c ≡ own
+        image right c)
+        (call : latest_call left ≡ latest_call right) (read : input_at inputs left.input ≡ input_at inputs' rest.input)
+      where
+        bytes_same : data_of image c left.memory ≡ data_of image c rest.memory
+        bytes_same = ap (λ o. o.bytes) parts
 
-      calls_same : flat_map (kept_by c) left.cross ≡ flat_map (kept_by c) rest.cross
-      calls_same = ap (λ o. o.calls) parts
+        calls_same : flat_map (kept_by c) left.cross ≡ flat_map (kept_by c) rest.cross
+        calls_same = ap (λ o. o.calls) parts
 
-      -- these registers and this pc, these bytes and these events, with the compartment still active
-      on : (regs' regs'' : List ℕ) (pc' place place' : ℕ) (more more' : List Event) (bytes : Memory → Memory) →
-          regs' ≡ regs'' → Adds (drop (length left.trace) more) ≡ Adds (drop (length rest.trace) more') →
-          data_of image c (bytes left.memory) ≡ data_of image c (bytes rest.memory) → Follow image c left right
-          (Goes (record left { regs = regs'; pc = pc'; memory = bytes left.memory; input = place; trace = more }))
-          (Goes (record right { regs = regs''; pc = pc'; memory = bytes rest.memory; input = place'; trace = more' }))
-      on regs' regs'' pc' place place' more more' bytes alike adds same = record {
-        emits = adds;
-        parts = λ i. record {
-          bytes = same i;
-          saved = (parts i).saved;
-          calls = calls_same i;
-          running = if nat_eq c c then Some (record { regs = alike i; pc = pc' }) else None;
-        };
-      }
+        -- these registers and this pc, these bytes and these events, with the compartment still active
+        on : (regs' regs'' : List ℕ) (pc' place place' : ℕ) (more more' : List Event) (bytes : ByteMemory → ByteMemory) →
+            regs' ≡ regs'' → Adds (drop (length left.trace) more) ≡ Adds (drop (length rest.trace) more') →
+            data_of image c (bytes left.memory) ≡ data_of image c (bytes rest.memory) → Follow image c left right
+            (Goes (record left { regs = regs'; pc = pc'; memory = bytes left.memory; input = place; trace = more }))
+            (Goes (record right { regs = regs''; pc = pc'; memory = bytes rest.memory; input = place'; trace = more' }))
+        on regs' regs'' pc' place place' more more' bytes alike adds same = record {
+          emits = adds;
+          parts = λ i. record {
+            bytes = same i;
+            saved = (parts i).saved;
+            calls = calls_same i;
+            running = if nat_eq c c then Some (record { regs = alike i; pc = pc' }) else None;
+          };
+        }
 
-      -- a call
-      kept_of_caller : (to : ℕ) (crossing : Crossing) → crossing.caller ≡ c → crossing.callee ≢ c →
-          kept_by c crossing ≡ Waits crossing.pc crossing.sp ∷ []
-      kept_of_caller to crossing caller callee = rw (eq-eqb _ c caller, ne_eqb _ c callee) refl
+        -- a call
+        kept_of_caller : (to : ℕ) (crossing : Crossing) → crossing.caller ≡ c → crossing.callee ≢ c →
+            kept_by c crossing ≡ Waits crossing.pc crossing.sp ∷ []
+        kept_of_caller to crossing caller callee = rw (eq-eqb _ c caller, ne_eqb _ c callee) refl
 
-      calls_on : (to index params target : ℕ) → c ≢ to → Follow image c left right
-          (Goes (called left to index params target)) (Goes (called right to index params target))
-      calls_on to index params target differ =
-          let to_other : to ≢ c = λ same. differ (sym same) in
-          let kept = ap₂ (λ k ks. k ++ ks) (kept_of_caller to (crossing_to left to index) refl to_other ∙
-          sym (kept_of_caller to (crossing_to right to index) refl to_other)) calls_same in
-          let sps = saved_left image left _ steady ∙ sym (saved_left image' right _ steady') in
-          let event : Event = Call c to index (arguments params left.regs) in
-          record {
-            emits = added left.trace rest.trace event event refl;
-            parts = λ i. record {
-              bytes = bytes_same i;
-              saved = sps i;
-              calls = kept i;
-              running = idle_both to to c (record { regs = (called left to index params target).regs; pc = target })
-                  (record { regs = (called right to index params target).regs; pc = target }) to_other to_other i;
-            };
-          }
+        calls_on : (to index params target : ℕ) → c ≢ to → Follow image c left right
+            (Goes (on_call left to index params target)) (Goes (on_call right to index params target))
+        calls_on to index params target differ =
+            let to_other : to ≢ c = λ same. differ (sym same) in
+            let kept = ap₂ (λ k ks. k ++ ks) (kept_of_caller to (crossing_to left to index) refl to_other ∙
+            sym (kept_of_caller to (crossing_to right to index) refl to_other)) calls_same in
+            let sps = saved_left image left _ steady ∙ sym (saved_left image' right _ steady') in
+            let event : Event = Call c to index (arguments params left.regs) in
+            record {
+              emits = added left.trace rest.trace event event refl;
+              parts = λ i. record {
+                bytes = bytes_same i;
+                saved = sps i;
+                calls = kept i;
+                running = idle_both to to c (record { regs = (on_call left to index params target).regs; pc = target })
+                    (record { regs = (on_call right to index params target).regs; pc = target }) to_other to_other i;
+              };
+            }
 
-      -- a return
-      kept_of_callee : (crossing : Crossing) → crossing.caller ≢ c → crossing.callee ≡ c →
-          kept_by c crossing ≡ Entered crossing.saved ∷ []
-      kept_of_callee crossing caller callee = rw (ne_eqb _ c caller, eq-eqb _ c callee) refl
+        -- a return
+        kept_of_callee : (crossing : Crossing) → crossing.caller ≢ c → crossing.callee ≡ c →
+            kept_by c crossing ≡ Entered crossing.saved ∷ []
+        kept_of_callee crossing caller callee = rw (ne_eqb _ c caller, eq-eqb _ c callee) refl
 
-      returns_on : (x x' : Crossing) (xs xs' : List Crossing) → left.cross ≡ x ∷ xs → rest.cross ≡ x' ∷ xs' →
-          Follow image c left right (Goes (returned image left (x ∷ xs))) (Goes (returned image right (x' ∷ xs')))
-      returns_on x x' xs xs' is is' =
-          let chain : IsChain (length image.comps) c (x ∷ xs) = subst (IsChain _ c) is steady.chain in
-          let chain' : IsChain (length image'.comps) c (x' ∷ xs') = subst (IsChain _ c) is' steady'.chain in
-          let caller : x.caller ≢ c = λ same. chain.1 (same ∙ sym chain.0) in
-          let caller' : x'.caller ≢ c = λ same. chain'.1 (same ∙ sym chain'.0) in
-          let latest : Some (call_of x) ≡ Some (call_of x') =
-          sym (ap (λ cross. slice_get (map call_of cross) 0) is) ∙ call ∙
-          ap (λ cross. slice_get (map call_of cross) 0) is' in
-          let first : call_of x ≡ call_of x' = cc latest in
-          let numbers : Entered x.saved ∷ flat_map (kept_by c) xs ≡ Entered x'.saved ∷ flat_map (kept_by c) xs' =
-          ap (λ k. k ++ flat_map (kept_by c) xs) (sym (kept_of_callee x caller chain.0)) ∙
-          sym (ap (flat_map (kept_by c)) is) ∙ calls_same ∙ ap (flat_map (kept_by c)) is' ∙
-          ap (λ k. k ++ flat_map (kept_by c) xs') (kept_of_callee x' caller' chain'.0) in
-          let kept : x.saved ≡ x'.saved = cc numbers in
-          let rests : flat_map (kept_by c) xs ≡ flat_map (kept_by c) xs' = cc numbers in
-          let event = λ (o : OpenCall). Ret c o.caller (given_back (has_result image o.callee o.entry) left) in
-          let after = returned_to (has_result image x.callee x.entry) left x xs in
-          let after' = returned_to (has_result image x'.callee x'.entry) right x' xs' in
-          let sps = saved_left image left _ steady ∙ kept ∙ sym (saved_left image' right _ steady') in
-          record {
-            emits = added left.trace rest.trace (event (call_of x)) (event (call_of x')) (ap event first);
-            parts = λ i. record {
-              bytes = bytes_same i;
-              saved = sps i;
-              calls = rests i;
-              running = idle_both x.caller x'.caller c (record { regs = after.regs; pc = after.pc })
-                  (record { regs = after'.regs; pc = after'.pc }) caller caller' i;
-            };
-          }
+        returns_on : (x x' : Crossing) (xs xs' : List Crossing) → left.cross ≡ x ∷ xs → rest.cross ≡ x' ∷ xs' →
+            Follow image c left right (Goes (on_return image left (x ∷ xs))) (Goes (on_return image right (x' ∷ xs')))
+        returns_on x x' xs xs' is is' =
+            let chain : AreNested (length image.comps) c (x ∷ xs) = subst (AreNested _ c) is steady.chain in
+            let chain' : AreNested (length image'.comps) c (x' ∷ xs') = subst (AreNested _ c) is' steady'.chain in
+            let caller : x.caller ≢ c = λ same. chain.1 (same ∙ sym chain.0) in
+            let caller' : x'.caller ≢ c = λ same. chain'.1 (same ∙ sym chain'.0) in
+            let latest : Some (call_of x) ≡ Some (call_of x') =
+            sym (ap (λ cross. slice_get (map call_of cross) 0) is) ∙ call ∙
+            ap (λ cross. slice_get (map call_of cross) 0) is' in
+            let first : call_of x ≡ call_of x' = cc latest in
+            let numbers : Entered x.saved ∷ flat_map (kept_by c) xs ≡ Entered x'.saved ∷ flat_map (kept_by c) xs' =
+            ap (λ k. k ++ flat_map (kept_by c) xs) (sym (kept_of_callee x caller chain.0)) ∙
+            sym (ap (flat_map (kept_by c)) is) ∙ calls_same ∙ ap (flat_map (kept_by c)) is' ∙
+            ap (λ k. k ++ flat_map (kept_by c) xs') (kept_of_callee x' caller' chain'.0) in
+            let kept : x.saved ≡ x'.saved = cc numbers in
+            let rests : flat_map (kept_by c) xs ≡ flat_map (kept_by c) xs' = cc numbers in
+            let event = λ (o : OpenCall). Ret c o.caller (given_back (has_result image o.callee o.entry) left) in
+            let after = on_return_to (has_result image x.callee x.entry) left x xs in
+            let after' = on_return_to (has_result image x'.callee x'.entry) right x' xs' in
+            let sps = saved_left image left _ steady ∙ kept ∙ sym (saved_left image' right _ steady') in
+            record {
+              emits = added left.trace rest.trace (event (call_of x)) (event (call_of x')) (ap event first);
+              parts = λ i. record {
+                bytes = bytes_same i;
+                saved = sps i;
+                calls = rests i;
+                running = idle_both x.caller x'.caller c (record { regs = after.regs; pc = after.pc })
+                    (record { regs = after'.regs; pc = after'.pc }) caller caller' i;
+              };
+            }
 
-      returns_both : (xs xs' : List Crossing) → left.cross ≡ xs → rest.cross ≡ xs' →
-          Follow image c left right (Goes (returned image left xs)) (Goes (returned image right xs'))
-      returns_both (x ∷ xs) (x' ∷ xs') is is' = returns_on x x' xs xs' is is'
-      returns_both [] [] is is' =
-          let event : Event = End c (reg left a0) in
-          on left.regs left.regs left.pc left.input rest.input _ _ (λ m. m) refl
-          (added left.trace rest.trace event event refl) bytes_same
-      returns_both xs xs' is is' =
-          let never = sym (ap (λ cross. slice_get (map call_of cross) 0) is) ∙ call ∙
-          ap (λ cross. slice_get (map call_of cross) 0) is' in cc never
+        returns_both : (xs xs' : List Crossing) → left.cross ≡ xs → rest.cross ≡ xs' →
+            Follow image c left right (Goes (on_return image left xs)) (Goes (on_return image right xs'))
+        returns_both (x ∷ xs) (x' ∷ xs') is is' = returns_on x x' xs xs' is is'
+        returns_both [] [] is is' =
+            let event : Event = End c (reg left a0) in
+            on left.regs left.regs left.pc left.input rest.input _ _ (λ m. m) refl
+            (added left.trace rest.trace event event refl) bytes_same
+        returns_both xs xs' is is' =
+            let never = sym (ap (λ cross. slice_get (map call_of cross) 0) is) ∙ call ∙
+            ap (λ cross. slice_get (map call_of cross) 0) is' in cc never
 
-      pub follow : Follow image c left right (step image inputs left) (step image inputs' right)
-      follow = step_both image inputs inputs' formed left rest (Follow image c left right) (record {
-        same = λ a owned. same_at image c a left.memory rest.memory bytes_same owned;
-        traps = λ reason. record { emits = refl; parts = parts };
-        quiet = λ regs' pc' same. on regs' regs' pc' left.input rest.input left.trace rest.trace (λ m. m) refl
-            (nothing_added left.trace rest.trace) bytes_same;
-        stores = λ op a word allowed. on left.regs left.regs (left.pc + 4) left.input rest.input left.trace rest.trace
-            (λ m. stored m a (store_size op) word) refl (nothing_added left.trace rest.trace)
-            (stored_same image c a _ word left.memory rest.memory
-            (λ b owned. same_at image c b left.memory rest.memory bytes_same owned));
-        calls = λ to index target at may. calls_on to index _ target (called_other image c to index formed may);
-        returns = returns_both left.cross rest.cross refl refl;
-        outputs = λ may.
-            let event : Event = Out c (reg left a0) in
-            on left.regs left.regs _ left.input rest.input _ _ (λ m. m) refl
-            (added left.trace rest.trace event event refl) bytes_same;
-        reads = λ may. on _ _ _ _ _ _ _ (λ m. m) (ap (written left.regs a0) read)
-            (added left.trace rest.trace (In c _) (In c _) (ap (In c) read)) bytes_same;
-      })
+        pub follow : Follow image c left right (step image inputs left) (step image inputs' right)
+        follow = step_both image inputs inputs' formed left rest (Follow image c left right) (record {
+          same = λ a owned. same_at image c a left.memory rest.memory bytes_same owned;
+          traps = λ reason. record { emits = refl; parts = parts };
+          quiet = λ regs' pc' same. on regs' regs' pc' left.input rest.input left.trace rest.trace (λ m. m) refl
+              (nothing_added left.trace rest.trace) bytes_same;
+          stores = λ op a word allowed. on left.regs left.regs (left.pc + 4) left.input rest.input left.trace rest.trace
+              (λ m. with_bytes m a (store_size op) word) refl (nothing_added left.trace rest.trace)
+              (stored_same image c a _ word left.memory rest.memory
+              (λ b owned. same_at image c b left.memory rest.memory bytes_same owned));
+          calls = λ to index target at may. calls_on to index _ target (called_other image c to index formed may);
+          returns = returns_both left.cross rest.cross refl refl;
+          outputs = λ may.
+              let event : Event = Out c (reg left a0) in
+              on left.regs left.regs _ left.input rest.input _ _ (λ m. m) refl
+              (added left.trace rest.trace event event refl) bytes_same;
+          reads = λ may. on _ _ _ _ _ _ _ (λ m. m) (ap (written left.regs a0) read)
+              (added left.trace rest.trace (In c _) (In c _) (ap (In c) read)) bytes_same;
+        })
 
 -- Any two points.
 
@@ -361,16 +369,16 @@ running_of : (c active : ℕ) (running : Running) → active ≡ c →
     (if nat_eq active c then Some running else None) ≡ Some running
 running_of c active running same = rw (eq-eqb active c same) refl
 
-pub in_latest : (image : ImageParts) (state : State) → IsSteady image state → IsInLatest state
+pub in_latest : (image : ImageParts) (state : MachineState) → IsSteadyState image state → IsInLatest state
 in_latest image state steady x xs is =
-    let chain : IsChain (length image.comps) state.active (x ∷ xs) = subst (IsChain _ _) is steady.chain in chain.0
+    let chain : AreNested (length image.comps) state.active (x ∷ xs) = subst (AreNested _ _) is steady.chain in chain.0
 
 -- what comes next at two points, each with its own image
 pub record NextSame (c : ℕ) (one other : Point) : Type 0 where
   pub emits : observation_at one ≡ observation_at other
   pub parts : own_at (later 1 one) c ≡ own_at (later 1 other) c
 
-abbrev at : Point → State → Point
+abbrev at : Point → MachineState → Point
 at point state = record point { state = state }
 
 next_written : (one there : Point) →
@@ -422,7 +430,7 @@ runs_after c point h stays = record {
   active = stays.active ∙ h.active;
 }
 
-alike_after : (c : ℕ) (one there : Point) → LooksSame c one there → IsSilent one.image one.inputs one.state →
+alike_after : (c : ℕ) (one there : Point) → LooksSame c one there → IsSilentStep one.image one.inputs one.state →
     LooksSame c (later 1 one) (later 1 there)
 alike_after c one there h silent =
     let n = next_same c one there h in
@@ -444,7 +452,8 @@ follows_from_own c one there zero h =
     (((λ p. tt), (λ p. tt)), λ p. record { own_parts = h.own_parts; next = n.emits; later_parts = n.parts })
 follows_from_own c one there (suc steps) h =
     let n = next_same c one there h in
-    let next = λ (silent : IsSilent one.image one.inputs one.state). follows_from_own c (later 1 one) (later 1 there)
+    let next = λ (silent : IsSilentStep one.image one.inputs one.state). follows_from_own c (later 1 one) (later 1
+    there)
     steps (alike_after c one there h silent) in (
       ((λ p. (sym n.emits ∙ p.0, (next p.0).0.0 p.1)), (λ p. (n.emits ∙ p.0, (next (n.emits ∙ p.0)).0.1 p.1))),
       λ p. (next p.0).1 p.1,

@@ -1,6 +1,6 @@
 -- Whether the parts keep the rules on a whole image, as it is found out.
 use Rattle.sc_image.proofs.Common.{All, Bool, CompPart, Decides, Decides-and, Decides-like, ExportPart, ImageParts}
-use Rattle.sc_image.proofs.Common.{ImportPart, Int, IsEquivalence, IsWellFormed, List, Some, [], ap, are_distinct}
+use Rattle.sc_image.proofs.Common.{ImportPart, Int, IsEquivalence, IsWellFormed, List, Some, [], ap, are_distinct_by}
 use Rattle.sc_image.proofs.Common.{arith, bytes_decides, comps_keep, cond, drop, drop_more, false, get_or}
 use Rattle.sc_image.proofs.Common.{hash_set_len-from_list, is_same_import, is_same_name, length, length-map, list_any}
 use Rattle.sc_image.proofs.Common.{map, nat_eq, refl, replicate, slice_get-get_or, suc, sym, take, take-replicate, true}
@@ -41,25 +41,25 @@ module _ (image : ImageParts) (comps : List CompPart) (c : ℕ) where
 
 count_emits : {A S : Type 0} (same : A → A → Bool) → IsEquivalence same →
     (xs : List A) (set : HashSet A S) (len count : ℕ) → bag.IsFromIterResult same xs set →
-    len ≡ hash_set_len set → count ≡ length xs → nat_eq len count ≡ are_distinct same xs
+    len ≡ hash_set_len set → count ≡ length xs → nat_eq len count ≡ are_distinct_by same xs
 count_emits same laws xs set len count made len-is count-is =
     rw (len-is, count-is, hash_set_len-from_list laws xs set made) refl
 
 pub comp_names_count : {S : Type 0} (comps : List CompPart) (set : HashSet (List ℕ) S) (len : ℕ) →
     bag.IsFromIterResult is_same_name (map (λ comp. comp.name) comps) set → len ≡ hash_set_len set →
-    nat_eq len (length comps) ≡ are_distinct is_same_name (map (λ comp. comp.name) comps)
+    nat_eq len (length comps) ≡ are_distinct_by is_same_name (map (λ comp. comp.name) comps)
 comp_names_count comps set len made len-is =
     count_emits _ (equivalence _ bytes_decides) _ set len _ made len-is (sym (length-map comps _))
 
 pub export_names_count : {S : Type 0} (exports : List ExportPart) (set : HashSet (List ℕ) S) (len : ℕ) →
     bag.IsFromIterResult is_same_name (map (λ export. export.name) exports) set → len ≡ hash_set_len set →
-    nat_eq len (length exports) ≡ are_distinct is_same_name (map (λ export. export.name) exports)
+    nat_eq len (length exports) ≡ are_distinct_by is_same_name (map (λ export. export.name) exports)
 export_names_count exports set len made len-is =
     count_emits _ (equivalence _ bytes_decides) _ set len _ made len-is (sym (length-map _ _))
 
 pub entries_count : {S : Type 0} (exports : List ExportPart) (set : HashSet ℕ S) (len : ℕ) →
     bag.IsFromIterResult ◌==◌ (map (λ export. export.entry) exports) set → len ≡ hash_set_len set →
-    nat_eq len (length exports) ≡ are_distinct ◌==◌ (map (λ export. export.entry) exports)
+    nat_eq len (length exports) ≡ are_distinct_by ◌==◌ (map (λ export. export.entry) exports)
 entries_count exports set len made len-is =
     count_emits ◌==◌ (equivalence ◌==◌ unsigned_Decides) _ set len _ made len-is (sym (length-map _ _))
 
@@ -95,7 +95,7 @@ pairs_decide a b = Decides-like _ (λ both. ap (λ n. (n, a.1)) both.0 ∙ ap (�
 
 pub imports_count : {S : Type 0} (imports : List ImportPart) (set : HashSet (ℕ × ℕ) S) (len : ℕ) →
     bag.IsFromIterResult is_same_pair (map (λ import. (import.comp, import.index)) imports) set →
-    len ≡ hash_set_len set → nat_eq len (length imports) ≡ are_distinct is_same_import imports
+    len ≡ hash_set_len set → nat_eq len (length imports) ≡ are_distinct_by is_same_import imports
 imports_count imports set len made len-is = count_emits _ (equivalence _ pairs_decide) _ set len _ made len-is
     (sym (length-map imports _)) ∙ (ap (λ n. n == length (map numbers imports)) (as_many imports) ∙
     ap (λ n. distinct_count is_same_import imports == n) (length-map imports numbers))

@@ -10,6 +10,7 @@ pub mod Agree
 pub mod Events
 pub mod Isolation
 pub mod Enters
+mod BadMachines
 pub mod Returning
 pub mod Fields
 pub mod FileFields

@@ -1,12 +1,14 @@
 -- A compartment's data lie in one piece, memory at the start, and the bytes that a memory holds.
-use Rattle.sc_image.proofs.Common.{Bool, CompPart, HoldsBytes, ImageParts, IsByte, IsWellFormed, List, Memory}
+use Rattle.sc_image.proofs.Common.{Bool, CompPart, HoldsBytes, ImageParts, IsByte, IsWellFormed, List, ByteMemory}
 use Rattle.sc_image.proofs.Common.{Misaligned, None, Option, Owner, Some, [], and_parts, ap, ap₂, are_data, arith}
 use Rattle.sc_image.proofs.Common.{byte_at, byte_of, cases_lt, comp_of_data, data_start, data_with, false}
-use Rattle.sc_image.proofs.Common.{get_or_from_slice_get, globals_of, if◌then◌else◌, le-leb, le-ltb, leb-true, length}
+use Rattle.sc_image.proofs.Common.{get_or_from_slice_get, initial_globals, if◌then◌else◌, le-leb, le-ltb, leb-true}
+use Rattle.sc_image.proofs.Common.{length}
 use Rattle.sc_image.proofs.Common.{lt-leb, lt-ltb, ltb-true, most_globals, nat_le, nat_lt, nat_tests, not}
 use Rattle.sc_image.proofs.Common.{option_and_then, refl, refused, slice_get, slice_get-get_or, slice_get_cases}
 use Rattle.sc_image.proofs.Common.{slice_get_past, slice_get_within, slice_index, stack_size, stack_top, start_memory}
-use Rattle.sc_image.proofs.Common.{stored, stretch, subst, suc, sym, true, zero, ℕ, ⊎_elim, ◌%◌, ◌&&◌, ◌+◌, ◌-◌, ◌<◌}
+use Rattle.sc_image.proofs.Common.{with_bytes, stretch, subst, suc, sym, true, zero, ℕ, ⊎_elim, ◌%◌, ◌&&◌, ◌+◌, ◌-◌}
+use Rattle.sc_image.proofs.Common.{◌<◌}
 use Rattle.sc_image.proofs.Common.{◌^◌, ◌||◌, ◌∙◌, ◌≡◌, ◌≤◌}
 
 byte_is : (low mid count a : ℕ) →
@@ -23,14 +25,15 @@ next_is low high a k = grind (arith, nat_tests)
 
 -- so the first and the last of some bytes decide for all
 pub data_range : (image : ImageParts) (c a k : ℕ) → are_data image c a
-    (suc k) ≡ (nat_le (data_start c) a && nat_le (a + suc k) (stack_top c + length (globals_of image c)))
+    (suc k) ≡ (nat_le (data_start c) a && nat_le (a + suc k) (stack_top c + length (initial_globals image c)))
 unfolding are_data
 data_range image c a zero = byte_is _ _ _ (a + 0) ∙ first_is _ _ a
 data_range image c a (suc k) = ap₂ (λ (x y : Bool). x && y) (data_range image c a k)
     (byte_is _ stack_size (length _) (a + suc k)) ∙ next_is _ _ a k
 
 pub range_of : (image : ImageParts) (c a size : ℕ) → 0 < size →
-    are_data image c a size ≡ (nat_le (data_start c) a && nat_le (a + size) (stack_top c + length (globals_of image c)))
+    are_data image c a size ≡ (nat_le (data_start c) a && nat_le (a + size) (stack_top c + length (initial_globals image
+    c)))
 range_of image c a zero some = absurd (omega (arith, some))
 range_of image c a (suc k) some = data_range image c a k
 
@@ -41,11 +44,11 @@ holds : (x y z w : ℕ) → x ≤ y → z ≤ w → (nat_le x y && nat_le z w) �
 holds x y z w h k = grind (arith, nat_tests)
 
 pub data_bounds : (image : ImageParts) (c a size : ℕ) → 0 < size → are_data image c a size ≡ true →
-    (data_start c ≤ a) × (a + size ≤ stack_top c + length (globals_of image c))
+    (data_start c ≤ a) × (a + size ≤ stack_top c + length (initial_globals image c))
 data_bounds image c a size some all = facts _ a _ _ (sym (range_of image c a size some) ∙ all)
 
 pub within_data : (image : ImageParts) (c a size : ℕ) → 0 < size → data_start c ≤ a →
-    a + size ≤ stack_top c + length (globals_of image c) → are_data image c a size ≡ true
+    a + size ≤ stack_top c + length (initial_globals image c) → are_data image c a size ≡ true
 within_data image c a size some low high = range_of image c a size some ∙ holds _ a _ _ low high
 
 -- each byte of an access that is the compartment's
@@ -71,7 +74,7 @@ allowed_data image c size a h = data_by _ _ h
 abbrev pub data_byte : ℕ → CompPart → Option ℕ
 data_byte offset comp = if nat_lt offset stack_size then Some 0 else slice_get comp.globals (offset - stack_size)
 
-abbrev pub byte_by_offset : ImageParts → Memory
+abbrev pub byte_by_offset : ImageParts → ByteMemory
 byte_by_offset image address = if nat_lt address (data_start 0) then None else option_and_then
     (data_byte ((address - data_start 0) % stretch)) (slice_get image.comps (comp_of_data address))
 
@@ -149,7 +152,7 @@ module _ (a : ℕ) where
 
 -- What a memory holds are bytes, at addresses of 32 bits: at the start, and after a store.
 
-pub few_globals : (image : ImageParts) (c : ℕ) → IsWellFormed image → length (globals_of image c) ≤ most_globals
+pub few_globals : (image : ImageParts) (c : ℕ) → IsWellFormed image → length (initial_globals image c) ≤ most_globals
 few_globals image c formed =
     ⊎_elim (λ found. rw found.2 (formed.comps c found.0 found.2).short_globals) (λ none. rw none.1 (omega arith))
     (slice_get_cases image.comps c).1
@@ -160,7 +163,7 @@ IsByteAt address byte = (address < 2 ^ 32) × (byte < 256)
 digit : (n : ℕ) → n % 256 < 256
 digit n = omega arith
 
-module _ (image : ImageParts) (formed : IsWellFormed image) (c a size word : ℕ) (memory : Memory)
+module _ (image : ImageParts) (formed : IsWellFormed image) (c a size word : ℕ) (memory : ByteMemory)
     (active : c < length image.comps) (owned : are_data image c a size ≡ true) (bytes : HoldsBytes memory) where
   data_below : (x : ℕ) → a ≤ x → x < a + size → x < 2 ^ 32
   data_below x from upto =
@@ -177,8 +180,9 @@ module _ (image : ImageParts) (formed : IsWellFormed image) (c a size word : ℕ
       )
   stored_by x byte false is at = bytes x byte at
 
-pub stored_bytes : (image : ImageParts) → IsWellFormed image → (c a size word : ℕ) (memory : Memory) →
-    c < length image.comps → refused image c size a ≡ None → HoldsBytes memory → HoldsBytes (stored memory a size word)
+pub stored_bytes : (image : ImageParts) → IsWellFormed image → (c a size word : ℕ) (memory : ByteMemory) →
+    c < length image.comps → refused image c size a ≡ None → HoldsBytes memory → HoldsBytes (with_bytes memory a size
+    word)
 stored_bytes image formed c a size word memory active allowed bytes x byte at =
     stored_by image formed c a size word memory active (allowed_data image c size a allowed) bytes x byte _ refl at
 

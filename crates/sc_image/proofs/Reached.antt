@@ -1,12 +1,15 @@
 -- What holds of every state that a run reaches.
 use Rattle.sc_image.proofs.Common.{All, All-cons, All-head, All-nil, All-tail, Bool, Call, CompPart, Crossing, End}
-use Rattle.sc_image.proofs.Common.{Event, Export, HoldsBytes, ImageParts, ImportPart, In, IsChain, IsImport, IsReached}
-use Rattle.sc_image.proofs.Common.{IsSteady, IsWellFormed, IsWord, KeepsWords, List, Memory, None, Option, Out, Ret}
-use Rattle.sc_image.proofs.Common.{RunsAreSteady, Some, State, [], a0, after_step, ap, arith, call_of, called}
-use Rattle.sc_image.proofs.Common.{count_read, eqb-true, export_at, false, gate, get_or_from_slice_get, given_back}
-use Rattle.sc_image.proofs.Common.{has_result, input, input_at, inputs_in, is_argument, is_result, kept, kept_from}
-use Rattle.sc_image.proofs.Common.{length, length-set, list_any, map, may_call, open_after, open_calls, params_of}
-use Rattle.sc_image.proofs.Common.{position, ra, refl, replicate, returned, saved_sp, slice_get, slice_get_within}
+use Rattle.sc_image.proofs.Common.{Event, Export, HoldsBytes, ImageParts, ImportPart, In, AreNested, IsImport}
+use Rattle.sc_image.proofs.Common.{IsReached}
+use Rattle.sc_image.proofs.Common.{IsSteadyState, IsWellFormed, IsWord, KeepsWords, List, ByteMemory, None, Option, Out}
+use Rattle.sc_image.proofs.Common.{Ret}
+use Rattle.sc_image.proofs.Common.{RunsAreSteady, Some, MachineState, [], a0, after_step, ap, arith, call_of, on_call}
+use Rattle.sc_image.proofs.Common.{count_read, eqb-true, entered_export, false, gate, get_or_from_slice_get, given_back}
+use Rattle.sc_image.proofs.Common.{has_result, on_input, input_at, inputs_in, is_argument, is_result, kept, kept_from}
+use Rattle.sc_image.proofs.Common.{length, length-set, list_any, map, may_call_export, open_after, open_calls}
+use Rattle.sc_image.proofs.Common.{export_params}
+use Rattle.sc_image.proofs.Common.{position, ra, refl, replicate, on_return, saved_sp, slice_get, slice_get_within}
 use Rattle.sc_image.proofs.Common.{slice_index, sp, stack_tops, start, step, store_size, subst, suc, sym, true}
 use Rattle.sc_image.proofs.Common.{unwrap_or, without_latest, word_at, written, zero, ℕ, ◌&&◌, ◌++◌, ◌+◌, ◌<◌, ◌==◌}
 use Rattle.sc_image.proofs.Common.{◌||◌, ◌∙◌, ◌∷◌, ◌≡◌, ◌≢◌, ◌≤◌}
@@ -37,7 +40,7 @@ length-stack_tops c (comp ∷ comps) = ap suc (length-stack_tops _ comps)
 
 -- A call goes to another compartment of the image.
 
-pub called_there : (image : ImageParts) (to target index : ℕ) → export_at image to target ≡ Some index →
+pub called_there : (image : ImageParts) (to target index : ℕ) → entered_export image to target ≡ Some index →
     to < length image.comps
 called_there image to target index at =
     let found = comp_found (λ comp. _) []
@@ -57,7 +60,8 @@ none_to_own image c to index (import ∷ imports) all some =
     to_own_by image c to index import (list_any _ imports) (All-head (IsImport image c) import imports all).other
     (none_to_own image c to index imports (All-tail (IsImport image c) import _ all)) _ refl some
 
-pub called_other : (image : ImageParts) (c to index : ℕ) → IsWellFormed image → may_call image c to index ≡ true →
+pub called_other : (image : ImageParts) (c to index : ℕ) → IsWellFormed image → may_call_export image c to index ≡ true
+    →
     c ≢ to
 called_other image c to index formed may =
     let found = comp_found (λ comp. _) []
@@ -77,8 +81,9 @@ input_by inputs k all (Some word) is =
 input_word : (inputs : List ℕ) (k : ℕ) → All IsWord inputs → IsWord (input_at inputs k)
 input_word inputs k all = input_by inputs k all _ refl
 
-module _ (image : ImageParts) (inputs : List ℕ) (formed : IsWellFormed image) (all : All IsWord inputs) (state : State)
-    (h : IsSteady image state) where
+module _ (image : ImageParts) (inputs : List ℕ) (formed : IsWellFormed image) (all : All IsWord inputs) (state :
+    MachineState)
+    (h : IsSteadyState image state) where
   -- the events that open or close no call, and the one input
   same_calls : (event : Event) → open_after (open_calls state.trace) event ≡ open_calls state.trace →
       map call_of state.cross ≡ open_calls (state.trace ++ event ∷ [])
@@ -89,11 +94,11 @@ module _ (image : ImageParts) (inputs : List ℕ) (formed : IsWellFormed image) 
   same_input event same = h.input ∙ sym (read_more state.trace event ∙ same)
 
   -- the same calls, with the registers, the pc, the inputs, the bytes and the events that a step leads to
-  steady_on : (regs : List ℕ) (pc place : ℕ) (memory : Memory) (trace : List Event) → length regs ≡ 32 →
+  steady_on : (regs : List ℕ) (pc place : ℕ) (memory : ByteMemory) (trace : List Event) → length regs ≡ 32 →
       AreWords regs → slice_index regs 0 ≡ 0 → IsWord pc → HoldsBytes memory →
       map call_of state.cross ≡ open_calls trace → place ≡ inputs_in trace →
-      IsSteady image (record state { regs = regs; pc = pc; memory = memory; input = place; trace = trace })
-  steady_on regs pc place memory trace count words stays here bytes calls input = record {
+      IsSteadyState image (record state { regs = regs; pc = pc; memory = memory; input = place; trace = trace })
+  steady_on regs pc place memory trace count words stays here bytes calls on_input = record {
     regs = count;
     words = words;
     zero = stays;
@@ -105,15 +110,15 @@ module _ (image : ImageParts) (inputs : List ℕ) (formed : IsWellFormed image) 
     chain = h.chain;
     kept = h.kept;
     calls = calls;
-    input = input;
+    input = on_input;
   }
 
-  steady_return : (cross : List Crossing) → state.cross ≡ cross → IsSteady image (returned image state cross)
+  steady_return : (cross : List Crossing) → state.cross ≡ cross → IsSteadyState image (on_return image state cross)
   steady_return [] is =
       steady_on _ _ _ _ _ h.regs h.words h.zero h.pc h.bytes (same_calls (End _ _) refl) (same_input (End _ _) refl)
   steady_return (x ∷ xs) is =
-      let chain : IsChain (length image.comps) state.active (x ∷ xs) =
-      subst (IsChain (length image.comps) state.active) is h.chain in
+      let chain : AreNested (length image.comps) state.active (x ∷ xs) =
+      subst (AreNested (length image.comps) state.active) is h.chain in
       let keeps : All KeepsWords (x ∷ xs) = subst (All KeepsWords) is h.kept in
       let first : KeepsWords x = All-head KeepsWords x xs keeps in
       let result = has_result image x.callee x.entry in
@@ -139,9 +144,9 @@ module _ (image : ImageParts) (inputs : List ℕ) (formed : IsWellFormed image) 
       }
 
   module _ (here : IsWord (state.pc + 4)) where
-    steady_call : (to index target : ℕ) → export_at image to target ≡ Some index →
-        may_call image state.active to index ≡ true →
-        IsSteady image (called state to index (params_of image to index) target)
+    steady_call : (to index target : ℕ) → entered_export image to target ≡ Some index →
+        may_call_export image state.active to index ≡ true →
+        IsSteadyState image (on_call state to index (export_params image to index) target)
     steady_call to index target at may =
         let event = Call _ to index _ in
         let keeps = is_argument _ in
@@ -164,8 +169,8 @@ module _ (image : ImageParts) (inputs : List ℕ) (formed : IsWellFormed image) 
           input = same_input event refl;
         }
 
-    steady_next : AtNext (IsSteady image) (step image inputs state)
-    steady_next = step_of image inputs formed state (AtNext (IsSteady image)) (record {
+    steady_next : AtNext (IsSteadyState image) (step image inputs state)
+    steady_next = step_of image inputs formed state (AtNext (IsSteadyState image)) (record {
       same = λ a owned. refl;
       traps = λ reason. tt;
       quiet = λ regs pc moves. steady_on regs pc _ _ _ (moves.count ∙ h.regs) (moves.words here h.words h.bytes)
@@ -185,11 +190,11 @@ module _ (image : ImageParts) (inputs : List ℕ) (formed : IsWellFormed image) 
     })
 
   by_fetch : (word : Option ℕ) → word_at image state.active state.pc ≡ word →
-      AtNext (IsSteady image) (step image inputs state)
-  by_fetch None at = subst (AtNext (IsSteady image)) (sym (step_nowhere image inputs state at)) tt
+      AtNext (IsSteadyState image) (step image inputs state)
+  by_fetch None at = subst (AtNext (IsSteadyState image)) (sym (step_nowhere image inputs state at)) tt
   by_fetch (Some word) at = steady_next (in_code image formed _ _ word at).next
 
-  pub steady_step : AtNext (IsSteady image) (step image inputs state)
+  pub steady_step : AtNext (IsSteadyState image) (step image inputs state)
   steady_step = by_fetch _ refl
 
 -- The start.
@@ -210,7 +215,7 @@ start_words top h (suc zero) = omega arith
 start_words top h (suc (suc zero)) = h
 start_words top h (suc (suc (suc i))) = zeros_words 29 i
 
-pub steady_start : (image : ImageParts) → IsWellFormed image → IsSteady image (start image)
+pub steady_start : (image : ImageParts) → IsWellFormed image → IsSteadyState image (start image)
 steady_start image formed = record {
   regs = refl;
   words = start_words _ (omega (arith, formed.main, formed.few_comps));
@@ -226,16 +231,18 @@ steady_start image formed = record {
   input = refl;
 }
 
-pub reached_steady : (image : ImageParts) (inputs : List ℕ) (state : State) → IsWellFormed image → All IsWord inputs →
-    IsReached image inputs state → IsSteady image state
+pub reached_steady : (image : ImageParts) (inputs : List ℕ) (state : MachineState) → IsWellFormed image → All IsWord
+    inputs →
+    IsReached image inputs state → IsSteadyState image state
 reached_steady image inputs state formed all reached =
-    subst (IsSteady image) reached.1.1 (run_keeps image inputs _ (IsSteady image)
+    subst (IsSteadyState image) reached.1.1 (run_keeps image inputs _ (IsSteadyState image)
     (λ s h early. steady_step image inputs formed all s h) _ _ (steady_start image formed))
 
-pub step_steady : (image : ImageParts) (inputs : List ℕ) (state : State) → IsWellFormed image → All IsWord inputs →
-    IsSteady image state → IsSteady image (after_step image inputs state)
+pub step_steady : (image : ImageParts) (inputs : List ℕ) (state : MachineState) → IsWellFormed image → All IsWord inputs
+    →
+    IsSteadyState image state → IsSteadyState image (after_step image inputs state)
 step_steady image inputs state formed all h =
-    after_keeps (IsSteady image) state (step image inputs state) h (steady_step image inputs formed all state h)
+    after_keeps (IsSteadyState image) state (step image inputs state) h (steady_step image inputs formed all state h)
 
 pub runs_are_steady : RunsAreSteady
 runs_are_steady = record { first = steady_start; step = step_steady; reached = reached_steady }

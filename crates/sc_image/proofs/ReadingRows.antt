@@ -1,11 +1,11 @@
 -- What is read from the bytes of small images, and why other bytes are none.
 use Rattle.sc_image.proofs.Common.{Compartment, Contents, Count, Err, Exports, ImageParts, ImportPart, Imports, List}
-use Rattle.sc_image.proofs.Common.{Mark, None, Ok, Some, Start, Version, Whole, [], bad, code_at, codes, comp_at}
-use Rattle.sc_image.proofs.Common.{comp_name_at, exports_at, false, fields_at, globals_at, image_bytes}
-use Rattle.sc_image.proofs.Common.{image_in_version, image_of, import_at, imports_at, is_name, keeps_rules, map}
-use Rattle.sc_image.proofs.Common.{name_at, nat_le, number_that, parts_in_version, range_with_len, refl, replicate}
+use Rattle.sc_image.proofs.Common.{Mark, None, Ok, Some, Start, Version, Whole, [], bad, code_at, codes, read_comp}
+use Rattle.sc_image.proofs.Common.{comp_name_at, read_exports, false, fields_at, globals_at, image_bytes}
+use Rattle.sc_image.proofs.Common.{image_in_version, image_in, import_at, imports_at, is_name, keeps_rules, map}
+use Rattle.sc_image.proofs.Common.{read_name, nat_le, number_that, parts_in_version, range_with_len, refl, replicate}
 use Rattle.sc_image.proofs.Common.{take, true, word_at, ℕ, ◌++◌, ◌∷◌, ◌≡◌}
-use Rattle.sc_image.specs.Reading.{export_at}
+use Rattle.sc_image.specs.Reading.{read_export}
 use Rattle.sc_image.proofs.FileFields.{comp_with, export_with}
 
 abbrev from_start : List ℕ
@@ -24,7 +24,7 @@ prefixes : (map (λ k. bad (take k seven)) (range_with_len 0 47) ≡
     (replicate 2 (Some Exports) ++ (replicate 2 (Some Imports) ++ replicate 28 (Some Contents)))))))) ×
     (bad seven ≡ None) ×
     (bad (seven ++ 0 ∷ []) ≡ Some Whole)
-unfolding image_in_version parts_in_version comp_at comp_name_at name_at exports_at imports_at code_at globals_at
+unfolding image_in_version parts_in_version read_comp comp_name_at read_name read_exports imports_at code_at globals_at
     fields_at is_name word_at
 prefixes = (refl, refl, refl)
 
@@ -43,28 +43,28 @@ starts : (bad (0x53 ∷ 0x43 ∷ 0x49 ∷ 0x4e ∷ []) ≡ Some Mark) ×
     (bad (starting 1 1 0 20) ≡ Some Whole) ×
     (bad (starting 1 1 0 2) ≡ Some Whole) ×
     (bad (starting 1 1 0 16) ≡ None)
-unfolding image_in_version parts_in_version comp_at comp_name_at name_at exports_at imports_at code_at globals_at
+unfolding image_in_version parts_in_version read_comp comp_name_at read_name read_exports imports_at code_at globals_at
     fields_at is_name word_at
 starts = (refl, refl, refl, refl, refl, refl, refl, refl, refl, refl)
 
 -- names of 1 to 63 bytes
-names : (name_at Exports (0 ∷ 65 ∷ []) ≡ Err Exports) ×
-    (name_at Exports (1 ∷ 65 ∷ []) ≡ Ok (65 ∷ [], [])) ×
-    (name_at Exports (1 ∷ 48 ∷ []) ≡ Err Exports) ×
-    (name_at Exports (63 ∷ replicate 63 65 ++ 7 ∷ []) ≡ Ok (replicate 63 65, 7 ∷ [])) ×
-    (name_at Exports (64 ∷ replicate 64 65) ≡ Err Exports) ×
+names : (read_name Exports (0 ∷ 65 ∷ []) ≡ Err Exports) ×
+    (read_name Exports (1 ∷ 65 ∷ []) ≡ Ok (65 ∷ [], [])) ×
+    (read_name Exports (1 ∷ 48 ∷ []) ≡ Err Exports) ×
+    (read_name Exports (63 ∷ replicate 63 65 ++ 7 ∷ []) ≡ Ok (replicate 63 65, 7 ∷ [])) ×
+    (read_name Exports (64 ∷ replicate 64 65) ≡ Err Exports) ×
     (comp_name_at (3 ∷ codes "Env") ≡ Err Compartment) ×
-    (name_at Exports (3 ∷ codes "Env") ≡ Ok (codes "Env", []))
-unfolding name_at comp_name_at is_name
+    (read_name Exports (3 ∷ codes "Env") ≡ Ok (codes "Env", []))
+unfolding read_name comp_name_at is_name
 names = (refl, refl, refl, refl, refl, refl, refl)
 
 -- the tables of a compartment, in an image of 2
 tables : (number_that (λ n. nat_le n 4096) Exports 2 (0 ∷ 16 ∷ []) ≡ Ok (4096, [])) ×
-    (exports_at (1 ∷ 16 ∷ replicate 100 1) ≡ Err Exports) ×
-    (export_at (1 ∷ 65 ∷ 8 ∷ 1 ∷ 4 ∷ 3 ∷ 2 ∷ 1 ∷ []) ≡
+    (read_exports (1 ∷ 16 ∷ replicate 100 1) ≡ Err Exports) ×
+    (read_export (1 ∷ 65 ∷ 8 ∷ 1 ∷ 4 ∷ 3 ∷ 2 ∷ 1 ∷ []) ≡
     Ok (record { name = 65 ∷ []; params = 8; result = true; entry = 0x01020304 }, [])) ×
-    (export_at (1 ∷ 65 ∷ 9 ∷ 1 ∷ 4 ∷ 3 ∷ 2 ∷ 1 ∷ []) ≡ Err Exports) ×
-    (export_at (1 ∷ 65 ∷ 8 ∷ 2 ∷ 4 ∷ 3 ∷ 2 ∷ 1 ∷ []) ≡ Err Exports) ×
+    (read_export (1 ∷ 65 ∷ 9 ∷ 1 ∷ 4 ∷ 3 ∷ 2 ∷ 1 ∷ []) ≡ Err Exports) ×
+    (read_export (1 ∷ 65 ∷ 8 ∷ 2 ∷ 4 ∷ 3 ∷ 2 ∷ 1 ∷ []) ≡ Err Exports) ×
     (imports_at 2 (1 ∷ 16 ∷ replicate 100 1) ≡ Err Imports) ×
     (import_at 2 (1 ∷ 3 ∷ 2 ∷ []) ≡ Ok (record { comp = 1; index = 0x0203 }, [])) ×
     (import_at 2 (2 ∷ 3 ∷ 2 ∷ []) ≡ Err Imports) ×
@@ -72,7 +72,7 @@ tables : (number_that (λ n. nat_le n 4096) Exports 2 (0 ∷ 16 ∷ []) ≡ Ok (
     (code_at (4 ∷ 0 ∷ 16 ∷ 0 ∷ []) ≡ Err Contents) ×
     (globals_at (1 ∷ 0 ∷ 7 ∷ 0 ∷ []) ≡ Err Contents) ×
     (globals_at (3 ∷ 0 ∷ 0 ∷ 0 ∷ 7 ∷ 8 ∷ 9 ∷ []) ≡ Ok (7 ∷ 8 ∷ 9 ∷ [], []))
-unfolding exports_at export_at imports_at import_at code_at globals_at fields_at name_at is_name
+unfolding read_exports read_export imports_at import_at code_at globals_at fields_at read_name is_name
 tables = (refl, refl, refl, refl, refl, refl, refl, refl, refl, refl, refl, refl)
 
 -- A with these imports, and B with two functions at these places of its code of two words
@@ -103,8 +103,9 @@ unfolding word_at
 rules = (refl, refl, refl, refl, refl, refl, refl, refl, refl)
 
 -- an image with every table is read from its bytes
-reads_all : image_of (image_bytes (pair (import 1 0 ∷ import 1 1 ∷ []) (codes "B") 0x01100000 0x01100004)) ≡
+reads_all : image_in (image_bytes (pair (import 1 0 ∷ import 1 1 ∷ []) (codes "B") 0x01100000 0x01100004)) ≡
     Ok (pair (import 1 0 ∷ import 1 1 ∷ []) (codes "B") 0x01100000 0x01100004)
-unfolding image_in_version parts_in_version comp_at comp_name_at name_at exports_at export_at imports_at import_at
+unfolding image_in_version parts_in_version read_comp comp_name_at read_name read_exports read_export imports_at
+    import_at
     code_at globals_at fields_at is_name word_at
 reads_all = refl

@@ -1,11 +1,16 @@
 -- What a call keeps stays on the cross stack until the call returns, and comes back then.
 use Rattle.sc_image.proofs.Common.{Adds, All, Bool, Call, CallsComeBack, ComesBack, Crossing, End, Event, Goes}
-use Rattle.sc_image.proofs.Common.{HasCalled, ImageParts, In, IsSteady, IsWellFormed, IsWord, List, None, Option, Out}
-use Rattle.sc_image.proofs.Common.{Outcome, Point, Ret, RunsAt, State, StaysAbove, Traps, [], a0, after_outcome, ap}
-use Rattle.sc_image.proofs.Common.{ap₂, arguments, arith, called, drop, drop-append_seam, eq-eqb, eqb-true, false, gate}
+use Rattle.sc_image.proofs.Common.{HasCalled, ImageParts, In, IsSteadyState, IsWellFormed, IsWord, List, None, Option}
+use Rattle.sc_image.proofs.Common.{Out}
+use Rattle.sc_image.proofs.Common.{Outcome, Point, Ret, RunsAt, MachineState, StaysAbove, Traps, [], a0, after_outcome}
+use Rattle.sc_image.proofs.Common.{ap}
+use Rattle.sc_image.proofs.Common.{ap₂, arguments, arith, on_call, drop, drop-append_seam, eq-eqb, eqb-true, false}
+use Rattle.sc_image.proofs.Common.{gate}
 use Rattle.sc_image.proofs.Common.{get_or, get_or-set_other, get_or-set_same, given_back, has_result, if◌then◌else◌}
-use Rattle.sc_image.proofs.Common.{input, input_at, is_argument, is_result, kept, later, length, length-append, nat_eq}
-use Rattle.sc_image.proofs.Common.{observation_at, observation_of, output, params_of, ra, refl, reg, returned, saved_sp}
+use Rattle.sc_image.proofs.Common.{on_input, input_at, is_argument, is_result, kept, later, length, length-append}
+use Rattle.sc_image.proofs.Common.{nat_eq}
+use Rattle.sc_image.proofs.Common.{observation_at, observation_of, on_output, export_params, ra, refl, reg, on_return}
+use Rattle.sc_image.proofs.Common.{saved_sp}
 use Rattle.sc_image.proofs.Common.{set, sp, step, subst, suc, sym, true, with_pc, with_stored, written, zero, ℕ, ◌++◌}
 use Rattle.sc_image.proofs.Common.{◌+◌, ◌<◌, ◌∙◌, ◌∷◌, ◌≡◌, ◌≢◌}
 use Rattle.sc_image.proofs.Cases.{crossing_to, length-written, step_of}
@@ -60,7 +65,7 @@ module _ (crossing : Crossing) (base : List Crossing) (due : ℕ → ℕ) where
     pub sps : (d : ℕ) → sp_once d (get_or saved d 0) (inner ++ crossing ∷ []) ≡ due d
 
   -- what the step is that closes it
-  pub record Closes (state : State) (outcome : Outcome) : Type 0 where
+  pub record Closes (state : MachineState) (outcome : Outcome) : Type 0 where
     pub value : Option ℕ
     pub emits : observation_of state outcome ≡ Adds (Ret crossing.callee crossing.caller value ∷ [])
     pub active : (after_outcome state outcome).active ≡ crossing.caller
@@ -72,7 +77,8 @@ module _ (crossing : Crossing) (base : List Crossing) (due : ℕ → ℕ) where
   higher : (inner : List Crossing) → length (inner ++ crossing ∷ base) ≡ length inner + suc (length base)
   higher inner = length-append inner (crossing ∷ base)
 
-  module _ (image : ImageParts) (inputs : List ℕ) (formed : IsWellFormed image) (t : State) (h : IsSteady image t) where
+  module _ (image : ImageParts) (inputs : List ℕ) (formed : IsWellFormed image) (t : MachineState) (h : IsSteadyState
+      image t) where
     abbrev Goal : Outcome → Type 0
     Goal outcome =
         (length base < length (after_outcome t outcome).cross →
@@ -106,9 +112,10 @@ module _ (crossing : Crossing) (base : List Crossing) (due : ℕ → ℕ) where
         sp_once d (if nat_eq to d then saved_sp t to else get_or (set t.saved t.active (reg t sp)) d 0)
         (inner ++ crossing ∷ []) ≡ sp_once d (saved_sp t d) (inner ++ crossing ∷ [])
     called_on d to [] is = once_called d t.active t.saved crossing (in_latest image t h crossing base is) to _ []
-    called_on d to (y ∷ ys) is = once_called d t.active t.saved y (in_latest image t h y _ is) to _ (ys ++ crossing ∷ [])
+    called_on d to (y ∷ ys) is = once_called d t.active t.saved y (in_latest image t h y _ is) to _ (ys ++ crossing ∷
+        [])
 
-    call_on : (to index params target : ℕ) → After (Goes (called t to index params target))
+    call_on : (to index params target : ℕ) → After (Goes (on_call t to index params target))
     call_on to index params target w = (
       λ above. record {
         inner = crossing_to t to index ∷ w.inner;
@@ -121,7 +128,7 @@ module _ (crossing : Crossing) (base : List Crossing) (due : ℕ → ℕ) where
     -- a return
     return_by : (x : Crossing) (xs : List Crossing) → t.cross ≡ x ∷ xs → (inner : List Crossing) →
         x ∷ xs ≡ inner ++ crossing ∷ base →
-        ((d : ℕ) → sp_once d (saved_sp t d) (inner ++ crossing ∷ []) ≡ due d) → Goal (Goes (returned image t (x ∷ xs)))
+        ((d : ℕ) → sp_once d (saved_sp t d) (inner ++ crossing ∷ []) ≡ due d) → Goal (Goes (on_return image t (x ∷ xs)))
     return_by x xs is [] opened sps =
         let this : x ≡ crossing = cc opened in
         let rest : xs ≡ base = cc opened in
@@ -156,7 +163,7 @@ module _ (crossing : Crossing) (base : List Crossing) (due : ℕ → ℕ) where
           λ same. absurd (omega (arith, same, ap length rest, higher ys)),
         )
 
-    return_on : (cross : List Crossing) → t.cross ≡ cross → After (Goes (returned image t cross))
+    return_on : (cross : List Crossing) → t.cross ≡ cross → After (Goes (on_return image t cross))
     return_on [] is w = absurd (omega (arith, ap length (sym is ∙ w.opened), higher w.inner))
     return_on (x ∷ xs) is w = return_by x xs is w.inner (sym is ∙ w.opened) w.sps
 
@@ -168,8 +175,8 @@ module _ (crossing : Crossing) (base : List Crossing) (due : ℕ → ℕ) where
       stores = λ op a word allowed. quiet_on (Goes (with_pc (with_stored t op a word) (t.pc + 4))) refl refl;
       calls = λ to index target at may. call_on to index _ target;
       returns = return_on t.cross refl;
-      outputs = λ may. quiet_on (Goes (with_pc (output t) (t.pc + 4))) refl refl;
-      reads = λ may. quiet_on (Goes (with_pc (input inputs t) (t.pc + 4))) refl refl;
+      outputs = λ may. quiet_on (Goes (with_pc (on_output t) (t.pc + 4))) refl refl;
+      reads = λ may. quiet_on (Goes (with_pc (on_input inputs t) (t.pc + 4))) refl refl;
     })
 
   above_now : (depth steps : ℕ) (point : Point) → StaysAbove depth steps point → depth < length point.state.cross
@@ -178,9 +185,9 @@ module _ (crossing : Crossing) (base : List Crossing) (due : ℕ → ℕ) where
 
   -- while the call is open
   pub goes_within : (steps : ℕ) (point : Point) → IsWellFormed point.image → All IsWord point.inputs →
-      IsSteady point.image point.state → StaysAbove (length base) steps point →
+      IsSteadyState point.image point.state → StaysAbove (length base) steps point →
       Within point.state.cross point.state.saved →
-      IsSteady point.image (later steps point).state ×
+      IsSteadyState point.image (later steps point).state ×
       Within (later steps point).state.cross (later steps point).state.saved
   goes_within zero point formed words steady above w = (steady, w)
   goes_within (suc steps) point formed words steady above w =
@@ -190,14 +197,15 @@ module _ (crossing : Crossing) (base : List Crossing) (due : ℕ → ℕ) where
 
 -- The step that calls.
 
-module _ (image : ImageParts) (inputs : List ℕ) (formed : IsWellFormed image) (t : State) (h : IsSteady image t)
+module _ (image : ImageParts) (inputs : List ℕ) (formed : IsWellFormed image) (t : MachineState) (h : IsSteadyState
+    image t)
     (from to index : ℕ) (args : List ℕ) where
   pub record Calls (outcome : Outcome) : Type 0 where
     pub params : ℕ
     pub target : ℕ
     pub caller : t.active ≡ from
     pub other : from ≢ to
-    pub goes : outcome ≡ Goes (called t to index params target)
+    pub goes : outcome ≡ Goes (on_call t to index params target)
 
   abbrev CallsIf : Outcome → Type 0
   CallsIf outcome = observation_of t outcome ≡ Adds (Call from to index args ∷ []) → Calls outcome
@@ -205,7 +213,7 @@ module _ (image : ImageParts) (inputs : List ℕ) (formed : IsWellFormed image) 
   no_call : {A : Type 0} → Adds (drop (length t.trace) t.trace) ≡ Adds (Call from to index args ∷ []) → A
   no_call emits = absurd (no_event t.trace _ emits)
 
-  return_calls : (cross : List Crossing) → CallsIf (Goes (returned image t cross))
+  return_calls : (cross : List Crossing) → CallsIf (Goes (on_return image t cross))
   return_calls [] emits =
       let never : End t.active (reg t a0) ≡ Call from to index args = that_event t.trace _ _ emits in cc never
   return_calls (x ∷ xs) emits =
@@ -218,17 +226,17 @@ module _ (image : ImageParts) (inputs : List ℕ) (formed : IsWellFormed image) 
     quiet = λ regs pc moves emits. no_call emits;
     stores = λ op a word allowed emits. no_call emits;
     calls = λ to' index' target at may emits.
-        let event : Call t.active to' index' (arguments (params_of image to' index') t.regs) ≡
+        let event : Call t.active to' index' (arguments (export_params image to' index') t.regs) ≡
         Call from to index args = that_event t.trace _ _ emits in
         let caller : t.active ≡ from = cc event in
         let to_is : to' ≡ to = cc event in
         let index_is : index' ≡ index = cc event in
         record {
-          params = params_of image to' index';
+          params = export_params image to' index';
           target = target;
           caller = caller;
           other = λ same. called_other image t.active to' index' formed may (caller ∙ same ∙ sym to_is);
-          goes = ap₂ (λ k i. Goes (called t k i (params_of image to' index') target)) to_is index_is;
+          goes = ap₂ (λ k i. Goes (on_call t k i (export_params image to' index') target)) to_is index_is;
         };
     returns = return_calls t.cross;
     outputs = λ may emits.
@@ -240,8 +248,8 @@ module _ (image : ImageParts) (inputs : List ℕ) (formed : IsWellFormed image) 
 
   -- what it leads to
   module _ (params target : ℕ) (caller : t.active ≡ from) (other : from ≢ to) where
-    abbrev after_call : State
-    after_call = called t to index params target
+    abbrev after_call : MachineState
+    after_call = on_call t to index params target
 
     room_in : t.active < length t.saved
     room_in = omega (arith, h.saved, h.active)

@@ -1,9 +1,11 @@
 -- What a step is, runs and stretches of runs, and what stands in memory at the start.
 use Rattle.sc_image.proofs.Common.{BadJump, Bool, CompPart, Ended, Event, EventsOut, Goes, Illegal, ImageInMemory}
-use Rattle.sc_image.proofs.Common.{ImageParts, Instr, IsAt, IsWellFormed, IsWord, List, Memory, None, Option, Outcome}
-use Rattle.sc_image.proofs.Common.{Region, Run, Some, State, StepsByInstruction, StepsOut, Stop, Trap, TrapReason}
+use Rattle.sc_image.proofs.Common.{ImageParts, Instr, IsAt, IsWellFormed, IsWord, List, ByteMemory, None, Option}
+use Rattle.sc_image.proofs.Common.{Outcome}
+use Rattle.sc_image.proofs.Common.{Region, MachineRun, Some, MachineState, StepsByInstruction, StepsOut, Stop, Trap}
+use Rattle.sc_image.proofs.Common.{TrapReason}
 use Rattle.sc_image.proofs.Common.{Traps, Walks, [], after, after_outcome, and_from, ap, are_data, arith, byte_of}
-use Rattle.sc_image.proofs.Common.{code_of, code_start, comp_of_data, continued, data_regions, data_start, decoded}
+use Rattle.sc_image.proofs.Common.{code_in, code_start, comp_of_data, continued, data_regions, data_start, decoded}
 use Rattle.sc_image.proofs.Common.{eq-eqb, execute, execute_by, false, flat_map, if◌then◌else◌, is_in, le-leb, le-ltb}
 use Rattle.sc_image.proofs.Common.{length, list_any, little_bytes, load_of, lt-ltb, nat_eq, nat_le, nat_lt, or_left}
 use Rattle.sc_image.proofs.Common.{or_right, refl, run, slice_get, slice_get_within, stack_size, stack_top}
@@ -15,20 +17,20 @@ use Rattle.sc_image.proofs.Cases.{AtNext}
 use Rattle.sc_image.proofs.Memory.{data_byte, start_is}
 
 -- an instruction
-pub step_executes : (image : ImageParts) (inputs : List ℕ) (state : State) (word : ℕ) (instr : Instr) →
+pub step_executes : (image : ImageParts) (inputs : List ℕ) (state : MachineState) (word : ℕ) (instr : Instr) →
     word_at image state.active state.pc ≡ Some word → decoded word ≡ Some instr →
     step image inputs state ≡ execute image inputs state instr
 unfolding step_by
 step_executes image inputs state word instr at is = rw (at, is) refl
 
 -- a word that is none
-pub step_illegal : (image : ImageParts) (inputs : List ℕ) (state : State) (word : ℕ) →
+pub step_illegal : (image : ImageParts) (inputs : List ℕ) (state : MachineState) (word : ℕ) →
     word_at image state.active state.pc ≡ Some word → decoded word ≡ None → step image inputs state ≡ Traps Illegal
 unfolding step_by
 step_illegal image inputs state word at is = rw (at, is) refl
 
 -- no word
-pub step_nowhere : (image : ImageParts) (inputs : List ℕ) (state : State) →
+pub step_nowhere : (image : ImageParts) (inputs : List ℕ) (state : MachineState) →
     word_at image state.active state.pc ≡ None → step image inputs state ≡ Traps BadJump
 unfolding step_by
 step_nowhere image inputs state at = rw at refl
@@ -36,7 +38,7 @@ step_nowhere image inputs state at = rw at refl
 -- A run may be cut into pieces: it goes on from the state that it stopped in.
 
 -- a run that stops before another step doesn't stop for want of steps
-stays_by : (ended full : Bool) (stop : Stop) (earlier later : Run) →
+stays_by : (ended full : Bool) (stop : Stop) (earlier later : MachineRun) →
     (if ended then Some Ended else if full then Some EventsOut else None) ≡ Some stop →
     unless_stopped stop earlier later ≡ earlier
 stays_by true full stop earlier later h = let same : Ended ≡ stop = cc h in
@@ -45,31 +47,31 @@ stays_by false true stop earlier later h = let same : EventsOut ≡ stop = cc h 
     subst (λ s. unless_stopped s earlier later ≡ earlier) same refl
 stays_by false false stop earlier later h = cc h
 
-stays : (events : ℕ) (trace : List Event) (stop : Stop) (earlier later : Run) →
+stays : (events : ℕ) (trace : List Event) (stop : Stop) (earlier later : MachineRun) →
     stopped events trace ≡ Some stop → unless_stopped stop earlier later ≡ earlier
 unfolding stopped
 stays events trace stop earlier later h = stays_by _ _ stop _ later h
 
 -- it stops with any number of steps
-pub run_stopped : (image : ImageParts) (inputs : List ℕ) (events n : ℕ) (state : State) (stop : Stop) →
+pub run_stopped : (image : ImageParts) (inputs : List ℕ) (events n : ℕ) (state : MachineState) (stop : Stop) →
     stopped events state.trace ≡ Some stop → run image inputs events n state ≡ record { state = state; stop = stop }
 unfolding run
 run_stopped image inputs events zero state stop h = rw h refl
 run_stopped image inputs events (suc n) state stop h = rw h refl
 
 -- it stops for want of steps, goes on by one step, or traps
-pub run_out : (image : ImageParts) (inputs : List ℕ) (events : ℕ) (state : State) →
+pub run_out : (image : ImageParts) (inputs : List ℕ) (events : ℕ) (state : MachineState) →
     stopped events state.trace ≡ None → run image inputs events 0 state ≡ record { state = state; stop = StepsOut }
 unfolding run
 run_out image inputs events state early = rw early refl
 
-pub run_goes : (image : ImageParts) (inputs : List ℕ) (events n : ℕ) (state next : State) →
+pub run_goes : (image : ImageParts) (inputs : List ℕ) (events n : ℕ) (state next : MachineState) →
     stopped events state.trace ≡ None → step image inputs state ≡ Goes next →
     run image inputs events (suc n) state ≡ run image inputs events n next
 unfolding run
 run_goes image inputs events n state next early goes = rw (early, goes) refl
 
-pub run_traps : (image : ImageParts) (inputs : List ℕ) (events n : ℕ) (state : State) (reason : TrapReason) →
+pub run_traps : (image : ImageParts) (inputs : List ℕ) (events n : ℕ) (state : MachineState) (reason : TrapReason) →
     stopped events state.trace ≡ None → step image inputs state ≡ Traps reason →
     run image inputs events (suc n) state ≡ record { state = state; stop = Trap reason state.pc }
 unfolding run
@@ -77,23 +79,23 @@ run_traps image inputs events n state reason early traps = rw (early, traps) ref
 
 module _ (image : ImageParts) (inputs : List ℕ) (events n : ℕ) where
   -- with no steps at first
-  none_first : (state : State) (early : Option Stop) → stopped events state.trace ≡ early →
+  none_first : (state : MachineState) (early : Option Stop) → stopped events state.trace ≡ early →
       run image inputs events n state ≡ continued (run image inputs events n)
       (stops_or early state (record { state = state; stop = StepsOut }))
   none_first state None h = refl
   none_first state (Some stop) h = run_stopped image inputs events n state stop h ∙ sym (stays events _ stop _ _ h)
 
   -- with one step more, of which the outcome is given
-  one_more : (m : ℕ) (state : State) (outcome : Outcome) →
-      ((next : State) → run image inputs events (m + n) next ≡ continued (run image inputs events n)
+  one_more : (m : ℕ) (state : MachineState) (outcome : Outcome) →
+      ((next : MachineState) → run image inputs events (m + n) next ≡ continued (run image inputs events n)
       (run image inputs events m next)) → after state outcome (run image inputs events (m + n)) ≡ continued
       (run image inputs events n) (after state outcome (run image inputs events m))
   one_more m state (Goes next) later = later next
   one_more m state (Traps reason) later = refl
 
   -- and the stop before it
-  one_first : (m : ℕ) (state : State) (early : Option Stop) → stopped events state.trace ≡ early →
-      ((next : State) → run image inputs events (m + n) next ≡ continued (run image inputs events n)
+  one_first : (m : ℕ) (state : MachineState) (early : Option Stop) → stopped events state.trace ≡ early →
+      ((next : MachineState) → run image inputs events (m + n) next ≡ continued (run image inputs events n)
       (run image inputs events m next)) → stops_or early state
       (after state (step image inputs state) (run image inputs events (m + n))) ≡ continued (run image inputs events n)
       (stops_or early state (after state (step image inputs state) (run image inputs events m)))
@@ -101,7 +103,7 @@ module _ (image : ImageParts) (inputs : List ℕ) (events n : ℕ) where
   one_first m state (Some stop) h later = sym (stays events _ stop _ _ h)
 
   -- m + n steps are m steps and then n
-  pub run_more : (m : ℕ) (state : State) →
+  pub run_more : (m : ℕ) (state : MachineState) →
       run image inputs events (m + n) state ≡ continued (run image inputs events n) (run image inputs events m state)
   unfolding run
   run_more zero state = ap (λ k. run image inputs events k state) (zero-add n) ∙ none_first state _ refl
@@ -110,45 +112,48 @@ module _ (image : ImageParts) (inputs : List ℕ) (events n : ℕ) where
 
 -- What each step keeps, a run keeps.
 
-pub after_keeps : (P : State → Type 0) (state : State) (outcome : Outcome) → P state → AtNext P outcome →
+pub after_keeps : (P : MachineState → Type 0) (state : MachineState) (outcome : Outcome) → P state → AtNext P outcome →
     P (after_outcome state outcome)
 after_keeps P state (Goes next) h k = k
 after_keeps P state (Traps reason) h k = h
 
-module _ (image : ImageParts) (inputs : List ℕ) (events : ℕ) (P : State → Type 0)
-    (each : (state : State) → P state → stopped events state.trace ≡ None → AtNext P (step image inputs state)) where
-  stop_keeps : (early : Option Stop) (state : State) (later : Run) → P state → (early ≡ None → P later.state) →
-      P (stops_or early state later).state
-  stop_keeps None state later h k = k refl
-  stop_keeps (Some stop) state later h k = h
+module _ (image : ImageParts) (inputs : List ℕ) (events : ℕ) (P : MachineState → Type 0)
+    (each : (state : MachineState) → P state → stopped events state.trace ≡ None → AtNext P (step image inputs state))
+  where
+    stop_keeps : (early : Option Stop) (state : MachineState) (later : MachineRun) → P state → (early ≡ None → P
+        later.state) →
+        P (stops_or early state later).state
+    stop_keeps None state later h k = k refl
+    stop_keeps (Some stop) state later h k = h
 
-  go_keeps : (state : State) (outcome : Outcome) (go : State → Run) → P state → AtNext P outcome →
-      ((next : State) → P next → P (go next).state) → P (after state outcome go).state
-  go_keeps state (Goes next) go h k later = later next k
-  go_keeps state (Traps reason) go h k later = h
+    go_keeps : (state : MachineState) (outcome : Outcome) (go : MachineState → MachineRun) → P state → AtNext P outcome →
+        ((next : MachineState) → P next → P (go next).state) → P (after state outcome go).state
+    go_keeps state (Goes next) go h k later = later next k
+    go_keeps state (Traps reason) go h k later = h
 
-  pub run_keeps : (steps : ℕ) (state : State) → P state → P (run image inputs events steps state).state
-  unfolding run
-  run_keeps zero state h = stop_keeps (stopped events _) state _ h (λ early. h)
-  run_keeps (suc steps) state h = stop_keeps (stopped events _) state _ h
-      (λ early. go_keeps state _ _ h (each state h early) (run_keeps steps))
+    pub run_keeps : (steps : ℕ) (state : MachineState) → P state → P (run image inputs events steps state).state
+    unfolding run
+    run_keeps zero state h = stop_keeps (stopped events _) state _ h (λ early. h)
+    run_keeps (suc steps) state h = stop_keeps (stopped events _) state _ h
+        (λ early. go_keeps state _ _ h (each state h early) (run_keeps steps))
 
 -- Stretches of a run, steps by their instruction, and what stands in memory at the start.
 
 -- Stretches.
 
-pub walk_one : (image : ImageParts) (inputs : List ℕ) (from to : State) → step image inputs from ≡ Goes to →
+pub walk_one : (image : ImageParts) (inputs : List ℕ) (from to : MachineState) → step image inputs from ≡ Goes to →
     Walks image inputs 1 from to
 walk_one image inputs from to goes = record { by = ap (λ o. then_on o (walk image inputs 0)) goes }
 
 -- the first of some steps
-pub first_step : (later : State → Outcome) (to : State) (outcome : Outcome) → then_on outcome later ≡ Goes to →
-    (next : State) × (outcome ≡ Goes next) × (later next ≡ Goes to)
+pub first_step : (later : MachineState → Outcome) (to : MachineState) (outcome : Outcome) → then_on outcome later ≡ Goes
+    to →
+    (next : MachineState) × (outcome ≡ Goes next) × (later next ≡ Goes to)
 first_step later to (Goes next) goes = (next, refl, goes)
 first_step later to (Traps reason) goes = let never = goes in cc never
 
 module _ (image : ImageParts) (inputs : List ℕ) where
-  walk_on : (m n : ℕ) (from middle : State) → walk image inputs m from ≡ Goes middle →
+  walk_on : (m n : ℕ) (from middle : MachineState) → walk image inputs m from ≡ Goes middle →
       walk image inputs (m + n) from ≡ walk image inputs n middle
   walk_on zero n from middle goes =
       let same : from ≡ middle = cc goes in ap (λ k. walk image inputs k from) (zero-add n) ∙
@@ -158,14 +163,14 @@ module _ (image : ImageParts) (inputs : List ℕ) where
       ap (λ k. walk image inputs k from) (suc-add m n) ∙ ap (λ o. then_on o (walk image inputs (m + n))) first.1 ∙
       walk_on m n first.0 middle first.2
 
-pub walk_together : (image : ImageParts) (inputs : List ℕ) (m n : ℕ) (from middle to : State) →
+pub walk_together : (image : ImageParts) (inputs : List ℕ) (m n : ℕ) (from middle to : MachineState) →
     Walks image inputs m from middle → Walks image inputs n middle to → Walks image inputs (m + n) from to
 walk_together image inputs m n from middle to first second =
     record { by = walk_on image inputs m n from middle first.by ∙ second.by }
 
 -- Steps by their instruction.
 
-module _ (image : ImageParts) (inputs : List ℕ) (state : State) where
+module _ (image : ImageParts) (inputs : List ℕ) (state : MachineState) where
   by_instr : (instr : Instr) → IsAt image state instr → step image inputs state ≡ execute image inputs state instr
   by_instr instr at = step_executes image inputs state at.word instr at.fetched at.decodes
 
@@ -196,7 +201,7 @@ past_prefix : (before : List ℕ) (word : ℕ) (after : List ℕ) →
 past_prefix [] word after = refl
 past_prefix (x ∷ before) word after = past_prefix before word after
 
-code_placed : (image : ImageParts) (c word : ℕ) (before after : List ℕ) → code_of image c ≡ before ++ word ∷ after →
+code_placed : (image : ImageParts) (c word : ℕ) (before after : List ℕ) → code_in image c ≡ before ++ word ∷ after →
     word_at image c (code_start c + 4 * length before) ≡ Some word
 unfolding word_at
 code_placed image c word before after is =
@@ -258,7 +263,7 @@ four_bytes : (word : ℕ) → word < 2 ^ 32 →
 four_bytes word below = omega (arith, below)
 
 -- the number that four bytes in memory make
-pub load_is : (memory : Memory) (a word : ℕ) → word < 2 ^ 32 →
+pub load_is : (memory : ByteMemory) (a word : ℕ) → word < 2 ^ 32 →
     ((j : ℕ) → j < 4 → memory (a + j) ≡ Some (byte_of word j)) → load_of memory a 4 ≡ word
 load_is memory a word below bytes = rw (
   bytes 0 (omega arith),

@@ -1,11 +1,14 @@
 -- Runs along stretches, the states that runs reach, and stretches that emit events.
 use Rattle.sc_image.proofs.Common.{Bool, Crossing, Emits, EmittingComposes, Ended, Event, EventsOut, Goes, ImageParts}
-use Rattle.sc_image.proofs.Common.{IsCall, IsPrefix, IsReached, IsWellFormed, List, None, Option, Outcome, Some, State}
+use Rattle.sc_image.proofs.Common.{IsCall, IsPrefix, IsReached, IsWellFormed, List, None, Option, Outcome, Some}
+use Rattle.sc_image.proofs.Common.{MachineState}
 use Rattle.sc_image.proofs.Common.{StepsEmit, StepsOut, Stop, StretchesCompose, Traps, Walks, [], ap, append-nil}
-use Rattle.sc_image.proofs.Common.{append_assoc, arith, called, calls, code_start, comp_of_code, ended, eq-eqb, false}
+use Rattle.sc_image.proofs.Common.{append_assoc, arith, on_call, jump_outside, code_start, comp_of_code, on_end, eq-eqb}
+use Rattle.sc_image.proofs.Common.{false}
 use Rattle.sc_image.proofs.Common.{gate, if◌then◌else◌, is_end, is_ended, is_some, jump, leaves, length, length-append}
-use Rattle.sc_image.proofs.Common.{list_any, list_any-append, lt-leb, nat_tests, or_from, or_parts, params_of, ra, refl}
-use Rattle.sc_image.proofs.Common.{returned, run, start, step, stopped, stops_or, subst, suc, suc-add, sym, true, walk}
+use Rattle.sc_image.proofs.Common.{list_any, list_any-append, lt-leb, nat_tests, or_from, or_parts, export_params, ra}
+use Rattle.sc_image.proofs.Common.{refl}
+use Rattle.sc_image.proofs.Common.{on_return, run, start, step, stopped, stops_or, subst, suc, suc-add, sym, true, walk}
 use Rattle.sc_image.proofs.Common.{word_at, zero, zero-add, ℕ, ◌%◌, ◌++◌, ◌+◌, ◌<◌, ◌∙◌, ◌∷◌, ◌≡◌, ◌≢◌, ◌≤◌}
 use Rattle.sc_image.proofs.Cases.{AtNext, step_of}
 use Rattle.sc_image.proofs.Traces.{ended_by}
@@ -29,19 +32,19 @@ prefix_short : (xs ys : List Event) → IsPrefix xs ys → length xs ≤ length 
 prefix_short xs ys p = omega (arith, length-append xs p.more, ap length p.is)
 
 -- one event at most
-abbrev AddsOne : List Event → State → Type 0
+abbrev AddsOne : List Event → MachineState → Type 0
 AddsOne trace next = (rest : List Event) × (trace ++ rest ≡ next.trace) × (length rest ≤ 1)
 
 one_more : (trace : List Event) (event : Event) →
     (rest : List Event) × (trace ++ rest ≡ trace ++ event ∷ []) × (length rest ≤ 1)
 one_more trace event = (event ∷ [], refl, omega arith)
 
-return_adds : (image : ImageParts) (state : State) (cross : List Crossing) →
-    AddsOne state.trace (returned image state cross)
+return_adds : (image : ImageParts) (state : MachineState) (cross : List Crossing) →
+    AddsOne state.trace (on_return image state cross)
 return_adds image state [] = one_more _ _
 return_adds image state (x ∷ xs) = one_more _ _
 
-step_adds : (image : ImageParts) (inputs : List ℕ) (state : State) → IsWellFormed image →
+step_adds : (image : ImageParts) (inputs : List ℕ) (state : MachineState) → IsWellFormed image →
     AtNext (AddsOne state.trace) (step image inputs state)
 step_adds image inputs state formed = step_of image inputs formed state (AtNext (AddsOne state.trace)) (record {
   same = λ a owned. refl;
@@ -54,11 +57,11 @@ step_adds image inputs state formed = step_of image inputs formed state (AtNext 
   reads = λ may. one_more state.trace _;
 })
 
-step_to : (image : ImageParts) (inputs : List ℕ) → IsWellFormed image → (state next : State) →
+step_to : (image : ImageParts) (inputs : List ℕ) → IsWellFormed image → (state next : MachineState) →
     step image inputs state ≡ Goes next → AddsOne state.trace next
 step_to image inputs formed state next goes = subst (AtNext _) goes (step_adds image inputs state formed)
 
-pub goes_one : (image : ImageParts) (inputs : List ℕ) → IsWellFormed image → (state next : State) →
+pub goes_one : (image : ImageParts) (inputs : List ℕ) → IsWellFormed image → (state next : MachineState) →
     step image inputs state ≡ Goes next → length next.trace ≤ suc (length state.trace)
 goes_one image inputs formed state next goes =
     let more = step_to image inputs formed state next goes in
@@ -66,8 +69,8 @@ goes_one image inputs formed state next goes =
 
 -- what stops no run yet
 
-not_ended : (trace : List Event) (ended full : Bool) → is_ended trace ≡ ended →
-    (if ended then Some Ended else if full then Some EventsOut else None) ≡ None → (ended ≡ false) × (full ≡ false)
+not_ended : (trace : List Event) (on_end full : Bool) → is_ended trace ≡ on_end →
+    (if on_end then Some Ended else if full then Some EventsOut else None) ≡ None → (on_end ≡ false) × (full ≡ false)
 not_ended trace false false at is = (refl, refl)
 not_ended trace false true at is = let never = is in cc never
 not_ended trace true full at is = let never = is in cc never
@@ -113,11 +116,12 @@ module _ (image : ImageParts) (inputs : List ℕ) (formed : IsWellFormed image) 
   unfolding stopped
   not_stopped events trace going below = rw (going, lt-leb events _ below) refl
 
-  pub goes_adds : (state next : State) → step image inputs state ≡ Goes next → IsPrefix state.trace next.trace
+  pub goes_adds : (state next : MachineState) → step image inputs state ≡ Goes next → IsPrefix state.trace next.trace
   goes_adds state next goes =
       let more = step_to image inputs formed state next goes in record { more = more.0; is = sym more.1 }
 
-  pub walk_adds : (n : ℕ) (state to : State) → walk image inputs n state ≡ Goes to → IsPrefix state.trace to.trace
+  pub walk_adds : (n : ℕ) (state to : MachineState) → walk image inputs n state ≡ Goes to → IsPrefix state.trace
+      to.trace
   walk_adds zero state to goes = let same : state ≡ to = cc goes in
       subst (λ t. IsPrefix state.trace t.trace) same (prefix_self _)
   walk_adds (suc n) state to goes =
@@ -125,7 +129,7 @@ module _ (image : ImageParts) (inputs : List ℕ) (formed : IsWellFormed image) 
       prefix_on _ first.0.trace _ (goes_adds state first.0 first.1) (walk_adds n first.0 to first.2)
 
   module _ (events more : ℕ) where
-    pub run_along : (n : ℕ) (emitted : List Event) (from to : State) → walk image inputs n from ≡ Goes to →
+    pub run_along : (n : ℕ) (emitted : List Event) (from to : MachineState) → walk image inputs n from ≡ Goes to →
         to.trace ≡ from.trace ++ emitted → list_any is_end emitted ≡ false → is_ended from.trace ≡ false →
         length to.trace < events → run image inputs events (n + more) from ≡ run image inputs events more to
     run_along zero emitted from to goes trace none going below =
@@ -148,49 +152,58 @@ module _ (image : ImageParts) (inputs : List ℕ) (formed : IsWellFormed image) 
   -- The states that runs reach.
 
   -- n steps lead from one state to another, with no end before the last
-  abbrev OpenWalk : ℕ → State → State → Type 0
+  abbrev OpenWalk : ℕ → MachineState → MachineState → Type 0
   OpenWalk zero from to = from ≡ to
   OpenWalk (suc n) from to = (is_ended from.trace ≡ false) ×
-      ((next : State) × ((step image inputs from ≡ Goes next) × OpenWalk n next to))
+      ((next : MachineState) × ((step image inputs from ≡ Goes next) × OpenWalk n next to))
 
   -- one step more
-  walk_more : (n : ℕ) (from middle to : State) → OpenWalk n from middle → is_ended middle.trace ≡ false →
+  walk_more : (n : ℕ) (from middle to : MachineState) → OpenWalk n from middle → is_ended middle.trace ≡ false →
       step image inputs middle ≡ Goes to → OpenWalk (suc n) from to
   walk_more zero from middle to same going goes = subst (λ m. (is_ended m.trace ≡ false) ×
-      ((next : State) × ((step image inputs m ≡ Goes next) × (next ≡ to)))) (sym same) (going, (to, (goes, refl)))
+      ((next : MachineState) × ((step image inputs m ≡ Goes next) × (next ≡ to)))) (sym same) (
+        going,
+        (
+          to,
+          (
+            goes,
+            refl,
+          ),
+        ),
+      )
   walk_more (suc n) from middle to h going goes = (
     h.0,
     (h.1.0, (h.1.1.0, walk_more n h.1.0 middle to h.1.1.1 going goes)),
   )
 
-  open_adds : (n : ℕ) (from to : State) → OpenWalk n from to → length from.trace ≤ length to.trace
+  open_adds : (n : ℕ) (from to : MachineState) → OpenWalk n from to → length from.trace ≤ length to.trace
   open_adds zero from to same = subst (λ t. length from.trace ≤ length t.trace) same (omega arith)
   open_adds (suc n) from to h =
       let first = prefix_short _ _ (goes_adds from h.1.0 h.1.1.0) in
       let later = open_adds n h.1.0 to h.1.1.1 in omega (arith, first, later)
 
-  abbrev Comes : State → State → Type 0
+  abbrev Comes : MachineState → MachineState → Type 0
   Comes from to = (n : ℕ) × OpenWalk n from to
 
-  comes_next : (from state : State) → Comes from state → is_ended state.trace ≡ false → (outcome : Outcome) →
+  comes_next : (from state : MachineState) → Comes from state → is_ended state.trace ≡ false → (outcome : Outcome) →
       step image inputs state ≡ outcome → AtNext (Comes from) outcome
   comes_next from state way going (Goes next) is = (suc way.0, walk_more way.0 from state next way.1 going is)
   comes_next from state way going (Traps reason) is = tt
 
-  comes : (events steps : ℕ) (from : State) → Comes from (run image inputs events steps from).state
+  comes : (events steps : ℕ) (from : MachineState) → Comes from (run image inputs events steps from).state
   comes events steps from = run_keeps image inputs events (Comes from)
       (λ state way early. comes_next from state way (goes_on events _ early) _ refl) steps from (0, refl)
 
-  none_by : (from : State) (early : Option Stop) →
+  none_by : (from : MachineState) (early : Option Stop) →
       (stops_or early from (record { state = from; stop = StepsOut })).state ≡ from
   none_by from None = refl
   none_by from (Some stop) = refl
 
-  none_runs : (events : ℕ) (from : State) → (run image inputs events 0 from).state ≡ from
+  none_runs : (events : ℕ) (from : MachineState) → (run image inputs events 0 from).state ≡ from
   unfolding run
   none_runs events from = none_by from _
 
-  open_run : (events n : ℕ) (from to : State) → OpenWalk n from to → length to.trace < events →
+  open_run : (events n : ℕ) (from to : MachineState) → OpenWalk n from to → length to.trace < events →
       (run image inputs events n from).state ≡ to
   open_run events zero from to same below = none_runs events from ∙ same
   open_run events (suc n) from to h below =
@@ -198,10 +211,10 @@ module _ (image : ImageParts) (inputs : List ℕ) (formed : IsWellFormed image) 
       ap (λ r. r.state) (run_goes image inputs events n from h.1.0
       (not_stopped events _ h.0 (omega (arith, fewer, below))) h.1.1.0) ∙ open_run events n h.1.0 to h.1.1.1 below
 
-  reached_open : (from : State) → IsReached image inputs from → Comes (start image) from
+  reached_open : (from : MachineState) → IsReached image inputs from → Comes (start image) from
   reached_open from h = subst (Comes _) h.1.1 (comes h.1.0 h.0 _)
 
-  reached_next : (from to : State) → IsReached image inputs from → is_ended from.trace ≡ false →
+  reached_next : (from to : MachineState) → IsReached image inputs from → is_ended from.trace ≡ false →
       step image inputs from ≡ Goes to → IsReached image inputs to
   reached_next from to h going goes =
       let way = reached_open from h in (
@@ -232,18 +245,19 @@ stretches_compose = record {
 
 -- Stretches.
 
-silent : (image : ImageParts) (inputs : List ℕ) (steps : ℕ) (from to : State) →
+silent : (image : ImageParts) (inputs : List ℕ) (steps : ℕ) (from to : MachineState) →
     Walks image inputs steps from to → from.trace ≡ to.trace → Emits image inputs steps [] from to
 silent image inputs steps from to walks same =
     record { walks = walks; trace = sym same ∙ sym (append-nil _); no_end = refl }
 
-one_event : (image : ImageParts) (inputs : List ℕ) (event : Event) (from to : State) →
+one_event : (image : ImageParts) (inputs : List ℕ) (event : Event) (from to : MachineState) →
     step image inputs from ≡ Goes to → to.trace ≡ from.trace ++ event ∷ [] → is_end event ≡ false →
     Emits image inputs 1 (event ∷ []) from to
 one_event image inputs event from to goes emitted none =
     record { walks = walk_one image inputs from to goes; trace = emitted; no_end = rw none refl }
 
-together : (image : ImageParts) (inputs : List ℕ) (m n : ℕ) (first second : List Event) (from middle to : State) →
+together : (image : ImageParts) (inputs : List ℕ) (m n : ℕ) (first second : List Event) (from middle to : MachineState)
+    →
     Emits image inputs m first from middle → Emits image inputs n second middle to →
     Emits image inputs (m + n) (first ++ second) from to
 together image inputs m n first second from middle to one two = record {
@@ -253,14 +267,15 @@ together image inputs m n first second from middle to one two = record {
 }
 
 along_emitted : (image : ImageParts) (inputs : List ℕ) (events steps more : ℕ) (emitted : List Event)
-    (from to : State) →
+    (from to : MachineState) →
     IsWellFormed image → Emits image inputs steps emitted from to → stopped events from.trace ≡ None →
     length to.trace < events → run image inputs events (steps + more) from ≡ run image inputs events more to
 along_emitted image inputs events steps more emitted from to formed emits_trace early below =
     run_along image inputs formed events
     more steps emitted from to emits_trace.walks.by emits_trace.trace emits_trace.no_end (goes_on events _ early) below
 
-to_stop : (image : ImageParts) (inputs : List ℕ) (events steps more : ℕ) (emitted : List Event) (from last to : State)
+to_stop : (image : ImageParts) (inputs : List ℕ) (events steps more : ℕ) (emitted : List Event) (from last to :
+    MachineState)
     (stop : Stop) → IsWellFormed image → Emits image inputs steps emitted from last → stopped events from.trace ≡ None →
     length last.trace < events → step image inputs last ≡ Goes to → stopped events to.trace ≡ Some stop →
     run image inputs events (steps + suc more) from ≡ record { state = to; stop = stop }
@@ -291,11 +306,11 @@ not_others image formed c d address other of (Some word) at =
 
 -- Jumps out of the own code.
 
-pub jump_out : (image : ImageParts) (state : State) (rd target : ℕ) (elsewhere : Outcome) → target % 4 ≡ 0 →
+pub jump_out : (image : ImageParts) (state : MachineState) (rd target : ℕ) (elsewhere : Outcome) → target % 4 ≡ 0 →
     is_some (word_at image state.active target) ≡ false → jump image state rd target elsewhere ≡ elsewhere
 jump_out image state rd target elsewhere aligned none = rw (eq-eqb _ 0 aligned, none) refl
 
-module _ (image : ImageParts) (state : State) (to index target : ℕ) (formed : IsWellFormed image)
+module _ (image : ImageParts) (state : MachineState) (to index target : ℕ) (formed : IsWellFormed image)
     (call : IsCall image state to index target) where
   there : (word : ℕ) × IsInCode to target word
   there =
@@ -305,15 +320,15 @@ module _ (image : ImageParts) (state : State) (to index target : ℕ) (formed : 
   outside : is_some (word_at image state.active target) ≡ false
   outside = not_others image formed _ to target (called_other image _ to index formed call.may) there.1.comp _ refl
 
-  calls_there : calls image state ra target ≡ Goes (called state to index (params_of image to index) target)
+  calls_there : jump_outside image state ra target ≡ Goes (on_call state to index (export_params image to index) target)
   calls_there = rw (there.1.comp, call.entry, call.may) refl
 
-  jal_there : jump image state ra target (calls image state ra target) ≡
-      Goes (called state to index (params_of image to index) target)
+  jal_there : jump image state ra target (jump_outside image state ra target) ≡
+      Goes (on_call state to index (export_params image to index) target)
   jal_there = jump_out image state ra target _ there.1.aligned outside ∙ calls_there
 
   jalr_there : jump image state ra target (leaves image state ra target) ≡
-      Goes (called state to index (params_of image to index) target)
+      Goes (on_call state to index (export_params image to index) target)
   jalr_there = jump_out image state ra target _ there.1.aligned outside ∙ calls_there
 
 -- nobody's code is at the gate
@@ -323,11 +338,11 @@ no_code image c =
     let below = lt-leb (code_start c) gate (omega arith) in
     rw below refl
 
-leaves_there : (image : ImageParts) (inputs : List ℕ) (state : State) →
-    jump image state 0 gate (leaves image state 0 gate) ≡ Goes (returned image state state.cross)
+leaves_there : (image : ImageParts) (inputs : List ℕ) (state : MachineState) →
+    jump image state 0 gate (leaves image state 0 gate) ≡ Goes (on_return image state state.cross)
 leaves_there image inputs state = jump_out image state 0 gate _ refl (no_code image _)
 
-ended_stops : (events : ℕ) (state : State) → stopped events (ended state).trace ≡ Some Ended
+ended_stops : (events : ℕ) (state : MachineState) → stopped events (on_end state).trace ≡ Some Ended
 unfolding stopped
 ended_stops events state = rw (ended_by _ _) refl
 
@@ -341,13 +356,13 @@ steps_emit = record {
       jalr_there image state to index target formed call) refl refl;
   returns = λ image inputs state rs1 imm _ waiting at same cross. one_event image inputs _ state _
       (steps_by_instruction.jalr image inputs state 0 rs1 imm gate at same ∙ leaves_there image inputs state ∙
-      ap (λ c. Goes (returned image state c)) cross) refl refl;
+      ap (λ c. Goes (on_return image state c)) cross) refl refl;
   outputs = λ image inputs state at is may.
       one_event image inputs _ state _ (steps_by_instruction.ecall image inputs state at ∙ rw (is, may) refl) refl refl;
   inputs = λ image inputs state at is may.
       one_event image inputs _ state _ (steps_by_instruction.ecall image inputs state at ∙ rw (is, may) refl) refl refl;
   ends = λ image inputs state rs1 imm at same cross.
       steps_by_instruction.jalr image inputs state 0 rs1 imm gate at same ∙ leaves_there image inputs state ∙
-      ap (λ c. Goes (returned image state c)) cross;
+      ap (λ c. Goes (on_return image state c)) cross;
   ended_stops = ended_stops;
 }

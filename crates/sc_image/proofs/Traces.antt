@@ -1,13 +1,16 @@
 -- The trace of a run is one that the image's interfaces allow, whatever the types of their scalars.
 use Rattle.sc_image.proofs.Common.{All, Bool, Call, CompPart, Crossing, End, Ended, Entry, Event, EventsOut, Export}
-use Rattle.sc_image.proofs.Common.{ExportPart, ImageParts, In, Int, IsChain, IsSteady, IsWellFormed, IsWord}
-use Rattle.sc_image.proofs.Common.{LegalByWords, List, Main, Memory, None, Option, Out, Ret, Some, State}
-use Rattle.sc_image.proofs.Common.{TracesAreLegal, [], a0, and_from, and_parts, ap, ap₂, arguments, arith, eq-eqb}
-use Rattle.sc_image.proofs.Common.{exports_of, false, given_back, has_result, if◌then◌else◌, import_of, inl, inr}
-use Rattle.sc_image.proofs.Common.{interface_of, interfaces_of, is_end, is_ended, is_there, length, length-append}
-use Rattle.sc_image.proofs.Common.{length-map, length-replicate, list_any, list_any-append, machine, map, may_call}
+use Rattle.sc_image.proofs.Common.{ExportPart, ImageParts, In, Int, AreNested, IsSteadyState, IsWellFormed, IsWord}
+use Rattle.sc_image.proofs.Common.{LegalByWords, List, Main, ByteMemory, None, Option, Out, Ret, Some, MachineState}
+use Rattle.sc_image.proofs.Common.{MachineTracesAreLegal, [], a0, and_from, and_parts, ap, ap₂, arguments, arith}
+use Rattle.sc_image.proofs.Common.{eq-eqb}
+use Rattle.sc_image.proofs.Common.{exported_by, false, given_back, has_result, if◌then◌else◌, image_import, inl, inr}
+use Rattle.sc_image.proofs.Common.{image_interface, image_interfaces, is_end, is_ended, is_there, length, length-append}
+use Rattle.sc_image.proofs.Common.{length-map, length-replicate, list_any, list_any-append, machine, map}
+use Rattle.sc_image.proofs.Common.{may_call_export}
 use Rattle.sc_image.proofs.Common.{may_input, may_output, option_and_then, option_map, option_map_or, or_right}
-use Rattle.sc_image.proofs.Common.{params_of, position, position-Some, proto_of, refl, reg, returned, run, slice_get}
+use Rattle.sc_image.proofs.Common.{export_params, position, position-Some, image_proto, refl, reg, on_return, run}
+use Rattle.sc_image.proofs.Common.{slice_get}
 use Rattle.sc_image.proofs.Common.{slice_get-map, start, step, stopped, subst, sym, true, true≢false, word_interface}
 use Rattle.sc_image.proofs.Common.{word_interfaces, word_proto, ℕ, ◌&&◌, ◌++◌, ◌-◌, ◌<◌, ◌==◌, ◌||◌, ◌∙◌, ◌∷◌, ◌≡◌, ◌⊎◌}
 use Rattle.sc_event.specs.Prelude.{Activation, Standing, at_start, awaits, comp_at, export_at, fits_result, imports}
@@ -68,10 +71,10 @@ any_after test xs ys some = list_any-append test xs ys ∙ or_right _ _ some
 
 module _ (image : ImageParts) where
   abbrev said : Interfaces
-  said = interfaces_of image
+  said = image_interfaces image
 
   comp_said : (c : ℕ) (comp : Option CompPart) → slice_get image.comps c ≡ comp →
-      lookup.comp_at said c ≡ option_map interface_of comp
+      lookup.comp_at said c ≡ option_map image_interface comp
   comp_said c comp at = slice_get-map _ _ c ∙ ap (option_map _) at
 
   abbrev of_input : CompPart → List Import
@@ -81,7 +84,7 @@ module _ (image : ImageParts) where
   of_output comp = if comp.output then Output ∷ [] else []
 
   imports_said : (c : ℕ) (comp : CompPart) (is_it : Import → Bool) → slice_get image.comps c ≡ Some comp →
-      imports said c is_it ≡ list_any is_it (of_input comp ++ (of_output comp ++ map import_of comp.imports))
+      imports said c is_it ≡ list_any is_it (of_input comp ++ (of_output comp ++ map image_import comp.imports))
   imports_said c comp is_it at =
       ap (λ found. list_any is_it (option_map_or (λ i. i.imports) found [])) (comp_said c _ at)
 
@@ -94,24 +97,25 @@ module _ (image : ImageParts) where
   output_said c may =
       let found = comp_found (λ comp. comp.output) false (λ output. output ≡ true) (λ never. cc never) _ may in
       imports_said c found.0 _ found.1 ∙ any_after is_output (of_input found.0)
-      (of_output found.0 ++ map import_of found.0.imports) (rw found.2 refl)
+      (of_output found.0 ++ map image_import found.0.imports) (rw found.2 refl)
 
-  function_said : (c to index : ℕ) → may_call image c to index ≡ true → imports said c (is_function to index) ≡ true
+  function_said : (c to index : ℕ) → may_call_export image c to index ≡ true → imports said c (is_function to index) ≡
+      true
   function_said c to index may =
       let found = comp_found (λ comp. comp.imports) []
       (λ imports. list_any (λ import. import.comp == to && import.index == index) imports ≡ true)
       (λ never. cc never) _ may in
       let is_it = is_function to index in
-      let others = map import_of found.0.imports in
+      let others = map image_import found.0.imports in
       imports_said c found.0 is_it found.1 ∙ any_after is_it (of_input found.0) (of_output found.0 ++ others)
-      (any_after is_it (of_output found.0) others (any_map is_it import_of found.0.imports ∙ found.2))
+      (any_after is_it (of_output found.0) others (any_map is_it image_import found.0.imports ∙ found.2))
 
   -- an export of the image, as its interfaces say it
   record IsSaid (c index : ℕ) (export : ExportPart) : Type 0 where
-    there : slice_get (exports_of image c) index ≡ Some export
-    said_so : lookup.export_at said c index ≡ Some (proto_of export)
+    there : slice_get (exported_by image c) index ≡ Some export
+    said_so : lookup.export_at said c index ≡ Some (image_proto export)
 
-  said_at : (c index : ℕ) → index < length (exports_of image c) → (export : ExportPart) × IsSaid c index export
+  said_at : (c index : ℕ) → index < length (exported_by image c) → (export : ExportPart) × IsSaid c index export
   said_at c index within =
       let there = is_there _ index within in
       let found = comp_found (λ comp. comp.exports) [] (λ exports. slice_get exports index ≡ Some there.0)
@@ -120,7 +124,7 @@ module _ (image : ImageParts) where
         record {
           there = there.1;
           said_so = ap (λ found. option_and_then (λ i. slice_get i.exports index) found) (comp_said c _ found.1) ∙
-              (slice_get-map proto_of found.0.exports index ∙ ap (option_map _) found.2);
+              (slice_get-map image_proto found.0.exports index ∙ ap (option_map _) found.2);
         },
       )
 
@@ -134,7 +138,7 @@ abbrev waiting_of : List Crossing → List Activation
 waiting_of [] = []
 waiting_of (x ∷ xs) = record { comp = x.caller; entry = entry_of xs } ∷ waiting_of xs
 
-abbrev standing_of : State → Standing
+abbrev standing_of : MachineState → Standing
 standing_of state = record {
   active = record { comp = state.active; entry = entry_of state.cross };
   waiting = waiting_of state.cross;
@@ -142,47 +146,48 @@ standing_of state = record {
 
 -- each open call is one of an export
 abbrev IsOfExport : ImageParts → Crossing → Type 0
-IsOfExport image x = (index : ℕ) × ((x.entry ≡ Export index) × (index < length (exports_of image x.callee)))
+IsOfExport image x = (index : ℕ) × ((x.entry ≡ Export index) × (index < length (exported_by image x.callee)))
 
 abbrev AreOfExports : ImageParts → List Crossing → Type 0
 AreOfExports image [] = Unit {0}
 AreOfExports image (x ∷ xs) = IsOfExport image x × AreOfExports image xs
 
 -- the run goes on, and stands where its trace says
-record IsTraced (image : ImageParts) (state : State) : Type 0 where
-  steady : IsSteady image state
+record IsTraced (image : ImageParts) (state : MachineState) : Type 0 where
+  steady : IsSteadyState image state
   exports : AreOfExports image state.cross
-  legal : law.legal (interfaces_of image) state.trace ≡ true
+  legal : law.legal (image_interfaces image) state.trace ≡ true
   stands : stands_after_all (at_start image.main) state.trace ≡ Some (standing_of state)
 
 -- the run has ended
-record IsOver (image : ImageParts) (state : State) : Type 0 where
-  legal : law.legal (interfaces_of image) state.trace ≡ true
+record IsOver (image : ImageParts) (state : MachineState) : Type 0 where
+  legal : law.legal (image_interfaces image) state.trace ≡ true
   over : is_ended state.trace ≡ true
 
-abbrev IsEmitted : ImageParts → State → Type 0
+abbrev IsEmitted : ImageParts → MachineState → Type 0
 IsEmitted image state = IsTraced image state ⊎ IsOver image state
 
 position_within : (test : ExportPart → Bool) (exports : List ExportPart) (index : ℕ) →
     position test exports ≡ Some index → index < length exports
 position_within test exports index is = (position-Some test exports index no_export is).0
 
-module _ (image : ImageParts) (inputs : List ℕ) (formed : IsWellFormed image) (all : All IsWord inputs) (state : State)
+module _ (image : ImageParts) (inputs : List ℕ) (formed : IsWellFormed image) (all : All IsWord inputs) (state :
+    MachineState)
     (h : IsTraced image state) where
   -- a state after an event that is allowed, where the run goes on
-  goes_on : (event : Event) (next : State) → IsSteady image next → AreOfExports image next.cross →
-      next.trace ≡ state.trace ++ event ∷ [] → is_allowed (interfaces_of image) (standing_of state) event ≡ true →
+  goes_on : (event : Event) (next : MachineState) → IsSteadyState image next → AreOfExports image next.cross →
+      next.trace ≡ state.trace ++ event ∷ [] → is_allowed (image_interfaces image) (standing_of state) event ≡ true →
       stands_after (standing_of state) event ≡ Some (standing_of next) → IsEmitted image next
   goes_on event next steady exports trace allowed stands = inl (record {
     steady = steady;
     exports = exports;
-    legal = ap (law.legal _) trace ∙ legal_more (interfaces_of image) (at_start _) state.trace event
+    legal = ap (law.legal _) trace ∙ legal_more (image_interfaces image) (at_start _) state.trace event
         (standing_of state) h.legal h.stands allowed;
     stands = ap (stands_after_all _) trace ∙ (stands_more (at_start _) state.trace event _ h.stands ∙ stands);
   })
 
-  silent : (regs : List ℕ) (pc : ℕ) (memory : Memory) →
-      IsSteady image (record state { regs = regs; pc = pc; memory = memory }) →
+  silent : (regs : List ℕ) (pc : ℕ) (memory : ByteMemory) →
+      IsSteadyState image (record state { regs = regs; pc = pc; memory = memory }) →
       IsEmitted image (record state { regs = regs; pc = pc; memory = memory })
   silent regs pc memory steady =
       inl (record { steady = steady; exports = h.exports; legal = h.legal; stands = h.stands })
@@ -191,37 +196,38 @@ module _ (image : ImageParts) (inputs : List ℕ) (formed : IsWellFormed image) 
   fits_given true = refl
   fits_given false = refl
 
-  emitted_return : (cross : List Crossing) → state.cross ≡ cross → IsSteady image (returned image state cross) →
-      IsEmitted image (returned image state cross)
+  emitted_return : (cross : List Crossing) → state.cross ≡ cross → IsSteadyState image (on_return image state cross) →
+      IsEmitted image (on_return image state cross)
   emitted_return [] is steady =
       let event = End state.active (reg state a0) in
       let outermost = and_from (state.active == state.active) _ (eq-eqb _ _ refl)
       (ap (λ cross. law.is_outermost (waiting_of cross)) is) in
       inr (record {
-        legal = legal_more (interfaces_of image) (at_start _) state.trace event
+        legal = legal_more (image_interfaces image) (at_start _) state.trace event
             (standing_of state) h.legal h.stands outermost;
         over = ended_by state.trace event;
       })
   emitted_return (x ∷ xs) is steady =
-      let chain = subst (IsChain _ _) is h.steady.chain in
+      let chain = subst (AreNested _ _) is h.steady.chain in
       let exports = subst (AreOfExports image) is h.exports in
       let index = exports.0.0 in
       let said = said_at image x.callee index exports.0.1.1 in
       let value = given_back (has_result image x.callee x.entry) state in
       let value_is = ap (λ entry. given_back (has_result image x.callee entry) state) exports.0.1.0 ∙
       ap (λ found. given_back (option_map_or (λ e. e.result) found false) state) said.1.there in
-      let returns = ap (λ entry. may_return (interfaces_of image) x.callee entry value) exports.0.1.0 ∙
+      let returns = ap (λ entry. may_return (image_interfaces image) x.callee entry value) exports.0.1.0 ∙
       (ap (λ found. option_map_or (λ p. fits_result p.result value) found false) said.1.said_so ∙
       (ap (fits_result (if said.0.result then Some Int else None)) value_is ∙ fits_given said.0.result)) in
-      let here = subst (λ cross. may_return (interfaces_of image) state.active (entry_of cross) value ≡ true) (sym is)
-      (subst (λ c. may_return (interfaces_of image) c x.entry value ≡ true) chain.0 returns) in
+      let here = subst (λ cross. may_return (image_interfaces image) state.active (entry_of cross) value ≡ true) (sym
+      is)
+      (subst (λ c. may_return (image_interfaces image) c x.entry value ≡ true) chain.0 returns) in
       let awaited = subst (λ cross. law.awaits (waiting_of cross) x.caller ≡ true) (sym is) (eq-eqb x.caller _ refl) in
       goes_on _ _ steady exports.1 refl (and_from (state.active == state.active) _ (eq-eqb _ _ refl)
       (and_from _ _ awaited here)) (ap (λ cross. resumed (waiting_of cross)) is)
 
   emitted_step : AtNext (IsEmitted image) (step image inputs state)
   emitted_step = step_of image inputs formed state
-      (λ outcome. AtNext (IsSteady image) outcome → AtNext (IsEmitted image) outcome)
+      (λ outcome. AtNext (IsSteadyState image) outcome → AtNext (IsEmitted image) outcome)
       (record {
         same = λ a owned. refl;
         traps = λ reason steady. tt;
@@ -229,17 +235,17 @@ module _ (image : ImageParts) (inputs : List ℕ) (formed : IsWellFormed image) 
         stores = λ op a word allowed steady. silent _ _ _ steady;
         calls = λ to index target at may steady.
             let said = said_at image to index (position_within (λ export. export.entry == target)
-            (exports_of image to) index at) in
-            let args = arguments (params_of image to index) state.regs in
-            let params_is : params_of image to index ≡ said.0.params =
+            (exported_by image to) index at) in
+            let args = arguments (export_params image to index) state.regs in
+            let params_is : export_params image to index ≡ said.0.params =
             ap (λ (found : Option ExportPart). option_map_or (λ e. e.params) found 0) said.1.there in
             let count : length args ≡ said.0.params =
             length-arguments _ state.regs (few_params image to index formed) h.steady.regs ∙ params_is in
-            let taken : takes (interfaces_of image) to index _ ≡ true = ap (λ found. option_map_or (λ (p : Proto).
+            let taken : takes (image_interfaces image) to index _ ≡ true = ap (λ found. option_map_or (λ (p : Proto).
             length p.params == length args) found false) said.1.said_so ∙ eq-eqb (length _) (length args)
             (length-replicate said.0.params Int ∙ sym count) in
             goes_on (Call _ to index args) _ steady (
-              (index, (refl, position_within (λ export. _ == target) (exports_of image to) index at)),
+              (index, (refl, position_within (λ export. _ == target) (exported_by image to) index at)),
               h.exports,
             ) refl (and_from (state.active == state.active) _ (eq-eqb _ _ refl) (and_from _ _
             (function_said image _ to index may) taken)) refl;
@@ -259,13 +265,13 @@ module _ (image : ImageParts) (events : ℕ) where
   not_over false full is = refl
   not_over true full is = let never = is in cc never
 
-  goes : (state : State) → IsEmitted image state → stopped events state.trace ≡ None → IsTraced image state
+  goes : (state : MachineState) → IsEmitted image state → stopped events state.trace ≡ None → IsTraced image state
   unfolding stopped
   goes state (inl traced) is = traced
   goes state (inr over) is = absurd (true≢false (sym over.over ∙ not_over _ _ is))
 
 emitted_run : (image : ImageParts) (inputs : List ℕ) → IsWellFormed image → All IsWord inputs → (events steps : ℕ)
-    (state : State) → IsEmitted image state → IsEmitted image (run image inputs events steps state).state
+    (state : MachineState) → IsEmitted image state → IsEmitted image (run image inputs events steps state).state
 emitted_run image inputs formed all events = run_keeps image inputs events (IsEmitted image)
     (λ state h early. emitted_step image inputs formed all state (goes image events state h early))
 
@@ -273,12 +279,12 @@ emitted_start : (image : ImageParts) → IsWellFormed image → IsEmitted image 
 emitted_start image formed = inl
     (record { steady = steady_start image formed; exports = tt; legal = refl; stands = refl })
 
-emitted_legal : (image : ImageParts) (state : State) → IsEmitted image state →
-    law.legal (interfaces_of image) state.trace ≡ true
+emitted_legal : (image : ImageParts) (state : MachineState) → IsEmitted image state →
+    law.legal (image_interfaces image) state.trace ≡ true
 emitted_legal image state (inl traced) = traced.legal
 emitted_legal image state (inr over) = over.legal
 
-pub all_traces_legal : TracesAreLegal
+pub all_traces_legal : MachineTracesAreLegal
 all_traces_legal image inputs steps events formed all = emitted_legal image (machine image inputs steps events).state
     (emitted_run image inputs formed all events steps _ (emitted_start image formed))
 

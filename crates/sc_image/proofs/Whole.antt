@@ -5,11 +5,11 @@ use Rattle.sc_image.proofs.Common.{BytesNameOneImage, CompPart, Decides, Decides
 use Rattle.sc_image.proofs.Common.{Decides-ltb, Decides-not, Err, ExportPart, FitsItsFields, ImageParts, ImportPart}
 use Rattle.sc_image.proofs.Common.{IsByte, IsComp, IsDistinct, IsDistinct-from_AllPairs, IsDistinct-from_count, IsEntry}
 use Rattle.sc_image.proofs.Common.{IsEquivalence, IsImage, IsImport, IsSomeAnd, IsWellFormed, IsWord, List, None, Ok}
-use Rattle.sc_image.proofs.Common.{Option, Result, Some, Whole, [], all_by, and_parts, ap, append-nil, are_distinct}
-use Rattle.sc_image.proofs.Common.{arith, bad, bytes_decides, cause_of, code_of, code_start, comps_keep, cond}
+use Rattle.sc_image.proofs.Common.{Option, Result, Some, Whole, [], all_by, and_parts, ap, append-nil, are_distinct_by}
+use Rattle.sc_image.proofs.Common.{arith, bad, bytes_decides, read_cause, code_in, code_start, comps_keep, cond}
 use Rattle.sc_image.proofs.Common.{distinct_count-from_IsDistinct, eq-eqb, eqb-true, exports_keep, false}
 use Rattle.sc_image.proofs.Common.{false_from_ne_true, get_or_default, get_or_from_slice_get, image_bytes}
-use Rattle.sc_image.proofs.Common.{image_in_version, image_of, imports_keep, is_entry, is_import, is_same_import}
+use Rattle.sc_image.proofs.Common.{image_in_version, image_in, imports_keep, is_entry, is_importable, is_same_import}
 use Rattle.sc_image.proofs.Common.{is_same_name, is_some, keeps_rules, length, list_all, lit≤, map, nat_lt}
 use Rattle.sc_image.proofs.Common.{nil_from_length, not, not_from_Decides, option_map_or, parts_in_version}
 use Rattle.sc_image.proofs.Common.{recursion_from_All, refl, same_from_decides, slice_get, slice_get_within, stretch}
@@ -43,7 +43,7 @@ equivalence {A} same decides = record {
 }
 
 distinct_decides : {A : Type 0} (same : A → A → Bool) → ((a b : A) → Decides (same a b) (a ≡ b)) → (xs : List A) →
-    Decides (are_distinct same xs) (IsDistinct xs)
+    Decides (are_distinct_by same xs) (IsDistinct xs)
 distinct_decides same decides xs = (
   λ is. AllPairs-from_IsDistinct decides xs (IsDistinct-from_count (equivalence same decides) xs (eqb-true _ _ is)),
   λ h. eq-eqb _ _ (distinct_count-from_IsDistinct (equivalence same decides) xs
@@ -59,12 +59,12 @@ imports_decide a b =
 -- Entries.
 
 entry_by : (image : ImageParts) (c entry : ℕ) (whole : Bool) →
-    is_some (cond whole (slice_get (code_of image c) ((entry - code_start c) / 4)) None) ≡ true →
-    (entry - code_start c) / 4 < length (code_of image c)
+    is_some (cond whole (slice_get (code_in image c) ((entry - code_start c) / 4)) None) ≡ true →
+    (entry - code_start c) / 4 < length (code_in image c)
 entry_by image c entry true some = let word = some_is _ some in slice_get_within _ _ word.0 word.1
 entry_by image c entry false some = let never = some in cc never
 
-entry_is_short : (image : ImageParts) (c entry : ℕ) → c < 32 → 4 * length (code_of image c) ≤ stretch →
+entry_is_short : (image : ImageParts) (c entry : ℕ) → c < 32 → 4 * length (code_in image c) ≤ stretch →
     is_entry image c entry ≡ true → entry < 2 ^ 32
 unfolding word_at
 entry_is_short image c entry low short is =
@@ -80,7 +80,7 @@ offered_decides index None = (λ is. let never = is in cc never, λ offered. abs
 offered_decides index (Some comp) = Decides-ltb index (length comp.exports)
 
 import_decides : (image : ImageParts) (c : ℕ) (import : ImportPart) →
-    Decides (is_import image c import) (IsImport image c import)
+    Decides (is_importable image c import) (IsImport image c import)
 import_decides image c import =
     Decides-like _ (λ both. record { other = both.0; offered = both.1 }) (λ h. (h.other, h.offered))
     (Decides-and (not (import.comp == c)) _ (Decides-not _ (unsigned_Decides import.comp c)) (offered_decides _ _))
@@ -100,9 +100,9 @@ rules_decide image c comp =
     let names = map (λ (export : ExportPart). export.name) comp.exports in
     Decides-and (exports_keep image c comp.exports) _ (Decides-and (list_all is_there comp.exports) _
     (Decides-by_and is_there _ (list_all is_there) (λ export. (λ is. is, λ is. is)) refl (λ x xs. refl) comp.exports)
-    (Decides-and (are_distinct is_same_name names) _ (distinct_decides is_same_name bytes_decides names)
-    (distinct_decides ◌==◌ unsigned_Decides (map _ _)))) (Decides-and (list_all (is_import image c) comp.imports) _
-    (Decides-by_and _ _ (list_all (is_import image c)) (import_decides image c) refl (λ x xs. refl) comp.imports)
+    (Decides-and (are_distinct_by is_same_name names) _ (distinct_decides is_same_name bytes_decides names)
+    (distinct_decides ◌==◌ unsigned_Decides (map _ _)))) (Decides-and (list_all (is_importable image c) comp.imports) _
+    (Decides-by_and _ _ (list_all (is_importable image c)) (import_decides image c) refl (λ x xs. refl) comp.imports)
     (distinct_decides is_same_import imports_decide comp.imports))
 
 -- the rules of the compartments from number c on
@@ -128,7 +128,7 @@ whole_decides : (image : ImageParts) → Decides (keeps_rules image) (IsDistinct
     (IsEntry image image.main image.entry × RulesFrom image 0 image.comps))
 whole_decides image =
     let names = map (λ (comp : CompPart). comp.name) image.comps in
-    Decides-and (are_distinct is_same_name names) _ (distinct_decides is_same_name bytes_decides names)
+    Decides-and (are_distinct_by is_same_name names) _ (distinct_decides is_same_name bytes_decides names)
     (Decides-and (is_entry image image.main image.entry) _ (λ is. is, λ is. is) (comps_decide image 0 image.comps))
 
 -- A compartment.
@@ -187,7 +187,7 @@ rules_are_kept image formed = (whole_decides image).1 (
 
 module _ (image : ImageParts) (formed : IsWellFormed image) where
   code_is_short : (c : ℕ) (found : Option CompPart) → slice_get image.comps c ≡ found →
-      4 * length (code_of image c) ≤ stretch
+      4 * length (code_in image c) ≤ stretch
   code_is_short c None at = rw at (lit≤ tt)
   code_is_short c (Some comp) at = rw at (formed.comps c comp at).short_code
 
@@ -245,7 +245,7 @@ low_version : version < 2 ^ 16
 low_version = omega arith
 
 -- what is read is well formed, and these are its bytes
-pub is_read : (bytes : List ℕ) (image : ImageParts) → IsBytes bytes → image_of bytes ≡ Ok image →
+pub is_read : (bytes : List ℕ) (image : ImageParts) → IsBytes bytes → image_in bytes ≡ Ok image →
     IsWellFormed image × (bytes ≡ image_bytes image)
 unfolding image_in_version
 is_read bytes image fits e =
@@ -262,7 +262,7 @@ pub parts_are_few : (bytes : List ℕ) (parts : ImageParts) (rest : List ℕ) �
 parts_are_few bytes parts rest fits e = ((parts_field version low_version).takes bytes parts rest fits e).1.few
 
 -- the bytes of an image are read as it
-pub is_read_again : (image : ImageParts) → IsWellFormed image → image_of (image_bytes image) ≡ Ok image
+pub is_read_again : (image : ImageParts) → IsWellFormed image → image_in (image_bytes image) ≡ Ok image
 unfolding image_in_version
 is_read_again image formed =
     let parts : parts_in_version version (image_bytes image) ≡ Ok _ =
@@ -272,16 +272,16 @@ is_read_again image formed =
 
 pub one_image_each : BytesNameOneImage
 one_image_each one other formed also same =
-    let p = sym (is_read_again one formed) ∙ ap image_of same ∙ is_read_again other also in cc p
+    let p = sym (is_read_again one formed) ∙ ap image_in same ∙ is_read_again other also in cc p
 
-no_cause : (bytes : List ℕ) → IsBytes bytes → (read : Result ImageParts BadImage) → image_of bytes ≡ read →
-    cause_of read ≡ None → IsImage bytes
+no_cause : (bytes : List ℕ) → IsBytes bytes → (read : Result ImageParts BadImage) → image_in bytes ≡ read →
+    read_cause read ≡ None → IsImage bytes
 no_cause bytes fits (Ok image) e none = let h = is_read bytes image fits e in
     record { image = image; well_formed = h.0; bytes_are = h.1 }
 no_cause bytes fits (Err cause) e none = let never = none in cc never
 
 pub bad_or_image_each : BadOrImage
 bad_or_image_each bytes all = (
-  λ none. no_cause bytes (bytes_fit bytes all) (image_of bytes) refl none,
-  λ is. ap (λ (b : List ℕ). bad b) is.bytes_are ∙ ap cause_of (is_read_again is.image is.well_formed),
+  λ none. no_cause bytes (bytes_fit bytes all) (image_in bytes) refl none,
+  λ is. ap (λ (b : List ℕ). bad b) is.bytes_are ∙ ap read_cause (is_read_again is.image is.well_formed),
 )

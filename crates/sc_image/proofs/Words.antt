@@ -1,8 +1,9 @@
 -- What a state holds are words, and a step computes words from words.
 use Rattle.sc_image.proofs.Common.{Bool, CompPart, ExportPart, HoldsBytes, ImageParts, IsSome, IsWellFormed, IsWord}
-use Rattle.sc_image.proofs.Common.{List, LoadOp, Memory, None, OpOp, Option, Some, [], add_word-lt, and_le_l, and_parts}
-use Rattle.sc_image.proofs.Common.{arith, code_start, comp_of_code, computed, div_word-lt, divu_word-lt, eqb-true}
-use Rattle.sc_image.proofs.Common.{export_at, extended, false, get_or_from_slice_get, if◌then◌else◌, kept_from}
+use Rattle.sc_image.proofs.Common.{List, LoadOp, ByteMemory, None, OpOp, Option, Some, [], add_word-lt, and_le_l}
+use Rattle.sc_image.proofs.Common.{and_parts}
+use Rattle.sc_image.proofs.Common.{arith, code_start, comp_of_code, op_result, div_word-lt, divu_word-lt, eqb-true}
+use Rattle.sc_image.proofs.Common.{entered_export, extended, false, get_or_from_slice_get, if◌then◌else◌, kept_from}
 use Rattle.sc_image.proofs.Common.{leb-true, load_of, load_size, mul_word-lt, mulh_word-lt, mulhsu_word-lt}
 use Rattle.sc_image.proofs.Common.{mulhu_word-lt, nat_eq, option_map_or, or_lt, position, position-Some, refl}
 use Rattle.sc_image.proofs.Common.{rem_word-lt, remu_word-lt, slice_get, slice_get_within, slice_index, slice_set}
@@ -83,10 +84,10 @@ kept_zero keeps r (word ∷ words) h = let first = h in rw first (if_zero _)
 
 -- what an operation computes
 
-and_word : (a b : ℕ) → IsWord a → IsWord (computed And a b)
+and_word : (a b : ℕ) → IsWord a → IsWord (op_result And a b)
 and_word a b h = omega (arith, h, and_le_l a b)
 
-pub computed_word : (op : OpOp) (a b : ℕ) → IsWord a → IsWord b → IsWord (computed op a b)
+pub computed_word : (op : OpOp) (a b : ℕ) → IsWord a → IsWord b → IsWord (op_result op a b)
 computed_word Add a b h k = add_word-lt a b
 computed_word Sub a b h k = sub_word-lt a b
 computed_word Sll a b h k = sll_word-lt a b
@@ -108,20 +109,21 @@ computed_word Remu a b h k = remu_word-lt a b h
 
 -- what is loaded
 
-byte_by : (memory : Memory) (a : ℕ) → HoldsBytes memory → (byte : Option ℕ) → memory a ≡ byte → unwrap_or byte 0 < 256
+byte_by : (memory : ByteMemory) (a : ℕ) → HoldsBytes memory → (byte : Option ℕ) → memory a ≡ byte → unwrap_or byte 0 <
+    256
 byte_by memory a h None at = omega arith
 byte_by memory a h (Some b) at = (h a b at).1
 
-byte_below : (memory : Memory) (a : ℕ) → HoldsBytes memory → unwrap_or (memory a) 0 < 256
+byte_below : (memory : ByteMemory) (a : ℕ) → HoldsBytes memory → unwrap_or (memory a) 0 < 256
 byte_below memory a h = byte_by memory a h _ refl
 
-one_byte : (memory : Memory) (a : ℕ) → HoldsBytes memory → load_of memory a 1 < 2 ^ 8
+one_byte : (memory : ByteMemory) (a : ℕ) → HoldsBytes memory → load_of memory a 1 < 2 ^ 8
 one_byte memory a h = omega (arith, byte_below memory (a + 0) h)
 
-two_bytes : (memory : Memory) (a : ℕ) → HoldsBytes memory → load_of memory a 2 < 2 ^ 16
+two_bytes : (memory : ByteMemory) (a : ℕ) → HoldsBytes memory → load_of memory a 2 < 2 ^ 16
 two_bytes memory a h = omega (arith, byte_below memory (a + 0) h, byte_below memory (a + 1) h)
 
-four_bytes : (memory : Memory) (a : ℕ) → HoldsBytes memory → load_of memory a 4 < 2 ^ 32
+four_bytes : (memory : ByteMemory) (a : ℕ) → HoldsBytes memory → load_of memory a 4 < 2 ^ 32
 four_bytes memory a h =
     omega (
       arith,
@@ -131,7 +133,7 @@ four_bytes memory a h =
       byte_below memory (a + 3) h,
     )
 
-pub loaded_word : (memory : Memory) (op : LoadOp) (a : ℕ) → HoldsBytes memory →
+pub loaded_word : (memory : ByteMemory) (op : LoadOp) (a : ℕ) → HoldsBytes memory →
     IsWord (extended op (load_of memory a (load_size op)))
 loaded_word memory Lb a h = word_of-lt _
 loaded_word memory Lh a h = word_of-lt _
@@ -177,7 +179,7 @@ abbrev pub no_export : ExportPart
 no_export = record { name = []; params = 0; result = false; entry = 0 }
 
 pub entry_code : (image : ImageParts) → IsWellFormed image → (c target index : ℕ) →
-    export_at image c target ≡ Some index → IsSome (word_at image c target)
+    entered_export image c target ≡ Some index → IsSome (word_at image c target)
 entry_code image formed c target index at =
     let found = comp_found (λ comp. comp.exports) []
     (λ exports. position (λ export. export.entry == target) exports ≡ Some index) (λ none. cc none) _ at in
@@ -186,6 +188,6 @@ entry_code image formed c target index at =
     subst (λ address. IsSome (word_at image c address)) (eqb-true _ _ first.1) entry
 
 pub entry_address : (image : ImageParts) → IsWellFormed image → (c target index : ℕ) →
-    export_at image c target ≡ Some index → IsWord target
+    entered_export image c target ≡ Some index → IsWord target
 entry_address image formed c target index at = code_address image formed c target
     (entry_code image formed c target index at)

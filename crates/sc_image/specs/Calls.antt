@@ -8,11 +8,11 @@ use Rattle.sc_image.specs.declared.parts.ExportPart.{ExportPart}
 use Rattle.sc_image.specs.declared.parts.ImportPart.{ImportPart}
 
 -- the functions that compartment c offers, and those that it may call: none where the image has no such compartment
-abbrev pub exports_of : ImageParts → ℕ → List ExportPart
-exports_of image c = option_map_or (λ comp. comp.exports) (slice_get image.comps c) []
+abbrev pub exported_by : ImageParts → ℕ → List ExportPart
+exported_by image c = option_map_or (λ comp. comp.exports) (slice_get image.comps c) []
 
-abbrev pub imports_of : ImageParts → ℕ → List ImportPart
-imports_of image c = option_map_or (λ comp. comp.imports) (slice_get image.comps c) []
+abbrev pub imported_by : ImageParts → ℕ → List ImportPart
+imported_by image c = option_map_or (λ comp. comp.imports) (slice_get image.comps c) []
 
 -- whether c may call the environment's `input` and `output`
 abbrev pub may_input : ImageParts → ℕ → Bool
@@ -22,18 +22,19 @@ abbrev pub may_output : ImageParts → ℕ → Bool
 may_output image c = option_map_or (λ comp. comp.output) (slice_get image.comps c) false
 
 -- whether c may call the export of that index of another compartment
-abbrev pub may_call : ImageParts → (c to index : ℕ) → Bool
-may_call image c to index = list_any (λ import. import.comp == to && import.index == index) (imports_of image c)
+abbrev pub may_call_export : ImageParts → (c to index : ℕ) → Bool
+may_call_export image c to index = list_any (λ import. import.comp == to && import.index == index) (imported_by image c)
 
 -- the index of the export of c that begins at an address, if one does
-abbrev pub export_at : ImageParts → (c address : ℕ) → Option ℕ
-export_at image c address = position (λ export. export.entry == address) (exports_of image c)
+abbrev pub entered_export : ImageParts → (c address : ℕ) → Option ℕ
+entered_export image c address = position (λ export. export.entry == address) (exported_by image c)
 
 -- how many words an export of c takes
-abbrev pub params_of : ImageParts → (c index : ℕ) → ℕ
-params_of image c index = option_map_or (λ export. export.params) (slice_get (exports_of image c) index) 0
+abbrev pub export_params : ImageParts → (c index : ℕ) → ℕ
+export_params image c index = option_map_or (λ export. export.params) (slice_get (exported_by image c) index) 0
 
 -- whether a function of c gives a word back: `main` does
 abbrev pub has_result : ImageParts → (c : ℕ) → Entry → Bool
 has_result image c Main = true
-has_result image c (Export index) = option_map_or (λ export. export.result) (slice_get (exports_of image c) index) false
+has_result image c (Export index) = option_map_or (λ export. export.result) (slice_get (exported_by image c) index)
+    false

@@ -24,5 +24,5 @@ pub use Rattle.rv_code.specs.declared.instr.OpOp.{OpOp}
 pub use Rattle.rv_code.specs.declared.instr.ShiftOp.{ShiftOp}
 pub use Rattle.rv_code.specs.declared.instr.StoreOp.{StoreOp}
 pub use Rattle.rv_code.specs.declared.instr.UpperOp.TheVariants.{Auipc, Lui}
-pub use Rattle.sc_store.specs.Prelude.{HoldsBytes, Memory, is_in, load_of, stored}
+pub use Rattle.sc_store.specs.Prelude.{HoldsBytes, ByteMemory, is_in, load_of, with_bytes}
 pub use Rattle.sc_store.specs.declared.region.Region.{Region}

@@ -6,7 +6,7 @@ use Rattle.std.specs.Prelude.{slice_get, slice_set, Option, Some, None, unwrap_o
 use Rattle.sc_image.specs.declared.parts.ImageParts.{ImageParts}
 use Rattle.sc_image.specs.Layout.{gate}
 use Rattle.sc_image.specs.Calls.{has_result}
-use Rattle.sc_image.specs.State.{State, Crossing, ra, sp, a0, reg, saved_sp, written, with_reg, with_event}
+use Rattle.sc_image.specs.State.{MachineState, Crossing, ra, sp, a0, reg, saved_sp, written, with_reg, with_event}
 
 -- the registers with 0 in each that isn't kept
 abbrev pub kept_from : (ℕ → Bool) → (r : ℕ) → List ℕ → List ℕ
@@ -35,8 +35,8 @@ abbrev pub arguments : (params : ℕ) → List ℕ → List ℕ
 arguments params regs = take params (drop a0 regs)
 
 -- a call of the export of that index of compartment `to`, which takes `params` words and begins at `entry`
-abbrev pub called : State → (to index params entry : ℕ) → State
-called state to index params entry = record {
+abbrev pub on_call : MachineState → (to index params entry : ℕ) → MachineState
+on_call state to index params entry = record {
   regs = written (written (cleared_for_call params state.regs) ra gate) sp (saved_sp state to);
   pc = entry;
   active = to;
@@ -56,13 +56,13 @@ called state to index params entry = record {
 }
 
 -- what a function gives back, where it has a result
-abbrev pub given_back : (result : Bool) → State → Option ℕ
+abbrev pub given_back : (result : Bool) → MachineState → Option ℕ
 given_back result state = if result then Some (reg state a0) else None
 
 -- a return to a caller, where these calls still wait: it goes on there, and the compartment that is left has its saved
 -- sp of before
-abbrev pub returned_to : (result : Bool) → State → Crossing → List Crossing → State
-returned_to result state crossing waiting = record {
+abbrev pub on_return_to : (result : Bool) → MachineState → Crossing → List Crossing → MachineState
+on_return_to result state crossing waiting = record {
   regs = written (cleared_for_return result state.regs) sp crossing.sp;
   pc = crossing.pc;
   active = crossing.caller;
@@ -74,28 +74,28 @@ returned_to result state crossing waiting = record {
 }
 
 -- the run ends: nothing but the trace changes
-abbrev pub ended : State → State
-ended state = with_event state (End state.active (reg state a0))
+abbrev pub on_end : MachineState → MachineState
+on_end state = with_event state (End state.active (reg state a0))
 
 -- a return through the gate: to the latest caller that waits, and where none does the run ends
-abbrev pub returned : ImageParts → State → List Crossing → State
-returned image state [] = ended state
-returned image state (crossing ∷ waiting) = returned_to
+abbrev pub on_return : ImageParts → MachineState → List Crossing → MachineState
+on_return image state [] = on_end state
+on_return image state (crossing ∷ waiting) = on_return_to
     (has_result image crossing.callee crossing.entry) state crossing waiting
 
 -- The environment.
 
 -- a0 is emitted
-abbrev pub output : State → State
-output state = with_event state (Out state.active (reg state a0))
+abbrev pub on_output : MachineState → MachineState
+on_output state = with_event state (Out state.active (reg state a0))
 
 -- the input of that number, and 0 after the last
 abbrev pub input_at : List ℕ → ℕ → ℕ
 input_at inputs k = unwrap_or (slice_get inputs k) 0
 
 -- the next input comes into a0
-abbrev pub input : List ℕ → State → State
-input inputs state =
+abbrev pub on_input : List ℕ → MachineState → MachineState
+on_input inputs state =
     let word = input_at inputs state.input in
-    let read : State = record (with_reg state a0 word) { input = suc state.input } in
+    let read : MachineState = record (with_reg state a0 word) { input = suc state.input } in
     with_event read (In state.active word)

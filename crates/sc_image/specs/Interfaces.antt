@@ -14,35 +14,36 @@ use Rattle.sc_image.specs.declared.parts.ImageParts.{ImageParts}
 use Rattle.sc_image.specs.declared.parts.CompPart.{CompPart}
 use Rattle.sc_image.specs.declared.parts.ExportPart.{ExportPart}
 use Rattle.sc_image.specs.declared.parts.ImportPart.{ImportPart}
-use Rattle.sc_image.specs.WellFormed.{IsWord, IsWellFormed}
+use Rattle.sc_base.specs.Word.{IsWord}
+use Rattle.sc_image.specs.WellFormed.{IsWellFormed}
 use Rattle.sc_image.specs.Machine.{machine}
 
-abbrev pub proto_of : ExportPart → Proto
-proto_of export = record {
+abbrev pub image_proto : ExportPart → Proto
+image_proto export = record {
   name = export.name;
   params = replicate export.params Int;
   result = if export.result then Some Int else None;
 }
 
-abbrev pub import_of : ImportPart → Import
-import_of import = Function import.comp import.index
+abbrev pub image_import : ImportPart → Import
+image_import import = Function import.comp import.index
 
-abbrev pub interface_of : CompPart → Interface
-interface_of comp = record {
+abbrev pub image_interface : CompPart → Interface
+image_interface comp = record {
   name = comp.name;
-  exports = map proto_of comp.exports;
+  exports = map image_proto comp.exports;
   imports = (if comp.input then Input ∷ [] else []) ++
-      ((if comp.output then Output ∷ [] else []) ++ map import_of comp.imports);
+      ((if comp.output then Output ∷ [] else []) ++ map image_import comp.imports);
 }
 
-abbrev pub interfaces_of : ImageParts → Interfaces
-interfaces_of image = record { comps = map interface_of image.comps; main = image.main }
+abbrev pub image_interfaces : ImageParts → Interfaces
+image_interfaces image = record { comps = map image_interface image.comps; main = image.main }
 
 -- A run's trace is one that the image's interfaces allow, wherever the run stops.
-abbrev pub TracesAreLegal : Type 0
-TracesAreLegal =
+abbrev pub MachineTracesAreLegal : Type 0
+MachineTracesAreLegal =
     (image : ImageParts) (inputs : List ℕ) (steps events : ℕ) → IsWellFormed image → All IsWord inputs →
-    legal (interfaces_of image) (machine image inputs steps events).state.trace ≡ true
+    legal (image_interfaces image) (machine image inputs steps events).state.trace ≡ true
 
 -- The same interfaces with `int` in place of every scalar, as an image says them.
 

@@ -30,6 +30,10 @@ stack_top c = data_start c + stack_size
 abbrev pub most_globals : ℕ
 most_globals = 458752
 
+-- where the zone of compartment c begins, above its stack and its globals
+abbrev pub zone_start : ℕ → ℕ
+zone_start c = data_start c + 0x80000
+
 -- the address that a function returns to where it was called from outside: nobody's
 abbrev pub gate : ℕ
 gate = 0x00000100
@@ -42,17 +46,17 @@ abbrev pub comp_of_data : ℕ → ℕ
 comp_of_data address = (address - data_start 0) / stretch
 
 -- the code and the globals of compartment c: none where the image has no such compartment
-abbrev pub code_of : ImageParts → ℕ → List ℕ
-code_of image c = option_map_or (λ comp. comp.code) (slice_get image.comps c) []
+abbrev pub code_in : ImageParts → ℕ → List ℕ
+code_in image c = option_map_or (λ comp. comp.code) (slice_get image.comps c) []
 
-abbrev pub globals_of : ImageParts → ℕ → List ℕ
-globals_of image c = option_map_or (λ comp. comp.globals) (slice_get image.comps c) []
+abbrev pub initial_globals : ImageParts → ℕ → List ℕ
+initial_globals image c = option_map_or (λ comp. comp.globals) (slice_get image.comps c) []
 
 -- the word of c's code at an address, if the address is that of a whole word of it
 unfoldable pub word_at : ImageParts → (c address : ℕ) → Option ℕ
 word_at image c address =
     if nat_eq (address % 4) 0 && nat_le (code_start c) address then
-    slice_get (code_of image c) ((address - code_start c) / 4) else None
+    slice_get (code_in image c) ((address - code_start c) / 4) else None
 
 -- a region of data, and what it holds at the start: these bytes, and then zeros
 pub record Filled : Type 0 where
@@ -67,7 +71,7 @@ data_with c globals =
 
 -- the regions of c's data
 abbrev pub data_regions : ImageParts → ℕ → List Region
-data_regions image c = map (λ filled. filled.region) (data_with c (globals_of image c))
+data_regions image c = map (λ filled. filled.region) (data_with c (initial_globals image c))
 
 -- the `size` bytes from an address on all lie in c's data
 unfoldable pub are_data : ImageParts → (c address size : ℕ) → Bool

@@ -4,12 +4,12 @@ use Rattle.std.specs.Prelude.{ℕ, zero, suc, Bool, true, false, nat_le, ◌-◌
 use Rattle.std.specs.Prelude.{if◌then◌else◌}
 use Rattle.std.specs.Option.{option_map_or}
 use Rattle.sc_image.specs.declared.parts.ImageParts.{ImageParts}
-use Rattle.sc_image.specs.State.{State, start}
+use Rattle.sc_image.specs.State.{MachineState, start}
 use Rattle.sc_image.specs.Step.{Outcome, Goes, Traps, step}
 
 -- the state that a run stops in, and why it stops
-pub record Run : Type 0 where
-  pub state : State
+pub record MachineRun : Type 0 where
+  pub state : MachineState
   pub stop : Stop
 
 abbrev pub is_end : Event → Bool
@@ -26,30 +26,30 @@ stopped events trace = if is_ended trace then Some Ended else if nat_le events (
     None
 
 -- a run from a state: it stops there, or goes on
-abbrev pub stops_or : Option Stop → State → Run → Run
+abbrev pub stops_or : Option Stop → MachineState → MachineRun → MachineRun
 stops_or (Some stop) state run = record { state = state; stop = stop }
 stops_or None state run = run
 
 -- a run from a state after one step from it, which goes on or is a trap
-abbrev pub after : State → Outcome → (State → Run) → Run
+abbrev pub after : MachineState → Outcome → (MachineState → MachineRun) → MachineRun
 after state (Goes next) run = run next
 after state (Traps reason) run = record { state = state; stop = Trap reason state.pc }
 
 -- at most `steps` steps from a state on, with at most `events` events in the whole trace
-unfoldable pub run : ImageParts → List ℕ → (events steps : ℕ) → State → Run
+unfoldable pub run : ImageParts → List ℕ → (events steps : ℕ) → MachineState → MachineRun
 run image inputs events zero state = stops_or (stopped events state.trace) state
     (record { state = state; stop = StepsOut })
 run image inputs events (suc steps) state =
     stops_or (stopped events state.trace) state (after state (step image inputs state) (run image inputs events steps))
 
 -- at most `steps` steps from the start, with at most `events` events
-abbrev pub machine : ImageParts → List ℕ → (steps events : ℕ) → Run
+abbrev pub machine : ImageParts → List ℕ → (steps events : ℕ) → MachineRun
 machine image inputs steps events = run image inputs events steps (start image)
 
 -- a run with more steps: it goes on only where it stopped for want of steps
-abbrev pub unless_stopped : Stop → (earlier later : Run) → Run
+abbrev pub unless_stopped : Stop → (earlier later : MachineRun) → MachineRun
 unless_stopped StepsOut earlier later = later
 unless_stopped _ earlier later = earlier
 
-abbrev pub continued : (State → Run) → Run → Run
+abbrev pub continued : (MachineState → MachineRun) → MachineRun → MachineRun
 continued go earlier = unless_stopped earlier.stop earlier (go earlier.state)

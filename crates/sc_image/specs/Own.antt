@@ -1,9 +1,9 @@
 -- What belongs to a compartment in a state of the machine.
-use Rattle.sc_image.specs.Common.{Memory}
+use Rattle.sc_image.specs.Common.{ByteMemory}
 use Rattle.std.specs.Prelude.{ℕ, nat_eq, List, [], ◌∷◌, ◌++◌, flat_map, Option, Some, None, if◌then◌else◌}
 use Rattle.sc_image.specs.declared.parts.ImageParts.{ImageParts}
 use Rattle.sc_image.specs.Layout.{are_data}
-use Rattle.sc_image.specs.State.{State, Crossing, saved_sp}
+use Rattle.sc_image.specs.State.{MachineState, Crossing, saved_sp}
 
 -- what a compartment has on the cross stack in a call: its return address and sp as the caller, or its saved sp of
 -- before as the callee
@@ -23,7 +23,7 @@ pub record Running : Type 0 where
 
 pub record Own : Type 0 where
   -- the bytes of its data
-  pub bytes : Memory
+  pub bytes : ByteMemory
   -- its saved sp
   pub saved : ℕ
   -- its numbers on the cross stack, the latest call first
@@ -31,11 +31,11 @@ pub record Own : Type 0 where
   pub running : Option Running
 
 -- the bytes at c's addresses
-abbrev pub data_of : ImageParts → (c : ℕ) → Memory → Memory
+abbrev pub data_of : ImageParts → (c : ℕ) → ByteMemory → ByteMemory
 data_of image c memory address = if are_data image c address 1 then memory address else None
 
 -- what belongs to compartment c
-abbrev pub own : ImageParts → State → (c : ℕ) → Own
+abbrev pub own : ImageParts → MachineState → (c : ℕ) → Own
 own image state c = record {
   bytes = data_of image c state.memory;
   saved = saved_sp state c;

@@ -66,8 +66,8 @@ fields_at field (suc count) bytes = do
 -- The fields of an image.
 
 -- an identifier, after its length
-unfoldable pub name_at : BadImage → List ℕ → Read (List ℕ)
-name_at cause bytes = do
+unfoldable pub read_name : BadImage → List ℕ → Read (List ℕ)
+read_name cause bytes = do
   size ← number_at cause 1 bytes
   name ← bytes_at cause size.0 size.1
   if_good cause (is_name name.0) name
@@ -81,23 +81,23 @@ mark_at bytes = do
 -- the name of a compartment: `Env` is the environment
 unfoldable pub comp_name_at : List ℕ → Read (List ℕ)
 comp_name_at bytes = do
-  name ← name_at Compartment bytes
+  name ← read_name Compartment bytes
   if_good Compartment (not (is_same_name name.0 (codes "Env"))) name
 
 -- a function that is offered: its name, how many words it takes, whether it gives one back, and where it begins
-unfoldable pub export_at : List ℕ → Read ExportPart
-export_at bytes = do
-  name ← name_at Exports bytes
+unfoldable pub read_export : List ℕ → Read ExportPart
+read_export bytes = do
+  name ← read_name Exports bytes
   params ← number_that (λ n. nat_le n 8) Exports 1 name.1
   result ← number_that (λ n. nat_le n 1) Exports 1 params.1
   entry ← number_at Exports 4 result.1
   Ok (record { name = name.0; params = params.0; result = result.0 == 1; entry = entry.0 }, entry.1)
 
 -- how many there are, and then each
-unfoldable pub exports_at : List ℕ → Read (List ExportPart)
-exports_at bytes = do
+unfoldable pub read_exports : List ℕ → Read (List ExportPart)
+read_exports bytes = do
   count ← number_that (λ n. nat_le n 4096) Exports 2 bytes
-  fields_at export_at count.0 count.1
+  fields_at read_export count.0 count.1
 
 -- a function that may be called, in an image of `comps` compartments: the one that offers it, and its index there
 unfoldable pub import_at : (comps : ℕ) → List ℕ → Read ImportPart
@@ -124,11 +124,11 @@ globals_at bytes = do
   bytes_at Contents size.0 size.1
 
 -- a compartment of an image of `comps`: bit 0 of the flags allows `input`, and bit 1 `output`
-unfoldable pub comp_at : (comps : ℕ) → List ℕ → Read CompPart
-comp_at comps bytes = do
+unfoldable pub read_comp : (comps : ℕ) → List ℕ → Read CompPart
+read_comp comps bytes = do
   name ← comp_name_at bytes
   flags ← number_that (λ f. nat_le f 3) Compartment 1 name.1
-  exports ← exports_at flags.1
+  exports ← read_exports flags.1
   imports ← imports_at comps exports.1
   code ← code_at imports.1
   globals ← globals_at code.1
@@ -153,7 +153,7 @@ parts_in_version version bytes = do
   count ← number_that (is_between 1 32) Count 1 same.1
   main ← number_that (λ c. nat_lt c count.0) Start 1 count.1
   entry ← number_at Start 4 main.1
-  comps ← fields_at (comp_at count.0) count.0 entry.1
+  comps ← fields_at (read_comp count.0) count.0 entry.1
   Ok (record { main = main.0; entry = entry.0; comps = comps.0 }, comps.1)
 
 -- The image that the bytes are in this version, or the cause of the first field that isn't good. Where all are, no byte
@@ -163,16 +163,16 @@ image_in_version version bytes = do
   parts ← parts_in_version version bytes
   if_good Whole (length parts.1 == 0 && keeps_rules parts.0) parts.0
 
-abbrev pub image_of : List ℕ → Result ImageParts BadImage
-image_of bytes = image_in_version version bytes
+abbrev pub image_in : List ℕ → Result ImageParts BadImage
+image_in bytes = image_in_version version bytes
 
-abbrev pub cause_of : {A : Type 0} → Result A BadImage → Option BadImage
-cause_of (Ok x) = None
-cause_of (Err cause) = Some cause
+abbrev pub read_cause : {A : Type 0} → Result A BadImage → Option BadImage
+read_cause (Ok x) = None
+read_cause (Err cause) = Some cause
 
 -- why the bytes are no image, if they are none
 abbrev pub bad : List ℕ → Option BadImage
-bad bytes = cause_of (image_of bytes)
+bad bytes = read_cause (image_in bytes)
 
 -- What a call returned, seen by view, is what is read, unless memory ran out.
 

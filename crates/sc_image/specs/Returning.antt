@@ -1,11 +1,11 @@
 -- What a call of another compartment keeps, and what the return from it brings back.
 use Rattle.sc_image.specs.Common.{Call, Ret}
 use Rattle.std.specs.Prelude.{◌≡◌, ◌≢◌, ℕ, zero, suc, ◌+◌, ◌<◌, List, [], ◌∷◌, length, Option}
-use Rattle.sc_image.specs.State.{State, reg, saved_sp, sp}
+use Rattle.sc_image.specs.State.{MachineState, reg, saved_sp, sp}
 use Rattle.sc_image.specs.Isolation.{Adds, Point, RunsAt, later, observation_at}
 
 -- a call from compartment `from` to compartment `to` leads from one state to the other
-pub record HasCalled (from to : ℕ) (before after : State) : Type 0 where
+pub record HasCalled (from to : ℕ) (before after : MachineState) : Type 0 where
   pub caller : before.active ≡ from
   pub callee : after.active ≡ to
   -- the caller's saved sp is its sp; nobody else's changes
@@ -21,7 +21,7 @@ StaysAbove depth zero point = depth < length point.state.cross
 StaysAbove depth (suc steps) point = (depth < length point.state.cross) × StaysAbove depth steps (later 1 point)
 
 -- the state after the return of a call from compartment `from` that was made in the state before
-pub record ComesBack (from : ℕ) (before after : State) : Type 0 where
+pub record ComesBack (from : ℕ) (before after : MachineState) : Type 0 where
   -- the caller goes on at its next instruction, with its sp
   pub active : after.active ≡ from
   pub pc : after.pc ≡ before.pc + 4

@@ -1,5 +1,6 @@
 -- The machine's state, and the state that a run starts in.
-use Rattle.sc_image.specs.Common.{Entry, Event, Memory, is_in}
+pub use Rattle.rv_code.specs.Registers.{a0, a7, ra, sp}
+use Rattle.sc_image.specs.Common.{Entry, Event, ByteMemory, is_in}
 use Rattle.std.specs.Prelude.{ℕ, suc, ◌-◌, nat_eq, List, [], ◌∷◌, ◌++◌, replicate, slice_get, slice_index, slice_set}
 use Rattle.std.specs.Prelude.{Option, Some, None, if◌then◌else◌}
 use Rattle.std.specs.Option.{option_and_then}
@@ -18,7 +19,7 @@ pub record Crossing : Type 0 where
   pub entry : Entry
   pub saved : ℕ
 
-pub record State : Type 0 where
+pub record MachineState : Type 0 where
   -- x0 to x31, in this order
   pub regs : List ℕ
   pub pc : ℕ
@@ -27,7 +28,7 @@ pub record State : Type 0 where
   -- of each compartment, the sp that it gets at its next call
   pub saved : List ℕ
   -- the bytes at the addresses that have an owner
-  pub memory : Memory
+  pub memory : ByteMemory
   -- the latest call first
   pub cross : List Crossing
   -- how many inputs were read
@@ -35,51 +36,37 @@ pub record State : Type 0 where
   -- the oldest event first
   pub trace : List Event
 
--- Registers by their numbers.
-
-abbrev pub ra : ℕ
-ra = 1
-
-abbrev pub sp : ℕ
-sp = 2
-
-abbrev pub a0 : ℕ
-a0 = 10
-
-abbrev pub a7 : ℕ
-a7 = 17
-
-abbrev pub reg : State → ℕ → ℕ
+abbrev pub reg : MachineState → ℕ → ℕ
 reg state r = slice_index state.regs r
 
 -- the sp that a compartment gets at its next call
-abbrev pub saved_sp : State → ℕ → ℕ
+abbrev pub saved_sp : MachineState → ℕ → ℕ
 saved_sp state c = slice_index state.saved c
 
 -- the registers with a word in one of them; x0 stays 0
 abbrev pub written : List ℕ → (r word : ℕ) → List ℕ
 written regs r word = if nat_eq r 0 then regs else slice_set regs r word
 
-abbrev pub with_reg : State → (r word : ℕ) → State
+abbrev pub with_reg : MachineState → (r word : ℕ) → MachineState
 with_reg state r word = record state { regs = written state.regs r word }
 
-abbrev pub with_pc : State → ℕ → State
+abbrev pub with_pc : MachineState → ℕ → MachineState
 with_pc state pc = record state { pc = pc }
 
-abbrev pub with_event : State → Event → State
+abbrev pub with_event : MachineState → Event → MachineState
 with_event state event = record state { trace = state.trace ++ event ∷ [] }
 
 -- The start.
 
 -- the byte at an address of these regions
-abbrev pub byte_at : List Filled → Memory
+abbrev pub byte_at : List Filled → ByteMemory
 byte_at [] address = None
 byte_at (filled ∷ others) address =
     if is_in filled.region address then Some (slice_index filled.bytes (address - filled.region.start)) else
     byte_at others address
 
 -- the bytes at the start: those of the compartment's data in whose stretch an address lies
-unfoldable pub start_memory : ImageParts → Memory
+unfoldable pub start_memory : ImageParts → ByteMemory
 start_memory image address =
     let c = comp_of_data address in
     option_and_then (λ comp. byte_at (data_with c comp.globals) address) (slice_get image.comps c)
@@ -90,7 +77,7 @@ stack_tops c [] = []
 stack_tops c (comp ∷ comps) = stack_top c ∷ stack_tops (suc c) comps
 
 -- the run starts at the main entry, with an empty stack and with ra at the gate
-abbrev pub start : ImageParts → State
+abbrev pub start : ImageParts → MachineState
 start image = record {
   regs = 0 ∷ gate ∷ stack_top image.main ∷ replicate 29 0;
   pc = image.entry;

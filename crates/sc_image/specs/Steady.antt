@@ -5,8 +5,8 @@
 use Rattle.sc_image.specs.Common.{Call, End, Entry, Event, Export, HoldsBytes, In, Out, Ret}
 use Rattle.std.specs.Prelude.{◌≡◌, ◌≢◌, ℕ, suc, ◌<◌, List, [], ◌∷◌, length, map, fold, All, slice_get, Option}
 use Rattle.sc_image.specs.declared.parts.ImageParts.{ImageParts}
-use Rattle.sc_image.specs.WellFormed.{IsWord}
-use Rattle.sc_image.specs.State.{State, Crossing, reg, saved_sp}
+use Rattle.sc_base.specs.Word.{IsWord}
+use Rattle.sc_image.specs.State.{MachineState, Crossing, reg, saved_sp}
 
 -- a call that is open: who called, and what was called
 pub record OpenCall : Type 0 where
@@ -34,7 +34,7 @@ abbrev pub call_of : Crossing → OpenCall
 call_of crossing = record { caller = crossing.caller; callee = crossing.callee; entry = crossing.entry }
 
 -- the latest call that is open, if one is
-abbrev pub latest_call : State → Option OpenCall
+abbrev pub latest_call : MachineState → Option OpenCall
 latest_call state = slice_get (map call_of state.cross) 0
 
 -- how many inputs a trace has read
@@ -47,10 +47,10 @@ inputs_in trace = fold count_read 0 trace
 
 -- the latest call is of the active compartment, was made by another one of the image, and that one is who the calls
 -- before it made active
-abbrev pub IsChain : (count active : ℕ) → List Crossing → Type 0
-IsChain count active [] = Unit {0}
-IsChain count active (x ∷ xs) = (x.callee ≡ active) × (x.caller ≢ x.callee) × (x.caller < count) ×
-    IsChain count x.caller xs
+abbrev pub AreNested : (count active : ℕ) → List Crossing → Type 0
+AreNested count active [] = Unit {0}
+AreNested count active (x ∷ xs) = (x.callee ≡ active) × (x.caller ≢ x.callee) × (x.caller < count) ×
+    AreNested count x.caller xs
 
 -- what a call keeps are words
 pub record KeepsWords (crossing : Crossing) : Type 0 where
@@ -58,7 +58,7 @@ pub record KeepsWords (crossing : Crossing) : Type 0 where
   pub sp : IsWord crossing.sp
   pub saved : IsWord crossing.saved
 
-pub record IsSteady (image : ImageParts) (state : State) : Type 0 where
+pub record IsSteadyState (image : ImageParts) (state : MachineState) : Type 0 where
   -- 32 registers that hold words, x0 always 0
   pub regs : length state.regs ≡ 32
   pub words : (r : ℕ) → IsWord (reg state r)
@@ -68,7 +68,7 @@ pub record IsSteady (image : ImageParts) (state : State) : Type 0 where
   pub saved : length state.saved ≡ length image.comps
   pub saved_words : (c : ℕ) → IsWord (saved_sp state c)
   pub bytes : HoldsBytes state.memory
-  pub chain : IsChain (length image.comps) state.active state.cross
+  pub chain : AreNested (length image.comps) state.active state.cross
   pub kept : All KeepsWords state.cross
   -- the cross stack and the inputs agree with the trace
   pub calls : map call_of state.cross ≡ open_calls state.trace

@@ -3,7 +3,7 @@ use Rattle.sc_image.specs.Common.{Auipc, BadCall, BadJump, Branch, BranchOp, Bre
 use Rattle.sc_image.specs.Common.{Instr, Jal, Jalr, Load, LoadOp, Lui, Misaligned, NoImport, Op, OpImm, OpImmOp, OpOp}
 use Rattle.sc_image.specs.Common.{Owner, Shift, ShiftOp, Store, StoreOp, TrapReason, Upper, add_word, decoded, div_word}
 use Rattle.sc_image.specs.Common.{divu_word, load_of, mul_word, mulh_word, mulhsu_word, mulhu_word, rem_word, remu_word}
-use Rattle.sc_image.specs.Common.{signed, signed_of, sll_word, slt_word, sltu_word, sra_word, srl_word, stored}
+use Rattle.sc_image.specs.Common.{signed, signed_of, sll_word, slt_word, sltu_word, sra_word, srl_word, with_bytes}
 use Rattle.sc_image.specs.Common.{sub_word, word_of}
 use Rattle.std.specs.Prelude.{ℕ, ℤ, ◌+◌, ◌*◌, ◌/◌, ◌%◌, ◌^◌, Bool, ◌&&◌, ◌==◌, not, nat_eq, nat_lt, nat_le, int_lt}
 use Rattle.std.specs.Prelude.{int_le, List, Option, Some, None, if◌then◌else◌, bit_and, bit_or, bit_xor, is_some}
@@ -16,45 +16,45 @@ use Rattle.rv_code.specs.declared.instr.OpOp.TheVariants.{Add, Sub, Sll, Slt, Sl
 use Rattle.rv_code.specs.declared.instr.OpOp.TheVariants.{Mulhsu, Mulhu, Div, Divu, Rem, Remu}
 use Rattle.sc_image.specs.declared.parts.ImageParts.{ImageParts}
 use Rattle.sc_image.specs.Layout.{gate, comp_of_code, word_at, are_data}
-use Rattle.sc_image.specs.Calls.{may_input, may_output, may_call, export_at, params_of}
-use Rattle.sc_image.specs.State.{State, ra, a7, reg, with_reg, with_pc}
-use Rattle.sc_image.specs.Cross.{called, returned, output, input}
+use Rattle.sc_image.specs.Calls.{may_input, may_output, may_call_export, entered_export, export_params}
+use Rattle.sc_image.specs.State.{MachineState, ra, a7, reg, with_reg, with_pc}
+use Rattle.sc_image.specs.Cross.{on_call, on_return, on_output, on_input}
 
 -- the state after a step, or the reason why there is no step
 pub data Outcome : Type 0 where
-  Goes : (state : State) → Outcome
+  Goes : (state : MachineState) → Outcome
   Traps : (reason : TrapReason) → Outcome
 
 -- on to the next instruction: code lies below 2 ^ 26, so this doesn't wrap
-abbrev pub next : State → Outcome
+abbrev pub next : MachineState → Outcome
 next state = Goes (with_pc state (state.pc + 4))
 
 -- on to the next instruction, with a word in rd
-abbrev pub gives : State → (rd word : ℕ) → Outcome
+abbrev pub gives : MachineState → (rd word : ℕ) → Outcome
 gives state rd word = next (with_reg state rd word)
 
 -- Arithmetic.
 
 -- what an operation computes from two registers
-abbrev pub computed : OpOp → ℕ → ℕ → ℕ
-computed Add = add_word
-computed Sub = sub_word
-computed Sll = sll_word
-computed Slt = slt_word
-computed Sltu = sltu_word
-computed Xor = bit_xor
-computed Srl = srl_word
-computed Sra = sra_word
-computed Or = bit_or
-computed And = bit_and
-computed Mul = mul_word
-computed Mulh = mulh_word
-computed Mulhsu = mulhsu_word
-computed Mulhu = mulhu_word
-computed Div = div_word
-computed Divu = divu_word
-computed Rem = rem_word
-computed Remu = remu_word
+abbrev pub op_result : OpOp → ℕ → ℕ → ℕ
+op_result Add = add_word
+op_result Sub = sub_word
+op_result Sll = sll_word
+op_result Slt = slt_word
+op_result Sltu = sltu_word
+op_result Xor = bit_xor
+op_result Srl = srl_word
+op_result Sra = sra_word
+op_result Or = bit_or
+op_result And = bit_and
+op_result Mul = mul_word
+op_result Mulh = mulh_word
+op_result Mulhsu = mulhsu_word
+op_result Mulhu = mulhu_word
+op_result Div = div_word
+op_result Divu = divu_word
+op_result Rem = rem_word
+op_result Remu = remu_word
 
 -- an operation on an immediate computes what this one computes from the immediate's word
 abbrev pub on_registers : OpImmOp → OpOp
@@ -108,30 +108,30 @@ refused_by allowed size address =
     else if not allowed then Some Owner
     else None
 
-abbrev pub unless : Option TrapReason → Outcome → Outcome
-unless None outcome = outcome
-unless (Some reason) outcome = Traps reason
+abbrev pub unless_trap : Option TrapReason → Outcome → Outcome
+unless_trap None outcome = outcome
+unless_trap (Some reason) outcome = Traps reason
 
 -- the word that is loaded from an address
-abbrev pub loaded : State → LoadOp → (address : ℕ) → ℕ
-loaded state op address = extended op (load_of state.memory address (load_size op))
+abbrev pub word_loaded : MachineState → LoadOp → (address : ℕ) → ℕ
+word_loaded state op address = extended op (load_of state.memory address (load_size op))
 
-abbrev pub load_by : (allowed : Bool) → State → LoadOp → (rd address : ℕ) → Outcome
-load_by allowed state op rd address = unless (refused_by allowed (load_size op) address)
-    (gives state rd (loaded state op address))
+abbrev pub load_by : (allowed : Bool) → MachineState → LoadOp → (rd address : ℕ) → Outcome
+load_by allowed state op rd address = unless_trap (refused_by allowed (load_size op) address)
+    (gives state rd (word_loaded state op address))
 
 -- the state with the lowest bytes of a word at an address
-abbrev pub with_stored : State → StoreOp → (address word : ℕ) → State
-with_stored state op address word = record state { memory = stored state.memory address (store_size op) word }
+abbrev pub with_stored : MachineState → StoreOp → (address word : ℕ) → MachineState
+with_stored state op address word = record state { memory = with_bytes state.memory address (store_size op) word }
 
-abbrev pub store_by : (allowed : Bool) → State → StoreOp → (address word : ℕ) → Outcome
-store_by allowed state op address word = unless (refused_by allowed (store_size op) address)
+abbrev pub store_by : (allowed : Bool) → MachineState → StoreOp → (address word : ℕ) → Outcome
+store_by allowed state op address word = unless_trap (refused_by allowed (store_size op) address)
     (next (with_stored state op address word))
 
 -- Jumps.
 
 -- to a place in the own code, with the address of the next instruction in rd; what comes of any other target is given
-abbrev pub jump_by : (in_code : Bool) → State → (rd target : ℕ) → (elsewhere : Outcome) → Outcome
+abbrev pub jump_by : (in_code : Bool) → MachineState → (rd target : ℕ) → (elsewhere : Outcome) → Outcome
 jump_by in_code state rd target elsewhere =
     if not (target % 4 == 0) then Traps Misaligned
     else if in_code then Goes (with_pc (with_reg state rd (state.pc + 4)) target)
@@ -150,17 +150,17 @@ pub record Protection : Type 0 where
   pub may_load : (c address size : ℕ) → Bool
   pub may_store : (c address size : ℕ) → Bool
   -- where a jump leads whose target is out of the own code: of JAL, and of JALR
-  pub jal_leaves : State → (rd target : ℕ) → Outcome
-  pub jalr_leaves : State → (rd target : ℕ) → Outcome
+  pub jal_leaves : MachineState → (rd target : ℕ) → Outcome
+  pub jalr_leaves : MachineState → (rd target : ℕ) → Outcome
   -- what a call of the environment does
-  pub environment : State → Outcome
+  pub environment : MachineState → Outcome
 
 module _ (protection : Protection) where
-  abbrev jump_in : State → (rd target : ℕ) → (elsewhere : Outcome) → Outcome
+  abbrev jump_in : MachineState → (rd target : ℕ) → (elsewhere : Outcome) → Outcome
   jump_in state rd target elsewhere = jump_by (is_some
       (protection.fetched state.active target)) state rd target elsewhere
 
-  unfoldable pub execute_by : State → Instr → Outcome
+  unfoldable pub execute_by : MachineState → Instr → Outcome
   execute_by state (Upper Lui rd imm) = gives state rd imm
   execute_by state (Upper Auipc rd imm) = gives state rd (add_word state.pc imm)
   execute_by state (Jal rd imm) =
@@ -176,25 +176,25 @@ module _ (protection : Protection) where
   execute_by state (Store op rs1 rs2 imm) =
       let address = add_word (reg state rs1) (word_of imm) in
       store_by (protection.may_store state.active address (store_size op)) state op address (reg state rs2)
-  execute_by state (OpImm op rd rs1 imm) = gives state rd (computed (on_registers op) (reg state rs1) (word_of imm))
-  execute_by state (Shift op rd rs1 amount) = gives state rd (computed (shift_on_registers op) (reg state rs1) amount)
-  execute_by state (Op op rd rs1 rs2) = gives state rd (computed op (reg state rs1) (reg state rs2))
+  execute_by state (OpImm op rd rs1 imm) = gives state rd (op_result (on_registers op) (reg state rs1) (word_of imm))
+  execute_by state (Shift op rd rs1 amount) = gives state rd (op_result (shift_on_registers op) (reg state rs1) amount)
+  execute_by state (Op op rd rs1 rs2) = gives state rd (op_result op (reg state rs1) (reg state rs2))
   execute_by state (Fence _ _ _) = next state
   execute_by state Ecall = protection.environment state
   execute_by state Ebreak = Traps Breakpoint
 
   -- the word of an instruction, if it is one
-  abbrev pub if_decoded : State → Option Instr → Outcome
+  abbrev pub if_decoded : MachineState → Option Instr → Outcome
   if_decoded state None = Traps Illegal
   if_decoded state (Some instr) = execute_by state instr
 
   -- a word of the own code, if pc is at one
-  abbrev pub if_fetched : State → Option ℕ → Outcome
+  abbrev pub if_fetched : MachineState → Option ℕ → Outcome
   if_fetched state None = Traps BadJump
   if_fetched state (Some word) = if_decoded state (decoded word)
 
   -- the instruction at pc
-  unfoldable pub step_by : State → Outcome
+  unfoldable pub step_by : MachineState → Outcome
   step_by state = if_fetched state (protection.fetched state.active state.pc)
 
 -- The machine of an image, by who owns an address: a compartment executes its own code, and loads and stores in its own
@@ -203,40 +203,44 @@ module _ (protection : Protection) where
 abbrev pub refused : ImageParts → (c size address : ℕ) → Option TrapReason
 refused image c size address = refused_by (are_data image c address size) size address
 
-abbrev pub load : ImageParts → State → LoadOp → (rd address : ℕ) → Outcome
+abbrev pub load : ImageParts → MachineState → LoadOp → (rd address : ℕ) → Outcome
 load image state op rd address = load_by (are_data image state.active address (load_size op)) state op rd address
 
-abbrev pub store : ImageParts → State → StoreOp → (address word : ℕ) → Outcome
+abbrev pub store : ImageParts → MachineState → StoreOp → (address word : ℕ) → Outcome
 store image state op address word = store_by (are_data image state.active address (store_size op)) state op address word
 
-abbrev pub jump : ImageParts → State → (rd target : ℕ) → (elsewhere : Outcome) → Outcome
+abbrev pub jump : ImageParts → MachineState → (rd target : ℕ) → (elsewhere : Outcome) → Outcome
 jump image state rd target elsewhere = jump_by (is_some (word_at image state.active target)) state rd target elsewhere
 
 -- to where an export of another compartment begins, which is a call of it: the export's index is given, or that there
 -- is none
-abbrev pub export_called : ImageParts → State → (to target : ℕ) → Option ℕ → Outcome
+abbrev pub export_called : ImageParts → MachineState → (to target : ℕ) → Option ℕ → Outcome
 export_called image state to target None = Traps BadJump
 export_called image state to target (Some index) =
-    if may_call image state.active to index then Goes (called state to index (params_of image to index) target) else
+    if may_call_export image state.active to index then Goes (on_call state to index (export_params image to index)
+    target) else
     Traps NoImport
 
 -- a jump out of the own code calls where rd is ra
-abbrev pub calls : ImageParts → State → (rd target : ℕ) → Outcome
-calls image state rd target =
+abbrev pub jump_outside : ImageParts → MachineState → (rd target : ℕ) → Outcome
+jump_outside image state rd target =
     if nat_eq rd ra then export_called image state (comp_of_code target) target
-    (export_at image (comp_of_code target) target)
+    (entered_export image (comp_of_code target) target)
     else Traps BadJump
 
 -- JALR returns, too, where rd is x0 and the target is the gate
-abbrev pub leaves : ImageParts → State → (rd target : ℕ) → Outcome
+abbrev pub leaves : ImageParts → MachineState → (rd target : ℕ) → Outcome
 leaves image state rd target =
-    if nat_eq rd 0 && nat_eq target gate then Goes (returned image state state.cross) else calls image state rd target
+    if nat_eq rd 0 && nat_eq target gate then Goes (on_return image state state.cross) else jump_outside image state rd
+    target
 
 -- a7 says what is called: 1 is `input`, 2 is `output`
-abbrev pub environment_call : ImageParts → List ℕ → State → Outcome
+abbrev pub environment_call : ImageParts → List ℕ → MachineState → Outcome
 environment_call image inputs state =
-    if nat_eq (reg state a7) 1 then (if may_input image state.active then next (input inputs state) else Traps NoImport)
-    else if nat_eq (reg state a7) 2 then (if may_output image state.active then next (output state) else Traps NoImport)
+    if nat_eq (reg state a7) 1 then (if may_input image state.active then next (on_input inputs state) else Traps
+    NoImport)
+    else if nat_eq (reg state a7) 2 then (if may_output image state.active then next (on_output state) else Traps
+    NoImport)
     else Traps BadCall
 
 abbrev pub by_owner : ImageParts → List ℕ → Protection
@@ -244,13 +248,13 @@ by_owner image inputs = record {
   fetched = word_at image;
   may_load = are_data image;
   may_store = are_data image;
-  jal_leaves = calls image;
+  jal_leaves = jump_outside image;
   jalr_leaves = leaves image;
   environment = environment_call image inputs;
 }
 
-abbrev pub execute : ImageParts → List ℕ → State → Instr → Outcome
+abbrev pub execute : ImageParts → List ℕ → MachineState → Instr → Outcome
 execute image inputs = execute_by (by_owner image inputs)
 
-abbrev pub step : ImageParts → List ℕ → State → Outcome
+abbrev pub step : ImageParts → List ℕ → MachineState → Outcome
 step image inputs = step_by (by_owner image inputs)

@@ -1,4 +1,5 @@
 -- Which parts make an image.
+use Rattle.sc_base.specs.Word.{IsWord}
 use Rattle.sc_image.specs.Common.{is_name}
 use Rattle.std.specs.Prelude.{List, ◌≡◌, ◌≢◌, ℕ, ◌*◌, ◌^◌, ◌<◌, ◌≤◌, IsTrue, length, map, All, AllPairs, codes}
 use Rattle.std.specs.Prelude.{slice_get, Some, IsSome}
@@ -27,9 +28,6 @@ pub record IsExport (image : ImageParts) (c : ℕ) (export : ExportPart) : Type 
 pub record IsImport (image : ImageParts) (c : ℕ) (import : ImportPart) : Type 0 where
   pub other : import.comp ≢ c
   pub offered : IsSomeAnd (slice_get image.comps import.comp) (λ comp. import.index < length comp.exports)
-
-abbrev pub IsWord : ℕ → Type 0
-IsWord word = word < 2 ^ 32
 
 abbrev pub IsByte : ℕ → Type 0
 IsByte byte = byte < 2 ^ 8

@@ -1,4 +1,4 @@
-ghost use Rattle.sc_image.specs.Prelude.{import_of, interface_of, interfaces_of, proto_of};
+ghost use Rattle.sc_image.specs.Prelude.{image_import, image_interface, image_interfaces, image_proto};
 ghost use Rattle.std.specs.Prelude.{◌≡◌, ◌≤◌, [], ◌∷◌, ◌++◌, if◌then◌else◌, map, replicate, All, IfOk, OnOk};
 ghost use Rattle.sc_event.specs.declared.interface.Scalar.TheVariants.{Int};
 
@@ -12,7 +12,7 @@ use std::alloc::Global;
 /// The interfaces of the image's compartments. An image doesn't distinguish `int` and `unsigned int`: every parameter
 /// and every result is an `int`.
 pub fn image_interfaces(alloc: Global, image: &Image) -> Result<Interfaces, OutOfMemory>
-    ensures { IfOk result (λ interfaces. interfaces ≡ interfaces_of image.now) }
+    ensures { IfOk result (λ interfaces. interfaces ≡ image_interfaces image.now) }
 {
     let parts = image.parts();
     let mut comps = InterfaceList::new(alloc);
@@ -27,7 +27,7 @@ pub fn image_interfaces(alloc: Global, image: &Image) -> Result<Interfaces, OutO
 
 fn interface_of(alloc: Global, comp: &CompPart) -> Result<Interface, OutOfMemory>
     requires { All (λ export. export.params ≤ 8) comp.now.exports }
-    ensures { IfOk result (λ interface. interface ≡ interface_of comp.now) }
+    ensures { IfOk result (λ interface. interface ≡ image_interface comp.now) }
 {
     let exports = protos_of(alloc, comp.exports.as_slice())?;
     let imports = imports_of(alloc, comp)?;
@@ -40,7 +40,7 @@ fn interface_of(alloc: Global, comp: &CompPart) -> Result<Interface, OutOfMemory
 
 fn protos_of(alloc: Global, exports: &[ExportPart]) -> Result<Protos, OutOfMemory>
     requires { All (λ export. export.params ≤ 8) exports.now }
-    ensures { IfOk result (λ protos. protos ≡ map proto_of exports.now) }
+    ensures { IfOk result (λ protos. protos ≡ map image_proto exports.now) }
 {
     let mut protos = Protos::new(alloc);
     for export in exports {
@@ -51,7 +51,7 @@ fn protos_of(alloc: Global, exports: &[ExportPart]) -> Result<Protos, OutOfMemor
 
 fn proto_of(alloc: Global, export: &ExportPart) -> Proto
     requires { export.now.params ≤ 8 }
-    ensures { result ≡ proto_of export.now }
+    ensures { result ≡ image_proto export.now }
 {
     Proto {
         name: export.name,
@@ -78,7 +78,7 @@ fn ints(alloc: Global, count: u8) -> Params
 }
 
 fn imports_of(alloc: Global, comp: &CompPart) -> Result<Imports, OutOfMemory>
-    ensures { IfOk result (λ imports. imports ≡ (interface_of comp.now).imports) }
+    ensures { IfOk result (λ imports. imports ≡ (image_interface comp.now).imports) }
 {
     let mut imports = Imports::new(alloc);
     push_if(&mut imports, comp.input, Import::Input)?;
@@ -97,7 +97,7 @@ fn push_if(imports: &mut Imports, is_there: bool, import: Import) -> Result<(), 
 }
 
 fn push_functions(imports: &mut Imports, others: &[ImportPart]) -> Result<(), OutOfMemory>
-    ensures { OnOk result (imports.new ≡ imports.old ++ map import_of others.now) }
+    ensures { OnOk result (imports.new ≡ imports.old ++ map image_import others.now) }
 {
     for other in others {
         imports.push(import_of(*other))?;
@@ -106,7 +106,7 @@ fn push_functions(imports: &mut Imports, others: &[ImportPart]) -> Result<(), Ou
 }
 
 fn import_of(import: ImportPart) -> Import
-    ensures { result ≡ import_of import }
+    ensures { result ≡ image_import import }
 {
     Import::Function {
         comp: import.comp,

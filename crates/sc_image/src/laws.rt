@@ -2,9 +2,10 @@
 //! proofs of callers.
 
 ghost use Rattle.sc_image.specs.Prelude.{BadOrImage, BytesNameOneImage, CallsComeBack, EmittingComposes, EntersByEvent};
-ghost use Rattle.sc_image.specs.Prelude.{FollowsFromOwn, ImageInMemory, LeavesData, LeavesOthers, LegalByWords};
+ghost use Rattle.sc_image.specs.Prelude.{FollowsFromOwn, ImageInMemory, IsIsolating, LeavesData, LeavesOthers};
+ghost use Rattle.sc_image.specs.Prelude.{LegalByWords};
 ghost use Rattle.sc_image.specs.Prelude.{RunsAreSteady, StepsByInstruction, StepsEmit, StretchesCompose};
-ghost use Rattle.sc_image.specs.Prelude.{TracesAreLegal};
+ghost use Rattle.sc_image.specs.Prelude.{MachineTracesAreLegal, step};
 
 /// Bytes are those of one image at most.
 #[tactic(auto, using(crate::proofs::Whole::one_image_each))]
@@ -21,7 +22,7 @@ pub fn bad_or_image()
 /// A run's trace is one that the image's interfaces allow.
 #[tactic(auto, using(crate::proofs::Traces::all_traces_legal))]
 pub fn traces_are_legal()
-    ensures { TracesAreLegal }
+    ensures { MachineTracesAreLegal }
 {}
 
 /// Which traces are legal doesn't look at the types of scalars.
@@ -60,6 +61,12 @@ pub fn follows_from_own()
 #[tactic(auto, using(crate::proofs::Enters::enters_by_event))]
 pub fn enters_by_event()
     ensures { EntersByEvent }
+{}
+
+/// So the machine is one that isolates the compartments of an image.
+#[tactic(auto, using(crate::proofs::Enters::isolates))]
+pub fn isolates()
+    ensures { IsIsolating step }
 {}
 
 /// A call keeps the caller's stack pointer. The step that closes the call is a return of the callee,

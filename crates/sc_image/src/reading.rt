@@ -1,12 +1,13 @@
 //! Images read from their bytes. After the first two, each function takes a field from the start of the bytes that are
 //! left.
 
-ghost use Rattle.sc_image.specs.Prelude.{Gives, bad, bytes_at, code_at, comp_at, comp_name_at, exports_at, fields_at};
-ghost use Rattle.sc_image.specs.Prelude.{globals_at, image_bytes, image_of, import_at, imports_at, mark_at, name_at};
+ghost use Rattle.sc_image.specs.Prelude.{Gives, bad, bytes_at, code_at, read_comp, comp_name_at, read_exports};
+ghost use Rattle.sc_image.specs.Prelude.{fields_at};
+ghost use Rattle.sc_image.specs.Prelude.{globals_at, image_bytes, image_in, import_at, imports_at, mark_at, read_name};
 ghost use Rattle.sc_image.specs.Prelude.{number_at, number_that, parts_in_version, version};
 ghost use Rattle.sc_base.specs.Prelude.{is_between};
 ghost use Rattle.std.specs.Prelude.{◌≡◌, ◌≤◌, ◌==◌, nat_le, nat_lt, Some, None, IfOk, OnOk, IsErrOf};
-ghost use Rattle.sc_image.specs.Reading.{export_at};
+ghost use Rattle.sc_image.specs.Reading.{read_export};
 ghost use Rattle.sc_image.specs.declared.fault.BadImage.TheVariants.{Version, Count, Contents};
 ghost use Rattle.sc_image.specs.declared.fault.ImageFault.TheVariants.{Bad};
 
@@ -35,7 +36,7 @@ pub fn read_image(alloc: Global, bytes: &[u8]) -> Result<Image, ImageFault>
 
 #[tactic(auto, unfolding(crate::specs::Reading::image_in_version))]
 fn image_of(alloc: Global, bytes: &[u8]) -> Result<ImageParts, ImageFault>
-    ensures { Gives (λ parts. parts) result (image_of bytes.now) }
+    ensures { Gives (λ parts. parts) result (image_in bytes.now) }
 {
     let mut rest = bytes;
     let parts = parts_at(alloc, &mut rest)?;
@@ -92,7 +93,7 @@ fn count_at(bytes: &mut &[u8]) -> Result<u8, ImageFault>
 
 fn comps_at(alloc: Global, count: u8, bytes: &mut &[u8]) -> Result<CompParts, ImageFault>
     requires { count ≤ 32 }
-    ensures { Gives (λ x. (x, bytes.new.now)) result (fields_at (comp_at count) count bytes.old.now) }
+    ensures { Gives (λ x. (x, bytes.new.now)) result (fields_at (read_comp count) count bytes.old.now) }
 {
     let mut comps = CompParts::new(alloc);
     for _ in 0..count {
@@ -102,10 +103,10 @@ fn comps_at(alloc: Global, count: u8, bytes: &mut &[u8]) -> Result<CompParts, Im
     Ok(comps)
 }
 
-#[tactic(auto, unfolding(crate::specs::Reading::comp_at))]
+#[tactic(auto, unfolding(crate::specs::Reading::read_comp))]
 fn comp_at(alloc: Global, comps: u8, bytes: &mut &[u8]) -> Result<CompPart, ImageFault>
     requires { comps ≤ 32 }
-    ensures { Gives (λ x. (x, bytes.new.now)) result (comp_at comps bytes.old.now) }
+    ensures { Gives (λ x. (x, bytes.new.now)) result (read_comp comps bytes.old.now) }
 {
     let name = comp_name_at(bytes)?;
     let flags = u8_up_to(BadImage::Compartment, 3, bytes)?;
@@ -135,16 +136,16 @@ fn comp_name_at(bytes: &mut &[u8]) -> Result<Name, ImageFault>
     Ok(name)
 }
 
-#[tactic(auto, unfolding(crate::specs::Reading::exports_at))]
+#[tactic(auto, unfolding(crate::specs::Reading::read_exports))]
 fn exports_at(alloc: Global, bytes: &mut &[u8]) -> Result<ExportParts, ImageFault>
-    ensures { Gives (λ x. (x, bytes.new.now)) result (exports_at bytes.old.now) }
+    ensures { Gives (λ x. (x, bytes.new.now)) result (read_exports bytes.old.now) }
 {
     let count = u16_up_to(BadImage::Exports, 4096, bytes)?;
     several_exports(alloc, count, bytes)
 }
 
 fn several_exports(alloc: Global, count: u16, bytes: &mut &[u8]) -> Result<ExportParts, ImageFault>
-    ensures { Gives (λ x. (x, bytes.new.now)) result (fields_at export_at count bytes.old.now) }
+    ensures { Gives (λ x. (x, bytes.new.now)) result (fields_at read_export count bytes.old.now) }
 {
     let mut exports = ExportParts::new(alloc);
     for _ in 0..count {
@@ -154,9 +155,9 @@ fn several_exports(alloc: Global, count: u16, bytes: &mut &[u8]) -> Result<Expor
     Ok(exports)
 }
 
-#[tactic(auto, unfolding(crate::specs::Reading::export_at))]
+#[tactic(auto, unfolding(crate::specs::Reading::read_export))]
 fn export_at(bytes: &mut &[u8]) -> Result<ExportPart, ImageFault>
-    ensures { Gives (λ x. (x, bytes.new.now)) result (export_at bytes.old.now) }
+    ensures { Gives (λ x. (x, bytes.new.now)) result (read_export bytes.old.now) }
 {
     let name = name_at(BadImage::Exports, bytes)?;
     let params = u8_up_to(BadImage::Exports, 8, bytes)?;
@@ -242,9 +243,9 @@ fn globals_at(alloc: Global, bytes: &mut &[u8]) -> Result<Text, ImageFault>
     Ok(globals)
 }
 
-#[tactic(auto, unfolding(crate::specs::Reading::name_at))]
+#[tactic(auto, unfolding(crate::specs::Reading::read_name))]
 fn name_at(cause: BadImage, bytes: &mut &[u8]) -> Result<Name, ImageFault>
-    ensures { Gives (λ x. (x, bytes.new.now)) result (name_at cause bytes.old.now) }
+    ensures { Gives (λ x. (x, bytes.new.now)) result (read_name cause bytes.old.now) }
 {
     let size = u8_at(cause, bytes)?;
     let text = bytes_at(cause, usize::from(size), bytes)?;

@@ -1,7 +1,7 @@
 //! The rules on a whole image.
 
-ghost use Rattle.sc_image.specs.Prelude.{are_distinct, code_of, comps_keep, exports_keep, imports_keep, is_entry};
-ghost use Rattle.sc_image.specs.Prelude.{is_import, is_same_import, is_same_name, keeps_rules};
+ghost use Rattle.sc_image.specs.Prelude.{are_distinct_by, code_in, comps_keep, exports_keep, imports_keep, is_entry};
+ghost use Rattle.sc_image.specs.Prelude.{is_importable, is_same_import, is_same_name, keeps_rules};
 ghost use Rattle.std.specs.Prelude.{◌≡◌, ◌≤◌, ◌==◌, ◌&&◌, length, map, IfOk};
 ghost use Rattle.std.specs.HashSet.{IsFromIterResult};
 ghost use Rattle.std.specs.List.{list_all};
@@ -83,7 +83,7 @@ fn are_entries(parts: &ImageParts, c: u8, exports: &[ExportPart]) -> bool
 }
 
 fn are_imports(parts: &ImageParts, c: u8, imports: &[ImportPart]) -> bool
-    ensures { result ≡ list_all (is_import parts.now c) imports.now }
+    ensures { result ≡ list_all (is_importable parts.now c) imports.now }
 {
     imports.iter().all(|import| is_import(parts, c, *import))
 }
@@ -102,7 +102,7 @@ fn is_entry(parts: &ImageParts, c: u8, entry: u32) -> bool
 }
 
 fn code_len(parts: &ImageParts, c: u8) -> usize
-    ensures { result ≡ length (code_of parts.now c) }
+    ensures { result ≡ length (code_in parts.now c) }
 {
     match parts.comps.get(usize::from(c)) {
         None => 0,
@@ -112,7 +112,7 @@ fn code_len(parts: &ImageParts, c: u8) -> usize
 
 // Whether it is an export of another compartment.
 fn is_import(parts: &ImageParts, c: u8, import: ImportPart) -> bool
-    ensures { result ≡ is_import parts.now c import }
+    ensures { result ≡ is_importable parts.now c import }
 {
     let owner = usize::from(import.comp.number());
     match parts.comps.get(owner) {
@@ -123,7 +123,7 @@ fn is_import(parts: &ImageParts, c: u8, import: ImportPart) -> bool
 
 #[tactic(auto, using(crate::proofs::Keeping::counted))]
 fn have_distinct_names(alloc: Global, comps: &[CompPart]) -> Result<bool, AllocError>
-    ensures { IfOk result (λ distinct. distinct ≡ are_distinct is_same_name (map (λ comp. comp.name) comps.now)) }
+    ensures { IfOk result (λ distinct. distinct ≡ are_distinct_by is_same_name (map (λ comp. comp.name) comps.now)) }
 {
     let names = names_of(alloc, comps)?;
     Ok(names.len() == comps.len())
@@ -137,7 +137,8 @@ fn names_of(alloc: Global, comps: &[CompPart]) -> Result<HashSet<Name>, AllocErr
 
 #[tactic(auto, using(crate::proofs::Keeping::counted))]
 fn have_distinct_export_names(alloc: Global, exports: &[ExportPart]) -> Result<bool, AllocError>
-    ensures { IfOk result (λ distinct. distinct ≡ are_distinct is_same_name (map (λ export. export.name) exports.now)) }
+    ensures { IfOk result (λ distinct. distinct ≡ are_distinct_by is_same_name (map (λ export. export.name)
+        exports.now)) }
 {
     let names = export_names_of(alloc, exports)?;
     Ok(names.len() == exports.len())
@@ -151,7 +152,7 @@ fn export_names_of(alloc: Global, exports: &[ExportPart]) -> Result<HashSet<Name
 
 #[tactic(auto, using(crate::proofs::Keeping::counted))]
 fn have_distinct_entries(alloc: Global, exports: &[ExportPart]) -> Result<bool, AllocError>
-    ensures { IfOk result (λ distinct. distinct ≡ are_distinct ◌==◌ (map (λ export. export.entry) exports.now)) }
+    ensures { IfOk result (λ distinct. distinct ≡ are_distinct_by ◌==◌ (map (λ export. export.entry) exports.now)) }
 {
     let entries = entries_of(alloc, exports)?;
     Ok(entries.len() == exports.len())
@@ -165,7 +166,7 @@ fn entries_of(alloc: Global, exports: &[ExportPart]) -> Result<HashSet<u32>, All
 
 #[tactic(auto, using(crate::proofs::Keeping::counted))]
 fn are_distinct_imports(alloc: Global, imports: &[ImportPart]) -> Result<bool, AllocError>
-    ensures { IfOk result (λ distinct. distinct ≡ are_distinct is_same_import imports.now) }
+    ensures { IfOk result (λ distinct. distinct ≡ are_distinct_by is_same_import imports.now) }
 {
     let pairs = pairs_of(alloc, imports)?;
     Ok(pairs.len() == imports.len())

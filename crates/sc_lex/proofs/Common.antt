@@ -23,12 +23,13 @@ pub use Rattle.sc_lex.specs.Prelude.{AreSections, AreSpans, Cuts, IsBadHeading, 
 pub use Rattle.sc_lex.specs.Prelude.{IsSpan, IsStuck, IsToken, Lex, NoHeading, NoPiece, NoToken, Refusal, RefusesBytes}
 pub use Rattle.sc_lex.specs.Prelude.{allows_directive, begins_block_comment, begins_heading, begins_line_comment}
 pub use Rattle.sc_lex.specs.Prelude.{block_comment, digit_value, digits_of, directive_kind, ends_comment, gap}
-pub use Rattle.sc_lex.specs.Prelude.{has_suffix, is_blank, is_digit, is_directive, is_empty, is_export, is_heading}
+pub use Rattle.sc_lex.specs.Prelude.{has_suffix, is_blank, is_digit_of, is_directive, is_empty, is_export, is_heading}
 pub use Rattle.sc_lex.specs.Prelude.{is_hexadecimal, is_import, is_inside_line, is_pragma, is_white_space, line_after}
 pub use Rattle.sc_lex.specs.Prelude.{line_at, line_comment, line_len, mark_kind, marks, may_follow, newlines, none}
-pub use Rattle.sc_lex.specs.Prelude.{nothing, number, only_name, placed, radix_of, section, token, token_at}
+pub use Rattle.sc_lex.specs.Prelude.{nothing, digits_number, only_name, placed, radix_of, section, token, token_at}
 pub use Rattle.sc_lex.specs.Prelude.{white_space, without_suffix}
-unfoldable pub use Rattle.sc_lex.specs.Prelude.{is_integer, is_mark, is_number, kind_of, line_kind, word_kind, words}
+unfoldable pub use Rattle.sc_lex.specs.Prelude.{is_integer_constant, is_mark, is_number_within, token_kind, line_kind}
+unfoldable pub use Rattle.sc_lex.specs.Prelude.{word_kind, words}
 pub use Rattle.sc_lex.specs.declared.token.Token.{Token}
 pub use Rattle.sc_lex.specs.declared.token.TokenKind.{TokenKind}
 pub use Rattle.sc_lex.specs.declared.token.TokenKind.TheVariants.{Compartment, Export, Ident, Import, Integer, Mark}

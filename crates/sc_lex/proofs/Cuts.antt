@@ -1,7 +1,8 @@
 -- Bytes are cut in one way, and what the loop over them keeps.
 use Rattle.sc_lex.proofs.Common.{Bool, Cuts, IsCut, IsGap, IsPiece, IsStuck, IsToken, Lex, List, NoPiece, Refusal}
 use Rattle.sc_lex.proofs.Common.{RefusesBytes, Some, Token, TokenKind, [], allows_directive, ap, append-nil, ap₂, arith}
-use Rattle.sc_lex.proofs.Common.{block_comment, cases_lt, drop, gap, kind_of, length, length-drop, line_after, line_at}
+use Rattle.sc_lex.proofs.Common.{block_comment, cases_lt, drop, gap, token_kind, length, length-drop, line_after}
+use Rattle.sc_lex.proofs.Common.{line_at}
 use Rattle.sc_lex.proofs.Common.{line_comment, newlines, none-some, nothing, placed, refl, subst, sym, take, token}
 use Rattle.sc_lex.proofs.Common.{token_at, white_space, ℕ, ⊎_elim, ◌++◌, ◌+◌, ◌-◌, ◌<◌, ◌∙◌, ◌∷◌, ◌≡◌, ◌≤◌}
 use Rattle.sc_lex.specs.declared.cut.Piece.{Piece}
@@ -30,7 +31,7 @@ one_piece directives text pieces.Gap (pieces.Token k) n m h g = absurd (gap_and_
 one_piece directives text (pieces.Token k) pieces.Gap n m h g = absurd (gap_and_token g h)
 one_piece directives text (pieces.Token k) (pieces.Token j) n m h g =
     let len : n ≡ m = omega (arith, token_le n m h g, token_le m n g h) in
-    let spelled : kind_of _ ≡ Some k = rw len at h.spelled in
+    let spelled : token_kind _ ≡ Some k = rw len at h.spelled in
     let other = g.spelled in
     let kinds : k ≡ j = cc in
     (ap pieces.Token kinds, len)

@@ -2,7 +2,7 @@
 use Rattle.sc_lex.proofs.Common.{Bool, IsGap, IsToken, IsTrue, List, None, Some, TokenKind, [], ap, arith}
 use Rattle.sc_lex.proofs.Common.{begins_block_comment, begins_line_comment, block_comment, cases_lt, codes, cond_both}
 use Rattle.sc_lex.proofs.Common.{drop, ends_comment, false, false≢true, get_or, get_or-take, is_directive}
-use Rattle.sc_lex.proofs.Common.{is_inside_line, is_white_space, kind_of, length, length-drop, length-take-le}
+use Rattle.sc_lex.proofs.Common.{is_inside_line, is_white_space, token_kind, length, length-drop, length-take-le}
 use Rattle.sc_lex.proofs.Common.{line_comment, line_len, list_all, list_all_at, none-some, not_from_false}
 use Rattle.sc_lex.proofs.Common.{not_from_true, one-add, prefix_len, prefix_len-le-length, prefix_len_passes}
 use Rattle.sc_lex.proofs.Common.{prefix_len_stops, refl, slice_index, suc, sym, take, true, white_space, zero, ℕ}
@@ -31,14 +31,16 @@ module _ (p : ℕ → Bool) where
   run_positive [] h q = absurd (omega arith)
   run_positive (b ∷ bs) h q = rw q (omega arith)
 
-module _ (p : ℕ → Bool) (text : List ℕ) (runs : (m : ℕ) (kind : TokenKind) → 0 < m → kind_of (take m text) ≡ Some kind →
+module _ (p : ℕ → Bool) (text : List ℕ) (runs : (m : ℕ) (kind : TokenKind) → 0 < m → token_kind (take m text) ≡ Some
+    kind →
     IsRun p (take m text) kind) where
   run_longer : (m : ℕ) → prefix_len p text < m → m ≤ length text → list_all p (take m text) ≡ false
   run_longer m h within =
       let i : prefix_len p text < length _ = omega (arith, length-take-le m text within) in
       list_all_at p _ _ 0 i (ap p (get_or-take m text _ 0 h) ∙ prefix_len_stops p text 0 (omega arith))
 
-  pub run_token : (n : ℕ) (kind : TokenKind) (directives : Bool) → n ≡ prefix_len p text → 0 < n → kind_of (take n text)
+  pub run_token : (n : ℕ) (kind : TokenKind) (directives : Bool) → n ≡ prefix_len p text → 0 < n → token_kind (take n
+      text)
       ≡ Some kind → (IsTrue (is_directive kind) → IsTrue directives) → (IsTrue (begins_block_comment text) → ⊥) →
       (IsTrue (begins_line_comment text) → ⊥) → IsToken directives text kind n
   run_token n kind directives is positive spelled allowed block line = record {
@@ -63,7 +65,7 @@ module _ (p : ℕ → Bool) (text : List ℕ) (runs : (m : ℕ) (kind : TokenKin
       (λ longer. false≢true (sym (run_longer m longer t.within) ∙ run.all))
 
   -- nothing of this class is a token, where its longest run is none
-  pub run_none : kind_of (take (prefix_len p text) text) ≡ None → (directives : Bool) (kind : TokenKind) (m : ℕ) →
+  pub run_none : token_kind (take (prefix_len p text) text) ≡ None → (directives : Bool) (kind : TokenKind) (m : ℕ) →
       IsToken directives text kind m → ⊥
   run_none none directives kind m t =
       let len = run_only _ kind m t in

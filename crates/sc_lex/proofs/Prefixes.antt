@@ -2,7 +2,7 @@
 use Rattle.sc_lex.proofs.Common.{Bool, IfNone, IfSome, IsToken, IsTrue, List, Mark, NoToken, None, Option, Some}
 use Rattle.sc_lex.proofs.Common.{TokenKind, and_from, and_parts, ap, arith, begins_block_comment, begins_line_comment}
 use Rattle.sc_lex.proofs.Common.{cases_lt, directive_kind, eq-eqb, false, false≢true, get_or-take, is_directive}
-use Rattle.sc_lex.proofs.Common.{is_inside_line, is_mark, is_name_byte, is_white_space, kind_of, le-leb, leb-true}
+use Rattle.sc_lex.proofs.Common.{is_inside_line, is_mark, is_name_byte, is_white_space, token_kind, le-leb, leb-true}
 use Rattle.sc_lex.proofs.Common.{length, length-take, length-take-le, line_kind, line_len, list_all, mark_kind, nat_le}
 use Rattle.sc_lex.proofs.Common.{none-some, prefix_len, refl, slice_index, sym, take, true, word_kind, ℕ, ⊎_elim, ◌&&◌}
 use Rattle.sc_lex.proofs.Common.{◌<◌, ◌==◌, ◌∙◌, ◌≡◌, ◌≤◌}
@@ -15,10 +15,10 @@ head_of text n h = get_or-take n text 0 0 h
 
 -- words
 module _ (text : List ℕ) (start : is_name_byte (slice_index text 0) ≡ true) where
-  word_kinds : (m : ℕ) → 0 < m → kind_of (take m text) ≡ word_kind (take m text)
+  word_kinds : (m : ℕ) → 0 < m → token_kind (take m text) ≡ word_kind (take m text)
   word_kinds m h = kind_of-word _ (ap is_name_byte (head_of text m h) ∙ start)
 
-  word_runs : (m : ℕ) (kind : TokenKind) → 0 < m → kind_of (take m text) ≡ Some kind →
+  word_runs : (m : ℕ) (kind : TokenKind) → 0 < m → token_kind (take m text) ≡ Some kind →
       IsRun is_name_byte (take m text) kind
   word_runs m kind h e = (word_run _ kind (sym (word_kinds m h) ∙ e)).run
 
@@ -41,10 +41,10 @@ module _ (text : List ℕ) (start : is_name_byte (slice_index text 0) ≡ true) 
 
 -- directives
 module _ (text : List ℕ) (start : slice_index text 0 ≡ 35) where
-  line_kinds : (m : ℕ) → 0 < m → kind_of (take m text) ≡ directive_kind (take m text)
+  line_kinds : (m : ℕ) → 0 < m → token_kind (take m text) ≡ directive_kind (take m text)
   line_kinds m h = kind_of-directive _ (head_of text m h ∙ start)
 
-  line_runs : (m : ℕ) (kind : TokenKind) → 0 < m → kind_of (take m text) ≡ Some kind →
+  line_runs : (m : ℕ) (kind : TokenKind) → 0 < m → token_kind (take m text) ≡ Some kind →
       IsRun is_inside_line (take m text) kind
   line_runs m kind h e = (directive_run _ kind (sym (line_kinds m h) ∙ e)).run
 
@@ -88,11 +88,12 @@ stands text len = nat_le len (length text) && is_mark (take len text)
 
 module _ (text : List ℕ) (some : 0 < length text) (word : is_name_byte (slice_index text 0) ≡ false)
     (line : slice_index text 0 ≡ 35 → ⊥) where
-  mark_kinds : (m : ℕ) → 0 < m → kind_of (take m text) ≡ mark_kind (take m text)
+  mark_kinds : (m : ℕ) → 0 < m → token_kind (take m text) ≡ mark_kind (take m text)
   mark_kinds m h = kind_of-mark _ (omega (arith, length-take m text))
       (ap is_name_byte (head_of text m h) ∙ word) (λ e. line (sym (head_of text m h) ∙ e))
 
-  mark_kinds_none : (m : ℕ) → 0 < m → m ≤ length text → (m ≤ 3 → stands text m ≡ false) → kind_of (take m text) ≡ None
+  mark_kinds_none : (m : ℕ) → 0 < m → m ≤ length text → (m ≤ 3 → stands text m ≡ false) → token_kind (take m text) ≡
+      None
   mark_kinds_none m h within none =
       mark_kinds m h ∙ no_mark _ (λ is.
       let low = (mark_is _ is).short in

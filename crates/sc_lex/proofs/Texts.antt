@@ -2,10 +2,13 @@
 use Rattle.sc_lex.proofs.Common.{Bool, Compartment, Export, Ident, Import, Integer, List, None, Option, Reserved, Some}
 use Rattle.sc_lex.proofs.Common.{TokenKind, [], and_from, and_parts, ap, arith, bytes_eq, bytes_eq-Decides, cond}
 use Rattle.sc_lex.proofs.Common.{cond_both, digits_of, directive_kind, drop, drop_all, drop_more, eqb-true, false}
-use Rattle.sc_lex.proofs.Common.{false_from_ne_true, false≢true, get_or, has_suffix, is_between, is_digit, is_directive}
-use Rattle.sc_lex.proofs.Common.{is_export, is_hexadecimal, is_import, is_inside_line, is_integer, is_mark, is_name}
-use Rattle.sc_lex.proofs.Common.{is_name_byte, is_nondigit, is_number, is_pragma, is_reserved, is_some, is_white_space}
-use Rattle.sc_lex.proofs.Common.{kind_of, le-leb, leb-true, length, line_kind, list_all, list_all-append, list_any}
+use Rattle.sc_lex.proofs.Common.{false_from_ne_true, false≢true, get_or, has_suffix, is_between, is_digit_of}
+use Rattle.sc_lex.proofs.Common.{is_directive}
+use Rattle.sc_lex.proofs.Common.{is_export, is_hexadecimal, is_import, is_inside_line, is_integer_constant, is_mark}
+use Rattle.sc_lex.proofs.Common.{is_name}
+use Rattle.sc_lex.proofs.Common.{is_name_byte, is_nondigit, is_number_within, is_pragma, is_reserved, is_some}
+use Rattle.sc_lex.proofs.Common.{is_white_space}
+use Rattle.sc_lex.proofs.Common.{token_kind, le-leb, leb-true, length, line_kind, list_all, list_all-append, list_any}
 use Rattle.sc_lex.proofs.Common.{ltb-true, mark_kind, marks, may_follow, nat_le, nat_lt, none-some, not, not-not}
 use Rattle.sc_lex.proofs.Common.{not-true, or_cases, or_left, or_right, radix_of, refl, reserved_words, slice_index}
 use Rattle.sc_lex.proofs.Common.{subst, sym, take, take-append-drop, true, without_suffix, word_kind, words, ℕ, ⊎_elim}
@@ -35,7 +38,7 @@ mark_shaped : (text : List ℕ) → is_mark text ≡ true → mark_shape text �
 unfolding is_mark
 mark_shaped text h = table_says mark_shape marks text refl h
 
-digit_is_name_byte : (base b : ℕ) → base ≤ 16 → is_digit base b ≡ true → is_name_byte b ≡ true
+digit_is_name_byte : (base b : ℕ) → base ≤ 16 → is_digit_of base b ≡ true → is_name_byte b ≡ true
 digit_is_name_byte base b low h = go (is_between 48 57 b) (is_between 97 102 b) (is_between 65 70 b) refl refl refl h
   where
     wider : (bottom top far : ℕ) → top ≤ far → is_between bottom top b ≡ true → is_between bottom far b ≡ true
@@ -91,13 +94,13 @@ base_of_low body = go _ _
     go false true = omega arith
     go false false = omega arith
 
-integer_bytes : (text : List ℕ) → is_integer text ≡ true → list_all is_name_byte text ≡ true
-unfolding is_integer is_number
+integer_bytes : (text : List ℕ) → is_integer_constant text ≡ true → list_all is_name_byte text ≡ true
+unfolding is_integer_constant is_number_within
 integer_bytes text h =
     let body = without_suffix text in
     let low = base_of_low body in
     let digits = (and_parts (not _) _ (and_parts _ _ h).0).1 in
-    let named = list_all_along (is_digit _) is_name_byte (λ b q. digit_is_name_byte _ b low q)
+    let named = list_all_along (is_digit_of _) is_name_byte (λ b q. digit_is_name_byte _ b low q)
     (digits_of body) digits in
     cond_both (has_suffix text) _ _ (λ t. list_all is_name_byte t ≡ true → list_all is_name_byte text ≡ true)
     (λ e q. suffix_bytes text e q) (λ e q. q) (cond_both (is_hexadecimal body) _ _
@@ -124,7 +127,7 @@ pub record IsWord (text : List ℕ) (kind : TokenKind) : Type 0 where
 
 pub word_run : (text : List ℕ) (kind : TokenKind) → word_kind text ≡ Some kind → IsWord text kind
 unfolding word_kind
-word_run text kind h = go (is_reserved text) (is_name text) (is_integer text) refl refl refl h
+word_run text kind h = go (is_reserved text) (is_name text) (is_integer_constant text) refl refl refl h
   where
     made : list_all is_name_byte text ≡ true → (k : TokenKind) →
         ((byte : ℕ) → may_follow k byte ≡ not (is_name_byte byte)) → is_directive k ≡ false →
@@ -133,7 +136,7 @@ word_run text kind h = go (is_reserved text) (is_name text) (is_integer text) re
         let same : k ≡ kind = cc in
         subst (IsWord text) same (record { run = record { all = all; follow = follow }; no_directive = none })
 
-    go : (r n i : Bool) → is_reserved text ≡ r → is_name text ≡ n → is_integer text ≡ i →
+    go : (r n i : Bool) → is_reserved text ≡ r → is_name text ≡ n → is_integer_constant text ≡ i →
         ◌≡◌ {A = Option TokenKind} (cond r (Some Reserved) (cond n (Some Ident) (cond i (Some Integer) None)))
         (Some kind) → IsWord text kind
     go true n i p q r e = made (name_bytes text (reserved_is_name text p)) Reserved (λ b. refl) refl e
@@ -212,15 +215,15 @@ no_word text some h = none_from _ (λ kind e. false≢true (sym h ∙ word_start
 no_line : (text : List ℕ) → (slice_index text 0 ≡ 35 → ⊥) → directive_kind text ≡ None
 no_line text h = none_from _ (λ kind e. h (directive_run text kind e).first)
 
-pub kind_of-word : (text : List ℕ) → is_name_byte (slice_index text 0) ≡ true → kind_of text ≡ word_kind text
-unfolding kind_of
+pub kind_of-word : (text : List ℕ) → is_name_byte (slice_index text 0) ≡ true → token_kind text ≡ word_kind text
+unfolding token_kind
 kind_of-word text h =
     let mark = no_mark text (λ m. false≢true (sym (mark_is text m).no_name ∙ h)) in
     let line = no_line text (λ e. false≢true (rw e at h)) in
     rw (mark, line) (or_none _)
 
-pub kind_of-directive : (text : List ℕ) → slice_index text 0 ≡ 35 → kind_of text ≡ directive_kind text
-unfolding kind_of
+pub kind_of-directive : (text : List ℕ) → slice_index text 0 ≡ 35 → token_kind text ≡ directive_kind text
+unfolding token_kind
 kind_of-directive [] h = absurd (omega arith)
 kind_of-directive (b ∷ bs) h =
     let mark = no_mark (b ∷ bs) (λ m. false≢true (sym (mark_is _ m).no_directive ∙ rw h)) in
@@ -228,12 +231,12 @@ kind_of-directive (b ∷ bs) h =
     rw (mark, word)
 
 pub kind_of-mark : (text : List ℕ) → 0 < length text → is_name_byte (slice_index text 0) ≡ false →
-    (slice_index text 0 ≡ 35 → ⊥) → kind_of text ≡ mark_kind text
-unfolding kind_of
+    (slice_index text 0 ≡ 35 → ⊥) → token_kind text ≡ mark_kind text
+unfolding token_kind
 kind_of-mark text some h q = rw (no_word text some h, no_line text q) (or_none _)
 
-pub kind_of-nil : kind_of [] ≡ None
-unfolding kind_of word_kind is_reserved is_name is_integer is_number is_mark
+pub kind_of-nil : token_kind [] ≡ None
+unfolding token_kind word_kind is_reserved is_name is_integer_constant is_number_within is_mark
 kind_of-nil = refl
 
 white_space_is : (P : ℕ → Type 0) → P 32 → P 9 → P 11 → P 12 → P 13 → P 10 → (b : ℕ) → is_white_space b ≡ true → P b
@@ -246,7 +249,7 @@ white_space_is P a b c d e f k h =
 abbrev NoStart : ℕ → Type 0
 NoStart b = (is_name_byte b ≡ false) × (b ≡ 35 → ⊥)
 
-pub kind_of-white_space : (text : List ℕ) → is_white_space (slice_index text 0) ≡ true → kind_of text ≡ None
+pub kind_of-white_space : (text : List ℕ) → is_white_space (slice_index text 0) ≡ true → token_kind text ≡ None
 kind_of-white_space [] h = absurd (false≢true h)
 kind_of-white_space (b ∷ bs) h =
     let no = white_space_is NoStart (refl, λ e. omega arith) (refl, λ e. omega arith) (refl, λ e. omega arith)

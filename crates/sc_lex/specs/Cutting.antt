@@ -4,7 +4,7 @@ use Rattle.std.specs.Prelude.{slice_index, IsTrue, Some, None}
 use Rattle.std.specs.List.{starts_with}
 use Rattle.sc_lex.specs.Lines.{is_white_space, line_len, newlines, line_after, line_at, begins_line}
 use Rattle.sc_lex.specs.Headings.{begins_heading}
-use Rattle.sc_lex.specs.Kinds.{kind_of, may_follow, is_directive}
+use Rattle.sc_lex.specs.Kinds.{token_kind, may_follow, is_directive}
 use Rattle.sc_lex.specs.declared.token.Token.{Token}
 use Rattle.sc_lex.specs.declared.token.TokenKind.{TokenKind}
 use Rattle.sc_lex.specs.declared.refusal.Refusal.{Refusal}
@@ -31,8 +31,8 @@ pub data IsGap (text : List ℕ) : ℕ → Type 0 where
 -- The prefix of length `len` of a text is the token at its start. Directives are allowed in some places only.
 pub record IsToken (directives : Bool) (text : List ℕ) (kind : TokenKind) (len : ℕ) : Type 0 where
   pub within : len ≤ length text
-  pub spelled : kind_of (take len text) ≡ Some kind
-  pub longest : (longer : ℕ) → len < longer → longer ≤ length text → kind_of (take longer text) ≡ None
+  pub spelled : token_kind (take len text) ≡ Some kind
+  pub longest : (longer : ℕ) → len < longer → longer ≤ length text → token_kind (take longer text) ≡ None
   pub apart : len < length text → IsTrue (may_follow kind (slice_index text len))
   pub allowed : IsTrue (is_directive kind) → IsTrue directives
   pub no_block_comment : IsTrue (begins_block_comment text) → ⊥

@@ -1,7 +1,7 @@
 -- Compartment lines, which begin the sections of a text.
 use Rattle.std.specs.Prelude.{ℕ, Bool, not, ◌&&◌, nat_eq, codes, List, drop, slice_index, Option, None, if◌then◌else◌}
 use Rattle.std.specs.List.{starts_with}
-use Rattle.sc_lex.specs.Lines.{is_blank, first_line, begins_line}
+use Rattle.sc_lex.specs.Lines.{is_blank, line_text, begins_line}
 use Rattle.sc_lex.specs.Words.{words, only_name}
 
 -- these bytes begin a compartment line, good or bad
@@ -19,4 +19,4 @@ heading_name line =
 
 -- the name of the compartment line at this place
 abbrev pub name_at : List ℕ → ℕ → Option (List ℕ)
-name_at text at = heading_name (first_line (drop at text))
+name_at text at = heading_name (line_text (drop at text))

@@ -30,35 +30,40 @@ digit_value byte =
     if is_between 48 57 byte then byte - 48
     else (if is_between 97 102 byte then byte - 87 else (if is_between 65 70 byte then byte - 55 else 16))
 
-abbrev pub is_digit : ℕ → ℕ → Bool
-is_digit base byte = nat_lt (digit_value byte) base
+abbrev pub is_digit_of : ℕ → ℕ → Bool
+is_digit_of base byte = nat_lt (digit_value byte) base
 
 -- the number that digits stand for
-abbrev pub number : ℕ → List ℕ → ℕ
-number base digits = fold (λ value digit. value * base + digit_value digit) 0 digits
+abbrev pub digits_number : ℕ → List ℕ → ℕ
+digits_number base digits = fold (λ value digit. value * base + digit_value digit) 0 digits
 
 -- at least one digit, all digits of the base, and a number that isn't too great
-unfoldable pub is_number : ℕ → ℕ → List ℕ → Bool
-is_number base greatest digits =
-    not (is_empty digits) && list_all (λ digit. is_digit base digit) digits && nat_le (number base digits) greatest
+unfoldable pub is_number_within : ℕ → ℕ → List ℕ → Bool
+is_number_within base greatest digits =
+    not (is_empty digits) && list_all (λ digit. is_digit_of base digit) digits && nat_le (digits_number base digits)
+    greatest
 
 -- the greatest number with this base: without a suffix a decimal constant has the type `int`
 abbrev pub greatest_of : Bool → ℕ → ℕ
 greatest_of suffix base = if suffix || not (base == 10) then 4294967295 else 2147483647
 
-unfoldable pub is_integer : List ℕ → Bool
-is_integer text =
+unfoldable pub is_integer_constant : List ℕ → Bool
+is_integer_constant text =
     let body = without_suffix text in
-    is_number (radix_of body) (greatest_of (has_suffix text) (radix_of body)) (digits_of body)
+    is_number_within (radix_of body) (greatest_of (has_suffix text) (radix_of body)) (digits_of body)
 
 -- the number that the digits of a constant stand for
 abbrev pub value_of : List ℕ → ℕ
-value_of text = let body = without_suffix text in number (radix_of body) (digits_of body)
+value_of text = let body = without_suffix text in digits_number (radix_of body) (digits_of body)
 
 -- a constant with a suffix is `unsigned int`, and so is one whose value no `int` has
-abbrev pub is_unsigned : List ℕ → Bool
-is_unsigned text = has_suffix text || nat_lt 2147483647 (value_of text)
+abbrev pub is_unsigned_constant : List ℕ → Bool
+is_unsigned_constant text = has_suffix text || nat_lt 2147483647 (value_of text)
 
 -- what a constant says
 unfoldable pub integer_of : List ℕ → Option IntegerConstant
-integer_of text = if is_integer text then Some (record { value = value_of text; unsigned = is_unsigned text }) else None
+integer_of text = if is_integer_constant text then Some (record {
+  value = value_of text;
+  unsigned = is_unsigned_constant
+      text;
+}) else None

@@ -8,7 +8,7 @@ use Rattle.sc_lex.specs.Lines.{is_inside_line}
 use Rattle.sc_lex.specs.Words.{words}
 use Rattle.sc_lex.specs.Headings.{heading_name}
 use Rattle.sc_lex.specs.Tables.{is_mark}
-use Rattle.sc_lex.specs.Integers.{is_integer}
+use Rattle.sc_lex.specs.Integers.{is_integer_constant}
 use Rattle.sc_lex.specs.declared.token.TokenKind.{TokenKind}
 use Rattle.sc_lex.specs.declared.token.TokenKind.TheVariants.{Ident, Reserved, Integer, Mark, Compartment, Export}
 use Rattle.sc_lex.specs.declared.token.TokenKind.TheVariants.{Import}
@@ -41,7 +41,7 @@ unfoldable pub word_kind : List ℕ → Option TokenKind
 word_kind text =
     if is_reserved text then Some Reserved
     else (if is_name text then Some Ident
-    else (if is_integer text then Some Integer
+    else (if is_integer_constant text then Some Integer
     else None))
 
 abbrev pub mark_kind : List ℕ → Option TokenKind
@@ -51,8 +51,8 @@ abbrev pub directive_kind : List ℕ → Option TokenKind
 directive_kind text = if is_pragma text then line_kind text else None
 
 -- the kind of token that all of a text is, where it is one
-unfoldable pub kind_of : List ℕ → Option TokenKind
-kind_of text = option_or (word_kind text) (option_or (mark_kind text) (directive_kind text))
+unfoldable pub token_kind : List ℕ → Option TokenKind
+token_kind text = option_or (word_kind text) (option_or (mark_kind text) (directive_kind text))
 
 -- this byte may follow a token of this kind directly: letters, digits and `_` stand apart from identifiers
 -- and integers, and directives are whole lines

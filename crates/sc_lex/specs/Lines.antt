@@ -18,8 +18,8 @@ abbrev pub line_len : List ℕ → ℕ
 line_len text = prefix_len is_inside_line text
 
 -- the first line, without its newline
-abbrev pub first_line : List ℕ → List ℕ
-first_line text = take (line_len text) text
+abbrev pub line_text : List ℕ → List ℕ
+line_text text = take (line_len text) text
 
 abbrev pub newlines : List ℕ → ℕ
 newlines text = count_by (λ byte. byte == 10) text

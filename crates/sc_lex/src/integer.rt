@@ -1,7 +1,7 @@
 //! Integer constants.
 
 ghost use Rattle.sc_lex.specs.Prelude.{digit_value, digits_of, greatest_of, has_suffix, integer_of, is_hexadecimal};
-ghost use Rattle.sc_lex.specs.Prelude.{is_integer, is_number, number, radix_of, without_suffix};
+ghost use Rattle.sc_lex.specs.Prelude.{is_integer_constant, is_number_within, digits_number, radix_of, without_suffix};
 ghost use Rattle.std.specs.Prelude.{◌≡◌, ◌≤◌, IsTrue, IfSome, Some, None, length, if◌then◌else◌};
 
 // The greatest value of type `int`.
@@ -15,9 +15,9 @@ pub struct IntegerConstant {
 }
 
 /// Whether the text is an integer constant of at most 32 bits, of type `int` or `unsigned int`.
-#[tactic(auto, unfolding(crate::specs::Integers::is_integer))]
+#[tactic(auto, unfolding(crate::specs::Integers::is_integer_constant))]
 pub fn is_integer(text: &[u8]) -> bool
-    ensures { result ≡ is_integer text.now }
+    ensures { result ≡ is_integer_constant text.now }
 {
     let body = without_suffix(text);
     let base = radix_of(body);
@@ -25,7 +25,7 @@ pub fn is_integer(text: &[u8]) -> bool
 }
 
 /// What the text says as an integer constant, `None` where it is none of at most 32 bits.
-#[tactic(auto, unfolding(crate::specs::Integers::is_integer, crate::specs::Integers::integer_of))]
+#[tactic(auto, unfolding(crate::specs::Integers::is_integer_constant, crate::specs::Integers::integer_of))]
 pub fn integer_of(text: &[u8]) -> Option<IntegerConstant>
     ensures { result ≡ integer_of text.now }
 {
@@ -113,7 +113,8 @@ fn digit_value(byte: u8) -> u64
 fn number_within(base: u64, greatest: u64, digits: &[u8]) -> Option<u64>
     requires base { (1 ≤ base) × (base ≤ 16) }
     requires greatest { greatest ≤ 4294967295 }
-    ensures value { result ≡ (if is_number base greatest digits.now then Some (number base digits.now) else None) }
+    ensures value { result ≡ (if is_number_within base greatest digits.now then Some (digits_number base digits.now)
+        else None) }
     ensures within { IfSome result (λ value. value ≤ 4294967295) }
 {
     let mut value = 0;

@@ -22,16 +22,16 @@ pub use Rattle.std.specs.Option.{option_map_or}
 pub use Rattle.sc_base.proofs.Bools.{and_first, and_rest}
 pub use Rattle.sc_base.proofs.Lists.{drop-step, get_after, list_all_along, position-cons, take-step}
 pub use Rattle.sc_base.proofs.Texts.{bytes_eq_self, same_either_way}
-pub use Rattle.sc_base.specs.Prelude.{is_name, number_of}
+pub use Rattle.sc_base.specs.Prelude.{is_name, number_by_name}
 pub use Rattle.sc_event.specs.Prelude.{comp_at, export_at, imports, is_function, is_input, is_output}
 pub use Rattle.sc_event.specs.declared.interface.Import.{Import}
 pub use Rattle.sc_event.specs.declared.interface.Interfaces.{Interfaces}
 pub use Rattle.sc_core.specs.Prelude.{Block, IsWellTyped, are_distinct, base_cells, base_within, base_zeros}
-pub use Rattle.sc_core.specs.Prelude.{callable_in, callable_names, cells_of, entry_in, export_fits, export_names}
-pub use Rattle.sc_core.specs.Prelude.{first_blocks, function_fits, global_block, global_fits, globals_of}
+pub use Rattle.sc_core.specs.Prelude.{callable_in, callable_names, cells_at, cells_of, entry_in, export_fits}
+pub use Rattle.sc_core.specs.Prelude.{export_names, first_blocks, function_fits, global_block, global_fits, globals_of}
 pub use Rattle.sc_core.specs.Prelude.{has_distinct_names, has_few_compartments, has_fitting_sections, has_main}
-pub use Rattle.sc_core.specs.Prelude.{import_fits, import_name, interface_fits, is_main, is_plain_name, main_fits}
-pub use Rattle.sc_core.specs.Prelude.{main_name, member_zeros, members_fit, most_compartments, most_exports}
+pub use Rattle.sc_core.specs.Prelude.{import_fits, import_name, interface_fits, is_main, is_plain_name, live_cells}
+pub use Rattle.sc_core.specs.Prelude.{main_fits, main_name, member_zeros, members_fit, most_compartments, most_exports}
 pub use Rattle.sc_core.specs.Prelude.{most_params, place_named, place_of_export, proto_signature, repeated}
 pub use Rattle.sc_core.specs.Prelude.{same_signature, same_types, scalar_ty, section_fits, sections_fit, signature_of}
 pub use Rattle.sc_core.specs.Prelude.{starred_cells, starred_within, starred_zeros, struct_cells, struct_fits}
@@ -45,8 +45,9 @@ pub use Rattle.rv_code.proofs.OneEach.{HasWord-own, decoded-word_of, word-below}
 pub use Rattle.rv_code.specs.Prelude.{IsImmediate, IsInstr, IsJumpOffset, IsUpper, word_of}
 pub use Rattle.sc_store.specs.Prelude.{byte_of, load_of}
 pub use Rattle.sc_image.specs.Prelude.{IsByte, IsComp, IsDistinct, IsEntry, IsExport, IsImport, IsWellFormed, IsWord}
-pub use Rattle.sc_image.specs.Prelude.{code_of, code_start, comp_of_data, data_start, exports_of, has_result, may_call}
-pub use Rattle.sc_image.specs.Prelude.{may_input, may_output, most_globals, params_of, stack_size, stack_top}
+pub use Rattle.sc_image.specs.Prelude.{code_in, code_start, comp_of_data, data_start, exported_by, has_result}
+pub use Rattle.sc_image.specs.Prelude.{may_call_export}
+pub use Rattle.sc_image.specs.Prelude.{may_input, may_output, most_globals, export_params, stack_size, stack_top}
 pub use Rattle.sc_image.specs.Prelude.{start_memory, stretch}
 unfoldable pub use Rattle.sc_image.specs.Prelude.{word_at}
 pub use Rattle.sc_image.specs.declared.parts.CompPart.{CompPart}

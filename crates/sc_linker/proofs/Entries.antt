@@ -2,13 +2,13 @@
 use Rattle.sc_linker.proofs.Common.{All, CodeTree, CompPart, EntriesStand, Export, ExportPart, IsLinkable, IsWellTyped}
 use Rattle.sc_linker.proofs.Common.{IsWhole, Jal, List, None, Option, ProgramTree, Proto, Some, StandsAt, []}
 use Rattle.sc_linker.proofs.Common.{addresses_at, ap, arith, codes_at, cond, entry_address, entry_in, entry_jump}
-use Rattle.sc_linker.proofs.Common.{eq-eqb, export_at, export_parts, exports_at, exports_of, false, found_passes}
+use Rattle.sc_linker.proofs.Common.{eq-eqb, export_at, export_parts, exports_at, exported_by, false, found_passes}
 use Rattle.sc_linker.proofs.Common.{function_address, has_result, is_some, length, linked_image, ne_eqb, option_map}
-use Rattle.sc_linker.proofs.Common.{option_map_or, params_of, place_named, place_of_export, pos, position}
+use Rattle.sc_linker.proofs.Common.{option_map_or, export_params, place_named, place_of_export, pos, position}
 use Rattle.sc_linker.proofs.Common.{position-cons, refl, section_at, slice_get, slice_get_within, suc, sym, true, zero}
 use Rattle.sc_linker.proofs.Common.{ℕ, ℤ, ◌+◌, ◌-ℤ◌, ◌<◌, ◌==◌, ◌^◌, ◌∙◌, ◌∷◌, ◌≡◌}
 use Rattle.sc_word.specs.Prelude.{add_word, word_of}
-use Rattle.sc_image.specs.Prelude.{export_at as image_export}
+use Rattle.sc_image.specs.Prelude.{entered_export as image_export}
 use Rattle.sc_word.proofs.Words.{word_of-unsigned_sub}
 use Rattle.sc_linker.proofs.Comps.{Fits, export_there, exports_are, number_below, of_export, part_is, section_is}
 use Rattle.sc_linker.proofs.Exports.{export_part, few_exports, part_first}
@@ -52,10 +52,10 @@ module _ (program : ProgramTree) (codes : List CodeTree) (typed : IsWellTyped pr
     own = ap (λ ps. slice_get ps index) (sym (exports_are program c fits)) ∙
         export_there program typed c index proto is fits
 
-    parts_are : exports_of (linked_image program codes) c ≡ export_parts c 0 fits.interface.exports
+    parts_are : exported_by (linked_image program codes) c ≡ export_parts c 0 fits.interface.exports
     parts_are = ap (λ o. option_map_or (λ (comp : CompPart). comp.exports) o []) (part_is program codes c fits)
 
-    part_is_there : slice_get (exports_of (linked_image program codes) c) index ≡ Some (export_part c index proto)
+    part_is_there : slice_get (exported_by (linked_image program codes) c) index ≡ Some (export_part c index proto)
     part_is_there =
         ap (λ parts. slice_get parts index) parts_are ∙ part_first c fits.interface.exports index ∙
         ap (option_map (export_part c index)) own
@@ -65,7 +65,7 @@ module _ (program : ProgramTree) (codes : List CodeTree) (typed : IsWellTyped pr
         ap (position (λ (export : ExportPart). export.entry == entry_address c index)) parts_are
         ∙ entry_found c 0 index fits.interface.exports index proto (omega arith) own
 
-    params : params_of (linked_image program codes) c index ≡ length proto.params
+    params : export_params (linked_image program codes) c index ≡ length proto.params
     params = ap (λ o. option_map_or (λ (export : ExportPart). export.params) o 0) part_is_there
 
     result : has_result (linked_image program codes) c (Export index) ≡ is_some proto.result

@@ -1,13 +1,15 @@
 -- In a linked image each global lies at its place in its compartment's data, and holds its words at the start.
-use Rattle.sc_linker.proofs.Common.{All, Block, Cell, CodeTree, CompPart, GlobalsAreWords, GlobalsStand, IsLinkable}
-use Rattle.sc_linker.proofs.Common.{IsStart, IsWellTyped, List, None, Option, ProgramTree, Some, TypedGlobal}
-use Rattle.sc_linker.proofs.Common.{TypedSection, [], addresses_at, ap, arith, cases_lt, cell_word, cells, cells_of}
-use Rattle.sc_linker.proofs.Common.{comp_at, first_blocks, flat_map, global_block, global_fits, global_words}
-use Rattle.sc_linker.proofs.Common.{globals_of, inl, inr, length, linked_image, list_all, little_bytes, load_of}
+use Rattle.sc_linker.proofs.Common.{All, Cell, CodeTree, CompPart, GlobalsAreWords, GlobalsStand, IsLinkable, IsStart}
+use Rattle.sc_linker.proofs.Common.{IsWellTyped, List, None, Option, ProgramTree, Some, TypedGlobal, TypedSection, []}
+use Rattle.sc_linker.proofs.Common.{addresses_at, ap, arith, cases_lt, cell_word, cells, cells_at, cells_of, comp_at}
+use Rattle.sc_linker.proofs.Common.{first_blocks, flat_map, global_block, global_fits, global_words, globals_of, inl}
+use Rattle.sc_linker.proofs.Common.{inr, length, linked_image, list_all, little_bytes, live_cells, load_of}
 use Rattle.sc_linker.proofs.Common.{most_globals, option_map, option_map_or, refl, section_at, section_or_none}
 use Rattle.sc_linker.proofs.Common.{slice_get, slice_get-map, stack_top, start_memory, struct_zeros, structs_fit, subst}
 use Rattle.sc_linker.proofs.Common.{sym, take, true, ℕ, ◌*◌, ◌+◌, ◌<◌, ◌^◌, ◌∙◌, ◌≡◌, ◌≢◌, ◌≤◌, ◌⊎◌}
-use Rattle.sc_image.specs.Prelude.{globals_of as globals_in}
+use Rattle.std.proofs.Common.{Err, Ok}
+use Rattle.sc_image.specs.Prelude.{initial_globals as globals_in}
+use Rattle.sc_core.specs.declared.cause.Cause.TheVariants.{Dangling}
 use Rattle.sc_core.specs.declared.value.Cell.TheVariants as cell
 use Rattle.sc_linker.proofs.Comps.{Fits, fits_or_none, number_below, part_is, section_is}
 use Rattle.sc_linker.proofs.Exports.{globals_so, structs_so}
@@ -16,23 +18,21 @@ use Rattle.sc_linker.proofs.Places.{all_here, total_before, total_take, total_up
 use Rattle.sc_linker.proofs.Starts.{AreSized, block_start, bytes_count, sized, word_there, words_count}
 
 -- a block of the start is that of a global
-record IsOf (section : TypedSection) (number : ℕ) (block : Block) : Type 0 where
+record IsOf (section : TypedSection) (number : ℕ) (cs : List Cell) : Type 0 where
   pub global : TypedGlobal
   pub is : slice_get section.globals number ≡ Some global
-  pub same : global_block (struct_zeros [] section.structs) global ≡ block
+  pub same : (global_block (struct_zeros [] section.structs) global).cells ≡ cs
 
-is_of : (section : TypedSection) (number : ℕ) (block : Block) →
-    slice_get (first_blocks (Some section)) number ≡ Some block → IsOf section number block
-is_of section number block is =
+is_of : (section : TypedSection) (number : ℕ) (cs : List Cell) →
+    cells_at (first_blocks (Some section)) number ≡ Ok cs → IsOf section number cs
+is_of section number cs is =
     by (slice_get section.globals number) refl
-    (sym (slice_get-map (global_block (struct_zeros [] section.structs)) section.globals number) ∙ is) where
-      by : (o : Option TypedGlobal) → slice_get section.globals number ≡ o →
-          option_map (global_block (struct_zeros [] section.structs)) o ≡ Some block → IsOf section number block
-      by None at e = absurd (cc)
-      by (Some global) at e = record { global = global; is = at; same = cc }
-
-abbrev live : List Cell → Block
-live cells = record { live = true; cells = cells }
+    (ap live_cells (sym (slice_get-map (global_block (struct_zeros [] section.structs)) section.globals number)) ∙ is)
+  where
+    by : (o : Option TypedGlobal) → slice_get section.globals number ≡ o →
+        live_cells (option_map (global_block (struct_zeros [] section.structs)) o) ≡ Ok cs → IsOf section number cs
+    by None at e = absurd (cc)
+    by (Some global) at e = record { global = global; is = at; same = cc }
 
 start_word : (one : Cell) → IsStart one → cell_word one < 2 ^ 32
 start_word cell.Undef h = absurd h
@@ -53,45 +53,49 @@ module _ (section : TypedSection) (fit : structs_fit section.structs 0 section.s
     are_sized : AreSized (struct_zeros [] section.structs) section.structs section.globals
     are_sized = sized section.structs section.globals fit fits
 
-    cells_are : (number : ℕ) (cs : List Cell) → slice_get (first_blocks (Some section)) number ≡ Some (live cs) →
+    cells_are : (number : ℕ) (cs : List Cell) → cells_at (first_blocks (Some section)) number ≡ Ok cs →
         (g : TypedGlobal) × (slice_get section.globals number ≡ Some g) × (size g ≡ length cs)
     cells_are number cs is =
-        let of = is_of section number (live cs) is in (
+        let of = is_of section number cs is in (
           of.global,
           of.is,
           sym (all_here (λ (g : TypedGlobal). length (global_block (struct_zeros [] section.structs) g).cells ≡ size g)
               section.globals are_sized number of.global of.is)
-              ∙ ap (λ (b : Block). length b.cells) of.same,
+              ∙ ap length of.same,
         )
 
-    inside : (number : ℕ) (cs : List Cell) → slice_get (first_blocks (Some section)) number ≡ Some (live cs) →
+    inside : (number : ℕ) (cs : List Cell) → cells_at (first_blocks (Some section)) number ≡ Ok cs →
         before number + length cs ≤ cells section.structs section.globals
     inside number cs is =
         let g = cells_are number cs is in omega (arith, g.2, total_upto size section.globals number g.0 g.1)
 
     ordered : (number other : ℕ) (cs : List Cell) → number < other →
-        slice_get (first_blocks (Some section)) number ≡ Some (live cs) → before number + length cs ≤ before other
+        cells_at (first_blocks (Some section)) number ≡ Ok cs → before number + length cs ≤ before other
     ordered number other cs earlier is =
         let g = cells_are number cs is in
         omega (arith, g.2, total_before size section.globals number other g.0 earlier g.1)
 
     word_placed : (number i : ℕ) (cs : List Cell) (one : Cell) →
-        slice_get (first_blocks (Some section)) number ≡ Some (live cs) → slice_get cs i ≡ Some one →
+        cells_at (first_blocks (Some section)) number ≡ Ok cs → slice_get cs i ≡ Some one →
         slice_get (global_words section) (before number + i) ≡ Some (cell_word one)
     word_placed number i cs one is at =
-        word_there (struct_zeros [] section.structs) section.structs section.globals number i (before number + i)
-        (live cs) one are_sized is at refl
+        let zeros = struct_zeros [] section.structs in
+        let of = is_of section number cs is in
+        word_there zeros section.structs section.globals number i (before number + i) (global_block zeros of.global) one
+        are_sized
+        (slice_get-map (global_block zeros) section.globals number ∙ ap (option_map (global_block zeros)) of.is)
+        (ap (λ cells. slice_get cells i) of.same ∙ at) refl
 
     count : length (global_words section) ≡ cells section.structs section.globals
     count = words_count (struct_zeros [] section.structs) section.structs section.globals are_sized
 
     starts : All {X = TypedGlobal} (λ g. All (λ word. word < 2 ^ 32) g.init) section.globals → (number i : ℕ)
-        (cs : List Cell) (one : Cell) → slice_get (first_blocks (Some section)) number ≡ Some (live cs) →
+        (cs : List Cell) (one : Cell) → cells_at (first_blocks (Some section)) number ≡ Ok cs →
         slice_get cs i ≡ Some one → IsStart one
     starts given number i cs one is at =
-        let of = is_of section number (live cs) is in
+        let of = is_of section number cs is in
         all_here IsStart cs
-        (subst (λ (b : Block). All IsStart b.cells) of.same
+        (subst (All IsStart) of.same
         (block_start section.structs of.global
         (all_here (λ (g : TypedGlobal). All (λ word. word < 2 ^ 32) g.init) section.globals given number of.global
         of.is))) i one at
@@ -100,7 +104,7 @@ module _ (program : ProgramTree) (codes : List CodeTree) (typed : IsWellTyped pr
     (linkable : IsLinkable program codes)
   where
     abbrev Begins : (comp number : ℕ) → List Cell → Type 0
-    Begins comp number cs = slice_get (globals_of program.sections comp) number ≡ Some (live cs)
+    Begins comp number cs = cells_at (globals_of program.sections comp) number ≡ Ok cs
 
     -- a compartment that has a block is one
     has_block : (comp number : ℕ) (cs : List Cell) → Begins comp number cs → Fits program comp
@@ -109,8 +113,7 @@ module _ (program : ProgramTree) (codes : List CodeTree) (typed : IsWellTyped pr
           Fits program comp
       by (inl fits) = fits
       by (inr none) =
-          let never : None ≡ Some (live cs) =
-          sym (ap (λ o. slice_get (first_blocks o) number) none.1) ∙ is in
+          let never : Err Dangling ≡ Ok cs = sym (ap (λ o. cells_at (first_blocks o) number) none.1) ∙ is in
           absurd (cc)
 
     module _ (comp : ℕ) (fits : Fits program comp) where
@@ -129,10 +132,10 @@ module _ (program : ProgramTree) (codes : List CodeTree) (typed : IsWellTyped pr
           (globals_so program.interfaces comp fits.interface fits.section fits.fits)
 
       block_own : (number : ℕ) (cs : List Cell) → Begins comp number cs →
-          slice_get (first_blocks (Some own)) number ≡ Some (live cs)
+          cells_at (first_blocks (Some own)) number ≡ Ok cs
       block_own number cs is =
-          ap (λ s. slice_get (first_blocks (Some s)) number) same
-          ∙ sym (ap (λ o. slice_get (first_blocks o) number) fits.is) ∙ is
+          ap (λ s. cells_at (first_blocks (Some s)) number) same
+          ∙ sym (ap (λ o. cells_at (first_blocks o) number) fits.is) ∙ is
 
       bytes_are : globals_in (linked_image program codes) comp ≡ flat_map (little_bytes 4) (global_words own)
       bytes_are = ap (λ o. option_map_or (λ (c : CompPart). c.globals) o []) (part_is program codes comp fits)

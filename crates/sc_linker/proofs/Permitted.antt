@@ -1,7 +1,7 @@
 -- A linked image lets each compartment call what its interface imports.
 use Rattle.sc_linker.proofs.Common.{CodeTree, CompPart, Import, ImportPart, ImportsStand, Interface, List, None, Option}
 use Rattle.sc_linker.proofs.Common.{ProgramTree, Some, [], ap, comp_at, comp_part, false, flat_map, import_part}
-use Rattle.sc_linker.proofs.Common.{imports, is_function, is_input, is_output, linked_image, list_any, may_call}
+use Rattle.sc_linker.proofs.Common.{imports, is_function, is_input, is_output, linked_image, list_any, may_call_export}
 use Rattle.sc_linker.proofs.Common.{may_input, may_output, option_map, option_map_or, refl, sym, ℕ, ◌&&◌, ◌==◌, ◌||◌}
 use Rattle.sc_linker.proofs.Common.{◌∙◌, ◌∷◌, ◌≡◌}
 use Rattle.sc_event.specs.declared.interface.Import.TheVariants as import
@@ -24,7 +24,7 @@ module _ (program : ProgramTree) (codes : List CodeTree) where
   function_by from to index None = refl
   function_by from to index (Some interface) = any_function to index interface.imports
 
-  function : (from to index : ℕ) → may_call (linked_image program codes) from to index
+  function : (from to index : ℕ) → may_call_export (linked_image program codes) from to index
       ≡ imports program.interfaces from (is_function to index)
   function from to index =
       ap (λ o. list_any {X = ImportPart} (λ import. import.comp == to && import.index == index)

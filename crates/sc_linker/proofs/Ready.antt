@@ -1,7 +1,7 @@
 -- Each compartment of a program that is linkable can be linked, and what stands in its code stands in the image.
 use Rattle.sc_linker.proofs.Common.{All, All-weaker, CodeTree, CompPart, ImageParts, Instr, IsInstr, IsLinkable}
 use Rattle.sc_linker.proofs.Common.{IsWhole, List, ProgramTree, Proto, RefersInside, Relocation, Some, StandsAt}
-use Rattle.sc_linker.proofs.Common.{TypedSection, [], addresses_at, all_at, ap, arith, code_of, code_start, codes_at}
+use Rattle.sc_linker.proofs.Common.{TypedSection, [], addresses_at, all_at, ap, arith, code_in, code_start, codes_at}
 use Rattle.sc_linker.proofs.Common.{comp_code, decoded-word_of, eq-eqb, export_at, exports_at, instructions, is_named}
 use Rattle.sc_linker.proofs.Common.{is_some, le-leb, length, linked, linked_image, ltb-true, map, nat_eq, nat_le}
 use Rattle.sc_linker.proofs.Common.{nat_lt, option_map, option_map_or, section_at, slice_get, slice_get-map, subst, sym}
@@ -47,7 +47,7 @@ module _ (program : ProgramTree) (codes : List CodeTree) (whole : All IsWhole co
     }
 
 -- IN THE IMAGE
-word_of_code : (image : ImageParts) (c k word : ℕ) → slice_get (code_of image c) k ≡ Some word →
+word_of_code : (image : ImageParts) (c k word : ℕ) → slice_get (code_in image c) k ≡ Some word →
     word_at image c (code_start c + 4 * k) ≡ Some word
 unfolding word_at
 word_of_code image c k word is =
@@ -57,7 +57,7 @@ word_of_code image c k word is =
     rw (aligned, from, place) is
 
 module _ (program : ProgramTree) (codes : List CodeTree) (c : ℕ) (fits : Fits program c) where
-  code_is : code_of (linked_image program codes) c ≡ map word_of (comp_code program codes c)
+  code_is : code_in (linked_image program codes) c ≡ map word_of (comp_code program codes c)
   code_is = ap (λ o. option_map_or (λ (comp : CompPart). comp.code) o []) (part_is program codes c fits)
 
   pub word_there : (k address : ℕ) (instr : Instr) → address ≡ code_start c + 4 * k →

@@ -4,7 +4,8 @@ pub use Rattle.sc_event.specs.Prelude.{comp_at, export_at, imports, is_function,
 pub use Rattle.sc_event.specs.declared.interface.Interface.{Interface}
 pub use Rattle.sc_event.specs.declared.interface.Proto.{Proto}
 pub use Rattle.sc_event.specs.declared.row.Entry.TheVariants.{Export, Main}
-pub use Rattle.sc_core.specs.Prelude.{IsWellTyped, cells_of, entry_in, first_blocks, globals_of, place_named, total}
+pub use Rattle.sc_core.specs.Prelude.{IsWellTyped, cells_at, cells_of, entry_in, first_blocks, globals_of, place_named}
+pub use Rattle.sc_core.specs.Prelude.{total}
 pub use Rattle.sc_core.specs.declared.program.ProgramTree.{ProgramTree}
 pub use Rattle.sc_core.specs.declared.section.TypedGlobal.{TypedGlobal}
 pub use Rattle.sc_core.specs.declared.section.TypedSection.{TypedSection}
@@ -13,8 +14,8 @@ pub use Rattle.sc_core.specs.declared.value.Cell.{Cell}
 pub use Rattle.rv_code.specs.Prelude.{IsInstr, decoded, word_of}
 pub use Rattle.rv_code.specs.declared.instr.Instr.{Instr}
 pub use Rattle.rv_code.specs.declared.instr.Instr.TheVariants.{Jal, Upper}
-pub use Rattle.sc_image.specs.Prelude.{IsWellFormed, code_start, has_result, may_call, may_input, may_output}
-pub use Rattle.sc_image.specs.Prelude.{most_globals, params_of, stack_top, start_memory, stretch, word_at}
+pub use Rattle.sc_image.specs.Prelude.{IsWellFormed, code_start, has_result, may_call_export, may_input, may_output}
+pub use Rattle.sc_image.specs.Prelude.{most_globals, export_params, stack_top, start_memory, stretch, word_at}
 pub use Rattle.sc_image.specs.declared.parts.ImageParts.{ImageParts}
 pub use Rattle.sc_tac.specs.declared.machine_code.CodeTree.{CodeTree}
 pub use Rattle.sc_emit_select.specs.Prelude.{Addresses, is_named, linked, refers_only, upper_part}

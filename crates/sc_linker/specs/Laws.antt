@@ -1,15 +1,16 @@
 -- What holds of linked images.
 use Rattle.sc_linker.specs.Common.{Cell, CodeTree, Export, ImageParts, Instr, Interface, IsInstr, IsWellFormed}
-use Rattle.sc_linker.specs.Common.{IsWellTyped, Jal, Main, ProgramTree, Proto, TypedGlobal, TypedSection, decoded}
-use Rattle.sc_linker.specs.Common.{entry_in, export_at, globals_of, has_result, imports, is_function, is_input, is_name}
-use Rattle.sc_linker.specs.Common.{is_output, linked, may_call, may_input, may_output, params_of, stack_top}
+use Rattle.sc_linker.specs.Common.{IsWellTyped, Jal, Main, ProgramTree, Proto, TypedGlobal, TypedSection, cells_at}
+use Rattle.sc_linker.specs.Common.{decoded, entry_in, export_at, globals_of, has_result, imports, is_function, is_input}
+use Rattle.sc_linker.specs.Common.{is_name, is_output, linked, may_call_export, may_input, may_output, export_params}
+use Rattle.sc_linker.specs.Common.{stack_top}
 use Rattle.sc_linker.specs.Common.{start_memory, word_at}
 use Rattle.sc_word.specs.Prelude.{add_word, word_of}
 use Rattle.sc_store.specs.Prelude.{load_of}
-use Rattle.sc_image.specs.Prelude.{export_at as image_export, globals_of as globals_in}
+use Rattle.sc_image.specs.Prelude.{entered_export as image_export, initial_globals as globals_in}
 use Rattle.sc_tac.specs.Prelude.{IsCode}
-use Rattle.std.specs.Prelude.{◌≡◌, ◌≢◌, ℕ, ℤ, ◌+◌, ◌*◌, ◌%◌, ◌^◌, ◌<◌, ◌≤◌, ◌⊎◌, true, List, length, All, IsTrue, Some}
-use Rattle.std.specs.Prelude.{is_some, slice_get}
+use Rattle.std.specs.Prelude.{◌≡◌, ◌≢◌, ℕ, ℤ, ◌+◌, ◌*◌, ◌%◌, ◌^◌, ◌<◌, ◌≤◌, ◌⊎◌, true, List, length, All, IsTrue, Ok}
+use Rattle.std.specs.Prelude.{Some, is_some, slice_get}
 use Rattle.sc_event.specs.declared.interface.Interfaces.{Interfaces}
 use Rattle.sc_core.specs.declared.section.TypedFunction.{TypedFunction}
 use Rattle.sc_core.specs.declared.value.Cell.TheVariants as cell
@@ -79,7 +80,7 @@ module _ (program : ProgramTree) (codes : List CodeTree) where
     pub index : (comp index : ℕ) (proto : Proto) → export_at program.interfaces comp index ≡ Some proto →
         image_export (linked_image program codes) comp (entry_address comp index) ≡ Some index
     pub params : (comp index : ℕ) (proto : Proto) → export_at program.interfaces comp index ≡ Some proto →
-        params_of (linked_image program codes) comp index ≡ length proto.params
+        export_params (linked_image program codes) comp index ≡ length proto.params
     pub result : (comp index : ℕ) (proto : Proto) → export_at program.interfaces comp index ≡ Some proto →
         has_result (linked_image program codes) comp (Export index) ≡ is_some proto.result
     pub low : (comp index : ℕ) (proto : Proto) → export_at program.interfaces comp index ≡ Some proto →
@@ -88,32 +89,33 @@ module _ (program : ProgramTree) (codes : List CodeTree) where
   -- imports are those of the interfaces
   pub record ImportsStand : Type 0 where
     pub function : (from to index : ℕ) →
-        may_call (linked_image program codes) from to index ≡ imports program.interfaces from (is_function to index)
+        may_call_export (linked_image program codes) from to index ≡ imports program.interfaces from (is_function to
+        index)
     pub input : (comp : ℕ) → may_input (linked_image program codes) comp ≡ imports program.interfaces comp is_input
     pub output : (comp : ℕ) → may_output (linked_image program codes) comp ≡ imports program.interfaces comp is_output
 
   -- globals: each lies at its place in its compartment's data, apart from the others, and holds its words at the start
   pub record GlobalsStand : Type 0 where
     pub high : (comp number : ℕ) (cells : List Cell) →
-        slice_get (globals_of program.sections comp) number ≡ Some (record { live = true; cells = cells }) →
+        cells_at (globals_of program.sections comp) number ≡ Ok cells →
         (addresses_at program codes comp).global number + 4 * length cells ≤
         stack_top comp + length (globals_in (linked_image program codes) comp)
     pub low : (comp number : ℕ) → stack_top comp ≤ (addresses_at program codes comp).global number
     pub aligned : (comp number : ℕ) → (addresses_at program codes comp).global number % 4 ≡ 0
     pub apart : (comp number other : ℕ) (cells more : List Cell) → number ≢ other →
-        slice_get (globals_of program.sections comp) number ≡ Some (record { live = true; cells = cells }) →
-        slice_get (globals_of program.sections comp) other ≡ Some (record { live = true; cells = more }) →
+        cells_at (globals_of program.sections comp) number ≡ Ok cells →
+        cells_at (globals_of program.sections comp) other ≡ Ok more →
         let addresses = addresses_at program codes comp in
         (addresses.global number + 4 * length cells ≤ addresses.global other)
         ⊎ (addresses.global other + 4 * length more ≤ addresses.global number)
     pub words : (comp number i : ℕ) (cells : List Cell) (one : Cell) →
-        slice_get (globals_of program.sections comp) number ≡ Some (record { live = true; cells = cells }) →
+        cells_at (globals_of program.sections comp) number ≡ Ok cells →
         slice_get cells i ≡ Some one →
         load_of (start_memory (linked_image program codes)) ((addresses_at program codes comp).global number + 4 * i) 4
         ≡ cell_word one
     -- each begins as a word or null
     pub known : (comp number i : ℕ) (cells : List Cell) (one : Cell) →
-        slice_get (globals_of program.sections comp) number ≡ Some (record { live = true; cells = cells }) →
+        cells_at (globals_of program.sections comp) number ≡ Ok cells →
         slice_get cells i ≡ Some one → IsStart one
     -- each begins below 2 ^ 31
     pub there : (comp number : ℕ) (g : TypedGlobal) → slice_get (section_at program comp).globals number ≡ Some g →

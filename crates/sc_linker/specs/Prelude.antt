@@ -1,5 +1,5 @@
 -- What this crate's contracts, its proofs and the crates above cite, passed on from one place. Declares nothing.
-pub use Rattle.sc_base.specs.Prelude.{number_of}
+pub use Rattle.sc_base.specs.Prelude.{number_by_name}
 unfoldable pub use Rattle.sc_base.specs.Prelude.{is_name}
 pub use Rattle.sc_event.specs.declared.interface.Proto.{Proto}
 pub use Rattle.sc_core.specs.Prelude.{IsWellTyped, entry_in, global_fits, main_name, place_named, structs_fit, total}

@@ -2,7 +2,7 @@
 
 ghost use Rattle.sc_base.specs.Prelude.{most_exports};
 ghost use Rattle.sc_linker.specs.Prelude.{Fits, IsCodeAddress, Proto, TypedFunction, addresses_of, entry_address};
-ghost use Rattle.sc_linker.specs.Prelude.{entry_jumps, function_address, number_of, place_named, word_of};
+ghost use Rattle.sc_linker.specs.Prelude.{entry_jumps, function_address, number_by_name, place_named, word_of};
 ghost use Rattle.std.specs.Prelude.{◌≡◌, ◌<◌, ◌≤◌, ◌++◌, All, IfOk, IfSome, IsSome, OnOk, Some, length, map, pos, ◌-ℤ◌};
 
 use crate::layout::{SectionLayout, entry_address};
@@ -28,10 +28,10 @@ fn names_of(alloc: Global, functions: &[TypedFunction]) -> Result<NameList, OutO
 fn entry_jump(layout: &SectionLayout, names: &NameList, index: u16, proto: &Proto) -> Instr
     requires functions { All (IsCodeAddress layout.now.comp) layout.now.functions }
     requires here { IsCodeAddress layout.now.comp (entry_address layout.now.comp index) }
-    requires named { IsSome (number_of names.now proto.now.name) }
-    requires within { IfSome (number_of names.now proto.now.name) (λ number. number < length layout.now.functions) }
+    requires named { IsSome (number_by_name names.now proto.now.name) }
+    requires within { IfSome (number_by_name names.now proto.now.name) (λ number. number < length layout.now.functions) }
     ensures { result ≡ Instr.Jal 0 (pos (function_address (addresses_of layout.now)
-        (number_of names.now proto.now.name)) -ℤ pos (entry_address layout.now.comp index)) }
+        (number_by_name names.now proto.now.name)) -ℤ pos (entry_address layout.now.comp index)) }
 {
     let number = names.number_of(&proto.name).unwrap();
     Instr::Jal {

@@ -5,7 +5,8 @@ pub use Rattle.std.proofs.Common.{replicate, rules, slice_get, subst, suc, sym, 
 pub use Rattle.std.proofs.Common.{◌+◌, ◌-◌, ◌<◌, ◌==◌, ◌||◌, ◌∙◌, ◌∷◌, ◌≡◌, ◌≤◌, ◌⊎◌}
 pub use Rattle.std.specs.List.{filter, list_any, range_with_len}
 pub use Rattle.std.specs.Option.{option_map, unwrap_or}
-pub use Rattle.sc_tac.specs.Prelude.{AreIntervals, Lives, Point, Set, Span, Trail, ahead_at, from_here, function_points}
+pub use Rattle.sc_tac.specs.Prelude.{AreIntervals, Lives, Point, TempSet, Span, Trail, ahead_at, from_here}
+pub use Rattle.sc_tac.specs.Prelude.{function_points}
 pub use Rattle.sc_tac.specs.Prelude.{has_call, if_calls, in_body, in_head, in_next, interval_of, is_one, is_used}
 pub use Rattle.sc_tac.specs.Prelude.{live_across, live_at_start, live_before, loop_points, nothing, nothing_live}
 pub use Rattle.sc_tac.specs.Prelude.{one_or_none, or_first, part_lives, plain_points, point, points, readings}

@@ -1,5 +1,5 @@
 -- What a piece of code says of a temporary depends only on what is live of that temporary.
-use Rattle.sc_live.proofs.Common.{Bool, List, Lives, None, Option, Point, Set, Some, TacStmt, TacStmt-F, Trail, []}
+use Rattle.sc_live.proofs.Common.{Bool, List, Lives, None, Option, Point, TempSet, Some, TacStmt, TacStmt-F, Trail, []}
 use Rattle.sc_live.proofs.Common.{ahead_at, ap, false, fold-roll-TacStmt, if_calls, in_body, in_head, in_next, is_one}
 use Rattle.sc_live.proofs.Common.{live_across, live_at_start, live_before, loop_points, map, map-TacStmt, not}
 use Rattle.sc_live.proofs.Common.{one_or_none, part_lives, plain_points, point, readings, refl, row_first, row_points}
@@ -10,7 +10,7 @@ use Rattle.sc_tac.specs.declared.stmt.TacStmt.TheOpen as tac
 
 -- the temporaries at which two ways to go on are the same
 module _ (Here : ℕ → Type 0) where
-  abbrev pub SameSet : Set → Set → Type 0
+  abbrev pub SameSet : TempSet → TempSet → Type 0
   SameSet s s' = (t : ℕ) → Here t → s t ≡ s' t
 
   abbrev pub SameLives : Lives → Lives → Type 0
@@ -34,10 +34,10 @@ module _ (Here : ℕ → Type 0) where
   same_append (x ∷ xs) [] ys ys' h k = absurd h
   same_append (x ∷ xs) (x' ∷ xs') ys ys' h k = (h.0, same_append xs xs' ys ys' h.1 k)
 
-  same_point : (calls : Bool) (s s' : Set) → SameSet s s' → SamePoint (point calls s) (point calls s')
+  same_point : (calls : Bool) (s s' : TempSet) → SameSet s s' → SamePoint (point calls s) (point calls s')
   same_point calls s s' h = record { assigned = refl; calls = refl; live = h }
 
-  pub one_point : (s s' : Set) → SameSet s s' → SamePoints (point false s ∷ []) (point false s' ∷ [])
+  pub one_point : (s s' : TempSet) → SameSet s s' → SamePoints (point false s ∷ []) (point false s' ∷ [])
   one_point s s' h = (same_point false s s' h, tt)
 
   abbrev pub Local : TacStmt → Type 0
@@ -61,7 +61,7 @@ module _ (Here : ℕ → Type 0) where
         continued = (g t here i).continued;
       })) (row_same stmts h.1 lives lives' g)
 
-  pub part_same : (lives lives' : Lives) (end end' : Set) → SameSet lives.following lives'.following →
+  pub part_same : (lives lives' : Lives) (end end' : TempSet) → SameSet lives.following lives'.following →
       SameSet end end' →
       SameLives (part_lives lives end) (part_lives lives' end')
   part_same lives lives' end end' g h t here i =
@@ -82,7 +82,7 @@ module _ (Here : ℕ → Type 0) where
             (last, tt),
       )
     where
-      call_same : (calls : Bool) (s s' : Set) → SameSet s s' →
+      call_same : (calls : Bool) (s s' : TempSet) → SameSet s s' →
           SamePoints (if_calls calls (point true s)) (if_calls calls (point true s'))
       call_same true s s' h = (same_point true s s' h, tt)
       call_same false s s' h = tt

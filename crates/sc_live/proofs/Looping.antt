@@ -1,6 +1,6 @@
 -- One round of a loop, from nothing that is live at its end, determines its points: what is then live at its start is
 -- used from the loop's start to its end, and of nothing else do the points differ.
-use Rattle.sc_live.proofs.Common.{Bool, Holds, List, Lives, Mark, None, Option, Passed, Point, Set, Some, TacStmt}
+use Rattle.sc_live.proofs.Common.{Bool, Holds, List, Lives, Mark, None, Option, Passed, Point, TempSet, Some, TacStmt}
 use Rattle.sc_live.proofs.Common.{Trail, Walk, Walked, WalkedAll, WalkedOver, [], ap, append_assoc, arith, false}
 use Rattle.sc_live.proofs.Common.{if◌then◌else◌, in_body, in_head, in_next, is_one, is_used, length, live_at_start}
 use Rattle.sc_live.proofs.Common.{live_before, lives_at, loop_points, map, mark_from, mark_here, mark_of, marked, min}
@@ -93,7 +93,7 @@ module _ (head body next : List TacStmt) (lives : Lives) where
   abbrev N : List Trail
   N = map trail next
 
-  abbrev start : Set
+  abbrev start : TempSet
   start = live_at_start H B N lives
 
   abbrev pub round_next : Lives

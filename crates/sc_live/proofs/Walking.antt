@@ -1,5 +1,6 @@
 -- Walks, piece by piece.
-use Rattle.sc_live.proofs.Common.{Bool, Holds, List, Lives, Option, Point, Set, TacStmt, TacStmt-F, Trail, Walk, Walked}
+use Rattle.sc_live.proofs.Common.{Bool, Holds, List, Lives, Option, Point, TempSet, TacStmt, TacStmt-F, Trail, Walk}
+use Rattle.sc_live.proofs.Common.{Walked}
 use Rattle.sc_live.proofs.Common.{WalkedAll, WalkedOver, [], ap, append_assoc, arith, drop, drop-cons, false}
 use Rattle.sc_live.proofs.Common.{fold-roll-TacStmt, get_or, if_calls, is_one, length, live_before, live_first}
 use Rattle.sc_live.proofs.Common.{lives_at, map, map-TacStmt, not, one_or_none, plain_points, point, roll-TacStmt}
@@ -10,7 +11,7 @@ use Rattle.sc_tac.specs.declared.stmt.TacStmt.TheOpen as tac
 use Rattle.sc_tac.specs.declared.stmt.TacStmt.TheVariants as emit
 
 -- what is live may be replaced
-pub relived : (points : List Point) (set set' : Set) (before after : Walk) (live : List ℕ) →
+pub relived : (points : List Point) (set set' : TempSet) (before after : Walk) (live : List ℕ) →
     Walked points set before after → set_of live ≡ set' → Walked points set' before (record after { live = live })
 relived points set set' before after live h is = record {
   live = is;
@@ -19,7 +20,7 @@ relived points set set' before after live h is = record {
       record { counted = k.counted; call = k.call; marks = k.marks };
 }
 
-pub relived_before : (points : List Point) (set : Set) (before after : Walk) (live : List ℕ) →
+pub relived_before : (points : List Point) (set : TempSet) (before after : Walk) (live : List ℕ) →
     Walked points set (record before { live = live }) after → Walked points set before after
 relived_before points set before after live h = record {
   live = h.live;
@@ -28,7 +29,7 @@ relived_before points set before after live h = record {
 }
 
 -- one piece before another
-pub walked_on : (xs ys : List Point) (set set' : Set) (before between after : Walk) →
+pub walked_on : (xs ys : List Point) (set set' : TempSet) (before between after : Walk) →
     Walked ys set before between → Walked xs set' between after → Walked (xs ++ ys) set' before after
 walked_on xs ys set set' before between after h k = record {
   live = k.live;
@@ -37,7 +38,8 @@ walked_on xs ys set set' before between after h k = record {
       (k.holds temps (ys ++ following) (h.holds temps following g));
 }
 
-pub walked_as : (points points' : List Point) (set set' : Set) (before after : Walk) → points ≡ points' → set ≡ set' →
+pub walked_as : (points points' : List Point) (set set' : TempSet) (before after : Walk) → points ≡ points' → set ≡ set'
+    →
     Walked points set before after → Walked points' set' before after
 walked_as points points' set set' before after p s h =
     subst (λ x. Walked x set' before after) p (subst (λ x. Walked points x before after) s h)
@@ -51,7 +53,7 @@ pub plain_walked : (reads : List ℕ) (calls : Bool) (assigned : Option ℕ) (a 
     Walked (plain_points reads calls assigned (lives_at a.live [] []))
     (λ t. is_one t reads || (not (is_one t (one_or_none assigned)) && is_one t a.live)) a d
 plain_walked reads calls assigned a b c d first second third =
-    let across : Set = λ t. not (is_one t (one_or_none assigned)) && is_one t a.live in
+    let across : TempSet = λ t. not (is_one t (one_or_none assigned)) && is_one t a.live in
     let b_is : set_of b.live ≡ across = first.live in
     let c_is : set_of c.live ≡ across = second.live ∙ b_is in
     walked_on (point false (λ t. is_one t reads || across t) ∷ [])
@@ -66,8 +68,8 @@ plain_walked reads calls assigned a b c d first second third =
 pub row_walked : (stmt : TacStmt) (rest : List TacStmt) (lives : Lives) (a b c : Walk) → WalkedAll rest lives a b →
     WalkedOver stmt (record lives { following = set_of b.live }) b c → WalkedAll (stmt ∷ rest) lives a c
 row_walked stmt rest lives a b c h k =
-    let inner : Set → Lives = λ set. record lives { following = set } in
-    let set : Set = live_before (map trail rest) lives in
+    let inner : TempSet → Lives = λ set. record lives { following = set } in
+    let set : TempSet = live_before (map trail rest) lives in
     walked_on ((trail stmt).points (inner set)) (row_points (map trail rest) lives) set
     (live_first (trail stmt) (inner set)) a b c h
     (subst (λ s. Walked ((trail stmt).points (inner s)) (live_first (trail stmt) (inner s)) b c) h.live k)
@@ -92,9 +94,9 @@ pub forked : (stmt : TacStmt) (cond : ℕ) (first second : List TacStmt) (broken
     WalkedOver stmt (lives_at a.live broken continued) a d
 forked stmt cond first second broken continued a b following other c d is same kept h k last =
     let lives : Lives = lives_at a.live broken continued in
-    let first_live : Set = live_before (map trail first) lives in
-    let second_live : Set = live_before (map trail second) lives in
-    let set : Set = λ t. cond == t || (first_live t || second_live t) in
+    let first_live : TempSet = live_before (map trail first) lives in
+    let second_live : TempSet = live_before (map trail second) lives in
+    let set : TempSet = λ t. cond == t || (first_live t || second_live t) in
     let prefix : Walked (row_points (map trail first) lives) first_live b c =
     relived_before _ _ _ _ _ (subst (λ l. WalkedAll first (lives_at l broken continued) (record b { live = l }) c)
     same k) in

@@ -1,12 +1,12 @@
 -- Helping: where temporaries are used among the last points of a function's code. A point is named by how many points
 -- follow it.
-use Rattle.sc_tac.specs.Prelude.{Point, Set, is_one, is_used}
+use Rattle.sc_tac.specs.Prelude.{Point, TempSet, is_one, is_used}
 use Rattle.std.specs.Prelude.{ℕ, Bool, false, if◌then◌else◌, nat_le, min, List, [], ◌∷◌, length, Option, None, Some}
 use Rattle.std.specs.Option.{option_map}
 use Rattle.sc_live.specs.declared.marks.Mark.{Mark}
 
 -- temporaries that are listed
-abbrev pub set_of : List ℕ → Set
+abbrev pub set_of : List ℕ → TempSet
 set_of temps t = is_one t temps
 
 -- the first of these points at which a function is called

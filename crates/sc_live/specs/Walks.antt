@@ -1,5 +1,5 @@
 -- Helping: what is known on the way back through a function's code.
-use Rattle.sc_tac.specs.Prelude.{Lives, Point, Set, Trail, ahead_at, is_used, live_before, row_points, trail}
+use Rattle.sc_tac.specs.Prelude.{Lives, Point, TempSet, Trail, ahead_at, is_used, live_before, row_points, trail}
 use Rattle.std.specs.Prelude.{◌≡◌, ◌<◌, ℕ, suc, ◌-◌, if◌then◌else◌, List, ◌++◌, map, length, Some, slice_get}
 use Rattle.sc_tac.specs.declared.interval.Interval.{Interval}
 use Rattle.sc_tac.specs.declared.stmt.TacStmt.{TacStmt}
@@ -14,7 +14,7 @@ pub record Holds (temps : ℕ) (walk : Walk) (points : List Point) : Type 0 wher
   pub marks : (t : ℕ) → t < temps → slice_get walk.marks t ≡ Some (mark_of t points)
 
 -- it goes on over these points, which stand before those that it has passed; this is live at their start
-pub record Walked (points : List Point) (set : Set) (before after : Walk) : Type 0 where
+pub record Walked (points : List Point) (set : TempSet) (before after : Walk) : Type 0 where
   pub live : set_of after.live ≡ set
   pub holds : (temps : ℕ) (following : List Point) → Holds temps before following →
       Holds temps after (points ++ following)
@@ -32,7 +32,7 @@ lives_at following broken continued =
     record { following = set_of following; broken = set_of broken; continued = set_of continued }
 
 -- what is live before a statement
-abbrev pub live_first : Trail → Lives → Set
+abbrev pub live_first : Trail → Lives → TempSet
 live_first trail lives t = (trail.reading t).first (ahead_at lives t)
 
 -- over a statement, and over statements

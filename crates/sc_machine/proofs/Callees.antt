@@ -1,8 +1,10 @@
 -- Calls of other compartments: what an export that is found is, what an import leads to, and lists of callees.
 use Rattle.sc_machine.proofs.Common.{All, AreCallees, Callee, CompPart, Goes, ImageParts, IsCallee, IsDistinct, IsEntry}
-use Rattle.sc_machine.proofs.Common.{IsExport, IsWellFormed, List, Some, State, [], ap, arith, called, calls, cases_lt}
-use Rattle.sc_machine.proofs.Common.{comp_of_code, eq-eqb, eqb-true, export_at, export_called, exports_of, get_or}
-use Rattle.sc_machine.proofs.Common.{get_or-map, get_or_from_slice_get, length, length-map, map, may_call, params_of}
+use Rattle.sc_machine.proofs.Common.{IsExport, IsWellFormed, List, Some, MachineState, [], ap, arith, on_call}
+use Rattle.sc_machine.proofs.Common.{jump_outside, cases_lt}
+use Rattle.sc_machine.proofs.Common.{comp_of_code, eq-eqb, eqb-true, entered_export, export_called, exported_by, get_or}
+use Rattle.sc_machine.proofs.Common.{get_or-map, get_or_from_slice_get, length, length-map, map, may_call_export}
+use Rattle.sc_machine.proofs.Common.{export_params}
 use Rattle.sc_machine.proofs.Common.{position, ra, refl, rules, slice_get, slice_get-get_or, slice_get_within, subst}
 use Rattle.sc_machine.proofs.Common.{suc, sym, true, zero, ℕ, ⊎_elim, ◌++◌, ◌+◌, ◌<◌, ◌==◌, ◌∙◌, ◌∷◌, ◌≡◌, ◌≤◌}
 use Rattle.sc_image.specs.declared.parts.ExportPart.{ExportPart}
@@ -12,27 +14,27 @@ use Rattle.sc_image.proofs.Enters.{few_params}
 use Rattle.sc_base.proofs.Lists.{position_of_only}
 use Rattle.sc_image.specs.declared.parts.ImportPart.{ImportPart}
 
-module _ (image : ImageParts) (state : State) (target : ℕ) where
-  linked : (rd : ℕ) → rd ≡ ra → calls image state rd target ≡
-      export_called image state (comp_of_code target) target (export_at image (comp_of_code target) target)
+module _ (image : ImageParts) (state : MachineState) (target : ℕ) where
+  linked : (rd : ℕ) → rd ≡ ra → jump_outside image state rd target ≡
+      export_called image state (comp_of_code target) target (entered_export image (comp_of_code target) target)
   linked rd h = rw (eq-eqb rd ra h) refl
 
-  called_by : (comp index params : ℕ) → comp ≡ comp_of_code target → export_at image comp target ≡ Some index →
-      params ≡ params_of image comp index → may_call image state.active comp index ≡ true →
-      export_called image state (comp_of_code target) target (export_at image (comp_of_code target) target) ≡ Goes
-      (called state comp index params target)
+  called_by : (comp index params : ℕ) → comp ≡ comp_of_code target → entered_export image comp target ≡ Some index →
+      params ≡ export_params image comp index → may_call_export image state.active comp index ≡ true →
+      export_called image state (comp_of_code target) target (entered_export image (comp_of_code target) target) ≡ Goes
+      (on_call state comp index params target)
   called_by comp index params to found takes may = rw (sym to, found, may, takes) refl
 
   pub call_made : (rd : ℕ) (callee : Callee) → rd ≡ ra → callee.entry ≡ target → IsCallee image state.active callee →
-      calls image state rd target ≡ Goes (called state callee.comp callee.index callee.params callee.entry)
+      jump_outside image state rd target ≡ Goes (on_call state callee.comp callee.index callee.params callee.entry)
   call_made rd callee links at h =
       linked rd links ∙ called_by _ _ callee.params (rw at at h.comp) (rw at at h.index) h.params h.may ∙
-      ap (λ entry. Goes (called state callee.comp callee.index callee.params entry)) (sym at)
+      ap (λ entry. Goes (on_call state callee.comp callee.index callee.params entry)) (sym at)
 
 -- An export that is found is one of a compartment of the image.
 
 module _ (image : ImageParts) (formed : IsWellFormed image) (c target i : ℕ)
-    (at : export_at image c target ≡ Some i) where
+    (at : entered_export image c target ≡ Some i) where
   exporter : (found : CompPart) × (slice_get image.comps c ≡ Some found) ×
       (position (λ export. export.entry == target) found.exports ≡ Some i)
   exporter = comp_found (λ comp. comp.exports) [] (λ exports. position (λ export. export.entry == target) exports ≡
@@ -41,7 +43,7 @@ module _ (image : ImageParts) (formed : IsWellFormed image) (c target i : ℕ)
   pub exporter_within : c < length image.comps
   exporter_within = slice_get_within _ c exporter.0 exporter.1
 
-  pub export_within : i < length (exports_of image c)
+  pub export_within : i < length (exported_by image c)
   export_within = (position-Some _ _ i no_export at).0
 
   own_within : i < length exporter.0.exports
@@ -50,10 +52,10 @@ module _ (image : ImageParts) (formed : IsWellFormed image) (c target i : ℕ)
   pub export_few : i < 4096
   export_few = omega (arith, own_within, (formed.comps c exporter.0 exporter.1).few_exports)
 
-  pub export_takes : (d : ExportPart) → (get_or (exports_of image c) i d).params ≡ params_of image c i
-  export_takes d = sym (rw (slice_get-get_or (exports_of image c) i d export_within) refl)
+  pub export_takes : (d : ExportPart) → (get_or (exported_by image c) i d).params ≡ export_params image c i
+  export_takes d = sym (rw (slice_get-get_or (exported_by image c) i d export_within) refl)
 
-  pub takes_few : params_of image c i ≤ 8
+  pub takes_few : export_params image c i ≤ 8
   takes_few = few_params image c i formed
 
 -- What an import leads to is a function that may be called.
@@ -83,7 +85,7 @@ home_of image c entry formed is =
 
 pub imported : (image : ImageParts) (caller : ℕ) (import : ImportPart) (comp : CompPart) (export : ExportPart) →
     IsWellFormed image →
-    may_call image caller import.comp import.index ≡ true → slice_get image.comps import.comp ≡ Some comp →
+    may_call_export image caller import.comp import.index ≡ true → slice_get image.comps import.comp ≡ Some comp →
     slice_get comp.exports import.index ≡ Some export →
     IsCallee image caller (record {
       entry = export.entry;

@@ -13,16 +13,21 @@ pub use Rattle.std.specs.List.{slice_get}
 pub use Rattle.sc_word.specs.Prelude.{add_word, word_of}
 pub use Rattle.sc_store.proofs.Parts.{next_there, one_there, written-apart, written-in, written-stored, written_more}
 pub use Rattle.sc_store.proofs.Parts.{written_nothing}
-pub use Rattle.sc_store.specs.Prelude.{AreApart, AreBelow, HasBytes, IsIn, Memory, byte_of, is_in, stored, written}
+pub use Rattle.sc_store.specs.Prelude.{AreApart, AreBelow, HasBytes, IsIn, ByteMemory, byte_of, is_in, with_bytes}
+pub use Rattle.sc_store.specs.Prelude.{written}
 pub use Rattle.sc_store.specs.Prelude.{zeros}
 pub use Rattle.sc_image.proofs.Memory.{data_bounds, range_of, start_is}
 pub use Rattle.sc_image.proofs.Running.{run_goes, run_more, run_out, run_stopped, run_traps, step_executes}
 pub use Rattle.sc_image.proofs.Running.{step_illegal, step_nowhere}
 pub use Rattle.sc_image.specs.Prelude.{Crossing, Filled, Goes, IsDistinct, IsEntry, IsExport, IsWellFormed, Outcome}
-pub use Rattle.sc_image.specs.Prelude.{Run, State, Traps, are_data, byte_at, called, calls, code_of, code_start}
-pub use Rattle.sc_image.specs.Prelude.{comp_of_code, comp_of_data, continued, data_start, data_with, execute, export_at}
-pub use Rattle.sc_image.specs.Prelude.{export_called, exports_of, gate, globals_of, leaves, machine, may_call}
-pub use Rattle.sc_image.specs.Prelude.{may_input, may_output, most_globals, params_of, ra, reg, returned, stack_size}
+pub use Rattle.sc_image.specs.Prelude.{MachineRun, MachineState, Traps, are_data, byte_at, on_call, jump_outside}
+pub use Rattle.sc_image.specs.Prelude.{code_in, code_start}
+pub use Rattle.sc_image.specs.Prelude.{comp_of_code, comp_of_data, continued, data_start, data_with, execute}
+pub use Rattle.sc_image.specs.Prelude.{entered_export}
+pub use Rattle.sc_image.specs.Prelude.{export_called, exported_by, gate, initial_globals, leaves, machine}
+pub use Rattle.sc_image.specs.Prelude.{may_call_export}
+pub use Rattle.sc_image.specs.Prelude.{may_input, may_output, most_globals, export_params, ra, reg, on_return}
+pub use Rattle.sc_image.specs.Prelude.{stack_size}
 pub use Rattle.sc_image.specs.Prelude.{stack_top, stack_tops, step, stopped, stops_or, stretch}
 unfoldable pub use Rattle.sc_image.specs.Prelude.{execute_by, run, start_memory, word_at}
 pub use Rattle.sc_image.specs.declared.parts.CompPart.{CompPart}

@@ -1,6 +1,8 @@
 -- Runs, step by step and call by call, and instructions that answer whether they were executed.
-use Rattle.sc_machine.proofs.Common.{Bool, Err, Goes, ImageParts, IsTrue, List, None, Ok, Option, Outcome, Result, Run}
-use Rattle.sc_machine.proofs.Common.{Some, State, Traps, [], add-zero, add_assoc, ap, continued, false≢true, fold}
+use Rattle.sc_machine.proofs.Common.{Bool, Err, Goes, ImageParts, IsTrue, List, None, Ok, Option, Outcome, Result}
+use Rattle.sc_machine.proofs.Common.{MachineRun}
+use Rattle.sc_machine.proofs.Common.{Some, MachineState, Traps, [], add-zero, add_assoc, ap, continued, false≢true}
+use Rattle.sc_machine.proofs.Common.{fold}
 use Rattle.sc_machine.proofs.Common.{is_ok, length, machine, outcome_of, refl, run, run_goes, run_more, run_traps, step}
 use Rattle.sc_machine.proofs.Common.{stopped, stops_or, suc, sum, sym, unwrap_or, ℕ, ◌++◌, ◌+◌, ◌<◌, ◌∙◌, ◌∷◌, ◌≡◌}
 use Rattle.sc_base.specs.declared.stop.TrapReason.{TrapReason}
@@ -18,8 +20,11 @@ pub room_left : (events : ℕ) (trace : List Event) → stopped events trace ≡
 room_left events trace early = has_room events trace early
 
 -- the last steps of a run
-module _ (image : ImageParts) (inputs : List ℕ) (events : ℕ) (state : State) where
-  no_more : (early : Option Stop) → ◌≡◌ {A = Run} (stops_or early state (record { state = state; stop = StepsOut }))
+module _ (image : ImageParts) (inputs : List ℕ) (events : ℕ) (state : MachineState) where
+  no_more : (early : Option Stop) → ◌≡◌ {A = MachineRun} (stops_or early state (record {
+    state = state;
+    stop = StepsOut;
+  }))
       (record { state = state; stop = unwrap_or early StepsOut })
   no_more None = refl
   no_more (Some stop) = refl
@@ -38,14 +43,15 @@ module _ (image : ImageParts) (inputs : List ℕ) (events : ℕ) (state : State)
       run image inputs events left state ≡ record { state = state; stop = Trap reason state.pc }
   trapped left n reason more early is = rw more (run_traps image inputs events n state reason early (sym is))
 
-  pub gone : (left n : ℕ) (next : State) → left ≡ suc n → stopped events state.trace ≡ None →
+  pub gone : (left n : ℕ) (next : MachineState) → left ≡ suc n → stopped events state.trace ≡ None →
       Goes next ≡ step image inputs state → run image inputs events left state ≡ run image inputs events n next
   gone left n next more early is = rw more (run_goes image inputs events n state next early (sym is))
 
 -- Calls.
 
 module _ (image : ImageParts) (inputs : List ℕ) (events : ℕ) where
-  later_calls : (n : ℕ) (more : List ℕ) (state : State) → fold (λ earlier m. continued (run image inputs events m) earlier)
+  later_calls : (n : ℕ) (more : List ℕ) (state : MachineState) → fold (λ earlier m. continued (run image inputs events
+      m) earlier)
       (run image inputs events n state) more ≡ run image inputs events (n + sum more) state
   later_calls n [] state = ap (λ k. run image inputs events k state) (sym (add-zero n))
   later_calls n (m ∷ more) state =
@@ -54,13 +60,13 @@ module _ (image : ImageParts) (inputs : List ℕ) (events : ℕ) where
       ap (λ k. run image inputs events k state) (add_assoc n m _ ∙ ap (λ k. n + k) (sym (sum_by-cons _ m more)))
 
   -- one more call
-  pub called_again : (steps : ℕ) (old new : Run) → new ≡ continued (run image inputs events steps) old →
+  pub called_again : (steps : ℕ) (old new : MachineRun) → new ≡ continued (run image inputs events steps) old →
       (earlier : List ℕ) → old ≡ calls image inputs events earlier →
       new ≡ calls image inputs events (earlier ++ steps ∷ [])
   called_again steps old new is earlier made = is ∙ ap (continued (run image inputs events steps)) made ∙
       sym (fold-append _ (loaded image) earlier (steps ∷ []))
 
-  pub sum_of_calls : (steps : ℕ) (old new : Run) → new ≡ continued (run image inputs events steps) old →
+  pub sum_of_calls : (steps : ℕ) (old new : MachineRun) → new ≡ continued (run image inputs events steps) old →
       (earlier : List ℕ) → old ≡ calls image inputs events earlier →
       new ≡ machine image inputs (sum earlier + steps) events
   sum_of_calls steps old new is [] made = is ∙ ap (continued (run image inputs events steps)) made ∙
@@ -72,7 +78,7 @@ module _ (image : ImageParts) (inputs : List ℕ) (events : ℕ) where
 
 -- Instructions that answer whether they were executed, and what the hart is after them.
 
-pub goes_if : {A : Type 0} (result : Result A TrapReason) (went : Bool) (state : State) (outcome : Outcome) →
+pub goes_if : {A : Type 0} (result : Result A TrapReason) (went : Bool) (state : MachineState) (outcome : Outcome) →
     went ≡ is_ok result → outcome_of result state ≡ outcome → IsTrue went → Goes state ≡ outcome
 goes_if (Ok _) went state outcome is same sure = same
 goes_if (Err reason) went state outcome is same sure = absurd (false≢true (sym is ∙ sure))

@@ -1,11 +1,13 @@
 -- The memory at the start: zeros, and then the globals.
 use Rattle.sc_machine.proofs.Common.{All, All-cons, All-head, All-nil, All-tail, AreApart, AreBelow, Bool, CompPart}
 use Rattle.sc_machine.proofs.Common.{Filled, HasBytes, HasFewGlobals, ImageParts, IsIn, IsSome, IsWellFormed, List}
-use Rattle.sc_machine.proofs.Common.{Memory, None, Option, Some, [], all_data, ap, append_assoc, ap₂, arith, byte_at}
+use Rattle.sc_machine.proofs.Common.{ByteMemory, None, Option, Some, [], all_data, ap, append_assoc, ap₂, arith}
+use Rattle.sc_machine.proofs.Common.{byte_at}
 use Rattle.sc_machine.proofs.Common.{byte_of, cases_lt, data_start, data_with, false, filled_with, get_or, get_or_past}
 use Rattle.sc_machine.proofs.Common.{if◌then◌else◌, is_in, length, lt-ltb, map-append, most_globals, nat_le, nat_lt}
 use Rattle.sc_machine.proofs.Common.{refl, regions_of, slice_get, slice_get-get_or, slice_index, stack_size, stack_top}
-use Rattle.sc_machine.proofs.Common.{stack_tops, start_is, start_memory, stored, stretch, suc, sym, take, true, written}
+use Rattle.sc_machine.proofs.Common.{stack_tops, start_is, start_memory, with_bytes, stretch, suc, sym, take, true}
+use Rattle.sc_machine.proofs.Common.{written}
 use Rattle.sc_machine.proofs.Common.{written-apart, written-in, written-stored, written_nothing, zero, zeros, ℕ, ⊎_elim}
 use Rattle.sc_machine.proofs.Common.{◌&&◌, ◌++◌, ◌+◌, ◌-◌, ◌<◌, ◌^◌, ◌∙◌, ◌∷◌, ◌≡◌, ◌≤◌}
 use Rattle.sc_store.specs.declared.region.Region.{Region}
@@ -17,7 +19,7 @@ use Rattle.sc_store.proofs.Words.{in_true, in_false, in_cases}
 byte_is : (x k : ℕ) → x < 256 → k ≡ 0 → get_or (x ∷ []) k 0 ≡ byte_of x k
 byte_is x k h zero_is = rw zero_is (omega arith)
 
-pub one_stored : (m : Memory) (a x : ℕ) → x < 256 → stored m a 1 x ≡ written m a (x ∷ [])
+pub one_stored : (m : ByteMemory) (a x : ℕ) → x < 256 → with_bytes m a 1 x ≡ written m a (x ∷ [])
 one_stored m a x h = sym (written-stored m a (x ∷ []) x (λ k below. byte_is x k h (omega arith)))
 
 -- The compartments.
@@ -102,25 +104,25 @@ abbrev AreWithin : List Filled → Type 0
 AreWithin [] = Unit {0}
 AreWithin (filled ∷ others) = (length filled.bytes ≤ filled.region.bytes) × AreWithin others
 
-written-inner : (m m' : Memory) (s : ℕ) (bs : List ℕ) (a : ℕ) → m' a ≡ m a → written m' s bs a ≡ written m s bs a
+written-inner : (m m' : ByteMemory) (s : ℕ) (bs : List ℕ) (a : ℕ) → m' a ≡ m a → written m' s bs a ≡ written m s bs a
 written-inner m m' s bs a same =
     ap (λ o. if nat_le s a && nat_lt a (s + length bs) then Some (slice_index bs (a - s)) else o) same
 
-filled-inner : (all : List Filled) (m m' : Memory) (a : ℕ) → m' a ≡ m a → filled_with all m' a ≡ filled_with all m a
+filled-inner : (all : List Filled) (m m' : ByteMemory) (a : ℕ) → m' a ≡ m a → filled_with all m' a ≡ filled_with all m a
 filled-inner [] m m' a same = same
 filled-inner (filled ∷ others) m m' a same = filled-inner others _ _ a (written-inner m m' _ _ a same)
 
-kept_below : (all : List Filled) (m : Memory) (low a : ℕ) → Ordered low (regions_of all) → AreWithin all → a < low →
+kept_below : (all : List Filled) (m : ByteMemory) (low a : ℕ) → Ordered low (regions_of all) → AreWithin all → a < low →
     filled_with all m a ≡ m a
 kept_below [] m low a order within under = refl
 kept_below (filled ∷ others) m low a order within under = kept_below others _ _ a order.1 within.1
     (omega (arith, order.0, under)) ∙ written-apart m _ _ a (λ from upto. omega (arith, order.0, under, from))
 
 module _ (filled : Filled) (others : List Filled) (within : length filled.bytes ≤ filled.region.bytes) (a : ℕ) where
-  abbrev zero_there : Memory
+  abbrev zero_there : ByteMemory
   zero_there = zeros (regions_of (filled ∷ others))
 
-  abbrev IsHere : Memory → Type 0
+  abbrev IsHere : ByteMemory → Type 0
   IsHere memory = memory a ≡ Some (slice_index filled.bytes (a - filled.region.start))
 
   past_bytes : IsIn filled.region a → filled.region.start + length filled.bytes ≤ a →
@@ -160,7 +162,7 @@ data_more (x ∷ xs) c zero n comp place is =
 data_more (x ∷ xs) c (suc i) n comp place is =
     ap (λ rest. stack x c ∷ globals x c ∷ rest) (data_more xs _ i n comp (omega arith) is)
 
-filled_with_both : (all others : List Filled) (m : Memory) →
+filled_with_both : (all others : List Filled) (m : ByteMemory) →
     filled_with (all ++ others) m ≡ filled_with others (filled_with all m)
 filled_with_both [] others m = refl
 filled_with_both (filled ∷ all) others m = filled_with_both all others _
@@ -170,7 +172,7 @@ some_by : (test : Bool) (x : ℕ) (o : Option ℕ) → IsSome o → IsSome (if t
 some_by true x o h = refl
 some_by false x o h = h
 
-some_kept : (all : List Filled) (m : Memory) (a : ℕ) → IsSome (m a) → IsSome (filled_with all m a)
+some_kept : (all : List Filled) (m : ByteMemory) (a : ℕ) → IsSome (m a) → IsSome (filled_with all m a)
 some_kept [] m a h = h
 some_kept (filled ∷ others) m a h = some_kept others _ a (some_by _ _ (m a) h)
 
@@ -214,12 +216,12 @@ next_top comps i tops top h so_far is =
     rw (so_far, is, more) (sym (tops_more comps 0 i i (omega arith) h))
 
 module _ (comps : List CompPart) (i : ℕ) (comp : CompPart) (h : i < length comps) (item : comp ≡ get_or comps i comp)
-    (first now : Memory) (top : ℕ) (bytes : List ℕ) (so_far : now ≡ filled_with (all_data 0 (take i comps)) first)
+    (first now : ByteMemory) (top : ℕ) (bytes : List ℕ) (so_far : now ≡ filled_with (all_data 0 (take i comps)) first)
     (at : top ≡ stack_top i) (are : bytes ≡ comp.globals) where
   pub place_there : first ≡ zeros (regions_of (all_data 0 comps)) → HasBytes now top (length bytes)
   place_there zeroed = rw (so_far, zeroed, at, are) (globals_there comps i i comp (item_there comps i comp h item))
 
-  pub next_filled : (next : Memory) → next ≡ written now top bytes →
+  pub next_filled : (next : ByteMemory) → next ≡ written now top bytes →
       next ≡ filled_with (all_data 0 (take (i + 1) comps)) first
   next_filled next is =
       let more : i + 1 ≡ suc i = omega arith in

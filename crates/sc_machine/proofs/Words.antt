@@ -1,9 +1,10 @@
 -- The code and the data of a compartment: what its words are, which accesses are allowed, and returns by a jump.
 use Rattle.sc_machine.proofs.Common.{Bool, CompPart, Goes, HasBytes, ImageParts, IsWellFormed, List, None, OnSome}
-use Rattle.sc_machine.proofs.Common.{Option, Some, State, add_word, ap, are_data, arith, code_of, code_start}
+use Rattle.sc_machine.proofs.Common.{Option, Some, MachineState, add_word, ap, are_data, arith, code_in, code_start}
 use Rattle.sc_machine.proofs.Common.{comp_of_data, data_bounds, data_start, eq-eqb, execute, execute_by, false, gate}
-use Rattle.sc_machine.proofs.Common.{globals_of, if◌then◌else◌, is_some, le-leb, le-ltb, length, lt-leb, most_globals}
-use Rattle.sc_machine.proofs.Common.{nat_le, nat_lt, ne_eqb, range_of, refl, reg, returned, slice_get, slice_get_cases}
+use Rattle.sc_machine.proofs.Common.{initial_globals, if◌then◌else◌, is_some, le-leb, le-ltb, length, lt-leb}
+use Rattle.sc_machine.proofs.Common.{most_globals}
+use Rattle.sc_machine.proofs.Common.{nat_le, nat_lt, ne_eqb, range_of, refl, reg, on_return, slice_get, slice_get_cases}
 use Rattle.sc_machine.proofs.Common.{slice_get_within, stack_size, stack_top, start_is, start_memory, stretch, subst}
 use Rattle.sc_machine.proofs.Common.{sym, true, word_at, word_of, ℕ, ℤ, ⊎_elim, ◌%◌, ◌*◌, ◌+◌, ◌-◌, ◌/◌, ◌<◌, ◌∙◌, ◌≡◌}
 use Rattle.sc_machine.proofs.Common.{◌≢◌, ◌≤◌}
@@ -23,7 +24,7 @@ unfolding word_at
 below_code image c address e h = rw (eq-eqb _ _ e, lt-leb _ _ h) refl
 
 pub in_code : (image : ImageParts) (c address : ℕ) → address % 4 ≡ 0 → code_start c ≤ address →
-    word_at image c address ≡ slice_get (code_of image c) ((address - code_start c) / 4)
+    word_at image c address ≡ slice_get (code_in image c) ((address - code_start c) / 4)
 unfolding word_at
 in_code image c address e h = rw (eq-eqb _ _ e, le-leb _ _ h) refl
 
@@ -56,9 +57,9 @@ module _ {image : ImageParts} {c : ℕ} {words : List ℕ} {code_from data_from 
 
 -- Jumps, by the case of their target.
 
-pub jalr_returns : (image : ImageParts) (inputs : List ℕ) (state : State) (rd rs1 : ℕ) (imm : ℤ) (sum : ℕ) →
+pub jalr_returns : (image : ImageParts) (inputs : List ℕ) (state : MachineState) (rd rs1 : ℕ) (imm : ℤ) (sum : ℕ) →
     sum ≡ add_word (reg state rs1) (word_of imm) → rd ≡ 0 → sum / 2 * 2 ≡ gate →
-    execute image inputs state (Jalr rd rs1 imm) ≡ Goes (returned image state state.cross)
+    execute image inputs state (Jalr rd rs1 imm) ≡ Goes (on_return image state state.cross)
 unfolding execute_by
 jalr_returns image inputs state rd rs1 imm sum is zero_is at =
     let nothing = below_code image state.active gate refl (omega arith) in
@@ -74,10 +75,11 @@ below_data image c a size some h = rw (range_of image c a size some, lt-leb _ a 
 moved_test : (a low n size : ℕ) → low ≤ a → size ≤ n → nat_le (a - low) (n - size) ≡ nat_le (a + size) (low + n)
 moved_test a low n size h k = grind (arith, nat_tests)
 
-pub from_data : (image : ImageParts) (c a size n : ℕ) → 0 < size → n ≡ length (globals_of image c) → data_start c ≤ a →
+pub from_data : (image : ImageParts) (c a size n : ℕ) → 0 < size → n ≡ length (initial_globals image c) → data_start c ≤
+    a →
     size ≤ stack_size + n → nat_le (a - data_start c) (stack_size + n - size) ≡ are_data image c a size
 from_data image c a size n some is low few =
-    let top : data_start c + (stack_size + n) ≡ stack_top c + length (globals_of image c) = omega arith in
+    let top : data_start c + (stack_size + n) ≡ stack_top c + length (initial_globals image c) = omega arith in
     rw (range_of image c a size some, le-leb _ a low) (moved_test a _ _ size low few ∙ ap (nat_le _) top)
 
 -- There is a byte at each of a compartment's addresses at the start.
@@ -103,7 +105,7 @@ start_there image c a comp found few low high =
 found_there : (image : ImageParts) (c a size : ℕ) (comp : CompPart) → slice_get image.comps c ≡ Some comp →
     length comp.globals ≤ most_globals → are_data image c a size ≡ true → HasBytes (start_memory image) a size
 found_there image c a size comp found few h = λ k below.
-    let same : globals_of image c ≡ comp.globals = rw found refl in
+    let same : initial_globals image c ≡ comp.globals = rw found refl in
     let bounds = data_bounds image c a size (omega (arith, below)) h in
     let high = subst (λ globals. a + size ≤ stack_top c + length globals) same bounds.1 in
     start_there image c _ comp found few (omega (arith, bounds.0)) (omega (arith, high, below))

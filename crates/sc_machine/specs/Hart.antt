@@ -1,5 +1,5 @@
 -- Helping: what instructions change, as the state that it stands for.
-use Rattle.sc_machine.specs.Common.{Goes, ImageParts, Memory, Outcome, State, Traps, start_memory, written}
+use Rattle.sc_machine.specs.Common.{Goes, ImageParts, ByteMemory, Outcome, MachineState, Traps, start_memory, written}
 use Rattle.std.specs.Prelude.{◌≡◌, ◌+◌, ◌<◌, ◌≤◌, ℕ, All, length, is_some, vec_capacity, Result, Ok, Err, OnErr}
 use Rattle.sc_base.specs.declared.stop.TrapReason.{TrapReason}
 use Rattle.sc_machine.specs.declared.hart.Core.{Core}
@@ -7,22 +7,22 @@ use Rattle.sc_machine.specs.declared.hart.Hart.{Hart}
 use Rattle.sc_machine.specs.Place.{IsPlace, Site}
 
 -- a state with these registers and this pc
-abbrev pub at : State → Core → State
+abbrev pub at : MachineState → Core → MachineState
 at state core = record state { regs = core.registers; pc = core.pc }
 
 -- a state in which this compartment is active, and one that has this memory, too
-abbrev pub comp_in : ℕ → State → State
+abbrev pub comp_in : ℕ → MachineState → MachineState
 comp_in c state = record state { active = c }
 
-abbrev pub active_in : ℕ → Memory → State → State
+abbrev pub active_in : ℕ → ByteMemory → MachineState → MachineState
 active_in c memory state = record state { active = c; memory = memory }
 
 -- and one that has these registers and this pc, too
-abbrev pub running : ℕ → Memory → Core → State → State
+abbrev pub running : ℕ → ByteMemory → Core → MachineState → MachineState
 running c memory core state = at (active_in c memory state) core
 
 -- the state of a machine with this memory
-abbrev pub state_in : Memory → Hart → State
+abbrev pub state_in : ByteMemory → Hart → MachineState
 state_in memory hart = record {
   regs = hart.core.registers;
   pc = hart.core.pc;
@@ -35,7 +35,7 @@ state_in memory hart = record {
 }
 
 -- what an instruction's answer says that it did, where this is the state after it
-abbrev pub outcome_of : {A : Type 0} → Result A TrapReason → State → Outcome
+abbrev pub outcome_of : {A : Type 0} → Result A TrapReason → MachineState → Outcome
 outcome_of (Ok _) state = Goes state
 outcome_of (Err reason) state = Traps reason
 
@@ -87,11 +87,11 @@ pub record LeavesSound {A : Type 0} (image : ImageParts) (result : Result A Trap
   pub stays : StaysSound image before after
 
 -- there is a byte where there was one at the start, and nowhere else
-abbrev pub IsBacked : ImageParts → Memory → Type 0
+abbrev pub IsBacked : ImageParts → ByteMemory → Type 0
 IsBacked image memory = (address : ℕ) → is_some (memory address) ≡ is_some (start_memory image address)
 
 -- a hart and a memory that a run of the image can go on from, with room for `events` events in the whole trace
-pub record CanRun (image : ImageParts) (events : ℕ) (hart : Hart) (memory : Memory) : Type 0 where
+pub record CanRun (image : ImageParts) (events : ℕ) (hart : Hart) (memory : ByteMemory) : Type 0 where
   pub room : HasRoom events hart
   pub sound : IsSound image hart
   pub backed : IsBacked image memory

@@ -1,6 +1,7 @@
 -- Helping: what is called, and what passes in the registers.
-use Rattle.sc_machine.specs.Common.{ImageParts, cleared_for_call, cleared_for_return, comp_of_code, export_at, gate}
-use Rattle.sc_machine.specs.Common.{may_call, params_of, ra, sp, written}
+use Rattle.sc_machine.specs.Common.{ImageParts, cleared_for_call, cleared_for_return, comp_of_code, entered_export}
+use Rattle.sc_machine.specs.Common.{gate}
+use Rattle.sc_machine.specs.Common.{may_call_export, export_params, ra, sp, written}
 use Rattle.std.specs.Prelude.{◌≡◌, ◌<◌, ◌≤◌, ℕ, suc, Bool, true, List, [], ◌∷◌, All, length, Some}
 use Rattle.sc_machine.specs.declared.calling.Callee.{Callee}
 use Rattle.sc_machine.specs.declared.hart.Core.{Core}
@@ -9,10 +10,10 @@ use Rattle.sc_machine.specs.declared.hart.Core.{Core}
 pub record IsCallee (image : ImageParts) (caller : ℕ) (callee : Callee) : Type 0 where
   pub comp : callee.comp ≡ comp_of_code callee.entry
   pub within : callee.comp < length image.comps
-  pub index : export_at image callee.comp callee.entry ≡ Some callee.index
-  pub params : callee.params ≡ params_of image callee.comp callee.index
+  pub index : entered_export image callee.comp callee.entry ≡ Some callee.index
+  pub params : callee.params ≡ export_params image callee.comp callee.index
   pub few : callee.params ≤ 8
-  pub may : may_call image caller callee.comp callee.index ≡ true
+  pub may : may_call_export image caller callee.comp callee.index ≡ true
 
 -- functions that the compartments from number c on may call
 abbrev pub AreCallees : ImageParts → ℕ → List (List Callee) → Type 0

@@ -1,5 +1,6 @@
 -- Helping: a compartment of an image, and what is looked up of it.
-use Rattle.sc_machine.specs.Common.{ImageParts, IsWellFormed, code_of, code_start, data_start, globals_of, most_globals}
+use Rattle.sc_machine.specs.Common.{ImageParts, IsWellFormed, code_in, code_start, data_start, initial_globals}
+use Rattle.sc_machine.specs.Common.{most_globals}
 use Rattle.sc_machine.specs.Common.{stack_size, stretch}
 use Rattle.std.specs.Prelude.{◌≡◌, ◌+◌, ◌*◌, ◌<◌, ◌≤◌, ℕ, List, length}
 
@@ -10,10 +11,10 @@ pub record IsPlace (image : ImageParts) (c : ℕ) : Type 0 where
 
 -- its code, where that begins, where its data begin, and how many bytes they have
 pub record IsLookedUp (image : ImageParts) (c : ℕ) (words : List ℕ) (code_from data_from bytes : ℕ) : Type 0 where
-  pub words_are : words ≡ code_of image c
+  pub words_are : words ≡ code_in image c
   pub code_from_is : code_from ≡ code_start c
   pub data_from_is : data_from ≡ data_start c
-  pub bytes_are : bytes ≡ stack_size + length (globals_of image c)
+  pub bytes_are : bytes ≡ stack_size + length (initial_globals image c)
   -- so that addresses of the code and the data have 32 bits
   pub few_words : 4 * length words ≤ stretch
   pub few_bytes : bytes ≤ stack_size + most_globals

@@ -2,13 +2,17 @@
 pub use Rattle.sc_word.specs.Prelude.{add_word, word_of}
 pub use Rattle.rv_code.specs.Prelude.{IsReg}
 pub use Rattle.rv_code.specs.declared.instr.Instr.{Instr}
-pub use Rattle.sc_store.specs.Prelude.{HasBytes, Memory, load_of, stored, zeros}
-pub use Rattle.sc_image.specs.Prelude.{Goes, IsWellFormed, Outcome, Run, State, Traps, a0, arguments, called, calls}
-pub use Rattle.sc_image.specs.Prelude.{code_of, comp_of_code, compares, computed, continued, data_of, environment_call}
-pub use Rattle.sc_image.specs.Prelude.{execute, export_at, export_called, exports_of, extended, globals_of, has_result}
-pub use Rattle.sc_image.specs.Prelude.{imports_of, input, input_at, is_ended, jump, load, load_size, machine, may_call}
-pub use Rattle.sc_image.specs.Prelude.{may_input, may_output, most_globals, next, on_registers, output, params_of}
-pub use Rattle.sc_image.specs.Prelude.{refused, reg, returned, saved_sp, shift_on_registers, stack_tops, start, step}
+pub use Rattle.sc_store.specs.Prelude.{HasBytes, ByteMemory, load_of, with_bytes, zeros}
+pub use Rattle.sc_image.specs.Prelude.{Goes, IsWellFormed, Outcome, MachineRun, MachineState, Traps, a0, arguments}
+pub use Rattle.sc_image.specs.Prelude.{on_call, jump_outside}
+pub use Rattle.sc_image.specs.Prelude.{code_in, comp_of_code, compares, op_result, continued, data_of, environment_call}
+pub use Rattle.sc_image.specs.Prelude.{execute, entered_export, export_called, exported_by, extended, initial_globals}
+pub use Rattle.sc_image.specs.Prelude.{has_result}
+pub use Rattle.sc_image.specs.Prelude.{imported_by, on_input, input_at, is_ended, jump, load, load_size, machine}
+pub use Rattle.sc_image.specs.Prelude.{may_call_export}
+pub use Rattle.sc_image.specs.Prelude.{may_input, may_output, most_globals, next, on_registers, on_output}
+pub use Rattle.sc_image.specs.Prelude.{export_params}
+pub use Rattle.sc_image.specs.Prelude.{refused, reg, on_return, saved_sp, shift_on_registers, stack_tops, start, step}
 pub use Rattle.sc_image.specs.Prelude.{store, store_size, stretch, written}
 unfoldable pub use Rattle.sc_image.specs.Prelude.{are_data, run, start_memory, stopped, word_at}
 pub use Rattle.sc_image.specs.declared.parts.ImageParts.{ImageParts}

@@ -1,5 +1,5 @@
 -- A loaded machine, as contracts see it.
-use Rattle.sc_machine.specs.Common.{Crossing, ImageParts, Memory, Run, State}
+use Rattle.sc_machine.specs.Common.{Crossing, ImageParts, ByteMemory, MachineRun, MachineState}
 use Rattle.std.specs.Prelude.{ℕ, List}
 use Rattle.sc_event.specs.declared.event.Event.{Event}
 use Rattle.sc_base.specs.declared.stop.Stop.{Stop}
@@ -26,7 +26,7 @@ pub record Progress (S : Type 0) : Type 0 where
   pub stop : Stop
 
 -- its state, by the bytes of its store
-abbrev pub state_of : {S : Type 0} → (S → Memory) → Progress S → State
+abbrev pub state_of : {S : Type 0} → (S → ByteMemory) → Progress S → MachineState
 state_of bytes machine = record {
   regs = machine.registers;
   pc = machine.pc;
@@ -39,7 +39,7 @@ state_of bytes machine = record {
 }
 
 -- its run so far
-abbrev pub run_of : {S : Type 0} → (S → Memory) → Progress S → Run
+abbrev pub run_of : {S : Type 0} → (S → ByteMemory) → Progress S → MachineRun
 run_of bytes machine = record { state = state_of bytes machine; stop = machine.stop }
 
 -- a machine, and one of the compartments of its image

@@ -1,6 +1,6 @@
 -- Helping: the memory of a start, as the machine makes it: zeros in each region of data, and then the bytes that some
 -- begin with.
-use Rattle.sc_machine.specs.Common.{Filled, Memory, data_with, most_globals}
+use Rattle.sc_machine.specs.Common.{Filled, ByteMemory, data_with, most_globals}
 use Rattle.sc_store.specs.Prelude.{written}
 use Rattle.std.specs.Prelude.{ℕ, suc, ◌≤◌, List, [], ◌∷◌, ◌++◌, length, map}
 use Rattle.sc_store.specs.declared.region.Region.{Region}
@@ -18,6 +18,6 @@ abbrev pub regions_of : List Filled → List Region
 regions_of all = map (λ filled. filled.region) all
 
 -- a memory with the bytes that these regions begin with
-abbrev pub filled_with : List Filled → Memory → Memory
+abbrev pub filled_with : List Filled → ByteMemory → ByteMemory
 filled_with [] memory = memory
 filled_with (filled ∷ others) memory = filled_with others (written memory filled.region.start filled.bytes)

@@ -2,7 +2,7 @@
 //! Instruction Set" and "M Extension").
 #![tactic(auto, unfolding(sc_image::specs::Step::execute_by))]
 
-ghost use Rattle.sc_machine.specs.Prelude.{Goes, ImageParts, Instr, State, at, compares, computed, execute};
+ghost use Rattle.sc_machine.specs.Prelude.{Goes, ImageParts, Instr, MachineState, at, compares, op_result, execute};
 ghost use Rattle.sc_machine.specs.Prelude.{on_registers, shift_on_registers};
 ghost use Rattle.std.specs.Prelude.{◌≡◌, ◌+◌, ◌^◌, ◌<◌, ℕ, ℤ, List};
 
@@ -15,7 +15,7 @@ use sc_word::{add, div, divu, mul, mulh, mulhsu, mulhu, rem, remu, sll, slt, slt
 /// LUI gives its immediate, AUIPC adds it to the pc.
 pub(crate) fn upper(core: &mut Core, op: UpperOp, rd: Reg, imm: UpperImmediate)
     requires { core.old.pc + 4 < 2 ^ 32 }
-    ensures { (image : ImageParts) (inputs : List ℕ) (state : State) →
+    ensures { (image : ImageParts) (inputs : List ℕ) (state : MachineState) →
         Goes (at state core.new) ≡ execute image inputs (at state core.old) (Instr.Upper op rd imm) }
 {
     match op {
@@ -27,7 +27,7 @@ pub(crate) fn upper(core: &mut Core, op: UpperOp, rd: Reg, imm: UpperImmediate)
 /// An operation on a register and an immediate.
 pub(crate) fn op_imm(core: &mut Core, op: OpImmOp, rd: Reg, rs1: Reg, imm: Immediate)
     requires { core.old.pc + 4 < 2 ^ 32 }
-    ensures { (image : ImageParts) (inputs : List ℕ) (state : State) →
+    ensures { (image : ImageParts) (inputs : List ℕ) (state : MachineState) →
         Goes (at state core.new) ≡ execute image inputs (at state core.old) (Instr.OpImm op rd rs1 imm) }
 {
     let word = with_immediate(op, core.register(rs1), word_of(imm));
@@ -37,7 +37,7 @@ pub(crate) fn op_imm(core: &mut Core, op: OpImmOp, rd: Reg, rs1: Reg, imm: Immed
 /// A shift of a register by a constant.
 pub(crate) fn shift(core: &mut Core, op: ShiftOp, rd: Reg, rs1: Reg, amount: ShiftAmount)
     requires { core.old.pc + 4 < 2 ^ 32 }
-    ensures { (image : ImageParts) (inputs : List ℕ) (state : State) →
+    ensures { (image : ImageParts) (inputs : List ℕ) (state : MachineState) →
         Goes (at state core.new) ≡ execute image inputs (at state core.old) (Instr.Shift op rd rs1 amount) }
 {
     let word = shifted(op, core.register(rs1), amount.bits() as u32);
@@ -47,7 +47,7 @@ pub(crate) fn shift(core: &mut Core, op: ShiftOp, rd: Reg, rs1: Reg, amount: Shi
 /// An operation on two registers.
 pub(crate) fn op(core: &mut Core, op: OpOp, rd: Reg, rs1: Reg, rs2: Reg)
     requires { core.old.pc + 4 < 2 ^ 32 }
-    ensures { (image : ImageParts) (inputs : List ℕ) (state : State) →
+    ensures { (image : ImageParts) (inputs : List ℕ) (state : MachineState) →
         Goes (at state core.new) ≡ execute image inputs (at state core.old) (Instr.Op op rd rs1 rs2) }
 {
     let word = computed(op, core.register(rs1), core.register(rs2));
@@ -55,7 +55,7 @@ pub(crate) fn op(core: &mut Core, op: OpOp, rd: Reg, rs1: Reg, rs2: Reg)
 }
 
 fn with_immediate(op: OpImmOp, a: u32, b: u32) -> u32
-    ensures { result ≡ computed (on_registers op) a b }
+    ensures { result ≡ op_result (on_registers op) a b }
 {
     match op {
         OpImmOp::Addi => add(a, b),
@@ -68,7 +68,7 @@ fn with_immediate(op: OpImmOp, a: u32, b: u32) -> u32
 }
 
 fn shifted(op: ShiftOp, a: u32, bits: u32) -> u32
-    ensures { result ≡ computed (shift_on_registers op) a bits }
+    ensures { result ≡ op_result (shift_on_registers op) a bits }
 {
     match op {
         ShiftOp::Slli => sll(a, bits),
@@ -78,7 +78,7 @@ fn shifted(op: ShiftOp, a: u32, bits: u32) -> u32
 }
 
 fn computed(op: OpOp, a: u32, b: u32) -> u32
-    ensures { result ≡ computed op a b }
+    ensures { result ≡ op_result op a b }
 {
     match op {
         OpOp::Add => add(a, b),

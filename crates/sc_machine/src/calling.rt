@@ -1,9 +1,12 @@
 //! Calls of other compartments.
 #![tactic(auto, unfolding(sc_image::specs::Step::execute_by))]
 
-ghost use Rattle.sc_machine.specs.Prelude.{IsCallee, IsReady, IsWellFormed, LeavesSound, Memory, State, StaysSound};
-ghost use Rattle.sc_machine.specs.Prelude.{Traps, arguments, called, calls, comp_of_code, entered, export_at};
-ghost use Rattle.sc_machine.specs.Prelude.{export_called, exports_of, may_call, outcome_of, params_of, state_in};
+ghost use Rattle.sc_machine.specs.Prelude.{IsCallee, IsReady, IsWellFormed, LeavesSound, ByteMemory, MachineState};
+ghost use Rattle.sc_machine.specs.Prelude.{StaysSound};
+ghost use Rattle.sc_machine.specs.Prelude.{Traps, arguments, on_call, jump_outside, comp_of_code, entered};
+ghost use Rattle.sc_machine.specs.Prelude.{entered_export};
+ghost use Rattle.sc_machine.specs.Prelude.{export_called, exported_by, may_call_export, outcome_of, export_params};
+ghost use Rattle.sc_machine.specs.Prelude.{state_in};
 ghost use Rattle.std.specs.Prelude.{◌≡◌, ◌==◌, position, ◌+◌, ◌^◌, ◌<◌, ◌≤◌, Some, IfOk, IfErr, OnErr};
 
 use crate::hart::{Core, Hart};
@@ -37,8 +40,8 @@ pub(crate) fn call_out(
 ) -> Result<(), TrapReason>
     requires pc { hart.old.core.pc + 4 < 2 ^ 32 }
     requires ready { IsReady here.now hart.old }
-    ensures outcome { (memory : Memory) → outcome_of result (state_in memory hart.new) ≡
-        calls here.now.image (state_in memory hart.old) rd target }
+    ensures outcome { (memory : ByteMemory) → outcome_of result (state_in memory hart.new) ≡
+        jump_outside here.now.image (state_in memory hart.old) rd target }
     ensures leaves { LeavesSound here.now.image result hart.old hart.new }
 {
     if rd as usize != RA {
@@ -62,9 +65,9 @@ fn find_callee(image: &Image, caller: CompId, target: u32) -> Result<Callee, Tra
     requires { IsWellFormed image.now }
     ensures callee { IfOk result (IsCallee image.now caller) }
     ensures entry { IfOk result (λ callee. callee.entry ≡ target) }
-    ensures trap { IfErr result (λ reason. (state : State) → state.active ≡ caller →
+    ensures trap { IfErr result (λ reason. (state : MachineState) → state.active ≡ caller →
         Traps reason ≡ export_called image.now state (comp_of_code target) target
-        (export_at image.now (comp_of_code target) target)) }
+        (entered_export image.now (comp_of_code target) target)) }
 {
     let comp = comp_of_code(target);
     let exports = exports(image, comp);
@@ -85,7 +88,7 @@ fn find_callee(image: &Image, caller: CompId, target: u32) -> Result<Callee, Tra
 
 /// What the compartment of that number offers: nothing where there is none.
 fn exports(image: &Image, comp: usize) -> &[ExportPart]
-    ensures { result.now ≡ exports_of image.now comp }
+    ensures { result.now ≡ exported_by image.now comp }
 {
     match image.parts().comps.get(comp) {
         Some(part) => part.exports.as_slice(),
@@ -102,7 +105,7 @@ fn export_at(exports: &[ExportPart], address: u32) -> Option<usize>
 
 /// Whether a compartment may call that export of another.
 fn may_call(image: &Image, caller: CompId, comp: CompId, index: u16) -> bool
-    ensures { result ≡ may_call image.now caller comp index }
+    ensures { result ≡ may_call_export image.now caller comp index }
 {
     match image.parts().comps.get(caller.number() as usize) {
         Some(part) => part
@@ -119,8 +122,8 @@ fn call(here: &Here<'_>, hart: &mut Hart, callee: &Callee)
     requires pc { hart.old.core.pc + 4 < 2 ^ 32 }
     requires ready { IsReady here.now hart.old }
     requires callee { IsCallee here.now.image here.now.comp callee.now }
-    ensures state { (memory : Memory) → state_in memory hart.new ≡
-        called (state_in memory hart.old) callee.now.comp callee.now.index callee.now.params callee.now.entry }
+    ensures state { (memory : ByteMemory) → state_in memory hart.new ≡
+        on_call (state_in memory hart.old) callee.now.comp callee.now.index callee.now.params callee.now.entry }
     ensures stays { StaysSound here.now.image hart.old hart.new }
 {
     let caller = here.comp();

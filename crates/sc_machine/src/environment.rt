@@ -1,8 +1,9 @@
 //! Calls of the environment.
 #![tactic(auto, unfolding(sc_image::specs::Step::execute_by))]
 
-ghost use Rattle.sc_machine.specs.Prelude.{Goes, IsReady, LeavesSound, Memory, StaysSound, environment_call, input};
-ghost use Rattle.sc_machine.specs.Prelude.{input_at, may_input, may_output, next, outcome_of, output, state_in};
+ghost use Rattle.sc_machine.specs.Prelude.{Goes, IsReady, LeavesSound, ByteMemory, StaysSound, environment_call};
+ghost use Rattle.sc_machine.specs.Prelude.{on_input};
+ghost use Rattle.sc_machine.specs.Prelude.{input_at, may_input, may_output, next, outcome_of, on_output, state_in};
 ghost use Rattle.sc_machine.specs.Prelude.{word_of};
 ghost use Rattle.std.specs.Prelude.{◌≡◌, ◌+◌, ◌^◌, ◌<◌, map, OnErr};
 
@@ -20,7 +21,7 @@ pub(crate) fn environment_call(
 ) -> Result<(), TrapReason>
     requires pc { hart.old.core.pc + 4 < 2 ^ 32 }
     requires ready { IsReady here.now hart.old }
-    ensures outcome { (memory : Memory) → outcome_of result (state_in memory hart.new) ≡
+    ensures outcome { (memory : ByteMemory) → outcome_of result (state_in memory hart.new) ≡
         environment_call here.now.image (map word_of inputs.now) (state_in memory hart.old) }
     ensures leaves { LeavesSound here.now.image result hart.old hart.new }
 {
@@ -42,7 +43,8 @@ pub(crate) fn environment_call(
 fn output(here: &Here<'_>, hart: &mut Hart)
     requires pc { hart.old.core.pc + 4 < 2 ^ 32 }
     requires ready { IsReady here.now hart.old }
-    ensures state { (memory : Memory) → Goes (state_in memory hart.new) ≡ next (output (state_in memory hart.old)) }
+    ensures state { (memory : ByteMemory) → Goes (state_in memory hart.new) ≡ next (on_output (state_in memory
+        hart.old)) }
     ensures stays { StaysSound here.now.image hart.old hart.new }
 {
     hart.emit(Event::Out {
@@ -66,8 +68,8 @@ fn input_at(inputs: &[i32], number: usize) -> u32
 fn input(here: &Here<'_>, inputs: &[i32], hart: &mut Hart)
     requires pc { hart.old.core.pc + 4 < 2 ^ 32 }
     requires ready { IsReady here.now hart.old }
-    ensures state { (memory : Memory) → Goes (state_in memory hart.new) ≡
-        next (input (map word_of inputs.now) (state_in memory hart.old)) }
+    ensures state { (memory : ByteMemory) → Goes (state_in memory hart.new) ≡
+        next (on_input (map word_of inputs.now) (state_in memory hart.old)) }
     ensures stays { StaysSound here.now.image hart.old hart.new }
 {
     let word = input_at(inputs, hart.input);

@@ -4,7 +4,7 @@
 
 ghost use Rattle.std.specs.List.{HoldsAt};
 ghost use Rattle.std.specs.Prelude.{IfSome, ◌≡◌, ◌+◌, ◌*◌, ◌^◌, ◌<◌, ◌≤◌, length, OnSome, IsTrue};
-ghost use Rattle.sc_image.specs.Layout.{stretch, most_globals, code_of, globals_of, word_at, are_data};
+ghost use Rattle.sc_image.specs.Layout.{stretch, most_globals, code_in, initial_globals, word_at, are_data};
 ghost use Rattle.sc_store.specs.Memory.{HasBytes};
 ghost use Rattle.sc_image.specs.State.{start_memory};
 ghost use Rattle.sc_machine.specs.Place.{IsPlace};
@@ -152,7 +152,7 @@ fn place_of(callees: &[Callee], entry: u32) -> Option<usize>
 /// The compartment's instructions, one word each.
 #[tactic(auto, using(crate::proofs::Words::short_code))]
 fn code(image: &Image, comp: CompId) -> &[u32]
-    ensures code { result.now ≡ code_of image.now comp }
+    ensures code { result.now ≡ code_in image.now comp }
     ensures short { 4 * length result.now ≤ stretch }
 {
     match image.parts().comps.get(comp.number() as usize) {
@@ -164,7 +164,7 @@ fn code(image: &Image, comp: CompId) -> &[u32]
 /// What the compartment's globals hold at the start.
 #[tactic(auto, using(crate::proofs::Words::short_globals))]
 fn globals(image: &Image, comp: CompId) -> &[u8]
-    ensures globals { result.now ≡ globals_of image.now comp }
+    ensures globals { result.now ≡ initial_globals image.now comp }
     ensures short { length result.now ≤ most_globals }
 {
     match image.parts().comps.get(comp.number() as usize) {

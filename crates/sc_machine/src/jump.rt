@@ -1,8 +1,9 @@
 //! Jumps and branches, and what lies beyond the own code.
 #![tactic(auto, unfolding(sc_image::specs::Step::execute_by))]
 
-ghost use Rattle.sc_machine.specs.Prelude.{Instr, IsReady, IsReg, LeavesSound, Memory, State, Traps, add_word, at};
-ghost use Rattle.sc_machine.specs.Prelude.{calls, comp_in, execute, jump, outcome_of, state_in, word_of};
+ghost use Rattle.sc_machine.specs.Prelude.{Instr, IsReady, IsReg, LeavesSound, ByteMemory, MachineState, Traps};
+ghost use Rattle.sc_machine.specs.Prelude.{add_word, at};
+ghost use Rattle.sc_machine.specs.Prelude.{jump_outside, comp_in, execute, jump, outcome_of, state_in, word_of};
 ghost use Rattle.std.specs.Prelude.{◌≡◌, ◌+◌, ◌^◌, ◌<◌, ℕ, List, OnErr};
 ghost use Rattle.sc_base.specs.declared.stop.TrapReason.TheVariants.{BadJump};
 
@@ -36,9 +37,9 @@ fn jump(here: &Here<'_>, hart: &mut Hart, rd: u8, target: u32) -> Result<(), Tra
     requires pc { hart.old.core.pc + 4 < 2 ^ 32 }
     requires ready { IsReady here.now hart.old }
     requires register { IsReg rd }
-    ensures outcome { (memory : Memory) → outcome_of result (state_in memory hart.new) ≡
+    ensures outcome { (memory : ByteMemory) → outcome_of result (state_in memory hart.new) ≡
         jump here.now.image (state_in memory hart.old) rd target
-        (calls here.now.image (state_in memory hart.old) rd target) }
+        (jump_outside here.now.image (state_in memory hart.old) rd target) }
     ensures leaves { LeavesSound here.now.image result hart.old hart.new }
 {
     if target % 4 != 0 {
@@ -53,7 +54,7 @@ fn jump(here: &Here<'_>, hart: &mut Hart, rd: u8, target: u32) -> Result<(), Tra
 
 /// Jumps to a place of the own code, as a branch does. There is no other place to branch to.
 fn jump_within(here: &Here<'_>, core: &mut Core, target: u32) -> Result<(), TrapReason>
-    ensures outcome { (state : State) → let there = comp_in here.now.comp state in
+    ensures outcome { (state : MachineState) → let there = comp_in here.now.comp state in
         outcome_of result (at there core.new) ≡ jump here.now.image (at there core.old) 0 target (Traps BadJump) }
     ensures trap { OnErr result (core.new ≡ core.old) }
 {
@@ -75,7 +76,7 @@ pub(crate) fn jal(
 ) -> Result<(), TrapReason>
     requires pc { hart.old.core.pc + 4 < 2 ^ 32 }
     requires ready { IsReady here.now hart.old }
-    ensures outcome { (inputs : List ℕ) (memory : Memory) →
+    ensures outcome { (inputs : List ℕ) (memory : ByteMemory) →
         outcome_of result (state_in memory hart.new) ≡
         execute here.now.image inputs (state_in memory hart.old) (Instr.Jal rd imm) }
     ensures leaves { LeavesSound here.now.image result hart.old hart.new }
@@ -93,7 +94,7 @@ pub(crate) fn branch(
     imm: BranchOffset,
 ) -> Result<(), TrapReason>
     requires pc { core.old.pc + 4 < 2 ^ 32 }
-    ensures outcome { (inputs : List ℕ) (state : State) → let there = comp_in here.now.comp state in
+    ensures outcome { (inputs : List ℕ) (state : MachineState) → let there = comp_in here.now.comp state in
         outcome_of result (at there core.new) ≡ execute here.now.image inputs (at there core.old)
         (Instr.Branch op rs1 rs2 imm) }
     ensures trap { OnErr result (core.new ≡ core.old) }
@@ -116,7 +117,7 @@ pub(crate) fn jalr(
 ) -> Result<(), TrapReason>
     requires pc { hart.old.core.pc + 4 < 2 ^ 32 }
     requires ready { IsReady here.now hart.old }
-    ensures outcome { (inputs : List ℕ) (memory : Memory) →
+    ensures outcome { (inputs : List ℕ) (memory : ByteMemory) →
         outcome_of result (state_in memory hart.new) ≡
         execute here.now.image inputs (state_in memory hart.old) (Instr.Jalr rd rs1 imm) }
     ensures leaves { LeavesSound here.now.image result hart.old hart.new }

@@ -1,8 +1,8 @@
 //! Loads and stores, through whatever keeps the bytes.
 #![tactic(auto, unfolding(sc_image::specs::Step::execute_by))]
 
-ghost use Rattle.sc_machine.specs.Prelude.{HasBytes, IsBacked, State, active_in, at, extended, load, load_of};
-ghost use Rattle.sc_machine.specs.Prelude.{load_size, outcome_of, refused, start_memory, store, store_size, stored};
+ghost use Rattle.sc_machine.specs.Prelude.{HasBytes, IsBacked, MachineState, active_in, at, extended, load, load_of};
+ghost use Rattle.sc_machine.specs.Prelude.{load_size, outcome_of, refused, start_memory, store, store_size, with_bytes};
 ghost use Rattle.std.specs.Prelude.{◌≡◌, ◌+◌, ◌^◌, ◌<◌, ◌≤◌, ℕ, length, OnErr, OnSome, IfNone, IfSome};
 
 use crate::hart::Core;
@@ -23,7 +23,7 @@ pub(crate) fn load<S: Store>(
 ) -> Result<(), TrapReason>
     requires pc { core.old.pc + 4 < 2 ^ 32 }
     requires backed { IsBacked here.now.image (S.bytes memory.now) }
-    ensures outcome { (state : State) → let there = active_in here.now.comp (S.bytes memory.now) state in
+    ensures outcome { (state : MachineState) → let there = active_in here.now.comp (S.bytes memory.now) state in
         outcome_of result (at there core.new) ≡ load here.now.image (at there core.old) op rd address }
     ensures trap { OnErr result (core.new ≡ core.old) }
 {
@@ -46,7 +46,7 @@ pub(crate) fn store<S: Store>(
 ) -> Result<(), TrapReason>
     requires pc { core.old.pc + 4 < 2 ^ 32 }
     requires backed { IsBacked here.now.image (S.bytes memory.old) }
-    ensures outcome { (state : State) → outcome_of result
+    ensures outcome { (state : MachineState) → outcome_of result
         (at (active_in here.now.comp (S.bytes memory.new) state) core.new) ≡
         store here.now.image (at (active_in here.now.comp (S.bytes memory.old) state) core.old) op address word }
     ensures trap { OnErr result (core.new ≡ core.old) }
@@ -157,7 +157,7 @@ fn signed_half(half: u32) -> u32
 #[inline(always)]
 fn put<S: Store>(memory: &mut S, op: StoreOp, address: u32, word: u32)
     requires { HasBytes (S.bytes memory.old) address (store_size op) }
-    ensures { S.bytes memory.new ≡ stored (S.bytes memory.old) address (store_size op) word }
+    ensures { S.bytes memory.new ≡ with_bytes (S.bytes memory.old) address (store_size op) word }
 {
     match op {
         StoreOp::Sw => memory.store32(address, word),
@@ -168,7 +168,7 @@ fn put<S: Store>(memory: &mut S, op: StoreOp, address: u32, word: u32)
 #[inline(never)]
 fn put_any<S: Store>(memory: &mut S, op: StoreOp, address: u32, word: u32)
     requires { HasBytes (S.bytes memory.old) address (store_size op) }
-    ensures { S.bytes memory.new ≡ stored (S.bytes memory.old) address (store_size op) word }
+    ensures { S.bytes memory.new ≡ with_bytes (S.bytes memory.old) address (store_size op) word }
 {
     match op {
         StoreOp::Sb => memory.store8(address, word),

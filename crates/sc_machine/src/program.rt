@@ -2,7 +2,7 @@
 #![tactic(auto, unfolding(sc_image::specs::Step::execute_by))]
 
 ghost use Rattle.std.specs.Prelude.{◌≡◌, All, IfOk, IfErr, IfSome, IsTrue};
-ghost use Rattle.sc_image.specs.Calls.{imports_of, may_call};
+ghost use Rattle.sc_image.specs.Calls.{imported_by, may_call_export};
 ghost use Rattle.sc_machine.specs.Passing.{IsCallee, AreCallees};
 
 use crate::calling::Callee;
@@ -93,7 +93,7 @@ fn callees_of(alloc: Global, image: &Image, caller: CompId) -> Result<Callees, A
 
 /// The function that an import of the caller leads to.
 fn imported(image: &Image, caller: CompId, import: &ImportPart) -> Option<Callee>
-    requires { IsTrue (may_call image.now caller import.now.comp import.now.index) }
+    requires { IsTrue (may_call_export image.now caller import.now.comp import.now.index) }
     ensures { IfSome result (IsCallee image.now caller) }
 {
     let comp = image.parts().comps.get(import.comp.number() as usize)?;
@@ -108,7 +108,7 @@ fn imported(image: &Image, caller: CompId, import: &ImportPart) -> Option<Callee
 
 /// What the compartment imports.
 fn imports(image: &Image, comp: CompId) -> &[ImportPart]
-    ensures { result.now ≡ imports_of image.now comp }
+    ensures { result.now ≡ imported_by image.now comp }
 {
     match image.parts().comps.get(comp.number() as usize) {
         Some(part) => part.imports.as_slice(),

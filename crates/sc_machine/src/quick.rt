@@ -2,7 +2,8 @@
 //! which compartment's code runs, is the same after them.
 #![tactic(auto, unfolding(sc_image::specs::Step::execute_by))]
 
-ghost use Rattle.sc_machine.specs.Prelude.{Goes, IsBacked, IsReg, Outcome, State, at, comp_in, execute, jump, running};
+ghost use Rattle.sc_machine.specs.Prelude.{Goes, IsBacked, IsReg, Outcome, MachineState, at, comp_in, execute, jump};
+ghost use Rattle.sc_machine.specs.Prelude.{running};
 ghost use Rattle.std.specs.Prelude.{◌≡◌, ◌+◌, ◌^◌, ◌<◌, ℕ, List, false, IsTrue};
 
 use crate::arithmetic::{op, op_imm, shift, upper};
@@ -24,7 +25,7 @@ pub(crate) fn execute_quick<S: Store>(
 ) -> bool
     requires backed { IsBacked here.now.image (S.bytes memory.old) }
     requires pc { core.old.pc + 4 < 2 ^ 32 }
-    ensures goes { IsTrue result → (inputs : List ℕ) (state : State) →
+    ensures goes { IsTrue result → (inputs : List ℕ) (state : MachineState) →
         Goes (running here.now.comp (S.bytes memory.new) core.new state) ≡
         execute here.now.image inputs (running here.now.comp (S.bytes memory.old) core.old state) instr.now }
     ensures stays { result ≡ false → core.new ≡ core.old }
@@ -77,7 +78,7 @@ pub(crate) fn execute_quick<S: Store>(
 fn jump_inside(here: &Here<'_>, core: &mut Core, rd: u8, target: u32) -> bool
     requires pc { core.old.pc + 4 < 2 ^ 32 }
     requires register { IsReg rd }
-    ensures goes { IsTrue result → (state : State) (elsewhere : Outcome) →
+    ensures goes { IsTrue result → (state : MachineState) (elsewhere : Outcome) →
         let there = comp_in here.now.comp state in
         Goes (at there core.new) ≡ jump here.now.image (at there core.old) rd target elsewhere }
     ensures stays { result ≡ false → core.new ≡ core.old }

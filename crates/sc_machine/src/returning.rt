@@ -1,7 +1,8 @@
 //! Returns through the gate.
 #![tactic(auto, unfolding(sc_image::specs::Step::execute_by))]
 
-ghost use Rattle.sc_machine.specs.Prelude.{IsReady, Memory, StaysSound, a0, has_result, resumed, returned, state_in};
+ghost use Rattle.sc_machine.specs.Prelude.{IsReady, ByteMemory, StaysSound, a0, has_result, resumed, on_return};
+ghost use Rattle.sc_machine.specs.Prelude.{state_in};
 ghost use Rattle.std.specs.Prelude.{◌≡◌, Some, None, if◌then◌else◌, slice_index};
 
 use crate::hart::{Core, Hart};
@@ -14,8 +15,8 @@ use sc_image::layout::{A0, SP};
 /// Returns to the latest caller that waits. Where none does, the run ends.
 pub(crate) fn leave(here: &Here<'_>, hart: &mut Hart)
     requires ready { IsReady here.now hart.old }
-    ensures state { (memory : Memory) → state_in memory hart.new ≡
-        returned here.now.image (state_in memory hart.old) hart.old.cross.calls }
+    ensures state { (memory : ByteMemory) → state_in memory hart.new ≡
+        on_return here.now.image (state_in memory hart.old) hart.old.cross.calls }
     ensures stays { StaysSound here.now.image hart.old hart.new }
 {
     let leaving = here.comp();

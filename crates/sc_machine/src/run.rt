@@ -1,7 +1,7 @@
 //! A run: steps until something stops it.
 #![tactic(auto, unfolding(sc_image::specs::Step::execute_by))]
 
-ghost use Rattle.sc_machine.specs.Prelude.{CanRun, Run, is_ended, run, state_in, stopped, word_of};
+ghost use Rattle.sc_machine.specs.Prelude.{CanRun, MachineRun, is_ended, run, state_in, stopped, word_of};
 ghost use Rattle.std.specs.Prelude.{◌≡◌, map};
 
 use crate::execute::step;
@@ -24,7 +24,7 @@ pub(crate) fn run<S: Store>(
     steps: u32,
 ) -> Stop
     requires ready { CanRun program.now events hart.old (S.bytes memory.old) }
-    ensures run { ◌≡◌ {A = Run} (record { state = state_in (S.bytes memory.new) hart.new; stop = result })
+    ensures run { ◌≡◌ {A = MachineRun} (record { state = state_in (S.bytes memory.new) hart.new; stop = result })
         (run program.now (map word_of inputs.now) events steps (state_in (S.bytes memory.old) hart.old)) }
     ensures ready { CanRun program.now events hart.new (S.bytes memory.new) }
 {

@@ -6,8 +6,8 @@ pub use Rattle.sc_base.proofs.Lists.{drop-step, position-cons}
 pub use Rattle.sc_event.specs.Prelude.{performer}
 pub use Rattle.sc_event.specs.declared.event.Event.{Event}
 pub use Rattle.sc_event.specs.declared.interface.Interfaces.{Interfaces}
-pub use Rattle.sc_explanation.specs.declared.explanation.Explanation.{Explanation}
-pub use Rattle.sc_explanation.specs.declared.explanation.Link.{Link}
+pub use Rattle.sc_core.specs.declared.explanation.Explanation.{Explanation}
+pub use Rattle.sc_core.specs.declared.explanation.Link.{Link}
 pub use Rattle.sc_policy.specs.declared.policy.Policy.{Policy}
 pub use Rattle.sc_policy.specs.declared.policy.Rule.{Rule}
 pub use Rattle.sc_monitor.specs.Prelude.{IsViolation, NamesNoEvent, after_move, by_goal, by_rule, goal_of, is_compromised}

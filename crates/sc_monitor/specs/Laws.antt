@@ -3,7 +3,7 @@ use Rattle.std.specs.Prelude.{◌≡◌, ℕ, ◌+◌, false, List, take, slice_
 use Rattle.sc_event.specs.Prelude.{performer}
 use Rattle.sc_event.specs.declared.event.Event.{Event}
 use Rattle.sc_event.specs.declared.interface.Interfaces.{Interfaces}
-use Rattle.sc_explanation.specs.declared.explanation.Link.{Link}
+use Rattle.sc_core.specs.declared.explanation.Link.{Link}
 use Rattle.sc_policy.specs.declared.policy.Rule.{Rule}
 use Rattle.sc_monitor.specs.Matching.{matches}
 use Rattle.sc_monitor.specs.Verdict.{goal_of, is_compromised, rule_for, verdict_from}

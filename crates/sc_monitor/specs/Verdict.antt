@@ -5,8 +5,8 @@ use Rattle.std.specs.List.{list_any}
 use Rattle.sc_event.specs.Prelude.{performer}
 use Rattle.sc_event.specs.declared.event.Event.{Event}
 use Rattle.sc_event.specs.declared.interface.Interfaces.{Interfaces}
-use Rattle.sc_explanation.specs.declared.explanation.Explanation.{Explanation}
-use Rattle.sc_explanation.specs.declared.explanation.Link.{Link}
+use Rattle.sc_core.specs.declared.explanation.Explanation.{Explanation}
+use Rattle.sc_core.specs.declared.explanation.Link.{Link}
 use Rattle.sc_policy.specs.declared.policy.Policy.{Policy}
 use Rattle.sc_policy.specs.declared.policy.Rule.{Rule}
 use Rattle.sc_monitor.specs.Matching.{matches}

@@ -5,8 +5,8 @@ ghost use Rattle.std.specs.Prelude.{◌≡◌, ◌<◌, ◌^◌, ◌≤◌, leng
 
 use crate::Verdict;
 use crate::matching::matches;
+use sc_core::{Explanation, Link};
 use sc_event::{CompId, Event, Interfaces};
-use sc_explanation::{Explanation, Link};
 use sc_policy::{Policy, Rule};
 
 // What an event does to the automaton.

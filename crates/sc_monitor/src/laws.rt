@@ -3,7 +3,7 @@
 ghost use Rattle.sc_monitor.specs.Laws.{IsViolation, NamesNoEvent};
 ghost use Rattle.sc_monitor.specs.Verdict.{is_compromised, verdict};
 ghost use Rattle.sc_event.specs.declared.interface.Interfaces.{Interfaces};
-ghost use Rattle.sc_explanation.specs.declared.explanation.Explanation.{Explanation};
+ghost use Rattle.sc_core.specs.declared.explanation.Explanation.{Explanation};
 ghost use Rattle.sc_monitor.specs.declared.verdict.Verdict.TheVariants.{Holds, Violated};
 ghost use Rattle.sc_policy.specs.declared.policy.Policy.{Policy};
 ghost use Rattle.std.specs.Prelude.{◌≡◌, ℕ, Bool, false, []};

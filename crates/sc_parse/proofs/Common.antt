@@ -9,7 +9,8 @@ pub use Rattle.std.proofs.lemmas.List.{length-map, take_more}
 pub use Rattle.std.proofs.lemmas.Option.{none-some}
 pub use Rattle.std.specs.Option.{option_map, option_map_or, option_or}
 pub use Rattle.sc_base.specs.Prelude.{is_name, is_reserved, loosest_level, name_of}
-pub use Rattle.sc_lex.specs.Prelude.{IsSpan, directive_kind, heading_name, is_export, is_import, is_integer, line_after}
+pub use Rattle.sc_lex.specs.Prelude.{IsSpan, directive_kind, heading_name, is_export, is_import, is_integer_constant}
+pub use Rattle.sc_lex.specs.Prelude.{line_after}
 pub use Rattle.sc_lex.specs.Prelude.{mark_kind, words}
 unfoldable pub use Rattle.sc_lex.specs.Prelude.{integer_of, line_kind, word_kind}
 pub use Rattle.sc_lex.specs.declared.token.Token.{Token}
@@ -18,14 +19,15 @@ pub use Rattle.sc_ast.proofs.Statements.{plain_height, return_call_height, retur
 pub use Rattle.sc_ast.proofs.Statements.{while_height}
 pub use Rattle.sc_ast.specs.Prelude.{Number, array_length, call_height, decl_height, decls_height, expr_height}
 pub use Rattle.sc_ast.specs.Prelude.{exprs_height, has_nameless, head_of, highest, init_height, is_place, kind_height}
-pub use Rattle.sc_ast.specs.Prelude.{kind_of, local_height, locals_height, non_empty, option_height, param_of}
+pub use Rattle.sc_ast.specs.Prelude.{stmt_kind_of, local_height, locals_height, non_empty, option_height, param_of}
 pub use Rattle.sc_ast.specs.Prelude.{section_height, simple_kind_height, stmts_height}
 pub use Rattle.sc_ast.specs.declared.section.FunctionParam.{FunctionParam}
 pub use Rattle.sc_parse_expr.proofs.Ahead.{bound, cond_is, first_mark, glued, name_ahead, same_some}
 pub use Rattle.sc_parse_expr.proofs.Balance.{open_along, open_low}
 pub use Rattle.sc_parse_expr.proofs.Sound.{read_sound}
 pub use Rattle.sc_parse_expr.specs.Prelude.{IsIdent, IsMark, Spells, arrow, binary_of, extension_at, following, found}
-pub use Rattle.sc_parse_expr.specs.Prelude.{ident_in, import_of, index, is_mark, joined, lead_by, lexeme_of, literal}
+pub use Rattle.sc_parse_expr.specs.Prelude.{ident_in, import_symbol, index, is_mark, joined, lead_by, lexeme_of}
+pub use Rattle.sc_parse_expr.specs.Prelude.{literal}
 pub use Rattle.sc_parse_expr.specs.Prelude.{look_up, looser, mark_texts, member, most_open, name_at, number_in}
 pub use Rattle.sc_parse_expr.specs.Prelude.{open_after, open_after_mark, or_unused, parenthesised, prefix, prefix_of}
 pub use Rattle.sc_parse_expr.specs.Prelude.{prefixed, read, symbol_of, third_word, variable, ◌>>=◌}

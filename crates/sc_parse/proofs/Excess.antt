@@ -1,4 +1,5 @@
 -- Brackets along a section.
+use Rattle.sc_base.specs.Prelude.{most_brackets}
 use Rattle.sc_parse.proofs.Common.{IsExcess, Lexeme, List, [], ap, arith, get_or, length, max, most_open, open_after}
 use Rattle.sc_parse.proofs.Common.{open_along, refl, sym, take, take_more, ℕ, ◌++◌, ◌+◌, ◌<◌, ◌∙◌, ◌∷◌, ◌≡◌, ◌≤◌}
 
@@ -15,8 +16,8 @@ most_snoc n (u ∷ ts) t = let h = most_snoc (open_after u.symbol n) ts t in ome
 -- `count` brackets are open after the first `at` lexemes, and never too many were
 pub record IsWithin (lexemes : List Lexeme) (at count : ℕ) : Type 0 where
   pub count_is : count ≡ open_along 0 (take at lexemes)
-  pub few : most_open 0 (take at lexemes) ≤ 1024
-  pub low : count ≤ 1024
+  pub few : most_open 0 (take at lexemes) ≤ most_brackets
+  pub low : count ≤ most_brackets
 
 more_open : (lexemes : List Lexeme) (at count : ℕ) (t : Lexeme) → at < length lexemes → IsWithin lexemes at count →
     open_along 0 (take (at + 1) lexemes) ≡ open_after (get_or lexemes at t).symbol count
@@ -32,7 +33,7 @@ more_most lexemes at count t h w =
     ap (λ n. max (most_open 0 (take at lexemes)) (open_after (get_or lexemes at t).symbol n)) (sym w.count_is)
 
 pub within_on : (lexemes : List Lexeme) (at count next : ℕ) (t : Lexeme) → at < length lexemes →
-    IsWithin lexemes at count → t ≡ get_or lexemes at t → next ≡ open_after t.symbol count → next ≤ 1024 →
+    IsWithin lexemes at count → t ≡ get_or lexemes at t → next ≡ open_after t.symbol count → next ≤ most_brackets →
     IsWithin lexemes (at + 1) next
 within_on lexemes at count next t h w is q few =
     let same : next ≡ open_after (get_or lexemes at t).symbol count = q ∙ ap (λ u. open_after u.symbol count) is in
@@ -44,7 +45,7 @@ within_on lexemes at count next t h w is q few =
     }
 
 pub excess : (lexemes : List Lexeme) (at count next : ℕ) (t : Lexeme) → at < length lexemes →
-    IsWithin lexemes at count → t ≡ get_or lexemes at t → next ≡ open_after t.symbol count → 1024 < next →
+    IsWithin lexemes at count → t ≡ get_or lexemes at t → next ≡ open_after t.symbol count → most_brackets < next →
     IsExcess lexemes at
 excess lexemes at count next t h w is q many =
     let same = q ∙ ap (λ u. open_after u.symbol count) is in

@@ -4,7 +4,7 @@ use Rattle.sc_parse.proofs.Common.{SimpleKind, Some, SpellsBlock, SpellsIf, Spel
 use Rattle.sc_parse.proofs.Common.{after_else, after_for, after_if, after_while, ap, append-nil, append_assoc, arith}
 use Rattle.sc_parse.proofs.Common.{begins_with, block, block_at, bound, choice, cond, drop, else_at, empty, ended_at}
 use Rattle.sc_parse.proofs.Common.{false, false≢true, first_line, first_part, for_head, for_height, for_loop, for_parts}
-use Rattle.sc_parse.proofs.Common.{if_height, is_else, is_if, keyword_at, kind_by, kind_height, kind_of, last_part}
+use Rattle.sc_parse.proofs.Common.{if_height, is_else, is_if, keyword_at, kind_by, kind_height, stmt_kind_of, last_part}
 use Rattle.sc_parse.proofs.Common.{lone_if, loop_of, middle_part, none-some, otherwise, otherwise_if, plain_at}
 use Rattle.sc_parse.proofs.Common.{plain_height, refl, return_call, return_call_height, return_nothing, return_value}
 use Rattle.sc_parse.proofs.Common.{returned, simple_at, stmt_at, stmt_tree, stmt_within, stmts_at, stmts_height, subst}
@@ -85,7 +85,7 @@ block_no_if (block t u p q d) rest = rw p
 
 plain_ended : (free : ℕ) → (room : ℕ) (ts : List Lexeme) (t : Lexeme) (rest : List Lexeme) (k : SimpleKind) →
     IsMark mark.Semicolon t → keyword_at ts ≡ None → begins_with mark.Semicolon ts ≡ false →
-    simple_at free room ts ≡ Some (k, t ∷ rest) → ended_at free room ts ≡ Some (kind_of k, rest)
+    simple_at free room ts ≡ Some (k, t ∷ rest) → ended_at free room ts ≡ Some (stmt_kind_of k, rest)
 unfolding ended_at plain_at
 plain_ended free room ts t rest k p none other read = rw (none, other, read, p)
 

@@ -6,7 +6,8 @@ use Rattle.sc_parse.proofs.Common.{a_part, a_test, ap, append_assoc, arith, assi
 use Rattle.sc_parse.proofs.Common.{break_height, call, choice, compound, cond, cond_is, condition, condition_at}
 use Rattle.sc_parse.proofs.Common.{continue_height, drop, empty, empty_height, ended_at, expr_height, false, false≢true}
 use Rattle.sc_parse.proofs.Common.{first_line, first_mark, for_loop, glued, is_base, is_else, is_if, is_some}
-use Rattle.sc_parse.proofs.Common.{keyword_at, keyword_by, kind_height, kind_of, le-leb, lead_by, leb, leb-true, length}
+use Rattle.sc_parse.proofs.Common.{keyword_at, keyword_by, kind_height, stmt_kind_of, le-leb, lead_by, leb, leb-true}
+use Rattle.sc_parse.proofs.Common.{length}
 use Rattle.sc_parse.proofs.Common.{length-append, lone_if, no_base, no_part, no_test, not, option_height, otherwise}
 use Rattle.sc_parse.proofs.Common.{otherwise_if, part_at, plain_at, plain_height, read, refl, return_call}
 use Rattle.sc_parse.proofs.Common.{return_call_height, return_height, return_nothing, return_value, returned, simple_at}
@@ -253,7 +254,7 @@ simple_sound : (free room : ℕ) → Sound (Unended room) (simple_or_none free r
 simple_sound free room ts rest x h = chosen _ _ _ h
     (λ q e. took [] e refl (λ u p. (empty u p, omega (arith, empty_height))))
     (λ q e. as_form (made_of (Unended room) (λ us k d u p. (plain u p d.0, omega (arith, plain_height k, d.1))))
-    ((made_exact (λ k. kind_of k) (simple_exact free room)).sound ts rest x e))
+    ((made_exact (λ k. stmt_kind_of k) (simple_exact free room)).sound ts rest x e))
 
 unended_sound : (free room : ℕ) → Sound (Unended room) (λ ts. plain_at free room (keyword_at ts) ts)
 unfolding plain_at

@@ -1,12 +1,13 @@
 -- Tokens say something.
 use Rattle.sc_parse.proofs.Common.{Bool, IsSpan, List, Mark, None, Option, Some, Symbol, Token, [], ap, arith, bytes_eq}
 use Rattle.sc_parse.proofs.Common.{codes, cond, directive_kind, false, false≢true, get_or, heading_name, ident_in}
-use Rattle.sc_parse.proofs.Common.{import_of, integer_of, is_export, is_import, is_integer, is_name, is_reserved}
+use Rattle.sc_parse.proofs.Common.{import_symbol, integer_of, is_export, is_import, is_integer_constant, is_name}
+use Rattle.sc_parse.proofs.Common.{is_reserved}
 use Rattle.sc_parse.proofs.Common.{is_some, le-leb, leb-false, line_kind, look_up, map, mark_kind, mark_of, mark_texts}
 use Rattle.sc_parse.proofs.Common.{name_of, nat_le, nat_lt, none-some, number_in, option_map, option_or, or_unused}
 use Rattle.sc_parse.proofs.Common.{refl, same_some, says, slice_range, subst, sym, symbol_of, third_word, true}
 use Rattle.sc_parse.proofs.Common.{word_kind, words, ℕ, ◌&&◌, ◌||◌, ◌∙◌, ◌∷◌, ◌≡◌}
-use Rattle.sc_lex.specs.Prelude.{is_mark, kind_of}
+use Rattle.sc_lex.specs.Prelude.{is_mark, token_kind}
 use Rattle.std.specs.List.{list_any}
 use Rattle.std.proofs.lemmas.Slice.Eq.{bytes_eq-Decides}
 use Rattle.sc_base.proofs.Bools.{and_first, and_rest}
@@ -38,7 +39,7 @@ typed false value = go _ refl
         either false = refl
     go false q = ap (λ b. b || false) (le-leb 2147483648 value (omega (arith, leb-false value 2147483647 q)))
 
-integer_speaks : (text : List ℕ) → is_integer text ≡ true → is_some (number_in text) ≡ true
+integer_speaks : (text : List ℕ) → is_integer_constant text ≡ true → is_some (number_in text) ≡ true
 unfolding integer_of
 integer_speaks text h = rw (h, typed _ _)
 
@@ -74,7 +75,7 @@ export_speaks (a ∷ b ∷ c ∷ []) h = named_word c (and_rest _ _ h)
 export_speaks (a ∷ b ∷ c ∷ d ∷ more) h = absurd (false≢true h)
 
 import_speaks : (ws : List (List ℕ)) → is_import ws ≡ true →
-    is_some (import_of (name_of (get_or ws 2 [])) (name_of (get_or ws 3 []))) ≡ true
+    is_some (import_symbol (name_of (get_or ws 2 [])) (name_of (get_or ws 3 []))) ≡ true
 import_speaks [] h = absurd (false≢true h)
 import_speaks (a ∷ []) h = absurd (false≢true h)
 import_speaks (a ∷ b ∷ []) h = absurd (false≢true h)
@@ -84,7 +85,7 @@ import_speaks (a ∷ b ∷ c ∷ d ∷ []) h =
     both _ refl _ refl (and_rest words _ (and_first _ _ h)) (and_rest _ _ h)
   where
     both : (x : Bool) → is_name c ≡ x → (y : Bool) → is_name d ≡ y → x ≡ true → y ≡ true →
-        is_some (import_of (name_of c) (name_of d)) ≡ true
+        is_some (import_symbol (name_of c) (name_of d)) ≡ true
     both true p true q e f = rw (p, q)
     both true p false q e f = absurd (false≢true f)
     both false p y q e f = absurd (false≢true e)
@@ -99,7 +100,7 @@ word_speaks text k free h = chosen (is_reserved text) (Some kind.Reserved) _ h
     (λ p e. absurd (free (sym (same_some e))))
     (λ p e. chosen (is_name text) (Some kind.Ident) _ e (λ q e. as_kind text k kind.Ident e
     (mapped (λ name. symbol.Ident name) (ident_in text) (ident_speaks text p q)))
-    (λ q e. chosen (is_integer text) (Some kind.Integer) None e (λ t e. as_kind text k kind.Integer e
+    (λ q e. chosen (is_integer_constant text) (Some kind.Integer) None e (λ t e. as_kind text k kind.Integer e
     (mapped (λ number. symbol.Integer number) (number_in text) (integer_speaks text t)))
     (λ t e. absurd (none-some k e))))
 
@@ -121,8 +122,8 @@ directive_speaks : (text : List ℕ) (k : TokenKind) → directive_kind text ≡
 directive_speaks text k h = chosen _ (line_kind text) None h (λ q e. line_speaks text k e)
     (λ q e. absurd (none-some k e))
 
-kind_speaks : (text : List ℕ) (k : TokenKind) → (k ≡ kind.Reserved → ⊥) → kind_of text ≡ Some k → Speaks k text
-unfolding kind_of
+kind_speaks : (text : List ℕ) (k : TokenKind) → (k ≡ kind.Reserved → ⊥) → token_kind text ≡ Some k → Speaks k text
+unfolding token_kind
 kind_speaks text k free h = go (word_kind text) refl _ refl h
   where
     go : (w : Option TokenKind) → word_kind text ≡ w → (m : Option TokenKind) → mark_kind text ≡ m →

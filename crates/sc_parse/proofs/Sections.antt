@@ -1,4 +1,5 @@
 -- Sections are read exactly as they are spelled, within the limits of height and of brackets, and no lexemes spell two.
+use Rattle.sc_base.specs.Prelude.{most_brackets, most_height}
 use Rattle.sc_parse.proofs.Common.{Decl, Grouped, Lexeme, List, SectionTree, Some, SpellsDecl, SpellsSection, Symbol}
 use Rattle.sc_parse.proofs.Common.{[], ap, append-nil, arith, bound, compartment_at, compartment_by, decl_height}
 use Rattle.sc_parse.proofs.Common.{decls_at, decls_height, directives, directives_at, false≢true, is_empty, length}
@@ -103,13 +104,13 @@ within_complete free limit {line} (section {ts = ts} {us = us} {exports = export
 
 -- what is read as a section is spelled so, to the end, and is at most 256 high
 pub section_sound : (line : ℕ) (ts rest : List Lexeme) (x : SectionTree) → section_at line ts ≡ Some (x, rest) →
-    IsSection 256 line ts x × (rest ≡ [])
-section_sound line ts rest x h = within_sound 1024 256 line ts rest x h
+    IsSection most_height line ts x × (rest ≡ [])
+section_sound line ts rest x h = within_sound most_brackets most_height line ts rest x h
 
 -- what is spelled as a section, at most 256 high and with 1,024 open brackets at most, is read so
 pub section_complete : {line : ℕ} {ts : List Lexeme} {x : SectionTree} (d : SpellsSection line ts x) →
-    section_height x ≤ 256 → most_open 0 ts ≤ 1024 → section_at line ts ≡ Some (x, [])
-section_complete d low few = within_complete 1024 256 d low few
+    section_height x ≤ most_height → most_open 0 ts ≤ most_brackets → section_at line ts ≡ Some (x, [])
+section_complete d low few = within_complete most_brackets most_height d low few
 
 -- lexemes spell one section at most
 pub sections_agree : (line : ℕ) (ts : List Lexeme) (x y : SectionTree) → SpellsSection line ts x →

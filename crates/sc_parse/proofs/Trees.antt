@@ -1,4 +1,5 @@
 -- What a section with its lexemes is parsed to.
+use Rattle.sc_base.specs.Prelude.{most_brackets}
 use Rattle.sc_parse.proofs.Common.{Any, Err, IfOk, IsErrOf, IsExcess, IsParsed, Lexeme, List, None, Ok, Option, Parses}
 use Rattle.sc_parse.proofs.Common.{Result, SectionTree, Some, Token, [], ap, arith, cond, cond_is, le-leb, leb}
 use Rattle.sc_parse.proofs.Common.{leb-true, length, length-map, lexeme_of, lexemes_of, line_after, lt-leb, map}
@@ -19,18 +20,18 @@ fewer n (suc k) (t ∷ ts) = omega (arith, fewer (open_after t.symbol n) k ts)
 pub too_many : (line : ℕ) (ts : List Lexeme) (at : ℕ) → IsExcess ts at → tree_of line ts ≡ None
 unfolding tree_of
 too_many line ts at e = ap (λ b. cond b (option_map (λ x. x.0) (section_at line ts)) None)
-    (lt-leb (most_open 0 ts) 1024 (omega (arith, fewer 0 (at + 1) ts, e.many)))
+    (lt-leb (most_open 0 ts) most_brackets (omega (arith, fewer 0 (at + 1) ts, e.many)))
 
 pub unread : (line : ℕ) (ts : List Lexeme) → section_at line ts ≡ None → tree_of line ts ≡ None
 unfolding tree_of
 unread line ts h = chosen _ _ _ refl (λ q e. sym e ∙ ap (λ o. option_map (λ x. x.0) o) h) (λ q e. sym e)
 
 pub tree_found : (line : ℕ) (ts rest : List Lexeme) (x : SectionTree) → section_at line ts ≡ Some (x, rest) →
-    most_open 0 ts ≤ 1024 → tree_of line ts ≡ Some x
+    most_open 0 ts ≤ most_brackets → tree_of line ts ≡ Some x
 unfolding tree_of
 tree_found line ts rest x h few =
     ap (λ b. cond b (option_map (λ x. x.0) (section_at line ts)) None)
-    (le-leb _ 1024 few) ∙ ap (λ o. option_map (λ x. x.0) o) h
+    (le-leb _ most_brackets few) ∙ ap (λ o. option_map (λ x. x.0) o) h
 
 pub ruleset trees = (too_many, unread, tree_found)
 
@@ -39,7 +40,7 @@ pub parsed : (line : ℕ) (ts : List Lexeme) (result : Result SectionTree TextFa
 unfolding tree_of
 parsed line ts (Err e) h = tt
 parsed line ts (Ok tree) h =
-    let c = cond_is (leb (most_open 0 ts) 1024) (option_map _ _) tree h in
+    let c = cond_is (leb (most_open 0 ts) most_brackets) (option_map _ _) tree h in
     go (section_at line ts) refl c.1
   where
     go : (o : Option (SectionTree × List Lexeme)) → section_at line ts ≡ o → option_map (λ x. x.0) o ≡ Some tree →
@@ -47,8 +48,8 @@ parsed line ts (Ok tree) h =
     go None q e = absurd (none-some tree e)
     go (Some x) q e =
         let s = (section_sound line ts x.1 tree (q ∙ ap (λ t. Some (t, x.1)) (same_some e))).0 in
-        let c = cond_is (leb _ 1024) (option_map (λ x. x.0) _) tree h in
-        record { spelled = s.0; low = s.1; few = leb-true (most_open 0 ts) 1024 c.0 }
+        let c = cond_is (leb _ most_brackets) (option_map (λ x. x.0) _) tree h in
+        record { spelled = s.0; low = s.1; few = leb-true (most_open 0 ts) most_brackets c.0 }
 
 -- the fault is a refusal
 abbrev IsRefusal : Result SectionTree TextFault → Type 0

@@ -1,4 +1,5 @@
 -- What a section with its lexemes is parsed to, within the limits.
+use Rattle.sc_base.specs.Prelude.{most_brackets, most_height}
 use Rattle.sc_parse.specs.Common.{Lexeme, SectionTree, lexeme_of, most_open, section_height}
 use Rattle.sc_lex.specs.Prelude.{line_after}
 use Rattle.std.specs.Prelude.{ℕ, ◌-◌, ◌≤◌, List, map}
@@ -9,8 +10,8 @@ use Rattle.sc_parse.specs.Sections.{SpellsSection}
 -- and nowhere are more than 1,024 brackets open.
 pub record IsParsed (line : ℕ) (lexemes : List Lexeme) (tree : SectionTree) : Type 0 where
   pub spelled : SpellsSection line lexemes tree
-  pub low : section_height tree ≤ 256
-  pub few : most_open 0 lexemes ≤ 1024
+  pub low : section_height tree ≤ most_height
+  pub few : most_open 0 lexemes ≤ most_brackets
 
 -- tokens of these bytes as lexemes
 abbrev pub lexemes_of : List ℕ → List Token → List Lexeme

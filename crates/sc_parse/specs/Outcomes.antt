@@ -1,4 +1,5 @@
 -- Helping: where too many brackets are open, and what is parsed as a function of the lexemes.
+use Rattle.sc_base.specs.Prelude.{most_brackets}
 use Rattle.sc_parse.specs.Common.{Lexeme, SectionTree, most_open}
 use Rattle.std.specs.Prelude.{◌≡◌, ℕ, ◌+◌, ◌≤◌, ◌<◌, nat_le, Bool, List, take, length, Option, Some, None, Result, Ok}
 use Rattle.std.specs.Prelude.{Err, if◌then◌else◌}
@@ -10,12 +11,12 @@ use Rattle.sc_parse.specs.SectionReaders.{section_at}
 -- at this place is the first lexeme after which more than 1,024 brackets are open
 pub record IsExcess (lexemes : List Lexeme) (at : ℕ) : Type 0 where
   pub within : at < length lexemes
-  pub few : most_open 0 (take at lexemes) ≤ 1024
-  pub many : 1024 < most_open 0 (take (at + 1) lexemes)
+  pub few : most_open 0 (take at lexemes) ≤ most_brackets
+  pub many : most_brackets < most_open 0 (take (at + 1) lexemes)
 
 -- nowhere are more than 1,024 brackets open
 abbrev pub has_few_brackets : List Lexeme → Bool
-has_few_brackets lexemes = nat_le (most_open 0 lexemes) 1024
+has_few_brackets lexemes = nat_le (most_open 0 lexemes) most_brackets
 
 -- the tree of a section whose compartment line is this one of the whole text
 unfoldable pub tree_of : ℕ → List Lexeme → Option SectionTree

@@ -1,5 +1,6 @@
 -- Helping: reading functions and sections from left to right, where `free` brackets may be open and trees may be as
 -- high as `limit`.
+use Rattle.sc_base.specs.Prelude.{most_brackets, most_height}
 use Rattle.sc_parse.specs.Common.{BaseTree, Decl, Declarator, ExportLine, ExprTree, FunctionHead, FunctionTree}
 use Rattle.sc_parse.specs.Common.{HeadTree, ImportLine, Lexeme, LocalTree, ParamTree, SectionTree, StmtTree, Symbol}
 use Rattle.sc_parse.specs.Common.{TypeName, following, ◌>>=◌}
@@ -157,4 +158,4 @@ section_within free limit at ts =
 
 -- a section within the limits of the language
 abbrev pub section_at : ℕ → Reader SectionTree
-section_at at ts = section_within 1024 256 at ts
+section_at at ts = section_within most_brackets most_height at ts

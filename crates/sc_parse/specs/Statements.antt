@@ -1,6 +1,6 @@
 -- How calls and statements are spelled (C11 6.5.2.2, 6.5.16, 6.8).
 use Rattle.sc_parse.specs.Common.{BinaryOp, CallTree, ExprTree, IsIdent, IsMark, Lexeme, Mark, SimpleKind, SimpleTree}
-use Rattle.sc_parse.specs.Common.{Spells, StmtKind, StmtTree, is_place, kind_of, loosest_level, unary_level}
+use Rattle.sc_parse.specs.Common.{Spells, StmtKind, StmtTree, is_place, stmt_kind_of, loosest_level, unary_level}
 use Rattle.std.specs.Prelude.{◌≡◌, ℕ, false, IsTrue, List, [], ◌∷◌, ◌++◌, Option, Some, None}
 use Rattle.sc_ast.specs.declared.expr.ExprTree.TheVariants as expr
 use Rattle.sc_base.specs.declared.op.BinaryOp.TheVariants as binary
@@ -90,7 +90,7 @@ mutual
   pub data SpellsStmtKind : List Lexeme → StmtKind → Type 0 where
     empty : (t : Lexeme) → IsMark mark.Semicolon t → SpellsStmtKind (t ∷ []) stmt.Empty
     plain : {ts : List Lexeme} {kind : SimpleKind} (t : Lexeme) → IsMark mark.Semicolon t → SpellsKind ts kind →
-        SpellsStmtKind (ts ++ t ∷ []) (kind_of kind)
+        SpellsStmtKind (ts ++ t ∷ []) (stmt_kind_of kind)
     «break» : (t u : Lexeme) → IsKeyword word.Break t → IsMark mark.Semicolon u → SpellsStmtKind (t ∷ u ∷ []) stmt.Break
     «continue» : (t u : Lexeme) → IsKeyword word.Continue t → IsMark mark.Semicolon u →
         SpellsStmtKind (t ∷ u ∷ []) stmt.Continue

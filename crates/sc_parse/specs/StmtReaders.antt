@@ -1,7 +1,7 @@
 -- Helping: reading calls and statements from left to right, where a statement's parts may be `room` high and `free`
 -- brackets may be open.
 use Rattle.sc_parse.specs.Common.{BinaryOp, CallTree, ExprTree, Keyword, Lexeme, Mark, SimpleKind, SimpleTree, StmtKind}
-use Rattle.sc_parse.specs.Common.{StmtTree, Symbol, following, is_place, kind_of, loosest_level, name_at, read}
+use Rattle.sc_parse.specs.Common.{StmtTree, Symbol, following, is_place, stmt_kind_of, loosest_level, name_at, read}
 use Rattle.sc_parse.specs.Common.{unary_level, ◌>>=◌}
 use Rattle.std.specs.Prelude.{ℕ, zero, suc, ◌+◌, ◌-◌, Bool, true, false, nat_le, nat_lt, List, [], ◌∷◌, length, drop}
 use Rattle.std.specs.Prelude.{Option, Some, None, if◌then◌else◌}
@@ -157,7 +157,7 @@ returned free room ts = if begins_with mark.Semicolon ts then Some (stmt.Return,
 
 abbrev pub simple_or_none : (free : ℕ) → ℕ → Reader StmtKind
 simple_or_none free room ts = if begins_with mark.Semicolon ts then Some (stmt.Empty, ts) else
-    (simple_at free room ts >>= (λ x. Some (kind_of x.0, x.1)))
+    (simple_at free room ts >>= (λ x. Some (stmt_kind_of x.0, x.1)))
 
 -- a statement that is no `if` and no loop, without its `;`
 unfoldable pub plain_at : (free : ℕ) → ℕ → Option Keyword → Reader StmtKind

@@ -1,5 +1,6 @@
 //! The limit on open brackets.
 
+ghost use Rattle.sc_base.specs.Prelude.{most_brackets};
 ghost use Rattle.sc_parse.specs.Prelude.{IsExcess, most_open, open_after, open_after_mark};
 ghost use Rattle.std.specs.Prelude.{◌≡◌, ◌<◌, ◌≤◌, IfSome, IfNone, length};
 
@@ -30,7 +31,7 @@ fn open_after(symbol: &Symbol, count: u32) -> u32
 /// The place of the first lexeme after which more than 1,024 brackets are open.
 pub fn first_excess(lexemes: &[Lexeme]) -> Option<usize>
     ensures excess { IfSome result (IsExcess lexemes.now) }
-    ensures none { IfNone result (most_open 0 lexemes.now ≤ 1024) }
+    ensures none { IfNone result (most_open 0 lexemes.now ≤ most_brackets) }
 {
     let mut count = 0;
     for (at, lexeme) in lexemes.iter().enumerate() {

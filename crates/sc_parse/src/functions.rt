@@ -1,5 +1,6 @@
 //! Locals and functions.
 
+ghost use Rattle.sc_base.specs.Prelude.{most_brackets, most_height};
 ghost use Rattle.sc_parse.specs.Prelude.{Agrees, add_local, all_separated, body_at, declaration_at, function_at};
 ghost use Rattle.sc_parse.specs.Prelude.{grouped, headed_at, local_at, locals_at, named_head, no_base, past_head};
 ghost use Rattle.sc_parse.specs.Prelude.{value_at};
@@ -20,7 +21,7 @@ use std::alloc::Global;
 
 #[tactic(auto, unfolding(crate::specs::SectionReaders::value_at))]
 fn value_at(alloc: Global, rest: &mut &[Lexeme]) -> Result<Option<ExprTree>, SyntaxFault>
-    ensures { Agrees (λ x. (x, rest.new.now)) result (value_at 1024 256 rest.old.now) }
+    ensures { Agrees (λ x. (x, rest.new.now)) result (value_at most_brackets most_height rest.old.now) }
 {
     if skip(Mark::Equal, rest) {
         Ok(Some(expr_at(alloc, MAX_HEIGHT, rest)?))
@@ -36,7 +37,7 @@ fn local_at(
     line: u32,
     rest: &mut &[Lexeme],
 ) -> Result<LocalTree, SyntaxFault>
-    ensures { Agrees (λ x. (x, rest.new.now)) result (local_at 1024 256 base.now line rest.old.now) }
+    ensures { Agrees (λ x. (x, rest.new.now)) result (local_at most_brackets most_height base.now line rest.old.now) }
 {
     let Declarator {
         stars,
@@ -65,7 +66,8 @@ fn with_local(
     mut locals: LocalTrees,
     rest: &mut &[Lexeme],
 ) -> Result<LocalTrees, SyntaxFault>
-    ensures { Agrees (λ x. (x, rest.new.now)) result (add_local 1024 256 base.now line locals rest.old.now) }
+    ensures { Agrees (λ x. (x, rest.new.now)) result
+        (add_local most_brackets most_height base.now line locals rest.old.now) }
 {
     locals.push(local_at(alloc, base, line, rest)?)?;
     Ok(locals)
@@ -80,7 +82,7 @@ fn with_locals(
     rest: &mut &[Lexeme],
 ) -> Result<LocalTrees, SyntaxFault>
     ensures { Agrees (λ x. (x, rest.new.now)) result (all_separated
-        (add_local 1024 256 base.now line) locals rest.old.now) }
+        (add_local most_brackets most_height base.now line) locals rest.old.now) }
 {
     for _ in 0..rest.len() + 1 {
         locals = with_local(alloc, base, line, locals, rest)?;
@@ -97,7 +99,8 @@ fn local_line(
     locals: LocalTrees,
     rest: &mut &[Lexeme],
 ) -> Result<LocalTrees, SyntaxFault>
-    ensures { Agrees (λ x. (x, rest.new.now)) result (declaration_at (add_local 1024 256) locals rest.old.now) }
+    ensures { Agrees (λ x. (x, rest.new.now)) result
+        (declaration_at (add_local most_brackets most_height) locals rest.old.now) }
 {
     let line = first_line(rest);
     let base = base_at(rest)?;
@@ -114,7 +117,7 @@ fn no_base(rest: &[Lexeme]) -> bool
 
 #[tactic(auto, using(crate::proofs::Steps::groups))]
 fn locals_at(alloc: Global, rest: &mut &[Lexeme]) -> Result<LocalTrees, SyntaxFault>
-    ensures { Agrees (λ x. (x, rest.new.now)) result (locals_at 1024 256 rest.old.now) }
+    ensures { Agrees (λ x. (x, rest.new.now)) result (locals_at most_brackets most_height rest.old.now) }
 {
     let mut locals = Items::new(alloc);
     for _ in 0..rest.len() + 1 {
@@ -144,7 +147,7 @@ fn body_at(
     head: FunctionHead,
     rest: &mut &[Lexeme],
 ) -> Result<FunctionTree, SyntaxFault>
-    ensures { Agrees (λ x. (x, rest.new.now)) result (body_at 1024 256 head rest.old.now) }
+    ensures { Agrees (λ x. (x, rest.new.now)) result (body_at most_brackets most_height head rest.old.now) }
 {
     take(Mark::OpenCurly, rest)?;
     let locals = locals_at(alloc, rest)?;
@@ -161,14 +164,14 @@ fn body_at(
 
 #[tactic(auto, unfolding(crate::specs::SectionReaders::function_at))]
 fn function_at(alloc: Global, head: &HeadTree, rest: &mut &[Lexeme]) -> Result<Decl, SyntaxFault>
-    ensures { Agrees (λ x. (x, rest.new.now)) result (function_at 1024 256 head.now rest.old.now) }
+    ensures { Agrees (λ x. (x, rest.new.now)) result (function_at most_brackets most_height head.now rest.old.now) }
 {
     let named = named_head(alloc, head, rest)?;
     Ok(Decl::Function(body_at(alloc, named, rest)?))
 }
 
 fn past_head(alloc: Global, head: HeadTree, rest: &mut &[Lexeme]) -> Result<Decl, SyntaxFault>
-    ensures { Agrees (λ x. (x, rest.new.now)) result (past_head 1024 256 head rest.old.now) }
+    ensures { Agrees (λ x. (x, rest.new.now)) result (past_head most_brackets most_height head rest.old.now) }
 {
     if skip(Mark::Semicolon, rest) {
         Ok(Decl::Proto(head))
@@ -180,7 +183,7 @@ fn past_head(alloc: Global, head: HeadTree, rest: &mut &[Lexeme]) -> Result<Decl
 /// A prototype or a function.
 #[tactic(auto, unfolding(crate::specs::SectionReaders::headed_at))]
 pub fn headed_at(alloc: Global, rest: &mut &[Lexeme]) -> Result<Decl, SyntaxFault>
-    ensures { Agrees (λ x. (x, rest.new.now)) result (headed_at 1024 256 rest.old.now) }
+    ensures { Agrees (λ x. (x, rest.new.now)) result (headed_at most_brackets most_height rest.old.now) }
 {
     let head = head_at(alloc, rest)?;
     past_head(alloc, head, rest)

@@ -1,5 +1,6 @@
 //! Directives, declarations and sections.
 
+ghost use Rattle.sc_base.specs.Prelude.{most_brackets, most_height};
 ghost use Rattle.sc_parse.specs.Prelude.{Agrees, SectionTree, SpellsSection, adds, begins_struct, compartment_at};
 ghost use Rattle.sc_parse.specs.Prelude.{compartment_by, decl_at, decls_at, directives, directives_at, grouped};
 ghost use Rattle.sc_parse.specs.Prelude.{headed_at, is_empty, is_struct_word, keyword_at, line_at, line_by, lines_at};
@@ -69,7 +70,7 @@ fn with_struct(alloc: Global, mut decls: Decls, rest: &mut &[Lexeme]) -> Result<
 
 #[tactic(auto, unfolding(crate::specs::Readers::adds))]
 fn with_headed(alloc: Global, mut decls: Decls, rest: &mut &[Lexeme]) -> Result<Decls, SyntaxFault>
-    ensures { Agrees (λ x. (x, rest.new.now)) result (adds (headed_at 1024 256) decls rest.old.now) }
+    ensures { Agrees (λ x. (x, rest.new.now)) result (adds (headed_at most_brackets most_height) decls rest.old.now) }
 {
     decls.push(headed_at(alloc, rest)?)?;
     Ok(decls)
@@ -77,7 +78,7 @@ fn with_headed(alloc: Global, mut decls: Decls, rest: &mut &[Lexeme]) -> Result<
 
 #[tactic(auto, unfolding(crate::specs::SectionReaders::decl_at))]
 fn decl_at(alloc: Global, decls: Decls, rest: &mut &[Lexeme]) -> Result<Decls, SyntaxFault>
-    ensures { Agrees (λ x. (x, rest.new.now)) result (decl_at 1024 256 decls rest.old.now) }
+    ensures { Agrees (λ x. (x, rest.new.now)) result (decl_at most_brackets most_height decls rest.old.now) }
 {
     if begins_struct(rest) {
         with_struct(alloc, decls, rest)
@@ -99,7 +100,7 @@ fn is_empty(rest: &[Lexeme]) -> bool
 
 #[tactic(auto, using(crate::proofs::Steps::groups))]
 fn decls_at(alloc: Global, rest: &mut &[Lexeme]) -> Result<Decls, SyntaxFault>
-    ensures { Agrees (λ x. (x, rest.new.now)) result (decls_at 1024 256 rest.old.now) }
+    ensures { Agrees (λ x. (x, rest.new.now)) result (decls_at most_brackets most_height rest.old.now) }
 {
     let mut decls = Items::new(alloc);
     for _ in 0..rest.len() + 1 {

@@ -1,5 +1,6 @@
 //! Assignments, `++` and `--`, and calls as statements.
 
+ghost use Rattle.sc_base.specs.Prelude.{most_brackets};
 ghost use Rattle.sc_parse.specs.Prelude.{Agrees, always, assigned_at, assignment_at, begins_value, call_statement};
 ghost use Rattle.sc_parse.specs.Prelude.{change_at, change_of, changed, compound_of, makes_value, mark_at, mark_by};
 ghost use Rattle.sc_parse.specs.Prelude.{operand_at, part_at, place_at, simple_at, step_at, step_of, stepped, test_at};
@@ -135,7 +136,7 @@ fn begins_value(rest: &[Lexeme]) -> bool
 
 #[tactic(auto, unfolding(crate::specs::StmtReaders::place_at))]
 fn place_at(alloc: Global, room: u32, rest: &mut &[Lexeme]) -> Result<Placed, SyntaxFault>
-    ensures { Agrees (λ x. (x, rest.new.now)) result (place_at 1024 room rest.old.now) }
+    ensures { Agrees (λ x. (x, rest.new.now)) result (place_at most_brackets room rest.old.now) }
 {
     if begins_value(rest) {
         return Err(refused(rest));
@@ -155,7 +156,7 @@ fn assigned_at(
     place: PlaceTree,
     rest: &mut &[Lexeme],
 ) -> Result<SimpleKind, SyntaxFault>
-    ensures { Agrees (λ x. (x, rest.new.now)) result (assigned_at 1024 room place rest.old.now) }
+    ensures { Agrees (λ x. (x, rest.new.now)) result (assigned_at most_brackets room place rest.old.now) }
 {
     if begins_call(rest) {
         let call = call_at(alloc, room, rest)?;
@@ -196,7 +197,7 @@ fn operand_at(
     placed: Placed,
     rest: &mut &[Lexeme],
 ) -> Result<SimpleKind, SyntaxFault>
-    ensures { Agrees (λ x. (x, rest.new.now)) result (operand_at 1024 room op placed rest.old.now) }
+    ensures { Agrees (λ x. (x, rest.new.now)) result (operand_at most_brackets room op placed rest.old.now) }
 {
     if placed.height >= room {
         return Err(refused_before(rest));
@@ -231,7 +232,7 @@ fn changed(
     placed: Placed,
     rest: &mut &[Lexeme],
 ) -> Result<SimpleKind, SyntaxFault>
-    ensures { Agrees (λ x. (x, rest.new.now)) result (changed 1024 room change placed rest.old.now) }
+    ensures { Agrees (λ x. (x, rest.new.now)) result (changed most_brackets room change placed rest.old.now) }
 {
     match change {
         None => Err(refused_before(rest)),
@@ -253,7 +254,7 @@ fn take_change(rest: &mut &[Lexeme]) -> Option<Change>
 
 #[tactic(auto, unfolding(crate::specs::StmtReaders::assignment_at))]
 fn assignment_at(alloc: Global, room: u32, rest: &mut &[Lexeme]) -> Result<SimpleKind, SyntaxFault>
-    ensures { Agrees (λ x. (x, rest.new.now)) result (assignment_at 1024 room rest.old.now) }
+    ensures { Agrees (λ x. (x, rest.new.now)) result (assignment_at most_brackets room rest.old.now) }
 {
     let placed = place_at(alloc, room, rest)?;
     let change = take_change(rest);
@@ -267,14 +268,14 @@ fn step_before(
     op: BinaryOp,
     rest: &mut &[Lexeme],
 ) -> Result<SimpleKind, SyntaxFault>
-    ensures { Agrees (λ x. (x, rest.new.now)) result (step_before 1024 room op rest.old.now) }
+    ensures { Agrees (λ x. (x, rest.new.now)) result (step_before most_brackets room op rest.old.now) }
 {
     let placed = place_at(alloc, room, rest)?;
     stepped(alloc, room, op, placed, rest)
 }
 
 fn call_statement(alloc: Global, room: u32, rest: &mut &[Lexeme]) -> Result<SimpleKind, SyntaxFault>
-    ensures { Agrees (λ x. (x, rest.new.now)) result (call_statement 1024 room rest.old.now) }
+    ensures { Agrees (λ x. (x, rest.new.now)) result (call_statement most_brackets room rest.old.now) }
 {
     Ok(SimpleKind::Call(call_at(alloc, room, rest)?))
 }
@@ -282,7 +283,7 @@ fn call_statement(alloc: Global, room: u32, rest: &mut &[Lexeme]) -> Result<Simp
 /// What may stand in the head of a `for`, where its parts are at most `room` high.
 #[tactic(auto, unfolding(crate::specs::StmtReaders::simple_at))]
 pub fn simple_at(alloc: Global, room: u32, rest: &mut &[Lexeme]) -> Result<SimpleKind, SyntaxFault>
-    ensures { Agrees (λ x. (x, rest.new.now)) result (simple_at 1024 room rest.old.now) }
+    ensures { Agrees (λ x. (x, rest.new.now)) result (simple_at most_brackets room rest.old.now) }
 {
     match step_at(rest) {
         Some(op) => {
@@ -294,7 +295,7 @@ pub fn simple_at(alloc: Global, room: u32, rest: &mut &[Lexeme]) -> Result<Simpl
 }
 
 fn unstepped(alloc: Global, room: u32, rest: &mut &[Lexeme]) -> Result<SimpleKind, SyntaxFault>
-    ensures { Agrees (λ x. (x, rest.new.now)) result (unstepped 1024 room rest.old.now) }
+    ensures { Agrees (λ x. (x, rest.new.now)) result (unstepped most_brackets room rest.old.now) }
 {
     if begins_call(rest) {
         call_statement(alloc, room, rest)
@@ -311,7 +312,7 @@ pub fn part_at(
     ends: Mark,
     rest: &mut &[Lexeme],
 ) -> Result<Option<SimpleTree>, SyntaxFault>
-    ensures { Agrees (λ x. (x, rest.new.now)) result (part_at 1024 room ends rest.old.now) }
+    ensures { Agrees (λ x. (x, rest.new.now)) result (part_at most_brackets room ends rest.old.now) }
 {
     if begins_with(ends, rest) {
         return Ok(None);
@@ -339,7 +340,7 @@ fn always(room: u32, rest: &[Lexeme]) -> Result<ExprTree, SyntaxFault>
 /// The condition of a `for`; an absent one is the literal 1.
 #[tactic(auto, unfolding(crate::specs::StmtReaders::test_at))]
 pub fn test_at(alloc: Global, room: u32, rest: &mut &[Lexeme]) -> Result<ExprTree, SyntaxFault>
-    ensures { Agrees (λ x. (x, rest.new.now)) result (test_at 1024 room rest.old.now) }
+    ensures { Agrees (λ x. (x, rest.new.now)) result (test_at most_brackets room rest.old.now) }
 {
     if begins_with(Mark::Semicolon, rest) {
         always(room, rest)

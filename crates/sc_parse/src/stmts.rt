@@ -1,10 +1,11 @@
 //! Statements and blocks.
 
+ghost use Rattle.sc_base.specs.Prelude.{most_brackets};
 ghost use Rattle.sc_parse.specs.Prelude.{Agrees, adds, after_else, after_for, after_if, after_while, block_at, else_at};
 ghost use Rattle.sc_parse.specs.Prelude.{ended_at, first_part, for_head, is_else, keyword_at, kind_by, last_part};
 ghost use Rattle.sc_parse.specs.Prelude.{loop_of, middle_part, plain_at, returned, simple_or_none, stmt_at};
 ghost use Rattle.sc_parse.specs.Prelude.{stmt_within, stmts_at, value_returned};
-ghost use Rattle.sc_ast.specs.Prelude.{kind_of};
+ghost use Rattle.sc_ast.specs.Prelude.{stmt_kind_of};
 ghost use Rattle.std.specs.Prelude.{◌≡◌, ◌≤◌, ◌+◌, [], ◌∷◌, length, drop, true, false, IfOk};
 ghost use Rattle.sc_parse.specs.StmtReaders.{lone_if};
 
@@ -27,7 +28,7 @@ struct ForHead {
 }
 
 fn kind_of(kind: SimpleKind) -> StmtKind
-    ensures { result ≡ kind_of kind }
+    ensures { result ≡ stmt_kind_of kind }
 {
     match kind {
         SimpleKind::Assign { place, value } => StmtKind::Assign { place, value },
@@ -37,7 +38,7 @@ fn kind_of(kind: SimpleKind) -> StmtKind
 }
 
 fn value_returned(alloc: Global, room: u32, rest: &mut &[Lexeme]) -> Result<StmtKind, SyntaxFault>
-    ensures { Agrees (λ x. (x, rest.new.now)) result (value_returned 1024 room rest.old.now) }
+    ensures { Agrees (λ x. (x, rest.new.now)) result (value_returned most_brackets room rest.old.now) }
 {
     if begins_call(rest) {
         Ok(StmtKind::ReturnCall(call_at(alloc, room, rest)?))
@@ -49,7 +50,7 @@ fn value_returned(alloc: Global, room: u32, rest: &mut &[Lexeme]) -> Result<Stmt
 // What follows `return`, without the `;`.
 #[tactic(auto, unfolding(crate::specs::StmtReaders::returned))]
 fn returned(alloc: Global, room: u32, rest: &mut &[Lexeme]) -> Result<StmtKind, SyntaxFault>
-    ensures { Agrees (λ x. (x, rest.new.now)) result (returned 1024 room rest.old.now) }
+    ensures { Agrees (λ x. (x, rest.new.now)) result (returned most_brackets room rest.old.now) }
 {
     if begins_with(Mark::Semicolon, rest) {
         Ok(StmtKind::Return)
@@ -59,7 +60,7 @@ fn returned(alloc: Global, room: u32, rest: &mut &[Lexeme]) -> Result<StmtKind, 
 }
 
 fn simple_or_none(alloc: Global, room: u32, rest: &mut &[Lexeme]) -> Result<StmtKind, SyntaxFault>
-    ensures { Agrees (λ x. (x, rest.new.now)) result (simple_or_none 1024 room rest.old.now) }
+    ensures { Agrees (λ x. (x, rest.new.now)) result (simple_or_none most_brackets room rest.old.now) }
 {
     if begins_with(Mark::Semicolon, rest) {
         Ok(StmtKind::Empty)
@@ -76,7 +77,7 @@ fn plain_at(
     word: Option<Keyword>,
     rest: &mut &[Lexeme],
 ) -> Result<StmtKind, SyntaxFault>
-    ensures { Agrees (λ x. (x, rest.new.now)) result (plain_at 1024 room word rest.old.now) }
+    ensures { Agrees (λ x. (x, rest.new.now)) result (plain_at most_brackets room word rest.old.now) }
 {
     match word {
         Some(Keyword::Break) => {
@@ -97,7 +98,7 @@ fn plain_at(
 
 #[tactic(auto, unfolding(crate::specs::StmtReaders::ended_at))]
 fn ended_at(alloc: Global, room: u32, rest: &mut &[Lexeme]) -> Result<StmtKind, SyntaxFault>
-    ensures { Agrees (λ x. (x, rest.new.now)) result (ended_at 1024 room rest.old.now) }
+    ensures { Agrees (λ x. (x, rest.new.now)) result (ended_at most_brackets room rest.old.now) }
 {
     let kind = plain_at(alloc, room, keyword_at(rest), rest)?;
     ended_by(Mark::Semicolon, kind, rest)
@@ -109,7 +110,7 @@ fn first_part(
     room: u32,
     rest: &mut &[Lexeme],
 ) -> Result<Option<SimpleTree>, SyntaxFault>
-    ensures { Agrees (λ x. (x, rest.new.now)) result (first_part 1024 room rest.old.now) }
+    ensures { Agrees (λ x. (x, rest.new.now)) result (first_part most_brackets room rest.old.now) }
 {
     take(Mark::OpenParen, rest)?;
     let part = part_at(alloc, room, Mark::Semicolon, rest)?;
@@ -118,7 +119,7 @@ fn first_part(
 
 #[tactic(auto, unfolding(crate::specs::StmtReaders::middle_part))]
 fn middle_part(alloc: Global, room: u32, rest: &mut &[Lexeme]) -> Result<ExprTree, SyntaxFault>
-    ensures { Agrees (λ x. (x, rest.new.now)) result (middle_part 1024 room rest.old.now) }
+    ensures { Agrees (λ x. (x, rest.new.now)) result (middle_part most_brackets room rest.old.now) }
 {
     let cond = test_at(alloc, room, rest)?;
     ended_by(Mark::Semicolon, cond, rest)
@@ -130,7 +131,7 @@ fn last_part(
     room: u32,
     rest: &mut &[Lexeme],
 ) -> Result<Option<SimpleTree>, SyntaxFault>
-    ensures { Agrees (λ x. (x, rest.new.now)) result (last_part 1024 room rest.old.now) }
+    ensures { Agrees (λ x. (x, rest.new.now)) result (last_part most_brackets room rest.old.now) }
 {
     let part = part_at(alloc, room, Mark::CloseParen, rest)?;
     ended_by(Mark::CloseParen, part, rest)
@@ -138,7 +139,7 @@ fn last_part(
 
 #[tactic(auto, unfolding(crate::specs::StmtReaders::for_head))]
 fn for_head(alloc: Global, room: u32, rest: &mut &[Lexeme]) -> Result<ForHead, SyntaxFault>
-    ensures { Agrees (λ x. (x, rest.new.now)) result (for_head 1024 room rest.old.now) }
+    ensures { Agrees (λ x. (x, rest.new.now)) result (for_head most_brackets room rest.old.now) }
 {
     let first = first_part(alloc, room, rest)?;
     let cond = middle_part(alloc, room, rest)?;
@@ -162,7 +163,7 @@ fn loop_of(head: ForHead, body: Stmts) -> StmtKind
 #[cycle(statements)]
 #[tactic(auto, using(crate::proofs::Steps::groups))]
 pub fn stmts_at(alloc: Global, room: u32, rest: &mut &[Lexeme]) -> Result<Stmts, SyntaxFault>
-    ensures { Agrees (λ x. (x, rest.new.now)) result (stmts_at (stmt_at 1024 room) rest.old.now) }
+    ensures { Agrees (λ x. (x, rest.new.now)) result (stmts_at (stmt_at most_brackets room) rest.old.now) }
 {
     let mut stmts = Items::new(alloc);
     for _ in 0..rest.len() + 1 {
@@ -182,7 +183,7 @@ fn with_stmt(
     mut stmts: Stmts,
     rest: &mut &[Lexeme],
 ) -> Result<Stmts, SyntaxFault>
-    ensures { Agrees (λ x. (x, rest.new.now)) result (adds (stmt_at 1024 room) stmts rest.old.now) }
+    ensures { Agrees (λ x. (x, rest.new.now)) result (adds (stmt_at most_brackets room) stmts rest.old.now) }
 {
     stmts.push(stmt_at(alloc, room, rest)?)?;
     Ok(stmts)
@@ -191,7 +192,7 @@ fn with_stmt(
 #[cycle(statements)]
 #[tactic(auto, unfolding(crate::specs::StmtReaders::block_at))]
 fn block_at(alloc: Global, room: u32, rest: &mut &[Lexeme]) -> Result<Stmts, SyntaxFault>
-    ensures { Agrees (λ x. (x, rest.new.now)) result (block_at (stmt_at 1024 room) rest.old.now) }
+    ensures { Agrees (λ x. (x, rest.new.now)) result (block_at (stmt_at most_brackets room) rest.old.now) }
 {
     take(Mark::OpenCurly, rest)?;
     let stmts = stmts_at(alloc, room, rest)?;
@@ -201,7 +202,7 @@ fn block_at(alloc: Global, room: u32, rest: &mut &[Lexeme]) -> Result<Stmts, Syn
 // The `if` after an `else`, as a list of one statement.
 #[cycle(statements)]
 fn lone_if(alloc: Global, room: u32, rest: &mut &[Lexeme]) -> Result<Stmts, SyntaxFault>
-    ensures { Agrees (λ x. (x, rest.new.now)) result (lone_if (stmt_at 1024 room) rest.old.now) }
+    ensures { Agrees (λ x. (x, rest.new.now)) result (lone_if (stmt_at most_brackets room) rest.old.now) }
 {
     let mut stmts = Items::new(alloc);
     stmts.push(stmt_at(alloc, room, rest)?)?;
@@ -211,7 +212,7 @@ fn lone_if(alloc: Global, room: u32, rest: &mut &[Lexeme]) -> Result<Stmts, Synt
 #[cycle(statements)]
 #[tactic(auto, unfolding(crate::specs::StmtReaders::after_else))]
 fn after_else(alloc: Global, room: u32, rest: &mut &[Lexeme]) -> Result<Stmts, SyntaxFault>
-    ensures { Agrees (λ x. (x, rest.new.now)) result (after_else (stmt_at 1024 room) rest.old.now) }
+    ensures { Agrees (λ x. (x, rest.new.now)) result (after_else (stmt_at most_brackets room) rest.old.now) }
 {
     match keyword_at(rest) {
         Some(Keyword::If) => lone_if(alloc, room, rest),
@@ -222,7 +223,7 @@ fn after_else(alloc: Global, room: u32, rest: &mut &[Lexeme]) -> Result<Stmts, S
 #[cycle(statements)]
 #[tactic(auto, unfolding(crate::specs::StmtReaders::else_at))]
 fn else_at(alloc: Global, room: u32, rest: &mut &[Lexeme]) -> Result<Stmts, SyntaxFault>
-    ensures { Agrees (λ x. (x, rest.new.now)) result (else_at (stmt_at 1024 room) rest.old.now) }
+    ensures { Agrees (λ x. (x, rest.new.now)) result (else_at (stmt_at most_brackets room) rest.old.now) }
 {
     if is_else(keyword_at(rest)) {
         *rest = past(rest);
@@ -235,7 +236,8 @@ fn else_at(alloc: Global, room: u32, rest: &mut &[Lexeme]) -> Result<Stmts, Synt
 #[cycle(statements)]
 #[tactic(auto, unfolding(crate::specs::StmtReaders::after_if))]
 fn after_if(alloc: Global, room: u32, rest: &mut &[Lexeme]) -> Result<StmtKind, SyntaxFault>
-    ensures { Agrees (λ x. (x, rest.new.now)) result (after_if 1024 (stmt_at 1024 room) room rest.old.now) }
+    ensures { Agrees (λ x. (x, rest.new.now)) result
+        (after_if most_brackets (stmt_at most_brackets room) room rest.old.now) }
 {
     let cond = condition_at(alloc, room, rest)?;
     let then_part = block_at(alloc, room, rest)?;
@@ -250,7 +252,8 @@ fn after_if(alloc: Global, room: u32, rest: &mut &[Lexeme]) -> Result<StmtKind, 
 #[cycle(statements)]
 #[tactic(auto, unfolding(crate::specs::StmtReaders::after_while))]
 fn after_while(alloc: Global, room: u32, rest: &mut &[Lexeme]) -> Result<StmtKind, SyntaxFault>
-    ensures { Agrees (λ x. (x, rest.new.now)) result (after_while 1024 (stmt_at 1024 room) room rest.old.now) }
+    ensures { Agrees (λ x. (x, rest.new.now)) result
+        (after_while most_brackets (stmt_at most_brackets room) room rest.old.now) }
 {
     let cond = condition_at(alloc, room, rest)?;
     let body = block_at(alloc, room, rest)?;
@@ -260,7 +263,8 @@ fn after_while(alloc: Global, room: u32, rest: &mut &[Lexeme]) -> Result<StmtKin
 #[cycle(statements)]
 #[tactic(auto, unfolding(crate::specs::StmtReaders::after_for))]
 fn after_for(alloc: Global, room: u32, rest: &mut &[Lexeme]) -> Result<StmtKind, SyntaxFault>
-    ensures { Agrees (λ x. (x, rest.new.now)) result (after_for 1024 (stmt_at 1024 room) room rest.old.now) }
+    ensures { Agrees (λ x. (x, rest.new.now)) result
+        (after_for most_brackets (stmt_at most_brackets room) room rest.old.now) }
 {
     let head = for_head(alloc, room, rest)?;
     let body = block_at(alloc, room, rest)?;
@@ -274,7 +278,8 @@ fn kind_by(
     word: Option<Keyword>,
     rest: &mut &[Lexeme],
 ) -> Result<StmtKind, SyntaxFault>
-    ensures { Agrees (λ x. (x, rest.new.now)) result (kind_by 1024 (stmt_at 1024 room) room word rest.old.now) }
+    ensures { Agrees (λ x. (x, rest.new.now)) result
+        (kind_by most_brackets (stmt_at most_brackets room) room word rest.old.now) }
 {
     match word {
         Some(Keyword::If) => {
@@ -297,7 +302,8 @@ fn kind_by(
 #[cycle(statements)]
 #[tactic(auto, unfolding(crate::specs::StmtReaders::stmt_within))]
 fn stmt_within(alloc: Global, room: u32, rest: &mut &[Lexeme]) -> Result<StmtTree, SyntaxFault>
-    ensures { Agrees (λ x. (x, rest.new.now)) result (stmt_within 1024 (stmt_at 1024 room) room rest.old.now) }
+    ensures { Agrees (λ x. (x, rest.new.now)) result
+        (stmt_within most_brackets (stmt_at most_brackets room) room rest.old.now) }
 {
     let line = first_line(rest);
     let kind = kind_by(alloc, room, keyword_at(rest), rest)?;
@@ -308,7 +314,7 @@ fn stmt_within(alloc: Global, room: u32, rest: &mut &[Lexeme]) -> Result<StmtTre
 #[cycle(statements)]
 #[tactic(auto, using(crate::proofs::Steps::depths))]
 fn stmt_at(alloc: Global, room: u32, rest: &mut &[Lexeme]) -> Result<StmtTree, SyntaxFault>
-    ensures { Agrees (λ x. (x, rest.new.now)) result (stmt_at 1024 room rest.old.now) }
+    ensures { Agrees (λ x. (x, rest.new.now)) result (stmt_at most_brackets room rest.old.now) }
 {
     match room.checked_sub(1) {
         Some(below) => stmt_within(alloc, below, rest),

@@ -1,4 +1,5 @@
 -- Reading gives exactly the prefixes within the limits, and lexemes spell one expression at most.
+use Rattle.sc_base.specs.Prelude.{most_brackets, most_height}
 use Rattle.sc_parse_expr.proofs.Common.{Agrees, Bor, Err, ExprTree, Found, IfOk, IsErrOf, IsParse, Lexeme, List, Ok}
 use Rattle.sc_parse_expr.proofs.Common.{Refused, Result, Some, Spells, SyntaxFault, [], ap, arith, expr_height, found}
 use Rattle.sc_parse_expr.proofs.Common.{max, most_open, none-some, read, read_expr, subst, sym, ℕ, ◌-◌, ◌<◌, ◌∙◌, ◌≡◌}
@@ -15,8 +16,8 @@ pub parse_complete : (level count : ℕ) (ts : List Lexeme) (e : ExprTree) (rest
 parse_complete level count ts e rest h =
     let opened = open_low count h.taken in
     let few = h.few in
-    ap (λ k. read (1024 - count) 256 level k) h.split ∙
-    reads_all h.spelled (1024 - count) 256 level count rest (omega arith) h.low (omega arith)
+    ap (λ k. read (most_brackets - count) most_height level k) h.split ∙
+    reads_all h.spelled (most_brackets - count) most_height level count rest (omega arith) h.low (omega arith)
     (λ ext at. omega (arith, h.ends ext at))
 
 pub parses_agree : (level count : ℕ) (ts : List Lexeme) (e f : ExprTree) (rest more : List Lexeme) →
@@ -42,10 +43,10 @@ abbrev seen : Built × Bor (List Lexeme) → Found
 seen x = found x.0.tree x.0.height x.1.now
 
 -- what is read is spelled by a prefix, and its height is that of the tree
-pub found_parse : (level count : ℕ) (ts : List Lexeme) (answer : Answer) → 0 < level → count ≤ 1024 →
+pub found_parse : (level count : ℕ) (ts : List Lexeme) (answer : Answer) → 0 < level → count ≤ most_brackets →
     Agrees seen answer (read_expr level count ts) → IfOk answer (λ x. IsParse level count ts x.0.tree x.1.now)
 found_parse level count ts (Ok x) some opened h =
-    let r = read_sound _ 256 level ts _ some h in
+    let r = read_sound _ most_height level ts _ some h in
     record {
       taken = r.taken;
       split = r.split;
@@ -58,7 +59,7 @@ found_parse level count ts (Err fault) some opened h = tt
 
 pub found_height : (level count : ℕ) (ts : List Lexeme) (answer : Answer) → 0 < level →
     Agrees seen answer (read_expr level count ts) → IfOk answer (λ x. x.0.height ≡ expr_height x.0.tree)
-found_height level count ts (Ok x) some h = (read_sound _ 256 level ts _ some h).measured
+found_height level count ts (Ok x) some h = (read_sound _ most_height level ts _ some h).measured
 found_height level count ts (Err fault) some h = tt
 
 -- no prefix spells an expression where nothing is read

@@ -1,5 +1,5 @@
 -- What tokens say.
-use Rattle.sc_parse_expr.specs.Common.{Number, ident_of, name_of, number_of}
+use Rattle.sc_parse_expr.specs.Common.{Number, ident_of, name_of, number_typed}
 use Rattle.sc_lex.specs.Prelude.{heading_name, integer_of, words}
 use Rattle.std.specs.Prelude.{ℕ, bytes_eq, codes, List, [], ◌∷◌, get_or, slice_range, Option, Some, None, if◌then◌else◌}
 use Rattle.std.specs.Option.{option_map, option_and_then}
@@ -53,7 +53,7 @@ keyword_of text = look_up keyword_texts text
 
 -- the value and the type of an integer constant
 abbrev pub number_in : List ℕ → Option Number
-number_in text = option_and_then (λ constant. number_of constant.value constant.unsigned) (integer_of text)
+number_in text = option_and_then (λ constant. number_typed constant.value constant.unsigned) (integer_of text)
 
 abbrev pub ident_in : List ℕ → Option (List ℕ)
 ident_in text = option_and_then (λ name. ident_of name) (name_of text)
@@ -65,9 +65,9 @@ third_word text = name_of (get_or (words text) 2 [])
 abbrev pub fourth_word : List ℕ → Option (List ℕ)
 fourth_word text = name_of (get_or (words text) 3 [])
 
-abbrev pub import_of : Option (List ℕ) → Option (List ℕ) → Option Symbol
-import_of (Some comp) (Some name) = Some (symbol.Import comp name)
-import_of _ _ = None
+abbrev pub import_symbol : Option (List ℕ) → Option (List ℕ) → Option Symbol
+import_symbol (Some comp) (Some name) = Some (symbol.Import comp name)
+import_symbol _ _ = None
 
 -- what a token of a kind says by its text, where the text is of the kind
 unfoldable pub says : TokenKind → List ℕ → Option Symbol
@@ -77,7 +77,7 @@ says kind.Mark text = option_map (λ m. symbol.Mark m) (mark_of text)
 says kind.Reserved text = option_map (λ w. symbol.Keyword w) (keyword_of text)
 says kind.Compartment text = option_map (λ name. symbol.Compartment name) (heading_name text)
 says kind.Export text = option_map (λ name. symbol.Export name) (third_word text)
-says kind.Import text = import_of (third_word text) (fourth_word text)
+says kind.Import text = import_symbol (third_word text) (fourth_word text)
 
 -- a token that says nothing else is a word that nothing is spelled with, as reserved words are that have no place in
 -- the grammar

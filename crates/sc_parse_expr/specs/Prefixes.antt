@@ -1,4 +1,5 @@
 -- What a list of lexemes begins with.
+use Rattle.sc_base.specs.Prelude.{most_brackets, most_height}
 use Rattle.sc_parse_expr.specs.Common.{ExprTree, expr_height}
 use Rattle.std.specs.Prelude.{◌≡◌, ℕ, Bool, false, List, [], ◌∷◌, ◌++◌, ◌≤◌, ◌<◌, Option, Some, None, Result, Ok, Err}
 use Rattle.std.specs.Prelude.{if◌then◌else◌}
@@ -53,6 +54,6 @@ pub record IsParse (level count : ℕ) (lexemes : List Lexeme) (e : ExprTree) (r
   pub taken : List Lexeme
   pub split : lexemes ≡ taken ++ rest
   pub spelled : Spells level taken e
-  pub low : expr_height e ≤ 256
-  pub few : most_open count taken ≤ 1024
+  pub low : expr_height e ≤ most_height
+  pub few : most_open count taken ≤ most_brackets
   pub ends : EndsAt level rest

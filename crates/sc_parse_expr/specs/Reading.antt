@@ -1,4 +1,5 @@
 -- Reading an expression from the start of a list, where the brackets and the levels of height are limited.
+use Rattle.sc_base.specs.Prelude.{most_brackets, most_height}
 use Rattle.sc_parse_expr.specs.Common.{ExprTree, level_of, loosest_level, unary_level}
 use Rattle.std.specs.Prelude.{ℕ, zero, suc, ◌+◌, ◌-◌, max, nat_le, List, [], ◌∷◌, Option, Some, None, if◌then◌else◌}
 use Rattle.std.specs.Option.{option_map}
@@ -11,6 +12,8 @@ use Rattle.sc_parse_expr.specs.declared.operator.Extension.TheVariants as extens
 use Rattle.sc_parse_expr.specs.declared.lexeme.Symbol.{Symbol}
 use Rattle.sc_parse_expr.specs.declared.lexeme.Symbol.TheVariants as symbol
 use Rattle.sc_parse_expr.specs.declared.lexeme.Lexeme.{Lexeme}
+use Rattle.sc_parse_expr.specs.declared.parser.Access.{Access}
+use Rattle.sc_parse_expr.specs.declared.parser.Access.TheVariants as access
 use Rattle.sc_parse_expr.specs.declared.parser.Lead.{Lead}
 use Rattle.sc_parse_expr.specs.declared.parser.Lead.TheVariants as lead
 use Rattle.sc_parse_expr.specs.Marks.{prefix_of, prefixed, extension_level}
@@ -71,6 +74,10 @@ abbrev pub leaf_at : Reader
 leaf_at [] = None
 leaf_at (t ∷ ts) = leaf_of t.symbol >>= (λ e. Some (found e 1 ts))
 
+abbrev pub accessed : Access → ExprTree → List ℕ → ExprTree
+accessed access.Member e name = expr.Member e name
+accessed access.Arrow e name = expr.Arrow e name
+
 -- a member of a tree, whose name comes first
 abbrev pub named_with : (List ℕ → ExprTree) → ℕ → Reader
 named_with make height ts = name_at ts >>= (λ x. Some (found (make x.0) (height + 1) x.1))
@@ -103,8 +110,8 @@ module _ (nested : ℕ → ℕ → Reader) (below : ℕ → Reader) (room : ℕ)
   joined_with e height extension.Index ts = nested room loosest_level ts >>=
       (λ x. following mark.CloseSquare x.rest >>= (λ rest.
       Some (found (expr.Index e x.tree) (max height x.height + 1) rest)))
-  joined_with e height extension.Member ts = named_with (λ name. expr.Member e name) height ts
-  joined_with e height extension.Arrow ts = named_with (λ name. expr.Arrow e name) height ts
+  joined_with e height extension.Member ts = named_with (accessed access.Member e) height ts
+  joined_with e height extension.Arrow ts = named_with (accessed access.Arrow e) height ts
 
   -- an expression that is made of one, where that leaves a level of height
   unfoldable pub extended_with : ExprTree → ℕ → Extension → Reader
@@ -141,4 +148,4 @@ read_nested (suc free) room level ts = read free room level ts
 
 -- an expression of a level after `count` open brackets, within the limits
 abbrev pub read_expr : ℕ → ℕ → Reader
-read_expr level count ts = read (1024 - count) 256 level ts
+read_expr level count ts = read (most_brackets - count) most_height level ts

@@ -1,14 +1,14 @@
 //! Reading an expression: an operand, then in one loop all that extends it.
 
+ghost use Rattle.sc_base.specs.Prelude.{most_brackets};
 ghost use Rattle.sc_parse_expr.specs.Prelude.{Agrees, IsParse, Spells, extended_with, extension_by, extension_within};
 ghost use Rattle.sc_parse_expr.specs.Prelude.{found, joined_with, lead_by, lead_of, leaf_at, leaf_of, loosest_level};
-ghost use Rattle.sc_parse_expr.specs.Prelude.{named_with, operand_with, paren_with, prefix_with, read, read_expr};
+ghost use Rattle.sc_parse_expr.specs.Prelude.{accessed, named_with, operand_with, paren_with, prefix_with, read, read_expr};
 ghost use Rattle.sc_parse_expr.specs.Prelude.{read_nested, unary_level};
 ghost use Rattle.sc_ast.specs.Prelude.{expr_height};
 ghost use Rattle.std.specs.Prelude.{◌≡◌, ℕ, ◌<◌, ◌≤◌, ◌+◌, ◌-◌, ◌^◌, List, IfOk, IsErrOf, Some};
 ghost use Rattle.std.specs.Option.{option_map};
 ghost use Rattle.sc_ast.specs.declared.expr.ExprTree.{ExprTree};
-ghost use Rattle.sc_ast.specs.declared.expr.ExprTree.TheVariants as expr;
 ghost use Rattle.sc_parse_expr.specs.declared.operator.Extension.TheVariants.{Operator, Index};
 ghost use Rattle.sc_parse_expr.specs.declared.fault.SyntaxFault.TheVariants.{Refused};
 ghost use Rattle.sc_parse_expr.specs.declared.lexeme.Lexeme.{Lexeme};
@@ -19,7 +19,7 @@ use crate::mark::Mark;
 use crate::operator::{
     Extension, Prefix, extension_level, extension_of, prefix_of, prefixed, right_level_of,
 };
-use sc_ast::ExprTree;
+use sc_ast::{ExprTree, Ident};
 use sc_base::{BinaryOp, LOOSEST, MAX_BRACKETS, MAX_HEIGHT, UNARY};
 use sqlite_items::Boxed;
 use std::alloc::Global;
@@ -31,13 +31,20 @@ pub struct Built {
     pub height: u32,
 }
 
+// Whether a member is named of what is on the left, or of what that points to.
+#[derive(Clone, Copy)]
+enum Access {
+    Member,
+    Arrow,
+}
+
 // What was read, and the lexemes after it.
 type Answer<'a> = Result<(Built, &'a [Lexeme]), SyntaxFault>;
 
 /// The expression at the start of the lexemes, as far as it goes, and the lexemes after it. `opened` brackets are open
 /// before. A bracket is refused where it is one too many, an operator where what it makes is too high.
 pub fn parse_expr(alloc: Global, opened: u32, lexemes: &[Lexeme]) -> Answer<'_>
-    requires { opened ≤ 1024 }
+    requires { opened ≤ most_brackets }
     ensures found { IfOk result (λ x. IsParse loosest_level opened lexemes.now x.0.tree x.1.now) }
     ensures height { IfOk result (λ x. x.0.height ≡ expr_height x.0.tree) }
 
@@ -54,7 +61,7 @@ pub fn parse_expr(alloc: Global, opened: u32, lexemes: &[Lexeme]) -> Answer<'_>
 
 /// As `parse_expr`, but for a unary expression (C11 6.5.3), which ends where an operator between operands stands.
 pub fn parse_unary(alloc: Global, opened: u32, lexemes: &[Lexeme]) -> Answer<'_>
-    requires { opened ≤ 1024 }
+    requires { opened ≤ most_brackets }
     ensures found { IfOk result (λ x. IsParse unary_level opened lexemes.now x.0.tree x.1.now) }
     ensures height { IfOk result (λ x. x.0.height ≡ expr_height x.0.tree) }
 
@@ -140,6 +147,15 @@ fn extension_within(level: u8, lexemes: &[Lexeme]) -> Option<(Extension, &[Lexem
         Some((extension, rest))
     } else {
         None
+    }
+}
+
+fn accessed(access: Access, base: Boxed<ExprTree>, name: Ident) -> ExprTree
+    ensures { result ≡ accessed access base name }
+{
+    match access {
+        Access::Member => ExprTree::Member { base, name },
+        Access::Arrow => ExprTree::Arrow { base, name },
     }
 }
 
@@ -263,8 +279,8 @@ fn parse_extended<'a>(
     match extension {
         Extension::Operator(op) => parse_joined(alloc, free, below, op, left, lexemes),
         Extension::Index => parse_index(alloc, free, below, left, lexemes),
-        Extension::Member => parse_member(alloc, left, lexemes),
-        Extension::Arrow => parse_arrow(alloc, left, lexemes),
+        Extension::Member => parse_named(alloc, Access::Member, left, lexemes),
+        Extension::Arrow => parse_named(alloc, Access::Arrow, left, lexemes),
     }
 }
 
@@ -319,10 +335,10 @@ fn parse_index<'a>(
     build(alloc, tree, height, rest)
 }
 
-fn parse_member<'a>(alloc: Global, left: Built, lexemes: &'a [Lexeme]) -> Answer<'a>
+fn parse_named<'a>(alloc: Global, access: Access, left: Built, lexemes: &'a [Lexeme]) -> Answer<'a>
     requires { left.height + 1 < 2 ^ 32 }
     ensures read { Agrees (λ x. found x.0.tree x.0.height x.1.now) result
-        (named_with (λ name. expr.Member left.tree name) left.height lexemes.now) }
+        (named_with (accessed access left.tree) left.height lexemes.now) }
     ensures low { IfOk result (λ x. x.0.height ≡ left.height + 1) }
 {
     let [first, rest @ ..] = lexemes else {
@@ -332,29 +348,5 @@ fn parse_member<'a>(alloc: Global, left: Built, lexemes: &'a [Lexeme]) -> Answer
         return Err(refused(lexemes));
     };
     let height = left.height + 1;
-    let tree = ExprTree::Member {
-        base: left.tree,
-        name,
-    };
-    build(alloc, tree, height, rest)
-}
-
-fn parse_arrow<'a>(alloc: Global, left: Built, lexemes: &'a [Lexeme]) -> Answer<'a>
-    requires { left.height + 1 < 2 ^ 32 }
-    ensures read { Agrees (λ x. found x.0.tree x.0.height x.1.now) result
-        (named_with (λ name. expr.Arrow left.tree name) left.height lexemes.now) }
-    ensures low { IfOk result (λ x. x.0.height ≡ left.height + 1) }
-{
-    let [first, rest @ ..] = lexemes else {
-        return Err(refused(lexemes));
-    };
-    let Some(name) = name_by(&first.symbol) else {
-        return Err(refused(lexemes));
-    };
-    let height = left.height + 1;
-    let tree = ExprTree::Arrow {
-        base: left.tree,
-        name,
-    };
-    build(alloc, tree, height, rest)
+    build(alloc, accessed(access, left.tree, name), height, rest)
 }

@@ -1,6 +1,7 @@
 //! Tokens as lexemes.
 
-ghost use Rattle.sc_parse_expr.specs.Prelude.{IsSpan, fourth_word, ident_in, import_of, keyword_of, mark_of, name_of};
+ghost use Rattle.sc_parse_expr.specs.Prelude.{IsSpan, fourth_word, ident_in, import_symbol, keyword_of, mark_of};
+ghost use Rattle.sc_parse_expr.specs.Prelude.{name_of};
 ghost use Rattle.sc_parse_expr.specs.Prelude.{number_in, says, symbol_of, third_word, words};
 ghost use Rattle.std.specs.Prelude.{◌≡◌, [], ◌∷◌, bytes_eq, get_or, Some, None, if◌then◌else◌};
 ghost use Rattle.std.specs.Option.{option_map};
@@ -172,7 +173,7 @@ fn fourth_word(line: &[u8]) -> Option<Name>
 }
 
 fn import_of(comp: Option<Name>, name: Option<Name>) -> Option<Symbol>
-    ensures { result ≡ import_of comp name }
+    ensures { result ≡ import_symbol comp name }
 {
     match (comp, name) {
         (Some(comp), Some(name)) => Some(Symbol::Import { comp, name }),

@@ -22,10 +22,11 @@ pub use Rattle.sc_lex.proofs.Prefixes.{directive_found, mark_one, mark_two, word
 pub use Rattle.sc_lex.proofs.Texts.{kind_of-directive, word_run}
 pub use Rattle.sc_lex.specs.Prelude.{Cuts, IsToken, allows_directive, begins_block_comment, begins_heading, begins_line}
 pub use Rattle.sc_lex.specs.Prelude.{begins_line_comment, digit_value, digits_of, gap, greatest_of, has_suffix}
-pub use Rattle.sc_lex.specs.Prelude.{is_blank, is_digit, is_empty, is_hexadecimal, is_inside_line, is_white_space}
-pub use Rattle.sc_lex.specs.Prelude.{marks, nothing, number, only_name, radix_of, token, token_at, value_of}
+pub use Rattle.sc_lex.specs.Prelude.{is_blank, is_digit_of, is_empty, is_hexadecimal, is_inside_line, is_white_space}
+pub use Rattle.sc_lex.specs.Prelude.{marks, nothing, digits_number, only_name, radix_of, token, token_at, value_of}
 pub use Rattle.sc_lex.specs.Prelude.{white_space, without_suffix}
-unfoldable pub use Rattle.sc_lex.specs.Prelude.{heading_name, integer_of, is_integer, is_mark, is_number, kind_of}
+unfoldable pub use Rattle.sc_lex.specs.Prelude.{heading_name, integer_of, is_integer_constant, is_mark}
+unfoldable pub use Rattle.sc_lex.specs.Prelude.{is_number_within, token_kind}
 unfoldable pub use Rattle.sc_lex.specs.Prelude.{line_kind, word_kind, words}
 pub use Rattle.sc_lex.specs.declared.token.TokenKind.{TokenKind}
 pub use Rattle.sc_ast.proofs.Induction.{Each, Inside, Under, everywhere, expr_induction, stmt_induction}
@@ -41,7 +42,7 @@ pub use Rattle.sc_ast.specs.Prelude.{is_chain, is_doubled, is_ident, kind_height
 pub use Rattle.sc_ast.specs.Prelude.{length_words, line_of, lineless_decl, lineless_export, lineless_function_head}
 pub use Rattle.sc_ast.specs.Prelude.{lineless_import, lineless_kind, lineless_local, lineless_option, lineless_stmt}
 pub use Rattle.sc_ast.specs.Prelude.{lineless_stmts, lines_at, literal_text, local_height, local_line, locals_height}
-pub use Rattle.sc_ast.specs.Prelude.{member_line, minus_words, name_words, newline, next_words, number_of}
+pub use Rattle.sc_ast.specs.Prelude.{member_line, minus_words, name_words, newline, next_words, number_typed}
 pub use Rattle.sc_ast.specs.Prelude.{option_height, param_of, param_words, params_words, place_words, prefix_words}
 pub use Rattle.sc_ast.specs.Prelude.{printed, result_words, return_words, section_height, section_words, simple_words}
 pub use Rattle.sc_ast.specs.Prelude.{star_words, stmt_height, stmt_layout, stmts_height, struct_words, text_of}

@@ -3,7 +3,8 @@ use Rattle.sc_parse_print_laws.proofs.Common.{Bool, List, Some, Symbol, TokenKin
 use Rattle.sc_parse_print_laws.proofs.Common.{append_assoc, arith, begins_heading, codes, drop, false}
 use Rattle.sc_parse_print_laws.proofs.Common.{false_from_ne_true, false≢true, filter, get_or, heading_name, is_blank}
 use Rattle.sc_parse_print_laws.proofs.Common.{is_empty, is_inside_line, is_name, is_name_byte, is_nondigit, is_some}
-use Rattle.sc_parse_print_laws.proofs.Common.{kind_of, kind_of-directive, length, line_kind, list_all, list_all-append}
+use Rattle.sc_parse_print_laws.proofs.Common.{token_kind, kind_of-directive, length, line_kind, list_all}
+use Rattle.sc_parse_print_laws.proofs.Common.{list_all-append}
 use Rattle.sc_parse_print_laws.proofs.Common.{name_of, ne_eqb, not, not-true, only_name, option_and_then, or_left}
 use Rattle.sc_parse_print_laws.proofs.Common.{or_unused, refl, says, slice_eq-Decides, slice_index, slice_split, suc}
 use Rattle.sc_parse_print_laws.proofs.Common.{sym, take, take-append_seam, true, word_symbol, words, zero, ℕ, ◌++◌, ◌<◌}
@@ -85,7 +86,7 @@ pub record IsLine (text : List ℕ) : Type 0 where
   pub is : line_kind text ≡ Some kind
 
 pub kind_of_line : (text : List ℕ) (k : TokenKind) → slice_index text 0 ≡ 35 → list_all is_inside_line text ≡ true →
-    line_kind text ≡ Some k → kind_of text ≡ Some k
+    line_kind text ≡ Some k → token_kind text ≡ Some k
 kind_of_line text k first inside is =
     let begins : (slice_index text 0 == 35) ≡ true = rw first in
     kind_of-directive text first ∙ rw (begins, inside) is

@@ -2,7 +2,7 @@
 use Rattle.sc_parse_print_laws.proofs.Common.{Cuts, IsToken, IsTrue, List, Piece, Some, Symbol, Token, TokenKind, []}
 use Rattle.sc_parse_print_laws.proofs.Common.{allows_directive, and_from, ap, append-nil, append_assoc, ap₂, arith}
 use Rattle.sc_parse_print_laws.proofs.Common.{begins_heading, begins_line, directive_found, drop, drop-append_seam}
-use Rattle.sc_parse_print_laws.proofs.Common.{eq-eqb, gap, get_or-append_seam, is_white_space, kind_of, length}
+use Rattle.sc_parse_print_laws.proofs.Common.{eq-eqb, gap, get_or-append_seam, is_white_space, token_kind, length}
 use Rattle.sc_parse_print_laws.proofs.Common.{length-append, line_kind, map, newline, nothing, option_and_then}
 use Rattle.sc_parse_print_laws.proofs.Common.{or_right, or_unused, refl, replicate, says, slice_index, slice_range}
 use Rattle.sc_parse_print_laws.proofs.Common.{subst, suc, sym, symbol_of, symbols, take, take-append_seam, text_of}
@@ -21,7 +21,7 @@ pub record Found (bytes : List ℕ) (at : ℕ) (ss : List Symbol) : Type 0 where
 module _ (bytes : List ℕ) where
   -- what a token says is what its text says
   pub token_says : (leading text rest : List ℕ) (kind : TokenKind) → bytes ≡ leading ++ (text ++ rest) →
-      kind_of (take (length text) (text ++ rest)) ≡ Some kind →
+      token_kind (take (length text) (text ++ rest)) ≡ Some kind →
       symbol_of bytes (token_at bytes (length leading) kind (length text)) ≡ word_symbol text
   unfolding word_symbol
   token_says leading text rest kind whole spelled =
@@ -31,7 +31,7 @@ module _ (bytes : List ℕ) where
       let long : length leading + length text - length leading ≡ length text = omega arith in
       let slice : slice_range bytes (length leading) (length leading + length text) ≡ text =
       rw (following, long) back in
-      let kind_is : kind_of text ≡ Some kind = sym (ap kind_of back) ∙ spelled in
+      let kind_is : token_kind text ≡ Some kind = sym (ap token_kind back) ∙ spelled in
       ap (λ x. or_unused (says kind x)) slice ∙ ap (λ k. or_unused (option_and_then (λ j. says j text) k)) (sym kind_is)
 
   -- one byte of white space
@@ -126,7 +126,7 @@ module _ (bytes : List ℕ) (heading : begins_heading bytes ≡ true) where
       let end = skipped bytes 10 refl (leading ++ text) _ rest past on in
       let long = length-append leading text in
       let allowed = and_from _ _ heading begins in
-      let spelled = ap kind_of (take-append_seam text _) ∙ kind_of_line text l.kind l.first l.inside l.is in
+      let spelled = ap token_kind (take-append_seam text _) ∙ kind_of_line text l.kind l.first l.inside l.is in
       let first = token_says bytes leading text _ l.kind whole spelled in
       let here = subst (λ b. IsToken b (drop (length leading) bytes) l.kind (length text)) (sym allowed)
       (subst (λ x. IsToken true x l.kind (length text)) (sym following) (line_token text rest l)) in

@@ -2,11 +2,14 @@
 use Rattle.sc_parse_print_laws.proofs.Common.{Bool, IsTrue, List, Number, Option, Some, [], and_parts, ap, append-nil}
 use Rattle.sc_parse_print_laws.proofs.Common.{arith, bytes_eq, bytes_eq-Decides, codes, digit_value, digits_of, false}
 use Rattle.sc_parse_print_laws.proofs.Common.{false_from_ne_true, false≢true, fits, get_or-append_seam, greatest_of}
-use Rattle.sc_parse_print_laws.proofs.Common.{has_suffix, if◌then◌else◌, integer_of, is_between, is_digit, is_empty}
-use Rattle.sc_parse_print_laws.proofs.Common.{is_hexadecimal, is_ident, is_integer, is_name, is_name_byte, is_nondigit}
-use Rattle.sc_parse_print_laws.proofs.Common.{is_number, is_reserved, kind_of, le-leb, le-ltb, leb-true, length}
+use Rattle.sc_parse_print_laws.proofs.Common.{has_suffix, if◌then◌else◌, integer_of, is_between, is_digit_of, is_empty}
+use Rattle.sc_parse_print_laws.proofs.Common.{is_hexadecimal, is_ident, is_integer_constant, is_name, is_name_byte}
+use Rattle.sc_parse_print_laws.proofs.Common.{is_nondigit}
+use Rattle.sc_parse_print_laws.proofs.Common.{is_number_within, is_reserved, token_kind, le-leb, le-ltb, leb-true}
+use Rattle.sc_parse_print_laws.proofs.Common.{length}
 use Rattle.sc_parse_print_laws.proofs.Common.{length-append, list_all, list_all-append, list_any, literal_text, lt-ltb}
-use Rattle.sc_parse_print_laws.proofs.Common.{nat_le, nat_lt, ne_eqb, not, not-true, number, number_of, or_cases}
+use Rattle.sc_parse_print_laws.proofs.Common.{nat_le, nat_lt, ne_eqb, not, not-true, digits_number, number_typed}
+use Rattle.sc_parse_print_laws.proofs.Common.{or_cases}
 use Rattle.sc_parse_print_laws.proofs.Common.{radix_of, refl, reserved_words, says, slice_index, subst, suc, sym}
 use Rattle.sc_parse_print_laws.proofs.Common.{take-append_seam, true, value_of, without_suffix, word_kind, word_symbol}
 use Rattle.sc_parse_print_laws.proofs.Common.{zero, ℕ, ⊎_elim, ◌%◌, ◌&&◌, ◌*◌, ◌++◌, ◌+◌, ◌-◌, ◌/◌, ◌<◌, ◌==◌, ◌^◌}
@@ -19,7 +22,7 @@ use Rattle.std.proofs.lemmas.List.Sums.{fold-append}
 use Rattle.sc_lex.specs.declared.integer.IntegerConstant.{IntegerConstant}
 
 pub name_says : (name : List ℕ) → IsTrue (is_ident name) → word_symbol name ≡ symbol.Ident name
-unfolding word_symbol kind_of word_kind says
+unfolding word_symbol token_kind word_kind says
 name_says name h =
     let parts = and_parts _ (not _) h in
     let free = not-true (is_reserved name) parts.1 in
@@ -40,14 +43,14 @@ name_some (b ∷ name) h = omega arith
 -- the digits of a number, which begin with 0 only where they are one digit
 record Decimal (n : ℕ) (ds : List ℕ) : Type 0 where
   some : 0 < length ds
-  digits : list_all (λ d. is_digit 10 d) ds ≡ true
-  value : number 10 ds ≡ n
+  digits : list_all (λ d. is_digit_of 10 d) ds ≡ true
+  value : digits_number 10 ds ≡ n
   no_zero : 0 < n → (slice_index ds 0 ≡ 48 → ⊥)
   low : slice_index ds 0 ≤ 57
   high : 48 ≤ slice_index ds 0
   last : slice_index ds (length ds - 1) ≤ 57
 
-digit_of : (d : ℕ) → d < 10 → (digit_value (48 + d) ≡ d) × (is_digit 10 (48 + d) ≡ true)
+digit_of : (d : ℕ) → d < 10 → (digit_value (48 + d) ≡ d) × (is_digit_of 10 (48 + d) ≡ true)
 digit_of d h =
     let low = le-leb 48 (48 + d) (omega arith) in
     let high = le-leb (48 + d) 57 (omega (arith, h)) in
@@ -55,8 +58,8 @@ digit_of d h =
     let value : digit_value (48 + d) ≡ d = rw (low, high, back) in
     (value, ap (λ x. nat_lt x 10) value ∙ lt-ltb d 10 h)
 
-pushed : (ds : List ℕ) (d : ℕ) → d < 10 → number 10 (ds ++ (48 + d) ∷ []) ≡ number 10 ds * 10 + d
-pushed ds d h = fold-append _ 0 ds _ ∙ ap (λ x. number 10 ds * 10 + x) (digit_of d h).0
+pushed : (ds : List ℕ) (d : ℕ) → d < 10 → digits_number 10 (ds ++ (48 + d) ∷ []) ≡ digits_number 10 ds * 10 + d
+pushed ds d h = fold-append _ 0 ds _ ∙ ap (λ x. digits_number 10 ds * 10 + x) (digit_of d h).0
 
 first_kept : (ds es : List ℕ) → 0 < length ds → slice_index (ds ++ es) 0 ≡ slice_index ds 0
 first_kept [] es h = absurd (omega (arith, h))
@@ -86,7 +89,11 @@ decimal_is = decimal_by_steps Decimal (λ n h. record {
     let end = last_is ds (48 + n % 10) in
     record {
       some = omega (arith, long);
-      digits = list_all-append (λ x. is_digit 10 x) ds ((48 + n % 10) ∷ []) ∙ rw (d.digits, (digit_of (n % 10) rest).1);
+      digits = list_all-append (λ x. is_digit_of 10 x) ds ((48 + n % 10) ∷ []) ∙ rw (
+        d.digits,
+        (digit_of (n % 10)
+            rest).1,
+      );
       value = pushed ds (n % 10) rest ∙ ap (λ x. x * 10 + n % 10) d.value ∙ whole;
       no_zero = λ positive e. d.no_zero (omega (arith, h)) (sym first ∙ e);
       low = rw first d.low;
@@ -175,8 +182,8 @@ module _ (n : ℕ) (ds : List ℕ) (positive : 0 < n) (d : Decimal n ds) where
   some_digits : not (is_empty ds) ≡ true
   some_digits = let some = d.some in let e = ne_eqb (length ds) 0 (λ e. omega (arith, some, e)) in rw e
 
-  is_constant : (u : Bool) → Fitting n u → is_integer (ds ++ suffix u) ≡ true
-  unfolding is_integer is_number
+  is_constant : (u : Bool) → Fitting n u → is_integer_constant (ds ++ suffix u) ≡ true
+  unfolding is_integer_constant is_number_within
   is_constant u h = rw (body_is u, suffix_is u, base_is, digits_are, some_digits, d.digits, d.value) (in_range u h)
 
   value_is : (u : Bool) → value_of (ds ++ suffix u) ≡ n
@@ -189,7 +196,7 @@ module _ (n : ℕ) (ds : List ℕ) (positive : 0 < n) (d : Decimal n ds) where
       (suffix_is u) ∙ ap (λ x. u || nat_lt 2147483647 x) (value_is u) ∙ not_unsigned u h in
       rw (is_constant u h) (made _ _ _ _ (value_is u) e)
 
-  number_is : (u : Bool) → Fitting n u → number_of n u ≡ Some (record { value = n; unsigned = u })
+  number_is : (u : Bool) → Fitting n u → number_typed n u ≡ Some (record { value = n; unsigned = u })
   number_is true h = refl
   number_is false h = let e = in_range false h in rw e
 
@@ -197,7 +204,7 @@ module _ (n : ℕ) (ds : List ℕ) (positive : 0 < n) (d : Decimal n ds) where
   low_text u = let e = first_kept ds (suffix u) d.some in rw e d.low
 
   positive_literal : (u : Bool) → Fitting n u → IsLiteral n u (ds ++ suffix u)
-  unfolding word_symbol kind_of word_kind says
+  unfolding word_symbol token_kind word_kind says
   positive_literal u h =
       let free = no_reserved (ds ++ suffix u) (low_text u) in
       let unnamed = no_name (ds ++ suffix u) (low_text u) in
@@ -207,7 +214,7 @@ module _ (n : ℕ) (ds : List ℕ) (positive : 0 < n) (d : Decimal n ds) where
       }
 
 zero_literal : (u : Bool) → IsLiteral 0 u ((48 ∷ []) ++ suffix u)
-unfolding word_symbol kind_of word_kind is_reserved is_name is_integer is_number integer_of says
+unfolding word_symbol token_kind word_kind is_reserved is_name is_integer_constant is_number_within integer_of says
 zero_literal true = record { is = refl; said = refl }
 zero_literal false = record { is = refl; said = refl }
 
@@ -219,14 +226,16 @@ is_literal zero u h = subst (λ ds. IsLiteral 0 u (ds ++ suffix u)) (sym (decima
     (zero_literal u)
 is_literal (suc n) u h = positive_literal (suc n) _ (omega arith) (decimal_is _ (in_words (suc n) u h)) u h
 
-pub literal_kind : (number : Number) → IsTrue (fits number) → word_kind (literal_text number) ≡ Some kind.Integer
-literal_kind number h = (is_literal _ _ h).is
+pub literal_kind : (digits_number : Number) → IsTrue (fits digits_number) → word_kind (literal_text digits_number) ≡
+    Some kind.Integer
+literal_kind digits_number h = (is_literal _ _ h).is
 
-pub literal_some : (number : Number) → IsTrue (fits number) → 0 < length (literal_text number)
-literal_some number h =
-    let some = (decimal_is number.value (in_words _ number.unsigned h)).some in
-    let long = length-append (decimal number.value) (suffix number.unsigned) in
+pub literal_some : (digits_number : Number) → IsTrue (fits digits_number) → 0 < length (literal_text digits_number)
+literal_some digits_number h =
+    let some = (decimal_is digits_number.value (in_words _ digits_number.unsigned h)).some in
+    let long = length-append (decimal digits_number.value) (suffix digits_number.unsigned) in
     omega (arith, some, long)
 
-pub literal_says : (number : Number) → IsTrue (fits number) → word_symbol (literal_text number) ≡ symbol.Integer number
-literal_says number h = (is_literal _ _ h).said
+pub literal_says : (digits_number : Number) → IsTrue (fits digits_number) → word_symbol (literal_text digits_number) ≡
+    symbol.Integer digits_number
+literal_says digits_number h = (is_literal _ _ h).said

@@ -17,7 +17,7 @@ use Rattle.sc_parse_print_laws.proofs.Common.{next_words, no_args, place_words, 
 use Rattle.sc_parse_print_laws.proofs.Common.{rules, simple_words, some_args, stmt_at, stmt_induction, stmt_layout}
 use Rattle.sc_parse_print_laws.proofs.Common.{subst, sym, symbols, true, word, word_symbol, ℕ, ◌&&◌, ◌++◌, ◌==◌, ◌∙◌}
 use Rattle.sc_parse_print_laws.proofs.Common.{◌∷◌, ◌≡◌}
-use Rattle.sc_ast.specs.Prelude.{kind_of}
+use Rattle.sc_ast.specs.Prelude.{stmt_kind_of}
 use Rattle.sc_ast.specs.StmtWords as printing
 use Rattle.sc_ast.specs.declared.stmt.StmtTree as trees
 use Rattle.sc_ast.specs.declared.stmt.StmtKind as kinds
@@ -269,7 +269,7 @@ simply : {ts : List Lexeme} (k : StmtKind) → SpellsStmtKind ts k → Spelled t
 simply k d = record { kind = k; spelled = d; chained = λ q. absurd (false≢true q); same = refl }
 
 plain_reads : (k : SimpleKind) → IsTrue (kept_simple k) →
-    Reading (ended (simple_words k)) (λ ts. SpellsStmtKind ts (kind_of k))
+    Reading (ended (simple_words k)) (λ ts. SpellsStmtKind ts (stmt_kind_of k))
 plain_reads k kept_k = reads (part (simple_words k) ∷ written (codes ";") ∷ []) _
     (λ ts said t ends. spell.plain t (ends ∙ lone_says semicolon) (simple_reads k kept_k ts said))
 

@@ -1,7 +1,8 @@
 -- What each fixed word says.
 use Rattle.sc_parse_print_laws.proofs.Common.{BinaryOp, Keyword, List, Mark, Some, UnaryOp, arith, binary_of}
-use Rattle.sc_parse_print_laws.proofs.Common.{binary_text, codes, is_integer, is_mark, is_name, is_number, is_reserved}
-use Rattle.sc_parse_print_laws.proofs.Common.{keyword_of, kind_of, level_of, mark_of, prefix_of, refl, says, suc}
+use Rattle.sc_parse_print_laws.proofs.Common.{binary_text, codes, is_integer_constant, is_mark, is_name}
+use Rattle.sc_parse_print_laws.proofs.Common.{is_number_within, is_reserved}
+use Rattle.sc_parse_print_laws.proofs.Common.{keyword_of, token_kind, level_of, mark_of, prefix_of, refl, says, suc}
 use Rattle.sc_parse_print_laws.proofs.Common.{unary_text, word_kind, word_symbol, ℕ, ◌-◌, ◌≡◌, ◌≤◌}
 use Rattle.sc_base.specs.Levels as levels
 use Rattle.sc_base.specs.declared.op.UnaryOp.TheVariants as unary
@@ -30,7 +31,7 @@ pub data Lone : List ℕ → Mark → Type 0 where
   close_curly : Lone (codes "}") mark.CloseCurly
 
 pub lone_says : {text : List ℕ} {m : Mark} → Lone text m → SaysMark text m
-unfolding word_symbol kind_of word_kind is_reserved is_name is_integer is_number is_mark says mark_of
+unfolding word_symbol token_kind word_kind is_reserved is_name is_integer_constant is_number_within is_mark says mark_of
 lone_says open_paren = refl
 lone_says _ = refl
 
@@ -41,7 +42,7 @@ unary_mark unary.Not = mark.Not
 unary_mark unary.BitNot = mark.Tilde
 
 pub unary_says : (op : UnaryOp) → SaysMark (unary_text op) (unary_mark op)
-unfolding word_symbol kind_of word_kind is_reserved is_name is_integer is_number is_mark says mark_of
+unfolding word_symbol token_kind word_kind is_reserved is_name is_integer_constant is_number_within is_mark says mark_of
 unary_says unary.Minus = refl
 unary_says _ = refl
 
@@ -70,7 +71,7 @@ binary_mark binary.Div = mark.Slash
 binary_mark binary.Rem = mark.Percent
 
 pub binary_says : (op : BinaryOp) → SaysMark (binary_text op) (binary_mark op)
-unfolding word_symbol kind_of word_kind is_reserved is_name is_integer is_number is_mark says mark_of
+unfolding word_symbol token_kind word_kind is_reserved is_name is_integer_constant is_number_within is_mark says mark_of
 binary_says binary.OrElse = refl
 binary_says _ = refl
 
@@ -92,7 +93,7 @@ at_least_2 binary.OrElse = omega arith
 at_least_2 _ = omega arith
 
 pub equal : SaysMark (codes "=") mark.Equal
-unfolding word_symbol kind_of word_kind is_reserved is_name is_integer is_number is_mark says mark_of
+unfolding word_symbol token_kind word_kind is_reserved is_name is_integer_constant is_number_within is_mark says mark_of
 equal = refl
 
 -- the word says this reserved word
@@ -116,6 +117,7 @@ keyword_text keyword.While = codes "while"
 keyword_text keyword.Unused = codes "auto"
 
 pub keyword_says : (w : Keyword) → SaysKeyword (keyword_text w) w
-unfolding word_symbol kind_of word_kind is_reserved is_name is_integer is_number is_mark says keyword_of
+unfolding word_symbol token_kind word_kind is_reserved is_name is_integer_constant is_number_within is_mark says
+    keyword_of
 keyword_says keyword.Break = refl
 keyword_says _ = refl

@@ -1,6 +1,6 @@
 -- The names from below that several definitions of this crate cite, passed on from one place. Declares nothing.
 pub use Rattle.sc_base.specs.Prelude.{is_name, loosest_level}
-pub use Rattle.sc_lex.specs.Prelude.{IsCut, kind_of}
+pub use Rattle.sc_lex.specs.Prelude.{IsCut, token_kind}
 pub use Rattle.sc_lex.specs.declared.token.Token.{Token}
 pub use Rattle.sc_ast.specs.Prelude.{Piece, SameButLines, decl_words, export_words, expr_words, fits, head_of}
 pub use Rattle.sc_ast.specs.Prelude.{heading_words, import_words, is_ident, is_place, layouts, lineless_decl}

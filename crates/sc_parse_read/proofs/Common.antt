@@ -13,7 +13,8 @@ pub use Rattle.sc_lex.proofs.Wording.{begins_with, prefix_byte}
 pub use Rattle.sc_lex.specs.Prelude.{AreSections, Cuts, IsBadHeading, IsCut, IsGap, IsSection, IsSplit, IsStuck}
 pub use Rattle.sc_lex.specs.Prelude.{IsToken, NoHeading, RefusesBytes, RefusesHeading, allows_directive}
 pub use Rattle.sc_lex.specs.Prelude.{begins_block_comment, begins_line, begins_line_comment, block_comment}
-pub use Rattle.sc_lex.specs.Prelude.{ends_comment, gap, is_directive, is_heading, is_white_space, kind_of, line_after}
+pub use Rattle.sc_lex.specs.Prelude.{ends_comment, gap, is_directive, is_heading, is_white_space, token_kind}
+pub use Rattle.sc_lex.specs.Prelude.{line_after}
 pub use Rattle.sc_lex.specs.Prelude.{line_at, line_comment, line_len, may_follow, name_at, newlines, none, nothing}
 pub use Rattle.sc_lex.specs.Prelude.{section, token, token_at, white_space}
 pub use Rattle.sc_lex.specs.declared.fault.TextFault.TheVariants.{Refused}

@@ -3,7 +3,7 @@ use Rattle.sc_parse_read.proofs.Common.{Bool, Cuts, IsCut, IsGap, IsStuck, IsTok
 use Rattle.sc_parse_read.proofs.Common.{Token, TokenKind, [], allows_directive, ap, arith, begins_block_comment}
 use Rattle.sc_parse_read.proofs.Common.{begins_line_comment, begins_with, block_comment, cases_lt, codes, drop}
 use Rattle.sc_parse_read.proofs.Common.{ends_comment, false, false≢true, gap, gap_fits, inl, inr, is_directive, is_some}
-use Rattle.sc_parse_read.proofs.Common.{is_white_space, kind_of, length, length-drop, line_comment, line_len, lt-ltb}
+use Rattle.sc_parse_read.proofs.Common.{is_white_space, token_kind, length, length-drop, line_comment, line_len, lt-ltb}
 use Rattle.sc_parse_read.proofs.Common.{ltb, ltb-true, may_follow, none-some, nothing, refl, same_unless, slice_index}
 use Rattle.sc_parse_read.proofs.Common.{subst, suc, sym, take, token, token_at, token_positive, true, white_space, zero}
 use Rattle.sc_parse_read.proofs.Common.{ℕ, ⊎_elim, ◌+◌, ◌-◌, ◌<◌, ◌∙◌, ◌∷◌, ◌≡◌, ◌≤◌, ◌⊎◌}
@@ -131,20 +131,20 @@ implied true false = inr (λ on. false≢true (on refl))
 
 -- a prefix of this length spells a token
 abbrev spells : List ℕ → ℕ → Bool
-spells text len = is_some (kind_of (take len text))
+spells text len = is_some (token_kind (take len text))
 
 module _ (directives : Bool) (text : List ℕ) where
   module _ (len : ℕ) (l : IsLast (spells text) (length text) len) (kind : TokenKind)
-      (is : kind_of (take len text) ≡ Some kind) where
-    longest : (longer : ℕ) → len < longer → longer ≤ length text → kind_of (take longer text) ≡ None
+      (is : token_kind (take len text) ≡ Some kind) where
+    longest : (longer : ℕ) → len < longer → longer ≤ length text → token_kind (take longer text) ≡ None
     longest longer low high = none_of _ (l.last longer low high)
 
     same_token : (other : TokenKind) (n : ℕ) → IsToken directives text other n → IsToken directives text kind len
     same_token other n t =
         let long = same_unless n len (λ less. none-some kind (sym (t.longest len less l.high) ∙ is))
         (λ less. none-some other (sym (longest n less t.within) ∙ t.spelled)) in
-        let spelled : kind_of (take len text) ≡ Some other =
-        subst (λ k. kind_of (take k text) ≡ Some other) long t.spelled in
+        let spelled : token_kind (take len text) ≡ Some other =
+        subst (λ k. token_kind (take k text) ≡ Some other) long t.spelled in
         let kinds : other ≡ kind = cc in
         subst (λ k. IsToken directives text k len) kinds (subst (λ k. IsToken directives text other k) long t)
 
@@ -181,7 +181,7 @@ module _ (directives : Bool) (text : List ℕ) where
 
   decide_token : ATokenHere directives text ⊎ NoTokenHere directives text
   decide_token = elim (last_of (spells text) (length text)) [
-    | inl f ↦ let s = some_of (kind_of _) f.1.holds in decide_here f.0 f.1 s.0 s.1
+    | inl f ↦ let s = some_of (token_kind _) f.1.holds in decide_here f.0 f.1 s.0 s.1
     | inr nowhere ↦ inr (λ kind len t. nowhere len t.within (ap is_some t.spelled))
   ]
 

@@ -11,7 +11,7 @@ use Rattle.std.proofs.lemmas.Map.Keys.{apart_from_distinct}
 use Rattle.std.specs.Cmp.Lexicographic.{pointwise}
 use Rattle.sc_base.proofs.Lists.{position_of_only}
 use Rattle.sc_base.proofs.Texts.{bytes_eq_self, same_text}
-use Rattle.sc_base.specs.Prelude.{HasOneNumberEach, number_of}
+use Rattle.sc_base.specs.Prelude.{HasOneNumberEach, number_by_name}
 use Rattle.sc_policy.specs.Reading.{call_of, comp_of, ends_of, goal_of, goal_part, joined, maybe_arg_of, maybe_test_of}
 use Rattle.sc_policy.specs.Reading.{pattern_count, pattern_of, pattern_part, pattern_with, ret_of, rule_of, who_of}
 use Rattle.sc_policy.specs.Rules.{IsGoal, IsPattern, IsRuleLine, IsWho}
@@ -185,14 +185,14 @@ pattern_is (End comp test) words is written =
 
 -- ---- states and goals
 
-number_says : (states : List Text) (name : Text) (place : ℕ) → number_of states name ≡ Some place →
+number_says : (states : List Text) (name : Text) (place : ℕ) → number_by_name states name ≡ Some place →
     (name ≡ state_name states place) × (place < length states)
 number_says states name place is =
     let found = position-Some (bytes_eq name) states place [] is in
     (same_text name (state_name states place) found.1, found.0)
 
 number_is : (states : List Text) (name : Text) (place : ℕ) → HasOneNumberEach states → name ≡ state_name states place →
-    place < length states → number_of states name ≡ Some place
+    place < length states → number_by_name states name ≡ Some place
 number_is states name place distinct same within =
     position_of_only (bytes_eq name) states place [] within (passes (get_or states place []) same) only
   where
@@ -226,12 +226,12 @@ goal_says states (word ∷ []) goal is =
         let it : ◌≡◌ {A = Option ℕ} None goal = cc in
         subst (λ g. AreWritten (word ∷ []) (goal_words states g) × IsGoal (length states) g) it ((same, tt), tt)
 goal_says states (word ∷ state ∷ []) goal is =
-    either word (codes "to") (option_map Some (number_of states state)) None (Some goal) led (λ none. absurd (cc)) is
+    either word (codes "to") (option_map Some (number_by_name states state)) None (Some goal) led (λ none. absurd (cc)) is
   where
-    led : word ≡ codes "to" → option_map Some (number_of states state) ≡ Some goal →
+    led : word ≡ codes "to" → option_map Some (number_by_name states state) ≡ Some goal →
         AreWritten (word ∷ state ∷ []) (goal_words states goal) × IsGoal (length states) goal
     led same gives =
-        let found = made {A = ℕ} Some (number_of states state) goal gives in
+        let found = made {A = ℕ} Some (number_by_name states state) goal gives in
         let at = number_says states state found.value found.is in
         subst (λ g. AreWritten (word ∷ state ∷ []) (goal_words states g) × IsGoal (length states) g) found.gives
         ((same, (at.0, tt)), at.1)
@@ -246,7 +246,7 @@ goal_is states (word ∷ second ∷ more) None distinct written within = absurd 
 goal_is states [] (Some place) distinct written within = absurd written
 goal_is states (word ∷ []) (Some place) distinct written within = absurd written.1
 goal_is states (word ∷ state ∷ []) (Some place) distinct written within =
-    ap (λ w. cond (bytes_eq w (codes "to")) (option_map Some (number_of states state)) None) written.0 ∙
+    ap (λ w. cond (bytes_eq w (codes "to")) (option_map Some (number_by_name states state)) None) written.0 ∙
     ap (option_map Some) (number_is states state place distinct written.1.0 within)
 goal_is states (word ∷ state ∷ third ∷ more) (Some place) distinct written within = absurd written.1.1
 
@@ -299,13 +299,13 @@ rule_says states (on ∷ state ∷ kind ∷ comp ∷ rest) rule is =
     (all first.value second.value third.value first.is second.is third.is)
   where
     ended : (ends : ℕ × Option ℕ) → ends_of states (on ∷ state ∷ kind ∷ comp ∷ rest) ≡ Some ends →
-        (on ≡ codes "on") × (number_of states state ≡ Some ends.0) × (goal_of states (goal_part kind rest) ≡ Some ends.1)
+        (on ≡ codes "on") × (number_by_name states state ≡ Some ends.0) × (goal_of states (goal_part kind rest) ≡ Some ends.1)
     ended ends = either on (codes "on")
         (option_and_then (λ state. option_map (λ goal. (state, goal)) (goal_of states (goal_part kind rest)))
-        (number_of states state)) None (Some ends)
+        (number_by_name states state)) None (Some ends)
         (λ same gives.
           let first = bound (λ state. option_map (λ goal. (state, goal)) (goal_of states (goal_part kind rest)))
-              (number_of states state) ends gives in
+              (number_by_name states state) ends gives in
           let second = made (λ goal. (first.value, goal)) (goal_of states (goal_part kind rest)) ends first.gives in
           (same, first.is ∙ ap (λ e. Some e.0) second.gives, second.is ∙ ap (λ e. Some e.1) second.gives))
         (λ none. absurd (cc))

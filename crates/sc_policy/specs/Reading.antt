@@ -3,7 +3,7 @@ use Rattle.sc_number.specs.Numbers.{integer, number_within}
 use Rattle.std.specs.Prelude.{ℕ, ◌+◌, Bool, ◌||◌, ◌==◌, nat_eq, nat_le, nat_lt, not, codes, bytes_eq, List, [], ◌∷◌, ◌++◌, length}
 use Rattle.std.specs.Prelude.{take, drop, slice_get, Option, Some, None, option_and_then, option_map, if◌then◌else◌}
 use Rattle.std.specs.List.{starts_with}
-use Rattle.sc_base.specs.Prelude.{Text, is_numbered, name_of, number_of}
+use Rattle.sc_base.specs.Prelude.{Text, is_numbered, name_of, number_by_name}
 use Rattle.sc_policy.specs.Lines.{words_of}
 use Rattle.sc_policy.specs.Policies.{end_line}
 use Rattle.sc_policy.specs.declared.policy.ArgTest.{ArgTest}
@@ -98,7 +98,7 @@ goal_part kind words = drop (pattern_count kind (length words)) words
 abbrev pub goal_of : (states : List Text) → List Text → Option (Option ℕ)
 goal_of states (word ∷ []) = if bytes_eq word (codes "deny") then Some None else None
 goal_of states (word ∷ state ∷ []) =
-    if bytes_eq word (codes "to") then option_map Some (number_of states state) else None
+    if bytes_eq word (codes "to") then option_map Some (number_by_name states state) else None
 goal_of states _ = None
 
 -- the compartment of a rule's pattern
@@ -116,7 +116,7 @@ abbrev pub ends_of : (states : List Text) → List Text → Option (ℕ × Optio
 ends_of states (on ∷ state ∷ kind ∷ word ∷ rest) =
     if bytes_eq on (codes "on") then
     option_and_then (λ state. option_map (λ goal. (state, goal))
-    (goal_of states (goal_part kind rest))) (number_of states state) else None
+    (goal_of states (goal_part kind rest))) (number_by_name states state) else None
 ends_of states _ = None
 
 abbrev pub joined : Pattern → ℕ × Option ℕ → Rule

@@ -4,7 +4,7 @@ ghost use Rattle.sc_policy.specs.Reading.{call_of, comp_of, ends_of, goal_of, go
 ghost use Rattle.sc_policy.specs.Reading.{pattern_count, pattern_of, pattern_part, pattern_with, ret_of, test_count};
 ghost use Rattle.std.specs.Prelude.{◌≡◌, ◌<◌, ◌≤◌, IfSome, length, map, nat_eq};
 ghost use Rattle.std.specs.Cmp.Lexicographic.{pointwise};
-ghost use Rattle.sc_base.specs.Prelude.{number_of};
+ghost use Rattle.sc_base.specs.Prelude.{number_by_name};
 
 use crate::words::{maybe_arg_of, maybe_test_of, who_of};
 use crate::{Pattern, Who};
@@ -47,14 +47,14 @@ pub(crate) fn ends_of(states: &[Name], words: &[&[u8]]) -> Option<(u16, Option<u
 // The place of the state of this name.
 fn place_of(states: &[Name], name: &[u8]) -> Option<u16>
     requires { length states.now ≤ 256 }
-    ensures { result ≡ number_of states.now name.now }
+    ensures { result ≡ number_by_name states.now name.now }
 {
     let place = position_of(states, name)?;
     Some(place as u16)
 }
 
 fn position_of(states: &[Name], name: &[u8]) -> Option<usize>
-    ensures place { result ≡ number_of states.now name.now }
+    ensures place { result ≡ number_by_name states.now name.now }
     ensures within { IfSome result (λ place. place < length states.now) }
 {
     states.iter().position(|state| is_called(state, name))

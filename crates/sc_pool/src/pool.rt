@@ -35,7 +35,7 @@ impl Model for PageId {
 #[derive(Drop)]
 pub struct Pool {
     pages: Slab<Page>,
-    spare: u32,
+    spare: usize,
 }
 
 impl Model for Pool {
@@ -47,7 +47,7 @@ impl Model for Pool {
 
     ghost view = { λ s. record { slots = s.pages.slots; spare = s.spare } };
 
-    ghost invariant = { λ s. HasRoomFor s.pages s.spare × (slab_len s.pages + s.spare < 2 ^ 32) };
+    ghost invariant = { λ s. HasRoomFor s.pages s.spare × (slab_len s.pages + s.spare < 2 ^ 64) };
 }
 
 impl Pool {
@@ -65,21 +65,21 @@ impl Pool {
     }
 
     /// Makes room for `n` more pages, if there isn't as much.
-    pub fn reserve(&mut self, n: u32) -> Result<(), OutOfMemory>
-        requires { out_of self.old + n < 2 ^ 32 }
+    pub fn reserve(&mut self, n: usize) -> Result<(), OutOfMemory>
+        requires { out_of self.old + n < 2 ^ 64 }
         ensures pages { self.new.slots ≡ self.old.slots }
         ensures spare { OnOk result (self.new.spare ≡ max n self.old.spare) }
         ensures refused { OnErr result (self.new.spare ≡ self.old.spare) }
     {
         if self.spare < n {
-            self.pages.reserve_exact(n as usize)?;
+            self.pages.reserve_exact(n)?;
             self.spare = n;
         }
         Ok(())
     }
 
     /// How many pages can be taken.
-    pub fn spare(&self) -> u32
+    pub fn spare(&self) -> usize
         ensures { result ≡ self.now.spare }
     {
         self.spare

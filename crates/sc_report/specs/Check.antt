@@ -30,18 +30,18 @@ types_end proto = codes " " ++ (result_word proto.result ++ params_end proto.par
 abbrev pub function_end : Proto → List ℕ
 function_end proto = codes " " ++ (proto.name ++ types_end proto)
 
-abbrev pub export_line : Proto → List ℕ
-export_line proto = codes "export" ++ function_end proto
+abbrev pub export_report : Proto → List ℕ
+export_report proto = codes "export" ++ function_end proto
 
 -- an import of a function that a compartment exports
-abbrev pub function_line : (comp : List ℕ) → Proto → List ℕ
-function_line comp proto = codes "import " ++ (comp ++ function_end proto)
+abbrev pub function_report : (comp : List ℕ) → Proto → List ℕ
+function_report comp proto = codes "import " ++ (comp ++ function_end proto)
 
 -- the environment offers `int input(void)` and `void output(int)`
-abbrev pub import_line : Interfaces → Import → List ℕ
-import_line interfaces Input = codes "import Env input int\n"
-import_line interfaces Output = codes "import Env output void int\n"
-import_line interfaces (Function comp index) = option_map_or (function_line (comp_name interfaces comp))
+abbrev pub import_report : Interfaces → Import → List ℕ
+import_report interfaces Input = codes "import Env input int\n"
+import_report interfaces Output = codes "import Env output void int\n"
+import_report interfaces (Function comp index) = option_map_or (function_report (comp_name interfaces comp))
     (export_at interfaces comp index) (codes "")
 
 abbrev pub comp_line : List ℕ → List ℕ
@@ -50,7 +50,7 @@ comp_line name = codes "compartment " ++ (name ++ codes "\n")
 -- a compartment, what it exports and what it imports
 abbrev pub interface_text : Interfaces → Interface → List ℕ
 interface_text interfaces comp = comp_line comp.name ++
-    (flat_map export_line comp.exports ++ flat_map (import_line interfaces) comp.imports)
+    (flat_map export_report comp.exports ++ flat_map (import_report interfaces) comp.imports)
 
 abbrev pub main_line : List ℕ → List ℕ
 main_line name = codes "main " ++ (name ++ codes "\n")

@@ -14,8 +14,8 @@ use Rattle.sc_base.specs.declared.stop.Stop.{Stop}
 use Rattle.sc_base.specs.declared.stop.Stop.TheVariants as stops
 use Rattle.sc_base.specs.declared.stop.TrapReason.{TrapReason}
 use Rattle.sc_base.specs.declared.stop.TrapReason.TheVariants as reasons
-use Rattle.sc_chain.specs.declared.explanation.Explanation.{Explanation}
-use Rattle.sc_chain.specs.declared.explanation.Link.{Link}
+use Rattle.sc_core.specs.declared.explanation.Explanation.{Explanation}
+use Rattle.sc_core.specs.declared.explanation.Link.{Link}
 
 -- a line per event
 abbrev pub events_text : Interfaces → List Event → List ℕ

@@ -3,7 +3,7 @@ use Rattle.std.specs.Prelude.{ℕ, ◌%◌, ◌^◌, List, ◌++◌, codes, leng
 use Rattle.sc_event.specs.declared.event.Event.{Event}
 use Rattle.sc_event.specs.declared.event.Event.TheVariants.{Out}
 use Rattle.sc_event.specs.declared.interface.Interfaces.{Interfaces}
-use Rattle.sc_chain.specs.declared.explanation.Explanation.{Explanation}
+use Rattle.sc_core.specs.declared.explanation.Explanation.{Explanation}
 use Rattle.sc_report.specs.Report.{number_end, stop_line}
 
 abbrev pub output_word : Event → ℕ

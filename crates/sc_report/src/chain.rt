@@ -5,8 +5,7 @@ ghost use Rattle.sc_report.specs.Report.{cause_at_line, chain_text, explain_text
 use crate::run::{append_count, append_number, cause_word, run_text};
 use itoa::Buffer;
 use sc_base::{OutOfMemory, Text};
-use sc_chain::{Explanation, Link};
-use sc_core::Cause;
+use sc_core::{Cause, Explanation, Link};
 use sc_event::Interfaces;
 use std::alloc::Global;
 

@@ -1,8 +1,9 @@
 ghost use Rattle.sc_event.specs.Prelude.{spaced_names};
 ghost use Rattle.std.specs.Prelude.{◌≡◌, ◌++◌, flat_map, map, IfOk, OnOk};
 ghost use Rattle.sc_event.specs.declared.interface.Import.TheVariants.{Function};
-ghost use Rattle.sc_report.specs.Check.{scalar_word, result_word, params_end, types_end, function_end, export_line};
-ghost use Rattle.sc_report.specs.Check.{function_line, import_line, comp_line, interface_text, main_line, check_text};
+ghost use Rattle.sc_report.specs.Check.{scalar_word, result_word, params_end, types_end, function_end, export_report};
+ghost use Rattle.sc_report.specs.Check.{function_report, import_report, comp_line, interface_text, main_line};
+ghost use Rattle.sc_report.specs.Check.{check_text};
 
 use sc_base::{OutOfMemory, Text};
 use sc_event::{CompId, Import, Interface, Interfaces, Proto, Scalar};
@@ -50,7 +51,7 @@ fn append_comp(text: &mut Text, name: &[u8]) -> Result<(), OutOfMemory>
 }
 
 fn append_exports(text: &mut Text, exports: &[Proto]) -> Result<(), OutOfMemory>
-    ensures { OnOk result (text.new ≡ text.old ++ flat_map export_line exports.now) }
+    ensures { OnOk result (text.new ≡ text.old ++ flat_map export_report exports.now) }
 {
     for export in exports {
         append_export(text, export)?;
@@ -59,7 +60,7 @@ fn append_exports(text: &mut Text, exports: &[Proto]) -> Result<(), OutOfMemory>
 }
 
 fn append_export(text: &mut Text, export: &Proto) -> Result<(), OutOfMemory>
-    ensures { OnOk result (text.new ≡ text.old ++ export_line export.now) }
+    ensures { OnOk result (text.new ≡ text.old ++ export_report export.now) }
 {
     text.append(b"export")?;
     append_function(text, export)
@@ -70,7 +71,7 @@ fn append_imports(
     interfaces: &Interfaces,
     imports: &[Import],
 ) -> Result<(), OutOfMemory>
-    ensures { OnOk result (text.new ≡ text.old ++ flat_map (import_line interfaces.now) imports.now) }
+    ensures { OnOk result (text.new ≡ text.old ++ flat_map (import_report interfaces.now) imports.now) }
 {
     for import in imports {
         append_import(text, interfaces, *import)?;
@@ -83,7 +84,7 @@ fn append_import(
     interfaces: &Interfaces,
     import: Import,
 ) -> Result<(), OutOfMemory>
-    ensures { OnOk result (text.new ≡ text.old ++ import_line interfaces.now import) }
+    ensures { OnOk result (text.new ≡ text.old ++ import_report interfaces.now import) }
 {
     match import {
         Import::Input => text.append(b"import Env input int\n"),
@@ -98,7 +99,7 @@ fn append_imported(
     comp: CompId,
     index: u16,
 ) -> Result<(), OutOfMemory>
-    ensures { OnOk result (text.new ≡ text.old ++ import_line interfaces.now (Function comp index)) }
+    ensures { OnOk result (text.new ≡ text.old ++ import_report interfaces.now (Function comp index)) }
 {
     match interfaces.export(comp, index) {
         None => text.append(b""),
@@ -107,7 +108,7 @@ fn append_imported(
 }
 
 fn append_function_of(text: &mut Text, comp: &[u8], export: &Proto) -> Result<(), OutOfMemory>
-    ensures { OnOk result (text.new ≡ text.old ++ function_line comp.now export.now) }
+    ensures { OnOk result (text.new ≡ text.old ++ function_report comp.now export.now) }
 {
     text.append(b"import ")?;
     text.append(comp)?;

@@ -1,9 +1,10 @@
 //! The text of a program that is made from a size and a seed.
 
 ghost use Rattle.std.specs.Prelude.{◌≡◌, ◌≤◌, ◌++◌, ◌/◌, ℕ, IfOk, OnOk, decimal, flat_map};
-ghost use Rattle.sc_report_made.specs.Text.{all_functions, call_text, export_text, function_name, function_text};
-ghost use Rattle.sc_report_made.specs.Text.{functions_of, import_text, made_text, main_text, next_state, numbers_from};
-ghost use Rattle.sc_report_made.specs.Text.{proto_text, worker_name, worker_text, workers};
+ghost use Rattle.sc_report_made.specs.Text.{all_functions, made_call, made_export, function_name, made_function};
+ghost use Rattle.sc_report_made.specs.Text.{worker_functions, made_import, made_text, made_main, next_state};
+ghost use Rattle.sc_report_made.specs.Text.{numbers_from};
+ghost use Rattle.sc_report_made.specs.Text.{made_proto, worker_name, worker_text, workers};
 ghost use Rattle.sc_report.specs.Making.{IsDrawn, call_with, function_with, rounds_text, state_at};
 
 use itoa::Buffer;
@@ -66,7 +67,7 @@ impl Draws {
 
 fn append_main(text: &mut Text, size: u32, seed: u32) -> Result<(), OutOfMemory>
     requires { 1 ≤ size }
-    ensures { OnOk result (text.new ≡ text.old ++ main_text size seed) }
+    ensures { OnOk result (text.new ≡ text.old ++ made_main size seed) }
 {
     text.append(b"#pragma compartment Main\n")?;
     append_imports(text, size)?;
@@ -79,7 +80,7 @@ fn append_main(text: &mut Text, size: u32, seed: u32) -> Result<(), OutOfMemory>
 
 fn append_imports(text: &mut Text, size: u32) -> Result<(), OutOfMemory>
     requires { 1 ≤ size }
-    ensures { OnOk result (text.new ≡ text.old ++ flat_map (import_text size) (all_functions size)) }
+    ensures { OnOk result (text.new ≡ text.old ++ flat_map (made_import size) (all_functions size)) }
 {
     for j in 0..size {
         append_import(text, size, j)?;
@@ -89,7 +90,7 @@ fn append_imports(text: &mut Text, size: u32) -> Result<(), OutOfMemory>
 
 fn append_import(text: &mut Text, size: u32, j: u32) -> Result<(), OutOfMemory>
     requires { 1 ≤ size }
-    ensures { OnOk result (text.new ≡ text.old ++ import_text size j) }
+    ensures { OnOk result (text.new ≡ text.old ++ made_import size j) }
 {
     text.append(b"#pragma import ")?;
     append_worker_name(text, j % workers(size))?;
@@ -99,7 +100,7 @@ fn append_import(text: &mut Text, size: u32, j: u32) -> Result<(), OutOfMemory>
 }
 
 fn append_protos(text: &mut Text, size: u32) -> Result<(), OutOfMemory>
-    ensures { OnOk result (text.new ≡ text.old ++ flat_map proto_text (all_functions size)) }
+    ensures { OnOk result (text.new ≡ text.old ++ flat_map made_proto (all_functions size)) }
 {
     for j in 0..size {
         append_proto(text, j)?;
@@ -108,7 +109,7 @@ fn append_protos(text: &mut Text, size: u32) -> Result<(), OutOfMemory>
 }
 
 fn append_proto(text: &mut Text, j: u32) -> Result<(), OutOfMemory>
-    ensures { OnOk result (text.new ≡ text.old ++ proto_text j) }
+    ensures { OnOk result (text.new ≡ text.old ++ made_proto j) }
 {
     text.append(b"int ")?;
     append_function_name(text, j)?;
@@ -116,7 +117,7 @@ fn append_proto(text: &mut Text, j: u32) -> Result<(), OutOfMemory>
 }
 
 fn append_calls(text: &mut Text, size: u32, seed: u32) -> Result<(), OutOfMemory>
-    ensures { OnOk result (text.new ≡ text.old ++ flat_map (call_text seed) (all_functions size)) }
+    ensures { OnOk result (text.new ≡ text.old ++ flat_map (made_call seed) (all_functions size)) }
 {
     let mut draws = Draws { state: seed };
     for j in 0..size {
@@ -161,7 +162,7 @@ fn append_worker(text: &mut Text, size: u32, seed: u32, worker: u32) -> Result<(
 
 fn append_exports(text: &mut Text, size: u32, worker: u32) -> Result<(), OutOfMemory>
     requires { 1 ≤ size }
-    ensures { OnOk result (text.new ≡ text.old ++ flat_map export_text (functions_of size worker)) }
+    ensures { OnOk result (text.new ≡ text.old ++ flat_map made_export (worker_functions size worker)) }
 {
     for j in 0..size {
         if j % workers(size) == worker {
@@ -172,7 +173,7 @@ fn append_exports(text: &mut Text, size: u32, worker: u32) -> Result<(), OutOfMe
 }
 
 fn append_export(text: &mut Text, j: u32) -> Result<(), OutOfMemory>
-    ensures { OnOk result (text.new ≡ text.old ++ export_text j) }
+    ensures { OnOk result (text.new ≡ text.old ++ made_export j) }
 {
     text.append(b"#pragma export ")?;
     append_function_name(text, j)?;
@@ -181,7 +182,7 @@ fn append_export(text: &mut Text, j: u32) -> Result<(), OutOfMemory>
 
 fn append_functions(text: &mut Text, size: u32, seed: u32, worker: u32) -> Result<(), OutOfMemory>
     requires { 1 ≤ size }
-    ensures { OnOk result (text.new ≡ text.old ++ flat_map (function_text seed) (functions_of size worker)) }
+    ensures { OnOk result (text.new ≡ text.old ++ flat_map (made_function seed) (worker_functions size worker)) }
 {
     let mut draws = Draws { state: seed };
     for j in 0..size {

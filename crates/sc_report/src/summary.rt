@@ -5,7 +5,7 @@ ghost use Rattle.sc_report.specs.Summary.{output_sum, output_word, summary_text,
 
 use crate::run::{append_count, append_stop};
 use sc_base::{OutOfMemory, Text};
-use sc_chain::Explanation;
+use sc_core::Explanation;
 use sc_event::{Event, Interfaces};
 use std::alloc::Global;
 

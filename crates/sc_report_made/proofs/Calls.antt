@@ -1,6 +1,6 @@
 -- The statements of `main`: a call of each function, what it gives is written, and the end.
 use Rattle.sc_report_made.proofs.Common.{AllByRecursion, Even, ExprTree, List, Nested, Number, Piece, StmtTree, [], ap}
-use Rattle.sc_report_made.proofs.Common.{append-nil, append_assoc, argument, arith, blank, call_kind, call_text}
+use Rattle.sc_report_made.proofs.Common.{append-nil, append_assoc, argument, arith, blank, call_kind, made_call}
 use Rattle.sc_report_made.proofs.Common.{calls_tree, codes, decimal, digits, even_equal, even_ident, even_keyword}
 use Rattle.sc_report_made.proofs.Common.{even_literal, even_semicolon, expr_height, expr_words, fits, flat_map}
 use Rattle.sc_report_made.proofs.Common.{function_name, is_ident, is_kept, is_kept_stmt, line_of, literal, literal_text}
@@ -142,17 +142,17 @@ four_parts a m b r more = append_assoc a (m ++ (b ++ r)) more ∙ ap (λ t. a ++
 -- the statements of `main` from these functions on
 pub calls_are : (seed : ℕ) (js : List ℕ) → AllByRecursion (λ j. j < 1000) js →
     AreLines (flat_map (calls_tree seed) js ++ stmt_at 0 (return_kind (literal 0)) ∷ [])
-    (flat_map (call_text seed) js ++ codes "  return 0;\n")
+    (flat_map (made_call seed) js ++ codes "  return 0;\n")
 calls_are seed [] low = more_lines end_line no_lines
 calls_are seed (j ∷ js) low =
-    let texts : List ℕ = flat_map (call_text seed) js in
+    let texts : List ℕ = flat_map (made_call seed) js in
     let rest : List ℕ = texts ++ codes "  return 0;\n" in
     let d : List ℕ = decimal (argument seed j) in
     let text : codes "  r = f" ++ ((decimal j ++ (codes "(" ++ (d ++ codes ");\n"))) ++
-    (codes "  output(r);\n" ++ rest)) ≡ (call_text seed j ++ texts) ++ codes "  return 0;\n" =
+    (codes "  output(r);\n" ++ rest)) ≡ (made_call seed j ++ texts) ++ codes "  return 0;\n" =
     ap (λ t. codes "  r = f" ++ t) (four_parts (decimal j) (codes "(") d (codes ");\n")
     (codes "  output(r);\n" ++ rest) ∙
     sym (four_parts (decimal j) (codes "(") d (codes ");\n  output(r);\n") rest)) ∙
-    sym (append_assoc (call_text seed j) texts (codes "  return 0;\n")) in
+    sym (append_assoc (made_call seed j) texts (codes "  return 0;\n")) in
     subst (AreLines (flat_map (calls_tree seed) (j ∷ js) ++ stmt_at 0 (return_kind (literal 0)) ∷ [])) text
     (more_lines (call_line seed j low.0) (more_lines output_line (calls_are seed js low.1)))

@@ -47,14 +47,15 @@ pub use Rattle.sc_parse_print_laws.specs.Prelude.{are_kept, dense_decl, is_kept,
 pub use Rattle.sc_parse_print_laws.specs.Prelude.{kept_export, kept_head, kept_import, kept_local, kept_option}
 pub use Rattle.sc_parse_print_laws.specs.Prelude.{kept_param}
 pub use Rattle.sc_types_scope.specs.Prelude.{Known, Text, among, body_lines, call_known, declared, defines_main}
-pub use Rattle.sc_types_scope.specs.Prelude.{export_names, expr_known, function_named, function_names, functions_in}
+pub use Rattle.sc_types_scope.specs.Prelude.{export_names, expr_known, function_named, function_names, function_decls}
 pub use Rattle.sc_types_scope.specs.Prelude.{globals_in, heads_in, is_callable, is_environment, is_new, line_of_text}
 pub use Rattle.sc_types_scope.specs.Prelude.{names_broken, offering, offers, proto_names, protos_in, struct_names}
 pub use Rattle.sc_types_scope.specs.Prelude.{structs_in, unless}
 pub use Rattle.sc_types_interfaces.specs.Prelude.{agree, agrees_as, agrees_there, agrees_with, decls_from, export_holds}
 pub use Rattle.sc_types_interfaces.specs.Prelude.{exports_from, head_holds, import_fits, import_holds, imported_agrees}
-pub use Rattle.sc_types_interfaces.specs.Prelude.{imports_from, input_name, interface_broken, is_input, is_main}
-pub use Rattle.sc_types_interfaces.specs.Prelude.{is_offered, is_output, is_plain, main_holds, output_name}
+pub use Rattle.sc_types_interfaces.specs.Prelude.{imports_from, input_name, interface_broken, is_input_head}
+pub use Rattle.sc_types_interfaces.specs.Prelude.{is_main_head}
+pub use Rattle.sc_types_interfaces.specs.Prelude.{is_offered, is_output_head, is_plain, main_holds, output_name}
 pub use Rattle.sc_core.specs.Prelude.{Scope, Signature, args_fit, assign_fits, cells_of, frame_bound, goes_into}
 pub use Rattle.sc_core.specs.Prelude.{is_scalar, is_target, judged, most_nodes, nodes, place_judged, result_goes, total}
 pub use Rattle.sc_core.specs.Prelude.{value_judged, variables}
@@ -62,14 +63,16 @@ pub use Rattle.sc_core.specs.declared.expr.TypedExpr.{TypedExpr}
 pub use Rattle.sc_core.specs.declared.expr.VarRef.TheVariants.{Global, Local, Param}
 pub use Rattle.sc_types_elab_expr.specs.Prelude.{Callees, Visible, going_to, typed}
 pub use Rattle.sc_types_elab_stmt.specs.Prelude.{assign_call_holds, assign_holds, call_holds, cond_holds, going_to_all}
-pub use Rattle.sc_types_elab_stmt.specs.Prelude.{params_of, part_lines, return_value_holds, stmt_lines}
-pub use Rattle.sc_types_elab.specs.Prelude.{callees_of, decl_lines, global_variable, head_named, or_first, program_of}
-pub use Rattle.sc_types_elab.specs.Prelude.{scope_in, section_lines, sections_from, signature_by, structs, tags}
+pub use Rattle.sc_types_elab_stmt.specs.Prelude.{params_called, part_type_lines, return_value_holds, stmt_type_lines}
+pub use Rattle.sc_types_elab.specs.Prelude.{callees_of, decl_type_lines, global_variable, head_named, or_first}
+pub use Rattle.sc_types_elab.specs.Prelude.{program_of}
+pub use Rattle.sc_types_elab.specs.Prelude.{scope_in, section_type_lines, sections_from, signature_by, structs, tags}
 pub use Rattle.sc_types_elab.specs.Prelude.{type_of, typed_function, typed_global, typed_section, types_broken}
 pub use Rattle.sc_types_elab.specs.Prelude.{visible_of}
 pub use Rattle.sc_types.proofs.TypedNodes.{function-nodes, section-nodes}
-pub use Rattle.sc_types.specs.Prelude.{counts_broken, function_lines, function_nodes, global_lines, head_lines}
-pub use Rattle.sc_types.specs.Prelude.{lines_from, section_nodes, stmt_nodes, structs_from}
+pub use Rattle.sc_types.specs.Prelude.{counts_broken, function_count_lines, function_nodes, global_count_lines}
+pub use Rattle.sc_types.specs.Prelude.{head_lines}
+pub use Rattle.sc_types.specs.Prelude.{count_lines_from, section_nodes, stmt_nodes, structs_from}
 pub use Rattle.sc_back_reread_laws.proofs.Headless.{Closed, Closing, Headless, after_closing, closed_append}
 pub use Rattle.sc_back_reread_laws.proofs.Headless.{export_headless, headed, headed_text, import_headless, name_plain}
 pub use Rattle.sc_back_reread_laws.proofs.Headless.{plain, plain_append, plain_headless, plain_then, tidy_plain}
@@ -84,9 +87,10 @@ pub use Rattle.sc_back_performer_laws.proofs.Distinct.{among_back, among_prefix,
 pub use Rattle.sc_back_performer_laws.proofs.Uses.{IsAmong, first, is_first_or_later, later, none_among}
 pub use Rattle.sc_report_made.specs.Laws.{AreSame, AreSmall, IsAsked, IsSmall, MadeTextsAreAccepted, MadeTextsAreRead}
 pub use Rattle.sc_report_made.specs.Laws.{MadeTreesAreTyped}
-pub use Rattle.sc_report_made.specs.Text.{addend, all_functions, argument, call_text, drawn, export_text, function_name}
-pub use Rattle.sc_report_made.specs.Text.{function_text, functions_of, import_text, made_text, main_text, numbers_from}
-pub use Rattle.sc_report_made.specs.Text.{proto_text, state_after, worker_name, worker_text, workers}
+pub use Rattle.sc_report_made.specs.Text.{addend, all_functions, argument, made_call, drawn, made_export, function_name}
+pub use Rattle.sc_report_made.specs.Text.{made_function, worker_functions, made_import, made_text, made_main}
+pub use Rattle.sc_report_made.specs.Text.{numbers_from}
+pub use Rattle.sc_report_made.specs.Text.{made_proto, state_after, worker_name, worker_text, workers}
 pub use Rattle.sc_report_made.specs.Tree.{FunctionLines, add_kind, assign_simple, below, call_kind, call_of, calls_tree}
 pub use Rattle.sc_report_made.specs.Tree.{element, export_at, function_at, import_at, literal, local_at, loop_kind}
 pub use Rattle.sc_report_made.specs.Tree.{made_trees, main_at, main_body, main_tree, next_at, no_lines, output_import}

@@ -1,6 +1,7 @@
 -- The sections of a made text hold no more than a program may.
 use Rattle.sc_report_made.proofs.Common.{IsAsked, List, SectionTree, [], ap, ap₂, arith, callees_of, counts_broken}
-use Rattle.sc_report_made.proofs.Common.{length, line_of_text, lines_from, map, none_beyond, numbers_from, refl, suc}
+use Rattle.sc_report_made.proofs.Common.{length, line_of_text, count_lines_from, map, none_beyond, numbers_from, refl}
+use Rattle.sc_report_made.proofs.Common.{suc}
 use Rattle.sc_report_made.proofs.Common.{workers, ℕ, ◌++◌, ◌∙◌, ◌≡◌, ◌≤◌}
 use Rattle.sc_report_made.proofs.MainCounts.{main_counted}
 use Rattle.sc_report_made.proofs.Shapes.{AreMade, AreWorkers, and_worker, no_workers}
@@ -15,7 +16,7 @@ workers_length size seed is sections (and_worker i section more rest worker are)
 
 module _ (size seed : ℕ) (few : size ≤ 1000) (sections : List SectionTree) where
   workers_none : (k : ℕ) (is : List ℕ) (others : List SectionTree) → AreWorkers size seed is others →
-      lines_from sections k others ≡ []
+      count_lines_from sections k others ≡ []
   workers_none k is others no_workers = refl
   workers_none k is others (and_worker i section more rest worker are) =
       ap₂ (λ x y. map (line_of_text section.line) x ++ y)
@@ -34,7 +35,7 @@ module _ (size seed : ℕ) (few : size ≤ 1000) (sections : List SectionTree) w
     none_broken =
         ap₂ (λ x y. x ++ y)
         (none_beyond {A = SectionTree} (λ section. line_of_text section.line 1) sections 32 few_sections)
-        (ap (lines_from sections 0) made.are ∙
+        (ap (count_lines_from sections 0) made.are ∙
         ap₂ (λ x y. map (line_of_text made.main.line) x ++ y)
         (main_counted size seed few made.main made.main_is (callees_of sections 0 made.main))
         (workers_none 1 (numbers_from 0 (workers size)) made.others made.others_are))

@@ -1,6 +1,7 @@
 -- What the sections of a made text declare.
 use Rattle.sc_report_made.proofs.Common.{Decl, ExportLine, FunctionTree, HeadTree, ImportLine, List, [], ap, codes}
-use Rattle.sc_report_made.proofs.Common.{function_name, functions_in, globals_in, head_of, heads_in, map, output_import}
+use Rattle.sc_report_made.proofs.Common.{function_name, function_decls, globals_in, head_of, heads_in, map}
+use Rattle.sc_report_made.proofs.Common.{output_import}
 use Rattle.sc_report_made.proofs.Common.{protos_in, refl, structs_in, ℕ, ◌++◌, ◌∷◌, ◌≡◌}
 use Rattle.sc_ast.specs.declared.section.Decl.TheVariants as decl
 use Rattle.sc_report_made.proofs.Naming.{function_names}
@@ -46,7 +47,7 @@ module _ (more : List Decl) where
   after_globals [] = refl
   after_globals (h ∷ heads) = after_globals heads
 
-  pub after_functions : (heads : List HeadTree) → functions_in (map decl.Proto heads ++ more) ≡ functions_in more
+  pub after_functions : (heads : List HeadTree) → function_decls (map decl.Proto heads ++ more) ≡ function_decls more
   after_functions [] = refl
   after_functions (h ∷ heads) = after_functions heads
 
@@ -72,7 +73,7 @@ pub functions_protos : (trees : List FunctionTree) → protos_in (map decl.Funct
 functions_protos [] = refl
 functions_protos (t ∷ trees) = functions_protos trees
 
-pub functions_functions : (trees : List FunctionTree) → functions_in (map decl.Function trees) ≡ trees
+pub functions_functions : (trees : List FunctionTree) → function_decls (map decl.Function trees) ≡ trees
 functions_functions [] = refl
 functions_functions (t ∷ trees) = ap (λ x. t ∷ x) (functions_functions trees)
 

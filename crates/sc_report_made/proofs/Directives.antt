@@ -1,8 +1,8 @@
 -- The directives of a made text: words that are lines, and what these come to.
 use Rattle.sc_report_made.proofs.Common.{AllByRecursion, Bool, ExportLine, Headless, ImportLine, List, Nested, Piece}
 use Rattle.sc_report_made.proofs.Common.{[], and_from, ap, append_assoc, ap₂, arith, codes, div-add-mod', even_export}
-use Rattle.sc_report_made.proofs.Common.{even_import, export_at, export_headless, export_text, flat_map}
-use Rattle.sc_report_made.proofs.Common.{flat_map-append, function_name, import_at, import_headless, import_text}
+use Rattle.sc_report_made.proofs.Common.{even_import, export_at, export_headless, made_export, flat_map}
+use Rattle.sc_report_made.proofs.Common.{flat_map-append, function_name, import_at, import_headless, made_import}
 use Rattle.sc_report_made.proofs.Common.{kept_export, kept_import, list_all, map, name_plain, nested_append}
 use Rattle.sc_report_made.proofs.Common.{nested_even, nested_line, nested_none, output_import, piece_text, plain_append}
 use Rattle.sc_report_made.proofs.Common.{plain_then, refl, subst, sym, text_of, true, worker_name, workers, ℕ, ◌%◌}
@@ -30,21 +30,21 @@ AreLow js = AllByRecursion (λ j. j < 1000) js
 pub no_directives : AreDirectives true [] []
 no_directives = record { kept = refl; spelled = refl; nested = nested_none; headless = λ following h. h }
 
-pub exports_are : (js : List ℕ) → AreLow js → ExportsWritten (map (λ j. export_at j 0) js) (flat_map export_text js)
+pub exports_are : (js : List ℕ) → AreLow js → ExportsWritten (map (λ j. export_at j 0) js) (flat_map made_export js)
 unfolding export_words
 exports_are [] low = no_directives
 exports_are (j ∷ js) low =
     let rest = exports_are js low.1 in
     let name : List ℕ = function_name j in
     let named = function_named j low.0 in
-    let texts : List ℕ = flat_map export_text js in
+    let texts : List ℕ = flat_map made_export js in
     let line : List ℕ = name ++ codes "\n" in
     record {
       kept = and_from (is_name name) (list_all kept_export (map (λ j. export_at j 0) js)) named rest.kept;
       spelled = ap (λ t. codes "#pragma export " ++ (name ++ 10 ∷ t)) rest.spelled ∙
           ap (λ t. codes "#pragma export " ++ t) (sym (append_assoc name (codes "\n") texts));
       nested = nested_even (even_export name named) (nested_line rest.nested);
-      headless = λ following h. subst Headless (sym (append_assoc (export_text j) texts following))
+      headless = λ following h. subst Headless (sym (append_assoc (made_export j) texts following))
           (export_headless (line ++ (texts ++ following)) (plain_then line (texts ++ following)
           (plain_append name (codes "\n") (name_plain name named) refl) (rest.headless following h)));
     }
@@ -95,14 +95,14 @@ main_named = refl
 
 pub imports_are : (size : ℕ) (js : List ℕ) → AreLow js →
     ImportsWritten (map (λ j. import_at size j 0) js ++ output_import 0 ∷ [])
-    (flat_map (import_text size) js ++ codes "#pragma import Env output\n")
+    (flat_map (made_import size) js ++ codes "#pragma import Env output\n")
 imports_are size [] low = more_imports (codes "Env") (codes "output") env_named output_named [] [] no_directives
 imports_are size (j ∷ js) low =
     let small : ℕ = j % workers size in
     let whole = div-add-mod' j (workers size) in
     let less : j < 1000 = low.0 in
     subst (ImportsWritten (map (λ j. import_at size j 0) (j ∷ js) ++ output_import 0 ∷ []))
-    (sym (append_assoc (import_text size j) (flat_map (import_text size) js) (codes "#pragma import Env output\n")))
+    (sym (append_assoc (made_import size j) (flat_map (made_import size) js) (codes "#pragma import Env output\n")))
     (more_imports (worker_name small) (function_name j) (worker_named small (omega (arith, whole, less)))
     (function_named j less) (map (λ j. import_at size j 0) js ++ output_import 0 ∷ [])
-    (flat_map (import_text size) js ++ codes "#pragma import Env output\n") (imports_are size js low.1))
+    (flat_map (made_import size) js ++ codes "#pragma import Env output\n") (imports_are size js low.1))

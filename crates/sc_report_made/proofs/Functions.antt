@@ -3,11 +3,11 @@ use Rattle.sc_report_made.proofs.Common.{AllByRecursion, Decl, List, Nested, Num
 use Rattle.sc_report_made.proofs.Common.{and_from, ap, append-nil, append_assoc, arith, blank, codes, decimal}
 use Rattle.sc_report_made.proofs.Common.{dense_decl, digits, even_equal, even_ident, even_keyword, even_literal}
 use Rattle.sc_report_made.proofs.Common.{even_semicolon, expr_height, expr_words, fits, flat_map, function_at}
-use Rattle.sc_report_made.proofs.Common.{function_name, function_text, head_of, head_words, is_ident, is_kept}
+use Rattle.sc_report_made.proofs.Common.{function_name, made_function, head_of, head_words, is_ident, is_kept}
 use Rattle.sc_report_made.proofs.Common.{is_kept_decl, is_kept_stmt, kept_head, kept_local, kept_param, line_of}
 use Rattle.sc_report_made.proofs.Common.{list_all, literal_text, local_at, local_line, main_at, map, nested_blank}
 use Rattle.sc_report_made.proofs.Common.{nested_even, nested_level, nested_line, nested_more, nested_none}
-use Rattle.sc_report_made.proofs.Common.{nested_parens, nested_square, no_lines, output_proto, proto_at, proto_text}
+use Rattle.sc_report_made.proofs.Common.{nested_parens, nested_square, no_lines, output_proto, proto_at, made_proto}
 use Rattle.sc_report_made.proofs.Common.{refl, return_kind, rules, set_kind, stmt_at, stmt_height, stmt_layout, subst}
 use Rattle.sc_report_made.proofs.Common.{sym, table_at, text_of, true, variable, word, ℕ, ◌++◌, ◌<◌, ◌∙◌, ◌∷◌, ◌≡◌}
 unfoldable use Rattle.sc_base.specs.Prelude.{is_name, is_reserved}
@@ -42,16 +42,16 @@ proto_nested j low = nested_even (even_keyword keyword.Int) (nested_blank (neste
     (nested_blank (nested_even (even_ident (codes "x") x_ident) nested_none)))
     (nested_even even_semicolon (nested_line nested_none)))))
 
-proto_is : (j : ℕ) → j < 1000 → IsDecl (decl.Proto (proto_at j 0)) (proto_text j)
-proto_is j low = printed_decl (decl.Proto (proto_at j 0)) (proto_text j) (head_kept j low) (omega arith) refl
+proto_is : (j : ℕ) → j < 1000 → IsDecl (decl.Proto (proto_at j 0)) (made_proto j)
+proto_is j low = printed_decl (decl.Proto (proto_at j 0)) (made_proto j) (head_kept j low) (omega arith) refl
     (nested_more (omega arith) (proto_nested j low))
 
 pub protos_are : (js : List ℕ) → AllByRecursion (λ j. j < 1000) js → (ds : List Decl) (more : List ℕ) →
-    AreDecls ds more → AreDecls (map (λ j. decl.Proto (proto_at j 0)) js ++ ds) (flat_map proto_text js ++ more)
+    AreDecls ds more → AreDecls (map (λ j. decl.Proto (proto_at j 0)) js ++ ds) (flat_map made_proto js ++ more)
 protos_are [] low ds more rest = rest
 protos_are (j ∷ js) low ds more rest =
     subst (AreDecls (map (λ j. decl.Proto (proto_at j 0)) (j ∷ js) ++ ds))
-    (sym (append_assoc (proto_text j) (flat_map proto_text js) more))
+    (sym (append_assoc (made_proto j) (flat_map made_proto js) more))
     (more_decls (proto_is j low.0) (protos_are js low.1 ds more rest))
 
 -- `void output(int v);`
@@ -190,7 +190,7 @@ lines_are seed j = more_lines (set_line seed j) (more_lines loop_line (more_line
 
 text_is : (seed j : ℕ) → (codes "int " ++ (function_name j ++ codes "(int x)")) ++ (codes " {\n" ++
     (codes "  int i;\n  int s;\n" ++ (((codes "  s = " ++ (decimal (addend seed j) ++ codes ";\n")) ++ after_set) ++
-    codes "}\n"))) ≡ function_text seed j
+    codes "}\n"))) ≡ made_function seed j
 text_is seed j =
     let d : List ℕ = decimal (addend seed j) in
     let prefix : List ℕ = codes " {\n  int i;\n  int s;\n  s = " in
@@ -200,7 +200,7 @@ text_is seed j =
     (ap (λ t. t ++ codes "}\n") (append_assoc d (codes ";\n") after_set) ∙
     append_assoc d (codes ";\n" ++ after_set) (codes "}\n")))
 
-function_is : (seed j : ℕ) → j < 1000 → IsDecl (decl.Function (function_at seed j no_lines)) (function_text seed j)
+function_is : (seed j : ℕ) → j < 1000 → IsDecl (decl.Function (function_at seed j no_lines)) (made_function seed j)
 function_is seed j low =
     subst (IsDecl (decl.Function (function_at seed j no_lines))) (text_is seed j)
     (function_decl (function_at seed j no_lines) (codes "int " ++ (function_name j ++ codes "(int x)"))
@@ -210,6 +210,6 @@ function_is seed j low =
     (lines_are seed j))
 
 pub functions_are : (seed : ℕ) (js : List ℕ) → AllByRecursion (λ j. j < 1000) js →
-    AreDecls (map (λ j. decl.Function (function_at seed j no_lines)) js) (flat_map (function_text seed) js)
+    AreDecls (map (λ j. decl.Function (function_at seed j no_lines)) js) (flat_map (made_function seed) js)
 functions_are seed [] low = no_decls
 functions_are seed (j ∷ js) low = more_decls (function_is seed j low.0) (functions_are seed js low.1)

@@ -1,9 +1,11 @@
 -- A made text is short: each function adds at most 150 bytes to any part of it.
 use Rattle.sc_report_made.proofs.Common.{AllByRecursion, IsAsked, List, [], addend, all_functions, argument, arith}
-use Rattle.sc_report_made.proofs.Common.{call_text, codes, decimal, export_text, flat_map, function_name, functions_of, length}
-use Rattle.sc_report_made.proofs.Common.{length-append, length-decimal-le, numbers_from, suc, workers, zero, ℕ, ◌%◌, ◌*◌}
+use Rattle.sc_report_made.proofs.Common.{made_call, codes, decimal, made_export, flat_map, function_name}
+use Rattle.sc_report_made.proofs.Common.{worker_functions, length}
+use Rattle.sc_report_made.proofs.Common.{length-append, length-decimal-le, numbers_from, suc, workers, zero, ℕ, ◌%◌}
+use Rattle.sc_report_made.proofs.Common.{◌*◌}
 use Rattle.sc_report_made.proofs.Common.{◌++◌, ◌+◌, ◌/◌, ◌<◌, ◌^◌, ◌∷◌, ◌≡◌, ◌≤◌, refl}
-use Rattle.sc_report_made.specs.Text.{function_text, import_text, made_text, main_text, proto_text, state_after}
+use Rattle.sc_report_made.specs.Text.{made_function, made_import, made_text, made_main, made_proto, state_after}
 use Rattle.sc_report_made.specs.Text.{worker_name, worker_text}
 use Rattle.sc_report_made.proofs.Numbers.{all_below, all_rise, functions_rise, workers_rise}
 use Rattle.std.proofs.Math.Nat.{mod-le}
@@ -54,7 +56,7 @@ worker_short i low = both (codes "W") (decimal i) 1 3 (exact (codes "W") 1 refl)
 after : (text rest : List ℕ) (m n : ℕ) → length text ≡ m → length rest ≤ n → length (text ++ rest) ≤ m + n
 after text rest m n is following = both text rest m n (exact text m is) following
 
-import_short : (size j : ℕ) → j < 1000 → length (import_text size j) ≤ 150
+import_short : (size j : ℕ) → j < 1000 → length (made_import size j) ≤ 150
 import_short size j low =
     let less = mod-le j (workers size) in
     let owner = worker_short (j % workers size) (omega (arith, less, low)) in
@@ -65,13 +67,13 @@ import_short size j low =
     (both (function_name j) (codes "\n") 4 1 (name_short j low) (exact (codes "\n") 1 refl)))) in
     omega (arith, whole)
 
-proto_short : (j : ℕ) → j < 1000 → length (proto_text j) ≤ 150
+proto_short : (j : ℕ) → j < 1000 → length (made_proto j) ≤ 150
 proto_short j low =
     let whole = after (codes "int ") (function_name j ++ codes "(int x);\n") 4 13 refl
     (both (function_name j) (codes "(int x);\n") 4 9 (name_short j low) (exact (codes "(int x);\n") 9 refl)) in
     omega (arith, whole)
 
-call_short : (seed j : ℕ) → j < 1000 → length (call_text seed j) ≤ 150
+call_short : (seed j : ℕ) → j < 1000 → length (made_call seed j) ≤ 150
 call_short seed j low =
     let whole = after (codes "  r = ") (function_name j ++ (codes "(" ++ (decimal (argument seed j) ++
     codes ");\n  output(r);\n"))) 6 28 refl
@@ -82,13 +84,13 @@ call_short seed j low =
     (let is = exact (codes ");\n  output(r);\n") 16 refl in omega (arith, is))))) in
     omega (arith, whole)
 
-export_short : (j : ℕ) → j < 1000 → length (export_text j) ≤ 150
+export_short : (j : ℕ) → j < 1000 → length (made_export j) ≤ 150
 export_short j low =
     let whole = after (codes "#pragma export ") (function_name j ++ codes "\n") 15 5 refl
     (both (function_name j) (codes "\n") 4 1 (name_short j low) (exact (codes "\n") 1 refl)) in
     omega (arith, whole)
 
-function_short : (seed j : ℕ) → j < 1000 → length (function_text seed j) ≤ 150
+function_short : (seed j : ℕ) → j < 1000 → length (made_function seed j) ≤ 150
 function_short seed j low =
     let body =
     codes ";\n  for (i = 0; i < 64; i++) {\n    t[i & 15] = x + i;\n    s = s + t[i & 15];\n  }\n  return s;\n}\n" in
@@ -109,37 +111,37 @@ all_short size few text short =
     (all_below 0 1000 (all_functions size) (all_rise size few)) in
     omega (arith, few, numbers_length 0 size, whole)
 
-main_short : (size seed : ℕ) → size ≤ 1000 → length (main_text size seed) ≤ 450111
+main_short : (size seed : ℕ) → size ≤ 1000 → length (made_main size seed) ≤ 450111
 main_short size seed few =
-    let imports = flat_map (import_text size) (all_functions size) in
-    let protos = flat_map proto_text (all_functions size) in
-    let calls = flat_map (call_text seed) (all_functions size) in
-    let ended = both calls (codes "  return 0;\n}\n") 150000 14 (all_short size few (call_text seed) (call_short seed))
+    let imports = flat_map (made_import size) (all_functions size) in
+    let protos = flat_map made_proto (all_functions size) in
+    let calls = flat_map (made_call seed) (all_functions size) in
+    let ended = both calls (codes "  return 0;\n}\n") 150000 14 (all_short size few (made_call seed) (call_short seed))
     (exact (codes "  return 0;\n}\n") 14 refl) in
     let opened = after (codes "void output(int v);\nint main(void) {\n  int r;\n")
     (calls ++ codes "  return 0;\n}\n") 46 150014 refl ended in
-    let known = both protos _ 150000 150060 (all_short size few proto_text proto_short) opened in
+    let known = both protos _ 150000 150060 (all_short size few made_proto proto_short) opened in
     let environment = after (codes "#pragma import Env output\n") _ 26 300060 refl known in
-    let imported = both imports _ 150000 300086 (all_short size few (import_text size) (import_short size))
+    let imported = both imports _ 150000 300086 (all_short size few (made_import size) (import_short size))
     environment in
     after (codes "#pragma compartment Main\n") _ 25 450086 refl imported
 
 own_short : (size i : ℕ) → size ≤ 1000 → (text : ℕ → List ℕ) → ((j : ℕ) → j < 1000 → length (text j) ≤ 150) →
-    length (flat_map text (functions_of size i)) ≤ 4950
+    length (flat_map text (worker_functions size i)) ≤ 4950
 own_short size i few text short =
-    let whole = each_short text 1000 short (functions_of size i)
-    (all_below 0 1000 (functions_of size i) (functions_rise size i few)) in
+    let whole = each_short text 1000 short (worker_functions size i)
+    (all_below 0 1000 (worker_functions size i) (functions_rise size i few)) in
     omega (arith, few_functions size i few, whole)
 
 worker_short_text : (size seed i : ℕ) → size ≤ 1000 → i < 31 → length (worker_text size seed i) ≤ 10000
 worker_short_text size seed i few low =
-    let bodies : List ℕ = flat_map (function_text seed) (functions_of size i) in
-    let exported : List ℕ = flat_map export_text (functions_of size i) in
+    let bodies : List ℕ = flat_map (made_function seed) (worker_functions size i) in
+    let exported : List ℕ = flat_map made_export (worker_functions size i) in
     let declared : List ℕ = codes "int t[16];\n" ++ bodies in
     let lined : List ℕ = codes "\n" ++ (exported ++ declared) in
-    let functions = own_short size i few (function_text seed) (function_short seed) in
+    let functions = own_short size i few (made_function seed) (function_short seed) in
     let table = after (codes "int t[16];\n") bodies 11 4950 refl functions in
-    let exports = both exported declared 4950 4961 (own_short size i few export_text export_short) table in
+    let exports = both exported declared 4950 4961 (own_short size i few made_export export_short) table in
     let line = after (codes "\n") (exported ++ declared) 1 9911 refl exports in
     let named = both (worker_name i) lined 4 9912 (worker_short i (omega (arith, low))) line in
     let whole = after (codes "#pragma compartment ") (worker_name i ++ lined) 20 9916 refl named in
@@ -161,5 +163,5 @@ made_short size seed asked =
     let main = main_short size seed few in
     let others = workers_short size seed few workers_in (all_below 0 31 workers_in (workers_rise size)) in
     let count = numbers_length 0 (workers size) in
-    let apart = length-append (main_text size seed) (flat_map (worker_text size seed) workers_in) in
+    let apart = length-append (made_main size seed) (flat_map (worker_text size seed) workers_in) in
     omega (arith, main, others, count, apart)

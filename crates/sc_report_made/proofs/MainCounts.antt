@@ -1,11 +1,11 @@
 -- `Main` holds no more than a program may.
 use Rattle.sc_report_made.proofs.Common.{Callees, ExportLine, HeadTree, ImportLine, List, SectionTree, []}
-use Rattle.sc_report_made.proofs.Common.{all_functions, all_none, and_from, ap, arith, concat, function_lines}
-use Rattle.sc_report_made.proofs.Common.{function_nodes, global_lines, head_lines, le-leb, length, length-append}
+use Rattle.sc_report_made.proofs.Common.{all_functions, all_none, and_from, ap, arith, concat, function_count_lines}
+use Rattle.sc_report_made.proofs.Common.{function_nodes, global_count_lines, head_lines, le-leb, length, length-append}
 use Rattle.sc_report_made.proofs.Common.{length-map, map, most_nodes, nat_le, none_beyond, output_import, output_proto}
 use Rattle.sc_report_made.proofs.Common.{refl, section-nodes, section_nodes, structs_from, suc, total, true, unless, ℕ}
 use Rattle.sc_report_made.proofs.Common.{◌*◌, ◌++◌, ◌+◌, ◌∙◌, ◌∷◌, ◌≡◌, ◌≤◌}
-use Rattle.sc_types.specs.Prelude.{section_lines}
+use Rattle.sc_types.specs.Prelude.{section_count_lines}
 use Rattle.sc_ast.specs.declared.section.Decl.TheVariants as decl
 use Rattle.sc_report_made.proofs.Shapes.{AreImports, AreProtos, IsMain, and_import, and_proto, no_imports, no_protos}
 use Rattle.sc_report_made.proofs.Shares.{numbers_length}
@@ -63,14 +63,14 @@ module _ (size seed : ℕ) (few : size ≤ 1000) (section : SectionTree) (main :
   heads_none js heads rest (and_proto j line others more k) h = heads_none others more rest k h
 
   -- `Main` is beyond no count
-  pub main_counted : section_lines section callees ≡ []
+  pub main_counted : section_count_lines section callees ≡ []
   main_counted =
       all_none _ _ _ _ _ _ _
       (ap (λ b. unless b 1) (and_from _ _ few_nodes few_decls))
       (none_beyond {A = ExportLine} (λ line. line.line) section.exports 4096 few_exports)
       (none_beyond {A = ImportLine} (λ line. line.line) section.imports 4096 few_imports)
       (ap (structs_from section 0) (no_structs size seed section main))
-      (ap (λ x. concat (map (global_lines section) x)) (no_globals size seed section main))
+      (ap (λ x. concat (map (global_count_lines section) x)) (no_globals size seed section main))
       (ap (λ x. concat (map (head_lines section) x)) (heads_are size seed section main) ∙
       heads_none (all_functions size) main.protos _ main.protos_are refl)
-      (ap (λ x. concat (map (function_lines section) x)) (functions_are size seed section main))
+      (ap (λ x. concat (map (function_count_lines section) x)) (functions_are size seed section main))

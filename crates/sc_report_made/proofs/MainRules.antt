@@ -5,12 +5,13 @@ use Rattle.sc_report_made.proofs.Common.{all_functions, among, among_back, among
 use Rattle.sc_report_made.proofs.Common.{append-nil, append_assoc, ap₂, bytes_eq, codes, decls_from, exports_from}
 use Rattle.sc_report_made.proofs.Common.{false, first, function_name, function_names, head_holds, head_of, heads_in}
 use Rattle.sc_report_made.proofs.Common.{if◌then◌else◌, import_at, import_fits, import_holds, imported_agrees}
-use Rattle.sc_report_made.proofs.Common.{imports_from, input_name, is_input, is_new, is_offered, is_output, is_plain}
+use Rattle.sc_report_made.proofs.Common.{imports_from, input_name, is_input_head, is_new, is_offered, is_output_head}
+use Rattle.sc_report_made.proofs.Common.{is_plain}
 use Rattle.sc_report_made.proofs.Common.{is_some, later, list_all, main_at, main_holds, map, map-append, not, not_from}
 use Rattle.sc_report_made.proofs.Common.{numbers_from, offering, or_left, or_right, output_import, output_name}
 use Rattle.sc_report_made.proofs.Common.{output_proto, proto_at, proto_names, refl, suc, sym, take, true, unless}
 use Rattle.sc_report_made.proofs.Common.{workers, ℕ, ◌%◌, ◌&&◌, ◌++◌, ◌||◌, ◌∙◌, ◌∷◌, ◌≡◌}
-use Rattle.sc_types_interfaces.specs.Prelude.{decl_lines, section_lines}
+use Rattle.sc_types_interfaces.specs.Prelude.{decl_interface_lines, section_interface_lines}
 use Rattle.sc_ast.specs.declared.section.Decl.TheVariants as decl
 use Rattle.sc_report_made.proofs.Declared.{after_functions, after_protos, protos_heads, protos_named}
 use Rattle.sc_report_made.proofs.Naming as naming
@@ -142,8 +143,8 @@ module _ (size seed : ℕ) (asked : IsAsked size seed) (main : SectionTree) (m :
   agrees_imported : (j line k at : ℕ) → agrees_as sections 0 main (proto_at j line) (import_at size k at) ≡ true
   agrees_imported j line k at =
       let head : HeadTree = proto_at j line in
-      ap (λ b. if b then (if bytes_eq head.name input_name then is_input head else
-      if bytes_eq head.name output_name then is_output head else true)
+      ap (λ b. if b then (if bytes_eq head.name input_name then is_input_head head else
+      if bytes_eq head.name output_name then is_output_head head else true)
       else agrees_there sections 0 main head (offering 0 (import_at size k at) 0 sections))
       (not_environment size k at) ∙
       ap (agrees_there sections 0 main head) (past_main size seed main m others k at) ∙
@@ -233,11 +234,12 @@ module _ (size seed : ℕ) (asked : IsAsked size seed) (main : SectionTree) (m :
       let output : HeadTree = output_proto m.proto_line in
       ap (decls_from sections 0 main false []) decls_are ∙
       protos_hold [] [] no_protos every m.protos m.protos_are last_decls ∙
-      ap₂ (λ b x. unless b m.proto_line ++ (decl_lines sections 0 main false x (decl.Function main_function) ++ []))
+      ap₂ (λ b x. unless b m.proto_line ++ (decl_interface_lines sections 0 main false x (decl.Function main_function)
+      ++ []))
       output_holds (sym (map-append decl.Proto m.protos (output ∷ []))) ∙
       ap (λ b. unless b m.head_line ++ []) main_function_holds
 
-  pub main_interfaces : section_lines sections 0 main false [] ≡ []
+  pub main_interfaces : section_interface_lines sections 0 main false [] ≡ []
   main_interfaces =
       let name : main.name ≡ codes "Main" = ap (λ s. s.name) m.is in
       let none : exports_from sections 0 main [] main.exports ≡ [] =

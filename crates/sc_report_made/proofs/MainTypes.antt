@@ -3,12 +3,15 @@ use Rattle.sc_report_made.proofs.Common.{AssignCall, Call, CallTree, Callees, Ex
 use Rattle.sc_report_made.proofs.Common.{Local, ReturnValue, Scope, SectionTree, Some, StmtTree, TypedExpr, Variable}
 use Rattle.sc_report_made.proofs.Common.{Visible, [], all_functions, all_hold, ap, args_fit, argument}
 use Rattle.sc_report_made.proofs.Common.{assign_call_holds, call_holds, call_kind, call_of, callees_of, codes, concat}
-use Rattle.sc_report_made.proofs.Common.{decl_lines, function_name, global_variable, goes_into, going_to_all, is_target}
-use Rattle.sc_report_made.proofs.Common.{judged, literal, map, output_kind, params_of, place_judged, refl, result_goes}
-use Rattle.sc_report_made.proofs.Common.{return_kind, return_value_holds, rules, scope_in, section_lines, stmt_at}
-use Rattle.sc_report_made.proofs.Common.{stmt_lines, structs, true, type_of, typed, unless, visible_of, ℕ, ◌&&◌, ◌++◌}
+use Rattle.sc_report_made.proofs.Common.{decl_type_lines, function_name, global_variable, goes_into, going_to_all}
+use Rattle.sc_report_made.proofs.Common.{is_target}
+use Rattle.sc_report_made.proofs.Common.{judged, literal, map, output_kind, params_called, place_judged, refl}
+use Rattle.sc_report_made.proofs.Common.{result_goes}
+use Rattle.sc_report_made.proofs.Common.{return_kind, return_value_holds, rules, scope_in, section_type_lines, stmt_at}
+use Rattle.sc_report_made.proofs.Common.{stmt_type_lines, structs, true, type_of, typed, unless, visible_of, ℕ, ◌&&◌}
+use Rattle.sc_report_made.proofs.Common.{◌++◌}
 use Rattle.sc_report_made.proofs.Common.{◌∙◌, ◌∷◌, ◌≡◌}
-use Rattle.sc_types_elab.specs.Prelude.{function_lines}
+use Rattle.sc_types_elab.specs.Prelude.{function_type_lines}
 use Rattle.sc_ast.specs.declared.expr.ExprTree as exprs
 use Rattle.sc_ast.specs.declared.stmt.StmtKind as kinds
 use Rattle.sc_ast.specs.declared.stmt.StmtTree as stmts
@@ -51,7 +54,7 @@ local_goes = ap (λ e. goes_into ty.Int (judged main_scope e)) local_typed ∙ a
 module _ (callees : Callees) where
   -- the lines of a statement that break a rule
   abbrev lines : StmtTree → List ℕ
-  lines = stmt_lines main_visible callees main_scope (Some ty.Int)
+  lines = stmt_type_lines main_visible callees main_scope (Some ty.Int)
 
   assign_call_at : (line : ℕ) (place : ExprTree) (call : CallTree) → lines (stmt_at line (AssignCall place call)) ≡
       unless (assign_call_holds main_visible callees main_scope (Some ty.Int) place call) line
@@ -68,7 +71,7 @@ module _ (callees : Callees) where
   function_fits : (seed j : ℕ) → callees.signature (function_name j) ≡ Some function_signature →
       call_holds main_visible callees main_scope (Some ty.Int) (call_of seed j) ≡ true
   function_fits seed j has =
-      ap (λ s. args_fit s (map (judged main_scope) (going_to_all (params_of s)
+      ap (λ s. args_fit s (map (judged main_scope) (going_to_all (params_called s)
       (map (typed main_visible) (literal (argument seed j) ∷ []))))) has ∙
       ap (λ b. b && true) (literal_goes main_visible main_scope (argument seed j) (argument_small seed j))
 
@@ -84,7 +87,7 @@ module _ (callees : Callees) where
       lines (stmt_at line output_kind) ≡ []
   written line has =
       call_at line (record { name = codes "output"; args = Variable (codes "r") ∷ [] }) ∙
-      ap (λ s. unless (args_fit s (map (judged main_scope) (going_to_all (params_of s)
+      ap (λ s. unless (args_fit s (map (judged main_scope) (going_to_all (params_called s)
       (map (typed main_visible) (Variable (codes "r") ∷ []))))) line) has ∙
       ap (λ b. unless (b && true) line) local_goes
 
@@ -126,18 +129,18 @@ module _ (size seed : ℕ) (section : SectionTree) (main : IsMain size seed sect
     abbrev callees : Callees
     callees = callees_of sections number section
 
-    function_none : function_lines section callees (tree_of size seed section main) ≡ []
+    function_none : function_type_lines section callees (tree_of size seed section main) ≡ []
     function_none =
-        (λ i. concat (map (stmt_lines (visible_is i) callees (scope_is i) (Some ty.Int)) main.body)) ∙
+        (λ i. concat (map (stmt_type_lines (visible_is i) callees (scope_is i) (Some ty.Int)) main.body)) ∙
         body_none callees seed (all_functions size) main.body main.body_is
         (signatures size seed section main sections number) (output_typed size seed section main sections number)
 
     decls_none : (heads : List HeadTree) →
-        concat (map (decl_lines section callees) (map decl.Proto heads ++ last_decls size seed section main)) ≡ []
+        concat (map (decl_type_lines section callees) (map decl.Proto heads ++ last_decls size seed section main)) ≡ []
     decls_none [] = ap (λ x. x ++ []) function_none
     decls_none (x ∷ heads) = decls_none heads
 
     -- `Main` breaks no rule of types, whatever stands beside it
-    pub main_typed : section_lines section callees ≡ []
+    pub main_typed : section_type_lines section callees ≡ []
     main_typed =
-        ap (λ s. concat (map (decl_lines section callees) s.decls)) main.is ∙ decls_none main.protos
+        ap (λ s. concat (map (decl_type_lines section callees) s.decls)) main.is ∙ decls_none main.protos

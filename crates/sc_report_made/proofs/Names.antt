@@ -4,13 +4,14 @@ use Rattle.sc_report_made.proofs.Common.{ImportLine, IsAmong, IsAsked, Known, Li
 use Rattle.sc_report_made.proofs.Common.{StructTree, Text, Variable, [], add_kind, all_functions, all_hold, among}
 use Rattle.sc_report_made.proofs.Common.{among_back, among_prefix, and_from, ap, append-nil, append_assoc, ap₂, below}
 use Rattle.sc_report_made.proofs.Common.{body_lines, call_kind, call_known, call_of, codes, concat, declared, element}
-use Rattle.sc_report_made.proofs.Common.{expr_known, false, first, function_at, function_name, functions_in}
-use Rattle.sc_report_made.proofs.Common.{functions_of, is_callable, is_new, later, line_of_text, literal, loop_kind}
+use Rattle.sc_report_made.proofs.Common.{expr_known, false, first, function_at, function_name, function_decls}
+use Rattle.sc_report_made.proofs.Common.{worker_functions, is_callable, is_new, later, line_of_text, literal, loop_kind}
 use Rattle.sc_report_made.proofs.Common.{main_at, map, map-append, names_broken, next_at, numbers_from, output_kind}
 use Rattle.sc_report_made.proofs.Common.{output_proto, proto_at, refl, return_kind, rules, set_kind, start_at, stmt_at}
 use Rattle.sc_report_made.proofs.Common.{store_kind, suc, sym, table_at, true, unless, variable, workers, ℕ, ◌&&◌, ◌++◌}
 use Rattle.sc_report_made.proofs.Common.{◌∙◌, ◌∷◌, ◌≡◌, ◌≤◌}
-use Rattle.sc_types_scope.specs.Prelude.{decl_lines, function_lines, lines_from, part_lines, section_lines, stmt_lines}
+use Rattle.sc_types_scope.specs.Prelude.{decl_name_lines, function_name_lines, name_lines_from, part_name_lines}
+use Rattle.sc_types_scope.specs.Prelude.{section_name_lines, stmt_name_lines}
 use Rattle.sc_ast.specs.declared.expr.ExprTree as exprs
 use Rattle.sc_ast.specs.declared.section.Decl.TheVariants as decl
 use Rattle.sc_ast.specs.declared.stmt.StmtKind as kinds
@@ -40,20 +41,20 @@ module _ (callables : List Text) where
   number_known word = search (rules, exprs.the_lemmas)
 
   assign_call_at : (line : ℕ) (place : ExprTree) (call : CallTree) →
-      stmt_lines in_main (stmt_at line (kinds.AssignCall place call)) false ≡
+      stmt_name_lines in_main (stmt_at line (kinds.AssignCall place call)) false ≡
       unless (expr_known in_main place && call_known in_main call) line
   assign_call_at line place call = search (rules, kinds.the_lemmas, stmts.the_lemmas)
 
   call_at : (line : ℕ) (call : CallTree) →
-      stmt_lines in_main (stmt_at line (kinds.Call call)) false ≡ unless (call_known in_main call) line
+      stmt_name_lines in_main (stmt_at line (kinds.Call call)) false ≡ unless (call_known in_main call) line
   call_at line call = search (rules, kinds.the_lemmas, stmts.the_lemmas)
 
   value_at : (line : ℕ) (value : ExprTree) →
-      stmt_lines in_main (stmt_at line (return_kind value)) false ≡ unless (expr_known in_main value) line
+      stmt_name_lines in_main (stmt_at line (return_kind value)) false ≡ unless (expr_known in_main value) line
   value_at line value = search (rules, kinds.the_lemmas, stmts.the_lemmas)
 
   function_called : (seed j line : ℕ) → among callables (function_name j) ≡ true →
-      stmt_lines in_main (stmt_at line (call_kind seed j)) false ≡ []
+      stmt_name_lines in_main (stmt_at line (call_kind seed j)) false ≡ []
   function_called seed j line there =
       assign_call_at line (Variable (codes "r")) (call_of seed j) ∙
       ap (λ b. unless b line) (and_from _ _ result_known
@@ -62,7 +63,7 @@ module _ (callables : List Text) where
       (and_from _ true (number_known _) refl)))
 
   output_called : (line : ℕ) → among callables (codes "output") ≡ true →
-      stmt_lines in_main (stmt_at line output_kind) false ≡ []
+      stmt_name_lines in_main (stmt_at line output_kind) false ≡ []
   output_called line there =
       call_at line (record { name = codes "output"; args = Variable (codes "r") ∷ [] }) ∙
       ap (λ b. unless b line) (and_from (is_callable in_main (codes "output")) _
@@ -76,7 +77,7 @@ module _ (callables : List Text) where
   calls_known seed _ _ (ends line) output all =
       ap (λ x. x ++ []) (value_at line (literal 0) ∙ ap (λ b. unless b line) (number_known 0))
   calls_known seed _ _ (calls j x y js stmts h) output all =
-      ap₂ (λ a b. a ++ (b ++ concat (map (λ s. stmt_lines in_main s false) stmts)))
+      ap₂ (λ a b. a ++ (b ++ concat (map (λ s. stmt_name_lines in_main s false) stmts)))
       (function_called seed j x (all j (first js))) (output_called y output) ∙
       calls_known seed js stmts h output (λ k there. all k (later j js there))
 
@@ -116,8 +117,8 @@ module _ (size seed : ℕ) (section : SectionTree) (m : IsMain size seed section
   imports_are = ap (λ s. map {A = ImportLine} (λ one. one.name) s.imports) m.is ∙
       imports_named size m.output_line every m.imports m.imports_are
 
-  functions_are : functions_in section.decls ≡ main_function ∷ []
-  functions_are = ap functions_in decls_are ∙ after_functions last_decls m.protos
+  functions_are : function_decls section.decls ≡ main_function ∷ []
+  functions_are = ap function_decls decls_are ∙ after_functions last_decls m.protos
 
   before : (heads : List HeadTree) → declared section (map decl.Proto heads) ≡ names (head_names heads)
   before heads = λ i. record {
@@ -130,16 +131,16 @@ module _ (size seed : ℕ) (section : SectionTree) (m : IsMain size seed section
   }
 
   protos_lines : (prefix : List HeadTree) (ks : List ℕ) (heads : List HeadTree) → AreProtos ks heads →
-      (more : List Decl) → lines_from section (map decl.Proto prefix) (map decl.Proto heads ++ more) ≡
-      lines_from section (map decl.Proto (prefix ++ heads)) more
+      (more : List Decl) → name_lines_from section (map decl.Proto prefix) (map decl.Proto heads ++ more) ≡
+      name_lines_from section (map decl.Proto (prefix ++ heads)) more
   protos_lines prefix _ _ no_protos more =
-      ap (λ x. lines_from section (map decl.Proto x) more) (sym (append-nil prefix))
+      ap (λ x. name_lines_from section (map decl.Proto x) more) (sym (append-nil prefix))
   protos_lines prefix _ _ (and_proto j line ks heads h) more =
       let head : HeadTree = proto_at j line in
-      ap₂ (λ x y. x ++ lines_from section y (map decl.Proto heads ++ more))
-      (ap (λ n. decl_lines n (decl.Proto head)) (before prefix)) (sym (map-append decl.Proto prefix (head ∷ []))) ∙
+      ap₂ (λ x y. x ++ name_lines_from section y (map decl.Proto heads ++ more))
+      (ap (λ n. decl_name_lines n (decl.Proto head)) (before prefix)) (sym (map-append decl.Proto prefix (head ∷ []))) ∙
       protos_lines (prefix ++ head ∷ []) ks heads h more ∙
-      ap (λ x. lines_from section (map decl.Proto x) more) (append_assoc prefix (head ∷ []) heads)
+      ap (λ x. name_lines_from section (map decl.Proto x) more) (append_assoc prefix (head ∷ []) heads)
 
   called : (j : ℕ) → IsAmong j every → among (codes "main" ∷ imported) (function_name j) ≡ true
   called j there =
@@ -148,19 +149,19 @@ module _ (size seed : ℕ) (section : SectionTree) (m : IsMain size seed section
   output_is_called : among (codes "main" ∷ imported) (codes "output") ≡ true
   output_is_called = among_back (function_names every) (codes "output" ∷ []) (codes "output") refl
 
-  main_lines : (protos : List Text) → function_lines (names protos) main_function ≡ []
+  main_lines : (protos : List Text) → function_name_lines (names protos) main_function ≡ []
   main_lines protos =
       calls_known (codes "main" ∷ imported) seed every m.body m.body_is output_is_called called
 
-  pub main_names : section_lines section ≡ []
+  pub main_names : section_name_lines section ≡ []
   main_names =
       let output : HeadTree = output_proto m.proto_line in
-      ap (lines_from section []) decls_are ∙ protos_lines [] every m.protos m.protos_are last_decls ∙
+      ap (name_lines_from section []) decls_are ∙ protos_lines [] every m.protos m.protos_are last_decls ∙
       ap₂ (λ x y. x ++ (y ++ []))
-      (ap (λ n. decl_lines n (decl.Proto output)) (before m.protos))
-      (ap (λ b. decl_lines (declared section b) (decl.Function main_function))
+      (ap (λ n. decl_name_lines n (decl.Proto output)) (before m.protos))
+      (ap (λ b. decl_name_lines (declared section b) (decl.Function main_function))
       (sym (map-append decl.Proto m.protos (output ∷ []))) ∙
-      ap (λ n. decl_lines n (decl.Function main_function)) (before (m.protos ++ output ∷ [])) ∙
+      ap (λ n. decl_name_lines n (decl.Function main_function)) (before (m.protos ++ output ∷ [])) ∙
       main_lines (head_names (m.protos ++ output ∷ [])))
 
 -- A worker's function.
@@ -172,36 +173,36 @@ module _ (callables : List Text) where
   abbrev in_function : Known
   in_function = record { variables = codes "t" ∷ own; functions = callables; hiding = own }
 
-  set_known : (seed j line : ℕ) → stmt_lines in_function (stmt_at line (set_kind seed j)) false ≡ []
+  set_known : (seed j line : ℕ) → stmt_name_lines in_function (stmt_at line (set_kind seed j)) false ≡ []
   set_known seed j line = search (rules, exprs.the_lemmas, kinds.the_lemmas, stmts.the_lemmas)
 
   element_known : expr_known in_function element ≡ true
   element_known = search (rules, exprs.the_lemmas)
 
-  store_known : (line : ℕ) → stmt_lines in_function (stmt_at line store_kind) true ≡ []
+  store_known : (line : ℕ) → stmt_name_lines in_function (stmt_at line store_kind) true ≡ []
   store_known line = search (rules, exprs.the_lemmas, kinds.the_lemmas, stmts.the_lemmas)
 
-  add_known : (line : ℕ) → stmt_lines in_function (stmt_at line add_kind) true ≡ []
+  add_known : (line : ℕ) → stmt_name_lines in_function (stmt_at line add_kind) true ≡ []
   add_known line = search (rules, exprs.the_lemmas, kinds.the_lemmas, stmts.the_lemmas)
 
   below_known : expr_known in_function below ≡ true
   below_known = search (rules, exprs.the_lemmas)
 
-  start_known : (line : ℕ) → part_lines in_function (Some (start_at line)) ≡ []
+  start_known : (line : ℕ) → part_name_lines in_function (Some (start_at line)) ≡ []
   start_known line = search (rules, exprs.the_lemmas)
 
-  next_known : (line : ℕ) → part_lines in_function (Some (next_at line)) ≡ []
+  next_known : (line : ℕ) → part_name_lines in_function (Some (next_at line)) ≡ []
   next_known line = search (rules, exprs.the_lemmas)
 
   loop_known : (lines : FunctionLines) →
-      stmt_lines in_function (stmt_at lines.loop (loop_kind lines)) false ≡ []
+      stmt_name_lines in_function (stmt_at lines.loop (loop_kind lines)) false ≡ []
   loop_known lines =
       for-at in_function false lines.loop (Some (start_at lines.start)) below (Some (next_at lines.next))
       (stmt_at lines.store store_kind ∷ stmt_at lines.add add_kind ∷ []) ∙
       (λ i. start_known lines.start i ++ (unless (below_known i) lines.loop ++ (next_known lines.next i ++
       (store_known lines.store i ++ (add_known lines.add i ++ [])))))
 
-  sum_known : (line : ℕ) → stmt_lines in_function (stmt_at line (return_kind (variable (codes "s")))) false ≡ []
+  sum_known : (line : ℕ) → stmt_name_lines in_function (stmt_at line (return_kind (variable (codes "s")))) false ≡ []
   sum_known line = search (rules, exprs.the_lemmas, kinds.the_lemmas, stmts.the_lemmas)
 
   function_known : (seed j : ℕ) (lines : FunctionLines) →
@@ -219,7 +220,7 @@ module _ (size seed worker : ℕ) (section : SectionTree) (w : IsWorker size see
   defined trees = map {A = FunctionTree} (λ tree. tree.head.name) trees
 
   abbrev worker_callables : List Text
-  worker_callables = defined (functions_in section.decls) ++ map {A = ImportLine} (λ one. one.name) section.imports
+  worker_callables = defined (function_decls section.decls) ++ map {A = ImportLine} (λ one. one.name) section.imports
 
   -- what is declared before a function
   abbrev names_before : (functions : List Text) → SectionNames
@@ -246,13 +247,13 @@ module _ (size seed worker : ℕ) (section : SectionTree) (w : IsWorker size see
     callables = worker_callables;
   }
 
-  table_known : decl_lines (declared section []) (decl.Global table) ≡ []
+  table_known : decl_name_lines (declared section []) (decl.Global table) ≡ []
   table_known = ap (λ names. unless (all_hold (true ∷ true ∷ true ∷ is_new names (codes "t") ∷ true ∷ []))
       w.table_line) imports_none
 
   function_none : (functions : List Text) (j : ℕ) (lines : FunctionLines) →
       is_new functions (function_name j) ≡ true →
-      function_lines (names_before functions) (function_at seed j lines) ≡ []
+      function_name_lines (names_before functions) (function_at seed j lines) ≡ []
   function_none functions j lines new =
       ap₂ (λ b x. unless b lines.head ++ ([] ++ x))
       (and_from (is_new functions (function_name j)) true new refl)
@@ -260,7 +261,7 @@ module _ (size seed worker : ℕ) (section : SectionTree) (w : IsWorker size see
 
   functions_lines : (low : ℕ) (prefix : List FunctionTree) (done js : List ℕ) (trees : List FunctionTree) →
       AreFunctions seed js trees → defined prefix ≡ function_names done → Below low 1000 done → Rise low 1000 js →
-      lines_from section (decl.Global table ∷ map decl.Function prefix) (map decl.Function trees) ≡ []
+      name_lines_from section (decl.Global table ∷ map decl.Function prefix) (map decl.Function trees) ≡ []
   functions_lines low prefix done _ _ no_functions named less rise = refl
   functions_lines low prefix done _ _ (and_function j lines js trees h) named less rise =
       let tree : FunctionTree = function_at seed j lines in
@@ -273,16 +274,17 @@ module _ (size seed worker : ℕ) (section : SectionTree) (w : IsWorker size see
       let still : defined (prefix ++ tree ∷ []) ≡ function_names (done ++ j ∷ []) =
       map-append {A = FunctionTree} (λ t. t.head.name) prefix (tree ∷ []) ∙
       ap (λ x. x ++ function_name j ∷ []) named ∙ sym (map-append function_name done (j ∷ [])) in
-      ap₂ (λ x y. x ++ lines_from section y (map decl.Function trees))
-      (ap (λ n. function_lines n tree) (before_function prefix) ∙ function_none (defined prefix) j lines new) next ∙
+      ap₂ (λ x y. x ++ name_lines_from section y (map decl.Function trees))
+      (ap (λ n. function_name_lines n tree) (before_function prefix) ∙ function_none (defined prefix) j lines new) next
+      ∙
       functions_lines (suc j) (prefix ++ tree ∷ []) (done ++ j ∷ []) js trees h still
       (below_next j 1000 done rise.1 lower) rise.2
 
-  pub worker_names_hold : size ≤ 1000 → section_lines section ≡ []
+  pub worker_names_hold : size ≤ 1000 → section_name_lines section ≡ []
   worker_names_hold few =
-      ap (lines_from section []) (ap (λ s. s.decls) w.is) ∙
+      ap (name_lines_from section []) (ap (λ s. s.decls) w.is) ∙
       ap₂ (λ x y. x ++ y) table_known
-      (functions_lines 0 [] [] (functions_of size worker) w.functions w.functions_are refl tt
+      (functions_lines 0 [] [] (worker_functions size worker) w.functions w.functions_are refl tt
       (functions_rise size worker few))
 
 -- All sections.

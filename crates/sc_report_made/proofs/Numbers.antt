@@ -1,6 +1,7 @@
 -- The numbers of functions and workers: which are in a list, and that they rise.
 use Rattle.sc_report_made.proofs.Common.{AllByRecursion, Bool, IsAmong, List, [], all_functions, arith, cond, eq-eqb}
-use Rattle.sc_report_made.proofs.Common.{false, false≢true, filter, first, functions_of, inl, inr, is_first_or_later}
+use Rattle.sc_report_made.proofs.Common.{false, false≢true, filter, first, worker_functions, inl, inr}
+use Rattle.sc_report_made.proofs.Common.{is_first_or_later}
 use Rattle.sc_report_made.proofs.Common.{later, nat_eq, none_among, numbers_from, refl, subst, suc, true, workers, zero}
 use Rattle.sc_report_made.proofs.Common.{ℕ, ◌%◌, ◌+◌, ◌<◌, ◌∷◌, ◌≡◌, ◌≤◌}
 use Rattle.std.proofs.lemmas.Nat.{mod_below}
@@ -33,7 +34,7 @@ filter_rise p low high (j ∷ js) h =
 pub all_rise : (size : ℕ) → size ≤ 1000 → Rise 0 1000 (all_functions size)
 all_rise size few = numbers_rise 0 size 1000 (omega (arith, few))
 
-pub functions_rise : (size i : ℕ) → size ≤ 1000 → Rise 0 1000 (functions_of size i)
+pub functions_rise : (size i : ℕ) → size ≤ 1000 → Rise 0 1000 (worker_functions size i)
 functions_rise size i few =
     filter_rise (λ j. nat_eq (j % workers size) i) 0 1000 (all_functions size) (all_rise size few)
 
@@ -80,7 +81,8 @@ filter_keeps p j (i ∷ js) e h = elim (is_first_or_later j i js h) [
 ]
 
 -- each function stands in its worker
-pub function_there : (size j : ℕ) → IsAmong j (all_functions size) → IsAmong j (functions_of size (j % workers size))
+pub function_there : (size j : ℕ) → IsAmong j (all_functions size) → IsAmong j (worker_functions size (j % workers
+    size))
 function_there size j h =
     filter_keeps (λ k. nat_eq (k % workers size) (j % workers size)) j (all_functions size)
     (eq-eqb (j % workers size) (j % workers size) refl) h

@@ -2,7 +2,7 @@
 use Rattle.sc_report_made.proofs.Common.{Bool, FunctionTree, HeadTree, ImportLine, IsAmong, List, SectionTree, Some}
 use Rattle.sc_report_made.proofs.Common.{Text, [], agree, agrees_there, agrees_with, all_hold, among, and_from, ap}
 use Rattle.sc_report_made.proofs.Common.{arith, bytes_eq, bytes_eq_self, codes, eq-eqb, export_names, false, false≢true}
-use Rattle.sc_report_made.proofs.Common.{function_name, functions_of, get_or, head_of, heads_in, if◌then◌else◌}
+use Rattle.sc_report_made.proofs.Common.{function_name, worker_functions, get_or, head_of, heads_in, if◌then◌else◌}
 use Rattle.sc_report_made.proofs.Common.{import_at, inl, inr, is_environment, is_false, is_first_or_later, is_some, map}
 use Rattle.sc_report_made.proofs.Common.{nat_eq, ne_eqb, none_among, not, not_from, offering, offers, or_left, or_right}
 use Rattle.sc_report_made.proofs.Common.{proto_at, refl, same_text, subst, suc, sym, true, worker_name, workers, ℕ, ◌%◌}
@@ -58,7 +58,7 @@ module _ (size seed : ℕ) where
   worker_agrees i section w head h =
       ap (λ s. agrees_with (heads_in s.decls) head) w.is ∙
       ap (λ hs. agrees_with hs head) (functions_heads w.functions) ∙
-      functions_agree seed (functions_of size i) w.functions w.functions_are head h
+      functions_agree seed (worker_functions size i) w.functions w.functions_are head h
 
   -- whoever of the workers offers what a line imports, declares it so
   pub offering_agrees : (all : List SectionTree) (main : SectionTree) (line : ImportLine) (head : HeadTree) →
@@ -74,19 +74,19 @@ module _ (size seed : ℕ) where
         by false found = found
 
   worker_offers : (i j at number : ℕ) (section : SectionTree) → IsWorker size seed i section →
-      IsAmong j (functions_of size i) →
+      IsAmong j (worker_functions size i) →
       offers 0 (record { comp = worker_name i; name = function_name j; line = at }) (suc number) section ≡ true
   worker_offers i j at number section w there =
       let exported : among (export_names section) (function_name j) ≡ true =
       ap (λ s. among (export_names s) (function_name j)) w.is ∙
-      ap (λ names. among names (function_name j)) (exports_named (functions_of size i) w.exports w.exports_are) ∙
-      function_among j (functions_of size i) there in
+      ap (λ names. among names (function_name j)) (exports_named (worker_functions size i) w.exports w.exports_are) ∙
+      function_among j (worker_functions size i) there in
       and_from (bytes_eq section.name (worker_name i)) _
       (ap (λ s. bytes_eq s.name (worker_name i)) w.is ∙ bytes_eq_self (worker_name i))
       (and_from (not (suc number == 0)) _ (ap not (ne_eqb (suc number) 0 (λ e. omega (arith, e)))) exported)
 
   -- one of the workers offers it
-  pub offering_found : (i j at number : ℕ) → IsAmong j (functions_of size i) → (is : List ℕ)
+  pub offering_found : (i j at number : ℕ) → IsAmong j (worker_functions size i) → (is : List ℕ)
       (sections : List SectionTree) → AreWorkers size seed is sections → IsAmong i is →
       is_some (offering 0 (record { comp = worker_name i; name = function_name j; line = at }) (suc number) sections) ≡
       true

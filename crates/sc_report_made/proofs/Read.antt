@@ -1,6 +1,6 @@
 -- A made text is split into its sections, and these are read as its trees.
 use Rattle.sc_report_made.proofs.Common.{AllZip, AreSame, Joined, List, MadeTextsAreRead, SectionTree, [], ap, arith}
-use Rattle.sc_report_made.proofs.Common.{bytes_of, concat, flat_map, inr, made_text, made_trees, main_text, map}
+use Rattle.sc_report_made.proofs.Common.{bytes_of, concat, flat_map, inr, made_text, made_trees, made_main, map}
 use Rattle.sc_report_made.proofs.Common.{numbers_from, refl, subst, suc, worker_text, worker_tree, workers, zero, ℕ}
 use Rattle.sc_report_made.proofs.Common.{◌++◌, ◌+◌, ◌∷◌, ◌≡◌, ◌≤◌}
 use Rattle.sc_lex.specs.Prelude.{line_at, nothing}
@@ -95,9 +95,9 @@ pub made_texts_are_read : MadeTextsAreRead
 made_texts_are_read size seed asked =
     let is : List ℕ = numbers_from 0 (workers size) in
     let few = asked.few in
-    let texts : List (List ℕ) = main_text size seed ∷ map (worker_text size seed) is in
+    let texts : List (List ℕ) = made_main size seed ∷ map (worker_text size seed) is in
     let whole : concat texts ≡ made_text size seed =
-    ap (λ t. main_text size seed ++ t) (joined_texts (worker_text size seed) is) in
+    ap (λ t. made_main size seed ++ t) (joined_texts (worker_text size seed) is) in
     subst (λ t. IsReadAs t (made_trees size seed)) whole (texts_are_read texts (made_trees size seed) (
       main_is_text size seed few,
       workers_are size seed 0 (workers size) few (omega arith),

@@ -1,11 +1,12 @@
 -- The sections of a made text: words that spell them, and no compartment line but the first.
 use Rattle.sc_report_made.proofs.Common.{Closed, Closing, IsText, List, Piece, SectionTree, [], addend, after_closing}
-use Rattle.sc_report_made.proofs.Common.{all_functions, ap, append-nil, append_assoc, ap₂, arith, call_text}
-use Rattle.sc_report_made.proofs.Common.{closed_append, codes, decimal, even_heading, export_text, exports_lined}
-use Rattle.sc_report_made.proofs.Common.{flat_map, flat_map-append, function_name, function_text, functions_of, headed}
-use Rattle.sc_report_made.proofs.Common.{headed_text, heading_words, import_text, imports_lined, main_body, main_text}
+use Rattle.sc_report_made.proofs.Common.{all_functions, ap, append-nil, append_assoc, ap₂, arith, made_call}
+use Rattle.sc_report_made.proofs.Common.{closed_append, codes, decimal, even_heading, made_export, exports_lined}
+use Rattle.sc_report_made.proofs.Common.{flat_map, flat_map-append, function_name, made_function, worker_functions}
+use Rattle.sc_report_made.proofs.Common.{headed}
+use Rattle.sc_report_made.proofs.Common.{headed_text, heading_words, made_import, imports_lined, main_body, made_main}
 use Rattle.sc_report_made.proofs.Common.{main_tree, nested_append, nested_even, nested_line, nested_more, piece_text}
-use Rattle.sc_report_made.proofs.Common.{plain, plain_headless, proto_text, refl, section_with, subst, sym, text_of}
+use Rattle.sc_report_made.proofs.Common.{plain, plain_headless, made_proto, refl, section_with, subst, sym, text_of}
 use Rattle.sc_report_made.proofs.Common.{tidy_plain, true, worker_name, worker_text, worker_tree, ℕ, ◌++◌, ◌<◌, ◌∙◌}
 use Rattle.sc_report_made.proofs.Common.{◌∷◌, ◌≡◌, ◌≤◌}
 unfoldable use Rattle.sc_base.specs.Prelude.{is_name}
@@ -67,34 +68,34 @@ module _ (tree : SectionTree) (exports imports decls : List ℕ) (named : is_nam
 
 -- `Main`
 
-main_closing : (size seed : ℕ) → Closing (main_text size seed)
+main_closing : (size seed : ℕ) → Closing (made_main size seed)
 main_closing size seed =
     let js : List ℕ = all_functions size in
-    let calls : List ℕ = flat_map (call_text seed) js ++ codes "  return 0;\n}\n" in
+    let calls : List ℕ = flat_map (made_call seed) js ++ codes "  return 0;\n}\n" in
     let functions : List ℕ = codes "void output(int v);\nint main(void) {\n  int r;\n" ++ calls in
-    let decls : List ℕ = flat_map proto_text js ++ functions in
+    let decls : List ℕ = flat_map made_proto js ++ functions in
     let output : List ℕ = codes "#pragma import Env output\n" ++ decls in
-    let directives : List ℕ = flat_map (import_text size) js ++ output in
+    let directives : List ℕ = flat_map (made_import size) js ++ output in
     after_closing (codes "#pragma compartment Main\n") directives
-    (after_closing (flat_map (import_text size) js) output (after_closing (codes "#pragma import Env output\n") decls
-    (after_closing (flat_map proto_text js) functions
+    (after_closing (flat_map (made_import size) js) output (after_closing (codes "#pragma import Env output\n") decls
+    (after_closing (flat_map made_proto js) functions
     (after_closing (codes "void output(int v);\nint main(void) {\n  int r;\n") calls
-    (after_closing (flat_map (call_text seed) js) (codes "  return 0;\n}\n") (λ d. refl))))))
+    (after_closing (flat_map (made_call seed) js) (codes "  return 0;\n}\n") (λ d. refl))))))
 
-pub main_is_text : (size seed : ℕ) → size ≤ 1000 → IsSectionText (main_text size seed) (main_tree size seed)
+pub main_is_text : (size seed : ℕ) → size ≤ 1000 → IsSectionText (made_main size seed) (main_tree size seed)
 main_is_text size seed few =
     let js : List ℕ = all_functions size in
     let low = all_below 0 1000 js (all_rise size few) in
-    let calls : List ℕ = flat_map (call_text seed) js in
+    let calls : List ℕ = flat_map (made_call seed) js in
     let prefix : List ℕ = codes "int main(void) {\n  int r;\n" in
     let function : List ℕ = prefix ++ ((calls ++ codes "  return 0;\n") ++ codes "}\n") in
     let main = main_is (main_body size seed) (calls ++ codes "  return 0;\n") (calls_are seed js low) in
     let decls = protos_are js low _ _ (more_decls output_is (more_decls main no_decls)) in
-    let imports : List ℕ = flat_map (import_text size) js in
-    let protos : List ℕ = flat_map proto_text js in
+    let imports : List ℕ = flat_map (made_import size) js in
+    let protos : List ℕ = flat_map made_proto js in
     let output : List ℕ = codes "#pragma import Env output\n" in
     let heads : List ℕ = protos ++ (codes "void output(int v);\n" ++ (function ++ [])) in
-    let text : headed (codes "Main") ([] ++ ((imports ++ output) ++ heads)) ≡ main_text size seed =
+    let text : headed (codes "Main") ([] ++ ((imports ++ output) ++ heads)) ≡ made_main size seed =
     ap (λ t. codes "#pragma compartment Main\n" ++ t) (append_assoc imports output heads ∙
     ap (λ t. imports ++ (output ++ (protos ++ (codes "void output(int v);\n" ++ t)))) (append-nil function ∙
     ap (λ t. prefix ++ t) (append_assoc calls (codes "  return 0;\n") (codes "}\n")))) in
@@ -104,7 +105,7 @@ main_is_text size seed few =
 
 -- Workers.
 
-function_closing : (seed j : ℕ) → Closing (function_text seed j)
+function_closing : (seed j : ℕ) → Closing (made_function seed j)
 function_closing seed j =
     let end : List ℕ = codes
     ";\n  for (i = 0; i < 64; i++) {\n    t[i & 15] = x + i;\n    s = s + t[i & 15];\n  }\n  return s;\n}\n" in
@@ -114,26 +115,26 @@ function_closing seed j =
     (after_closing (codes "(int x) {\n  int i;\n  int s;\n  s = ") set
     (after_closing (decimal (addend seed j)) end (λ d. refl))))
 
-functions_closed : (seed : ℕ) (js : List ℕ) → Closed (flat_map (function_text seed) js)
+functions_closed : (seed : ℕ) (js : List ℕ) → Closed (flat_map (made_function seed) js)
 functions_closed seed [] = λ d e. e
-functions_closed seed (j ∷ js) = closed_append (function_text seed j) (flat_map (function_text seed) js)
+functions_closed seed (j ∷ js) = closed_append (made_function seed j) (flat_map (made_function seed) js)
     (λ d e. function_closing seed j d) (functions_closed seed js)
 
 worker_closing : (size seed i : ℕ) → Closing (worker_text size seed i)
 worker_closing size seed i =
-    let js : List ℕ = functions_of size i in
-    let functions : List ℕ = flat_map (function_text seed) js in
+    let js : List ℕ = worker_functions size i in
+    let functions : List ℕ = flat_map (made_function seed) js in
     let decls : List ℕ = codes "int t[16];\n" ++ functions in
-    let exports : List ℕ = flat_map export_text js ++ decls in
+    let exports : List ℕ = flat_map made_export js ++ decls in
     after_closing mark (worker_name i ++ (codes "\n" ++ exports))
     (after_closing (worker_name i) (codes "\n" ++ exports) (after_closing (codes "\n") exports
-    (after_closing (flat_map export_text js) decls (λ d. functions_closed seed js 10 refl))))
+    (after_closing (flat_map made_export js) decls (λ d. functions_closed seed js 10 refl))))
 
 pub worker_is_text : (size seed i : ℕ) → size ≤ 1000 → i < 1000 →
     IsSectionText (worker_text size seed i) (worker_tree size seed i)
 worker_is_text size seed i few low =
-    let js : List ℕ = functions_of size i in
+    let js : List ℕ = worker_functions size i in
     let below = all_below 0 1000 js (functions_rise size i few) in
-    section_text (worker_tree size seed i) (flat_map export_text js) []
-    (codes "int t[16];\n" ++ flat_map (function_text seed) js) (worker_named i low) (exports_are js below) no_directives
+    section_text (worker_tree size seed i) (flat_map made_export js) []
+    (codes "int t[16];\n" ++ flat_map (made_function seed) js) (worker_named i low) (exports_are js below) no_directives
     (more_decls table_is (functions_are seed js below)) (worker_closing size seed i 10)

@@ -1,7 +1,7 @@
 -- The sections of a made text with any lines.
 use Rattle.sc_report_made.proofs.Common.{ExportLine, FunctionLines, FunctionTree, HeadTree, ImportLine, List}
 use Rattle.sc_report_made.proofs.Common.{SectionTree, StmtTree, [], all_functions, call_kind, codes, export_at}
-use Rattle.sc_report_made.proofs.Common.{function_at, functions_of, import_at, literal, main_at, map, numbers_from}
+use Rattle.sc_report_made.proofs.Common.{function_at, worker_functions, import_at, literal, main_at, map, numbers_from}
 use Rattle.sc_report_made.proofs.Common.{output_import, output_kind, output_proto, proto_at, return_kind, stmt_at}
 use Rattle.sc_report_made.proofs.Common.{table_at, worker_name, workers, ℕ, ◌++◌, ◌∷◌, ◌≡◌}
 use Rattle.sc_ast.specs.declared.section.Decl.TheVariants as decl
@@ -61,8 +61,8 @@ pub record IsWorker (size seed i : ℕ) (section : SectionTree) : Type 0 where
   pub exports : List ExportLine
   pub table_line : ℕ
   pub functions : List FunctionTree
-  pub exports_are : AreExports (functions_of size i) exports
-  pub functions_are : AreFunctions seed (functions_of size i) functions
+  pub exports_are : AreExports (worker_functions size i) exports
+  pub functions_are : AreFunctions seed (worker_functions size i) functions
   pub is : section ≡ record {
     name = worker_name i;
     line = section.line;

@@ -1,6 +1,7 @@
 -- A worker has few functions: those of each 31st number.
 use Rattle.sc_report_made.proofs.Common.{Bool, List, [], all_functions, ap, arith, cases_lt, cond, eqb-true, false}
-use Rattle.sc_report_made.proofs.Common.{filter, functions_of, inl, inr, length, nat_eq, numbers_from, refl, suc, true}
+use Rattle.sc_report_made.proofs.Common.{filter, worker_functions, inl, inr, length, nat_eq, numbers_from, refl, suc}
+use Rattle.sc_report_made.proofs.Common.{true}
 use Rattle.sc_report_made.proofs.Common.{workers, zero, ℕ, ◌%◌, ◌*◌, ◌+◌, ◌<◌, ◌∙◌, ◌∷◌, ◌≡◌, ◌≤◌, ◌⊎◌}
 
 -- how many numbers of a list pass a test
@@ -65,9 +66,9 @@ few_hits i count few = by (cases_lt i 31) where
   by (inr large) = omega (arith, none_from i 0 count large)
 
 -- a worker has at most 33 functions
-pub few_functions : (size i : ℕ) → size ≤ 1000 → length (functions_of size i) ≤ 33
+pub few_functions : (size i : ℕ) → size ≤ 1000 → length (worker_functions size i) ≤ 33
 few_functions size i few = by (cases_lt size 31) where
-  by : (size < 31) ⊎ (31 ≤ size) → length (functions_of size i) ≤ 33
+  by : (size < 31) ⊎ (31 ≤ size) → length (worker_functions size i) ≤ 33
   by (inl small) =
       let kept = filtered_length (λ j. nat_eq (j % workers size) i) (all_functions size) in
       omega (arith, small, numbers_length 0 size, kept)

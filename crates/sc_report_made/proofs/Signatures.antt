@@ -2,7 +2,7 @@
 use Rattle.sc_report_made.proofs.Common.{AllByRecursion, Bool, Callees, Decl, FunctionTree, HeadTree, List, None}
 use Rattle.sc_report_made.proofs.Common.{SectionTree, Signature, Some, StructTree, [], all_functions, ap, ap₂, bytes_eq}
 use Rattle.sc_report_made.proofs.Common.{bytes_eq_self, callees_of, codes, false, false≢true, function_name}
-use Rattle.sc_report_made.proofs.Common.{function_named, functions_in, get_or, globals_in, head_named, heads_in}
+use Rattle.sc_report_made.proofs.Common.{function_named, function_decls, get_or, globals_in, head_named, heads_in}
 use Rattle.sc_report_made.proofs.Common.{if◌then◌else◌, is_false, main_at, map, nat_eq, or_first, output_proto}
 use Rattle.sc_report_made.proofs.Common.{proto_at, refl, same_text, signature_by, struct_names, structs_in, true, ℕ}
 use Rattle.sc_report_made.proofs.Common.{◌++◌, ◌∙◌, ◌∷◌, ◌≡◌}
@@ -100,8 +100,8 @@ module _ (size seed : ℕ) (section : SectionTree) (main : IsMain size seed sect
   abbrev pub last_heads : List HeadTree
   last_heads = heads_in last_decls
 
-  pub functions_are : functions_in section.decls ≡ tree_of ∷ []
-  functions_are = ap (λ s. functions_in s.decls) main.is ∙ after_functions last_decls main.protos
+  pub functions_are : function_decls section.decls ≡ tree_of ∷ []
+  functions_are = ap (λ s. function_decls s.decls) main.is ∙ after_functions last_decls main.protos
 
   pub no_structs : structs_in section.decls ≡ []
   no_structs = ap (λ s. structs_in s.decls) main.is ∙ after_structs last_decls main.protos

@@ -1,7 +1,8 @@
 -- The sections of a made text are small.
 use Rattle.sc_report_made.proofs.Common.{AllByRecursion, AreSmall, Callees, FunctionLines, FunctionTree, IsAsked}
 use Rattle.sc_report_made.proofs.Common.{IsSmall, List, SectionTree, StmtTree, all_functions, ap, arith, callees_of}
-use Rattle.sc_report_made.proofs.Common.{cells_of, frame_bound, function-nodes, function_at, functions_of, main_at, map}
+use Rattle.sc_report_made.proofs.Common.{cells_of, frame_bound, function-nodes, function_at, worker_functions, main_at}
+use Rattle.sc_report_made.proofs.Common.{map}
 use Rattle.sc_report_made.proofs.Common.{nodes, numbers_from, program_of, refl, sections_from, structs, subst, suc, sym}
 use Rattle.sc_report_made.proofs.Common.{tags, total, typed_function, typed_global, typed_section, variables, workers}
 use Rattle.sc_report_made.proofs.Common.{ℕ, ◌≡◌, ◌≤◌}
@@ -91,7 +92,7 @@ module _ (size seed : ℕ) (few : size ≤ 1000) where
       frames = All-from_recursion (HasSmallFrame section callees) _ (subst (λ x. AllByRecursion
           (HasSmallFrame section callees) (map (typed section callees) x))
           (sym (functions_are size seed i section worker))
-          (worker_frames section callees seed (functions_of size i) worker.functions worker.functions_are));
+          (worker_frames section callees seed (worker_functions size i) worker.functions worker.functions_are));
       nodes = let is = nodes_within size seed i few section worker callees in omega (arith, is);
     }
 

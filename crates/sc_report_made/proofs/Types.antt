@@ -1,6 +1,7 @@
 -- The sections of a made text break no rule of types.
 use Rattle.sc_report_made.proofs.Common.{IsAsked, List, SectionTree, [], ap, ap₂, callees_of, concat, line_of_text, map}
-use Rattle.sc_report_made.proofs.Common.{numbers_from, refl, section_lines, types_broken, workers, ℕ, ◌++◌, ◌∙◌, ◌≡◌}
+use Rattle.sc_report_made.proofs.Common.{numbers_from, refl, section_type_lines, types_broken, workers, ℕ, ◌++◌, ◌∙◌}
+use Rattle.sc_report_made.proofs.Common.{◌≡◌}
 use Rattle.sc_report_made.proofs.MainTypes.{main_typed}
 use Rattle.sc_report_made.proofs.Shapes.{AreMade, AreWorkers, and_worker, no_workers}
 use Rattle.sc_report_made.proofs.WorkerSections.{worker_typed}
@@ -8,7 +9,7 @@ use Rattle.sc_report_made.proofs.WorkerSections.{worker_typed}
 module _ (size seed : ℕ) (sections : List SectionTree) where
   -- the lines of the text at which a section breaks a rule
   abbrev broken : SectionTree → List ℕ
-  broken section = map (line_of_text section.line) (section_lines section (callees_of sections 0 section))
+  broken section = map (line_of_text section.line) (section_type_lines section (callees_of sections 0 section))
 
   workers_none : (is : List ℕ) (others : List SectionTree) → AreWorkers size seed is others →
       concat (map broken others) ≡ []

@@ -3,7 +3,8 @@ use Rattle.sc_report_made.proofs.Common.{Add, AreSame, Binary, CallTree, Decl, E
 use Rattle.sc_report_made.proofs.Common.{FunctionTree, HeadTree, ImportLine, List, None, Option, SameButLines}
 use Rattle.sc_report_made.proofs.Common.{SectionTree, SimpleTree, Some, StmtKind, StmtTree, [], add_kind, all_functions}
 use Rattle.sc_report_made.proofs.Common.{ap, ap₂, assign_simple, below, call_kind, calls_tree, codes, export_at}
-use Rattle.sc_report_made.proofs.Common.{flat_map, function_at, functions_of, import_at, lineless_decl, lineless_export}
+use Rattle.sc_report_made.proofs.Common.{flat_map, function_at, worker_functions, import_at, lineless_decl}
+use Rattle.sc_report_made.proofs.Common.{lineless_export}
 use Rattle.sc_report_made.proofs.Common.{lineless_function, lineless_head, lineless_import, lineless_kind}
 use Rattle.sc_report_made.proofs.Common.{lineless_local, lineless_option, lineless_simple, lineless_stmt}
 use Rattle.sc_report_made.proofs.Common.{lineless_stmts, literal, local_at, loop_kind, made_trees, main_at, main_body}
@@ -418,7 +419,7 @@ worker_decls seed js (decl.Function u ∷ decls) h = absurd (cc)
 pub worker_undone : (size seed i : ℕ) (section : SectionTree) → SameButLines section (worker_tree size seed i) →
     IsWorker size seed i section
 worker_undone size seed i section same =
-    let js = functions_of size i in
+    let js = worker_functions size i in
     let decls = worker_decls seed js section.decls (ap (λ x. x.decls) same) in
     let imports = no_imports_are section.imports (ap (λ x. x.imports) same) in
     record {

@@ -2,12 +2,13 @@
 use Rattle.sc_report_made.proofs.Common.{Bool, ExportLine, FunctionLines, FunctionTree, HeadTree, IsAmong, IsAsked}
 use Rattle.sc_report_made.proofs.Common.{List, SectionTree, Text, [], agrees_with, among, and_from, ap, ap₂, bytes_eq}
 use Rattle.sc_report_made.proofs.Common.{codes, decls_from, defines_main, export_at, export_holds, exports_from, false}
-use Rattle.sc_report_made.proofs.Common.{first, function_at, function_name, function_names, functions_of, head_holds}
-use Rattle.sc_report_made.proofs.Common.{head_of, heads_in, imports_from, interface_broken, is_main, is_new, later}
+use Rattle.sc_report_made.proofs.Common.{first, function_at, function_name, function_names, worker_functions}
+use Rattle.sc_report_made.proofs.Common.{head_holds}
+use Rattle.sc_report_made.proofs.Common.{head_of, heads_in, imports_from, interface_broken, is_main_head, is_new, later}
 use Rattle.sc_report_made.proofs.Common.{line_of_text, list_any, main_holds, map, map-append, not, numbers_from}
 use Rattle.sc_report_made.proofs.Common.{or_left, refl, suc, sym, table_at, true, unless, worker_name, workers, ℕ, ◌&&◌}
 use Rattle.sc_report_made.proofs.Common.{◌++◌, ◌||◌, ◌∙◌, ◌∷◌, ◌≡◌, ◌≤◌}
-use Rattle.sc_types_interfaces.specs.Prelude.{lines_from, section_lines}
+use Rattle.sc_types_interfaces.specs.Prelude.{interface_lines_from, section_interface_lines}
 use Rattle.sc_ast.specs.declared.section.Decl.TheVariants as decl
 use Rattle.sc_report_made.proofs.Declared.{after_functions, functions_functions, functions_heads, functions_named}
 use Rattle.sc_report_made.proofs.Naming as naming
@@ -29,7 +30,7 @@ snoc seed _ _ j lines (and_function k others js trees h) =
 module _ (sections : List SectionTree) (number size seed worker : ℕ) (section : SectionTree)
     (w : IsWorker size seed worker section) (mains : Bool) where
   abbrev own : List ℕ
-  own = functions_of size worker
+  own = worker_functions size worker
 
   defined : function_names section.decls ≡ naming.function_names own
   defined =
@@ -63,7 +64,7 @@ module _ (sections : List SectionTree) (number size seed worker : ℕ) (section 
       and_from (head_holds sections number section (decl.Global (table_at line) ∷ map decl.Function prefix) head) _
       (and_from (agrees_with (heads_in (map decl.Function prefix)) head) _
       (ap (λ hs. agrees_with hs head) (functions_heads prefix) ∙ functions_agree seed done prefix h head takes) refl)
-      (or_left (not (bytes_eq (function_name j) (codes "main"))) (not mains && is_main head) (ap not (not_main j)))
+      (or_left (not (bytes_eq (function_name j) (codes "main"))) (not mains && is_main_head head) (ap not (not_main j)))
 
   functions_hold : (line : ℕ) (done : List ℕ) (prefix : List FunctionTree) → AreFunctions seed done prefix →
       (ks : List ℕ) (trees : List FunctionTree) → AreFunctions seed ks trees →
@@ -82,7 +83,7 @@ module _ (sections : List SectionTree) (number size seed worker : ℕ) (section 
   worker_interfaces : size ≤ 1000 → (before : List SectionTree) (done : List ℕ) →
       map {A = SectionTree} (λ other. other.name) before ≡ codes "Main" ∷ worker_names done →
       is_new (worker_names done) (worker_name worker) ≡ true →
-      section_lines sections number section mains before ≡ []
+      section_interface_lines sections number section mains before ≡ []
   worker_interfaces few before done names new =
       let name : section.name ≡ worker_name worker = ap (λ s. s.name) w.is in
       let exports : exports_from sections number section [] section.exports ≡ [] =
@@ -108,11 +109,11 @@ names_of trees = map {A = SectionTree} (λ other. other.name) trees
 module _ (size seed : ℕ) (few : size ≤ 1000) (sections : List SectionTree) where
   workers_hold : (number low : ℕ) (before : List SectionTree) (done is : List ℕ) (rest : List SectionTree) →
       AreWorkers size seed is rest → names_of before ≡ codes "Main" ∷ worker_names done → Below low 31 done →
-      Rise low 31 is → lines_from sections number before rest ≡ []
+      Rise low 31 is → interface_lines_from sections number before rest ≡ []
   workers_hold number low before done _ _ no_workers names less rise = refl
   workers_hold number low before done _ _ (and_worker i section is rest w h) names less rise =
       let lower : Below i 31 done = below_more low i 31 done rise.0 less in
-      let none : section_lines sections number section (list_any defines_main before) before ≡ [] =
+      let none : section_interface_lines sections number section (list_any defines_main before) before ≡ [] =
       worker_interfaces sections number size seed i section w (list_any defines_main before) few before done names
       (worker_new i rise.1 done lower) in
       let name : section.name ≡ worker_name i = ap (λ s. s.name) w.is in
@@ -121,7 +122,7 @@ module _ (size seed : ℕ) (few : size ≤ 1000) (sections : List SectionTree) w
       ap₂ (λ x y. x ++ y ∷ []) names name ∙
       ap (λ x. codes "Main" ∷ x) (sym (map-append worker_name done (i ∷ []))) in
       ap (λ x. map (line_of_text section.line) x ++
-      lines_from sections (suc number) (before ++ section ∷ []) rest) none ∙
+      interface_lines_from sections (suc number) (before ++ section ∷ []) rest) none ∙
       workers_hold (suc number) (suc i) (before ++ section ∷ []) (done ++ i ∷ []) is rest h next
       (below_next i 31 done rise.1 lower) rise.2
 
@@ -135,10 +136,10 @@ pub interfaces_hold : (size seed : ℕ) → IsAsked size seed → (sections : Li
 interfaces_hold size seed asked sections made =
     let main : SectionTree = made.main in
     let all : List SectionTree = main ∷ made.others in
-    let first_lines : section_lines all 0 main false [] ≡ [] =
+    let first_lines : section_interface_lines all 0 main false [] ≡ [] =
     main_interfaces size seed asked main made.main_is made.others made.others_are in
     let name : main.name ≡ codes "Main" = ap (λ s. s.name) made.main_is.is in
-    let others : lines_from all 1 (main ∷ []) made.others ≡ [] =
+    let others : interface_lines_from all 1 (main ∷ []) made.others ≡ [] =
     workers_hold size seed asked.few all 1 0 (main ∷ []) [] (numbers_from 0 (workers size)) made.others made.others_are
     (ap (λ x. x ∷ []) name) tt (workers_rise size) in
     let defined : (defines_main main || list_any defines_main made.others) ≡ true =

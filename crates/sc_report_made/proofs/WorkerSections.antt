@@ -1,10 +1,12 @@
 -- What names stand for in a worker, and that it breaks no rule of types.
 use Rattle.sc_report_made.proofs.Common.{Callees, FunctionLines, FunctionTree, GlobalTree, HeadTree, List, SectionTree}
-use Rattle.sc_report_made.proofs.Common.{Some, StructTree, [], ap, ap₂, codes, concat, decl_lines, function_at}
-use Rattle.sc_report_made.proofs.Common.{functions_in, functions_of, global_variable, globals_in, head_of, heads_in}
-use Rattle.sc_report_made.proofs.Common.{map, refl, scope_in, section_lines, stmt_lines, struct_names, structs}
+use Rattle.sc_report_made.proofs.Common.{Some, StructTree, [], ap, ap₂, codes, concat, decl_type_lines, function_at}
+use Rattle.sc_report_made.proofs.Common.{function_decls, worker_functions, global_variable, globals_in, head_of}
+use Rattle.sc_report_made.proofs.Common.{heads_in}
+use Rattle.sc_report_made.proofs.Common.{map, refl, scope_in, section_type_lines, stmt_type_lines, struct_names}
+use Rattle.sc_report_made.proofs.Common.{structs}
 use Rattle.sc_report_made.proofs.Common.{structs_in, table_at, type_of, visible_of, ℕ, ◌++◌, ◌∙◌, ◌∷◌, ◌≡◌}
-use Rattle.sc_types_elab.specs.Prelude.{function_lines}
+use Rattle.sc_types_elab.specs.Prelude.{function_type_lines}
 use Rattle.sc_ast.specs.declared.section.Decl.TheVariants as decl
 use Rattle.sc_core.specs.declared.ty.Ty.TheVariants as ty
 unfoldable use Rattle.sc_types_elab.specs.Prelude.{typed_structs}
@@ -27,8 +29,8 @@ module _ (size seed i : ℕ) (section : SectionTree) (worker : IsWorker size see
       ap (λ s. globals_in s.decls) worker.is ∙
       ap (λ x. table_at worker.table_line ∷ x) (functions_globals worker.functions)
 
-  pub functions_are : functions_in section.decls ≡ worker.functions
-  functions_are = ap (λ s. functions_in s.decls) worker.is ∙ functions_functions worker.functions
+  pub functions_are : function_decls section.decls ≡ worker.functions
+  functions_are = ap (λ s. function_decls s.decls) worker.is ∙ functions_functions worker.functions
 
   pub heads_are : heads_in section.decls ≡ heads_of worker.functions
   heads_are = ap (λ s. heads_in s.decls) worker.is ∙ functions_heads worker.functions
@@ -57,20 +59,20 @@ module _ (size seed i : ℕ) (section : SectionTree) (worker : IsWorker size see
       locals = ty.Int ∷ ty.Int ∷ [];
     }
 
-    function_none : (callees : Callees) → function_lines section callees tree ≡ []
+    function_none : (callees : Callees) → function_type_lines section callees tree ≡ []
     function_none callees =
-        (λ i. concat (map (stmt_lines (visible_is i) callees (scope_is i) (Some ty.Int)) tree.body)) ∙
+        (λ i. concat (map (stmt_type_lines (visible_is i) callees (scope_is i) (Some ty.Int)) tree.body)) ∙
         body_none callees seed j lines
 
   module _ (callees : Callees) where
     functions_none : (js : List ℕ) (trees : List FunctionTree) → AreFunctions seed js trees →
-        concat (map (decl_lines section callees) (map decl.Function trees)) ≡ []
+        concat (map (decl_type_lines section callees) (map decl.Function trees)) ≡ []
     functions_none js trees no_functions = refl
     functions_none js trees (and_function j lines others more rest) =
         ap₂ (λ x y. x ++ y) (function_none j lines callees) (functions_none others more rest)
 
     -- a worker breaks no rule of types, whatever is called
-    pub worker_typed : section_lines section callees ≡ []
+    pub worker_typed : section_type_lines section callees ≡ []
     worker_typed =
-        ap (λ s. concat (map (decl_lines section callees) s.decls)) worker.is ∙
-        functions_none (functions_of size i) worker.functions worker.functions_are
+        ap (λ s. concat (map (decl_type_lines section callees) s.decls)) worker.is ∙
+        functions_none (worker_functions size i) worker.functions worker.functions_are

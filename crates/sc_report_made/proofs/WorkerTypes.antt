@@ -4,8 +4,8 @@ use Rattle.sc_report_made.proofs.Common.{Less, List, Local, Option, Param, Retur
 use Rattle.sc_report_made.proofs.Common.{StmtTree, TypedExpr, Variable, Visible, [], add_kind, addend, ap, ap₂}
 use Rattle.sc_report_made.proofs.Common.{assign_fits, assign_holds, below, codes, concat, cond_holds, element}
 use Rattle.sc_report_made.proofs.Common.{goes_into, going_to, is_scalar, judged, literal, loop_kind, map, next_at}
-use Rattle.sc_report_made.proofs.Common.{part_lines, place_judged, refl, return_kind, return_value_holds, rules}
-use Rattle.sc_report_made.proofs.Common.{set_kind, start_at, stmt_at, stmt_lines, store_kind, true, typed, unless}
+use Rattle.sc_report_made.proofs.Common.{part_type_lines, place_judged, refl, return_kind, return_value_holds, rules}
+use Rattle.sc_report_made.proofs.Common.{set_kind, start_at, stmt_at, stmt_type_lines, store_kind, true, typed, unless}
 use Rattle.sc_report_made.proofs.Common.{value_judged, ℕ, ◌++◌, ◌∙◌, ◌∷◌, ◌≡◌}
 use Rattle.sc_base.specs.declared.op.BinaryOp.{BinaryOp}
 use Rattle.sc_ast.specs.declared.expr.ExprTree as exprs
@@ -105,7 +105,7 @@ below_judged = search (rules, typed_exprs.the_lemmas, typed_kinds.the_lemmas)
 module _ (callees : Callees) where
   -- the lines of a statement that break a rule
   abbrev pub lines : StmtTree → List ℕ
-  lines = stmt_lines worker_visible callees worker_scope (Some ty.Int)
+  lines = stmt_type_lines worker_visible callees worker_scope (Some ty.Int)
 
   assign_at : (line : ℕ) (place value : ExprTree) → lines (stmt_at line (Assign place value)) ≡
       unless (assign_holds worker_visible callees worker_scope (Some ty.Int) place value) line
@@ -113,9 +113,9 @@ module _ (callees : Callees) where
 
   for_at : (line : ℕ) (first : Option SimpleTree) (cond : ExprTree) (next : Option SimpleTree)
       (a b : StmtTree) → lines (stmt_at line (For first cond next (a ∷ b ∷ []))) ≡
-      part_lines worker_visible callees worker_scope (Some ty.Int) first ++
+      part_type_lines worker_visible callees worker_scope (Some ty.Int) first ++
       (unless (cond_holds worker_visible callees worker_scope (Some ty.Int) cond) line ++
-      (part_lines worker_visible callees worker_scope (Some ty.Int) next ++ (lines a ++ (lines b ++ []))))
+      (part_type_lines worker_visible callees worker_scope (Some ty.Int) next ++ (lines a ++ (lines b ++ []))))
   for_at line first cond next a b = search (rules, exprs.the_lemmas, kinds.the_lemmas, stmts.the_lemmas)
 
   return_at : (line : ℕ) (value : ExprTree) → lines (stmt_at line (ReturnValue value)) ≡

@@ -38,8 +38,8 @@ abbrev pub workers : (size : ℕ) → ℕ
 workers size = min size 31
 
 -- the functions of worker i
-abbrev pub functions_of : (size i : ℕ) → List ℕ
-functions_of size i = filter (λ j. nat_eq (j % workers size) i) (all_functions size)
+abbrev pub worker_functions : (size i : ℕ) → List ℕ
+worker_functions size i = filter (λ j. nat_eq (j % workers size) i) (all_functions size)
 
 abbrev pub function_name : (j : ℕ) → List ℕ
 function_name j = codes "f" ++ decimal j
@@ -49,42 +49,42 @@ worker_name i = codes "W" ++ decimal i
 
 -- The section of `Main`.
 
-abbrev pub import_text : (size j : ℕ) → List ℕ
-import_text size j =
+abbrev pub made_import : (size j : ℕ) → List ℕ
+made_import size j =
     codes "#pragma import " ++ (worker_name (j % workers size) ++ (codes " " ++ (function_name j ++ codes "\n")))
 
-abbrev pub proto_text : (j : ℕ) → List ℕ
-proto_text j = codes "int " ++ (function_name j ++ codes "(int x);\n")
+abbrev pub made_proto : (j : ℕ) → List ℕ
+made_proto j = codes "int " ++ (function_name j ++ codes "(int x);\n")
 
 -- what a function gives is written
-abbrev pub call_text : (seed j : ℕ) → List ℕ
-call_text seed j =
+abbrev pub made_call : (seed j : ℕ) → List ℕ
+made_call seed j =
     codes "  r = " ++ (function_name j ++ (codes "(" ++ (decimal (argument seed j) ++ codes ");\n  output(r);\n")))
 
-abbrev pub main_text : (size seed : ℕ) → List ℕ
-main_text size seed =
-    codes "#pragma compartment Main\n" ++ (flat_map (import_text size) (all_functions size) ++
-    (codes "#pragma import Env output\n" ++ (flat_map proto_text (all_functions size) ++
-    (codes "void output(int v);\nint main(void) {\n  int r;\n" ++ (flat_map (call_text seed) (all_functions size) ++
+abbrev pub made_main : (size seed : ℕ) → List ℕ
+made_main size seed =
+    codes "#pragma compartment Main\n" ++ (flat_map (made_import size) (all_functions size) ++
+    (codes "#pragma import Env output\n" ++ (flat_map made_proto (all_functions size) ++
+    (codes "void output(int v);\nint main(void) {\n  int r;\n" ++ (flat_map (made_call seed) (all_functions size) ++
     codes "  return 0;\n}\n")))))
 
 -- The sections of the workers.
 
-abbrev pub export_text : (j : ℕ) → List ℕ
-export_text j = codes "#pragma export " ++ (function_name j ++ codes "\n")
+abbrev pub made_export : (j : ℕ) → List ℕ
+made_export j = codes "#pragma export " ++ (function_name j ++ codes "\n")
 
 -- a loop of 64 rounds over an array of 16 elements
-abbrev pub function_text : (seed j : ℕ) → List ℕ
-function_text seed j =
+abbrev pub made_function : (seed j : ℕ) → List ℕ
+made_function seed j =
     codes "int " ++ (function_name j ++ (codes "(int x) {\n  int i;\n  int s;\n  s = " ++ (decimal (addend seed j) ++
     codes ";\n  for (i = 0; i < 64; i++) {\n    t[i & 15] = x + i;\n    s = s + t[i & 15];\n  }\n  return s;\n}\n")))
 
 abbrev pub worker_text : (size seed i : ℕ) → List ℕ
 worker_text size seed i =
     codes "#pragma compartment " ++ (worker_name i ++ (codes "\n" ++
-    (flat_map export_text (functions_of size i) ++ (codes "int t[16];\n" ++
-    flat_map (function_text seed) (functions_of size i)))))
+    (flat_map made_export (worker_functions size i) ++ (codes "int t[16];\n" ++
+    flat_map (made_function seed) (worker_functions size i)))))
 
 -- the whole text
 abbrev pub made_text : (size seed : ℕ) → List ℕ
-made_text size seed = main_text size seed ++ flat_map (worker_text size seed) (numbers_from 0 (workers size))
+made_text size seed = made_main size seed ++ flat_map (worker_text size seed) (numbers_from 0 (workers size))

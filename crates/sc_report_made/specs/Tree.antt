@@ -21,7 +21,7 @@ use Rattle.sc_ast.specs.declared.section.ImportLine.{ImportLine}
 use Rattle.sc_ast.specs.declared.section.InitTree.TheVariants.{Absent}
 use Rattle.sc_ast.specs.declared.section.LocalTree.{LocalTree}
 use Rattle.sc_ast.specs.declared.section.SectionTree.{SectionTree}
-use Rattle.sc_report_made.specs.Text.{addend, all_functions, argument, function_name, functions_of, numbers_from}
+use Rattle.sc_report_made.specs.Text.{addend, all_functions, argument, function_name, worker_functions, numbers_from}
 use Rattle.sc_report_made.specs.Text.{worker_name, workers}
 
 abbrev pub int_name : TypeName
@@ -204,10 +204,10 @@ abbrev pub worker_tree : (size seed i : ℕ) → SectionTree
 worker_tree size seed i = record {
   name = worker_name i;
   line = 0;
-  exports = map (λ j. export_at j 0) (functions_of size i);
+  exports = map (λ j. export_at j 0) (worker_functions size i);
   imports = [];
   decls = decl.Global (table_at 0) ∷
-      map (λ j. decl.Function (function_at seed j no_lines)) (functions_of size i);
+      map (λ j. decl.Function (function_at seed j no_lines)) (worker_functions size i);
 }
 
 abbrev pub made_trees : (size seed : ℕ) → List SectionTree

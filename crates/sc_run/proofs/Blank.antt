@@ -1,15 +1,15 @@
 -- Blocks whose ended variables hold no cells are loaded from and stored to as the others; expressions give the same.
-use Rattle.sc_run.proofs.Common.{BadPointer, BadType, Blocks, Bool, Cause, Cell, Dangling, Err, Here, List, Meant}
-use Rattle.sc_run.proofs.Common.{Memory, Ok, Option, OutOfBounds, Ptr, Result, Some, TypedExpr, TypedStruct, Value}
-use Rattle.sc_run.proofs.Common.{Ways, Word, [], ap, applied, applied_one, at_place, at_pointer, between, binary, bind}
-use Rattle.sc_run.proofs.Common.{blocks_for, c_arith, cell_of, cells_at, choose, cleared, ended, expr_at, false}
-use Rattle.sc_run.proofs.Common.{given_back, if◌then◌else◌, is_array, is_inside, is_live, is_pointer, is_true}
-use Rattle.sc_run.proofs.Common.{is_unsigned, is_unsigned_op, length, length-map, live_cells, load, loaded, map}
-use Rattle.sc_run.proofs.Common.{map-append, map-set, meant, meant_step, moved, moved_back, moved_on, nat_lt, not}
-use Rattle.sc_run.proofs.Common.{of_bool, on_words, place_at, pos, refl, replicate, same_place, slice_get, slice_set}
-use Rattle.sc_run.proofs.Common.{store, subst, suc, sym, target_cells, term_of, term_step, true, typed, values}
-use Rattle.sc_run.proofs.Common.{variable_at, wanted, ways, with_blocks, with_cell, zero, ℕ, ℤ, ◌&&◌, ◌++◌, ◌+ℤ◌, ◌==◌}
-use Rattle.sc_run.proofs.Common.{◌∙◌, ◌∷◌, ◌≡◌}
+use Rattle.sc_run.proofs.Common.{BadPointer, BadType, Block, Blocks, Bool, Cause, Cell, Dangling, Err, Here, List}
+use Rattle.sc_run.proofs.Common.{Meant, Memory, None, Ok, Option, OutOfBounds, Ptr, Result, Some, TypedExpr}
+use Rattle.sc_run.proofs.Common.{TypedStruct, Value, Ways, Word, [], ap, applied, applied_one, at_place, at_pointer}
+use Rattle.sc_run.proofs.Common.{between, binary, bind, blocks_for, c_arith, cell_of, cells_at, choose, cleared, ended}
+use Rattle.sc_run.proofs.Common.{expr_at, false, given_back, if◌then◌else◌, is_array, is_inside, is_live, is_pointer}
+use Rattle.sc_run.proofs.Common.{is_true, is_unsigned, is_unsigned_op, length, length-map, live_cells, living, load}
+use Rattle.sc_run.proofs.Common.{loaded, map, map-append, map-set, meant, meant_step, moved, moved_back, moved_on}
+use Rattle.sc_run.proofs.Common.{nat_lt, not, of_bool, on_words, place_at, pos, refl, replicate, same_place, slice_get}
+use Rattle.sc_run.proofs.Common.{slice_set, store, subst, suc, sym, target_cells, term_of, term_step, true, typed}
+use Rattle.sc_run.proofs.Common.{values, variable, variable_at, wanted, ways, with_blocks, with_cell, zero, ℕ, ℤ, ◌&&◌}
+use Rattle.sc_run.proofs.Common.{◌++◌, ◌+ℤ◌, ◌==◌, ◌∙◌, ◌∷◌, ◌≡◌}
 use Rattle.sc_core.specs.declared.value.Value.TheVariants.{Null}
 use Rattle.sc_core.specs.declared.value.Pointer.{Pointer}
 use Rattle.sc_base.specs.declared.op.BinaryOp.{BinaryOp}
@@ -30,25 +30,40 @@ pub by_ok : {A B : Type 0} (r : Result A Cause) (f g : A → Result B Cause) →
 by_ok (Err cause) f g h = refl
 by_ok (Ok x) f g h = h x
 
-given_live : (live : Bool) (cells : List Cell) → (given_back (record { live = live; cells = cells })).live ≡ live
-given_live true cells = refl
-given_live false cells = refl
+module _ (cells : List Cell) (place : Option ℕ) where
+  abbrev block_of : Bool → Block
+  block_of live = record { live = live; cells = cells; place = place }
 
-given_cells : (live : Bool) (cells : List Cell) → live_cells
-    (Some (given_back (record { live = live; cells = cells }))) ≡
-    live_cells (Some (record { live = live; cells = cells }))
-given_cells true cells = refl
-given_cells false cells = refl
+  given_live : (live : Bool) → (given_back (block_of live)).live ≡ live
+  given_live true = refl
+  given_live false = refl
+
+  given_cells : (live : Bool) → live_cells (Some (given_back (block_of live))) ≡ live_cells (Some (block_of live))
+  given_cells true = refl
+  given_cells false = refl
+
+  given_living : (live : Bool) → living (Some (given_back (block_of live))) ≡ living (Some (block_of live))
+  given_living true = refl
+  given_living false = refl
+
+  given_twice : (live : Bool) → given_back (given_back (block_of live)) ≡ given_back (block_of live)
+  given_twice true = refl
+  given_twice false = refl
 
 pub live_same : (bs : Blocks) (k : ℕ) → is_live (slice_get (blank bs) k) ≡ is_live (slice_get bs k)
 live_same [] k = refl
-live_same (b ∷ bs) zero = given_live b.live b.cells
+live_same (b ∷ bs) zero = given_live b.cells b.place b.live
 live_same (b ∷ bs) (suc k) = live_same bs k
 
 pub cells_same : (bs : Blocks) (k : ℕ) → cells_at (blank bs) k ≡ cells_at bs k
 cells_same [] k = refl
-cells_same (b ∷ bs) zero = given_cells b.live b.cells
+cells_same (b ∷ bs) zero = given_cells b.cells b.place b.live
 cells_same (b ∷ bs) (suc k) = cells_same bs k
+
+living_same : (bs : Blocks) (k : ℕ) → living (slice_get (blank bs) k) ≡ living (slice_get bs k)
+living_same [] k = refl
+living_same (b ∷ bs) zero = given_living b.cells b.place b.live
+living_same (b ∷ bs) (suc k) = living_same bs k
 
 pub length_same : (bs : Blocks) → length (blank bs) ≡ length bs
 length_same bs = length-map bs _
@@ -67,25 +82,25 @@ load_same bs pointer _ = refl
 abbrev pub blanked : Result Blocks Cause → Result Blocks Cause
 blanked r = bind r (λ bs. Ok (blank bs))
 
-with_same : (bs : Blocks) (p : Pointer) (v : Value) (cells : List Cell) (b : Bool) →
-    (if b then Ok (slice_set (blank bs) p.block (record {
-      live = true;
-      cells = slice_set cells p.index (cell_of v);
-    })) else Err OutOfBounds) ≡
-    blanked (if b then Ok (slice_set bs p.block (record {
-      live = true;
-      cells = slice_set cells p.index (cell_of v);
-    })) else Err OutOfBounds)
-with_same bs p v cells true = ap Ok (sym (map-set _ bs p.block _))
-with_same bs p v cells false = refl
+module _ (bs : Blocks) (p : Pointer) (v : Value) (place : Option ℕ) where
+  with_same : (cells : List Cell) (b : Bool) →
+      (if b then Ok (slice_set (blank bs) p.block (block_of cells place true)) else Err OutOfBounds) ≡
+      blanked (if b then Ok (slice_set bs p.block (block_of cells place true)) else Err OutOfBounds)
+  with_same cells true = ap Ok (sym (map-set _ bs p.block _))
+  with_same cells false = refl
 
-stored_same : (bs : Blocks) (p : Pointer) (v : Value) (c : Result (List Cell) Cause) →
-    bind c (with_cell (blank bs) p v) ≡ blanked (bind c (with_cell bs p v))
-stored_same bs p v (Err cause) = refl
-stored_same bs p v (Ok cells) = with_same bs p v cells _
+  one_same : (cells : List Cell) (live : Bool) → bind (living (Some (block_of cells place live)))
+      (with_cell (blank bs) p v) ≡ blanked (bind (living (Some (block_of cells place live))) (with_cell bs p v))
+  one_same cells true = with_same (slice_set cells p.index (cell_of v)) (nat_lt p.index (length cells))
+  one_same cells false = refl
+
+stored_same : (bs : Blocks) (p : Pointer) (v : Value) (o : Option Block) →
+    bind (living o) (with_cell (blank bs) p v) ≡ blanked (bind (living o) (with_cell bs p v))
+stored_same bs p v None = refl
+stored_same bs p v (Some b) = one_same bs p v b.place b.cells b.live
 
 pub store_same : (bs : Blocks) (q v : Value) → store (blank bs) q v ≡ blanked (store bs q v)
-store_same bs (Ptr p) v = ap (λ c. bind c (with_cell (blank bs) p v)) (cells_same bs p.block) ∙ stored_same bs p v _
+store_same bs (Ptr p) v = ap (λ c. bind c (with_cell (blank bs) p v)) (living_same bs p.block) ∙ stored_same bs p v _
 store_same bs _ v = refl
 
 pub blank_more : (bs cs : Blocks) → blank (bs ++ cs) ≡ blank bs ++ blank cs
@@ -93,19 +108,14 @@ blank_more bs cs = map-append _ bs cs
 
 pub blank_new : (sizes : List ℕ) (args : List Value) → blank (blocks_for sizes args) ≡ blocks_for sizes args
 blank_new [] args = refl
-blank_new (n ∷ sizes) [] = ap (λ bs. record { live = true; cells = replicate n cell.Undef } ∷ bs) (blank_new sizes [])
-blank_new (n ∷ sizes) (v ∷ args) = ap (λ bs. record { live = true; cells = cell_of v ∷ [] } ∷ bs) (blank_new sizes args)
-
-given_twice : (live : Bool) (cells : List Cell) → given_back (given_back (record { live = live; cells = cells })) ≡
-    given_back (record { live = live; cells = cells })
-given_twice true cells = refl
-given_twice false cells = refl
+blank_new (n ∷ sizes) [] = ap (λ bs. variable (replicate n cell.Undef) ∷ bs) (blank_new sizes [])
+blank_new (n ∷ sizes) (v ∷ args) = ap (λ bs. variable (cell_of v ∷ []) ∷ bs) (blank_new sizes args)
 
 -- what is left of blocks does not depend on the cells of those that had ended
 pub left_same : (first count : ℕ) (bs : Blocks) → cleared first count (blank bs) ≡ blank (ended first count bs)
-left_same zero zero (b ∷ bs) = λ i. given_twice b.live b.cells i ∷ left_same zero zero bs i
+left_same zero zero (b ∷ bs) = λ i. given_twice b.cells b.place b.live i ∷ left_same zero zero bs i
 left_same zero (suc count) (b ∷ bs) = ap (λ cs. ended_block ∷ cs) (left_same zero count bs)
-left_same (suc first) count (b ∷ bs) = λ i. given_twice b.live b.cells i ∷ left_same first count bs i
+left_same (suc first) count (b ∷ bs) = λ i. given_twice b.cells b.place b.live i ∷ left_same first count bs i
 left_same _ _ [] = refl
 
 with_if : (b : Bool) (bs cs : Blocks) → blank (if b then bs else cs) ≡ (if b then blank bs else blank cs)

@@ -5,7 +5,7 @@ use Rattle.sc_run.proofs.Common.{Seen, Some, SourceRun, Standing, State, Step, S
 use Rattle.sc_run.proofs.Common.{Value, Work, [], and_then, ap, arith, back_from, back_to, back_value, begun}
 use Rattle.sc_run.proofs.Common.{blocks_for, bodies, body_acts, c_arith, calls_in, cleared, closes, denotations, done}
 use Rattle.sc_run.proofs.Common.{emit_event, emitted_call, emitted_return, ended, ended_as, entry_from, found, function}
-use Rattle.sc_run.proofs.Common.{function_in, function_of, here_of, leave, left_by, length, map, refl, result_goes}
+use Rattle.sc_run.proofs.Common.{function_in, function_of, here_of, leave, left_by, length, map, pos, refl, result_goes}
 use Rattle.sc_run.proofs.Common.{resume, returned, reverse, run_in, seen_of, store_at, subst, suc, sym, then_then, turn}
 use Rattle.sc_run.proofs.Common.{variable_count, variables, way_in, with_blocks, with_variables, word_crossing, word_in}
 use Rattle.sc_run.proofs.Common.{zero, ℕ, ◌++◌, ◌∙◌, ◌∷◌, ◌≡◌, ◌≤◌}
@@ -34,7 +34,7 @@ module _ (program : ProgramTree) (caller : Frame) (callee : Callee) (args : List
         scope = record {
           structs = callee.structs;
           comp = callee.comp;
-          first = first;
+          first = pos first;
           params = length callee.function.now.params;
         };
         function = callee.function;
@@ -79,7 +79,7 @@ module _ (program : ProgramTree) (caller : Frame) (callee : Callee) (args : List
         scope = record {
           structs = b.structs i;
           comp = b.comp i;
-          first = (b.first ∙ first_seen t is_seen) i;
+          first = (b.first ∙ ap pos (first_seen t is_seen)) i;
           params = b.params i;
         };
         function = b.function i;
@@ -194,7 +194,7 @@ module _ (program : ProgramTree) (f : Frame) (exit : Exit) where
   leaving s = leave exit tt s
 
   abbrev over : State → State
-  over s = done f.scope.comp.now (function_in program f) f.scope.first s
+  over s = done f.scope.comp.now (function_in program f) (here_of f.scope).first s
 
   returned_ok : (v : Option Value) (back : Option Value → State → Piece (Option Value)) (s : State) →
       ClosedBy program f exit (Ok v) → returned program f back (leaving s) ≡ back v (over s)
@@ -205,9 +205,11 @@ module _ (program : ProgramTree) (f : Frame) (exit : Exit) where
   returned_err back {s} is = ap (λ p. and_then p (λ v t. back v (over t))) (is s)
 
   over_seen : (s : State) {before : Seen} → seen_of s ≡ before → seen_of (over s) ≡ left_by f before
-  over_seen s {before} is_seen = seen_with s _ (ended f.scope.first (variable_count f) (s.memory _)) is_seen ∙ ap
+  over_seen s {before} is_seen =
+      let first = (here_of f.scope).first in
+      seen_with s _ (ended first (variable_count f) (s.memory _)) is_seen ∙ ap
       (λ bs. with_memory before (with_blocks f.scope.comp.now bs before.memory)) (sym
-      (left_same f.scope.first (variable_count f) (s.memory _)) ∙ ap (λ bs. cleared f.scope.first (variable_count f) bs)
+      (left_same first (variable_count f) (s.memory _)) ∙ ap (λ bs. cleared first (variable_count f) bs)
       (blocks_seen s f.scope.comp.now is_seen))
 
   module _ (whole : SourceRun) (before : Seen) (work : List Work) (caller : Frame) (to : To) (crossing : Option ℕ) where

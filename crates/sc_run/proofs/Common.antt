@@ -15,21 +15,22 @@ pub use Rattle.sc_base.proofs.Lists.{drop-step, drop_next}
 pub use Rattle.sc_event.specs.declared.event.Event.TheVariants.{End, In, Out}
 pub use Rattle.sc_event.specs.declared.row.Entry.TheVariants.{Export, Main}
 pub use Rattle.sc_core.proofs.Layers.{expr_at, layer_of, stmt_at, term_of, typed}
-pub use Rattle.sc_core.specs.Prelude.{Acts, Blocks, Break, Calls, Exit, Function, Here, IsStop, Left, Meant, Memory}
-pub use Rattle.sc_core.specs.Prelude.{Next, Piece, Reached, Return, Route, State, Stopped, Ways, all_do, and_then}
-pub use Rattle.sc_core.specs.Prelude.{applied, applied_one, assign, at_place, at_pointer, back_cross, back_own, begun}
-pub use Rattle.sc_core.specs.Prelude.{between, binary, bind, block_does, blocks_for, c_arith, call, call_own, called}
-pub use Rattle.sc_core.specs.Prelude.{cell_of, cells_at, cells_of, choose, computed, crossed, done, emit_event, ended}
-pub use Rattle.sc_core.specs.Prelude.{entry_in, evaluated, exit_word, first_blocks, first_state, first_word, follow}
-pub use Rattle.sc_core.specs.Prelude.{found, function, function_of, functions_in, global_block, globals_of, in_loop}
-pub use Rattle.sc_core.specs.Prelude.{in_order, init_does, inits_do, is_array, is_inside, is_live, is_pointer, is_true}
-pub use Rattle.sc_core.specs.Prelude.{is_unsigned, is_unsigned_op, is_word, kind_step, leads, leave, live_cells, load}
-pub use Rattle.sc_core.specs.Prelude.{loaded, loop, may_call, meaning, meant, meant_step, member_zeros, moved}
-pub use Rattle.sc_core.specs.Prelude.{moved_back, moved_on, next_input, of_bool, on_words, part_does, place_at}
-pub use Rattle.sc_core.specs.Prelude.{read_input, repeated, run_in, run_of, run_step, run_to, same_place, stmt_step}
-pub use Rattle.sc_core.specs.Prelude.{stopped_at, store, store_at, store_result, stored, struct_zeros, target_cells}
-pub use Rattle.sc_core.specs.Prelude.{term_step, test, turn, turn_of, values, variable_at, variables, wanted, ways}
-pub use Rattle.sc_core.specs.Prelude.{with_blocks, with_cell, with_words, within, word_in, zeros_of}
+pub use Rattle.sc_core.specs.Prelude.{Acts, Block, Blocks, Break, Calls, Exit, Function, Here, IsStop, Left, Meant}
+pub use Rattle.sc_core.specs.Prelude.{Memory, Next, Piece, Reached, Return, Route, State, Stopped, Ways, all_do}
+pub use Rattle.sc_core.specs.Prelude.{and_then, applied, applied_one, assign, at_place, at_pointer, back_cross}
+pub use Rattle.sc_core.specs.Prelude.{back_own, begun, between, binary, bind, block_does, blocks_for, c_arith, call}
+pub use Rattle.sc_core.specs.Prelude.{call_own, called, cell_of, cells_at, cells_of, choose, computed, crossed, done}
+pub use Rattle.sc_core.specs.Prelude.{emit_event, ended, entry_in, evaluated, exit_word, first_blocks, first_state}
+pub use Rattle.sc_core.specs.Prelude.{first_word, follow, found, function, function_of, functions_in, global_block}
+pub use Rattle.sc_core.specs.Prelude.{globals_of, in_loop, in_order, init_does, inits_do, is_array, is_inside, is_live}
+pub use Rattle.sc_core.specs.Prelude.{is_pointer, is_true, is_unsigned, is_unsigned_op, is_word, kind_step, leads}
+pub use Rattle.sc_core.specs.Prelude.{leave, live_cells, living, load, loaded, loop, may_call, meaning, meant}
+pub use Rattle.sc_core.specs.Prelude.{meant_step, member_zeros, moved, moved_back, moved_on, next_input, of_bool}
+pub use Rattle.sc_core.specs.Prelude.{on_words, part_does, place_at, read_input, repeated, run_in, run_of, run_step}
+pub use Rattle.sc_core.specs.Prelude.{run_to, same_place, stmt_step, stopped_at, store, store_at, store_result, stored}
+pub use Rattle.sc_core.specs.Prelude.{struct_zeros, target_cells, term_step, test, turn, turn_of, values, variable}
+pub use Rattle.sc_core.specs.Prelude.{variable_at, variables, wanted, ways, with_blocks, with_cell, with_words, within}
+pub use Rattle.sc_core.specs.Prelude.{word_in, zeros_of}
 pub use Rattle.sc_core.specs.declared.cause.Cause.{Cause}
 pub use Rattle.sc_core.specs.declared.cause.Cause.TheVariants.{BadPointer, BadType, Dangling, OutOfBounds}
 pub use Rattle.sc_core.specs.declared.expr.CallTarget.TheVariants.{Cross, Input, Output, Own}

@@ -6,11 +6,11 @@ use Rattle.sc_run.proofs.Common.{Some, SourceRun, Standing, Stands, State, Step,
 use Rattle.sc_run.proofs.Common.{TypedSection, Value, Work, [], and_then, ap, arith, back_goes, back_own, back_to}
 use Rattle.sc_run.proofs.Common.{begun, bodies, body_acts, c_arith, call_own, denotations, does_now, done, done_goes}
 use Rattle.sc_run.proofs.Common.{earlier, entry_in, exit_word, first_blocks, first_state, follow_goes, found, function}
-use Rattle.sc_run.proofs.Common.{function_in, function_of, global_block, globals_of, if◌then◌else◌, in_loop, in_order}
-use Rattle.sc_run.proofs.Common.{le-leb, length, length-append, lt-ltb, map, meaning, next_acts, prefix_more, refl}
-use Rattle.sc_run.proofs.Common.{resume, returned, reverse, run_in, run_of, run_step, run_to, seen_of, slice_get, stays}
-use Rattle.sc_run.proofs.Common.{stopped_at, subst, suc, sym, take, take-append-le, then_goes, within, ℕ, ◌<◌, ◌∙◌, ◌∷◌}
-use Rattle.sc_run.proofs.Common.{◌≡◌, ◌≤◌}
+use Rattle.sc_run.proofs.Common.{function_in, function_of, global_block, globals_of, here_of, if◌then◌else◌, in_loop}
+use Rattle.sc_run.proofs.Common.{in_order, le-leb, length, length-append, lt-ltb, map, meaning, next_acts, prefix_more}
+use Rattle.sc_run.proofs.Common.{refl, resume, returned, reverse, run_in, run_of, run_step, run_to, seen_of, slice_get}
+use Rattle.sc_run.proofs.Common.{stays, stopped_at, subst, suc, sym, take, take-append-le, then_goes, within, ℕ, ◌<◌}
+use Rattle.sc_run.proofs.Common.{◌∙◌, ◌∷◌, ◌≡◌, ◌≤◌}
 use Rattle.sc_base.specs.Prelude.{IsPrefix}
 use Rattle.sc_run.proofs.Going.{block_goes, next_goes, loop_goes, closes_goes, result_goes_on}
 use Rattle.sc_run.proofs.Blank.{blank}
@@ -36,7 +36,7 @@ module _ (program : ProgramTree) (s : State) where
       ((v : Option Value) → Goes (back v)) → (p : Piece (Left (Unit {0}))) → Gone s p →
       Gone s (returned program f back p)
   returned_goes f back b p h = then_goes s (and_then p _) _ (then_goes s p _ h (closes_goes program 0 f)) (λ v t.
-      let end = done f.scope.comp.now (function_in program f) f.scope.first t in
+      let end = done f.scope.comp.now (function_in program f) (here_of f.scope).first t in
       earlier t end _ (done_goes _ (function_in program f) _ t) (b v end))
 
   run_goes : (p : Piece (Option Value)) → Gone s p → Onward s.trace (run_to program.interfaces.main p).behaviour

@@ -6,8 +6,8 @@ pub use Rattle.sc_core.specs.Prelude.{Memory, Next, Piece, Reached, Return, Run,
 pub use Rattle.sc_core.specs.Prelude.{back_cross, back_own, block_does, blocks_for, body_does, c_arith, calls, cell_of}
 pub use Rattle.sc_core.specs.Prelude.{closed, crossing, denotations_of, done, emit_event, entry_in, follow, function}
 pub use Rattle.sc_core.specs.Prelude.{function_of, in_loop, in_order, leave, loop, main_name, option_value, part_does}
-pub use Rattle.sc_core.specs.Prelude.{run_step, run_to, stmt_does, stopped_at, store_result, test, variables, ways}
-pub use Rattle.sc_core.specs.Prelude.{with_blocks, within, word_in}
+pub use Rattle.sc_core.specs.Prelude.{run_step, run_to, stmt_does, stopped_at, store_result, test, variable, variables}
+pub use Rattle.sc_core.specs.Prelude.{ways, with_blocks, within, word_in}
 pub use Rattle.sc_core.specs.declared.program.ProgramTree.{ProgramTree}
 pub use Rattle.sc_core.specs.declared.run.RunEnd.{RunEnd}
 pub use Rattle.sc_core.specs.declared.stmt.TypedStmt.{TypedStmt}

@@ -1,15 +1,15 @@
 -- Helping: how a call begins, as it is seen.
 use Rattle.sc_run.specs.Common.{Acts, Block, Call, Callee, Frame, Memory, Piece, ProgramTree, State, Undef, Value}
 use Rattle.sc_run.specs.Common.{back_cross, back_own, blocks_for, body_does, c_arith, cell_of, emit_event, here_of}
-use Rattle.sc_run.specs.Common.{variables, with_blocks, word_in}
-use Rattle.std.specs.Prelude.{◌≡◌, ℕ, ◌<◌, ◌^◌, ◌++◌, true, List, [], ◌∷◌, length, map, replicate, Option, None, Some}
+use Rattle.sc_run.specs.Common.{variable, variables, with_blocks, word_in}
+use Rattle.std.specs.Prelude.{◌≡◌, ℕ, ◌<◌, ◌^◌, ◌++◌, List, [], ◌∷◌, length, map, pos, replicate, Option, None, Some}
 use Rattle.sc_run.specs.Seen.{Seen}
 use Rattle.sc_run.specs.Resume.{calls_in}
 
 -- the block of a variable of `count` cells: it holds its argument, or nothing yet
 abbrev pub block_for : ℕ → Option Value → Block
-block_for count None = record { live = true; cells = replicate count Undef }
-block_for count (Some v) = record { live = true; cells = cell_of v ∷ [] }
+block_for count None = variable (replicate count Undef)
+block_for count (Some v) = variable (cell_of v ∷ [])
 
 -- the blocks of the variables of a function, after those of its compartment
 abbrev pub with_variables : Callee → List Value → Memory → Memory
@@ -21,7 +21,7 @@ with_variables callee args memory =
 pub record Begun (callee : Callee) (args : List Value) (before after : Seen) (f : Frame) : Type 0 where
   pub structs : f.scope.structs ≡ callee.structs
   pub comp : f.scope.comp ≡ callee.comp
-  pub first : f.scope.first ≡ length (before.memory callee.comp.now)
+  pub first : f.scope.first ≡ pos (length (before.memory callee.comp.now))
   pub params : f.scope.params ≡ length callee.function.now.params
   pub function : f.function ≡ callee.function
   pub few : length f.function.now.locals < 2 ^ 32

@@ -75,7 +75,7 @@ module _ (program : ProgramTree) where
   abbrev pub returned : Frame → (Option Value → State → Piece (Option Value)) → Piece (Left (Unit {0})) →
       Piece (Option Value)
   returned f back p = and_then (and_then p (closes f))
-      (λ v t. back v (done f.scope.comp.now (function_in f) f.scope.first t))
+      (λ v t. back v (done f.scope.comp.now (function_in f) (here_of f.scope).first t))
 
   -- a return inside the compartment, or one from an export
   abbrev pub back_to : Frame → Frame → Option ℕ → Option Value → State → Piece (Option Value)

@@ -1,6 +1,6 @@
 -- Helping: how a call ends, as it is seen.
 use Rattle.sc_run.specs.Common.{Frame, Piece, ProgramTree, Reached, Ret, RunEnd, State, Stopped, Value, cleared}
-use Rattle.sc_run.specs.Common.{crossing, option_value, variables, with_blocks}
+use Rattle.sc_run.specs.Common.{crossing, here_of, option_value, variables, with_blocks}
 use Rattle.sc_event.specs.Prelude.{export_at}
 use Rattle.std.specs.Prelude.{ℕ, ◌++◌, [], ◌∷◌, length, Option, None, Some, Result, Ok, Err}
 use Rattle.sc_run.specs.Seen.{Seen}
@@ -18,7 +18,7 @@ variable_count f = length (variables f.scope.structs.now f.function.now)
 abbrev pub left_by : Frame → Seen → Seen
 left_by f seen =
     record seen {
-      memory = with_blocks f.scope.comp.now (cleared f.scope.first (variable_count f)
+      memory = with_blocks f.scope.comp.now (cleared (here_of f.scope).first (variable_count f)
           (seen.memory f.scope.comp.now)) seen.memory;
     }
 

@@ -67,7 +67,7 @@ pub fn begin<'a>(
 ) -> Result<Frame<'a>, OutOfMemory>
     ensures { IfOk result (λ frame. Begun callee.now args.now (kept_by machine.old) (kept_by machine.new) frame) }
 {
-    let first = match u32::try_from(machine.blocks.made(*callee.comp)) {
+    let first = match i64::try_from(machine.blocks.made(*callee.comp)) {
         Ok(first) => first,
         Err(_) => return Err(OutOfMemory),
     };

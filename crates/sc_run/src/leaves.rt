@@ -168,7 +168,7 @@ fn variable_count(frame: &Frame) -> u64
 fn end_variables(machine: &mut Machine, frame: &Frame)
     ensures { kept_by machine.new ≡ left_by frame.now (kept_by machine.old) }
 {
-    let first = frame.scope.first as u64;
+    let first = frame.scope.first_block();
     machine
         .blocks
         .end(*frame.scope.comp, first, variable_count(frame));

@@ -16,8 +16,8 @@ pub(crate) fn block_of(scope: &Scope, variable: VarRef) -> u64
 {
     match variable {
         VarRef::Global(number) => number as u64,
-        VarRef::Param(number) => scope.first as u64 + number as u64,
-        VarRef::Local(number) => scope.first as u64 + scope.params as u64 + number as u64,
+        VarRef::Param(number) => scope.first_block() + number as u64,
+        VarRef::Local(number) => scope.first_block() + scope.params as u64 + number as u64,
     }
 }
 

@@ -1,11 +1,13 @@
 -- Where the bytes of the parts stand, what a write or a copy makes of them, and accesses byte by byte.
-use Rattle.sc_store.proofs.Common.{All, AreApart, Bool, HasBytes, HoldsBytes, IsIn, IsSome, IsZero, List, Memory, None}
+use Rattle.sc_store.proofs.Common.{All, AreApart, Bool, HasBytes, HoldsBytes, IsIn, IsSome, IsZero, List, ByteMemory}
+use Rattle.sc_store.proofs.Common.{None}
 use Rattle.sc_store.proofs.Common.{Option, Region, Some, [], ap, arith, byte_of, bytes_of, cases_eq, cases_lt, cond}
 use Rattle.sc_store.proofs.Common.{drop, fails_before_first, false, get_or, get_or-append_right, get_or-drop}
 use Rattle.sc_store.proofs.Common.{get_or-set_same, get_or-take, get_or_append_left, is_some, length, length-append}
 use Rattle.sc_store.proofs.Common.{length-drop, length-set, length-take-le, lt-ltb, nat_le, nat_lt, nat_tests}
 use Rattle.sc_store.proofs.Common.{option_or, piece_of, position, position_or_len, put_mid, refl, region_of, regions_of}
-use Rattle.sc_store.proofs.Common.{same_Some, set, spans, stored, subst, suc, sym, take, take_at, true, written, zero}
+use Rattle.sc_store.proofs.Common.{same_Some, set, spans, with_bytes, subst, suc, sym, take, take_at, true, written}
+use Rattle.sc_store.proofs.Common.{zero}
 use Rattle.sc_store.proofs.Common.{zeros, ℕ, ⊎_elim, ◌&&◌, ◌++◌, ◌+◌, ◌-◌, ◌<◌, ◌↔◌, ◌∙◌, ◌∷◌, ◌≡◌, ◌≤◌}
 use Rattle.std.proofs.lemmas.List.Quantifiers.{position-Some}
 use Rattle.std.proofs.Math.Seq.{map-set_same}
@@ -88,17 +90,17 @@ first_spans a n ps i d some apart h sp =
     (spans_in a n a (get_or ps i d) sp (omega arith) (omega arith)))
 
 -- ---- a write
-pub written-in : (m : Memory) (a : ℕ) (bs : List ℕ) (b : ℕ) → a ≤ b → b < a + length bs →
+pub written-in : (m : ByteMemory) (a : ℕ) (bs : List ℕ) (b : ℕ) → a ≤ b → b < a + length bs →
     written m a bs b ≡ Some (get_or bs (b - a) 0)
 written-in m a bs b h k = let t : (nat_le a b && nat_lt b (a + length bs)) ≡ true = grind (arith, nat_tests) in
     rw t refl
 
-pub written-apart : (m : Memory) (a : ℕ) (bs : List ℕ) (b : ℕ) → (a ≤ b → b < a + length bs → ⊥) →
+pub written-apart : (m : ByteMemory) (a : ℕ) (bs : List ℕ) (b : ℕ) → (a ≤ b → b < a + length bs → ⊥) →
     written m a bs b ≡ m b
 written-apart m a bs b h = let t : (nat_le a b && nat_lt b (a + length bs)) ≡ false = grind (arith, nat_tests) in
     rw t refl
 
-written-same : (m m' : Memory) (a : ℕ) (bs : List ℕ) (b : ℕ) → m b ≡ m' b → written m a bs b ≡ written m' a bs b
+written-same : (m m' : ByteMemory) (a : ℕ) (bs : List ℕ) (b : ℕ) → m b ≡ m' b → written m a bs b ≡ written m' a bs b
 written-same m m' a bs b e = ap (λ o. cond (nat_le a b && nat_lt b (a + length bs)) (Some (get_or bs (b - a) 0)) o) e
 
 -- a part put in place of one with the same region changes nothing outside that
@@ -133,7 +135,8 @@ pub bytes_of-set : (ps : List Part) (i : ℕ) (p d : Part) (a : ℕ) (bs : List 
 bytes_of-set ps i p d a bs apart h e sp w = λ k b. write_at ps i p d a bs apart h e sp w b k
 
 -- bytes written where memory is leave bytes of memory
-pub written_holds : (m : Memory) (a : ℕ) (bs : List ℕ) → HasBytes m a (length bs) → ((k : ℕ) → get_or bs k 0 < 256) →
+pub written_holds : (m : ByteMemory) (a : ℕ) (bs : List ℕ) → HasBytes m a (length bs) → ((k : ℕ) → get_or bs k 0 < 256)
+    →
     HoldsBytes m → HoldsBytes (written m a bs)
 written_holds m a bs has fit holds = λ b x e. by_access a (length bs) b
     (λ out. holds b x (sym (written-apart m a bs b out) ∙ e)) (λ from below.
@@ -205,14 +208,14 @@ has_found ps a apart = (λ some. by_place ps apart some, λ some. found ps a som
         let inside = spans_in a 1 a (get_or (p ∷ ps) i.0 p) w.1 (omega arith) (omega arith) in
         ap is_some (bytes_of-at (p ∷ ps) i.0 p a apart w.0 inside ∙ piece_in (get_or (p ∷ ps) i.0 p) a inside)
 
-pub one_there : (m : Memory) (a : ℕ) → IsSome (m a) → HasBytes m a 1
+pub one_there : (m : ByteMemory) (a : ℕ) → IsSome (m a) → HasBytes m a 1
 one_there m a h = λ k l. subst (λ b. IsSome (m b)) (let e : a ≡ a + k = omega arith in e) h
 
 one_fits : (x : ℕ) → x < 256 → (k : ℕ) → get_or (x ∷ []) k 0 < 256
 one_fits x h zero = h
 one_fits x h (suc k) = omega arith
 
-pub byte_holds : (m : Memory) (a x : ℕ) → IsSome (m a) → x < 256 → HoldsBytes m → HoldsBytes (written m a (x ∷ []))
+pub byte_holds : (m : ByteMemory) (a x : ℕ) → IsSome (m a) → x < 256 → HoldsBytes m → HoldsBytes (written m a (x ∷ []))
 byte_holds m a x some h holds = written_holds m a (x ∷ []) (one_there m a some) (one_fits x h) holds
 
 -- What a copy into the bytes of a part makes of its memory.
@@ -250,7 +253,7 @@ copied : (s a : ℕ) (xs bs : List ℕ) → s ≤ a → a + length bs ≤ s + le
 copied s a xs bs low high b =
     let n : length (put_mid _ _ xs bs) ≡ length xs = length-put_mid (a - s) _ xs bs (omega arith) refl in
     let new = put_mid (a - s) (length bs) xs bs in
-    let off : Memory = λ _. None in
+    let off : ByteMemory = λ _. None in
     let kept : (a ≤ b → b < a + length bs → ⊥) → written (written off s xs) a bs b ≡ written off s xs b =
     written-apart (written off s xs) a bs b in
     by_access s (length xs) b (λ out. written-apart off s new b (λ l u. out l (omega arith)) ∙
@@ -279,13 +282,13 @@ copied_piece s a len k xs held ys bs n same e count low high = ap
 -- Accesses byte by byte, and the numbers that their bytes make.
 
 -- ---- one byte after another
-nothing_at : (m : Memory) (a b : ℕ) → written m a [] b ≡ m b
+nothing_at : (m : ByteMemory) (a b : ℕ) → written m a [] b ≡ m b
 nothing_at m a b = written-apart m a [] b (λ l u. omega arith)
 
-pub written_nothing : (m : Memory) (a : ℕ) → written m a [] ≡ m
+pub written_nothing : (m : ByteMemory) (a : ℕ) → written m a [] ≡ m
 written_nothing m a = λ k b. nothing_at m a b k
 
-more_at : (m : Memory) (a : ℕ) (bs : List ℕ) (k : ℕ) → k < length bs → (b : ℕ) →
+more_at : (m : ByteMemory) (a : ℕ) (bs : List ℕ) (k : ℕ) → k < length bs → (b : ℕ) →
     written (written m a (take k bs)) (a + k) (get_or bs k 0 ∷ []) b ≡ written m a (take (k + 1) bs) b
 more_at m a bs k h b =
     let prefix : length (take k bs) ≡ k = length-take-le k bs (omega arith) in
@@ -305,26 +308,26 @@ more_at m a bs k h b =
     ∙ written-apart m a (take k bs) b (λ l u. omega arith)
     ∙ sym (written-apart m a (take (k + 1) bs) b (λ l u. omega arith))) (cases_eq b (a + k))) (cases_lt b (a + k))
 
-pub written_more : (m : Memory) (a : ℕ) (bs : List ℕ) (k : ℕ) → k < length bs →
+pub written_more : (m : ByteMemory) (a : ℕ) (bs : List ℕ) (k : ℕ) → k < length bs →
     written (written m a (take k bs)) (a + k) (get_or bs k 0 ∷ []) ≡ written m a (take (k + 1) bs)
 written_more m a bs k h = λ i b. more_at m a bs k h b i
 
 -- the next byte's address is as it was
-pub next_there : (m m' : Memory) (a : ℕ) (bs : List ℕ) (k : ℕ) → m' ≡ written m a (take k bs) → k < length bs →
+pub next_there : (m m' : ByteMemory) (a : ℕ) (bs : List ℕ) (k : ℕ) → m' ≡ written m a (take k bs) → k < length bs →
     HasBytes m a (length bs) → IsSome (m' (a + k))
 next_there m m' a bs k e h has =
     let prefix = length-take-le k bs (omega arith) in
     subst (λ o. IsSome o) (sym (ap (λ f. f (a + k)) e ∙ written-apart m a (take k bs) (a + k) (λ l u. omega arith)))
     (has k h)
 
-stored_at : (m : Memory) (a : ℕ) (bs : List ℕ) (v : ℕ) → ((k : ℕ) → k < length bs → get_or bs k 0 ≡ byte_of v k) →
-    (b : ℕ) → written m a bs b ≡ stored m a (length bs) v b
+stored_at : (m : ByteMemory) (a : ℕ) (bs : List ℕ) (v : ℕ) → ((k : ℕ) → k < length bs → get_or bs k 0 ≡ byte_of v k) →
+    (b : ℕ) → written m a bs b ≡ with_bytes m a (length bs) v b
 stored_at m a bs v h b = by_access a (length bs) b
     (λ out. written-apart m a bs b out ∙ sym (stored-apart m a _ v b out))
     (λ from below. written-in m a bs b from below ∙ ap Some (h _ (omega arith)) ∙ sym (stored-in m a _ v b from below))
 
-pub written-stored : (m : Memory) (a : ℕ) (bs : List ℕ) (v : ℕ) →
-    ((k : ℕ) → k < length bs → get_or bs k 0 ≡ byte_of v k) → written m a bs ≡ stored m a (length bs) v
+pub written-stored : (m : ByteMemory) (a : ℕ) (bs : List ℕ) (v : ℕ) →
+    ((k : ℕ) → k < length bs → get_or bs k 0 ≡ byte_of v k) → written m a bs ≡ with_bytes m a (length bs) v
 written-stored m a bs v h = λ i b. stored_at m a bs v h b i
 
 -- the bytes of a number of 32 bits, one by one
@@ -335,16 +338,16 @@ byte_place v (suc (suc zero)) h = refl
 byte_place v (suc (suc (suc zero))) h = refl
 byte_place v (suc (suc (suc (suc k)))) h = absurd (omega arith)
 
-pub first_stored : (m : Memory) (a v n : ℕ) → n ≤ 4 → written m a (take n (to_le_bytes w32 v)) ≡ stored m a n v
+pub first_stored : (m : ByteMemory) (a v n : ℕ) → n ≤ 4 → written m a (take n (to_le_bytes w32 v)) ≡ with_bytes m a n v
 first_stored m a v n h =
     let len = length-take-le n (to_le_bytes w32 v) h in
     written-stored m a _ v (λ k l. get_or-take n _ k 0 (omega arith) ∙ byte_place v k (omega arith))
-    ∙ ap (λ j. stored m a j v) len
+    ∙ ap (λ j. with_bytes m a j v) len
 
-pub byte_stored : (m m' : Memory) (a v : ℕ) (bs : List ℕ) → m' ≡ written m a (get_or bs 0 0 ∷ []) →
-    bs ≡ to_le_bytes w32 v → m' ≡ stored m a 1 v
+pub byte_stored : (m m' : ByteMemory) (a v : ℕ) (bs : List ℕ) → m' ≡ written m a (get_or bs 0 0 ∷ []) →
+    bs ≡ to_le_bytes w32 v → m' ≡ with_bytes m a 1 v
 byte_stored m m' a v bs w e = w ∙ ap (λ b. written m a (get_or b 0 0 ∷ [])) e ∙ first_stored m a v 1 (omega arith)
 
-pub store_written : (m m' : Memory) (a v n : ℕ) (bs : List ℕ) → n ≤ 4 → m' ≡ written m a (take n bs) →
-    bs ≡ to_le_bytes w32 v → m' ≡ stored m a n v
+pub store_written : (m m' : ByteMemory) (a v n : ℕ) (bs : List ℕ) → n ≤ 4 → m' ≡ written m a (take n bs) →
+    bs ≡ to_le_bytes w32 v → m' ≡ with_bytes m a n v
 store_written m m' a v n bs h w e = w ∙ ap (λ b. written m a (take n b)) e ∙ first_stored m a v n h

@@ -1,8 +1,9 @@
 -- Addresses in regions and where zeros stand, what a store changes, and what a load gives after it.
-use Rattle.sc_store.proofs.Common.{AreApart, AreBelow, HasBytes, HoldsBytes, IsIn, IsSome, List, Memory, Region, Some}
+use Rattle.sc_store.proofs.Common.{AreApart, AreBelow, HasBytes, HoldsBytes, IsIn, IsSome, List, ByteMemory, Region}
+use Rattle.sc_store.proofs.Common.{Some}
 use Rattle.sc_store.proofs.Common.{[], ap, arith, byte_of, cases_lt, cond, false, get_or, get_or-map, inl, inr, is_in}
 use Rattle.sc_store.proofs.Common.{is_some, length, length-map, load_of, map, nat_le, nat_lt, nat_tests, refl}
-use Rattle.sc_store.proofs.Common.{same_Some, stored, subst, suc, sym, true, unwrap_or, zero, zeros, ℕ, ⊎_elim, ◌%◌}
+use Rattle.sc_store.proofs.Common.{same_Some, with_bytes, subst, suc, sym, true, unwrap_or, zero, zeros, ℕ, ⊎_elim, ◌%◌}
 use Rattle.sc_store.proofs.Common.{◌&&◌, ◌*◌, ◌+◌, ◌-◌, ◌<◌, ◌^◌, ◌↔◌, ◌∙◌, ◌∷◌, ◌≡◌, ◌≤◌, ◌⊎◌}
 use Rattle.std.proofs.Math.Arith.{mod-mul}
 use Rattle.std.proofs.Math.Nat.{pow-suc, pow-succ'}
@@ -51,13 +52,13 @@ inside a n b h k = grind (arith, nat_tests)
 outside : (a n b : ℕ) → (a ≤ b → b < a + n → ⊥) → (nat_le a b && nat_lt b (a + n)) ≡ false
 outside a n b h = grind (arith, nat_tests)
 
-pub stored-in : (m : Memory) (a n v b : ℕ) → a ≤ b → b < a + n → stored m a n v b ≡ Some (byte_of v (b - a))
+pub stored-in : (m : ByteMemory) (a n v b : ℕ) → a ≤ b → b < a + n → with_bytes m a n v b ≡ Some (byte_of v (b - a))
 stored-in m a n v b h k = rw (inside a n b h k) refl
 
-pub stored-apart : (m : Memory) (a n v b : ℕ) → (a ≤ b → b < a + n → ⊥) → stored m a n v b ≡ m b
+pub stored-apart : (m : ByteMemory) (a n v b : ℕ) → (a ≤ b → b < a + n → ⊥) → with_bytes m a n v b ≡ m b
 stored-apart m a n v b h = rw (outside a n b h) refl
 
-pub stored-at : (m : Memory) (a n v k : ℕ) → k < n → stored m a n v (a + k) ≡ Some (byte_of v k)
+pub stored-at : (m : ByteMemory) (a n v k : ℕ) → k < n → with_bytes m a n v (a + k) ≡ Some (byte_of v k)
 stored-at m a n v k h = stored-in m a n v _ (omega arith) (omega arith) ∙ ap (λ i. Some (byte_of v i)) (omega arith)
 
 pow_pos : (k : ℕ) → 0 < 256 ^ k
@@ -69,34 +70,34 @@ cut_more : (v k : ℕ) → v % 256 ^ k + byte_of v k * 256 ^ k ≡ v % 256 ^ suc
 cut_more v k = rw (pow-succ' 256 k) (omega (arith, mod-mul v {m = 256} {c = 256 ^ k} (omega arith) (pow_pos k)))
 
 -- the first `k` bytes of what was stored
-first_bytes_stored : (m : Memory) (a n v k : ℕ) → k ≤ n → load_of (stored m a n v) a k ≡ v % 256 ^ k
+first_bytes_stored : (m : ByteMemory) (a n v k : ℕ) → k ≤ n → load_of (with_bytes m a n v) a k ≡ v % 256 ^ k
 first_bytes_stored m a n v zero h = omega arith
-first_bytes_stored m a n v (suc k) h = ap (λ w. w + unwrap_or (stored m a n v (a + k)) 0 * 256 ^ k)
+first_bytes_stored m a n v (suc k) h = ap (λ w. w + unwrap_or (with_bytes m a n v (a + k)) 0 * 256 ^ k)
     (first_bytes_stored m a n v k (omega arith)) ∙ ap (λ o. v % 256 ^ k + unwrap_or o 0 * 256 ^ k)
     (stored-at m a n v k (omega arith)) ∙ cut_more v k
 
-pub load_of-stored : (m : Memory) (a n v : ℕ) → load_of (stored m a n v) a n ≡ v % 256 ^ n
+pub load_of-stored : (m : ByteMemory) (a n v : ℕ) → load_of (with_bytes m a n v) a n ≡ v % 256 ^ n
 load_of-stored m a n v = first_bytes_stored m a n v n (omega arith)
 
 -- two memories with the same bytes there give the same number
-pub load_of-same : (m m' : Memory) (a n : ℕ) → ((k : ℕ) → k < n → m (a + k) ≡ m' (a + k)) →
+pub load_of-same : (m m' : ByteMemory) (a n : ℕ) → ((k : ℕ) → k < n → m (a + k) ≡ m' (a + k)) →
     load_of m a n ≡ load_of m' a n
 load_of-same m m' a zero h = refl
 load_of-same m m' a (suc n) h =
     ap (λ w. w + unwrap_or (m (a + n)) 0 * 256 ^ n) (load_of-same m m' a n (λ k l. h k (omega arith)))
     ∙ ap (λ o. load_of m' a n + unwrap_or o 0 * 256 ^ n) (h n (omega arith))
 
-pub load_of-apart : (m : Memory) (a n v b j : ℕ) → (b + j ≤ a) ⊎ (a + n ≤ b) →
-    load_of (stored m a n v) b j ≡ load_of m b j
+pub load_of-apart : (m : ByteMemory) (a n v b j : ℕ) → (b + j ≤ a) ⊎ (a + n ≤ b) →
+    load_of (with_bytes m a n v) b j ≡ load_of m b j
 load_of-apart m a n v b j h =
-    load_of-same (stored m a n v) m b j (λ k l. stored-apart m a n v _ (λ p q. omega (arith, h)))
+    load_of-same (with_bytes m a n v) m b j (λ k l. stored-apart m a n v _ (λ p q. omega (arith, h)))
 
-pub address_kept : (m : Memory) (a n v b : ℕ) → HasBytes m a n → is_some (stored m a n v b) ≡ is_some (m b)
+pub address_kept : (m : ByteMemory) (a n v b : ℕ) → HasBytes m a n → is_some (with_bytes m a n v b) ≡ is_some (m b)
 address_kept m a n v b has = by_access a n b (λ out. ap is_some (stored-apart m a n v b out)) (λ from below.
     ap is_some (stored-in m a n v b from below) ∙
     sym (subst (λ i. is_some (m i) ≡ true) (omega arith) (has (b - a) (omega arith))))
 
-pub keeps_addresses : (m : Memory) (a n v b : ℕ) → HasBytes m a n → IsSome (stored m a n v b) ↔ IsSome (m b)
+pub keeps_addresses : (m : ByteMemory) (a n v b : ℕ) → HasBytes m a n → IsSome (with_bytes m a n v b) ↔ IsSome (m b)
 keeps_addresses m a n v b has = (λ p. sym (address_kept m a n v b has) ∙ p, λ p. address_kept m a n v b has ∙ p)
 
 -- the laws of loads and stores

@@ -4,7 +4,7 @@ use Rattle.std.specs.Prelude.{find, Option, Some, None}
 use Rattle.std.specs.Option.{option_map}
 use Rattle.sc_store.specs.declared.region.Region.{Region}
 use Rattle.sc_store.specs.declared.area.Area.{Area}
-use Rattle.sc_store.specs.Memory.{Memory}
+use Rattle.sc_store.specs.Memory.{ByteMemory}
 use Rattle.sc_store.specs.Region.{is_in}
 
 -- the region has the `size` addresses from `a` on
@@ -42,5 +42,5 @@ abbrev pub ArePlaced : List Area → ℕ → Type 0
 ArePlaced rs pages = (a i : ℕ) → place_of rs a ≡ Some i → i < pages * 4096
 
 -- the memory of the addresses, by the bytes at the places
-abbrev pub memory_of : List Area → (ℕ → ℕ) → Memory
+abbrev pub memory_of : List Area → (ℕ → ℕ) → ByteMemory
 memory_of rs cells a = option_map cells (place_of rs a)

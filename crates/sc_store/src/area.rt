@@ -1,7 +1,7 @@
 // A region on pages.
 #![tactic(auto)]
 
-ghost use Rattle.std.specs.Prelude.{◌≡◌, ◌≤◌};
+ghost use Rattle.std.specs.Prelude.{◌≡◌, ◌≤◌, ◌^◌};
 
 use crate::Region;
 use sc_pool::PAGE_BYTES;
@@ -10,7 +10,8 @@ use sc_pool::PAGE_BYTES;
 #[derive(Clone, Copy)]
 pub(crate) struct Area {
     pub(crate) region: Region,
-    pub(crate) first: u32,
+    pub(crate) first: usize,
+    ghost few: { first ≤ 2 ^ 32 },
 }
 
 impl Area {
@@ -42,7 +43,7 @@ impl Area {
         requires { self.now.region.start ≤ at }
         ensures { result ≡ place_in at self.now }
     {
-        self.first as usize * PAGE_BYTES + (at - self.region.start) as usize
+        self.first * PAGE_BYTES + (at - self.region.start) as usize
     }
 }
 

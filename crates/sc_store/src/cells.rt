@@ -20,10 +20,10 @@ pub(crate) struct Cells {
     ghost enough: { count_by is_none table.items ≤ pool.spare },
 }
 
-fn untaken(alloc: Global, pages: u32) -> Result<Vec<Option<PageId>>, AllocError>
+fn untaken(alloc: Global, pages: usize) -> Result<Vec<Option<PageId>>, AllocError>
     ensures { IfOk result (λ table. table.items ≡ replicate pages None) }
 {
-    let mut table = Vec::with_capacity(alloc, pages as usize)?;
+    let mut table = Vec::with_capacity(alloc, pages)?;
     for _ in 0..pages {
         table.push(None)?;
     }
@@ -38,7 +38,7 @@ fn are_zero(bytes: &[u8]) -> bool
 
 impl Cells {
     // Zeros on `pages` pages, none of which is taken.
-    pub(crate) fn zeroed(alloc: Global, pages: u32) -> Result<Cells, OutOfMemory>
+    pub(crate) fn zeroed(alloc: Global, pages: usize) -> Result<Cells, OutOfMemory>
         ensures length { IfOk result (λ cells. length cells.table.items ≡ pages) }
         ensures zero { IfOk result (λ cells. (k : ℕ) → cell cells.table.items cells.pool k ≡ 0) }
     {

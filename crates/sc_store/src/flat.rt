@@ -4,7 +4,7 @@
 ghost use Rattle.std.specs.Prelude.{◌≡◌, ◌<◌, ◌≤◌, ◌∷◌, [], ℕ, false, Some, length, map, position, All, IfOk, IsTrue};
 ghost use Rattle.std.specs.Prelude.{IsSome};
 ghost use Rattle.sc_store.specs.Region.{AreApart};
-ghost use Rattle.sc_store.specs.Memory.{HoldsBytes, HasBytes, load_of, stored};
+ghost use Rattle.sc_store.specs.Memory.{HoldsBytes, HasBytes, load_of, with_bytes};
 ghost use Rattle.sc_store.specs.Flat.{regions_of, bytes_of, spans, IsZero, Reads, written};
 
 use crate::part::Part;
@@ -171,7 +171,7 @@ impl FlatStore {
     fn store_each(&mut self, at: u32, value: u32, size: usize)
         requires size { size ≤ 4 }
         requires there { HasBytes (bytes_of self.old.parts.items) at size }
-        ensures { bytes_of self.new.parts.items ≡ stored (bytes_of self.old.parts.items) at size value }
+        ensures { bytes_of self.new.parts.items ≡ with_bytes (bytes_of self.old.parts.items) at size value }
     {
         self.write_each(at, &value.to_le_bytes()[..size]);
     }

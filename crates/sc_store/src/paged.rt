@@ -3,8 +3,8 @@
 
 ghost use Rattle.std.specs.Prelude.{◌≡◌, ◌<◌, ◌≤◌, ◌*◌, ◌∷◌, [], ℕ, false, Some, length, position, IfOk, IsSome};
 ghost use Rattle.std.specs.Prelude.{IsTrue};
-ghost use Rattle.sc_store.specs.Region.{AreApart};
-ghost use Rattle.sc_store.specs.Memory.{HoldsBytes, HasBytes, load_of, stored};
+ghost use Rattle.sc_store.specs.Region.{AreApart, AreBelow};
+ghost use Rattle.sc_store.specs.Memory.{HoldsBytes, HasBytes, load_of, with_bytes};
 ghost use Rattle.sc_store.specs.Flat.{Reads, written};
 ghost use Rattle.sc_store.specs.Paged.{reaches, regions_in, place_of, place_found, memory_of, AreSingle, ArePlaced};
 ghost use Rattle.sc_store.specs.Paged.{IsFocus};
@@ -14,7 +14,7 @@ use crate::area::Area;
 use crate::cells::Cells;
 use crate::{OutOfMemory, Region, Store};
 use sc_pool::PAGE_BYTES;
-use std::alloc::Global;
+use std::alloc::{AllocError, Global};
 
 /// A store that keeps the bytes of each region on pages of its own. Making it reserves a page for each page of each
 /// region, and a page is taken at the first store to it of a byte that isn't 0; until then a load from it gives 0.
@@ -34,23 +34,21 @@ pub struct PagedStore {
 }
 
 // The regions one after another, each from a new page on, and how many pages they have.
-fn laid(alloc: Global, regions: &[Region]) -> Result<(Vec<Area>, u32), OutOfMemory>
+fn laid(alloc: Global, regions: &[Region]) -> Result<(Vec<Area>, usize), AllocError>
+    requires apart { AreApart regions.now }
+    requires below { AreBelow regions.now }
     ensures regions { IfOk result (λ r. regions_in r.0.items ≡ regions.now) }
     ensures single { IfOk result (λ r. AreSingle r.0.items) }
     ensures placed { IfOk result (λ r. ArePlaced r.0.items r.1) }
 {
     let mut areas = Vec::new(alloc);
-    let mut pages: u32 = 0;
+    let mut pages = 0;
     for region in regions {
-        let more = region.pages();
-        if more > u32::MAX - pages {
-            return Err(OutOfMemory);
-        }
         areas.push(Area {
             region: *region,
             first: pages,
         })?;
-        pages += more;
+        pages += region.pages() as usize;
     }
     Ok((areas, pages))
 }
@@ -205,7 +203,7 @@ impl PagedStore {
     fn store_each(&mut self, at: u32, value: u32, size: usize)
         requires size { size ≤ 4 }
         requires there { HasBytes (bytes_in self.old) at size }
-        ensures { bytes_in self.new ≡ stored (bytes_in self.old) at size value }
+        ensures { bytes_in self.new ≡ with_bytes (bytes_in self.old) at size value }
     {
         self.write_each(at, &value.to_le_bytes()[..size]);
     }

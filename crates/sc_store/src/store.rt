@@ -3,7 +3,7 @@
 
 ghost use Rattle.std.specs.Prelude.{◌≡◌, ◌↔◌, ℕ, ◌+◌, ◌<◌, Option, IfOk, IsTrue, IsSome};
 ghost use Rattle.sc_store.specs.Region.{AreApart, AreBelow};
-ghost use Rattle.sc_store.specs.Memory.{Memory, HoldsBytes, HasBytes, zeros, load_of, stored};
+ghost use Rattle.sc_store.specs.Memory.{ByteMemory, HoldsBytes, HasBytes, zeros, load_of, with_bytes};
 
 use crate::{OutOfMemory, Region};
 use std::alloc::Global;
@@ -14,7 +14,7 @@ use std::alloc::Global;
 /// into another that begins where the first ends. Only making a store takes memory.
 pub trait Store: Drop {
     /// The byte at each address that has one.
-    ghost bytes: { Self → Memory };
+    ghost bytes: { Self → ByteMemory };
 
     /// A store of zeros at the addresses of these regions. No address may be in two of them, and their last address
     /// is 4,294,967,295 at most.
@@ -50,17 +50,17 @@ pub trait Store: Drop {
     /// Puts the lowest byte of `value` at this address.
     fn store8(&mut self, at: u32, value: u32)
         requires { HasBytes (bytes self.old) at 1 }
-        ensures { bytes self.new ≡ stored (bytes self.old) at 1 value };
+        ensures { bytes self.new ≡ with_bytes (bytes self.old) at 1 value };
 
     /// Puts the two lowest bytes of `value` at this address and the next.
     fn store16(&mut self, at: u32, value: u32)
         requires { HasBytes (bytes self.old) at 2 }
-        ensures { bytes self.new ≡ stored (bytes self.old) at 2 value };
+        ensures { bytes self.new ≡ with_bytes (bytes self.old) at 2 value };
 
     /// Puts the four bytes of `value` at this address and the next three.
     fn store32(&mut self, at: u32, value: u32)
         requires { HasBytes (bytes self.old) at 4 }
-        ensures { bytes self.new ≡ stored (bytes self.old) at 4 value };
+        ensures { bytes self.new ≡ with_bytes (bytes self.old) at 4 value };
 
     /// Addresses have 32 bits, and what stands there is a byte.
     ghost holds_bytes: { (s : Self) → HoldsBytes (bytes s) };

@@ -15,7 +15,7 @@ pub use Rattle.sc_core.specs.declared.cause.Cause.TheVariants.{BadType, Indeterm
 pub use Rattle.sc_core.specs.declared.section.TypedGlobal.{TypedGlobal}
 pub use Rattle.sc_tac.specs.Common.{Entry, Event, Export, Main}
 pub use Rattle.sc_tac.specs.Prelude.{Ahead, CodeObeys, Codes, IsAssignment, IsClear, IsFunction, IsProgram, Lives}
-pub use Rattle.sc_tac.specs.Prelude.{PlacesAreClear, Point, Reading, Set, Share, Span, Temps, Trail, Within}
+pub use Rattle.sc_tac.specs.Prelude.{PlacesAreClear, Point, Reading, TempSet, Share, Span, Temps, Trail, Within}
 pub use Rattle.sc_tac.specs.Prelude.{WrappedCodeAgrees, ahead_at, all_assigned_first, branch_step, branches, call_does}
 pub use Rattle.sc_tac.specs.Prelude.{calls_exports, calls_imports, calls_own, code_denotations, code_does}
 pub use Rattle.sc_tac.specs.Prelude.{code_function, code_functions, code_globals, code_meaning, code_meaning_by}

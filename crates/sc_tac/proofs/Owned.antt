@@ -1,5 +1,5 @@
 -- What is live or assigned at a point of a function's code is a temporary of the function.
-use Rattle.sc_tac.proofs.Common.{Ahead, Bool, Each, List, Lives, None, Option, Point, Set, Some, TacStmt, TacStmt-F}
+use Rattle.sc_tac.proofs.Common.{Ahead, Bool, Each, List, Lives, None, Option, Point, TempSet, Some, TacStmt, TacStmt-F}
 use Rattle.sc_tac.proofs.Common.{Trail, [], ahead_at, eqb-true, everywhere, false, fold-TacStmt, fold-roll-TacStmt}
 use Rattle.sc_tac.proofs.Common.{if_calls, in_body, in_head, in_next, is_one, is_used, list_all, live_across}
 use Rattle.sc_tac.proofs.Common.{live_at_start, live_before, loop_points, ltb-true, map, map-TacStmt, names_own_temps}
@@ -12,7 +12,7 @@ use Rattle.sc_tac.specs.declared.stmt.TacStmt.TheOpen as tac
 use Rattle.sc_tac.proofs.Induction.{Inside, stmt_induction}
 
 module _ (temps : ℕ) where
-  abbrev Own : Set → Type 0
+  abbrev Own : TempSet → Type 0
   Own set = (t : ℕ) → set t ≡ true → t < temps
 
   -- what is used at a point
@@ -82,7 +82,7 @@ module _ (temps : ℕ) where
     across_own lives own t is = own.following t
         (and_rest (not (is_one t (one_or_none assigned))) (lives.following t) is)
 
-    called : (b : Bool) (live : Set) → Own live → Each OwnPoint (if_calls b (point true live))
+    called : (b : Bool) (live : TempSet) → Own live → Each OwnPoint (if_calls b (point true live))
     called true live own = (own, tt)
     called false live own = tt
 
@@ -113,7 +113,7 @@ module _ (temps : ℕ) where
       OwnAhead t (part_ahead ahead end)
   part_own t ahead end own is = record { following = is; broken = own.following; continued = is }
 
-  lives_own : (lives : Lives) (end : Set) → OwnLives lives → Own end → OwnLives (part_lives lives end)
+  lives_own : (lives : Lives) (end : TempSet) → OwnLives lives → Own end → OwnLives (part_lives lives end)
   lives_own lives end own is = record { following = is; broken = own.following; continued = is }
 
   module _ (head body next : List Trail)

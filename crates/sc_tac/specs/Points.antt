@@ -9,22 +9,22 @@ use Rattle.sc_tac.specs.Flow.{Ahead, Reading, is_one, row_first, round_first, re
 use Rattle.sc_tac.specs.Parts.{one_or_none, temps_read, temp_assigned}
 
 -- temporaries by their numbers
-abbrev pub Set : Type 0
-Set = ℕ → Bool
+abbrev pub TempSet : Type 0
+TempSet = ℕ → Bool
 
 -- a point of the code: what is assigned here, whether a function of a compartment is called here, and what is live here
 pub record Point : Type 0 where
   pub assigned : Option ℕ
   pub calls : Bool
-  pub live : Set
+  pub live : TempSet
 
 -- what is live where control goes on: after the code, at a break, at a continue
 pub record Lives : Type 0 where
-  pub following : Set
-  pub broken : Set
-  pub continued : Set
+  pub following : TempSet
+  pub broken : TempSet
+  pub continued : TempSet
 
-abbrev pub nothing : Set
+abbrev pub nothing : TempSet
 nothing t = false
 
 abbrev pub nothing_live : Lives
@@ -42,7 +42,7 @@ abbrev pub readings : ℕ → List Trail → List Reading
 readings t trails = map (λ trail. trail.reading t) trails
 
 -- what is live before statements
-abbrev pub live_before : List Trail → Lives → Set
+abbrev pub live_before : List Trail → Lives → TempSet
 live_before trails lives t = row_first (readings t trails) (ahead_at lives t)
 
 -- the points of statements in order
@@ -52,7 +52,7 @@ row_points (trail ∷ trails) lives =
     trail.points (record lives { following = live_before trails lives }) ++ row_points trails lives
 
 -- a point at which nothing is assigned
-abbrev pub point : Bool → Set → Point
+abbrev pub point : Bool → TempSet → Point
 point calls live = record { assigned = None; calls = calls; live = live }
 
 abbrev pub if_calls : Bool → Point → List Point
@@ -62,7 +62,7 @@ if_calls false x = []
 -- a statement without others inside: it reads, it may call, it assigns
 module _ (reads : List ℕ) (calls : Bool) (assigned : Option ℕ) (lives : Lives) where
   -- what is live while it computes: what isn't assigned by it
-  abbrev pub live_across : Set
+  abbrev pub live_across : TempSet
   live_across t = not (is_one t (one_or_none assigned)) && lives.following t
 
   abbrev pub plain_points : List Point
@@ -72,12 +72,12 @@ module _ (reads : List ℕ) (calls : Bool) (assigned : Option ℕ) (lives : Live
       record { assigned = assigned; calls = false; live = lives.following } ∷ []
 
 -- what is live in a part of a loop at whose end this is live; a break leads to what follows the loop
-abbrev pub part_lives : Lives → Set → Lives
+abbrev pub part_lives : Lives → TempSet → Lives
 part_lives lives end = record { following = end; broken = lives.following; continued = end }
 
 -- a loop: its start, its parts, and its end, from which it goes on at its start
 module _ (head body next : List Trail) (lives : Lives) where
-  abbrev pub live_at_start : Set
+  abbrev pub live_at_start : TempSet
   live_at_start t = round_first (readings t head) (readings t body) (readings t next) (ahead_at lives t)
 
   abbrev pub in_next : Lives

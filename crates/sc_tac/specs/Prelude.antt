@@ -22,7 +22,7 @@ pub use Rattle.sc_tac.specs.MachineCode.{IsCode, is_address, is_jal, is_linkable
 pub use Rattle.sc_tac.specs.Parts.{all_true, everywhere, one_or_none, parts, temps_read, with_parts}
 pub use Rattle.sc_tac.specs.Places.{ArePlaces, InSlot, IsAssignment, IsClear, IsSparing, PlacesAreClear, Share}
 pub use Rattle.sc_tac.specs.Places.{is_place, register_count}
-pub use Rattle.sc_tac.specs.Points.{Lives, Point, Set, Trail, ahead_at, function_points, if_calls, in_body, in_head}
+pub use Rattle.sc_tac.specs.Points.{Lives, Point, TempSet, Trail, ahead_at, function_points, if_calls, in_body, in_head}
 pub use Rattle.sc_tac.specs.Points.{in_next, live_across, live_at_start, live_before, loop_points, nothing}
 pub use Rattle.sc_tac.specs.Points.{nothing_live, part_lives, plain_points, point, points, readings, row_points}
 pub use Rattle.sc_tac.specs.Points.{stmt_points, trail, trail_step}

@@ -4,7 +4,8 @@ use Rattle.sc_top.proofs.Common.{IsAccounted, IsAnswer, IsErrOf, IsGood, IsGoodT
 use Rattle.sc_top.proofs.Common.{IsTextOutput, IsTrue, IsUndisturbed, IsUnfit, IsWhole, IsWithin, IsWithinLimit, List}
 use Rattle.sc_top.proofs.Common.{Make, Meaning, None, Option, ProgramTree, Refusal, Refuses, Result, Run, RunOptions}
 use Rattle.sc_top.proofs.Common.{SameAnswer, Says, Some, Status, Takes, Traffic, ap, append-nil, arith, bad}
-use Rattle.sc_top.proofs.Common.{built_image, cause_in, cause_number, cause_of, compiles, false≢true, inl, inr, length}
+use Rattle.sc_top.proofs.Common.{built_image, cause_in, cause_number, read_cause, compiles, false≢true, inl, inr}
+use Rattle.sc_top.proofs.Common.{length}
 use Rattle.sc_top.proofs.Common.{length-append, limit_of, none-some, option_and_then, refl, status_by, subst, sym}
 use Rattle.sc_top.proofs.Common.{too_large, ℕ, ⊎_elim, ◌++◌, ◌+◌, ◌∙◌, ◌≡◌, ◌≤◌, ◌⊎◌}
 use Rattle.sc_top.specs.Large.{large_in}
@@ -133,7 +134,7 @@ image_within bytes is = subst (λ b. length b ≤ 67108864) (sym is.bytes_are) (
 -- the bytes of an image have no cause for being none
 image_bad : (bytes : List ℕ) (cause : ℕ) → IsImage bytes → cause_in bytes ≡ Some cause → ⊥
 image_bad bytes cause is b =
-    let good = ap (λ t. bad t) is.bytes_are ∙ ap cause_of (is_read_again _ is.well_formed) in
+    let good = ap (λ t. bad t) is.bytes_are ∙ ap read_cause (is_read_again _ is.well_formed) in
     none-some cause (ap (λ found. option_map cause_number found) (sym good) ∙ b)
 
 same_some : {A : Type 0} (option : Option A) (x y : A) → option ≡ Some x → option ≡ Some y → x ≡ y

@@ -1,9 +1,9 @@
 -- What is asked of `explain` and `make` is bounded.
-use Rattle.sc_top.proofs.Common.{Bool, Check, Command, Compile, Exec, Explain, IsBounded, List, Make, MakeOptions}
-use Rattle.sc_top.proofs.Common.{Meaning, None, Option, Run, RunOptions, Some, arith, codes, false, if◌then◌else◌}
-use Rattle.sc_top.proofs.Common.{leb-true, nat_le, none-some, option_and_then, option_map, refl, subst, true, ℕ, ℤ}
-use Rattle.sc_top.proofs.Common.{◌&&◌, ◌≡◌, ◌≤◌}
-use Rattle.sc_top_words.specs.Prelude.{has_option, number, number_within, given_value, when_within}
+use Rattle.sc_top.proofs.Common.{Bool, Check, Command, Compile, Exec, Explain, IsBounded, IsInput, IsWithinLimit, List}
+use Rattle.sc_top.proofs.Common.{Make, MakeOptions, Meaning, None, Option, Run, RunOptions, Some, arith, codes, false}
+use Rattle.sc_top.proofs.Common.{if◌then◌else◌, leb-true, nat_le, none-some, option_and_then, option_map, refl, subst}
+use Rattle.sc_top.proofs.Common.{true, ℕ, ℤ, ◌&&◌, ◌≡◌, ◌≤◌}
+use Rattle.sc_top_words.specs.Prelude.{given_value, has_option, number_within, number, when_within}
 use Rattle.std.specs.Str.{bytes_eq}
 use Rattle.sc_top_words.specs.Words as words
 unfoldable use Rattle.sc_top_words.specs.Words.{command}
@@ -99,3 +99,9 @@ of_parsed (Some read) c is = with_values read.0 (λ name. given_value name read.
 pub asked_few : (asked : List (List ℕ)) (c : Command) → command asked ≡ Some c → IsBounded c
 unfolding command
 asked_few asked c is = of_parsed (words.parsed asked) c is
+
+-- what a command read is within its limit
+pub input_within : (limit : Option ℕ) (left left_after : Option (List ℕ)) (bytes : List ℕ) →
+    IsInput limit left left_after bytes → IsWithinLimit limit bytes
+input_within None left left_after bytes input = tt
+input_within (Some limit) left left_after bytes input = input.within

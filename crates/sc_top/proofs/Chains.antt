@@ -2,8 +2,8 @@
 use Rattle.sc_top.proofs.Common.{Accepts, All-from_recursion, AllByRecursion, ArePerforming, Bool, CompileFault, Err}
 use Rattle.sc_top.proofs.Common.{Event, Explanation, IfOk, ImageParts, IsAccounted, IsChainFrom, IsExplained, IsNext}
 use Rattle.sc_top.proofs.Common.{IsSource, IsSplitInto, IsSummary, Link, List, MakeOptions, MeansTrace, None, Ok}
-use Rattle.sc_top.proofs.Common.{Option, ProgramTree, Result, RunOptions, Some, SourceParts, [], account, among, ap}
-use Rattle.sc_top.proofs.Common.{ap₂, arith, comp_of, concat, false, if◌then◌else◌, joined, length, machine, map}
+use Rattle.sc_top.proofs.Common.{Option, ProgramTree, Result, RunOptions, Some, SourceParts, [], account, is_listed, ap}
+use Rattle.sc_top.proofs.Common.{ap₂, arith, comp_of, concat, false, if◌then◌else◌, joined_text, length, machine, map}
 use Rattle.sc_top.proofs.Common.{meaning, performing, performing_text, recomposed, recursion_from_All, refl}
 use Rattle.sc_top.proofs.Common.{replacement_of, subst, suc, summary_text, sym, take, text_after, text_for, true}
 use Rattle.sc_top.proofs.Common.{word_of, zero, ℕ, ◌++◌, ◌==◌, ◌||◌, ◌∙◌, ◌∷◌, ◌≡◌, ◌≤◌}
@@ -42,21 +42,23 @@ module _ (source : SourceParts) (trace : List Event) where
   -- what stands in place of a section
   stands : (links : List Link) → AllByRecursion Performs links → (comp : ℕ) →
       text_for (map replacement_of links) comp
-      ≡ performing source.program.interfaces trace (among (map comp_of links)) comp
+      ≡ performing source.program.interfaces trace (is_listed (map comp_of links)) comp
   stands [] all comp = refl
   stands (link ∷ links) all comp = by (stands links all.1 comp) (link.comp == comp) refl where
     by :
         text_for (map replacement_of links) comp
-        ≡ performing source.program.interfaces trace (among (map comp_of links)) comp → (same : Bool) →
+        ≡ performing source.program.interfaces trace (is_listed (map comp_of links)) comp → (same : Bool) →
         (link.comp == comp) ≡ same →
         (if same then Some link.text else text_for (map replacement_of links) comp)
-        ≡ (if same || among (map comp_of links) comp then Some (performing_text source.program.interfaces trace comp)
+        ≡ (if same || is_listed (map comp_of links) comp then Some (performing_text source.program.interfaces trace
+        comp)
         else None)
     by others true is =
         ap Some (all.0 ∙ ap (performing_text source.program.interfaces trace) (same_number link.comp comp is))
     by others false is = others
 
-  joined_same : (f g : ℕ → Option (List ℕ)) → ((comp : ℕ) → f comp ≡ g comp) → joined source f ≡ joined source g
+  joined_same : (f g : ℕ → Option (List ℕ)) → ((comp : ℕ) → f comp ≡ g comp) → joined_text source f ≡ joined_text source
+      g
   joined_same f g same = ap (λ texts. source.preamble ++ concat texts) (new_texts_same f g same 0 source.sections)
 
 -- the links of an explanation perform
@@ -69,7 +71,7 @@ explained_perform source inputs steps events explanation is =
 -- the text in which the first links replace is that of the chain after them
 pub recomposed_after : (source : SourceParts) (explanation : Explanation) (links : ℕ) →
     ArePerforming source explanation.trace explanation.links →
-    joined source (text_for (map replacement_of (take links explanation.links)))
+    joined_text source (text_for (map replacement_of (take links explanation.links)))
     ≡ text_after source explanation links
 recomposed_after source explanation links all =
     joined_same source explanation.trace _ _ (stands source _ _ (first_perform source _ links _
@@ -80,10 +82,10 @@ pub printed_after : {E : Type 0} (r : Result (List ℕ) E) (source : SourceParts
     (replacements : List Replacement) →
     replacements ≡ map replacement_of (take links explanation.links) →
     ArePerforming source explanation.trace explanation.links →
-    IfOk r (λ text. text ≡ joined source (text_for replacements)) →
+    IfOk r (λ text. text ≡ joined_text source (text_for replacements)) →
     IfOk r (λ text. text ≡ text_after source explanation links)
 printed_after (Ok text) source explanation links replacements are all printed =
-    printed ∙ ap (λ replacements. joined source (text_for replacements)) are ∙
+    printed ∙ ap (λ replacements. joined_text source (text_for replacements)) are ∙
     recomposed_after source explanation links all
 printed_after (Err fault) source explanation links replacements are all printed = tt
 
@@ -127,7 +129,7 @@ module _
   module _ (source : SourceParts) (inputs : List ℕ) (steps : ℕ) (trace : List Event) where
     same_program : (comps : List ℕ) (least : ℕ) (link : Link)
         (next : IsNext source inputs steps trace comps least link) (other : ProgramTree) →
-        Accepts (recomposed source trace (among comps)) other → next.text.program ≡ other
+        Accepts (recomposed source trace (is_listed comps)) other → next.text.program ≡ other
     same_program comps least link next other accepted =
         one_program (recomposed source trace _) _ other next.text.accepted accepted
 
@@ -142,7 +144,7 @@ module _
     exact_take (suc n) [] less = absurd (omega (arith, less))
     exact_take (suc n) (x ∷ xs) less = ap suc (exact_take n xs (omega (arith, less)))
 
-    not_both : (comps : List ℕ) (least : ℕ) (link : Link) → MeansTrace source inputs steps trace (among comps) →
+    not_both : (comps : List ℕ) (least : ℕ) (link : Link) → MeansTrace source inputs steps trace (is_listed comps) →
         IsNext source inputs steps trace comps least link → ⊥
     not_both comps least link printed next =
         let same = same_program comps least link next printed.text.program printed.text.accepted in

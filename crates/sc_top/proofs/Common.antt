@@ -18,18 +18,20 @@ pub use Rattle.sc_core.specs.declared.section.TypedFunction.{TypedFunction}
 pub use Rattle.sc_core.specs.declared.section.TypedSection.{TypedSection}
 pub use Rattle.sc_types.specs.Prelude.{Accepts, Fails, IsSource, IsSplitInto, SourceParts}
 pub use Rattle.sc_image.specs.Prelude.{BytesNameOneImage, IsComp, IsExport, IsImage, IsWellFormed, IsWord, bad, bit}
-pub use Rattle.sc_image.specs.Prelude.{cause_number, cause_of, comp_bytes, export_bytes, exports_bytes, globals_bytes}
-pub use Rattle.sc_image.specs.Prelude.{image_bytes, import_bytes, imports_bytes, interfaces_of, machine, most_globals}
+pub use Rattle.sc_image.specs.Prelude.{cause_number, read_cause, comp_bytes, export_bytes, exports_bytes, globals_bytes}
+pub use Rattle.sc_image.specs.Prelude.{image_bytes, import_bytes, imports_bytes, image_interfaces, machine}
+pub use Rattle.sc_image.specs.Prelude.{most_globals}
 pub use Rattle.sc_image.specs.Prelude.{name_bytes, stretch}
 pub use Rattle.sc_image.specs.declared.parts.ImageParts.{ImageParts}
-pub use Rattle.sc_compile.specs.Prelude.{IsCompiled, above, built_image, code_bytes, data_bytes, first, found_in}
+pub use Rattle.sc_compile.specs.Prelude.{IsCompiled, above, built_image, code_size, data_size, first, faults_from}
 pub use Rattle.sc_compile.specs.Prelude.{frame_bytes, image_of, large_code, large_data, large_frame, large_frames}
 pub use Rattle.sc_compile.specs.Prelude.{too_large, unless_large}
 pub use Rattle.sc_compile.specs.declared.fault.CompileFault.TheVariants.{CodeTooLarge, DataTooLarge, FrameTooLarge}
 pub use Rattle.sc_compile.specs.declared.fault.CompileFault.TheVariants.{OutOfMemory}
-pub use Rattle.sc_chain.specs.Prelude.{IsChainFrom, IsExplained, IsFault, IsNext, MeansTrace, among, joined, performing}
+pub use Rattle.sc_chain.specs.Prelude.{IsChainFrom, IsExplained, IsFault, IsNext, MeansTrace, is_listed, joined_text}
+pub use Rattle.sc_chain.specs.Prelude.{performing}
 pub use Rattle.sc_chain.specs.Prelude.{performing_text, recomposed, text_for}
-pub use Rattle.sc_chain.specs.declared.explanation.Explanation.{Explanation}
+pub use Rattle.sc_core.specs.declared.explanation.Explanation.{Explanation}
 pub use Rattle.sc_report_made.specs.Laws.{AreSmall, IsAccepted, IsSmall}
 pub use Rattle.sc_top_words.specs.declared.command.Command.TheVariants.{Make}
 pub use Rattle.sc_top_words.specs.declared.command.MakeOptions.{MakeOptions}
@@ -42,7 +44,8 @@ pub use Rattle.sc_top.specs.Prelude.{HasImage, IsAccounted, IsAnswer, IsBounded,
 pub use Rattle.sc_top.specs.Prelude.{IsGoodText, IsInput, IsMadeBy, IsMadeText, IsNamed, IsOutput, IsOutputCause}
 pub use Rattle.sc_top.specs.Prelude.{IsSummary, IsTextOutput, IsUndisturbed, IsUnfit, IsWhole, IsWithin, IsWithinLimit}
 pub use Rattle.sc_top.specs.Prelude.{Meaning, Prints, Refuses, Run, SameAnswer, Says, Status, Traffic, Wrote, account}
-pub use Rattle.sc_top.specs.Prelude.{bytes_of, cause_in, comp_of, compiles, limit_of, machine_run, machine_text, meant}
+pub use Rattle.sc_top.specs.Prelude.{bytes_of, cause_in, comp_of, compiles, limit_of, machine_run, machine_text}
+pub use Rattle.sc_top.specs.Prelude.{meaning_asked}
 pub use Rattle.sc_top.specs.Prelude.{of_compile_fault, output, own_text, owner_text, replacement_of, status_by}
 pub use Rattle.sc_top.specs.Prelude.{text_after}
 pub use Rattle.sc_top.specs.declared.failure.Failure.{Failure}

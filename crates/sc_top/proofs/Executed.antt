@@ -1,6 +1,6 @@
 -- What `compile` writes is executed as the program is run.
 use Rattle.sc_top.proofs.Common.{Accepts, BytesNameOneImage, Compile, HasImage, ImageParts, Interfaces, IsExecuted}
-use Rattle.sc_top.proofs.Common.{IsImage, IsTextOutput, List, ProgramTree, Run, RunOptions, ap, interfaces_of}
+use Rattle.sc_top.proofs.Common.{IsImage, IsTextOutput, List, ProgramTree, Run, RunOptions, ap, image_interfaces}
 use Rattle.sc_top.proofs.Common.{machine_run, machine_text, refl, subst, sym, ℕ, ◌++◌, ◌∙◌, ◌≡◌}
 use Rattle.sc_compile.proofs.Reported.{same_lines}
 use Rattle.sc_report.specs.Report.{stop_line}
@@ -10,7 +10,7 @@ use Rattle.sc_top.proofs.Outputs.{one_image}
 
 -- by the names of the image as by those of the program
 same_report : (program : ProgramTree) (image : ImageParts) → HasImage program image → (options : RunOptions) →
-    machine_text (interfaces_of image) options image ≡ machine_text program.interfaces options image
+    machine_text (image_interfaces image) options image ≡ machine_text program.interfaces options image
 same_report program image has options =
     ap (λ lines. lines ++ stop_line (machine_run options image).stop)
     (same_lines program.interfaces image has.right.interfaces (machine_run options image).state.trace)
@@ -34,7 +34,7 @@ module _ (one_program : (text : List ℕ) (program other : ProgramTree) →
         image = is.image;
         accepted = is.accepted;
         compiled = λ _. has;
-        written = executed.written ∙ (ap (λ i. machine_text (interfaces_of i) options i) same ∙
+        written = executed.written ∙ (ap (λ i. machine_text (image_interfaces i) options i) same ∙
             same_report is.program is.image has options);
       }
 

@@ -2,11 +2,11 @@
 use Rattle.sc_top.proofs.Common.{All, All-map, Err, Event, IfOk, ImageParts, Interfaces, IsCompiled, IsExecuted}
 use Rattle.sc_top.proofs.Common.{IsKnown, IsSome, IsTrue, IsWellFormed, IsWellTyped, IsWord, List, Ok, ProgramTree}
 use Rattle.sc_top.proofs.Common.{Result, RunOptions, TypedSection, [], and_parts, ap, arith, c_arith, comp_at}
-use Rattle.sc_top.proofs.Common.{false≢true, image_bytes, interfaces_of, legal as is_legal, length, length-map}
-use Rattle.sc_top.proofs.Common.{machine_run, machine_text, main_fits, map, meant, refl, run_text, sections_fit}
+use Rattle.sc_top.proofs.Common.{false≢true, image_bytes, image_interfaces, legal as is_legal, length, length-map}
+use Rattle.sc_top.proofs.Common.{machine_run, machine_text, main_fits, map, meaning_asked, refl, run_text, sections_fit}
 use Rattle.sc_top.proofs.Common.{slice_get, subst, suc, sym, true, word_of, zero, ℕ, ℤ, ◌<◌, ◌∙◌, ◌∷◌, ◌≡◌}
 use Rattle.sc_core_laws.specs.Prelude.{TracesAreLegal as SourceTracesAreLegal}
-use Rattle.sc_image.specs.Prelude.{TracesAreLegal}
+use Rattle.sc_image.specs.Prelude.{MachineTracesAreLegal}
 use Rattle.sc_event.specs.declared.interface.Interface.{Interface}
 use Rattle.sc_event.proofs.Known.{legal_is_known}
 use Rattle.sc_word.proofs.Words.{word_of-lt}
@@ -20,9 +20,9 @@ within (x ∷ xs) (suc n) lt = within xs n (omega arith)
 
 -- the main compartment is one of the image
 main_known : (image : ImageParts) → IsWellFormed image →
-    IsSome (comp_at (interfaces_of image) (interfaces_of image).main)
+    IsSome (comp_at (image_interfaces image) (image_interfaces image).main)
 main_known image formed =
-    within (interfaces_of image).comps image.main (subst (λ n. image.main < n) (sym (length-map _ _)) formed.main)
+    within (image_interfaces image).comps image.main (subst (λ n. image.main < n) (sym (length-map _ _)) formed.main)
 
 -- a program has as many compartments as sections, and its main compartment is one of them
 as_many : (interfaces : Interfaces) (comp : ℕ) (comps : List Interface) (sections : List TypedSection) →
@@ -67,9 +67,10 @@ program_main program typed =
 
 -- the trace of a program is known by its names: such traces are legal
 pub meant_known : SourceTracesAreLegal → (options : MeaningOptions) (program : ProgramTree) → IsWellTyped program →
-    All (IsKnown program.interfaces) (meant options program).trace
+    All (IsKnown program.interfaces) (meaning_asked options program).trace
 meant_known legal options program typed =
-    legal_is_known _ (meant options program).trace (program_main program typed) (legal.meaning c_arith program _ _ _)
+    legal_is_known _ (meaning_asked options program).trace (program_main program typed) (legal.meaning c_arith program _
+    _ _)
 
 -- words of inputs are words
 pub inputs_are_words : (inputs : List ℤ) → All IsWord (map word_of inputs)
@@ -88,8 +89,8 @@ pub legal_known : (program : ProgramTree) (trace : List Event) → IsWellTyped p
 legal_known program trace typed allowed = legal_is_known _ trace (program_main program typed) allowed
 
 -- the machine's trace on an image is known by the image's names: such traces are legal
-pub machine_run_known : TracesAreLegal → (options : RunOptions) (image : ImageParts) → IsWellFormed image →
-    All (IsKnown (interfaces_of image)) (machine_run options image).state.trace
+pub machine_run_known : MachineTracesAreLegal → (options : RunOptions) (image : ImageParts) → IsWellFormed image →
+    All (IsKnown (image_interfaces image)) (machine_run options image).state.trace
 machine_run_known legal options image formed =
     legal_is_known _ (machine_run options image).state.trace (main_known image formed)
     (legal image _ _ _ formed (inputs_are_words _))
@@ -104,6 +105,6 @@ text_printed (Err fault) names options image trace stop events why printed = tt
 
 -- an image that was read and run
 pub executed : (options : RunOptions) (bytes text : List ℕ) (image : ImageParts) → bytes ≡ image_bytes image →
-    IsWellFormed image → text ≡ machine_text (interfaces_of image) options image → IsExecuted options bytes text
+    IsWellFormed image → text ≡ machine_text (image_interfaces image) options image → IsExecuted options bytes text
 executed options bytes text image bytes_are formed printed =
     record { read = record { image = image; well_formed = formed; bytes_are = bytes_are }; written = printed }

@@ -2,7 +2,7 @@
 use Rattle.sc_top.proofs.Common.{AllByRecursion, Bool, CodeTooLarge, CompileFault, DataTooLarge, Err, FrameTooLarge}
 use Rattle.sc_top.proofs.Common.{ImageParts, Interfaces, IsCompiling, IsNamed, IsSome, IsWellTyped, List, None, Ok}
 use Rattle.sc_top.proofs.Common.{Option, OutOfMemory, ProgramTree, Some, TypedFunction, TypedSection, [], above, ap}
-use Rattle.sc_top.proofs.Common.{arith, built_image, code_bytes, comp_at, data_bytes, false, first, flat_map, found_in}
+use Rattle.sc_top.proofs.Common.{arith, built_image, code_size, comp_at, data_size, false, first, flat_map, faults_from}
 use Rattle.sc_top.proofs.Common.{frame_bytes, if◌then◌else◌, image_of, inl, inr, large_code, large_data, large_frame}
 use Rattle.sc_top.proofs.Common.{large_frames, length, most_globals, none-some, of_compile_fault, option_and_then, refl}
 use Rattle.sc_top.proofs.Common.{stretch, subst, suc, sym, too_large, true, unless_large, ℕ, ⊎_elim, ◌++◌, ◌+◌, ◌∷◌}
@@ -49,10 +49,10 @@ module _ (interfaces : Interfaces) where
   named_found : (find : ℕ → TypedSection → List CompileFault) →
       ((comp : ℕ) (section : TypedSection) → IsSome (comp_at interfaces comp) → AreNamed (find comp section)) →
       (comp : ℕ) (sections : List TypedSection) → comp + length sections ≤ length interfaces.comps →
-      AreNamed (found_in find comp sections)
+      AreNamed (faults_from find comp sections)
   named_found find each comp [] few = tt
   named_found find each comp (section ∷ sections) few =
-      named_append (find comp section) (found_in find (suc comp) sections)
+      named_append (find comp section) (faults_from find (suc comp) sections)
       (each comp section (within interfaces.comps comp (omega (arith, few))))
       (named_found find each (suc comp) sections (omega (arith, few)))
 
@@ -73,21 +73,21 @@ named_fault program typed fault of =
       few = let as_many = sections_are program typed in omega (arith, as_many)
 
       all_faults : List CompileFault
-      all_faults = found_in large_data 0 program.sections ++
-          (found_in large_frames 0 program.sections ++ found_in large_code 0 program.sections)
+      all_faults = faults_from large_data 0 program.sections ++
+          (faults_from large_frames 0 program.sections ++ faults_from large_code 0 program.sections)
 
       all : AllByRecursion (IsNamed program.interfaces) all_faults
       all =
-          named_append program.interfaces (found_in large_data 0 program.sections)
-          (found_in large_frames 0 program.sections ++ found_in large_code 0 program.sections)
+          named_append program.interfaces (faults_from large_data 0 program.sections)
+          (faults_from large_frames 0 program.sections ++ faults_from large_code 0 program.sections)
           (named_found program.interfaces large_data (λ comp section is. named_above program.interfaces most_globals
-          (data_bytes section) (DataTooLarge comp _) is) 0 program.sections few)
-          (named_append program.interfaces (found_in large_frames 0 program.sections)
-          (found_in large_code 0 program.sections)
+          (data_size section) (DataTooLarge comp _) is) 0 program.sections few)
+          (named_append program.interfaces (faults_from large_frames 0 program.sections)
+          (faults_from large_code 0 program.sections)
           (named_found program.interfaces large_frames (λ comp section is. named_frames program.interfaces comp section
           section.functions is) 0 program.sections few)
           (named_found program.interfaces large_code (λ comp section is. named_above program.interfaces stretch
-          (code_bytes section) (CodeTooLarge comp _) is) 0 program.sections few))
+          (code_size section) (CodeTooLarge comp _) is) 0 program.sections few))
 
 -- so it is why the program isn't compiled
 printed_fault : (program : ProgramTree) (fault : CompileFault) → too_large program ≡ Some fault →

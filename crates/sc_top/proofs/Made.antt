@@ -2,9 +2,10 @@
 use Rattle.sc_top.proofs.Common.{Accepts, AllByRecursion, AreSmall, CompileFault, DataTooLarge, Err, Explanation}
 use Rattle.sc_top.proofs.Common.{FrameTooLarge, IfOk, Interfaces, IsAccepted, IsExplained, IsMadeText, IsSmall}
 use Rattle.sc_top.proofs.Common.{IsSource, IsSummary, List, MakeOptions, None, Ok, ProgramTree, Result, SourceParts}
-use Rattle.sc_top.proofs.Common.{TypedFunction, TypedSection, [], above, ap, ap₂, arith, built_image, data_bytes, first}
-use Rattle.sc_top.proofs.Common.{flat_map, found_in, frame_bytes, if◌then◌else◌, image_of, large_code, large_data}
-use Rattle.sc_top.proofs.Common.{large_frame, large_frames, le-ltb, length, most_globals, recursion_from_All, refl, stretch}
+use Rattle.sc_top.proofs.Common.{TypedFunction, TypedSection, [], above, ap, ap₂, arith, built_image, data_size, first}
+use Rattle.sc_top.proofs.Common.{flat_map, faults_from, frame_bytes, if◌then◌else◌, image_of, large_code, large_data}
+use Rattle.sc_top.proofs.Common.{large_frame, large_frames, le-ltb, length, most_globals, recursion_from_All, refl}
+use Rattle.sc_top.proofs.Common.{stretch}
 use Rattle.sc_top.proofs.Common.{subst, suc, summary_text, sym, too_large, unless_large, ℕ, ◌++◌, ◌∙◌, ◌∷◌, ◌≡◌, ◌≤◌}
 use Rattle.sc_report_made.specs.Text.{made_text}
 
@@ -16,16 +17,16 @@ both_none xs ys here following = ap₂ (λ a b. a ++ b) here following
 
 none_found : (find : ℕ → TypedSection → List CompileFault) →
     ((comp : ℕ) (section : TypedSection) → IsSmall section → find comp section ≡ []) →
-    (comp : ℕ) (sections : List TypedSection) → AllByRecursion IsSmall sections → found_in find comp sections ≡ []
+    (comp : ℕ) (sections : List TypedSection) → AllByRecursion IsSmall sections → faults_from find comp sections ≡ []
 none_found find each comp [] small = refl
 none_found find each comp (section ∷ sections) small =
-    both_none (find comp section) (found_in find _ _) (each comp section small.0)
+    both_none (find comp section) (faults_from find _ _) (each comp section small.0)
     (none_found find each (suc comp) sections small.1)
 
 data_fit : (comp : ℕ) (section : TypedSection) → IsSmall section → large_data comp section ≡ []
 data_fit comp section small =
     let cells = small.cells in
-    none_above most_globals (data_bytes section) (DataTooLarge comp (data_bytes section)) (omega (arith, cells))
+    none_above most_globals (data_size section) (DataTooLarge comp (data_size section)) (omega (arith, cells))
 
 each_frame_fits : (comp : ℕ) (section : TypedSection) (functions : List TypedFunction) →
     AllByRecursion (λ f. frame_bytes section f ≤ 32768) functions → flat_map (large_frame comp section) functions ≡ []
@@ -47,10 +48,10 @@ code_fits comp section small =
 pub small_fits : (program : ProgramTree) → AreSmall program → too_large program ≡ None
 small_fits program small =
     let each = recursion_from_All IsSmall _ small in
-    ap first (both_none (found_in large_data 0 program.sections)
-    (found_in large_frames 0 program.sections ++ found_in large_code 0 program.sections)
+    ap first (both_none (faults_from large_data 0 program.sections)
+    (faults_from large_frames 0 program.sections ++ faults_from large_code 0 program.sections)
     (none_found large_data data_fit 0 _ each)
-    (both_none (found_in large_frames 0 program.sections) (found_in large_code 0 program.sections)
+    (both_none (faults_from large_frames 0 program.sections) (faults_from large_code 0 program.sections)
     (none_found large_frames frames_fit 0 _ each) (none_found large_code code_fits 0 _ each)))
 
 -- the text of a made program

@@ -1,7 +1,8 @@
 -- What comes of accepted texts: outputs and their causes, and that an output is one.
 use Rattle.sc_top.proofs.Common.{Accepts, Bool, BytesNameOneImage, Command, Failure, HasImage, ImageParts, IsCompiling}
 use Rattle.sc_top.proofs.Common.{IsExecuted, IsMadeBy, IsOutput, IsOutputCause, IsTextOutput, IsTrue, List, MakeOptions}
-use Rattle.sc_top.proofs.Common.{ProgramTree, RunOptions, [], ap, compiles, false, interfaces_of, machine_text, output}
+use Rattle.sc_top.proofs.Common.{ProgramTree, RunOptions, [], ap, compiles, false, image_interfaces, machine_text}
+use Rattle.sc_top.proofs.Common.{output}
 use Rattle.sc_top.proofs.Common.{refl, subst, sym, true, ℕ, ◌∙◌, ◌≡◌}
 use Rattle.sc_top_words.specs.declared.command.Command.TheVariants as commands
 use Rattle.sc_top.specs.declared.failure.Failure.TheVariants as failure
@@ -91,7 +92,7 @@ module _
   one_run : BytesNameOneImage → (options : RunOptions) (bytes text other : List ℕ) → IsExecuted options bytes text →
       IsExecuted options bytes other → text ≡ other
   one_run one options bytes text other is known =
-      is.written ∙ (ap (λ i. machine_text (interfaces_of i) options i)
+      is.written ∙ (ap (λ i. machine_text (image_interfaces i) options i)
       (one _ _ is.read.well_formed known.read.well_formed
       (sym is.read.bytes_are ∙ known.read.bytes_are)) ∙ sym known.written)
 

@@ -1,15 +1,17 @@
 -- What each command writes for the program of a text and its image, or for an image.
 use Rattle.sc_top_words.specs.Words.{most_steps}
-use Rattle.sc_base.specs.Prelude.{most_compiled, most_events}
+use Rattle.sc_base.specs.Prelude.{most_compiled, most_events, most_text}
 use Rattle.sc_top.specs.Common.{Accepts, Command, Interfaces, IsCompiled, IsExplained, IsImage, IsSource, Link}
-use Rattle.sc_top.specs.Common.{ProgramTree, Run, SourceParts, among, image_bytes, image_of, interfaces_of, machine}
+use Rattle.sc_top.specs.Common.{ProgramTree, MachineRun, SourceParts, is_listed, image_bytes, image_of}
+use Rattle.sc_top.specs.Common.{image_interfaces, machine}
 use Rattle.sc_top.specs.Common.{recomposed, too_large}
 use Rattle.sc_word.specs.Prelude.{word_of}
 use Rattle.sc_core.specs.Prelude.{meaning}
 use Rattle.sc_image.specs.declared.parts.ImageParts.{ImageParts}
 use Rattle.sc_top_words.specs.declared.command.RunOptions.{RunOptions}
-use Rattle.std.specs.Prelude.{◌≡◌, ◌≤◌, ℕ, Bool, true, false, IsTrue, List, [], length, map, take, Option, Some, None, Ok}
-use Rattle.sc_chain.specs.declared.explanation.Explanation.{Explanation}
+use Rattle.std.specs.Prelude.{◌≡◌, ◌≤◌, ℕ, Bool, true, false, IsTrue, List, [], length, map, take, Option, Some, None}
+use Rattle.std.specs.Prelude.{Ok}
+use Rattle.sc_core.specs.declared.explanation.Explanation.{Explanation}
 use Rattle.sc_core.specs.declared.run.SourceRun.{SourceRun}
 use Rattle.sc_report.specs.Check.{check_text}
 use Rattle.sc_report_made.specs.Text.{made_text}
@@ -20,11 +22,11 @@ use Rattle.sc_top_words.specs.declared.command.MakeOptions.{MakeOptions}
 use Rattle.sc_top_words.specs.declared.command.MeaningOptions.{MeaningOptions}
 
 -- what a program means, with the turns, events and inputs of the options
-abbrev pub meant : MeaningOptions → ProgramTree → SourceRun
-meant options program = meaning program (map word_of options.inputs) options.turns options.events
+abbrev pub meaning_asked : MeaningOptions → ProgramTree → SourceRun
+meaning_asked options program = meaning program (map word_of options.inputs) options.turns options.events
 
 -- the machine's run on an image
-abbrev pub machine_run : RunOptions → ImageParts → Run
+abbrev pub machine_run : RunOptions → ImageParts → MachineRun
 machine_run options image = machine image (map word_of options.inputs) options.steps options.events
 
 -- the same in words, by these names
@@ -57,7 +59,7 @@ pub record IsGoodText (command : Command) (bytes : List ℕ) : Type 0 where
 -- account
 abbrev pub output : Command → ProgramTree → ImageParts → List ℕ
 output commands.Check program image = check_text program.interfaces
-output (commands.Meaning options) program image = meaning_text program.interfaces (meant options program)
+output (commands.Meaning options) program image = meaning_text program.interfaces (meaning_asked options program)
 output commands.Compile program image = image_bytes image
 output (commands.Run options) program image = machine_text program.interfaces options image
 output (commands.Exec options) program image = []
@@ -79,7 +81,7 @@ comp_of link = link.comp
 -- perform their parts of the trace
 abbrev pub text_after : SourceParts → Explanation → (links : ℕ) → List ℕ
 text_after source explanation links =
-    recomposed source explanation.trace (among (map comp_of (take links explanation.links)))
+    recomposed source explanation.trace (is_listed (map comp_of (take links explanation.links)))
 
 -- what `explain` writes: the report, or one text of the chain
 abbrev pub account : (show : Option ℕ) → SourceParts → Explanation → List ℕ
@@ -95,11 +97,13 @@ pub record IsAccounted (options : RunOptions) (show : Option ℕ) (bytes text : 
   pub explanation : Explanation
   pub explained : IsExplained source (map word_of options.inputs) options.steps options.events explanation
   pub written : text ≡ account show source explanation
+  -- no text of the chain is longer than `meaning` takes
+  pub short : (links : ℕ) → length (text_after source explanation links) ≤ most_text
 
 -- the bytes are those of an image, and the text reports the machine's run on it, by the image's own names
 pub record IsExecuted (options : RunOptions) (bytes text : List ℕ) : Type 0 where
   pub read : IsImage bytes
-  pub written : text ≡ machine_text (interfaces_of read.image) options read.image
+  pub written : text ≡ machine_text (image_interfaces read.image) options read.image
 
 -- the text of a made program is good input of every command that takes a text, and no longer than any of them takes
 pub record IsMadeText (options : MakeOptions) (text : List ℕ) : Type 0 where

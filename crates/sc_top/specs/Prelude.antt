@@ -16,9 +16,10 @@ pub use Rattle.sc_top.specs.Failure.{IsInputCause, IsOutputCause, of_image_fault
 pub use Rattle.sc_top.specs.Failure.{of_words_fault, status_by, status_of}
 pub use Rattle.sc_top.specs.Fetching.{Fetches}
 pub use Rattle.sc_top.specs.Laws.{CompiledImagesRun, RunsAs}
-pub use Rattle.sc_top.specs.Output.{HasImage, IsAccounted, IsExecuted, IsGoodText, IsMade, IsMadeBy, IsMadeText, IsOutput}
+pub use Rattle.sc_top.specs.Output.{HasImage, IsAccounted, IsExecuted, IsGoodText, IsMade, IsMadeBy, IsMadeText}
+pub use Rattle.sc_top.specs.Output.{IsOutput}
 pub use Rattle.sc_top.specs.Output.{IsSummary, IsTextOutput, account, comp_of, compiles, machine_run, machine_text}
-pub use Rattle.sc_top.specs.Output.{meant, output, text_after}
+pub use Rattle.sc_top.specs.Output.{meaning_asked, output, text_after}
 pub use Rattle.sc_top.specs.Status.{bytes_of, fixed_text, kind_text, large_text, own_text, owner_text, phase_word}
 pub use Rattle.sc_top.specs.Status.{refusal_text, status_number, status_text}
 pub use Rattle.sc_top.specs.Texts.{ArePerforming, IsBounded, IsCompiling, IsNamed, IsReading, of_compile_fault}

@@ -1,16 +1,16 @@
 //! The command that accounts for a run.
 
-ghost use Rattle.sc_base.specs.Prelude.{most_events};
+ghost use Rattle.sc_base.specs.Prelude.{most_compiled, most_events};
 ghost use Rattle.sc_top.specs.Prelude.{ArePerforming, Explain, IsCompiling, IsExplained, IsFault, IsOutput};
 ghost use Rattle.sc_top.specs.Prelude.{IsOutputCause, account, legal, replacement_of, text_after};
 ghost use Rattle.sc_word.specs.Prelude.{word_of};
-ghost use Rattle.std.specs.Prelude.{◌≡◌, ◌≤◌, true, map, take, None, IfOk, IfErr};
+ghost use Rattle.std.specs.Prelude.{◌≡◌, ◌≤◌, true, length, map, take, None, IfOk, IfErr};
 
 use crate::failure::{Failure, compile_failure};
 use crate::text::read_source;
 use sc_base::{OutOfMemory, Text};
-use sc_chain::{ExplainFault, Explanation, Link, Replacement, recompose};
-use sc_core::Program;
+use sc_chain::{ExplainFault, Replacement, recompose};
+use sc_core::{Explanation, Link, Program};
 use sc_top_words::RunOptions;
 use sc_types::SourceText;
 use sqlite_items::Items;
@@ -24,6 +24,7 @@ pub(crate) fn explain(
     bytes: &[u8],
 ) -> Result<Text, Failure>
     requires few { options.now.events ≤ most_events }
+    requires short { length bytes.now ≤ most_compiled }
     ensures ok { IfOk result (IsOutput (Explain options.now show) bytes.now) }
     ensures cause { IfErr result (IsOutputCause (Explain options.now show) bytes.now) }
 {

@@ -7,7 +7,8 @@ ghost use Rattle.sc_report_made.specs.Laws.{IsAccepted, IsAsked};
 ghost use Rattle.std.specs.Prelude.{◌≡◌, [], None, IfOk};
 
 use sc_base::{OutOfMemory, Text};
-use sc_chain::{ExplainFault, Explanation, explain};
+use sc_chain::{ExplainFault, explain};
+use sc_core::Explanation;
 use sc_lex::TextFault;
 use sc_report::{make_text, summary_text};
 use sc_report_made::made_texts_are_accepted;

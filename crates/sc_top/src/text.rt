@@ -1,7 +1,7 @@
 //! The commands that read texts.
 
 ghost use Rattle.sc_top.specs.Prelude.{Accepts, Check, Compile, HasImage, IsCompiling, IsOutput, IsOutputCause};
-ghost use Rattle.sc_top.specs.Prelude.{IsReading, IsSource, Meaning, Run, meant};
+ghost use Rattle.sc_top.specs.Prelude.{IsReading, IsSource, Meaning, Run, meaning_asked};
 ghost use Rattle.std.specs.Prelude.{◌≡◌, IfOk, IfErr};
 ghost use Rattle.sc_report.specs.Report.{meaning_text};
 
@@ -53,7 +53,7 @@ fn meaning_text(
     options: &MeaningOptions,
     program: &Program,
 ) -> Result<Text, OutOfMemory>
-    ensures { IfOk result (λ text. text ≡ meaning_text program.now.interfaces (meant options.now program.now)) }
+    ensures { IfOk result (λ text. text ≡ meaning_text program.now.interfaces (meaning_asked options.now program.now)) }
 {
     // Every program is well typed, so that its main compartment is there, and its trace is legal.
     let _tree = program.tree();

@@ -1,5 +1,5 @@
-ghost use Rattle.sc_top.specs.Prelude.{Answers, Command, IsBounded, IsOutput, IsOutputCause, IsSilent, Prints, Says};
-ghost use Rattle.sc_top.specs.Prelude.{status_by, status_text};
+ghost use Rattle.sc_top.specs.Prelude.{Answers, Command, IsBounded, IsOutput, IsOutputCause, IsSilent, IsWithin};
+ghost use Rattle.sc_top.specs.Prelude.{Prints, Says, status_by, status_text};
 ghost use Rattle.sc_top_words.specs.Prelude.{command};
 ghost use Rattle.std.specs.Prelude.{◌≡◌, ◌≢◌, ◌⊎◌, None, Some, map, IfOk, IfErr, IsErrOf};
 ghost use Rattle.std.specs.String.{string_bytes};
@@ -98,7 +98,8 @@ fn answer<S: Source, O: Sink>(
 
 // The command's output for these bytes.
 fn output(alloc: Global, command: &Command, bytes: &[u8]) -> Result<Text, Failure>
-    requires { IsBounded command.now }
+    requires bounded { IsBounded command.now }
+    requires within { IsWithin command.now bytes.now }
     ensures ok { IfOk result (IsOutput command.now bytes.now) }
     ensures cause { IfErr result (IsOutputCause command.now bytes.now) }
 {

@@ -1,4 +1,4 @@
--- Numbers as `parse` reads them, and lists cut at their commas.
+-- Lists cut at their commas.
 use Rattle.sc_top_words.proofs.Common.{Bool, Err, List, None, Ok, OkIff, Option, Result, Some, [], after_first}
 use Rattle.sc_top_words.proofs.Common.{all_ascii_digits, and_parts, ap, append_assoc, ap₂, arith, cond, eq-eqb}
 use Rattle.sc_top_words.proofs.Common.{eqb-true, false, first_piece, get_or, inl, inr, integer, integer_list, integers}
@@ -12,84 +12,6 @@ use Rattle.std.specs.Str.Parse.{ParsesSigned, ParsesUnsigned, digits_value}
 use Rattle.std.proofs.lemmas.Iterator.Adapters.{option_map_id}
 use Rattle.std.proofs.lemmas.Str.Parse.{IsNumeralModel, numerals_by_value, parse_plain, parse_signed_minus}
 use Rattle.std.proofs.lemmas.Str.Parse.{parse_signed_plain, tells_all_ascii_digits}
-
--- ---- numbers
-
-own : IsNumeralModel (λ ds. all_ascii_digits ds ≡ true) (digits_value 10)
-own = numerals_by_value _ tells_all_ascii_digits
-
--- what a result is, by a test that its condition passes
-by_test : {T E : Type 0} (r : Result T E) (P : Type 0) (v : T) (b : Bool) → OkIff r P v → (P → b ≡ true) →
-    (b ≡ true → P) → result_ok r ≡ cond b (Some v) None
-by_test (Ok x) P v b h to from = rw (to h.0) (ap Some h.1)
-by_test (Err e) P v true h to from = absurd (h (from refl))
-by_test (Err e) P v false h to from = refl
-
-abbrev test : (most : ℕ) → List ℕ → Bool
-test most text = (nat_lt 0 (length text) && all_ascii_digits text) && nat_le (digits_value 10 text) most
-
-passes : (most : ℕ) (text : List ℕ) → all_ascii_digits text ≡ true → 0 < length text → digits_value 10 text ≤ most →
-    test most text ≡ true
-passes most text digits some within = rw (
-  lt-ltb 0 (length text) some,
-  digits,
-  le-leb (digits_value 10 text) most within,
-) refl
-
-parts : (most : ℕ) (text : List ℕ) → test most text ≡ true →
-    (all_ascii_digits text ≡ true) × (0 < length text) × (digits_value 10 text ≤ most)
-parts most text e =
-    let all = and_parts _ _ e in
-    let prefix = and_parts _ _ all.0 in
-    (prefix.1, ltb-true 0 _ prefix.0, leb-true _ most all.1)
-
-within_by_test : {T : Type 0} (f : ℕ → T) (most : ℕ) (text : List ℕ) →
-    cond (test most text) (Some (f (digits_value 10 text))) None ≡ option_map f (number_within 0 most text)
-within_by_test {T} f most text = go (nat_lt 0 _ && all_ascii_digits text)
-  where
-    step : (low high : Bool) → low ≡ true → cond high (Some (f (digits_value 10 text))) None ≡
-        option_map f (cond (low && high) (Some (digits_value 10 text)) None)
-    step true true e = refl
-    step true false e = refl
-    step false high e = absurd (true≢false (sym e))
-
-    go : (a : Bool) → cond (a && nat_le (digits_value 10 text) most) (Some (f (digits_value 10 text))) None
-        ≡ option_map f (option_and_then (when_within 0 most) (cond a (Some (digits_value 10 text)) None))
-    go true = step _ (nat_le _ most) (le-leb 0 _ (omega arith))
-    go false = refl
-
--- the digits of a text that doesn't begin with `+`
-pub digits_read : {E : Type 0} (text : List ℕ) (r : Result ℕ E) → ParsesUnsigned 32 10 text r →
-    (slice_index text 0 == 43) ≡ false → result_ok r ≡ number_within 0 4294967295 text
-digits_read text r h plain =
-    let no_plus : get_or text 0 0 ≢ 43 = λ e. true≢false (sym (eq-eqb _ 43 e) ∙ plain) in
-    let settings = parse_plain own 32 text r h no_plus in
-    by_test r _ _ _ settings (λ p. passes 4294967295 text p.0 p.1 (omega (arith, p.2)))
-    (λ e. let all = parts 4294967295 text e in (all.0, all.1, omega (arith, all.2)))
-    ∙ (within_by_test _ 4294967295 text ∙ option_map_id _)
-
--- an integer that doesn't begin with `+`
-pub integer_read : {E : Type 0} (text : List ℕ) (r : Result ℤ E) → ParsesSigned w32 10 text r →
-    (slice_index text 0 == 43) ≡ false → result_ok r ≡ integer text
-integer_read [] r h plain = by_test r _ _ false (parse_signed_plain own w32 [] r h (λ e. absurd (omega arith))
-    (λ e. absurd (omega arith))) (λ p. absurd (omega (arith, p.1))) (λ e. absurd (true≢false (sym e)))
-integer_read (c ∷ cs) r h plain = go (c == 45) refl
-  where
-    go : (b : Bool) → (c == 45) ≡ b → result_ok r ≡ cond b (option_map (λ n. neg_ℤ (pos n))
-        (number_within 0 2147483648 cs)) (option_map pos (number_within 0 2147483647 (c ∷ cs)))
-    go true e =
-        let settings = parse_signed_minus own w32 (c ∷ cs) r h (eqb-true c 45 e) in
-        by_test r _ (neg_ℤ (pos (digits_value 10 cs))) (test 2147483648 cs) settings
-        (λ p. passes 2147483648 cs p.0 p.1 p.2) (λ e. let all = parts 2147483648 cs e in (all.0, all.1, all.2))
-        ∙ within_by_test (λ n. neg_ℤ (pos n)) 2147483648 cs
-    go false e =
-        let no_minus : c ≢ 45 = λ is. true≢false (sym (eq-eqb c 45 is) ∙ e) in
-        let no_plus : c ≢ 43 = λ is. true≢false (sym (eq-eqb c 43 is) ∙ plain) in
-        let settings = parse_signed_plain own w32 (c ∷ cs) r h no_plus no_minus in
-        by_test r _ (pos (digits_value 10 (c ∷ cs))) (test 2147483647 (c ∷ cs)) settings
-        (λ p. passes 2147483647 (c ∷ cs) p.0 p.1 (omega (arith, p.2)))
-        (λ e. let all = parts 2147483647 (c ∷ cs) e in (all.0, all.1, omega (arith, all.2)))
-        ∙ within_by_test pos 2147483647 (c ∷ cs)
 
 -- ---- the pieces of a list
 

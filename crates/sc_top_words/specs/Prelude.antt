@@ -2,8 +2,8 @@
 pub use Rattle.clap.specs.Words.{app_of, found_of, kind_of}
 pub use Rattle.sc_top_words.specs.Application.{IsArgumentOf, IsCommandOf, IsReading, Says, application, flag_rule}
 pub use Rattle.sc_top_words.specs.Application.{flag_text, shape_with, top, valued_rule}
-pub use Rattle.sc_top_words.specs.Numbers.{first_piece, integer, integer_list, is_comma, number, number_within}
-pub use Rattle.sc_top_words.specs.Numbers.{onto_first, pieces_after, prepended, when_within}
+pub use Rattle.sc_number.specs.Numbers.{integer, number, number_within, when_within}
+pub use Rattle.sc_top_words.specs.Numbers.{first_piece, integer_list, is_comma, onto_first, pieces_after, prepended}
 unfoldable pub use Rattle.sc_top_words.specs.Numbers.{integers, pieces}
 pub use Rattle.sc_top_words.specs.Options.{Form, Given, begins_with_hyphen, each_once, given_value, has_option}
 pub use Rattle.sc_top_words.specs.Options.{has_value, is_among, is_bare, more, name_and_value, named, named_option}

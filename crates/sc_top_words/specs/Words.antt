@@ -3,7 +3,8 @@ use Rattle.sc_base.specs.Prelude.{Text, most_compartments, most_events}
 use Rattle.std.specs.Prelude.{ℕ, ℤ, Bool, if◌then◌else◌, List, [], ◌∷◌, codes, Option, Some, None, option_and_then}
 use Rattle.std.specs.Prelude.{option_map, find}
 use Rattle.std.specs.Str.{bytes_eq}
-use Rattle.sc_top_words.specs.Numbers.{number_within, integer_list}
+use Rattle.sc_number.specs.Numbers.{number_within}
+use Rattle.sc_top_words.specs.Numbers.{integer_list}
 use Rattle.sc_top_words.specs.Options.{Form, Given, has_option, options, given_value}
 use Rattle.sc_top_words.specs.declared.command.Command.{Command}
 use Rattle.sc_top_words.specs.declared.command.Command.TheVariants.{Check, Meaning, Compile, Run, Exec, Explain, Make}

@@ -1,5 +1,5 @@
 ghost use Rattle.sc_top_words.specs.Prelude.{first_piece, integer, integer_list, number_within, pieces_after};
-ghost use Rattle.std.specs.Prelude.{◌≡◌, Some, None, IfOk, IsErrOf, length, option_map, slice_index, ◌==◌};
+ghost use Rattle.std.specs.Prelude.{◌≡◌, Some, None, IfOk, IsErrOf, length, option_map};
 
 use crate::WordsFault;
 use sqlite_items::Items;
@@ -12,39 +12,13 @@ const LIST_LIMIT: usize = 65_536;
 pub(crate) fn read_number(text: &str, low: u32, high: u32) -> Option<u32>
     ensures { result ≡ number_within low high text.now }
 {
-    let number = read_digits(text)?;
-    if low <= number && number <= high {
-        Some(number)
-    } else {
-        None
-    }
+    sc_number::number_within(text.as_bytes(), low, high)
 }
 
-#[tactic(auto, using(crate::proofs::Digits::digits_read))]
-fn read_digits(text: &str) -> Option<u32>
-    ensures { result ≡ number_within 0 4294967295 text.now }
-{
-    if has_plus(text) {
-        return None;
-    }
-    text.parse::<u32>().ok()
-}
-
-// A number may not begin with a `+`, which `parse` lets pass.
-fn has_plus(text: &str) -> bool
-    ensures { result ≡ (slice_index text.now 0 == 43) }
-{
-    text.starts_with('+')
-}
-
-#[tactic(auto, using(crate::proofs::Digits::integer_read))]
 fn read_integer(text: &str) -> Option<i32>
     ensures { result ≡ integer text.now }
 {
-    if has_plus(text) {
-        return None;
-    }
-    text.parse::<i32>().ok()
+    sc_number::integer(text.as_bytes())
 }
 
 /// The integers of a text between its commas.

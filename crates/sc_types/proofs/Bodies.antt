@@ -3,10 +3,10 @@ use Rattle.sc_types.proofs.Common.{Bool, CallTree, Callable, Callees, ExprTree, 
 use Rattle.sc_types.proofs.Common.{Scope, SimpleKind, SimpleTree, Some, StmtKind, StmtKind-F, StmtTree, Ty, TypedStmt}
 use Rattle.sc_types.proofs.Common.{TypedStmtKind, TypedStmtKind-F, Visible, [], and_first, and_from, and_rest, ap}
 use Rattle.sc_types.proofs.Common.{arith, assign_call_fits, assign_call_holds, call_fits, call_holds, call_known}
-use Rattle.sc_types.proofs.Common.{concat, expr_known, going_to_some, is_callable, judged, kind_fits, kind_lines}
-use Rattle.sc_types.proofs.Common.{kind_step, list_all, map, option_map, part_fits, part_lines, refl, result_goes}
+use Rattle.sc_types.proofs.Common.{concat, expr_known, going_to_some, is_callable, judged, kind_fits, kind_type_lines}
+use Rattle.sc_types.proofs.Common.{kind_typed, list_all, map, option_map, part_fits, part_type_lines, refl, result_goes}
 use Rattle.sc_types.proofs.Common.{return_call_holds, returned_call_fits, roll-TypedStmtKind, simple_fits, simple_holds}
-use Rattle.sc_types.proofs.Common.{simple_known, stmt_fits, stmt_induction, stmt_lines, stmt_step, sym}
+use Rattle.sc_types.proofs.Common.{simple_known, stmt_fits, stmt_induction, stmt_type_lines, stmt_typed, sym}
 use Rattle.sc_types.proofs.Common.{target_signature, true, typed_call, typed_simple, typed_simple_kind, typed_stmt}
 use Rattle.sc_types.proofs.Common.{typed_value, ℕ, ◌&&◌, ◌∙◌, ◌∷◌, ◌≡◌}
 use Rattle.sc_core.proofs.Layers.{layer_of, on_line, stmt_at}
@@ -53,20 +53,21 @@ module _ (known : Known) (visible : Visible) (callees : Callees) (scope : Scope)
   simple_is (simple.AssignCall place call) in_names holds = assign_call_is place call in_names holds
   simple_is (simple.Call call) in_names holds = call_is call in_names holds
 
-  part_is : (part : Option SimpleTree) → names.part_lines known part ≡ [] →
-      part_lines visible callees scope result part ≡ [] →
+  part_is : (part : Option SimpleTree) → names.part_name_lines known part ≡ [] →
+      part_type_lines visible callees scope result part ≡ [] →
       part_fits scope callable result (option_map (typed_simple visible callees) part) ≡ true
   part_is None in_names holds = refl
   part_is (Some s) in_names holds = simple_is s.kind (rule_holds _ s.line in_names) (rule_holds _ s.line holds)
 
   abbrev Fits : StmtTree → Type 0
-  Fits s = (looping : Bool) → names.stmt_lines known s looping ≡ [] → stmt_lines visible callees scope result s ≡ [] →
+  Fits s = (looping : Bool) → names.stmt_name_lines known s looping ≡ [] → stmt_type_lines visible callees scope result
+      s ≡ [] →
       stmt_fits scope callable result (typed_stmt visible callees result s) looping ≡ true
 
   -- statements in order, where each fits
   all_fit : (looping : Bool) (stmts : List StmtTree) →
-      tree_induction.Each Fits stmts → names.all_in known looping (map (names.stmt_lines known) stmts) ≡ [] →
-      concat (map (stmt_lines visible callees scope result) stmts) ≡ [] → list_all {X = Bool → Bool}
+      tree_induction.Each Fits stmts → names.all_in known looping (map (names.stmt_name_lines known) stmts) ≡ [] →
+      concat (map (stmt_type_lines visible callees scope result) stmts) ≡ [] → list_all {X = Bool → Bool}
       (λ s. s looping) (map (stmt_fits scope callable result) (map (typed_stmt visible callees result) stmts)) ≡ true
   all_fit looping [] each in_names holds = refl
   all_fit looping (s ∷ stmts) each in_names holds =
@@ -77,16 +78,16 @@ module _ (known : Known) (visible : Visible) (callees : Callees) (scope : Scope)
   Layer = StmtKind-F StmtKind StmtTree
 
   abbrev in_names_at : Layer → ℕ → Bool → List ℕ
-  in_names_at k = tree_layers.layer_of (ℕ → Bool → List ℕ) (Bool → List ℕ) (names.kind_lines known)
+  in_names_at k = tree_layers.layer_of (ℕ → Bool → List ℕ) (Bool → List ℕ) (names.kind_name_lines known)
       (λ s. s.kind s.line) k
 
   abbrev lines_at : Layer → ℕ → List ℕ
-  lines_at k = tree_layers.layer_of (ℕ → List ℕ) (List ℕ) (kind_lines visible callees scope result)
+  lines_at k = tree_layers.layer_of (ℕ → List ℕ) (List ℕ) (kind_type_lines visible callees scope result)
       (λ s. s.kind s.line) k
 
   abbrev typed_at : Layer → TypedStmtKind
-  typed_at k = tree_layers.layer_of TypedStmtKind TypedStmt (kind_step visible callees result)
-      (stmt_step visible callees result) k
+  typed_at k = tree_layers.layer_of TypedStmtKind TypedStmt (kind_typed visible callees result)
+      (stmt_typed visible callees result) k
 
   module _ (line : ℕ) (k : TypedStmtKind-F TypedStmtKind TypedStmt) (looping : Bool) where
     -- a statement of this layer
@@ -131,6 +132,7 @@ module _ (known : Known) (visible : Visible) (callees : Callees) (scope : Scope)
 
   pub fits : (s : StmtTree) → Fits s
   fits = stmt_induction Fits (λ line k under looping in_names holds. ap (λ s. stmt_fits scope callable result s looping)
-      (tree_layers.stmt_at _ _ _ (stmt_step visible callees result) line k) ∙ by_kind line k under looping
-      (sym (ap (λ lines. lines looping) (tree_layers.stmt_at _ _ (names.kind_lines known) (λ s. s.kind s.line) line k))
+      (tree_layers.stmt_at _ _ _ (stmt_typed visible callees result) line k) ∙ by_kind line k under looping
+      (sym (ap (λ lines. lines looping) (tree_layers.stmt_at _ _ (names.kind_name_lines known) (λ s. s.kind s.line) line
+      k))
       ∙ in_names) (sym (tree_layers.stmt_at _ _ _ _ line k) ∙ holds))

@@ -2,10 +2,11 @@
 use Rattle.sc_types.proofs.Common.{Bool, Callable, Callees, Decl, ExportLine, FunctionTree, HeadTree, ImportLine, List}
 use Rattle.sc_types.proofs.Common.{None, SectionTree, Some, [], agree, agrees_as, agrees_there, agrees_with, allowed}
 use Rattle.sc_types.proofs.Common.{and_first, any_passes_from_place, ap, arith, bytes_eq, callable_in, callees_of}
-use Rattle.sc_types.proofs.Common.{declared, export_at, false, function_names, functions_in, head_crosses, head_named}
+use Rattle.sc_types.proofs.Common.{declared, export_at, false, function_names, function_decls, head_crosses, head_named}
 use Rattle.sc_types.proofs.Common.{head_of, heads_in, if◌then◌else◌, implied, import_named, import_names, import_of}
 use Rattle.sc_types.proofs.Common.{import_target, imported_target, input_name, interface_of, interfaces_of, is_callable}
-use Rattle.sc_types.proofs.Common.{is_environment, is_input, is_numbered, is_offered, is_output, is_some, known_in}
+use Rattle.sc_types.proofs.Common.{is_environment, is_input_head, is_numbered, is_offered, is_output_head, is_some}
+use Rattle.sc_types.proofs.Common.{known_in}
 use Rattle.sc_types.proofs.Common.{list_any, list_any-append, map, not, offered, offering, option_map, option_signature}
 use Rattle.sc_types.proofs.Common.{or_first, or_right, output_name, promised, proto_names, proto_signature, refl}
 use Rattle.sc_types.proofs.Common.{same_import, same_text, signature_by, slice_get, slice_get-map, subst, sym, tags}
@@ -68,12 +69,12 @@ module _ (sections : List SectionTree) (hold : (j : ℕ) (s : SectionTree) → s
     Goal i = target_signature callable (import_target i) ≡ Some (signature_by (tags section) head)
 
     -- the environment's
-    input_goal : import_of sections number line ≡ import.Input → is_input head ≡ true → Goal import.Input
+    input_goal : import_of sections number line ≡ import.Input → is_input_head head ≡ true → Goal import.Input
     input_goal is agrees = ap (λ b. allowed b (Some (record { params = []; result = Some ty.Int })))
         (subst (λ i. list_any (same_import i) callable.imports ≡ true) is (imported f.at line f.got))
         ∙ ap Some (sym (input_signature _ head agrees))
 
-    output_goal : import_of sections number line ≡ import.Output → is_output head ≡ true → Goal import.Output
+    output_goal : import_of sections number line ≡ import.Output → is_output_head head ≡ true → Goal import.Output
     output_goal is agrees = ap (λ b. allowed b (Some (record { params = ty.Int ∷ []; result = None })))
         (subst (λ i. list_any (same_import i) callable.imports ≡ true) is (imported f.at line f.got))
         ∙ ap Some (sym (output_signature _ head agrees))
@@ -84,7 +85,7 @@ module _ (sections : List SectionTree) (hold : (j : ℕ) (s : SectionTree) → s
 
     abbrev agrees_by : Bool → Bool → Bool → Bool
     agrees_by env input output =
-        if env then (if input then is_input head else if output then is_output head else true) else
+        if env then (if input then is_input_head head else if output then is_output_head head else true) else
         agrees_there sections number section head (offering number line 0 sections)
 
     abbrev offered_by : Bool → Bool → Bool → Bool
@@ -125,7 +126,7 @@ module _ (sections : List SectionTree) (hold : (j : ℕ) (s : SectionTree) → s
           (each_at (ExportFacts sections o.number other) other.exports export.at export_line there_facts.exports
           export.got).defined
 
-      g : FoundFunction export_line.name (functions_in other.decls)
+      g : FoundFunction export_line.name (function_decls other.decls)
       g = find_function _ _ defined
 
       import_is : import_of sections number line ≡ import.Function o.number export.at

@@ -2,16 +2,18 @@
 use Rattle.sc_types.proofs.Common.{BaseTree, Bool, Callees, ExportLine, FunctionParam, FunctionTree, HeadTree}
 use Rattle.sc_types.proofs.Common.{ImportLine, List, None, Option, ParamTree, SectionTree, Some, TypeName, TypedParam}
 use Rattle.sc_types.proofs.Common.{[], agree, and_first, and_rest, ap, arith, base_of, base_scalar, bytes_eq, comp_at}
-use Rattle.sc_types.proofs.Common.{crosses, export_at, false, functions_in, gives_int, head_crosses, head_of}
-use Rattle.sc_types.proofs.Common.{if◌then◌else◌, import_named, interface_of, interfaces_of, is_input, is_int}
-use Rattle.sc_types.proofs.Common.{is_numbered, is_output, is_some, length, list_all, list_any, map, nat_eq, nat_tests}
-use Rattle.sc_types.proofs.Common.{not, number_of, offering, offers, option_and_then, option_map, param_of, param_ty}
+use Rattle.sc_types.proofs.Common.{crosses, export_at, false, function_decls, gives_int, head_crosses, head_of}
+use Rattle.sc_types.proofs.Common.{if◌then◌else◌, import_named, interface_of, interfaces_of, is_input_head, is_int_type}
+use Rattle.sc_types.proofs.Common.{is_numbered, is_output_head, is_some, length, list_all, list_any, map, nat_eq}
+use Rattle.sc_types.proofs.Common.{nat_tests}
+use Rattle.sc_types.proofs.Common.{not, number_by_name, offering, offers, option_and_then, option_map, param_of}
+use Rattle.sc_types.proofs.Common.{param_ty}
 use Rattle.sc_types.proofs.Common.{promised, proto_of, proto_signature, refl, result_crosses, result_of, result_ty}
 use Rattle.sc_types.proofs.Common.{same_params, same_result, same_type, scalar_of, scalar_ty, signature_by}
 use Rattle.sc_types.proofs.Common.{signature_of, slice_get, slice_get-map, starred, suc, sym, tags, takes_int}
 use Rattle.sc_types.proofs.Common.{takes_nothing, true, type_of_name, typed_function, typed_param, ℕ, ◌++◌, ◌+◌, ◌==◌}
 use Rattle.sc_types.proofs.Common.{◌||◌, ◌∙◌, ◌∷◌, ◌≡◌}
-use Rattle.sc_types_interfaces.specs.Prelude.{same_base}
+use Rattle.sc_types_interfaces.specs.Prelude.{same_named_base}
 use Rattle.sc_types_elab.proofs.Programs.{comp_at as elab_comp_at}
 use Rattle.sc_ast.specs.declared.types.BaseTree.TheVariants as base_tree
 use Rattle.sc_core.specs.declared.ty.Ty.TheVariants as ty
@@ -23,7 +25,8 @@ use Rattle.sc_types.proofs.Lookups.{find_names, any_names}
 zero_is : (n : ℕ) → nat_eq n 0 ≡ true → n ≡ 0
 zero_is n h = grind (arith, nat_tests)
 
-crossing_base : (tags : List Text) (b : BaseTree) → (same_base b base_tree.Int || same_base b base_tree.Unsigned) ≡
+crossing_base : (tags : List Text) (b : BaseTree) → (same_named_base b base_tree.Int || same_named_base b
+    base_tree.Unsigned) ≡
     true → starred 0 (base_of tags b) ≡ scalar_ty (base_scalar b)
 crossing_base tags base_tree.Int h = refl
 crossing_base tags base_tree.Unsigned h = refl
@@ -33,7 +36,7 @@ pub crossing_ty : (tags : List Text) (t : TypeName) → crosses t ≡ true → t
 crossing_ty tags t h = ap (λ stars. starred stars (base_of tags t.base))
     (zero_is t.stars (and_first _ _ h)) ∙ crossing_base tags t.base (and_rest _ _ h)
 
-same_scalar : (a b : BaseTree) → same_base a b ≡ true → base_scalar a ≡ base_scalar b
+same_scalar : (a b : BaseTree) → same_named_base a b ≡ true → base_scalar a ≡ base_scalar b
 same_scalar base_tree.Int base_tree.Int h = refl
 same_scalar base_tree.Int (base_tree.Struct tag) h = refl
 same_scalar base_tree.Unsigned base_tree.Unsigned h = refl
@@ -73,12 +76,13 @@ agreed_signature tags name tree head same h = λ i. record {
   result = sym (agreed_result tags tree.head.result head.result (and_first _ _ same) (and_first _ _ h)) i;
 }
 
-int_by : (tags : List Text) (stars : ℕ) (b : BaseTree) → nat_eq stars 0 ≡ true → same_base b base_tree.Int ≡ true →
+int_by : (tags : List Text) (stars : ℕ) (b : BaseTree) → nat_eq stars 0 ≡ true → same_named_base b base_tree.Int ≡ true
+    →
     starred stars (base_of tags b) ≡ ty.Int
 int_by tags stars base_tree.Int h k = ap (λ n. starred n (base_of tags base_tree.Int)) (zero_is stars h)
 int_by tags stars _ h k = cc
 
-pub int_ty : (tags : List Text) (t : TypeName) → is_int t ≡ true → type_of_name tags t ≡ ty.Int
+pub int_ty : (tags : List Text) (t : TypeName) → is_int_type t ≡ true → type_of_name tags t ≡ ty.Int
 int_ty tags t h = int_by tags t.stars t.base (and_first _ _ h) (and_rest _ _ h)
 
 int_result : (tags : List Text) (result : Option TypeName) → gives_int result ≡ true →
@@ -100,14 +104,14 @@ int_params : (tags : List Text) (params : List ParamTree) → takes_int params �
 int_params tags (p ∷ []) h = ap (λ t. t ∷ []) (int_ty tags p.ty h)
 int_params tags _ h = cc
 
-pub input_signature : (tags : List Text) (head : HeadTree) → is_input head ≡ true →
+pub input_signature : (tags : List Text) (head : HeadTree) → is_input_head head ≡ true →
     signature_by tags head ≡ record { params = []; result = Some ty.Int }
 input_signature tags head h = λ i. record {
   params = no_params tags head.params (and_rest _ _ h) i;
   result = int_result tags head.result (and_first _ _ h) i;
 }
 
-pub output_signature : (tags : List Text) (head : HeadTree) → is_output head ≡ true →
+pub output_signature : (tags : List Text) (head : HeadTree) → is_output_head head ≡ true →
     signature_by tags head ≡ record { params = ty.Int ∷ []; result = None }
 output_signature tags head h = λ i. record {
   params = int_params tags head.params (and_rest _ _ h) i;
@@ -120,7 +124,7 @@ output_signature tags head h = λ i. record {
 pub record FoundBy {A : Type 0} (name_in : A → Text) (name : Text) (xs : List A) : Type 0 where
   pub at : ℕ
   pub item : A
-  pub place : number_of (map name_in xs) name ≡ Some at
+  pub place : number_by_name (map name_in xs) name ≡ Some at
   pub got : slice_get xs at ≡ Some item
   pub named : bytes_eq name (name_in item) ≡ true
 
@@ -152,8 +156,8 @@ module _ (section : SectionTree) (callees : Callees) where
     result = result_of section tree;
   }
 
-  pub own_at : (name : Text) (f : FoundFunction name (functions_in section.decls)) →
-      slice_get (map signature_of (map (typed_function section callees) (functions_in section.decls))) f.at ≡
+  pub own_at : (name : Text) (f : FoundFunction name (function_decls section.decls)) →
+      slice_get (map signature_of (map (typed_function section callees) (function_decls section.decls))) f.at ≡
       Some (signature_by (tags section) (head_of f.tree.head))
   own_at name f = slice_get-map _ _ f.at
       ∙ ap (option_map _) (slice_get-map _ _ f.at ∙ ap (option_map _) f.got) ∙ ap Some (own_signature f.tree)

@@ -18,7 +18,7 @@ pub use Rattle.std.specs.Option.{option_and_then, option_map, option_map_or}
 pub use Rattle.sc_base.proofs.Bools.{and_first, and_rest, implied}
 pub use Rattle.sc_base.proofs.Lists.{drop-step, get_after, get_prefix, map_twice, position-cons}
 pub use Rattle.sc_base.proofs.Texts.{same_text}
-pub use Rattle.sc_base.specs.Prelude.{is_numbered, most_compartments, most_exports, most_height, number_of}
+pub use Rattle.sc_base.specs.Prelude.{is_numbered, most_compartments, most_exports, most_height, number_by_name}
 pub use Rattle.sc_event.specs.Prelude.{comp_at, export_at}
 pub use Rattle.sc_event.specs.declared.interface.Interface.{Interface}
 pub use Rattle.sc_lex.specs.declared.fault.TextFault.TheVariants.{Refused}
@@ -45,7 +45,7 @@ pub use Rattle.sc_parse_read.proofs.Steps.{as_many, heading_fails}
 pub use Rattle.sc_parse_read.specs.Reading.{IsRead, Reads, TextPart, part_of}
 pub use Rattle.sc_types_scope.specs.Prelude.{Known, among, base_known, base_scalar, call_known, declared, defines_main}
 pub use Rattle.sc_types_scope.specs.Prelude.{earlier, environment, export_names, expr_known, function_in}
-pub use Rattle.sc_types_scope.specs.Prelude.{function_named, function_names, functions_in, global_in, global_names}
+pub use Rattle.sc_types_scope.specs.Prelude.{function_named, function_names, function_decls, global_in, global_names}
 pub use Rattle.sc_types_scope.specs.Prelude.{globals_in, head_in, heads_in, import_names, import_of, interface_of}
 pub use Rattle.sc_types_scope.specs.Prelude.{interfaces_from, interfaces_of, is_callable, is_environment, known_in}
 pub use Rattle.sc_types_scope.specs.Prelude.{line_of_text, main_from, main_name, member_known, names_broken}
@@ -56,7 +56,8 @@ unfoldable pub use Rattle.sc_types_scope.specs.Prelude.{noted_all}
 pub use Rattle.sc_types_interfaces.specs.Prelude.{HasFewExports, HasFewParams, IsWithinCounts, agree, agrees_as}
 pub use Rattle.sc_types_interfaces.specs.Prelude.{agrees_there, agrees_with, crosses, decls_from, exports_from}
 pub use Rattle.sc_types_interfaces.specs.Prelude.{gives_int, head_crosses, head_fits, imported_agrees, imports_from}
-pub use Rattle.sc_types_interfaces.specs.Prelude.{input_name, interface_broken, is_input, is_int, is_offered, is_output}
+pub use Rattle.sc_types_interfaces.specs.Prelude.{input_name, interface_broken, is_input_head, is_int_type, is_offered}
+pub use Rattle.sc_types_interfaces.specs.Prelude.{is_output_head}
 pub use Rattle.sc_types_interfaces.specs.Prelude.{is_plain, main_holds, output_name, result_crosses, same_params}
 pub use Rattle.sc_types_interfaces.specs.Prelude.{same_result, same_type, takes_int, takes_nothing}
 pub use Rattle.sc_core.specs.Prelude.{Callable, IsWellTyped, Scope, Signature, allowed, are_distinct, assign_call_fits}
@@ -79,15 +80,18 @@ pub use Rattle.sc_core.specs.declared.stmt.TypedStmtKind.{TypedStmtKind, TypedSt
 unfoldable pub use Rattle.sc_core.specs.declared.stmt.TypedStmtKind.{roll-TypedStmtKind}
 pub use Rattle.sc_core.specs.declared.ty.BaseTy.{BaseTy}
 pub use Rattle.sc_core.specs.declared.ty.Ty.{Ty}
-pub use Rattle.sc_types_elab_expr.specs.Prelude.{Callees, Found, Visible, beside, found, going_to, is_zero, step}
+pub use Rattle.sc_types_elab_expr.specs.Prelude.{Callees, Found, Visible, beside, variable_named, going_to}
+pub use Rattle.sc_types_elab_expr.specs.Prelude.{is_zero_literal, expr_typed}
 pub use Rattle.sc_types_elab_expr.specs.Prelude.{target_or, typed, variable_typed}
-pub use Rattle.sc_types_elab_stmt.specs.Prelude.{assign_call_holds, call_holds, going_to_all, going_to_some, kind_lines}
-pub use Rattle.sc_types_elab_stmt.specs.Prelude.{kind_step, part_lines, return_call_holds, simple_holds, stmt_lines}
-pub use Rattle.sc_types_elab_stmt.specs.Prelude.{stmt_step, typed_call, typed_simple, typed_simple_kind, typed_stmt}
+pub use Rattle.sc_types_elab_stmt.specs.Prelude.{assign_call_holds, call_holds, going_to_all, going_to_some}
+pub use Rattle.sc_types_elab_stmt.specs.Prelude.{kind_type_lines}
+pub use Rattle.sc_types_elab_stmt.specs.Prelude.{kind_typed, part_type_lines, return_call_holds, simple_holds}
+pub use Rattle.sc_types_elab_stmt.specs.Prelude.{stmt_type_lines}
+pub use Rattle.sc_types_elab_stmt.specs.Prelude.{stmt_typed, typed_call, typed_simple, typed_simple_kind, typed_stmt}
 pub use Rattle.sc_types_elab_stmt.specs.Prelude.{typed_value}
-pub use Rattle.sc_types_elab.specs.Prelude.{base_of, callees_of, cells_from, decl_lines, end_of_member, head_named}
+pub use Rattle.sc_types_elab.specs.Prelude.{base_of, callees_of, cells_from, decl_type_lines, end_of_member, head_named}
 pub use Rattle.sc_types_elab.specs.Prelude.{import_named, import_target, imported_target, init_holds, init_words}
-pub use Rattle.sc_types_elab.specs.Prelude.{is_sized, local_holds, locals_from, members_from, or_first, param_ty}
+pub use Rattle.sc_types_elab.specs.Prelude.{is_sized, local_holds, typed_locals_from, members_from, or_first, param_ty}
 pub use Rattle.sc_types_elab.specs.Prelude.{program_of, result_of, scope_in, sections_from, signature_by, struct_lines}
 pub use Rattle.sc_types_elab.specs.Prelude.{structs, tags, type_of, type_of_name, type_with, typed_function}
 pub use Rattle.sc_types_elab.specs.Prelude.{typed_global, typed_init, typed_local, typed_param, typed_section}
@@ -96,7 +100,8 @@ unfoldable pub use Rattle.sc_types_elab.specs.Prelude.{typed_locals, typed_struc
 pub use Rattle.sc_types.specs.Common.{FunctionTree, LocalTree, ProgramTree, Section, SectionTree}
 pub use Rattle.sc_types.specs.Prelude.{Accepts, AreLow, AreStarts, Fails, FailsRules, FailsTyped, IsKept, IsSource}
 pub use Rattle.sc_types.specs.Prelude.{IsTyped, call_nodes, counts_broken, decls_nodes, expr_nodes, expr_step}
-pub use Rattle.sc_types.specs.Prelude.{first_start, function_lines, function_nodes, global_lines, head_lines}
-pub use Rattle.sc_types.specs.Prelude.{init_nodes, is_small, line_beyond, lines_from, local_lines, local_nodes}
-pub use Rattle.sc_types.specs.Prelude.{part_nodes, parts_from, section_lines, simple_nodes, source_of, start_of}
+pub use Rattle.sc_types.specs.Prelude.{first_start, function_count_lines, function_nodes, global_count_lines}
+pub use Rattle.sc_types.specs.Prelude.{head_lines}
+pub use Rattle.sc_types.specs.Prelude.{init_nodes, is_small, line_beyond, count_lines_from, local_lines, local_nodes}
+pub use Rattle.sc_types.specs.Prelude.{part_nodes, parts_from, section_count_lines, simple_nodes, source_of, start_of}
 pub use Rattle.sc_types.specs.Prelude.{stmt_nodes, stmts_nodes, structs_from, type_in}

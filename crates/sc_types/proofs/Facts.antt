@@ -1,12 +1,13 @@
 -- What sections keep that break no rule of interfaces.
 use Rattle.sc_types.proofs.Common.{Bool, Callees, Decl, ExportLine, Function, ImportLine, List, Proto, SectionTree, []}
 use Rattle.sc_types.proofs.Common.{among, arith, bytes_eq, concat, decls_from, export_names, exports_from, false}
-use Rattle.sc_types.proofs.Common.{function_names, functions_in, globals_in, head_fits, head_of, heads_in, import_names}
+use Rattle.sc_types.proofs.Common.{function_names, function_decls, globals_in, head_fits, head_of, heads_in}
+use Rattle.sc_types.proofs.Common.{import_names}
 use Rattle.sc_types.proofs.Common.{imported_agrees, imports_from, is_numbered, is_offered, is_plain, length}
 use Rattle.sc_types.proofs.Common.{list_any-append, main_holds, main_name, map, most_exports, most_nodes, nat_le, not}
 use Rattle.sc_types.proofs.Common.{proto_names, refl, same_text, structs_in, true, ℕ, ◌&&◌, ◌++◌, ◌∷◌, ◌≡◌}
 use Rattle.sc_types_scope.specs.Prelude.{are_distinct}
-use Rattle.sc_types_interfaces.specs.Prelude.{section_lines}
+use Rattle.sc_types_interfaces.specs.Prelude.{section_interface_lines}
 use Rattle.sc_types.specs.Counts as counts
 use Rattle.sc_types.proofs.Lookups.{rule_holds, prefix_empty, back_empty, no_lines, Each, Text, same_refl}
 use Rattle.sc_types.proofs.Lookups.{numbered_prefix}
@@ -93,7 +94,7 @@ module _ (sections : List SectionTree) (number : ℕ) (section : SectionTree) wh
     pub decls : Each (DeclFacts mains) section.decls
 
   pub interface_facts : (mains : Bool) (before : List SectionTree) →
-      section_lines sections number section mains before ≡ [] → InterfaceFacts
+      section_interface_lines sections number section mains before ≡ [] → InterfaceFacts
   interface_facts mains before h =
       let out = exports_each [] section.exports (grind (arith, no_lines)) in
       let imported = imports_each [] section.imports (grind (arith, no_lines)) in
@@ -108,7 +109,7 @@ module _ (sections : List SectionTree) (number : ℕ) (section : SectionTree) wh
 
   -- its declarations, under these mains
   pub decls_hold : (mains : Bool) (before : List SectionTree) →
-      section_lines sections number section mains before ≡ [] → Each (DeclFacts mains) section.decls
+      section_interface_lines sections number section mains before ≡ [] → Each (DeclFacts mains) section.decls
   decls_hold mains before h = decls_each mains [] section.decls (grind (arith, no_lines))
 
 -- what a section keeps that is within the counts
@@ -118,10 +119,10 @@ pub record CountFacts (section : SectionTree) (callees : Callees) : Type 0 where
   pub exports : counts.line_beyond {A = ExportLine} (λ line. line.line) most_exports section.exports ≡ []
   pub imports : counts.line_beyond {A = ImportLine} (λ line. line.line) most_exports section.imports ≡ []
   pub structs : counts.structs_from section 0 (structs_in section.decls) ≡ []
-  pub globals : concat (map (counts.global_lines section) (globals_in section.decls)) ≡ []
+  pub globals : concat (map (counts.global_count_lines section) (globals_in section.decls)) ≡ []
   pub heads : concat (map (counts.head_lines section) (heads_in section.decls)) ≡ []
-  pub functions : concat (map (counts.function_lines section) (functions_in section.decls)) ≡ []
+  pub functions : concat (map (counts.function_count_lines section) (function_decls section.decls)) ≡ []
 
-pub count_facts : (section : SectionTree) (callees : Callees) → counts.section_lines section callees ≡ [] →
+pub count_facts : (section : SectionTree) (callees : Callees) → counts.section_count_lines section callees ≡ [] →
     CountFacts section callees
 count_facts section callees h = grind (arith, no_lines)

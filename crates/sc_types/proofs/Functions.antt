@@ -3,19 +3,20 @@ use Rattle.sc_types.proofs.Common.{BaseTree, BaseTy, Callable, Callees, Decl, Ex
 use Rattle.sc_types.proofs.Common.{Global, List, LocalTree, None, Option, ParamTree, SectionTree, Some, StmtTree}
 use Rattle.sc_types.proofs.Common.{Struct, StructTree, Ty, TypeName, TypeTree, TypedParam, TypedStmt, [], and_first}
 use Rattle.sc_types.proofs.Common.{and_from, and_rest, ap, append-nil, append_assoc, arith, base_known, body_fits}
-use Rattle.sc_types.proofs.Common.{concat, decl_lines, false, filter_map-append, function_fits, functions_in}
+use Rattle.sc_types.proofs.Common.{concat, decl_type_lines, false, filter_map-append, function_fits, function_decls}
 use Rattle.sc_types.proofs.Common.{global_fits, global_names, globals_in, head_of, heads_in, init_height, init_holds}
 use Rattle.sc_types.proofs.Common.{init_words, is_array, is_callable, is_sized, is_small, known_in, length, length-map}
-use Rattle.sc_types.proofs.Common.{list_all, local_fits, local_holds, locals_from, map, map-append, map_twice, max}
+use Rattle.sc_types.proofs.Common.{list_all, local_fits, local_holds, typed_locals_from, map, map-append, map_twice}
+use Rattle.sc_types.proofs.Common.{max}
 use Rattle.sc_types.proofs.Common.{most_cells, most_height, most_params, nat_le, nat_tests, not, option_map}
 use Rattle.sc_types.proofs.Common.{param_names, param_of, passed_fits, refl, result_fits, result_known, result_of}
-use Rattle.sc_types.proofs.Common.{scope_in, scope_of, slice_get, starred, stmt_height, stmt_lines, struct_cells}
+use Rattle.sc_types.proofs.Common.{scope_in, scope_of, slice_get, starred, stmt_height, stmt_type_lines, struct_cells}
 use Rattle.sc_types.proofs.Common.{struct_lines, struct_names, structs, structs_from, structs_in, subst, suc, sym, tags}
 use Rattle.sc_types.proofs.Common.{target_signature, true, type_of, type_of_name, type_within, typed_function}
 use Rattle.sc_types.proofs.Common.{typed_global, typed_init, typed_local, typed_locals, typed_param, typed_section}
 use Rattle.sc_types.proofs.Common.{typed_stmt, unless, variable_fits, visible_in, visible_of, word_of_const, words_fit}
 use Rattle.sc_types.proofs.Common.{zero, ℕ, ◌&&◌, ◌++◌, ◌+◌, ◌<◌, ◌∙◌, ◌∷◌, ◌≡◌}
-use Rattle.sc_types_elab.specs.Prelude.{function_lines}
+use Rattle.sc_types_elab.specs.Prelude.{function_type_lines}
 use Rattle.sc_ast.specs.declared.section.GlobalTree.{GlobalTree}
 use Rattle.sc_ast.specs.declared.types.BaseTree.TheVariants as base_tree
 use Rattle.sc_ast.specs.declared.section.InitTree.{InitTree}
@@ -174,7 +175,7 @@ module _ (section : SectionTree) where
 
   locals_are : (callees : Callees) (before decls : List Decl) → before ++ decls ≡ section.decls →
       (globals own : List Text) (tree : FunctionTree) (place : ℕ) (locals : List LocalTree) →
-      locals_from section callees tree place locals ≡ [] →
+      typed_locals_from section callees tree place locals ≡ [] →
       names.locals_from (struct_names before) globals own locals ≡ [] →
       concat (map (counts.local_lines section) locals) ≡ [] → nat_le (surface.locals_height locals) 256 ≡ true →
       list_all (local_fits (scope_in section tree)) (typed_locals section tree place locals) ≡ true
@@ -195,15 +196,15 @@ module _ (section : SectionTree) where
 
   pub record After (callees : Callees) (before decls : List Decl) : Type 0 where
     pub whole : before ++ decls ≡ section.decls
-    pub in_names : names.lines_from section before decls ≡ []
-    pub holds : concat (map (decl_lines section callees) decls) ≡ []
+    pub in_names : names.name_lines_from section before decls ≡ []
+    pub holds : concat (map (decl_type_lines section callees) decls) ≡ []
 
   next : {callees : Callees} {before : List Decl} {decl : Decl} {decls : List Decl} →
       After callees before (decl ∷ decls) → After callees (before ++ decl ∷ []) decls
   next {callees} {before} {decl} {decls} b = record {
     whole = append_assoc before _ decls ∙ b.whole;
-    in_names = back_empty (names.decl_lines (names.declared section before) decl) _ b.in_names;
-    holds = back_empty (decl_lines section callees decl) _ b.holds;
+    in_names = back_empty (names.decl_name_lines (names.declared section before) decl) _ b.in_names;
+    holds = back_empty (decl_type_lines section callees decl) _ b.holds;
   }
 
   -- Bodies.
@@ -213,7 +214,7 @@ module _ (section : SectionTree) where
       target_signature callable (callees.target name) ≡ callees.signature name) where
     body_is : (before : List Decl) (tree : FunctionTree) (body : List StmtTree) →
         names.body_lines (known_in (names.declared section before) tree) body ≡ [] →
-        concat (map (stmt_lines (visible_of section tree) callees (scope_in section tree)
+        concat (map (stmt_type_lines (visible_of section tree) callees (scope_in section tree)
         (result_of section tree)) body) ≡ [] → body_fits (scope_in section tree) callable (result_of section tree)
         (map (typed_stmt (visible_of section tree) callees (result_of section tree)) body) ≡ true
     body_is before tree [] known holds = refl
@@ -259,13 +260,14 @@ module _ (section : SectionTree) where
       body : names.body_lines (known_in (names.declared section before) tree) tree.body ≡ []
 
     function_known : (before : List Decl) (tree : FunctionTree) →
-        names.function_lines (names.declared section before) tree ≡ [] → FunctionKnown before tree
+        names.function_name_lines (names.declared section before) tree ≡ [] → FunctionKnown before tree
     function_known before tree in_names = grind (arith, no_lines)
 
     function_is : (before decls : List Decl) → before ++ decls ≡ section.decls →
         AllSmall (structs section) 0 (structs_in section.decls) → (tree : FunctionTree) →
-        names.function_lines (names.declared section before) tree ≡ [] → function_lines section callees tree ≡ [] →
-        counts.function_lines section tree ≡ [] → counts.head_lines section (head_of tree.head) ≡ [] →
+        names.function_name_lines (names.declared section before) tree ≡ [] → function_type_lines section callees tree ≡
+        [] →
+        counts.function_count_lines section tree ≡ [] → counts.head_lines section (head_of tree.head) ≡ [] →
         nat_le (surface.function_height tree) 256 ≡ true →
         function_fits callable (typed_section section callees) (typed_function section callees tree) ≡ true
     function_is before decls whole small tree in_names holds sizes count low =
@@ -287,9 +289,9 @@ module _ (section : SectionTree) where
 
     pub functions_are : AllSmall (structs section) 0 (structs_in section.decls) → (before decls : List Decl) →
         After callees before decls → concat (map (counts.head_lines section) (heads_in decls)) ≡ [] →
-        concat (map (counts.function_lines section) (functions_in decls)) ≡ [] →
+        concat (map (counts.function_count_lines section) (function_decls decls)) ≡ [] →
         nat_le (surface.decls_height decls) 256 ≡ true → list_all (function_fits callable
-        (typed_section section callees)) (map (typed_function section callees) (functions_in decls)) ≡ true
+        (typed_section section callees)) (map (typed_function section callees) (function_decls decls)) ≡ true
     functions_are small before [] b heads sizes low = refl
     functions_are small before (decl ∷ decls) b heads sizes low = grind (
       arith,
@@ -302,7 +304,7 @@ module _ (section : SectionTree) where
 
   module _ (callees : Callees) where
     pub globals_are : (before decls : List Decl) → After callees before decls →
-        concat (map (counts.global_lines section) (globals_in decls)) ≡ [] →
+        concat (map (counts.global_count_lines section) (globals_in decls)) ≡ [] →
         list_all (global_fits (structs section)) (map (typed_global (tags section)) (globals_in decls)) ≡ true
     globals_are before [] b sizes = refl
     globals_are before (Global tree ∷ decls) b sizes =
@@ -317,7 +319,7 @@ module _ (section : SectionTree) where
         )
     globals_are before (_ ∷ decls) b sizes = globals_are _ decls (next b) sizes
 
-    struct_is : (before : List Decl) (tree : StructTree) → names.decl_lines (names.declared section before)
+    struct_is : (before : List Decl) (tree : StructTree) → names.decl_name_lines (names.declared section before)
         (Struct tree) ≡ [] → struct_lines section tree ≡ [] → Known (struct_names before) tree
     struct_is before tree in_names holds = grind (arith, rule_holds)
 

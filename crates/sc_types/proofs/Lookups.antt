@@ -1,9 +1,11 @@
 -- Tests that hold and lists that are empty, places in lists, and what is found by a name among declarations.
 use Rattle.sc_types.proofs.Common.{Bool, Decides-eqb, Decl, Function, FunctionTree, HeadTree, List, None, Option, Proto}
 use Rattle.sc_types.proofs.Common.{Some, [], ap, arith, bytes_eq, cases_Bool, concat, false, function_named}
-use Rattle.sc_types.proofs.Common.{function_names, functions_in, head_named, head_of, heads_in, if◌then◌else◌, inl, inr}
+use Rattle.sc_types.proofs.Common.{function_names, function_decls, head_named, head_of, heads_in, if◌then◌else◌, inl}
+use Rattle.sc_types.proofs.Common.{inr}
 use Rattle.sc_types.proofs.Common.{is_numbered, le-leb, leb-true, length, list_all, list_any, list_any-append, lt-ltb}
-use Rattle.sc_types.proofs.Common.{map, nat_le, nat_lt, not, number_of, number_or_zero, option_map, or_left, position}
+use Rattle.sc_types.proofs.Common.{map, nat_le, nat_lt, not, number_by_name, number_or_zero, option_map, or_left}
+use Rattle.sc_types.proofs.Common.{position}
 use Rattle.sc_types.proofs.Common.{position-cons, proto_names, refl, slice_get, subst, suc, sym, true, unless, zero, ℕ}
 use Rattle.sc_types.proofs.Common.{◌++◌, ◌<◌, ◌==◌, ◌||◌, ◌∙◌, ◌∷◌, ◌≡◌, ◌≤◌}
 use Rattle.std.proofs.lemmas.Slice.Eq.{bytes_eq-Decides}
@@ -81,7 +83,7 @@ is_at_most a b h = leb-true a b h
 -- a name that is there, at its first place
 pub record Placed (names : List Text) (name : Text) : Type 0 where
   pub at : ℕ
-  pub is : number_of names name ≡ Some at
+  pub is : number_by_name names name ≡ Some at
   pub within : at < length names
 
 -- the first item that passes a test, and where it stands
@@ -134,7 +136,7 @@ module _ {A : Type 0} (p : A → Bool) where
   find_next (x ∷ xs) y ys h k = grind (arith, find_next xs)
 
 -- the number of a name is where it is found
-pub number_is : (names : List Text) (name : Text) → number_of names name ≡ find (bytes_eq name) names
+pub number_is : (names : List Text) (name : Text) → number_by_name names name ≡ find (bytes_eq name) names
 number_is names name = position_is _ names
 
 pub placed : (names : List Text) (name : Text) → is_numbered names name ≡ true → Placed names name
@@ -144,16 +146,16 @@ placed names name h =
 
 -- the number of a name that is there
 pub number_within : (names : List Text) (name : Text) → is_numbered names name ≡ true →
-    number_or_zero (number_of names name) < length names
+    number_or_zero (number_by_name names name) < length names
 number_within names name h =
     let p = placed names name h in subst (λ o. number_or_zero o < length names) (sym p.is) p.within
 
 pub number_prefix : (names more : List Text) (name : Text) → is_numbered names name ≡ true →
-    number_of (names ++ more) name ≡ number_of names name
+    number_by_name (names ++ more) name ≡ number_by_name names name
 number_prefix names more name h = number_is _ name ∙ find_prefix _ names more h ∙ sym (number_is names name)
 
 pub number_next : (names : List Text) (name : Text) (more : List Text) → is_numbered names name ≡ false →
-    number_of (names ++ name ∷ more) name ≡ Some (length names)
+    number_by_name (names ++ name ∷ more) name ≡ Some (length names)
 number_next names name more h = number_is _ name ∙ find_next _ names name more h (same_refl name)
 
 pub numbered_prefix : (names more : List Text) (name : Text) → is_numbered names name ≡ true →
@@ -173,7 +175,7 @@ same_sym a b = nat_list_eq_equiv.symm a b
 pub record FoundFunction (name : Text) (trees : List FunctionTree) : Type 0 where
   pub at : ℕ
   pub tree : FunctionTree
-  pub number : number_of (map {A = FunctionTree} (λ tree. tree.head.name) trees) name ≡ Some at
+  pub number : number_by_name (map {A = FunctionTree} (λ tree. tree.head.name) trees) name ≡ Some at
   pub got : slice_get trees at ≡ Some tree
   pub first : function_named name trees ≡ Some tree
   pub named : bytes_eq tree.head.name name ≡ true
@@ -225,20 +227,20 @@ pub no_function : (name : Text) (trees : List FunctionTree) → is_numbered (nam
 no_function name trees h = function_first name trees ∙
     none_first _ trees (sym (any_names (bytes_eq name) (λ tree. tree.head.name) _ (λ tree. same_sym name _) _) ∙ h)
 
-pub no_place : (names : List Text) (name : Text) → is_numbered names name ≡ false → number_of names name ≡ None
+pub no_place : (names : List Text) (name : Text) → is_numbered names name ≡ false → number_by_name names name ≡ None
 no_place names name h = number_is names name ∙ no_number _ names h
 
 -- Heads.
 
 -- P of each declaration's function
 pub each_function : (P : Decl → Type 0) (decls : List Decl) → Each P decls →
-    Each (λ tree. P (Function tree)) (functions_in decls)
+    Each (λ tree. P (Function tree)) (function_decls decls)
 each_function P [] h = tt
 each_function P (decl ∷ decls) h = grind (arith, each_function P decls)
 
 -- a test that all heads pass, functions' heads pass
 pub heads_of_functions : (p : HeadTree → Bool) (decls : List Decl) → list_all p (heads_in decls) ≡ true →
-    Each (λ tree. p (head_of tree.head) ≡ true) (functions_in decls)
+    Each (λ tree. p (head_of tree.head) ≡ true) (function_decls decls)
 heads_of_functions p [] h = tt
 heads_of_functions p (decl ∷ decls) h = grind (arith, heads_of_functions p decls)
 

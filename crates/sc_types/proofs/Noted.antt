@@ -2,9 +2,11 @@
 use Rattle.sc_types.proofs.Common.{Bool, Decl, List, LocalTree, None, Option, SectionTree, Some, Struct, StructTree, []}
 use Rattle.sc_types.proofs.Common.{add-one, ap, append_assoc, arith, callees_of, concat, concat-append, counts_broken}
 use Rattle.sc_types.proofs.Common.{drop, drop-cons, drop-step, drop_all, filter_map, filter_map-append, get_or}
-use Rattle.sc_types.proofs.Common.{is_small, length, limited, line_beyond, line_of_text, lines_from, local_lines, map}
+use Rattle.sc_types.proofs.Common.{is_small, length, limited, line_beyond, line_of_text, count_lines_from, local_lines}
+use Rattle.sc_types.proofs.Common.{map}
 use Rattle.sc_types.proofs.Common.{map-append, most_compartments, nat_le, nat_tests, noted_all, refl, refused_at}
-use Rattle.sc_types.proofs.Common.{section_lines, slice_get, struct_in, structs_from, structs_in, suc, sym, type_in}
+use Rattle.sc_types.proofs.Common.{section_count_lines, slice_get, struct_in, structs_from, structs_in, suc, sym}
+use Rattle.sc_types.proofs.Common.{type_in}
 use Rattle.sc_types.proofs.Common.{unless, with_lines, ℕ, ◌++◌, ◌+◌, ◌<◌, ◌∙◌, ◌∷◌, ◌≡◌, ◌≤◌}
 use Rattle.sc_types_scope.specs.declared.broken.BrokenLines.{BrokenLines}
 use Rattle.sc_types_scope.proofs.Lines.{done, with_lines-append, with_lines-nil, noted_all-append, step}
@@ -113,19 +115,22 @@ pub some-refused : (sections : List SectionTree) (section : SectionTree) (line :
 some-refused sections section line n l = cc (noted-first line)
 
 pub counts-begun : (sections : List SectionTree) (least : Option ℕ) → least ≡ refused_at (beyond sections) →
-    noted_all least (lines_from sections 0 sections) ≡ refused_at (counts_broken sections)
-counts-begun sections least h = cc (noted_all-append None (beyond sections) (lines_from sections 0 sections))
+    noted_all least (count_lines_from sections 0 sections) ≡ refused_at (counts_broken sections)
+counts-begun sections least h = cc (noted_all-append None (beyond sections) (count_lines_from sections 0 sections))
 
 pub count-noted : (sections : List SectionTree)
     (i : ℕ) (section : SectionTree) (least : Option ℕ) (lines : BrokenLines) (all : Option ℕ) → i < length sections →
-    section ≡ get_or sections i section → noted_all least (lines_from sections i (drop i sections)) ≡ all →
-    lines ≡ with_lines (record { start = section.line; least = least }) (section_lines section
-    (callees_of sections i section)) → noted_all lines.least (lines_from sections (i + 1) (drop (i + 1) sections)) ≡ all
-count-noted sections i section least lines all lt is p q = rw add-one (ap (λ l. noted_all l.least (lines_from sections
+    section ≡ get_or sections i section → noted_all least (count_lines_from sections i (drop i sections)) ≡ all →
+    lines ≡ with_lines (record { start = section.line; least = least }) (section_count_lines section
+    (callees_of sections i section)) → noted_all lines.least (count_lines_from sections (i + 1) (drop (i + 1) sections))
+    ≡ all
+count-noted sections i section least lines all lt is p q = rw add-one (ap (λ l. noted_all l.least (count_lines_from
+    sections
     (suc i) (drop (suc i) sections))) q ∙ (sym (noted_all-append least _ _) ∙ (ap (λ rest. noted_all least
-    (lines_from sections i rest)) (sym (drop-cons _ i section lt ∙ ap (λ s. s ∷ drop (suc i) sections) (sym is))) ∙ p)))
+    (count_lines_from sections i rest)) (sym (drop-cons _ i section lt ∙ ap (λ s. s ∷ drop (suc i) sections) (sym is)))
+    ∙ p)))
 
 pub counts-noted : (sections : List SectionTree) (i : ℕ) (least : Option ℕ) (all : Option ℕ) → length sections ≤ i →
-    noted_all least (lines_from sections i (drop i sections)) ≡ all → least ≡ all
+    noted_all least (count_lines_from sections i (drop i sections)) ≡ all → least ≡ all
 counts-noted sections i least all le p =
     cc (noted-none least, drop_all i sections le)

@@ -1,7 +1,7 @@
 -- What the phases give to one another.
 use Rattle.sc_types.proofs.Common.{All, AreLow, Decl, Err, HasFewExports, HasFewParams, IsWellTyped, IsWithinCounts}
 use Rattle.sc_types.proofs.Common.{List, None, Ok, OnOk, Option, ProgramTree, Result, SectionTree, [], arith}
-use Rattle.sc_types.proofs.Common.{callees_of, concat, counts_broken, functions_in, heads_in, interface_broken}
+use Rattle.sc_types.proofs.Common.{callees_of, concat, counts_broken, function_decls, heads_in, interface_broken}
 use Rattle.sc_types.proofs.Common.{length-map, line_of_text, map, names_broken, nat_tests, program_of, refused_at}
 use Rattle.sc_types.proofs.Common.{subst, suc, sym, types_broken, zero, ℕ, ◌∙◌, ◌∷◌, ◌≡◌}
 use Rattle.sc_types.specs.Counts as counts
@@ -36,21 +36,22 @@ all_of P (x ∷ xs) h zero d less = h.0
 all_of P (x ∷ xs) h (suc k) d less = all_of P xs h.1 k d (omega (arith, less))
 
 few_params : (section : SectionTree) (decls : List Decl) →
-    concat (map (counts.head_lines section) (heads_in decls)) ≡ [] → Each HasFewParams (functions_in decls)
+    concat (map (counts.head_lines section) (heads_in decls)) ≡ [] → Each HasFewParams (function_decls decls)
 few_params section [] h = tt
 few_params section (decl ∷ decls) h = grind (arith, no_lines, nat_tests, few_params section decls, length-map)
 
 abbrev Params : SectionTree → Type 0
-Params section = All HasFewParams (functions_in section.decls)
+Params section = All HasFewParams (function_decls section.decls)
 
 section_counts : (sections : List SectionTree) (k : ℕ) (section : SectionTree) →
-    counts.section_lines section (callees_of sections k section) ≡ [] → HasFewExports section × Params section
+    counts.section_count_lines section (callees_of sections k section) ≡ [] → HasFewExports section × Params section
 section_counts sections k section h = let f = count_facts section (callees_of sections k section) h in (
   is_at_most _ _ (none_beyond (λ line. line.line) _ _ f.exports),
   all_of HasFewParams _ (few_params section section.decls f.heads),
 )
 
-all_counts : (sections : List SectionTree) (k : ℕ) (rest : List SectionTree) → counts.lines_from sections k rest ≡ [] →
+all_counts : (sections : List SectionTree) (k : ℕ) (rest : List SectionTree) → counts.count_lines_from sections k rest ≡
+    [] →
     Each HasFewExports rest × Each Params rest
 all_counts sections k [] h = (tt, tt)
 all_counts sections k (section ∷ rest) h =

@@ -4,7 +4,7 @@ use Rattle.sc_types.proofs.Common.{HeadTree, ImportLine, Interface, List, None, 
 use Rattle.sc_types.proofs.Common.{Signature, Some, Struct, Ty, TypeName, TypedSection, [], agree, and_from}
 use Rattle.sc_types.proofs.Common.{any_passes_from_place, ap, append-nil, append_assoc, are_distinct, arith, bytes_eq}
 use Rattle.sc_types.proofs.Common.{callees_of, export_at, export_fits, export_name, export_names, false}
-use Rattle.sc_types.proofs.Common.{filter_map-append, function_named, function_names, functions_in, get_after}
+use Rattle.sc_types.proofs.Common.{filter_map-append, function_named, function_names, function_decls, get_after}
 use Rattle.sc_types.proofs.Common.{head_crosses, head_fits, head_of, if◌then◌else◌, import_fits, import_name}
 use Rattle.sc_types.proofs.Common.{import_names, import_of, input_name, interface_fits, interface_of, interfaces_of}
 use Rattle.sc_types.proofs.Common.{is_numbered, is_some, length, length-map, list_all, list_any, list_any-append, map}
@@ -43,7 +43,7 @@ signature_refl s = and_from _ _ (types_refl s.params) (result_refl s.result)
 
 -- Heads agree with themselves.
 
-base_agrees : (a : BaseTree) → interface_rules.same_base a a ≡ true
+base_agrees : (a : BaseTree) → interface_rules.same_named_base a a ≡ true
 base_agrees (tree_base.Struct tag) = same_refl tag
 base_agrees _ = refl
 
@@ -91,7 +91,8 @@ names_same : (before : List Decl) (decl : Decl) → function_names (decl ∷ [])
     function_names (before ++ decl ∷ []) ≡ function_names before
 names_same before decl h = names_append before _ ∙ ap (λ more. function_names before ++ more) h ∙ append-nil _
 
-pub functions_fresh : (section : SectionTree) (before rest : List Decl) → names.lines_from section before rest ≡ [] →
+pub functions_fresh : (section : SectionTree) (before rest : List Decl) → names.name_lines_from section before rest ≡ []
+    →
     Fresh (function_names before) (function_names rest)
 functions_fresh section before [] h = tt
 functions_fresh section before (Function tree ∷ rest) h = grind (
@@ -132,7 +133,7 @@ module _ (sections : List SectionTree) (hold : (j : ℕ) (s : SectionTree) → s
       ap (λ found. import_name (interfaces_of sections) (offered line found)) o.is
       ∙ ap (λ index. export_name (export_at (interfaces_of sections) o.number (number_or_zero index))) export.place
       ∙ ap export_name (export_is sections o.number _ export.at export.item o.got export.got) ∙ promised_name _
-      (function_named export.item.name (functions_in o.section.decls)) ∙ sym (same_text _ _ export.named)
+      (function_named export.item.name (function_decls o.section.decls)) ∙ sym (same_text _ _ export.named)
 
   name_by : (line : ImportLine) (env input output : Bool) → bytes_eq line.name input_name ≡ input →
       bytes_eq line.name output_name ≡ output → (if env then input || output else
@@ -163,7 +164,7 @@ module _ (sections : List SectionTree) (hold : (j : ℕ) (s : SectionTree) → s
   functions_named : map {A = TypedFunction} (λ f. f.name) typed.functions ≡ function_names section.decls
   functions_named = map_twice _ _ _
 
-  all_distinct : names.section_lines section ≡ [] → are_distinct
+  all_distinct : names.section_name_lines section ≡ [] → are_distinct
       (map (import_name (interfaces_of sections)) interface.imports ++
       map {A = TypedFunction} (λ f. f.name) typed.functions) ≡ true
   all_distinct in_names =
@@ -178,7 +179,7 @@ module _ (sections : List SectionTree) (hold : (j : ℕ) (s : SectionTree) → s
       map {A = ExportLine} (λ line. line.name) lines
   exports_named [] = refl
   exports_named (line ∷ lines) =
-      cc (promised_name line.name (function_named line.name (functions_in section.decls)), exports_named lines)
+      cc (promised_name line.name (function_named line.name (function_decls section.decls)), exports_named lines)
 
   exports_distinct : are_distinct (map {A = event.Proto} (λ p. p.name) interface.exports) ≡ true
   exports_distinct = subst (λ all. are_distinct all ≡ true)
@@ -187,7 +188,7 @@ module _ (sections : List SectionTree) (hold : (j : ℕ) (s : SectionTree) → s
   -- an export line at its place
   module _ (at : ℕ) (line : ExportLine) (got : slice_get section.exports at ≡ Some line)
       (f : ExportFacts sections number section line) where
-    pub g : FoundFunction line.name (functions_in section.decls)
+    pub g : FoundFunction line.name (function_decls section.decls)
     g = find_function _ _ f.defined
 
     exported : is_numbered (export_names section) g.tree.head.name ≡ true
@@ -216,7 +217,7 @@ module _ (sections : List SectionTree) (hold : (j : ℕ) (s : SectionTree) → s
         (cc (
           g.named,
           signatures,
-          promised_name line.name (function_named line.name (functions_in section.decls)),
+          promised_name line.name (function_named line.name (function_decls section.decls)),
           signature_refl (proto_signature (proto_of section line)),
         ))
 
@@ -226,7 +227,7 @@ module _ (sections : List SectionTree) (hold : (j : ℕ) (s : SectionTree) → s
       is_function,
       f.plain,
       f.no_main,
-      promised_name line.name (function_named line.name (functions_in section.decls)),
+      promised_name line.name (function_named line.name (function_decls section.decls)),
     )
 
   exports_are : (before lines : List ExportLine) → before ++ lines ≡ section.exports →
@@ -267,7 +268,7 @@ module _ (sections : List SectionTree) (hold : (j : ℕ) (s : SectionTree) → s
 
   -- Counts.
 
-  pub interface_is : names.section_lines section ≡ [] → CountFacts section callees →
+  pub interface_is : names.section_name_lines section ≡ [] → CountFacts section callees →
       interface_fits (interfaces_of sections) number interface typed ≡ true
   interface_is in_names f =
       cc (

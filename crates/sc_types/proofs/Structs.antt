@@ -4,7 +4,8 @@ use Rattle.sc_types.proofs.Common.{and_first, and_from, and_rest, ap, append-nil
 use Rattle.sc_types.proofs.Common.{base_known, base_of, base_within, bytes_eq, cells_from, cells_of, end_of_member}
 use Rattle.sc_types.proofs.Common.{false, get_after, get_prefix, is_numbered, is_sized, length, length-map, list_all}
 use Rattle.sc_types.proofs.Common.{ltb-true, map, member_known, members_fit, members_from, most_cells, nat_le, nat_lt}
-use Rattle.sc_types.proofs.Common.{number_of, number_or_zero, option_map_or, pointed_known, refl, same_text, slice_get}
+use Rattle.sc_types.proofs.Common.{number_by_name, number_or_zero, option_map_or, pointed_known, refl, same_text}
+use Rattle.sc_types.proofs.Common.{slice_get}
 use Rattle.sc_types.proofs.Common.{starred, starred_cells, starred_within, struct_cells, struct_fits, structs_fit}
 use Rattle.sc_types.proofs.Common.{subst, suc, sym, true, type_of, type_of_name, type_with, type_within, typed_struct}
 use Rattle.sc_types.proofs.Common.{typed_structs, zero, ℕ, ◌*◌, ◌++◌, ◌+◌, ◌<◌, ◌∙◌, ◌∷◌, ◌≡◌, ◌≤◌}
@@ -75,8 +76,8 @@ module _ (names : List Text) (self : Text) (more : List Text) (new : is_numbered
   known_within zero b h = base_is_within names _ b h
   known_within (suc stars) b h = more_within k (suc k) (base_of tags b) (omega arith) (base_is_within names _ b h)
 
-  self_number : (tag : Text) → bytes_eq tag self ≡ true → number_or_zero (number_of tags tag) ≡ k
-  self_number tag h = ap (λ t. number_or_zero (number_of tags t)) (same_text tag self h) ∙
+  self_number : (tag : Text) → bytes_eq tag self ≡ true → number_or_zero (number_by_name tags tag) ≡ k
+  self_number tag h = ap (λ t. number_or_zero (number_by_name tags t)) (same_text tag self h) ∙
       ap number_or_zero (number_next names self more new)
 
   pointed_within : (stars : ℕ) (b : BaseTree) → pointed_known self stars b ≡ true →

@@ -3,12 +3,13 @@ use Rattle.sc_types.proofs.Common.{Bool, CallTree, Callees, Each, ExprTree, Expr
 use Rattle.sc_types.proofs.Common.{List, LocalTree, None, Option, SectionTree, SimpleKind, SimpleTree, Some, StmtKind}
 use Rattle.sc_types.proofs.Common.{StmtKind-F, StmtTree, Ty, TypedStmt, TypedStmtKind, TypedStmtKind-F, Under, Visible}
 use Rattle.sc_types.proofs.Common.{[], ap, ap₂, arith, beside, call_height, call_nodes, cond, decayed, decls_nodes}
-use Rattle.sc_types.proofs.Common.{expr_height, expr_induction, expr_nodes, expr_step, false, found, function_nodes}
+use Rattle.sc_types.proofs.Common.{expr_height, expr_induction, expr_nodes, expr_step, false, variable_named}
+use Rattle.sc_types.proofs.Common.{function_nodes}
 use Rattle.sc_types.proofs.Common.{going_to, going_to_all, going_to_some, highest, if◌then◌else◌, init_nodes}
-use Rattle.sc_types.proofs.Common.{is_pointer, is_zero, kind_height, kind_step as typed_kind_step, length-map}
+use Rattle.sc_types.proofs.Common.{is_pointer, is_zero_literal, kind_height, kind_typed as typed_kind_step, length-map}
 use Rattle.sc_types.proofs.Common.{local_nodes, map, map-ExprTree, max, nodes, option_map, part_height, part_nodes}
-use Rattle.sc_types.proofs.Common.{refl, result_of, roll-TypedStmtKind, rules, simple_height, simple_nodes, step}
-use Rattle.sc_types.proofs.Common.{stmt_height, stmt_induction, stmt_nodes, stmt_step as typed_stmt_step, suc, sym}
+use Rattle.sc_types.proofs.Common.{refl, result_of, roll-TypedStmtKind, rules, simple_height, simple_nodes, expr_typed}
+use Rattle.sc_types.proofs.Common.{stmt_height, stmt_induction, stmt_nodes, stmt_typed as typed_stmt_step, suc, sym}
 use Rattle.sc_types.proofs.Common.{term_height, total, true, typed, typed_call, typed_function, typed_init}
 use Rattle.sc_types.proofs.Common.{typed_locals, typed_section, typed_simple, typed_simple_kind, typed_stmt}
 use Rattle.sc_types.proofs.Common.{typed_value, variable_typed, visible_in, visible_of, ℕ, ◌&&◌, ◌+◌, ◌∙◌, ◌∷◌, ◌≡◌}
@@ -76,10 +77,11 @@ module _ (visible : Visible) where
   AsTree e = core.expr_nodes (typed visible e) ≡ expr_nodes e
 
   step-nodes : (t : ExprTree-F ExprTree) → Under AsTree t →
-      core.expr_nodes (step visible (map-ExprTree _ _ (typed visible) t)) ≡ expr_step (map-ExprTree _ _ expr_nodes t)
+      core.expr_nodes (expr_typed visible (map-ExprTree _ _ (typed visible) t)) ≡ expr_step (map-ExprTree _ _ expr_nodes
+      t)
   unfolding roll-TypedKind denote.Hole.Carrier.roll
   step-nodes (tree.Literal number) h = node-at _ (open_term.Literal _)
-  step-nodes (tree.Variable name) h = variable-nodes (found visible name)
+  step-nodes (tree.Variable name) h = variable-nodes (variable_named visible name)
   step-nodes (tree.Unary o a) h = node-at _ (open_term.Unary o _) ∙ ap suc h
   step-nodes (tree.Binary o a b) h = node-at _ (open_term.Binary o _ _) ∙
       ap₂ (λ m n. suc (m + n)) (beside-nodes o (typed visible b).ty (typed visible a) ∙ h.0)
@@ -203,7 +205,7 @@ going_by true t e = type_aside t e.ty e.kind
 going_by false t e = refl
 
 pub going_height : (place : Ty) (e : TypedExpr) → expr_height (going_to place e) ≡ expr_height e
-going_height place e = going_by (is_pointer place && is_zero e) _ e
+going_height place e = going_by (is_pointer place && is_zero_literal e) _ e
 
 beside_height : (o : BinaryOp) (other : Ty) (e : TypedExpr) → expr_height (beside o other e) ≡ expr_height e
 beside_height tree_op.Equal other e = going_height other e
@@ -225,11 +227,11 @@ module _ (visible : Visible) where
   variable_height (Some f) = height_at _ (open_term.Variable _)
 
   -- by the layer of the tree
-  by_term : (t : ExprTree-F ExprTree) → Under Same t → expr_height (step visible
-      (map-ExprTree _ _ (typed visible) t)) ≡ surface.expr_step (map-ExprTree _ _ surface.expr_height t)
+  by_term : (t : ExprTree-F ExprTree) → Under Same t → expr_height (expr_typed visible
+      (map-ExprTree _ _ (typed visible) t)) ≡ surface.expr_height_step (map-ExprTree _ _ surface.expr_height t)
   unfolding roll-TypedKind denote.Hole.Carrier.roll
   by_term (tree.Literal number) under = height_at _ (open_term.Literal _)
-  by_term (tree.Variable name) under = variable_height (found visible name)
+  by_term (tree.Variable name) under = variable_height (variable_named visible name)
   by_term (tree.Unary o e) under = height_at _ (open_term.Unary o _) ∙ ap suc under ∙ one_more _
   by_term (tree.Binary o a b) under = height_at _ (open_term.Binary o _ _)
       ∙ (λ i. suc (max ((beside_height o (typed visible b).ty (typed visible a) ∙ under.0) i)
@@ -291,7 +293,7 @@ module _ (visible : Visible) where
           (typed_stmt_step visible callees result) k
 
       abbrev height_of : Layer → ℕ
-      height_of k = layers.layer_of ℕ ℕ surface.kind_step surface.stmt_step k
+      height_of k = layers.layer_of ℕ ℕ surface.kind_height_step surface.stmt_height_step k
 
       -- a statement of this layer
       stmt_of : (line : ℕ) (k : TypedStmtKind-F TypedStmtKind TypedStmt) →

@@ -2,7 +2,7 @@
 use Rattle.sc_types.proofs.Common.{AreLow, Bool, Callees, Decl, Function, FunctionTree, Interface, IsWellTyped, List}
 use Rattle.sc_types.proofs.Common.{Option, SectionTree, Some, TypedSection, [], and_first, and_from, and_rest}
 use Rattle.sc_types.proofs.Common.{any_passes_from_place, ap, append_assoc, are_distinct, arith, bytes_eq, callees_of}
-use Rattle.sc_types.proofs.Common.{codes, counts_broken, decl_count, defines_main, environment, false, functions_in}
+use Rattle.sc_types.proofs.Common.{codes, counts_broken, decl_count, defines_main, environment, false, function_decls}
 use Rattle.sc_types.proofs.Common.{get_after, globals_in, head_of, if◌then◌else◌, interface_broken, interface_fits}
 use Rattle.sc_types.proofs.Common.{interface_of, interfaces_from, interfaces_of, is_main, is_numbered, is_well_typed}
 use Rattle.sc_types.proofs.Common.{length, length-map, line_of_text, list_any, list_any-append, main_fits, main_from}
@@ -32,18 +32,18 @@ use Rattle.std.proofs.Math.Bool.{or-false}
 -- The structs, globals and functions among declarations are no more than these.
 
 kept_in : (decls : List Decl) →
-    length (structs_in decls) + (length (globals_in decls) + length (functions_in decls)) ≤ length decls
+    length (structs_in decls) + (length (globals_in decls) + length (function_decls decls)) ≤ length decls
 kept_in [] = omega arith
 kept_in (decl ∷ decls) = grind (arith, kept_in decls)
 
 decl_count_is : (section : SectionTree) (callees : Callees) → decl_count (typed_section section callees) ≡
-    length (structs_in section.decls) + (length (globals_in section.decls) + length (functions_in section.decls))
+    length (structs_in section.decls) + (length (globals_in section.decls) + length (function_decls section.decls))
 decl_count_is section callees = cc (
   structs_length (structs_in section.decls),
   length-map (structs_in section.decls)
       (λ tree. tree.name),
   length-map (globals_in section.decls) (typed_global (tags section)),
-  length-map (functions_in section.decls) (typed_function section callees),
+  length-map (function_decls section.decls) (typed_function section callees),
 )
 
 few_kept : (section : SectionTree) (callees : Callees) → nat_le (length section.decls) most_nodes ≡ true →
@@ -75,7 +75,8 @@ each_here P xs j x each got = subst (λ n. P n x) (plus_none j) (each_from P 0 x
 
 module _ (sections : List SectionTree) where
   -- the rules of interfaces, by the section's number
-  interfaces_each : (k : ℕ) (before rest : List SectionTree) → interface_rules.lines_from sections k before rest ≡ [] →
+  interfaces_each : (k : ℕ) (before rest : List SectionTree) → interface_rules.interface_lines_from sections k before
+      rest ≡ [] →
       EachFrom (InterfaceFacts sections) k rest
   interfaces_each k before [] h = tt
   interfaces_each k before (s ∷ rest) h = (
@@ -90,32 +91,33 @@ module _ (sections : List SectionTree) where
 
   -- the rules of counts, by the section's number
   abbrev Counted : ℕ → SectionTree → Type 0
-  Counted n section = counts.section_lines section (callees_of sections n section) ≡ []
+  Counted n section = counts.section_count_lines section (callees_of sections n section) ≡ []
 
-  counts_each : (k : ℕ) (rest : List SectionTree) → counts.lines_from sections k rest ≡ [] → EachFrom Counted k rest
+  counts_each : (k : ℕ) (rest : List SectionTree) → counts.count_lines_from sections k rest ≡ [] → EachFrom Counted k
+      rest
   counts_each k [] h = tt
   counts_each k (s ∷ rest) h = (map_empty _ _ (prefix_empty _ _ h), counts_each (suc k) rest (back_empty _ _ h))
 
-  pub count_at : counts.lines_from sections 0 sections ≡ [] → (j : ℕ) (section : SectionTree) →
-      slice_get sections j ≡ Some section → counts.section_lines section (callees_of sections j section) ≡ []
+  pub count_at : counts.count_lines_from sections 0 sections ≡ [] → (j : ℕ) (section : SectionTree) →
+      slice_get sections j ≡ Some section → counts.section_count_lines section (callees_of sections j section) ≡ []
   count_at h j section got = each_here Counted _ j section (counts_each 0 _ h) got
 
   module _ (low : AreLow sections) (in_names : names_broken sections ≡ []) (in_types : types_broken sections ≡ [])
       (in_interfaces : interface_broken sections ≡ []) (in_counts : counts_broken sections ≡ []) where
-    counts_of : counts.lines_from sections 0 sections ≡ []
+    counts_of : counts.count_lines_from sections 0 sections ≡ []
     counts_of = back_empty (counts.line_beyond (λ section. line_of_text _ 1) most_compartments sections) _ in_counts
 
     -- The section of a number.
     module _ (number : ℕ) (section : SectionTree) (there : slice_get sections number ≡ Some section) where
-      names_at : names.section_lines section ≡ []
+      names_at : names.section_name_lines section ≡ []
       names_at = map_empty _ _ (each_at (λ section. map (line_of_text _)
-          (names.section_lines section) ≡ []) _ number section (each_empty _ _ in_names) there)
+          (names.section_name_lines section) ≡ []) _ number section (each_empty _ _ in_names) there)
 
-      types_at : elab.section_lines section (callees_of sections number section) ≡ []
-      types_at = map_empty _ _ (each_at (λ section. map (line_of_text section.line) (elab.section_lines section
+      types_at : elab.section_type_lines section (callees_of sections number section) ≡ []
+      types_at = map_empty _ _ (each_at (λ section. map (line_of_text section.line) (elab.section_type_lines section
           (callees_of sections 0 section)) ≡ []) _ number section (each_empty _ _ in_types) there)
 
-      counted : counts.section_lines section (callees_of sections number section) ≡ []
+      counted : counts.section_count_lines section (callees_of sections number section) ≡ []
       counted = count_at counts_of number section there
 
       low_at : nat_le (section_height section) 256 ≡ true
@@ -159,7 +161,8 @@ module _ (sections : List SectionTree) where
         (length_snoc prefix section) (sections_are (prefix ++ section ∷ []) rest (append_assoc prefix _ rest ∙ whole))))
 
     -- Names of compartments.
-    compartments : (k : ℕ) (before rest : List SectionTree) → interface_rules.lines_from sections k before rest ≡ [] →
+    compartments : (k : ℕ) (before rest : List SectionTree) → interface_rules.interface_lines_from sections k before
+        rest ≡ [] →
         Fresh (map name_of before) (map name_of rest) ×
         Each (λ name. bytes_eq name environment ≡ false) (map name_of rest)
     compartments k before [] h = (tt, tt)
@@ -196,19 +199,19 @@ module _ (sections : List SectionTree) where
 
     section_mains : (section : SectionTree) (callees : Callees) →
         list_any is_main (typed_section section callees).functions ≡ defines_main section
-    section_mains section callees = mains_same section callees (functions_in section.decls)
+    section_mains section callees = mains_same section callees (function_decls section.decls)
 
     -- the function `main` of a section
     module _ (k : ℕ) (section : SectionTree) (mains : Bool)
         (each : Each (DeclFacts sections k section mains) section.decls) (has : defines_main section ≡ true) where
-      main_found : FoundFunction main_name (functions_in section.decls)
+      main_found : FoundFunction main_name (function_decls section.decls)
       main_found = find_function _ _ has
 
       main_rule : interface_rules.main_holds mains (head_of main_found.tree.head) ≡ true
       main_rule = (each_at (λ tree. DeclFacts sections k section mains (Function tree))
-          (functions_in section.decls) main_found.at main_found.tree (each_function _ _ each) main_found.got).1
+          (function_decls section.decls) main_found.at main_found.tree (each_function _ _ each) main_found.got).1
 
-      only_main : (not mains && interface_rules.is_main (head_of main_found.tree.head)) ≡ true
+      only_main : (not mains && interface_rules.is_main_head (head_of main_found.tree.head)) ≡ true
       only_main = grind (arith, main_found.named, main_rule)
 
     main_typed : (k : ℕ) (section : SectionTree) → slice_get sections k ≡ Some section → defines_main section ≡ true →
@@ -235,7 +238,8 @@ module _ (sections : List SectionTree) where
     none_more : (b : Bool) → truth false ≡ (if b then 0 else truth false)
     none_more b = grind arith
 
-    mains_count : (k : ℕ) (before rest : List SectionTree) → interface_rules.lines_from sections k before rest ≡ [] →
+    mains_count : (k : ℕ) (before rest : List SectionTree) → interface_rules.interface_lines_from sections k before rest
+        ≡ [] →
         mains_in (sections_from sections k rest) ≡ (if list_any defines_main before then 0 else
         truth (list_any defines_main rest))
     mains_count k before [] h = none_more _
@@ -246,7 +250,7 @@ module _ (sections : List SectionTree) where
         (back_empty _ _ h) ∙ ap (λ b. if b then 0 else truth (list_any defines_main rest)) (any_append before section))
 
     has_main : list_any defines_main sections ≡ true
-    has_main = rule_holds _ 0 (back_empty (interface_rules.lines_from sections 0 [] sections) _ in_interfaces)
+    has_main = rule_holds _ 0 (back_empty (interface_rules.interface_lines_from sections 0 [] sections) _ in_interfaces)
 
     one_main : (mains_in (sections_from sections 0 sections) == 1) ≡ true
     one_main = ap (λ n. n == 1) (mains_count 0 [] _ (prefix_empty _ _ in_interfaces) ∙ ap truth has_main)

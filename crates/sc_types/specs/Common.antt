@@ -5,7 +5,8 @@ pub use Rattle.sc_lex.specs.declared.section.Section.{Section}
 pub use Rattle.sc_ast.specs.declared.section.FunctionTree.{FunctionTree}
 pub use Rattle.sc_ast.specs.declared.section.LocalTree.{LocalTree}
 pub use Rattle.sc_ast.specs.declared.section.SectionTree.{SectionTree}
-pub use Rattle.sc_types_scope.specs.Prelude.{functions_in, globals_in, heads_in, line_of_text, names_broken, refused_at}
+pub use Rattle.sc_types_scope.specs.Prelude.{function_decls, globals_in, heads_in, line_of_text, names_broken}
+pub use Rattle.sc_types_scope.specs.Prelude.{refused_at}
 pub use Rattle.sc_types_scope.specs.Prelude.{struct_names, structs_in, unless}
 pub use Rattle.sc_core.specs.Prelude.{cells_of, most_cells, most_nodes, most_params, nodes, total}
 pub use Rattle.sc_core.specs.declared.program.ProgramTree.{ProgramTree}

@@ -1,5 +1,6 @@
 -- How much a program may hold, and the lines at which a text holds more.
-use Rattle.sc_types.specs.Common.{FunctionTree, LocalTree, SectionTree, callees_of, cells_of, functions_in, globals_in}
+use Rattle.sc_types.specs.Common.{FunctionTree, LocalTree, SectionTree, callees_of, cells_of, function_decls}
+use Rattle.sc_types.specs.Common.{globals_in}
 use Rattle.sc_types.specs.Common.{heads_in, line_of_text, most_cells, most_compartments, most_exports, most_nodes}
 use Rattle.sc_types.specs.Common.{most_params, nodes, struct_names, structs, structs_in, total, type_of, type_of_name}
 use Rattle.sc_types.specs.Common.{typed_section, unless}
@@ -38,8 +39,8 @@ module _ (section : SectionTree) where
   structs_from k [] = []
   structs_from k (tree ∷ trees) = unless (is_small (ty.Struct k)) tree.line ++ structs_from (suc k) trees
 
-  abbrev pub global_lines : GlobalTree → List ℕ
-  global_lines tree = unless (is_small (type_in tree.ty)) tree.line
+  abbrev pub global_count_lines : GlobalTree → List ℕ
+  global_count_lines tree = unless (is_small (type_in tree.ty)) tree.line
 
   abbrev pub head_lines : HeadTree → List ℕ
   head_lines head = unless (nat_le (length head.params) most_params) head.line
@@ -50,8 +51,8 @@ module _ (section : SectionTree) where
   abbrev pub param_small : FunctionParam → Bool
   param_small param = is_small (type_of_name (struct_names section.decls) param.ty)
 
-  abbrev pub function_lines : FunctionTree → List ℕ
-  function_lines tree = unless (list_all param_small tree.head.params) tree.head.line ++
+  abbrev pub function_count_lines : FunctionTree → List ℕ
+  function_count_lines tree = unless (list_all param_small tree.head.params) tree.head.line ++
       concat (map local_lines tree.locals)
 
   -- the nodes of all functions, where this stands for what is called
@@ -59,25 +60,25 @@ module _ (section : SectionTree) where
   section_nodes callees = total (map nodes (typed_section section callees).functions)
 
   -- the lines, counted in the section, of what is beyond a count
-  abbrev pub section_lines : Callees → List ℕ
-  section_lines callees =
+  abbrev pub section_count_lines : Callees → List ℕ
+  section_count_lines callees =
       unless (nat_le (section_nodes callees) most_nodes && nat_le (length section.decls) most_nodes) 1 ++
       (line_beyond {A = ExportLine} (λ line. line.line) most_exports section.exports ++
       (line_beyond {A = ImportLine} (λ line. line.line) most_exports section.imports ++
       (structs_from 0 (structs_in section.decls) ++
-      (concat (map global_lines (globals_in section.decls)) ++
+      (concat (map global_count_lines (globals_in section.decls)) ++
       (concat (map head_lines (heads_in section.decls)) ++
-      concat (map function_lines (functions_in section.decls)))))))
+      concat (map function_count_lines (function_decls section.decls)))))))
 
 -- the sections from number k on
-abbrev pub lines_from : List SectionTree → ℕ → List SectionTree → List ℕ
-lines_from sections k [] = []
-lines_from sections k (section ∷ rest) =
-    map (line_of_text section.line) (section_lines section (callees_of sections k section)) ++
-    lines_from sections (suc k) rest
+abbrev pub count_lines_from : List SectionTree → ℕ → List SectionTree → List ℕ
+count_lines_from sections k [] = []
+count_lines_from sections k (section ∷ rest) =
+    map (line_of_text section.line) (section_count_lines section (callees_of sections k section)) ++
+    count_lines_from sections (suc k) rest
 
 -- the lines of the text of what is beyond a count
 abbrev pub counts_broken : List SectionTree → List ℕ
 counts_broken sections =
     line_beyond {A = SectionTree} (λ section. line_of_text section.line 1) most_compartments sections ++
-    lines_from sections 0 sections
+    count_lines_from sections 0 sections

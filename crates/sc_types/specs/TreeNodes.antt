@@ -1,6 +1,6 @@
 -- Helping: how many nodes a tree has: one for each expression, statement, local, parameter and function in it, itself
 -- included.
-use Rattle.sc_types.specs.Common.{FunctionTree, LocalTree, functions_in, total}
+use Rattle.sc_types.specs.Common.{FunctionTree, LocalTree, function_decls, total}
 use Rattle.std.specs.Prelude.{ℕ, suc, ◌+◌, List, length, map, Option, Some, None}
 use Rattle.sc_ast.specs.declared.expr.ExprTree.{ExprTree, ExprTree-F, fold-ExprTree}
 use Rattle.sc_ast.specs.declared.expr.ExprTree.TheOpen as term
@@ -79,4 +79,4 @@ function_nodes tree =
 
 -- the nodes of all functions
 abbrev pub decls_nodes : List Decl → ℕ
-decls_nodes decls = total (map function_nodes (functions_in decls))
+decls_nodes decls = total (map function_nodes (function_decls decls))

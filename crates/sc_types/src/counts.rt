@@ -1,7 +1,7 @@
 //! Sections, and the whole phase.
 
 ghost use Rattle.sc_types.specs.Prelude.{counts_broken, decls_nodes, line_beyond, line_of_text, most_compartments};
-ghost use Rattle.sc_types.specs.Prelude.{most_nodes, refused_at, section_lines, with_lines};
+ghost use Rattle.sc_types.specs.Prelude.{most_nodes, refused_at, section_count_lines, with_lines};
 ghost use Rattle.sc_types_elab_expr.specs.Prelude.{Callees};
 ghost use Rattle.std.specs.Prelude.{◌≡◌, ◌&&◌, nat_le, length, IfOk, OnOk};
 ghost use Rattle.sc_ast.specs.declared.section.SectionTree.{SectionTree};
@@ -56,7 +56,8 @@ fn section_lines(
     section: &SectionTree,
     lines: &mut BrokenLines,
 ) -> Result<(), OutOfMemory>
-    ensures { (callees : Callees) → OnOk result (lines.new ≡ with_lines lines.old (section_lines section.now callees)) }
+    ensures { (callees : Callees) → OnOk result (lines.new ≡ with_lines lines.old (section_count_lines section.now
+        callees)) }
 {
     let sizes = Sizes::new(alloc, section)?;
     lines.unless(is_short(&section.decls), 1);

@@ -1,6 +1,7 @@
 //! The lines of what is beyond a count.
 
-ghost use Rattle.sc_types.specs.Prelude.{function_lines, functions_in, global_lines, globals_in, head_lines, heads_in};
+ghost use Rattle.sc_types.specs.Prelude.{function_count_lines, function_decls, global_count_lines, globals_in};
+ghost use Rattle.sc_types.specs.Prelude.{head_lines, heads_in};
 ghost use Rattle.sc_types.specs.Prelude.{line_beyond, local_lines, most_exports, param_small, structs_from, structs_in};
 ghost use Rattle.sc_types.specs.Prelude.{with_lines};
 ghost use Rattle.std.specs.Prelude.{◌≡◌, ◌+◌, [], ◌∷◌, length, map, IfOk, OnOk};
@@ -84,7 +85,7 @@ fn struct_lines(
 
 /// Notes the globals that are too large.
 pub fn globals_lines(sizes: &Sizes, decls: &Decls, lines: &mut BrokenLines)
-    ensures { lines.new ≡ with_lines lines.old (concat (map (global_lines sizes.now) (globals_in decls.now))) }
+    ensures { lines.new ≡ with_lines lines.old (concat (map (global_count_lines sizes.now) (globals_in decls.now))) }
 {
     for decl in decls.as_slice() {
         if_global(sizes, decl, lines);
@@ -93,7 +94,8 @@ pub fn globals_lines(sizes: &Sizes, decls: &Decls, lines: &mut BrokenLines)
 
 #[tactic(auto, using(crate::proofs::Noted::noting))]
 fn if_global(sizes: &Sizes, decl: &Decl, lines: &mut BrokenLines)
-    ensures { lines.new ≡ with_lines lines.old (concat (map (global_lines sizes.now) (globals_in (decl.now ∷ [])))) }
+    ensures { lines.new ≡ with_lines lines.old (concat (map (global_count_lines sizes.now) (globals_in (decl.now ∷
+        [])))) }
 {
     match decl {
         Decl::Global(tree) => lines.unless(sizes.is_small(&tree.ty), tree.line),
@@ -125,7 +127,8 @@ fn if_head(sizes: &Sizes, decl: &Decl, lines: &mut BrokenLines)
 
 /// Notes the functions with parameters and the locals that are too large.
 pub fn functions_lines(sizes: &Sizes, decls: &Decls, lines: &mut BrokenLines)
-    ensures { lines.new ≡ with_lines lines.old (concat (map (function_lines sizes.now) (functions_in decls.now))) }
+    ensures { lines.new ≡ with_lines lines.old (concat (map (function_count_lines sizes.now) (function_decls
+        decls.now))) }
 {
     for decl in decls.as_slice() {
         if_function(sizes, decl, lines);
@@ -135,7 +138,7 @@ pub fn functions_lines(sizes: &Sizes, decls: &Decls, lines: &mut BrokenLines)
 #[tactic(auto, using(crate::proofs::Noted::noting))]
 fn if_function(sizes: &Sizes, decl: &Decl, lines: &mut BrokenLines)
     ensures { lines.new ≡ with_lines lines.old (concat
-        (map (function_lines sizes.now) (functions_in (decl.now ∷ [])))) }
+        (map (function_count_lines sizes.now) (function_decls (decl.now ∷ [])))) }
 {
     match decl {
         Decl::Function(tree) => function_lines(sizes, tree, lines),
@@ -145,7 +148,7 @@ fn if_function(sizes: &Sizes, decl: &Decl, lines: &mut BrokenLines)
 
 #[tactic(auto, using(crate::proofs::Noted::noting))]
 fn function_lines(sizes: &Sizes, tree: &FunctionTree, lines: &mut BrokenLines)
-    ensures { lines.new ≡ with_lines lines.old (function_lines sizes.now tree.now) }
+    ensures { lines.new ≡ with_lines lines.old (function_count_lines sizes.now tree.now) }
 {
     let holds = params_small(sizes, tree.head.params.as_slice());
     lines.unless(holds, tree.head.line);

@@ -6,7 +6,7 @@ use Rattle.sc_types_elab.proofs.Common.{head_named, head_of, if◌then◌else◌
 use Rattle.sc_types_elab.proofs.Common.{import_target, imported, imported_target, map, map_twice, option_and_then}
 use Rattle.sc_types_elab.proofs.Common.{option_map, or_first, or_first_own, position-cons, refl, signature_by}
 use Rattle.sc_types_elab.proofs.Common.{slice_get, struct_names, suc, sym, target_or, ℕ, ◌++◌, ◌==◌, ◌∙◌, ◌∷◌, ◌≡◌}
-use Rattle.sc_base.specs.Prelude.{number_of}
+use Rattle.sc_base.specs.Prelude.{number_by_name}
 use Rattle.std.proofs.lemmas.Cmp.{nat_list_eq_equiv}
 use Rattle.std.specs.Cmp.Lexicographic.{pointwise}
 
@@ -22,14 +22,14 @@ module _ {A : Type 0} (name_of : A → List ℕ) (name : List ℕ) (find : List 
     (find-cons : (x : A) (xs : List A) → find (x ∷ xs) ≡
     (if bytes_eq (name_of x) name then Some x else find xs)) {B : Type 0} (f : A → B) where
   -- what is made of the first item of a name stands at the name's first place
-  pub first_found : (xs : List A) → option_and_then (slice_get (map f xs)) (number_of (map name_of xs) name) ≡
+  pub first_found : (xs : List A) → option_and_then (slice_get (map f xs)) (number_by_name (map name_of xs) name) ≡
       option_map f (find xs)
   first_found [] = ap (option_map f) (sym find-nil)
   first_found (x ∷ xs) = grind (
     arith,
     position-cons (same name) (name_of x) (map name_of xs),
     nat_list_eq_equiv.symm name (name_of x),
-    after_suc (f x) (map f xs) (number_of (map name_of xs) name),
+    after_suc (f x) (map f xs) (number_by_name (map name_of xs) name),
     find-cons x xs,
     first_found xs,
   )
@@ -43,14 +43,14 @@ module _ (name : List ℕ) where
   head_found (tree ∷ trees) heads = grind (arith, head_found trees heads)
 
   signature_found : (tags : List (List ℕ)) (section : SectionTree) →
-      option_and_then (slice_get (map (signature_by tags) (calling_heads section.decls))) (number_of (map head_name
+      option_and_then (slice_get (map (signature_by tags) (calling_heads section.decls))) (number_by_name (map head_name
       (calling_heads section.decls)) name) ≡ option_map (signature_by tags) (called_head section name)
   signature_found tags section =
       first_found _ name (head_named name) refl (λ x xs. refl) _ _ ∙ ap (option_map _) (head_found _ _)
 
   target_found : (sections : List SectionTree) (number : ℕ) (lines : List ImportLine) →
       or_first_own (option_and_then (slice_get (map (λ line. import_target (import_of sections number line)) lines))
-      (number_of (map import_line_name lines) name)) ≡ imported_target sections number (import_named name lines)
+      (number_by_name (map import_line_name lines) name)) ≡ imported_target sections number (import_named name lines)
   target_found sections number lines = ap or_first_own
       (first_found _ name (import_named name) refl (λ x xs. refl) _ lines) ∙ by (import_named name lines) where
         by : (o : Option ImportLine) → or_first_own (option_map
@@ -60,7 +60,7 @@ module _ (name : List ℕ) where
 
 module _ (section : SectionTree) (imports : List Import) (callees : Callees)
     (calls : CallsIn (struct_names section.decls) section imports callees) where
-  signature_is : (name : List ℕ) → option_and_then (slice_get callees.signatures) (number_of callees.heads name) ≡
+  signature_is : (name : List ℕ) → option_and_then (slice_get callees.signatures) (number_by_name callees.heads name) ≡
       option_map (signature_by (struct_names section.decls)) (called_head section name)
   signature_is name =
       cc (calls.signatures, calls.heads, signature_found name (struct_names section.decls) section)
@@ -74,8 +74,9 @@ module _ (sections : List SectionTree) (number : ℕ) (section : SectionTree) (i
   targets_are : callees.targets ≡ map (λ line. import_target (import_of sections number line)) section.imports
   targets_are = calls.targets ∙ ap (map _) are ∙ map_twice import_target (import_of _ number) _
 
-  target_is : (name : List ℕ) → target_or (number_of callees.functions name) (or_first_own (imported callees name)) ≡
-      target_or (number_of (function_names section.decls) name)
+  target_is : (name : List ℕ) → target_or (number_by_name callees.functions name) (or_first_own (imported callees name))
+      ≡
+      target_or (number_by_name (function_names section.decls) name)
       (imported_target sections number (import_named name section.imports))
   target_is name =
       cc (calls.functions, targets_are, calls.imports, target_found name sections number section.imports)

@@ -2,8 +2,10 @@
 use Rattle.sc_types_elab.proofs.Common.{BrokenLines, ExprTree, FunctionScope, FunctionTree, GlobalTree, List, LocalTree}
 use Rattle.sc_types_elab.proofs.Common.{None, OnOk, Option, Result, SectionScope, SectionTree, Some, Stands, StandsIn}
 use Rattle.sc_types_elab.proofs.Common.{Suits, Ty, add-one, ap, arith, concat, drop, drop-step, drop_all}
-use Rattle.sc_types_elab.proofs.Common.{function_lines, get_or, global_lines, init_fits, init_goes, init_holds}
-use Rattle.sc_types_elab.proofs.Common.{is_sized, length, locals_from, map, on_ok, refl, scope_in, stmt_lines, subst}
+use Rattle.sc_types_elab.proofs.Common.{function_type_lines, get_or, global_type_lines, init_fits, init_goes}
+use Rattle.sc_types_elab.proofs.Common.{init_holds}
+use Rattle.sc_types_elab.proofs.Common.{is_sized, length, typed_locals_from, map, on_ok, refl, scope_in}
+use Rattle.sc_types_elab.proofs.Common.{stmt_type_lines, subst}
 use Rattle.sc_types_elab.proofs.Common.{suc, sym, tags, then, type_of, typed_init, unless, visible, with_lines}
 use Rattle.sc_types_elab.proofs.Common.{with_lines-append, with_lines-nil, ℕ, ◌&&◌, ◌+◌, ◌<◌, ◌∙◌, ◌≡◌, ◌≤◌}
 use Rattle.sc_types_elab_expr.specs.Calls as calls
@@ -12,7 +14,7 @@ use Rattle.sc_types_elab.proofs.Suiting.{suiting}
 
 module _ (scope : SectionScope) (section : SectionTree) (stands : Stands scope section) where
   pub global_noted : (tree : GlobalTree) (a b : BrokenLines) → b ≡ with_lines a (unless (is_sized tree.ty &&
-      init_holds (type_of scope.tags tree.ty) tree.init) tree.line) → b ≡ with_lines a (global_lines section tree)
+      init_holds (type_of scope.tags tree.ty) tree.init) tree.line) → b ≡ with_lines a (global_type_lines section tree)
   global_noted tree a b is = is ∙ ap (λ t. with_lines a
       (unless (is_sized tree.ty && init_holds (type_of t tree.ty) tree.init) tree.line)) stands.tags
 
@@ -24,7 +26,7 @@ module _ (scope : SectionScope) (section : SectionTree) (stands : Stands scope s
 
   module _ (callees : calls.Callees) where
     abbrev after : ℕ → List ℕ
-    after i = locals_from section callees tree i (drop i tree.locals)
+    after i = typed_locals_from section callees tree i (drop i tree.locals)
 
     begins : (i : ℕ) (function : FunctionScope) → StandsIn section tree (suc i) function →
         (t : Ty) (init : Option ExprTree) → init_goes (visible scope function) (scope_in section tree) t init ≡
@@ -57,10 +59,10 @@ module _ (scope : SectionScope) (section : SectionTree) (stands : Stands scope s
 
     pub function_noted : {E T : Type 0} (r : Result T E) (function : FunctionScope) →
         StandsIn section tree (length tree.locals) function → (a b c : BrokenLines) →
-        b ≡ with_lines a (locals_from section callees tree 0 tree.locals) →
-        OnOk r (c ≡ with_lines b (concat (map (stmt_lines (visible scope function) callees
+        b ≡ with_lines a (typed_locals_from section callees tree 0 tree.locals) →
+        OnOk r (c ≡ with_lines b (concat (map (stmt_type_lines (visible scope function) callees
         (scope_in section tree) function.result) tree.body))) →
-        OnOk r (c ≡ with_lines a (function_lines section callees tree))
+        OnOk r (c ≡ with_lines a (function_type_lines section callees tree))
     function_noted r function within a b c first = on_ok r (λ second. then a b c _ _ first
-        (second ∙ (λ j. with_lines b (concat (map (stmt_lines (seen scope section stands tree _ _ within j) callees
+        (second ∙ (λ j. with_lines b (concat (map (stmt_type_lines (seen scope section stands tree _ _ within j) callees
         (scope_in section tree) (within.result j)) tree.body)))))

@@ -1,7 +1,8 @@
 -- What a function sees suits the scope that its statements are judged in.
 use Rattle.sc_types_elab.proofs.Common.{Bool, Found, FunctionTree, GlobalTree, List, None, Option, Scope, SectionTree}
 use Rattle.sc_types_elab.proofs.Common.{Some, StructTree, Suits, Ty, TypedStruct, Visible, [], ap, arith, bytes_eq}
-use Rattle.sc_types_elab.proofs.Common.{end_of_member, false, found_in, globals_in, has_member, is_type, list_any, map}
+use Rattle.sc_types_elab.proofs.Common.{end_of_member, false, variable_in, globals_in, has_member, is_type, list_any}
+use Rattle.sc_types_elab.proofs.Common.{map}
 use Rattle.sc_types_elab.proofs.Common.{map_twice, members_from, ne_eqb, no_ty, option_and_then, or_else, position}
 use Rattle.sc_types_elab.proofs.Common.{refl, same_base, same_ty, scope_in, slice_get, slice_get-map, starred, suc, sym}
 use Rattle.sc_types_elab.proofs.Common.{take, true, type_of, type_with, typed_struct, typed_structs, variable_ty}
@@ -69,7 +70,7 @@ module _ (reference : ℕ → VarRef) (variables : List TypedParam) (name : List
   abbrev found_at : ℕ → TypedParam → Found
   found_at place variable = record { variable = reference place; ty = variable.ty }
 
-  found-place : (f : Found) → found_in reference variables name ≡ Some f →
+  found-place : (f : Found) → variable_in reference variables name ≡ Some f →
       (place : ℕ) × (f.variable ≡ reference place) ×
       (slice_get (map (λ variable. variable.ty) variables) place ≡ Some f.ty)
   found-place f is = by place_of is where
@@ -109,16 +110,16 @@ module _ (section : SectionTree) (tree : FunctionTree) (count : ℕ) where
   known-at : (f : Found) (t : Option Ty) → variable_ty scope f.variable ≡ t → t ≡ Some f.ty → Known f
   known-at f t is same = cc (same_ty-refl f.ty)
 
-  local-known : (name : List ℕ) (f : Found) → found_in var.Local seen.locals name ≡ Some f → Known f
+  local-known : (name : List ℕ) (f : Found) → variable_in var.Local seen.locals name ≡ Some f → Known f
   local-known name f is = let at = found-place _ _ name f is in
       known-at f _ (ap (variable_ty scope) at.1) (take-get (λ local. type_of tags _) count tree.locals at.0 f.ty
       (ap (λ types. slice_get types at.0) (sym (map_twice _ _ _)) ∙ at.2))
 
-  param-known : (name : List ℕ) (f : Found) → found_in var.Param seen.params name ≡ Some f → Known f
+  param-known : (name : List ℕ) (f : Found) → variable_in var.Param seen.params name ≡ Some f → Known f
   param-known name f is = let at = found-place _ _ name f is in
       known-at f _ (ap (variable_ty scope) at.1) (ap (λ types. slice_get types at.0) (sym (map_twice _ _ _)) ∙ at.2)
 
-  global-known : (name : List ℕ) (f : Found) → found_in var.Global seen.globals name ≡ Some f → Known f
+  global-known : (name : List ℕ) (f : Found) → variable_in var.Global seen.globals name ≡ Some f → Known f
   global-known name f is = let at = found-place _ _ name f is in
       known-at f _ (ap (variable_ty scope) at.1) (ap (λ types. slice_get types at.0) (sym (map_twice _ _ _)) ∙ at.2)
 
@@ -134,9 +135,10 @@ module _ (section : SectionTree) (tree : FunctionTree) (count : ℕ) where
 
   pub suiting : Suits seen scope
   suiting = record {
-    known = λ name f is. either-known (found_in _ _ name)
-        (or_else (found_in var.Param seen.params name) (found_in var.Global seen.globals name)) f (local-known name f)
-        (either-known (found_in _ _ name) (found_in _ _ name) f (param-known name f) (global-known name f)) is;
+    known = λ name f is. either-known (variable_in _ _ name)
+        (or_else (variable_in var.Param seen.params name) (variable_in var.Global seen.globals name)) f (local-known
+        name f)
+        (either-known (variable_in _ _ name) (variable_in _ _ name) f (param-known name f) (global-known name f)) is;
     unknown = some-global (globals_in section.decls);
     structs = refl;
     nothing = structs-some tags [] _ (λ n. refl);

@@ -1,10 +1,11 @@
 -- Sections and programs with their types, and the lines of the declarations that break the rules of types.
 use Rattle.sc_types_elab.specs.Common.{Decl, FunctionTree, HeadTree, Import, ImportLine, LocalTree, Scope, SectionTree}
 use Rattle.sc_types_elab.specs.Common.{Signature, StructTree, TypedLocal, cells_of, function_named, function_names}
-use Rattle.sc_types_elab.specs.Common.{functions_in, globals_in, head_of, heads_in, import_of, init_fits, interfaces_of}
-use Rattle.sc_types_elab.specs.Common.{limited, line_of_text, number_or_zero, starred, stmt_lines, struct_names}
+use Rattle.sc_types_elab.specs.Common.{function_decls, globals_in, head_of, heads_in, import_of, init_fits}
+use Rattle.sc_types_elab.specs.Common.{interfaces_of}
+use Rattle.sc_types_elab.specs.Common.{limited, line_of_text, number_or_zero, starred, stmt_type_lines, struct_names}
 use Rattle.sc_types_elab.specs.Common.{structs_in, typed_stmt, unless}
-use Rattle.sc_base.specs.Prelude.{number_of}
+use Rattle.sc_base.specs.Prelude.{number_by_name}
 use Rattle.sc_types_elab_expr.specs.Prelude.{Callees, Visible, going_to, target_or, typed}
 use Rattle.sc_core.specs.declared.expr.CallTarget.{CallTarget}
 use Rattle.sc_core.specs.declared.expr.CallTarget.TheVariants.{Cross, Input, Output, Own}
@@ -49,7 +50,7 @@ module _ (tags : List (List ℕ)) where
   abbrev pub base_of : BaseTree → BaseTy
   base_of base_tree.Int = base.Int
   base_of base_tree.Unsigned = base.Unsigned
-  base_of (base_tree.Struct tag) = base.Struct (number_or_zero (number_of tags tag))
+  base_of (base_tree.Struct tag) = base.Struct (number_or_zero (number_by_name tags tag))
 
   -- the type of a parameter or a result
   abbrev pub type_of_name : TypeName → Ty
@@ -142,7 +143,7 @@ or_first (Some tree) first = Some (head_of tree.head)
 
 -- a call is typed by the function's definition in its section, or else by its first prototype there
 abbrev pub called_head : SectionTree → List ℕ → Option HeadTree
-called_head section name = or_first (function_named name (functions_in section.decls))
+called_head section name = or_first (function_named name (function_decls section.decls))
     (head_named name (heads_in section.decls))
 
 abbrev pub import_target : Import → CallTarget
@@ -161,7 +162,7 @@ imported_target sections number (Some line) = import_target (import_of sections 
 abbrev pub callees_of : List SectionTree → ℕ → SectionTree → Callees
 callees_of sections number section = record {
   signature = λ name. option_map (signature_by (struct_names section.decls)) (called_head section name);
-  target = λ name. target_or (number_of (function_names section.decls) name)
+  target = λ name. target_or (number_by_name (function_names section.decls) name)
       (imported_target sections number (import_named name section.imports));
 }
 
@@ -225,8 +226,8 @@ module _ (section : SectionTree) where
 
   -- The lines, counted in the section, at which a global or a struct breaks a rule.
 
-  abbrev pub global_lines : GlobalTree → List ℕ
-  global_lines tree = unless (is_sized tree.ty && init_holds (type_of tags tree.ty) tree.init) tree.line
+  abbrev pub global_type_lines : GlobalTree → List ℕ
+  global_type_lines tree = unless (is_sized tree.ty && init_holds (type_of tags tree.ty) tree.init) tree.line
 
   -- a struct has a member
   abbrev pub struct_lines : StructTree → List ℕ
@@ -249,7 +250,7 @@ module _ (section : SectionTree) where
     typed_section = record {
       structs = structs;
       globals = map (typed_global tags) (globals_in section.decls);
-      functions = map typed_function (functions_in section.decls);
+      functions = map typed_function (function_decls section.decls);
     }
 
     -- The rules of types: the lines, counted in the section, at which they are broken.
@@ -260,24 +261,24 @@ module _ (section : SectionTree) where
         is_sized local.ty && init_fits (scope_in tree) (type_of tags local.ty)
         (typed_init tree place (type_of tags local.ty) local.init)
 
-    abbrev pub locals_from : FunctionTree → (place : ℕ) → List LocalTree → List ℕ
-    locals_from tree place [] = []
-    locals_from tree place (local ∷ locals) = unless (local_holds tree place local) local.line ++
-        locals_from tree (suc place) locals
+    abbrev pub typed_locals_from : FunctionTree → (place : ℕ) → List LocalTree → List ℕ
+    typed_locals_from tree place [] = []
+    typed_locals_from tree place (local ∷ locals) = unless (local_holds tree place local) local.line ++
+        typed_locals_from tree (suc place) locals
 
-    abbrev pub function_lines : FunctionTree → List ℕ
-    function_lines tree =
-        locals_from tree 0 tree.locals ++ concat (map
-        (stmt_lines (visible_of tree) callees (scope_in tree) (result_of tree)) tree.body)
+    abbrev pub function_type_lines : FunctionTree → List ℕ
+    function_type_lines tree =
+        typed_locals_from tree 0 tree.locals ++ concat (map
+        (stmt_type_lines (visible_of tree) callees (scope_in tree) (result_of tree)) tree.body)
 
-    abbrev pub decl_lines : Decl → List ℕ
-    decl_lines (Struct tree) = struct_lines tree
-    decl_lines (Global tree) = global_lines tree
-    decl_lines (Function tree) = function_lines tree
-    decl_lines _ = []
+    abbrev pub decl_type_lines : Decl → List ℕ
+    decl_type_lines (Struct tree) = struct_lines tree
+    decl_type_lines (Global tree) = global_type_lines tree
+    decl_type_lines (Function tree) = function_type_lines tree
+    decl_type_lines _ = []
 
-    abbrev pub section_lines : List ℕ
-    section_lines = concat (map decl_lines section.decls)
+    abbrev pub section_type_lines : List ℕ
+    section_type_lines = concat (map decl_type_lines section.decls)
 
 -- the sections from number k on, with their types
 abbrev pub sections_from : List SectionTree → ℕ → List SectionTree → List TypedSection
@@ -294,4 +295,4 @@ program_of sections = record { interfaces = interfaces_of sections; sections = s
 abbrev pub types_broken : List SectionTree → List ℕ
 types_broken sections =
     concat (map {A = SectionTree} (λ section. map (line_of_text section.line)
-    (section_lines section (callees_of sections 0 section))) sections)
+    (section_type_lines section (callees_of sections 0 section))) sections)

@@ -1,6 +1,7 @@
 //! Whom a section calls by name.
 
-ghost use Rattle.sc_types_elab.specs.Prelude.{CallsIn, calling_heads, function_name, function_signature, functions_in};
+ghost use Rattle.sc_types_elab.specs.Prelude.{CallsIn, calling_heads, function_name, function_signature};
+ghost use Rattle.sc_types_elab.specs.Prelude.{function_decls};
 ghost use Rattle.sc_types_elab.specs.Prelude.{head_name, head_of, heads_in, import_line_name, import_target, param_of};
 ghost use Rattle.sc_types_elab.specs.Prelude.{param_ty, signature_by};
 ghost use Rattle.std.specs.Prelude.{◌≡◌, ◌++◌, ◌∷◌, [], map, IfOk, OnOk};
@@ -94,9 +95,9 @@ fn with_function(
     heads: Heads,
     decl: &Decl,
 ) -> Result<Heads, OutOfMemory>
-    ensures names { IfOk result (λ more. more.names ≡ heads.names ++ map function_name (functions_in (decl.now ∷ []))) }
+    ensures names { IfOk result (λ more. more.names ≡ heads.names ++ map function_name (function_decls (decl.now ∷ []))) }
     ensures signatures { IfOk result (λ more. more.signatures ≡ heads.signatures ++
-        map (function_signature tags.now) (functions_in (decl.now ∷ []))) }
+        map (function_signature tags.now) (function_decls (decl.now ∷ []))) }
 {
     match decl {
         Decl::Function(tree) => {
@@ -133,9 +134,9 @@ fn with_declared(
 
 // The heads of the functions.
 fn function_heads(alloc: Global, tags: &NameList, decls: &[Decl]) -> Result<Heads, OutOfMemory>
-    ensures names { IfOk result (λ heads. heads.names ≡ map function_name (functions_in decls.now)) }
+    ensures names { IfOk result (λ heads. heads.names ≡ map function_name (function_decls decls.now)) }
     ensures signatures { IfOk result (λ heads. heads.signatures ≡
-        map (function_signature tags.now) (functions_in decls.now)) }
+        map (function_signature tags.now) (function_decls decls.now)) }
 {
     let mut heads = Heads {
         names: NameList::new(alloc),
@@ -161,7 +162,7 @@ fn calling_heads(alloc: Global, tags: &NameList, decls: &[Decl]) -> Result<Heads
 }
 
 fn function_places(alloc: Global, decls: &[Decl]) -> Result<NameList, OutOfMemory>
-    ensures { IfOk result (λ places. places ≡ map function_name (functions_in decls.now)) }
+    ensures { IfOk result (λ places. places ≡ map function_name (function_decls decls.now)) }
 {
     let mut places = NameList::new(alloc);
     for decl in decls {
@@ -172,7 +173,7 @@ fn function_places(alloc: Global, decls: &[Decl]) -> Result<NameList, OutOfMemor
 
 // The names and that of the function of this declaration, if it is one, after them.
 fn push_function_name(places: &mut NameList, decl: &Decl) -> Result<(), OutOfMemory>
-    ensures { OnOk result (places.new ≡ places.old ++ map function_name (functions_in (decl.now ∷ []))) }
+    ensures { OnOk result (places.new ≡ places.old ++ map function_name (function_decls (decl.now ∷ []))) }
 {
     match decl {
         Decl::Function(tree) => places.push(tree.head.name.name()),

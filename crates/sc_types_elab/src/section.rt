@@ -1,6 +1,6 @@
 //! Sections.
 
-ghost use Rattle.sc_types_elab.specs.Prelude.{CallsIn, SectionTree, Stands, called, callees_of, functions_in};
+ghost use Rattle.sc_types_elab.specs.Prelude.{CallsIn, SectionTree, Stands, called, callees_of, function_decls};
 ghost use Rattle.sc_types_elab.specs.Prelude.{import_of, struct_name, struct_names, structs_in, typed_function};
 ghost use Rattle.sc_types_elab.specs.Prelude.{typed_section};
 ghost use Rattle.std.specs.Prelude.{◌≡◌, ℕ, ◌++◌, ◌∷◌, [], List, map, IfOk, OnOk};
@@ -70,7 +70,7 @@ fn with_function(
 ) -> Result<TypedFunctions, OutOfMemory>
     requires { Stands scope.now section.now }
     ensures { IfOk result (λ more. more ≡ functions ++
-        map (typed_function section.now (called scope.now.callees)) (functions_in (decl.now ∷ []))) }
+        map (typed_function section.now (called scope.now.callees)) (function_decls (decl.now ∷ []))) }
 {
     match decl {
         Decl::Function(tree) => {
@@ -89,7 +89,7 @@ fn build_functions(
 ) -> Result<TypedFunctions, OutOfMemory>
     requires { Stands scope.now section.now }
     ensures { IfOk result (λ functions. functions ≡ map (typed_function section.now (called scope.now.callees))
-        (functions_in decls.now)) }
+        (function_decls decls.now)) }
 {
     let mut functions = Items::new(alloc);
     for decl in decls {

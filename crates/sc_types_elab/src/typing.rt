@@ -1,8 +1,9 @@
 //! The phase of types: the lines of a text at which its rules of types are broken.
 
-ghost use Rattle.sc_types_elab.specs.Prelude.{Scope, Stands, StandsIn, Suits, called, callees_of, decl_lines};
-ghost use Rattle.sc_types_elab.specs.Prelude.{function_lines, global_lines, init_goes, init_holds, is_sized};
-ghost use Rattle.sc_types_elab.specs.Prelude.{line_of_text, locals_from, noted_all, refused_at, section_lines};
+ghost use Rattle.sc_types_elab.specs.Prelude.{Scope, Stands, StandsIn, Suits, called, callees_of, decl_type_lines};
+ghost use Rattle.sc_types_elab.specs.Prelude.{function_type_lines, global_type_lines, init_goes, init_holds, is_sized};
+ghost use Rattle.sc_types_elab.specs.Prelude.{line_of_text, typed_locals_from, noted_all, refused_at};
+ghost use Rattle.sc_types_elab.specs.Prelude.{section_type_lines};
 ghost use Rattle.sc_types_elab.specs.Prelude.{struct_lines, type_of, types_broken, unless, visible, with_lines};
 ghost use Rattle.std.specs.Prelude.{◌≡◌, ◌&&◌, [], length, map, OnOk, IfOk};
 ghost use Rattle.std.specs.List.{concat, list_all};
@@ -39,7 +40,7 @@ fn least_in(
     section: &SectionTree,
 ) -> Result<Option<u32>, OutOfMemory>
     ensures { IfOk result (λ line. line ≡ noted_all least
-        (map (line_of_text section.now.line) (section_lines section.now (callees_of [] 0 section.now)))) }
+        (map (line_of_text section.now.line) (section_type_lines section.now (callees_of [] 0 section.now)))) }
 {
     let scope = build_scope(alloc, section, &[])?;
     let mut lines = BrokenLines {
@@ -60,7 +61,7 @@ fn note_decls(
 ) -> Result<(), OutOfMemory>
     requires { Stands scope.now section.now }
     ensures { OnOk result (lines.new ≡ with_lines lines.old
-        (concat (map (decl_lines section.now (called scope.now.callees)) decls.now))) }
+        (concat (map (decl_type_lines section.now (called scope.now.callees)) decls.now))) }
 {
     for decl in decls {
         note_decl(alloc, scope, section, lines, decl)?;
@@ -78,7 +79,7 @@ fn note_decl(
 ) -> Result<(), OutOfMemory>
     requires { Stands scope.now section.now }
     ensures { OnOk result (lines.new ≡ with_lines lines.old
-        (decl_lines section.now (called scope.now.callees) decl.now)) }
+        (decl_type_lines section.now (called scope.now.callees) decl.now)) }
 {
     match decl {
         Decl::Struct(tree) => {
@@ -115,7 +116,7 @@ fn note_global(
     tree: &GlobalTree,
 )
     requires { Stands scope.now section.now }
-    ensures { lines.new ≡ with_lines lines.old (global_lines section.now tree.now) }
+    ensures { lines.new ≡ with_lines lines.old (global_type_lines section.now tree.now) }
 {
     let _ = section;
     lines.unless(global_holds(scope, tree), tree.line);
@@ -162,7 +163,7 @@ fn note_locals(
     requires { Stands scope.now section.now }
     ensures stands { IfOk result (λ function. StandsIn section.now tree.now (length tree.now.locals) function) }
     ensures lines { OnOk result (lines.new ≡ with_lines lines.old
-        (locals_from section.now (called scope.now.callees) tree.now 0 tree.now.locals)) }
+        (typed_locals_from section.now (called scope.now.callees) tree.now 0 tree.now.locals)) }
 {
     let _ = section;
     let mut function = head_scope(alloc, scope, tree)?;
@@ -182,7 +183,7 @@ fn note_function(
 ) -> Result<(), OutOfMemory>
     requires { Stands scope.now section.now }
     ensures { OnOk result (lines.new ≡ with_lines lines.old
-        (function_lines section.now (called scope.now.callees) tree.now)) }
+        (function_type_lines section.now (called scope.now.callees) tree.now)) }
 {
     let function = note_locals(alloc, scope, section, lines, tree)?;
     let place = Place {

@@ -7,6 +7,7 @@ pub use Rattle.sc_core.specs.Prelude.{Judged, Scope, binary_fits, decayed, has_m
 pub use Rattle.sc_core.specs.Prelude.{is_type, judged, literal_fits, member_of, pointer_to, same_base, same_ty, target}
 pub use Rattle.sc_core.specs.Prelude.{term_judged, unary_fits}
 pub use Rattle.sc_types_elab_expr.specs.Common.{Global, Ty, TypedExpr, TypedMember, TypedParam, TypedStruct}
-pub use Rattle.sc_types_elab_expr.specs.Prelude.{Found, Suits, Visible, found, found_in, is_zero, member_named}
+pub use Rattle.sc_types_elab_expr.specs.Prelude.{Found, Suits, Visible, variable_named, variable_in, is_zero_literal}
+pub use Rattle.sc_types_elab_expr.specs.Prelude.{member_named}
 pub use Rattle.sc_types_elab_expr.specs.Prelude.{member_names, member_offset, member_ty, no_ty, placed, struct_of}
 pub use Rattle.sc_types_elab_expr.specs.Prelude.{variable_typed, visible, zero_step}

@@ -1,8 +1,9 @@
 -- What is judged of an expression by its parts is what is judged of the whole.
 use Rattle.sc_types_elab_expr.proofs.Common.{Bool, Err, Found, Global, IfOk, Judged, List, None, Ok, Option, Result}
 use Rattle.sc_types_elab_expr.proofs.Common.{Scope, Some, Suits, Ty, TypedExpr, TypedMember, TypedStruct, Visible, []}
-use Rattle.sc_types_elab_expr.proofs.Common.{ap, arith, binary_fits, bytes_eq, decayed, eq-eqb, false, found}
-use Rattle.sc_types_elab_expr.proofs.Common.{has_member, is_address, is_int, is_pointer, is_some, is_type, is_zero}
+use Rattle.sc_types_elab_expr.proofs.Common.{ap, arith, binary_fits, bytes_eq, decayed, eq-eqb, false, variable_named}
+use Rattle.sc_types_elab_expr.proofs.Common.{has_member, is_address, is_int, is_pointer, is_some, is_type}
+use Rattle.sc_types_elab_expr.proofs.Common.{is_zero_literal}
 use Rattle.sc_types_elab_expr.proofs.Common.{judged, literal_fits, member_named, member_of, member_offset, member_ty}
 use Rattle.sc_types_elab_expr.proofs.Common.{no_ty, option_and_then, pointer_to, position, refl, same_base, same_ty}
 use Rattle.sc_types_elab_expr.proofs.Common.{slice_get, struct_of, suc, sym, target, term_judged, true, unary_fits}
@@ -63,7 +64,7 @@ module _ (scope : Scope) where
   at t k = layers.expr_at _ Judged _ _ t k
 
   zero_at : (t : Ty) (k : TypedKind-F TypedKind.TypedKind TypedExpr) →
-      is_zero (typed_as t k) ≡ layers.term_of Bool Bool zero_step (λ e. e.kind) k
+      is_zero_literal (typed_as t k) ≡ layers.term_of Bool Bool zero_step (λ e. e.kind) k
   zero_at t k = layers.expr_at Bool Bool _ _ t k
 
   as_kind : (t : Ty) (kind : TypedKind.TypedKind) (k : TypedKind-F TypedKind.TypedKind TypedExpr) →
@@ -106,20 +107,20 @@ module _ (scope : Scope) where
 
   -- Null pointers.
 
-  null_at : (k : TypedKind-F TypedKind.TypedKind TypedExpr) (t u : Ty) → is_zero (typed_as u k) ≡ true →
+  null_at : (k : TypedKind-F TypedKind.TypedKind TypedExpr) (t u : Ty) → is_zero_literal (typed_as u k) ≡ true →
       judged scope (typed_as t k) ≡ record { ty = t; fits = literal_fits 0 t; place = false; null = is_pointer t }
   null_at (term.Literal zero) t u h = at t (term.Literal zero)
   null_at k t u h = cc (zero_at u k)
 
-  null_is : (e : TypedExpr) (t : Ty) → is_zero e ≡ true → judged scope (record {
+  null_is : (e : TypedExpr) (t : Ty) → is_zero_literal e ≡ true → judged scope (record {
     ty = t;
     kind = e.kind;
   }) ≡ record { ty = t; fits = literal_fits 0 t; place = false; null = is_pointer t }
   null_is e t h = ap (λ k. judged scope (record { ty = t; kind = k }))
       (sym (roll-out-TypedKind e.kind)) ∙ null_at (out-TypedKind e.kind) t e.ty
-      (ap (λ k. is_zero (record { ty = e.ty; kind = k })) (roll-out-TypedKind e.kind) ∙ h)
+      (ap (λ k. is_zero_literal (record { ty = e.ty; kind = k })) (roll-out-TypedKind e.kind) ∙ h)
 
-  pub null_judged : (t : Ty) (e : TypedExpr) → is_pointer t ≡ true → is_zero e ≡ true → record {
+  pub null_judged : (t : Ty) (e : TypedExpr) → is_pointer t ≡ true → is_zero_literal e ≡ true → record {
     ty = decayed t;
     fits = true;
     place = false;
@@ -131,10 +132,10 @@ module _ (scope : Scope) where
 
   -- Names.
   module _ (visible : Visible) (suits : Suits visible scope) where
-    pub variable_judged : (name : List ℕ) → place (variable_typed (found visible name)).ty
-        (is_some (found visible name)) ≡ judged scope (variable_typed (found visible name))
+    pub variable_judged : (name : List ℕ) → place (variable_typed (variable_named visible name)).ty
+        (is_some (variable_named visible name)) ≡ judged scope (variable_typed (variable_named visible name))
     variable_judged name = by _ refl where
-      by : (f : Option Found) → found visible name ≡ f →
+      by : (f : Option Found) → variable_named visible name ≡ f →
           place (variable_typed f).ty (is_some f) ≡ judged scope (variable_typed f)
       by None is = (λ i. place no_ty (sym suits.unknown i)) ∙
           sym (as_kind no_ty _ (term.Variable (Global 0)) (rolls-Variable _))
@@ -191,7 +192,7 @@ if_ok P Q R (Err e) both p q = tt
 
 -- a variable that is built is judged as one
 pub variable_built : (scope : Scope) (visible : Visible) → Suits visible scope → (name : List ℕ) (f : Option Found)
-    (b : Built) → f ≡ found visible name → b.expr ≡ variable_typed f →
+    (b : Built) → f ≡ variable_named visible name → b.expr ≡ variable_typed f →
     b.judged ≡ place (variable_typed f).ty (is_some f) → b.judged ≡ judged scope b.expr
 variable_built scope visible suits name f b is typed reported =
     cc (variable_judged scope visible suits name)
@@ -203,7 +204,11 @@ module _ (scope : Scope) (visible : Visible) (suits : Suits visible scope) (name
     kind = TypedKind.Member a (member_offset m);
   }) → IfOk r (λ b. b.judged ≡ place (member_ty m)
       (j.fits && (j.place && is_some m))) → IfOk r (λ b. b.judged ≡ judged scope b.expr)
-  member_built found = if_ok (λ b. b.expr ≡ record { ty = member_ty m; kind = TypedKind.Member a (member_offset m) })
+  member_built variable_named = if_ok (λ b. b.expr ≡ record {
+    ty = member_ty m;
+    kind = TypedKind.Member a (member_offset
+        m);
+  })
       (λ b. b.judged ≡ place (member_ty m) (j.fits && (j.place && is_some m))) _ r
       (λ b e p. cc (member_judged scope visible suits name a j is))
 

@@ -1,8 +1,9 @@
 -- Variables and members are found by their names' first places.
 use Rattle.sc_types_elab_expr.proofs.Common.{Found, List, None, Option, Some, Ty, TypedParam, TypedStruct, ap, bytes_eq}
-use Rattle.sc_types_elab_expr.proofs.Common.{found_in, member_named, member_names, option_and_then, option_map, placed}
+use Rattle.sc_types_elab_expr.proofs.Common.{variable_in, member_named, member_names, option_and_then, option_map}
+use Rattle.sc_types_elab_expr.proofs.Common.{placed}
 use Rattle.sc_types_elab_expr.proofs.Common.{refl, slice_get, sym, ℕ, ◌∙◌, ◌≡◌}
-use Rattle.sc_base.specs.Prelude.{number_of}
+use Rattle.sc_base.specs.Prelude.{number_by_name}
 use Rattle.sc_core.specs.declared.expr.VarRef.{VarRef}
 use Rattle.std.proofs.lemmas.Option.{slice_get-map}
 use Rattle.sc_base.proofs.Lists.{position_map}
@@ -16,7 +17,7 @@ abbrev pub found_with : (ℕ → VarRef) → ℕ → TypedParam → Found
 found_with reference place variable = record { variable = reference place; ty = variable.ty }
 
 pub found_in_placed : (reference : ℕ → VarRef) (variables : List TypedParam) (name : List ℕ) →
-    found_in reference variables name ≡ option_map (found_at reference) (placed variables name)
+    variable_in reference variables name ≡ option_map (found_at reference) (placed variables name)
 found_in_placed reference variables name = ap (option_and_then (λ place. option_map (found_with reference place)
     (slice_get _ place))) (sym (position_map (λ variable. _) (bytes_eq name) variables)) ∙ each _ where
       at : (place : ℕ) (o : Option TypedParam) → option_map (found_with reference place) o ≡
@@ -31,7 +32,7 @@ found_in_placed reference variables name = ap (option_and_then (λ place. option
       each (Some place) = at place (slice_get _ place)
 
 pub member_placed : (name : List ℕ) (tree : TypedStruct) →
-    member_named name (Some tree) ≡ option_and_then (slice_get tree.members) (number_of (member_names tree) name)
+    member_named name (Some tree) ≡ option_and_then (slice_get tree.members) (number_by_name (member_names tree) name)
 member_placed name tree = ap (option_and_then (slice_get tree.members))
     (sym (position_map (λ member. _) (bytes_eq name) tree.members))
 

@@ -1,5 +1,5 @@
 -- The names from below that several definitions of this crate cite, passed on from one place. Declares nothing.
-pub use Rattle.sc_base.specs.Prelude.{number_of}
+pub use Rattle.sc_base.specs.Prelude.{number_by_name}
 pub use Rattle.sc_ast.specs.declared.expr.ExprTree.{ExprTree, ExprTree-F, fold-ExprTree}
 pub use Rattle.sc_core.specs.Prelude.{Scope, Signature, common, decayed, has_member, is_pointer, is_type, pointer_to}
 pub use Rattle.sc_core.specs.Prelude.{target, variable_ty}

@@ -15,7 +15,7 @@ use Rattle.sc_core.specs.declared.ty.BaseTy.TheVariants as base
 use Rattle.sc_core.specs.declared.expr.TypedKind
 use Rattle.sc_core.specs.declared.expr.TypedKind.{TypedKind-F}
 use Rattle.sc_core.specs.declared.expr.TypedKind.TheOpen as term
-use Rattle.sc_types_elab_expr.specs.Scopes.{Visible, Found, found, member_named, struct_of}
+use Rattle.sc_types_elab_expr.specs.Scopes.{Visible, Found, variable_named, member_named, struct_of}
 
 -- the type of what isn't there: a pointer without a `*`, which nothing has, so that nothing fits it
 abbrev pub no_ty : Ty
@@ -56,12 +56,12 @@ abbrev pub zero_step : TypedKind-F Bool Bool → Bool
 zero_step (term.Literal zero) = true
 zero_step _ = false
 
-abbrev pub is_zero : TypedExpr → Bool
-is_zero = fold-TypedExpr Bool Bool zero_step (λ e. e.kind)
+abbrev pub is_zero_literal : TypedExpr → Bool
+is_zero_literal = fold-TypedExpr Bool Bool zero_step (λ e. e.kind)
 
 -- where a pointer goes, a literal of value 0 is a null pointer (C11 6.3.2.3p3)
 abbrev pub going_to : Ty → TypedExpr → TypedExpr
-going_to place e = if is_pointer place && is_zero e then record { ty = decayed place; kind = e.kind } else e
+going_to place e = if is_pointer place && is_zero_literal e then record { ty = decayed place; kind = e.kind } else e
 
 -- both operands of `==` and `!=` may be null beside a pointer
 abbrev pub beside : BinaryOp → Ty → TypedExpr → TypedExpr
@@ -90,21 +90,21 @@ abbrev pub member_offset : Option TypedMember → ℕ
 member_offset member = option_map_or (λ m. m.offset) member 0
 
 module _ (visible : Visible) where
-  abbrev pub step : ExprTree-F TypedExpr → TypedExpr
-  step (tree.Literal number) = literal_typed number
-  step (tree.Variable name) = variable_typed (found visible name)
-  step (tree.Unary o e) = record { ty = unary_ty o e.ty; kind = TypedKind.Unary o e }
-  step (tree.Binary o a b) = binary_typed o a b
-  step (tree.Index a b) = record { ty = or_int (target (decayed a.ty)); kind = TypedKind.Index a b }
-  step (tree.Member a name) =
+  abbrev pub expr_typed : ExprTree-F TypedExpr → TypedExpr
+  expr_typed (tree.Literal number) = literal_typed number
+  expr_typed (tree.Variable name) = variable_typed (variable_named visible name)
+  expr_typed (tree.Unary o e) = record { ty = unary_ty o e.ty; kind = TypedKind.Unary o e }
+  expr_typed (tree.Binary o a b) = binary_typed o a b
+  expr_typed (tree.Index a b) = record { ty = or_int (target (decayed a.ty)); kind = TypedKind.Index a b }
+  expr_typed (tree.Member a name) =
       let member = member_named name (struct_of visible.structs (Some a.ty)) in
       record { ty = member_ty member; kind = TypedKind.Member a (member_offset member) }
-  step (tree.Arrow a name) =
+  expr_typed (tree.Arrow a name) =
       let member = member_named name (struct_of visible.structs (target (decayed a.ty))) in
       record { ty = member_ty member; kind = TypedKind.Arrow a (member_offset member) }
-  step (tree.Deref e) = record { ty = or_int (target (decayed e.ty)); kind = TypedKind.Deref e }
-  step (tree.Address e) = record { ty = or_int (pointer_to e.ty); kind = TypedKind.Address e }
+  expr_typed (tree.Deref e) = record { ty = or_int (target (decayed e.ty)); kind = TypedKind.Deref e }
+  expr_typed (tree.Address e) = record { ty = or_int (pointer_to e.ty); kind = TypedKind.Address e }
 
   -- an expression with its types
   abbrev pub typed : ExprTree → TypedExpr
-  typed = fold-ExprTree TypedExpr step
+  typed = fold-ExprTree TypedExpr expr_typed

@@ -1,5 +1,5 @@
 -- Helping: variables and members by their names' first places.
-use Rattle.sc_types_elab_expr.specs.Common.{Ty, TypedMember, TypedParam, TypedStruct, number_of}
+use Rattle.sc_types_elab_expr.specs.Common.{Ty, TypedMember, TypedParam, TypedStruct, number_by_name}
 use Rattle.std.specs.Prelude.{ℕ, List, map, Option, slice_get}
 use Rattle.std.specs.Option.{option_map, option_and_then}
 
@@ -16,4 +16,4 @@ member_names tree = names_of tree.members
 abbrev pub placed : List TypedParam → List ℕ → Option (ℕ × Ty)
 placed variables name =
     option_and_then (λ place. option_map (λ variable. (place, variable.ty)) (slice_get variables place))
-    (number_of (variable_names variables) name)
+    (number_by_name (variable_names variables) name)

@@ -18,8 +18,8 @@ pub record Found : Type 0 where
   pub ty : Ty
 
 -- the variable of a name in a list, as the kind of reference that the list's places are
-abbrev pub found_in : (ℕ → VarRef) → List TypedParam → List ℕ → Option Found
-found_in reference variables name =
+abbrev pub variable_in : (ℕ → VarRef) → List TypedParam → List ℕ → Option Found
+variable_in reference variables name =
     option_and_then (λ place. option_map (λ variable. record { variable = reference place; ty = variable.ty })
     (slice_get variables place)) (position (λ variable. bytes_eq name variable.name) variables)
 
@@ -28,10 +28,10 @@ or_else None other = other
 or_else (Some x) other = Some x
 
 -- a local hides a parameter, and both hide a global
-abbrev pub found : Visible → List ℕ → Option Found
-found visible name =
-    or_else (found_in Local visible.locals name) (or_else (found_in Param visible.params name)
-    (found_in Global visible.globals name))
+abbrev pub variable_named : Visible → List ℕ → Option Found
+variable_named visible name =
+    or_else (variable_in Local visible.locals name) (or_else (variable_in Param visible.params name)
+    (variable_in Global visible.globals name))
 
 -- the member of a name
 abbrev pub member_named : List ℕ → Option TypedStruct → Option TypedMember

@@ -1,4 +1,4 @@
-ghost use Rattle.sc_types_elab_expr.specs.Prelude.{Suits, beside, binary_typed, expr_in, going_to, is_zero};
+ghost use Rattle.sc_types_elab_expr.specs.Prelude.{Suits, beside, binary_typed, expr_in, going_to, is_zero_literal};
 ghost use Rattle.sc_types_elab_expr.specs.Prelude.{literal_typed, member_offset, member_ty, no_ty, or_int, unary_ty};
 ghost use Rattle.sc_types_elab_expr.specs.Prelude.{variable_typed, visible};
 ghost use Rattle.sc_core.specs.Prelude.{Scope, decayed, is_address, judged, pointer_to, target};
@@ -334,7 +334,7 @@ fn address_built(alloc: Global, of: Built) -> Result<Built, OutOfMemory>
 }
 
 fn is_zero(expr: &TypedExpr) -> bool
-    ensures { result ≡ is_zero expr.now }
+    ensures { result ≡ is_zero_literal expr.now }
 {
     match &expr.kind {
         TypedKind::Literal { value } => *value == 0,

@@ -1,4 +1,4 @@
-ghost use Rattle.sc_types_elab_expr.specs.Prelude.{found, visible};
+ghost use Rattle.sc_types_elab_expr.specs.Prelude.{variable_named, visible};
 ghost use Rattle.std.specs.Prelude.{◌≡◌};
 
 use crate::callees::Callees;
@@ -27,7 +27,7 @@ pub struct FunctionScope {
 
 /// The variable of a name (C11 6.2.1p4).
 pub fn found(section: &SectionScope, function: &FunctionScope, name: &Name) -> Option<Found>
-    ensures { result ≡ found (visible section.now function.now) name.now }
+    ensures { result ≡ variable_named (visible section.now function.now) name.now }
 {
     if let Some(local) = function.locals.local(name) {
         return Some(local);

@@ -1,6 +1,6 @@
 ghost use Rattle.std.specs.Prelude.{◌≡◌, ◌++◌, ◌∷◌, [], IfOk};
 ghost use Rattle.sc_core.specs.declared.expr.VarRef.TheVariants as var;
-ghost use Rattle.sc_types_elab_expr.specs.Scopes.{found_in};
+ghost use Rattle.sc_types_elab_expr.specs.Scopes.{variable_in};
 ghost use Rattle.sc_types_elab_expr.specs.Placed.{placed};
 
 use sc_base::{Name, NameList, OutOfMemory};
@@ -105,7 +105,7 @@ impl Variables {
     /// The first variable of a name, among globals.
     #[tactic(auto, using(crate::proofs::Scopes::found_in_placed))]
     pub fn global(&self, name: &Name) -> Option<Found>
-        ensures { result ≡ found_in var.Global self.now name.now }
+        ensures { result ≡ variable_in var.Global self.now name.now }
     {
         let (place, ty) = self.find(name)?;
         let variable = VarRef::Global(place);
@@ -115,7 +115,7 @@ impl Variables {
     /// The first variable of a name, among parameters.
     #[tactic(auto, using(crate::proofs::Scopes::found_in_placed))]
     pub fn param(&self, name: &Name) -> Option<Found>
-        ensures { result ≡ found_in var.Param self.now name.now }
+        ensures { result ≡ variable_in var.Param self.now name.now }
     {
         let (place, ty) = self.find(name)?;
         let variable = VarRef::Param(place);
@@ -125,7 +125,7 @@ impl Variables {
     /// The first variable of a name, among locals.
     #[tactic(auto, using(crate::proofs::Scopes::found_in_placed))]
     pub fn local(&self, name: &Name) -> Option<Found>
-        ensures { result ≡ found_in var.Local self.now name.now }
+        ensures { result ≡ variable_in var.Local self.now name.now }
     {
         let (place, ty) = self.find(name)?;
         let variable = VarRef::Local(place);

@@ -14,7 +14,9 @@ pub use Rattle.sc_types_elab_expr.specs.declared.scope.FunctionScope.{FunctionSc
 pub use Rattle.sc_types_elab_expr.specs.declared.scope.SectionScope.{SectionScope}
 pub use Rattle.sc_types_elab_stmt.specs.Common.{CallTree, ExprTree, SimpleTree, StmtKind, StmtTree, Ty, TypedExpr}
 pub use Rattle.sc_types_elab_stmt.specs.Prelude.{all_go, assign_call_holds, assign_holds, call_holds, cond_holds}
-pub use Rattle.sc_types_elab_stmt.specs.Prelude.{first_of, goes_in, going_to_all, going_to_some, lines_at, params_of}
-pub use Rattle.sc_types_elab_stmt.specs.Prelude.{part_lines, rest_of, return_call_holds, return_value_holds, stmt_lines}
+pub use Rattle.sc_types_elab_stmt.specs.Prelude.{first_of, goes_in, going_to_all, going_to_some, lines_at}
+pub use Rattle.sc_types_elab_stmt.specs.Prelude.{params_called}
+pub use Rattle.sc_types_elab_stmt.specs.Prelude.{part_type_lines, rest_of, return_call_holds, return_value_holds}
+pub use Rattle.sc_types_elab_stmt.specs.Prelude.{stmt_type_lines}
 unfoldable pub use Rattle.sc_types_elab_stmt.specs.Prelude.{args_in, call_in, kind_in, part_in, returned_in, simple_in}
 unfoldable pub use Rattle.sc_types_elab_stmt.specs.Prelude.{stmt_in, value_in}

@@ -2,8 +2,8 @@
 use Rattle.sc_types_elab_stmt.proofs.Common.{Bool, CallTree, Callees, Err, ExprTree, List, Ok, OnOk, Option, Result}
 use Rattle.sc_types_elab_stmt.proofs.Common.{Scope, SimpleTree, StmtKind, StmtTree, Ty, Visible, [], ap, arith}
 use Rattle.sc_types_elab_stmt.proofs.Common.{assign_call_holds, assign_holds, call_holds, concat, cond_holds, drop}
-use Rattle.sc_types_elab_stmt.proofs.Common.{drop-step, drop_all, get_or, length, lines_at, map, part_lines}
-use Rattle.sc_types_elab_stmt.proofs.Common.{return_call_holds, return_value_holds, rules, stmt_lines, sym, unless}
+use Rattle.sc_types_elab_stmt.proofs.Common.{drop-step, drop_all, get_or, length, lines_at, map, part_type_lines}
+use Rattle.sc_types_elab_stmt.proofs.Common.{return_call_holds, return_value_holds, rules, stmt_type_lines, sym, unless}
 use Rattle.sc_types_elab_stmt.proofs.Common.{with_lines, ℕ, ◌++◌, ◌+◌, ◌<◌, ◌∙◌, ◌≡◌, ◌≤◌}
 use Rattle.sc_types_scope.specs.declared.broken.BrokenLines.{BrokenLines}
 use Rattle.sc_types_scope.proofs.Lines.{with_lines-append, with_lines-nil}
@@ -15,15 +15,15 @@ module _ (visible : Visible) (callees : Callees) (scope : Scope) (result : Optio
   at = lines_at visible callees scope result
 
   abbrev all : List StmtTree → List ℕ
-  all xs = concat (map (stmt_lines visible callees scope result) xs)
+  all xs = concat (map (stmt_type_lines visible callees scope result) xs)
 
   abbrev part : Option SimpleTree → List ℕ
-  part = part_lines visible callees scope result
+  part = part_type_lines visible callees scope result
 
   abbrev cond_is : ExprTree → Bool
   cond_is = cond_holds visible callees scope result
 
-  pub stmt-is : (s : StmtTree) → stmt_lines visible callees scope result s ≡ at s.kind s.line
+  pub stmt-is : (s : StmtTree) → stmt_type_lines visible callees scope result s ≡ at s.kind s.line
   stmt-is s = search (rules, tree.the_lemmas, trees.the_lemmas)
 
   pub kind-assign : (place value : ExprTree) (line : ℕ) →

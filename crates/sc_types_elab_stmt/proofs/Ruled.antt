@@ -2,7 +2,8 @@
 use Rattle.sc_types_elab_stmt.proofs.Common.{Bool, Err, ExprTree, IfOk, Judged, List, Ok, Option, Result, Scope}
 use Rattle.sc_types_elab_stmt.proofs.Common.{Signature, Some, Ty, TypedExpr, Visible, [], add-one, all_go, all_go_into}
 use Rattle.sc_types_elab_stmt.proofs.Common.{ap, args_fit, arith, assign_fits, drop, false, get_or, goes_in, goes_into}
-use Rattle.sc_types_elab_stmt.proofs.Common.{going_to_all, is_target, judged, length, map, params_of, refl, suc, sym}
+use Rattle.sc_types_elab_stmt.proofs.Common.{going_to_all, is_target, judged, length, map, params_called, refl, suc}
+use Rattle.sc_types_elab_stmt.proofs.Common.{sym}
 use Rattle.sc_types_elab_stmt.proofs.Common.{true, typed, ℕ, ◌&&◌, ◌+◌, ◌<◌, ◌∙◌, ◌∷◌, ◌≡◌, ◌≢◌}
 use Rattle.std.proofs.Math.Seq.{drop-cons}
 use Rattle.sc_core.proofs.Judged.{judged_ty}
@@ -47,7 +48,7 @@ module _ (visible : Visible) (scope : Scope) where
   pub args_go : (s : Option Signature) (types : List Ty) (args : List ExprTree) → (gone : Bool) →
       gone ≡ all_go (goes_in visible scope) types args → (signature : Signature) → s ≡ Some signature →
       types ≡ signature.params → gone ≡ args_fit s (map (judged scope)
-      (going_to_all (params_of s) (map (typed visible) args)))
+      (going_to_all (params_called s) (map (typed visible) args)))
   args_go s types args gone is signature there same = cc (all_go-is types args)
 
   -- what a place takes

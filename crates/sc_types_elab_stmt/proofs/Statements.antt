@@ -1,7 +1,8 @@
 -- What statements are in a function's body, form by form.
 use Rattle.sc_types_elab_stmt.proofs.Common.{CallTree, ExprTree, FunctionScope, List, None, Option, SectionScope}
 use Rattle.sc_types_elab_stmt.proofs.Common.{SimpleTree, Some, StmtTree, args_in, call_in, called, expr_in}
-use Rattle.sc_types_elab_stmt.proofs.Common.{going_to_some, kind_in, map, params_of, part_in, refl, returned_in, rules}
+use Rattle.sc_types_elab_stmt.proofs.Common.{going_to_some, kind_in, map, params_called, part_in, refl, returned_in}
+use Rattle.sc_types_elab_stmt.proofs.Common.{rules}
 use Rattle.sc_types_elab_stmt.proofs.Common.{simple_in, stmt_in, value_in, ◌≡◌}
 use Rattle.sc_ast.specs.declared.stmt.SimpleKind.TheVariants as simple_tree
 use Rattle.sc_ast.specs.declared.stmt.StmtTree as trees
@@ -12,7 +13,7 @@ use Rattle.sc_core.specs.declared.stmt.TypedStmtKind as typed
 module _ (section : SectionScope) (function : FunctionScope) where
   pub call_is : (call : CallTree) → call_in section function call ≡ record {
     target = (called section.callees).target call.name;
-    args = args_in section function (params_of ((called section.callees).signature call.name)) call.args;
+    args = args_in section function (params_called ((called section.callees).signature call.name)) call.args;
   }
   unfolding call_in args_in
   call_is call = refl

@@ -2,12 +2,12 @@
 use Rattle.sc_types_elab_stmt.specs.Common.{Callees, ExprTree, Scope, StmtKind, Ty, Visible, fold-StmtKind, goes_into}
 use Rattle.sc_types_elab_stmt.specs.Common.{going_to, judged, typed}
 use Rattle.std.specs.Prelude.{ℕ, Bool, true, false, ◌&&◌, List, [], ◌∷◌, Option, Some, None}
-use Rattle.sc_types_elab_stmt.specs.Statements.{kind_lines}
+use Rattle.sc_types_elab_stmt.specs.Statements.{kind_type_lines}
 
 -- the lines of a kind of statement at a line
 abbrev pub lines_at : Visible → Callees → Scope → Option Ty → StmtKind → ℕ → List ℕ
 lines_at visible callees scope result =
-    fold-StmtKind (ℕ → List ℕ) (List ℕ) (kind_lines visible callees scope result) (λ s. s.kind s.line)
+    fold-StmtKind (ℕ → List ℕ) (List ℕ) (kind_type_lines visible callees scope result) (λ s. s.kind s.line)
 
 module _ (visible : Visible) (scope : Scope) where
   -- a value goes into a place of this type

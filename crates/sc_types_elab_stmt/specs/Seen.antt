@@ -5,7 +5,7 @@ use Rattle.sc_types_elab_stmt.specs.Common.{TypedStmtKind, called, fold-StmtKind
 use Rattle.std.specs.Prelude.{List, Option, map}
 use Rattle.std.specs.Option.{option_map}
 use Rattle.sc_types_elab_stmt.specs.Statements.{going_to_some, going_to_all, typed_call, typed_simple_kind}
-use Rattle.sc_types_elab_stmt.specs.Statements.{typed_simple, typed_stmt, kind_step, stmt_step}
+use Rattle.sc_types_elab_stmt.specs.Statements.{typed_simple, typed_stmt, kind_typed, stmt_typed}
 use Rattle.sc_types_elab_expr.specs.declared.scope.SectionScope.{SectionScope}
 use Rattle.sc_types_elab_expr.specs.declared.scope.FunctionScope.{FunctionScope}
 
@@ -33,8 +33,8 @@ module _ (section : SectionScope) (function : FunctionScope) where
 
   unfoldable pub kind_in : StmtKind → TypedStmtKind
   kind_in =
-      fold-StmtKind TypedStmtKind TypedStmt (kind_step (visible section function)
-      (called section.callees) function.result) (stmt_step (visible section function)
+      fold-StmtKind TypedStmtKind TypedStmt (kind_typed (visible section function)
+      (called section.callees) function.result) (stmt_typed (visible section function)
       (called section.callees) function.result)
 
   unfoldable pub stmt_in : StmtTree → TypedStmt

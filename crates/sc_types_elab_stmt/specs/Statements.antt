@@ -25,13 +25,13 @@ going_to_all [] exprs = exprs
 going_to_all types [] = []
 going_to_all (t ∷ types) (e ∷ exprs) = going_to t e ∷ going_to_all types exprs
 
-abbrev pub params_of : Option Signature → List Ty
-params_of None = []
-params_of (Some signature) = signature.params
+abbrev pub params_called : Option Signature → List Ty
+params_called None = []
+params_called (Some signature) = signature.params
 
 module _ (visible : Visible) (callees : Callees) where
   abbrev pub typed_args : CallTree → List TypedExpr
-  typed_args call = going_to_all (params_of (callees.signature call.name)) (map (typed visible) call.args)
+  typed_args call = going_to_all (params_called (callees.signature call.name)) (map (typed visible) call.args)
 
   abbrev pub typed_call : CallTree → TypedCall
   typed_call call = record { target = callees.target call.name; args = typed_args call }
@@ -49,27 +49,27 @@ module _ (visible : Visible) (callees : Callees) where
   typed_simple s = record { line = s.line; kind = typed_simple_kind s.kind }
 
   module _ (result : Option Ty) where
-    abbrev pub kind_step : StmtKind-F TypedStmtKind TypedStmt → TypedStmtKind
-    kind_step tree.Empty = typed_kind.Empty
-    kind_step (tree.Assign place value) = typed_kind.Assign (typed visible place) (typed_value place value)
-    kind_step (tree.AssignCall place call) = typed_kind.AssignCall (typed visible place) (typed_call call)
-    kind_step (tree.Call call) = typed_kind.Call (typed_call call)
-    kind_step (tree.If cond first second) = typed_kind.If (typed visible cond) first second
-    kind_step (tree.While cond body) = typed_kind.While (typed visible cond) body
-    kind_step (tree.For first cond next body) =
+    abbrev pub kind_typed : StmtKind-F TypedStmtKind TypedStmt → TypedStmtKind
+    kind_typed tree.Empty = typed_kind.Empty
+    kind_typed (tree.Assign place value) = typed_kind.Assign (typed visible place) (typed_value place value)
+    kind_typed (tree.AssignCall place call) = typed_kind.AssignCall (typed visible place) (typed_call call)
+    kind_typed (tree.Call call) = typed_kind.Call (typed_call call)
+    kind_typed (tree.If cond first second) = typed_kind.If (typed visible cond) first second
+    kind_typed (tree.While cond body) = typed_kind.While (typed visible cond) body
+    kind_typed (tree.For first cond next body) =
         typed_kind.For (option_map typed_simple first) (typed visible cond) (option_map typed_simple next) body
-    kind_step tree.Break = typed_kind.Break
-    kind_step tree.Continue = typed_kind.Continue
-    kind_step tree.Return = typed_kind.Return
-    kind_step (tree.ReturnValue value) = typed_kind.ReturnValue (going_to_some result (typed visible value))
-    kind_step (tree.ReturnCall call) = typed_kind.ReturnCall (typed_call call)
+    kind_typed tree.Break = typed_kind.Break
+    kind_typed tree.Continue = typed_kind.Continue
+    kind_typed tree.Return = typed_kind.Return
+    kind_typed (tree.ReturnValue value) = typed_kind.ReturnValue (going_to_some result (typed visible value))
+    kind_typed (tree.ReturnCall call) = typed_kind.ReturnCall (typed_call call)
 
-    abbrev pub stmt_step : StmtTree-F TypedStmtKind TypedStmt → TypedStmt
-    stmt_step s = record { line = s.line; kind = s.kind }
+    abbrev pub stmt_typed : StmtTree-F TypedStmtKind TypedStmt → TypedStmt
+    stmt_typed s = record { line = s.line; kind = s.kind }
 
     -- a statement with its types
     abbrev pub typed_stmt : StmtTree → TypedStmt
-    typed_stmt = fold-StmtTree TypedStmtKind TypedStmt kind_step stmt_step
+    typed_stmt = fold-StmtTree TypedStmtKind TypedStmt kind_typed stmt_typed
 
   -- The rules. Each is judged by what the typed expressions are.
   module _ (scope : Scope) (result : Option Ty) where
@@ -106,24 +106,24 @@ module _ (visible : Visible) (callees : Callees) where
     simple_holds (simple_tree.Call call) = call_holds call
 
     -- the lines of a part of `for`
-    abbrev pub part_lines : Option SimpleTree → List ℕ
-    part_lines None = []
-    part_lines (Some s) = unless (simple_holds s.kind) s.line
+    abbrev pub part_type_lines : Option SimpleTree → List ℕ
+    part_type_lines None = []
+    part_type_lines (Some s) = unless (simple_holds s.kind) s.line
 
     -- the lines of a kind of statement at a line, where those of the statements inside are known
-    abbrev pub kind_lines : StmtKind-F (ℕ → List ℕ) (List ℕ) → ℕ → List ℕ
-    kind_lines (tree.Assign place value) line = unless (assign_holds place value) line
-    kind_lines (tree.AssignCall place call) line = unless (assign_call_holds place call) line
-    kind_lines (tree.Call call) line = unless (call_holds call) line
-    kind_lines (tree.If cond first second) line = unless (cond_holds cond) line ++ (concat first ++ concat second)
-    kind_lines (tree.While cond body) line = unless (cond_holds cond) line ++ concat body
-    kind_lines (tree.For first cond next body) line =
-        part_lines first ++ (unless (cond_holds cond) line ++ (part_lines next ++ concat body))
-    kind_lines tree.Return line = unless (not (is_some result)) line
-    kind_lines (tree.ReturnValue value) line = unless (return_value_holds value) line
-    kind_lines (tree.ReturnCall call) line = unless (return_call_holds result call) line
-    kind_lines _ line = []
+    abbrev pub kind_type_lines : StmtKind-F (ℕ → List ℕ) (List ℕ) → ℕ → List ℕ
+    kind_type_lines (tree.Assign place value) line = unless (assign_holds place value) line
+    kind_type_lines (tree.AssignCall place call) line = unless (assign_call_holds place call) line
+    kind_type_lines (tree.Call call) line = unless (call_holds call) line
+    kind_type_lines (tree.If cond first second) line = unless (cond_holds cond) line ++ (concat first ++ concat second)
+    kind_type_lines (tree.While cond body) line = unless (cond_holds cond) line ++ concat body
+    kind_type_lines (tree.For first cond next body) line =
+        part_type_lines first ++ (unless (cond_holds cond) line ++ (part_type_lines next ++ concat body))
+    kind_type_lines tree.Return line = unless (not (is_some result)) line
+    kind_type_lines (tree.ReturnValue value) line = unless (return_value_holds value) line
+    kind_type_lines (tree.ReturnCall call) line = unless (return_call_holds result call) line
+    kind_type_lines _ line = []
 
     -- the lines of the statements that break rules of types, in a statement
-    abbrev pub stmt_lines : StmtTree → List ℕ
-    stmt_lines = fold-StmtTree (ℕ → List ℕ) (List ℕ) kind_lines (λ s. s.kind s.line)
+    abbrev pub stmt_type_lines : StmtTree → List ℕ
+    stmt_type_lines = fold-StmtTree (ℕ → List ℕ) (List ℕ) kind_type_lines (λ s. s.kind s.line)

@@ -1,6 +1,7 @@
 //! The lines at which the rules of types are broken.
 
-ghost use Rattle.sc_types_elab_stmt.specs.Prelude.{Scope, Suits, called, lines_at, part_lines, stmt_lines, visible};
+ghost use Rattle.sc_types_elab_stmt.specs.Prelude.{Scope, Suits, called, lines_at, part_type_lines, stmt_type_lines};
+ghost use Rattle.sc_types_elab_stmt.specs.Prelude.{visible};
 ghost use Rattle.sc_types_scope.specs.Prelude.{with_lines};
 ghost use Rattle.std.specs.Prelude.{◌≡◌, ◌++◌, List, OnOk, map};
 ghost use Rattle.std.specs.List.{concat};
@@ -22,7 +23,7 @@ impl Place<'_> {
     ) -> Result<(), OutOfMemory>
         ensures { (scope : Scope) → Suits (visible self.now.section.now self.now.function.now) scope →
             OnOk result (lines.new ≡ with_lines lines.old
-            (part_lines (visible self.now.section.now self.now.function.now)
+            (part_type_lines (visible self.now.section.now self.now.function.now)
             (called self.now.section.now.callees) scope self.now.function.now.result part.now)) }
     {
         match part {
@@ -45,7 +46,7 @@ impl Place<'_> {
     ) -> Result<(), OutOfMemory>
         ensures { (scope : Scope) → Suits (visible self.now.section.now self.now.function.now) scope →
             OnOk result (lines.new ≡ with_lines lines.old
-            (concat (map (stmt_lines (visible self.now.section.now self.now.function.now)
+            (concat (map (stmt_type_lines (visible self.now.section.now self.now.function.now)
             (called self.now.section.now.callees) scope self.now.function.now.result) stmts.now))) }
     {
         for stmt in stmts.as_slice() {
@@ -64,7 +65,7 @@ impl Place<'_> {
     ) -> Result<(), OutOfMemory>
         ensures { (scope : Scope) → Suits (visible self.now.section.now self.now.function.now) scope →
             OnOk result (lines.new ≡ with_lines lines.old
-            (stmt_lines (visible self.now.section.now self.now.function.now)
+            (stmt_type_lines (visible self.now.section.now self.now.function.now)
             (called self.now.section.now.callees) scope self.now.function.now.result stmt.now)) }
     {
         self.note_kind(alloc, lines, &stmt.kind, stmt.line)

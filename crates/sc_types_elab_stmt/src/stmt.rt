@@ -1,5 +1,5 @@
 ghost use Rattle.sc_types_elab_stmt.specs.Prelude.{Scope, Suits, args_in, call_in, called, expr_in, first_of};
-ghost use Rattle.sc_types_elab_stmt.specs.Prelude.{going_to_some, judged, kind_in, params_of, part_in, rest_of};
+ghost use Rattle.sc_types_elab_stmt.specs.Prelude.{going_to_some, judged, kind_in, params_called, part_in, rest_of};
 ghost use Rattle.sc_types_elab_stmt.specs.Prelude.{returned_in, simple_in, stmt_in, value_in, visible};
 ghost use Rattle.std.specs.Prelude.{◌≡◌, ◌++◌, ◌∷◌, [], map, drop, IfOk};
 ghost use Rattle.sc_ast.specs.declared.stmt.StmtKind;
@@ -100,7 +100,7 @@ fn build_args(
 
 // The types of the parameters by which a call of this name is typed.
 fn params_of<'a>(callees: &'a Callees, name: &Name) -> &'a [Ty]
-    ensures { result.now ≡ params_of ((called callees.now).signature name.now) }
+    ensures { result.now ≡ params_called ((called callees.now).signature name.now) }
 {
     match callees.signature(name) {
         None => &[],

@@ -4,20 +4,20 @@ use Rattle.sc_types_interfaces.proofs.Common.{TypeName, [], added, added_beside,
 use Rattle.sc_types_interfaces.proofs.Common.{all_added, all_numbered, allowed, among, and-true, ap, ap₂, arith}
 use Rattle.sc_types_interfaces.proofs.Common.{bytes_eq, cond, eqb-true, false, first_by_name, forbidden, if◌then◌else◌}
 use Rattle.sc_types_interfaces.proofs.Common.{is_numbered, list_any-append, nat_eq, nat_eq_equiv, nat_list_eq_equiv}
-use Rattle.sc_types_interfaces.proofs.Common.{no_heads, not, numbered, or-false, refl, same_base, same_params}
+use Rattle.sc_types_interfaces.proofs.Common.{no_heads, not, numbered, or-false, refl, same_named_base, same_params}
 use Rattle.sc_types_interfaces.proofs.Common.{same_result, same_text, same_type, sym, true, with_first, ◌&&◌, ◌++◌}
 use Rattle.sc_types_interfaces.proofs.Common.{◌||◌, ◌∙◌, ◌∷◌, ◌≡◌}
 use Rattle.std.proofs.lemmas.Bool.{and_parts}
 use Rattle.sc_ast.specs.declared.types.BaseTree.{BaseTree}
 use Rattle.sc_ast.specs.declared.types.BaseTree.TheVariants as base
 
-base_symm : (a b : BaseTree) → same_base a b ≡ same_base b a
+base_symm : (a b : BaseTree) → same_named_base a b ≡ same_named_base b a
 base_symm (base.Struct tag) (base.Struct other) = nat_list_eq_equiv.symm tag other
 base_symm base.Int base.Int = refl
 base_symm base.Unsigned base.Int = refl
 base_symm _ _ = refl
 
-base_left : (a b c : BaseTree) → same_base a b ≡ true → same_base a c ≡ same_base b c
+base_left : (a b c : BaseTree) → same_named_base a b ≡ true → same_named_base a c ≡ same_named_base b c
 base_left base.Int base.Int c h = refl
 base_left base.Unsigned base.Unsigned c h = refl
 base_left (base.Struct tag) (base.Struct other) (base.Struct third) h = nat_list_eq_equiv.congr tag other third h
@@ -29,7 +29,7 @@ type_symm a b = ap₂ (λ x y. x && y) (nat_eq_equiv.symm a.stars b.stars) (base
 
 type_left : (a b c : TypeName) → same_type a b ≡ true → same_type a c ≡ same_type b c
 type_left a b c h =
-    let parts = and_parts (nat_eq a.stars b.stars) (same_base a.base b.base) h in
+    let parts = and_parts (nat_eq a.stars b.stars) (same_named_base a.base b.base) h in
     cc (eqb-true a.stars b.stars parts.0, base_left a.base b.base c.base parts.1)
 
 result_symm : (a b : Option TypeName) → same_result a b ≡ same_result b a

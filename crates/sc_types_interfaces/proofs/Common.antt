@@ -14,14 +14,14 @@ pub use Rattle.std.specs.List.{list_all, list_any}
 pub use Rattle.std.specs.Option.{option_and_then, option_map}
 pub use Rattle.sc_base.proofs.Lists.{drop-step, position-cons, take_all}
 pub use Rattle.sc_base.proofs.Texts.{same_text}
-pub use Rattle.sc_base.specs.Prelude.{Text, first_by_name, is_numbered, number_of, numbered, with_first}
+pub use Rattle.sc_base.specs.Prelude.{Text, first_by_name, is_numbered, number_by_name, numbered, with_first}
 pub use Rattle.sc_ast.specs.Prelude.{head_of, param_of}
 pub use Rattle.sc_ast.specs.declared.section.FunctionParam.{FunctionParam}
 pub use Rattle.sc_ast.specs.declared.section.ParamTree.{ParamTree}
 pub use Rattle.sc_ast.specs.declared.types.TypeName.{TypeName}
 pub use Rattle.sc_types_scope.proofs.Lines.{noted_all-append, with_lines-append, with_lines-nil}
 pub use Rattle.sc_types_scope.specs.Prelude.{among, defines_main, export_names, function_in, function_named}
-pub use Rattle.sc_types_scope.specs.Prelude.{function_names, functions_in, head_in, heads_in, import_names, import_of}
+pub use Rattle.sc_types_scope.specs.Prelude.{function_names, function_decls, head_in, heads_in, import_names, import_of}
 pub use Rattle.sc_types_scope.specs.Prelude.{interface_of, interfaces_from, interfaces_of, line_of_text, main_from}
 pub use Rattle.sc_types_scope.specs.Prelude.{main_name, noted_all, number_or_zero, offered, offering, offers, promised}
 pub use Rattle.sc_types_scope.specs.Prelude.{proto_names, proto_of, refused_at, scalar_of, unless, with_lines}
@@ -35,9 +35,10 @@ pub use Rattle.sc_types_interfaces.specs.Prelude.{exports_broken, first_added, f
 pub use Rattle.sc_types_interfaces.specs.Prelude.{function_places, gives_int, head_added, head_fits_by, import_added}
 pub use Rattle.sc_types_interfaces.specs.Prelude.{import_by, import_fits, imported_by, imports_added, imports_broken}
 pub use Rattle.sc_types_interfaces.specs.Prelude.{input_head, input_name, int_type, interface_by, interfaces_by}
-pub use Rattle.sc_types_interfaces.specs.Prelude.{is_input, is_offered_by, is_output, lines_broken, main_by, no_heads}
+pub use Rattle.sc_types_interfaces.specs.Prelude.{is_input_head, is_offered_by, is_output_head, lines_broken, main_by}
+pub use Rattle.sc_types_interfaces.specs.Prelude.{no_heads}
 pub use Rattle.sc_types_interfaces.specs.Prelude.{offered_by, offering_number, offering_table, others_added}
-pub use Rattle.sc_types_interfaces.specs.Prelude.{output_head, output_name, promised_by, same_base, same_params}
+pub use Rattle.sc_types_interfaces.specs.Prelude.{output_head, output_name, promised_by, same_named_base, same_params}
 pub use Rattle.sc_types_interfaces.specs.Prelude.{same_result, same_type, section_broken, table_of, takes_int}
 pub use Rattle.sc_types_interfaces.specs.Prelude.{takes_nothing}
 pub use Rattle.sc_types_interfaces.specs.declared.agreements.Agreements.{Agreements}

@@ -5,10 +5,11 @@ use Rattle.sc_types_interfaces.proofs.Common.{List, None, Option, Placed, Sectio
 use Rattle.sc_types_interfaces.proofs.Common.{all_placed, ap, ap₂, arith, cond, export_by, export_name, export_names}
 use Rattle.sc_types_interfaces.proofs.Common.{export_places, false, first_by_name, function_at, function_in}
 use Rattle.sc_types_interfaces.proofs.Common.{function_name, function_named, function_names, function_places}
-use Rattle.sc_types_interfaces.proofs.Common.{functions_in, get_or_from_slice_get, if◌then◌else◌, import_by, import_of}
+use Rattle.sc_types_interfaces.proofs.Common.{function_decls, get_or_from_slice_get, if◌then◌else◌, import_by}
+use Rattle.sc_types_interfaces.proofs.Common.{import_of}
 use Rattle.sc_types_interfaces.proofs.Common.{inr, interface_by, interface_of, interfaces_by, interfaces_from}
 use Rattle.sc_types_interfaces.proofs.Common.{interfaces_of, is_some, length, length-map, main_by, main_from, main_name}
-use Rattle.sc_types_interfaces.proofs.Common.{map, min, nat_list_eq_equiv, number_of, number_or_zero, offered}
+use Rattle.sc_types_interfaces.proofs.Common.{map, min, nat_list_eq_equiv, number_by_name, number_or_zero, offered}
 use Rattle.sc_types_interfaces.proofs.Common.{offered_by, offering, option_and_then, option_map, pointwise}
 use Rattle.sc_types_interfaces.proofs.Common.{position-cons, promised, promised_by, proto_of, refl, same_text}
 use Rattle.sc_types_interfaces.proofs.Common.{scalar_of, slice_get, slice_get-map, slice_get_within, subst, suc, sym}
@@ -84,7 +85,7 @@ place_is items name = all_placed_is items [] 0 name ∙ moved_zero _
 -- Exports.
 
 number_is : (lines : List ExportLine) (name : Text) →
-    first_place name (map export_name lines) ≡ number_of (map {A = ExportLine} (λ line. line.name) lines) name
+    first_place name (map export_name lines) ≡ number_by_name (map {A = ExportLine} (λ line. line.name) lines) name
 number_is [] name = refl
 number_is (line ∷ lines) name = ap (λ later. cond (pointwise ◌==◌ name line.name) (Some 0) (option_map suc later))
     (number_is lines name) ∙ sym (position-cons (pointwise ◌==◌ name) line.name (map _ lines))
@@ -116,7 +117,7 @@ moved_on decl decls None = refl
 moved_on decl decls (Some n) = refl
 
 function_is : (decls : List Decl) (name : Text) → option_and_then (function_there decls)
-    (first_place name (map function_name decls)) ≡ function_named name (functions_in decls)
+    (first_place name (map function_name decls)) ≡ function_named name (function_decls decls)
 function_is [] name = refl
 function_is (declared.Function tree ∷ decls) name = grind (
   arith,
@@ -127,7 +128,7 @@ function_is (declared.Function tree ∷ decls) name = grind (
 function_is (decl ∷ decls) name = moved_on decl decls _ ∙ function_is decls name
 
 function_at_is : (decls : List Decl) (name : Text) → function_at decls (function_places decls) name ≡
-    function_named name (functions_in decls)
+    function_named name (function_decls decls)
 function_at_is decls name = ap (option_and_then (function_there decls)) (place_is (map _ decls) name) ∙
     function_is decls name
 
@@ -155,10 +156,10 @@ promised_is name (Some tree) h = ap (λ (params : List Scalar). record {
   within : length (map {A = FunctionParam} (λ param. scalar_of param.ty) tree.head.params) ≤ 8
   within = omega (arith, length-map {A = FunctionParam} tree.head.params (λ param. scalar_of param.ty))
 
-export_is : (section : SectionTree) (line : ExportLine) → All HasFewParams (functions_in section.decls) →
+export_is : (section : SectionTree) (line : ExportLine) → All HasFewParams (function_decls section.decls) →
     export_by section.decls (function_places section.decls) line ≡ proto_of section line
 export_is section line few = ap (promised_by line.name) (function_at_is section.decls line.name)
-    ∙ promised_is line.name (function_named line.name (functions_in section.decls)) (named_few _ line.name few)
+    ∙ promised_is line.name (function_named line.name (function_decls section.decls)) (named_few _ line.name few)
 
 map_same : {A B : Type 0} (f g : A → B) (xs : List A) → ((x : A) → f x ≡ g x) → map f xs ≡ map g xs
 map_same f g [] h = refl
@@ -175,11 +176,11 @@ small_place count None h few = omega arith
 small_place count (Some n) h few = omega arith
 
 export_place_is : (section : SectionTree) (name : Text) →
-    first_by_name (export_places section) name ≡ number_of (export_names section) name
+    first_by_name (export_places section) name ≡ number_by_name (export_names section) name
 export_place_is section name = place_is (map export_name section.exports) name ∙ number_is _ name
 
 export_place_small : (section : SectionTree) (name : Text) → HasFewExports section →
-    number_or_zero (number_of (export_names section) name) ≤ 65535
+    number_or_zero (number_by_name (export_names section) name) ≤ 65535
 export_place_small section name few =
     subst (λ place. number_or_zero place ≤ 65535) (number_is _ name) (small_place _ (first_place name
     (map export_name section.exports)) (first_place_within (map export_name section.exports) name) count) where
@@ -192,7 +193,7 @@ offered_is : (sections : List SectionTree) (line : ImportLine) (found : Option (
 offered_is sections line None h count few = refl
 offered_is sections line (Some found) h count few = ap₂ (λ comp index. import.Function comp index)
     (min_within found.0 31 small_comp) (ap (λ place. min (number_or_zero place) 65535) place_there
-    ∙ min_within (number_or_zero (number_of (export_names found.1) line.name)) 65535 small_index) where
+    ∙ min_within (number_or_zero (number_by_name (export_names found.1) line.name)) 65535 small_index) where
       is_place : found.0 ≡ h.0
       is_place = omega arith
 
@@ -203,11 +204,11 @@ offered_is sections line (Some found) h count few = ap₂ (λ comp index. import
       few_here = subst HasFewExports (get_or_from_slice_get sections h.0 found.1 found.1 h.2)
           (All-get_or HasFewExports sections h.0 found.1 (slice_get_within sections h.0 found.1 h.2) few)
 
-      small_index : number_or_zero (number_of (export_names found.1) line.name) ≤ 65535
+      small_index : number_or_zero (number_by_name (export_names found.1) line.name) ≤ 65535
       small_index = export_place_small found.1 line.name few_here
 
       place_there : option_and_then (λ known. first_by_name known line.name)
-          (slice_get (map export_places sections) found.0) ≡ number_of (export_names found.1) line.name
+          (slice_get (map export_places sections) found.0) ≡ number_by_name (export_names found.1) line.name
       place_there = cc (is_place, slice_get-map export_places sections h.0, h.2, export_place_is found.1 line.name)
 
 module _ (sections : List SectionTree) (count : length sections ≤ 32) (few : All HasFewExports sections) where
@@ -219,7 +220,7 @@ module _ (sections : List SectionTree) (count : length sections ≤ 32) (few : A
         (offering number line 0 sections) (offering_stands number line 0 sections) count few,
   )
 
-  interface_is : (number : ℕ) (section : SectionTree) → All HasFewParams (functions_in section.decls) →
+  interface_is : (number : ℕ) (section : SectionTree) → All HasFewParams (function_decls section.decls) →
       interface_by (map table_of sections) (map export_places sections) number section ≡
       interface_of sections number section
   interface_is number section few_params = ap₂ (λ (exports : List Proto) (imports : List Import). record {
@@ -231,12 +232,14 @@ module _ (sections : List SectionTree) (count : length sections ≤ 32) (few : A
       (map export_places sections) number) (import_of sections number) section.imports (import_is number))
 
   interfaces_are : (k : ℕ) (rest : List SectionTree) →
-      All (λ section. All HasFewParams (functions_in section.decls)) rest →
+      All (λ section. All HasFewParams (function_decls section.decls)) rest →
       interfaces_by (map table_of sections) (map export_places sections) k rest ≡ interfaces_from sections k rest
   interfaces_are k [] few_params = refl
   interfaces_are k (section ∷ rest) few_params = ap₂ (λ first others. first ∷ others)
-      (interface_is k section (All-head (λ other. All HasFewParams (functions_in other.decls)) section rest few_params))
-      (interfaces_are _ rest (All-tail (λ other. All HasFewParams (functions_in other.decls)) section rest few_params))
+      (interface_is k section (All-head (λ other. All HasFewParams (function_decls other.decls)) section rest
+      few_params))
+      (interfaces_are _ rest (All-tail (λ other. All HasFewParams (function_decls other.decls)) section rest
+      few_params))
 
 -- The main compartment.
 

@@ -8,7 +8,8 @@ use Rattle.sc_types_interfaces.proofs.Common.{environment_added, export_names, e
 use Rattle.sc_types_interfaces.proofs.Common.{first_added, first_by_name, forbidden, function_names, get_or, gives_int}
 use Rattle.sc_types_interfaces.proofs.Common.{head_added, head_fits_by, head_in, head_of, heads_in, if◌then◌else◌}
 use Rattle.sc_types_interfaces.proofs.Common.{import_added, import_names, imported_by, imports_added, imports_broken}
-use Rattle.sc_types_interfaces.proofs.Common.{input_head, input_name, int_type, is_input, is_offered_by, is_output}
+use Rattle.sc_types_interfaces.proofs.Common.{input_head, input_name, int_type, is_input_head, is_offered_by}
+use Rattle.sc_types_interfaces.proofs.Common.{is_output_head}
 use Rattle.sc_types_interfaces.proofs.Common.{is_some, length, length-map, line_of_text, lines_broken, list_all}
 use Rattle.sc_types_interfaces.proofs.Common.{list_all-append, list_any, list_any-append, main_name, map, map-append}
 use Rattle.sc_types_interfaces.proofs.Common.{no_heads, not, noted_all, noted_all-append, numbered, offering}
@@ -128,7 +129,7 @@ or_free : (a e : Bool) → a ≡ (a && (not e || true))
 or_free a e = grind arith
 
 -- the environment's heads
-input_agrees : (head : HeadTree) → agree input_head head ≡ is_input head
+input_agrees : (head : HeadTree) → agree input_head head ≡ is_input_head head
 input_agrees head = ap₂ (λ x y. x && y) (gives head.result) (takes head.params) where
   gives : (ty : Option TypeName) → same_result (Some int_type) ty ≡ gives_int ty
   gives None = refl
@@ -138,7 +139,7 @@ input_agrees head = ap₂ (λ x y. x && y) (gives head.result) (takes head.param
   takes [] = refl
   takes _ = refl
 
-output_agrees : (head : HeadTree) → agree output_head head ≡ is_output head
+output_agrees : (head : HeadTree) → agree output_head head ≡ is_output_head head
 output_agrees head = ap₂ (λ x y. x && y) (gives head.result) (takes head.params) where
   gives : (ty : Option TypeName) → same_result None ty ≡ not (is_some ty)
   gives None = refl
@@ -151,8 +152,8 @@ output_agrees head = ap₂ (λ x y. x && y) (gives head.result) (takes head.para
 
 -- what the environment asks of a name
 abbrev environment_asks : Text → HeadTree → Bool
-environment_asks name head = if bytes_eq name input_name then is_input head else if bytes_eq name output_name then
-    is_output head else true
+environment_asks name head = if bytes_eq name input_name then is_input_head head else if bytes_eq name output_name then
+    is_output_head head else true
 
 guarded : (e x y : Bool) → (e ≡ true → x ≡ y) → (not e || x) ≡ (not e || y)
 guarded e x y h = grind arith
@@ -168,7 +169,7 @@ environment_added_allows known name head = first (bytes_eq name input_name) (byt
         allowed (if input then added known name input_head else if output then added known name output_head else
         known) head ≡
         (allowed known head && (not (bytes_eq name head.name) ||
-        (if input then is_input head else if output then is_output head else true)))
+        (if input then is_input_head head else if output then is_output_head head else true)))
     first true output = allowed_added known name input_head head ∙
         ap (λ agrees. allowed known head && (not (bytes_eq name head.name) || agrees)) (input_agrees head)
     first false true = allowed_added known name output_head head ∙
@@ -289,7 +290,7 @@ module _ (sections : List SectionTree) (number : ℕ) (section : SectionTree) (m
 
   decl_broken_is : (known : Agreements) (before : List Decl) (decl : Decl) → Allows known before →
       decl_broken (table_of section) (imported_by (map table_of sections) number section) mains known decl ≡
-      Rules.decl_lines sections number section mains before decl
+      Rules.decl_interface_lines sections number section mains before decl
   decl_broken_is known before (Proto head) allows =
       cc (head_holds_is known before head allows, imported_agrees_is sections number section head)
   decl_broken_is known before (Function tree) allows = cc (head_holds_is known before (head_of tree.head) allows)
@@ -308,7 +309,7 @@ module _ (sections : List SectionTree) (number : ℕ) (section : SectionTree) (m
 
   section_broken_is : (seen : List Text) (before : List SectionTree) →
       Same seen (map {A = SectionTree} (λ other. other.name) before) → section_broken (map table_of sections) number
-      (table_of section) mains seen section ≡ Rules.section_lines sections number section mains before
+      (table_of section) mains seen section ≡ Rules.section_interface_lines sections number section mains before
   section_broken_is seen before same = cc (
     same.at section.name,
     exports_broken_is sections number section
@@ -340,12 +341,12 @@ mains_more mains before section same = grind (
 lines_broken_is : (sections : List SectionTree) (k : ℕ) (mains : Bool) (seen : List Text)
     (before rest : List SectionTree) → mains ≡ list_any defines_main before →
     Same seen (map {A = SectionTree} (λ other. other.name) before) →
-    lines_broken (map table_of sections) k mains seen rest ≡ Rules.lines_from sections k before rest
+    lines_broken (map table_of sections) k mains seen rest ≡ Rules.interface_lines_from sections k before rest
 lines_broken_is sections k mains seen before [] found same = refl
 lines_broken_is sections k mains seen before (section ∷ rest) found same =
     ap₂ (λ these others. map (line_of_text section.line) these ++ others)
     (section_broken_is _ k section mains seen before same ∙
-    ap (λ one. Rules.section_lines sections k section one before) found)
+    ap (λ one. Rules.section_interface_lines sections k section one before) found)
     (lines_broken_is sections (suc k) (mains || among (table_of section).functions main_name) (numbered seen _)
     (before ++ section ∷ []) rest (mains_more mains before section found) (same_sections seen before section same))
 
@@ -412,5 +413,6 @@ sections_end sections tables k mains before least last past all reported earlier
       noted-none least,
       or-false mains,
       lines_are,
-      noted_all-append None (Rules.lines_from sections 0 [] sections) (unless (list_any defines_main sections) 0),
+      noted_all-append None (Rules.interface_lines_from sections 0 [] sections) (unless (list_any defines_main sections)
+          0),
     )

@@ -1,6 +1,6 @@
 -- Helping: the interfaces of sections by tables of places, in which a name is found at once.
 use Rattle.sc_types_interfaces.specs.Common.{Decl, ExportLine, ImportLine, SectionTable, SectionTree, Text, among}
-use Rattle.sc_types_interfaces.specs.Common.{first_by_name, function_in, functions_in, is_environment, main_name}
+use Rattle.sc_types_interfaces.specs.Common.{first_by_name, function_in, function_decls, is_environment, main_name}
 use Rattle.sc_types_interfaces.specs.Common.{most_compartments, most_exports, number_or_zero, scalar_of, with_first}
 use Rattle.std.specs.Prelude.{ℕ, suc, ◌≤◌, bytes_eq, List, [], ◌∷◌, All, length, map, min, take, slice_get, Option}
 use Rattle.std.specs.Prelude.{Some, None, if◌then◌else◌}
@@ -26,7 +26,7 @@ HasFewParams tree = length tree.head.params ≤ 8
 pub record IsWithinCounts (text : List SectionTree) : Type 0 where
   pub sections : length text ≤ most_compartments
   pub exports : All HasFewExports text
-  pub params : All (λ section. All HasFewParams (functions_in section.decls)) text
+  pub params : All (λ section. All HasFewParams (function_decls section.decls)) text
 
 -- Places of names.
 

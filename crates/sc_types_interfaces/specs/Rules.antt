@@ -13,14 +13,14 @@ use Rattle.sc_ast.specs.declared.section.ParamTree.{ParamTree}
 
 -- Types of functions that agree.
 
-abbrev pub same_base : BaseTree → BaseTree → Bool
-same_base base.Int base.Int = true
-same_base base.Unsigned base.Unsigned = true
-same_base (base.Struct tag) (base.Struct other) = bytes_eq tag other
-same_base _ _ = false
+abbrev pub same_named_base : BaseTree → BaseTree → Bool
+same_named_base base.Int base.Int = true
+same_named_base base.Unsigned base.Unsigned = true
+same_named_base (base.Struct tag) (base.Struct other) = bytes_eq tag other
+same_named_base _ _ = false
 
 abbrev pub same_type : TypeName → TypeName → Bool
-same_type a b = nat_eq a.stars b.stars && same_base a.base b.base
+same_type a b = nat_eq a.stars b.stars && same_named_base a.base b.base
 
 abbrev pub same_result : Option TypeName → Option TypeName → Bool
 same_result None None = true
@@ -45,7 +45,7 @@ agrees_with heads head = list_all {X = HeadTree} (λ other. not (bytes_eq other.
 
 -- `int` or `unsigned int`
 abbrev pub crosses : TypeName → Bool
-crosses ty = nat_eq ty.stars 0 && (same_base ty.base base.Int || same_base ty.base base.Unsigned)
+crosses ty = nat_eq ty.stars 0 && (same_named_base ty.base base.Int || same_named_base ty.base base.Unsigned)
 
 abbrev pub result_crosses : Option TypeName → Bool
 result_crosses None = true
@@ -61,12 +61,12 @@ is_plain name = not (bytes_eq (take 3 name) (codes "bt_"))
 abbrev pub int_type : TypeName
 int_type = record { base = base.Int; stars = 0 }
 
-abbrev pub is_int : TypeName → Bool
-is_int ty = same_type ty int_type
+abbrev pub is_int_type : TypeName → Bool
+is_int_type ty = same_type ty int_type
 
 abbrev pub gives_int : Option TypeName → Bool
 gives_int None = false
-gives_int (Some ty) = is_int ty
+gives_int (Some ty) = is_int_type ty
 
 -- `(void)`
 abbrev pub takes_nothing : List ParamTree → Bool
@@ -75,18 +75,18 @@ takes_nothing (param ∷ params) = false
 
 -- `(int)`
 abbrev pub takes_int : List ParamTree → Bool
-takes_int (param ∷ []) = is_int param.ty
+takes_int (param ∷ []) = is_int_type param.ty
 takes_int _ = false
 
 -- `int input(void)`, `void output(int)` and `int main(void)`
-abbrev pub is_input : HeadTree → Bool
-is_input head = gives_int head.result && takes_nothing head.params
+abbrev pub is_input_head : HeadTree → Bool
+is_input_head head = gives_int head.result && takes_nothing head.params
 
-abbrev pub is_output : HeadTree → Bool
-is_output head = not (is_some head.result) && takes_int head.params
+abbrev pub is_output_head : HeadTree → Bool
+is_output_head head = not (is_some head.result) && takes_int head.params
 
-abbrev pub is_main : HeadTree → Bool
-is_main head = gives_int head.result && takes_nothing head.params
+abbrev pub is_main_head : HeadTree → Bool
+is_main_head head = gives_int head.result && takes_nothing head.params
 
 abbrev pub input_name : Text
 input_name = codes "input"
@@ -96,7 +96,7 @@ output_name = codes "output"
 
 -- `main` is defined by one section, where `mains` says whether one before defines it, and is `int main(void)`
 abbrev pub main_holds : (mains : Bool) → HeadTree → Bool
-main_holds mains head = not (bytes_eq head.name main_name) || not mains && is_main head
+main_holds mains head = not (bytes_eq head.name main_name) || not mains && is_main_head head
 
 -- The rules of a section's lines, by the names of the functions that it defines and declares, and of the lines before.
 
@@ -159,8 +159,8 @@ module _ (sections : List SectionTree) (number : ℕ) (section : SectionTree) wh
   -- a prototype agrees with what it is imported as
   abbrev pub agrees_as : HeadTree → ImportLine → Bool
   agrees_as head line =
-      if is_environment line then (if bytes_eq head.name input_name then is_input head else
-      if bytes_eq head.name output_name then is_output head else true)
+      if is_environment line then (if bytes_eq head.name input_name then is_input_head head else
+      if bytes_eq head.name output_name then is_output_head head else true)
       else agrees_there head (offering number line 0 sections)
 
   abbrev pub imported_agrees : HeadTree → Bool
@@ -177,33 +177,34 @@ module _ (sections : List SectionTree) (number : ℕ) (section : SectionTree) wh
   head_holds before head = agrees_with (heads_in before) head && head_fits head
 
   module _ (mains : Bool) where
-    abbrev pub decl_lines : (before : List Decl) → Decl → List ℕ
-    decl_lines before (Proto head) = unless (head_holds before head && imported_agrees head) head.line
-    decl_lines before (Function tree) =
+    abbrev pub decl_interface_lines : (before : List Decl) → Decl → List ℕ
+    decl_interface_lines before (Proto head) = unless (head_holds before head && imported_agrees head) head.line
+    decl_interface_lines before (Function tree) =
         unless (head_holds before (head_of tree.head) && main_holds mains (head_of tree.head)) tree.head.line
-    decl_lines before _ = []
+    decl_interface_lines before _ = []
 
     abbrev pub decls_from : (before : List Decl) → List Decl → List ℕ
     decls_from before [] = []
-    decls_from before (decl ∷ decls) = decl_lines before decl ++ decls_from (before ++ decl ∷ []) decls
+    decls_from before (decl ∷ decls) = decl_interface_lines before decl ++ decls_from (before ++ decl ∷ []) decls
 
     abbrev pub name_holds : (before : List SectionTree) → Bool
     name_holds before = name_fits (map {A = SectionTree} (λ other. other.name) before) section.name
 
     -- the lines, counted in the section, at which rules of interfaces are broken, where these sections stand before it;
     -- the compartment line is the section's line 1
-    abbrev pub section_lines : (before : List SectionTree) → List ℕ
-    section_lines before =
+    abbrev pub section_interface_lines : (before : List SectionTree) → List ℕ
+    section_interface_lines before =
         unless (name_holds before) 1 ++ (exports_from [] section.exports ++
         (imports_from [] section.imports ++ decls_from [] section.decls))
 
 -- the sections from number k on, where these stand before them
-abbrev pub lines_from : List SectionTree → ℕ → (before : List SectionTree) → List SectionTree → List ℕ
-lines_from sections k before [] = []
-lines_from sections k before (section ∷ rest) =
-    map (line_of_text section.line) (section_lines sections k section (list_any defines_main before) before) ++
-    lines_from sections (suc k) (before ++ section ∷ []) rest
+abbrev pub interface_lines_from : List SectionTree → ℕ → (before : List SectionTree) → List SectionTree → List ℕ
+interface_lines_from sections k before [] = []
+interface_lines_from sections k before (section ∷ rest) =
+    map (line_of_text section.line) (section_interface_lines sections k section (list_any defines_main before) before)
+    ++
+    interface_lines_from sections (suc k) (before ++ section ∷ []) rest
 
 -- the lines of the text at which rules of interfaces are broken; a missing `main` is broken at line 0
 abbrev pub interface_broken : List SectionTree → List ℕ
-interface_broken sections = lines_from sections 0 [] sections ++ unless (list_any defines_main sections) 0
+interface_broken sections = interface_lines_from sections 0 [] sections ++ unless (list_any defines_main sections) 0

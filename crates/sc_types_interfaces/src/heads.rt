@@ -1,7 +1,8 @@
 //! The heads of functions and prototypes, and what their types are.
 
-ghost use Rattle.sc_types_interfaces.specs.Prelude.{agree, crosses, gives_int, head_crosses, is_int, is_main};
-ghost use Rattle.sc_types_interfaces.specs.Prelude.{main_holds, result_crosses, same_base, same_params, same_result};
+ghost use Rattle.sc_types_interfaces.specs.Prelude.{agree, crosses, gives_int, head_crosses, is_int_type, is_main_head};
+ghost use Rattle.sc_types_interfaces.specs.Prelude.{main_holds, result_crosses, same_named_base, same_params};
+ghost use Rattle.sc_types_interfaces.specs.Prelude.{same_result};
 ghost use Rattle.sc_types_interfaces.specs.Prelude.{same_type, takes_nothing};
 ghost use Rattle.sc_ast.specs.Prelude.{head_of, param_of};
 ghost use Rattle.std.specs.Prelude.{◌≡◌, IfOk, map};
@@ -91,7 +92,7 @@ fn same_type(a: &TypeName, b: &TypeName) -> bool
 }
 
 fn same_base(a: &BaseTree, b: &BaseTree) -> bool
-    ensures { result ≡ same_base a.now b.now }
+    ensures { result ≡ same_named_base a.now b.now }
 {
     match (a, b) {
         (BaseTree::Int, BaseTree::Int) => true,
@@ -138,7 +139,7 @@ pub(crate) fn main_holds(mains: bool, head: &HeadTree) -> bool
 }
 
 fn is_main(head: &HeadTree) -> bool
-    ensures { result ≡ is_main head.now }
+    ensures { result ≡ is_main_head head.now }
 {
     gives_int(&head.result) && takes_nothing(head.params.as_slice())
 }
@@ -153,7 +154,7 @@ fn gives_int(ty: &Option<TypeName>) -> bool
 }
 
 fn is_int(ty: &TypeName) -> bool
-    ensures { result ≡ is_int ty.now }
+    ensures { result ≡ is_int_type ty.now }
 {
     ty.stars == 0 && same_base(&ty.base, &BaseTree::Int)
 }

@@ -9,9 +9,12 @@ pub use Rattle.sc_ast.specs.declared.section.LocalTree.{LocalTree}
 pub use Rattle.sc_types_scope.specs.Common.{Decl, Function, FunctionTree, Global, ImportLine, ParamTree, Proto}
 pub use Rattle.sc_types_scope.specs.Common.{SectionTree, Struct}
 pub use Rattle.sc_types_scope.specs.Prelude.{FunctionParam, Known, all_in, among, are_distinct, base_known, body_lines}
-pub use Rattle.sc_types_scope.specs.Prelude.{decl_lines, declared, expr_known, function_lines, function_names}
-pub use Rattle.sc_types_scope.specs.Prelude.{head_of_known, known, line_of_text, lines_from, local_known, local_names}
-pub use Rattle.sc_types_scope.specs.Prelude.{locals_from, member_names, names_broken, noted, param_names, part_lines}
-pub use Rattle.sc_types_scope.specs.Prelude.{refused_at, section_lines, stmt_lines, unless, with_decl, with_lines}
+pub use Rattle.sc_types_scope.specs.Prelude.{decl_name_lines, declared, expr_known, function_name_lines, function_names}
+pub use Rattle.sc_types_scope.specs.Prelude.{head_of_known, known, line_of_text, name_lines_from, local_known}
+pub use Rattle.sc_types_scope.specs.Prelude.{local_names}
+pub use Rattle.sc_types_scope.specs.Prelude.{locals_from, member_names, names_broken, noted, param_names}
+pub use Rattle.sc_types_scope.specs.Prelude.{part_name_lines}
+pub use Rattle.sc_types_scope.specs.Prelude.{refused_at, section_name_lines, stmt_name_lines, unless, with_decl}
+pub use Rattle.sc_types_scope.specs.Prelude.{with_lines}
 unfoldable pub use Rattle.sc_types_scope.specs.Prelude.{noted_all}
 pub use Rattle.sc_types_scope.specs.declared.broken.BrokenLines.{BrokenLines}

@@ -1,10 +1,13 @@
 -- The loops over locals, declarations and sections, one step further.
 use Rattle.sc_types_scope.proofs.Common.{Bool, BrokenLines, Decl, Function, FunctionTree, Global, List, LocalTree}
 use Rattle.sc_types_scope.proofs.Common.{Option, Proto, SectionTree, Struct, Text, [], all_in, ap, append-nil}
-use Rattle.sc_types_scope.proofs.Common.{append_assoc, arith, decl_lines, declared, drop, drop_all, false, filter_map}
-use Rattle.sc_types_scope.proofs.Common.{function_lines, get_or, head_of_known, known, length, lines_from, local_known}
+use Rattle.sc_types_scope.proofs.Common.{append_assoc, arith, decl_name_lines, declared, drop, drop_all, false}
+use Rattle.sc_types_scope.proofs.Common.{filter_map}
+use Rattle.sc_types_scope.proofs.Common.{function_name_lines, get_or, head_of_known, known, length, name_lines_from}
+use Rattle.sc_types_scope.proofs.Common.{local_known}
 use Rattle.sc_types_scope.proofs.Common.{local_names, locals_from, map, map-append, names_broken, noted_all}
-use Rattle.sc_types_scope.proofs.Common.{param_names, refl, section_lines, stmt_lines, take, unless, with_decl}
+use Rattle.sc_types_scope.proofs.Common.{param_names, refl, section_name_lines, stmt_name_lines, take, unless}
+use Rattle.sc_types_scope.proofs.Common.{with_decl}
 use Rattle.sc_types_scope.proofs.Common.{with_lines, ℕ, ◌++◌, ◌+◌, ◌<◌, ◌∙◌, ◌∷◌, ◌≡◌, ◌≤◌}
 use Rattle.std.proofs.lemmas.List.Elements.{filter_map-append}
 use Rattle.sc_types_scope.specs.declared.section_names.SectionNames.{SectionNames}
@@ -37,7 +40,7 @@ locals-noted names own locals i old a all le p = done old a _ all p (ap (locals_
 
 module _ (names : SectionNames) (tree : FunctionTree) where
   abbrev body_of : List Text → List ℕ
-  body_of own = all_in (known names own) false (map (stmt_lines (known names own)) tree.body)
+  body_of own = all_in (known names own) false (map (stmt_name_lines (known names own)) tree.body)
 
   abbrev local_part : List Text → List ℕ
   local_part own = locals_from names.structs names.globals own tree.locals
@@ -45,7 +48,7 @@ module _ (names : SectionNames) (tree : FunctionTree) where
   pub function-noted : (holds : Bool) (own all : List Text) (old a b c : BrokenLines) →
       holds ≡ head_of_known names tree → own ≡ param_names tree → all ≡ own ++ local_names tree →
       a ≡ with_lines old (unless holds tree.head.line) → b ≡ with_lines a (local_part own) →
-      c ≡ with_lines b (body_of all) → c ≡ with_lines old (function_lines names tree)
+      c ≡ with_lines b (body_of all) → c ≡ with_lines old (function_name_lines names tree)
   function-noted holds own all old a b c h o l p q r =
       grind (arith, with_lines-append, body-lines (known names all) tree.body)
 
@@ -82,16 +85,16 @@ declared-step section decls i decl names more lt is n m =
 
 pub decl-noted : (section : SectionTree) (decls : List Decl) (i : ℕ) (decl : Decl) (names : SectionNames)
     (old a b : BrokenLines) (all : List ℕ) → i < length decls → decl ≡ get_or decls i decl →
-    names ≡ declared section (take i decls) → with_lines a (lines_from section (take i decls) (drop i decls)) ≡
-    with_lines old all → b ≡ with_lines a (decl_lines names decl) →
-    with_lines b (lines_from section (take (i + 1) decls) (drop (i + 1) decls)) ≡ with_lines old all
+    names ≡ declared section (take i decls) → with_lines a (name_lines_from section (take i decls) (drop i decls)) ≡
+    with_lines old all → b ≡ with_lines a (decl_name_lines names decl) →
+    with_lines b (name_lines_from section (take (i + 1) decls) (drop (i + 1) decls)) ≡ with_lines old all
 decl-noted section decls i decl names old a b all lt is n p q =
     grind (arith, with_lines-append, drop-step decls i decl lt is, take-step decls i decl lt is)
 
 pub decls-noted : (section : SectionTree) (decls : List Decl) (i : ℕ) (old a : BrokenLines) (all : List ℕ) →
-    length decls ≤ i → with_lines a (lines_from section (take i decls) (drop i decls)) ≡ with_lines old all →
+    length decls ≤ i → with_lines a (name_lines_from section (take i decls) (drop i decls)) ≡ with_lines old all →
     a ≡ with_lines old all
-decls-noted section decls i old a all le p = done old a _ all p (ap (lines_from section _) (drop_all i decls le))
+decls-noted section decls i old a all le p = done old a _ all p (ap (name_lines_from section _) (drop_all i decls le))
 
 -- Sections.
 
@@ -102,7 +105,7 @@ noted-none least = refl
 pub section-noted : (sections : List SectionTree) (i : ℕ) (section : SectionTree) (least : Option ℕ)
     (lines : BrokenLines) (all : Option ℕ) → i < length sections → section ≡ get_or sections i section → noted_all least
     (names_broken (drop i sections)) ≡ all → lines ≡ with_lines (record { start = section.line; least = least })
-    (section_lines section) → noted_all lines.least (names_broken (drop (i + 1) sections)) ≡ all
+    (section_name_lines section) → noted_all lines.least (names_broken (drop (i + 1) sections)) ≡ all
 section-noted sections i section least lines all lt is p q =
     grind (arith, noted_all-append, drop-step sections i section lt is)
 

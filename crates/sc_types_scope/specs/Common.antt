@@ -1,5 +1,5 @@
 -- The names from below that several definitions of this crate cite, passed on from one place. Declares nothing.
-pub use Rattle.sc_base.specs.Prelude.{Text, all_hold, is_numbered, number_of}
+pub use Rattle.sc_base.specs.Prelude.{Text, all_hold, is_numbered, number_by_name}
 pub use Rattle.sc_ast.specs.Prelude.{head_of}
 pub use Rattle.sc_ast.specs.declared.section.Decl.{Decl}
 pub use Rattle.sc_ast.specs.declared.section.Decl.TheVariants.{Function, Global, Proto, Struct}

@@ -48,8 +48,8 @@ globals_in = filter_map global_in
 abbrev pub protos_in : List Decl → List HeadTree
 protos_in = filter_map proto_in
 
-abbrev pub functions_in : List Decl → List FunctionTree
-functions_in = filter_map function_in
+abbrev pub function_decls : List Decl → List FunctionTree
+function_decls = filter_map function_in
 
 abbrev pub heads_in : List Decl → List HeadTree
 heads_in = filter_map head_in
@@ -65,7 +65,7 @@ abbrev pub proto_names : List Decl → List Text
 proto_names decls = map {A = HeadTree} (λ head. head.name) (protos_in decls)
 
 abbrev pub function_names : List Decl → List Text
-function_names decls = map {A = FunctionTree} (λ tree. tree.head.name) (functions_in decls)
+function_names decls = map {A = FunctionTree} (λ tree. tree.head.name) (function_decls decls)
 
 -- the names that a section exports and imports
 abbrev pub export_names : SectionTree → List Text

@@ -1,6 +1,7 @@
 -- What the sections of a text offer and use, as the interfaces of its program.
+pub use Rattle.sc_base.specs.Identifier.{main_name}
 use Rattle.sc_types_scope.specs.Common.{BaseTree, ExportLine, FunctionTree, HeadTree, ImportLine, ParamTree}
-use Rattle.sc_types_scope.specs.Common.{SectionTree, Text, TypeName, all_hold, head_of, number_of}
+use Rattle.sc_types_scope.specs.Common.{SectionTree, Text, TypeName, all_hold, head_of, number_by_name}
 use Rattle.std.specs.Prelude.{ℕ, zero, suc, Bool, not, ◌==◌, bytes_eq, codes, List, [], ◌∷◌, map, Option, Some, None}
 use Rattle.std.specs.Prelude.{if◌then◌else◌}
 use Rattle.std.specs.Option.{option_map, option_map_or}
@@ -12,7 +13,7 @@ use Rattle.sc_event.specs.declared.interface.Import.TheVariants as import
 use Rattle.sc_event.specs.declared.interface.Interface.{Interface}
 use Rattle.sc_event.specs.declared.interface.Interfaces.{Interfaces}
 use Rattle.sc_ast.specs.declared.types.BaseTree.TheVariants as base
-use Rattle.sc_types_scope.specs.Declarations.{among, functions_in, function_names, export_names}
+use Rattle.sc_types_scope.specs.Declarations.{among, function_decls, function_names, export_names}
 
 abbrev pub number_or_zero : Option ℕ → ℕ
 number_or_zero None = 0
@@ -43,7 +44,7 @@ offering importer line k (section ∷ sections) =
 -- the function that an import line of a section names: an export, by its section's number and its place there
 abbrev pub offered : ImportLine → Option (ℕ × SectionTree) → Import
 offered line None = import.Function 0 0
-offered line (Some (k, section)) = import.Function k (number_or_zero (number_of (export_names section) line.name))
+offered line (Some (k, section)) = import.Function k (number_or_zero (number_by_name (export_names section) line.name))
 
 abbrev pub import_of : List SectionTree → (importer : ℕ) → ImportLine → Import
 import_of sections importer line =
@@ -74,7 +75,7 @@ promised name (Some tree) =
     }
 
 abbrev pub proto_of : SectionTree → ExportLine → Proto
-proto_of section line = promised line.name (function_named line.name (functions_in section.decls))
+proto_of section line = promised line.name (function_named line.name (function_decls section.decls))
 
 abbrev pub interface_of : List SectionTree → (number : ℕ) → SectionTree → Interface
 interface_of sections number section =
@@ -88,9 +89,6 @@ interface_of sections number section =
 abbrev pub interfaces_from : List SectionTree → ℕ → List SectionTree → List Interface
 interfaces_from sections k [] = []
 interfaces_from sections k (section ∷ rest) = interface_of sections k section ∷ interfaces_from sections (suc k) rest
-
-abbrev pub main_name : Text
-main_name = codes "main"
 
 abbrev pub defines_main : SectionTree → Bool
 defines_main section = among (function_names section.decls) main_name

@@ -61,9 +61,9 @@ module _ (known : Known) where
   simple_known (simple.AssignCall place call) = expr_known place && call_known call
   simple_known (simple.Call call) = call_known call
 
-  abbrev pub part_lines : Option SimpleTree → List ℕ
-  part_lines None = []
-  part_lines (Some s) = unless (simple_known s.kind) s.line
+  abbrev pub part_name_lines : Option SimpleTree → List ℕ
+  part_name_lines None = []
+  part_name_lines (Some s) = unless (simple_known s.kind) s.line
 
   -- all the lines of statements, which stand in a loop or not
   abbrev pub all_in : Bool → List (Bool → List ℕ) → List ℕ
@@ -71,27 +71,27 @@ module _ (known : Known) where
   all_in looping (lines ∷ rest) = lines looping ++ all_in looping rest
 
   -- the lines of a statement at a line, in a loop or not; `break` and `continue` stand in a loop (C11 6.8.6.2, 6.8.6.3)
-  abbrev pub kind_lines : StmtKind-F (ℕ → Bool → List ℕ) (Bool → List ℕ) → ℕ → Bool → List ℕ
-  kind_lines kind.Empty line looping = []
-  kind_lines (kind.Assign place value) line looping = unless (expr_known place && expr_known value) line
-  kind_lines (kind.AssignCall place call) line looping = unless (expr_known place && call_known call) line
-  kind_lines (kind.Call call) line looping = unless (call_known call) line
-  kind_lines (kind.If cond first second) line looping =
+  abbrev pub kind_name_lines : StmtKind-F (ℕ → Bool → List ℕ) (Bool → List ℕ) → ℕ → Bool → List ℕ
+  kind_name_lines kind.Empty line looping = []
+  kind_name_lines (kind.Assign place value) line looping = unless (expr_known place && expr_known value) line
+  kind_name_lines (kind.AssignCall place call) line looping = unless (expr_known place && call_known call) line
+  kind_name_lines (kind.Call call) line looping = unless (call_known call) line
+  kind_name_lines (kind.If cond first second) line looping =
       unless (expr_known cond) line ++ (all_in looping first ++ all_in looping second)
-  kind_lines (kind.While cond body) line looping = unless (expr_known cond) line ++ all_in true body
-  kind_lines (kind.For first cond next body) line looping =
-      part_lines first ++ (unless (expr_known cond) line ++ (part_lines next ++ all_in true body))
-  kind_lines kind.Break line looping = unless looping line
-  kind_lines kind.Continue line looping = unless looping line
-  kind_lines kind.Return line looping = []
-  kind_lines (kind.ReturnValue value) line looping = unless (expr_known value) line
-  kind_lines (kind.ReturnCall call) line looping = unless (call_known call) line
+  kind_name_lines (kind.While cond body) line looping = unless (expr_known cond) line ++ all_in true body
+  kind_name_lines (kind.For first cond next body) line looping =
+      part_name_lines first ++ (unless (expr_known cond) line ++ (part_name_lines next ++ all_in true body))
+  kind_name_lines kind.Break line looping = unless looping line
+  kind_name_lines kind.Continue line looping = unless looping line
+  kind_name_lines kind.Return line looping = []
+  kind_name_lines (kind.ReturnValue value) line looping = unless (expr_known value) line
+  kind_name_lines (kind.ReturnCall call) line looping = unless (call_known call) line
 
-  abbrev pub stmt_lines : StmtTree → Bool → List ℕ
-  stmt_lines = fold-StmtTree (ℕ → Bool → List ℕ) (Bool → List ℕ) kind_lines (λ s. s.kind s.line)
+  abbrev pub stmt_name_lines : StmtTree → Bool → List ℕ
+  stmt_name_lines = fold-StmtTree (ℕ → Bool → List ℕ) (Bool → List ℕ) kind_name_lines (λ s. s.kind s.line)
 
   abbrev pub body_lines : List StmtTree → List ℕ
-  body_lines body = concat (map {A = StmtTree} (λ s. stmt_lines s false) body)
+  body_lines body = concat (map {A = StmtTree} (λ s. stmt_name_lines s false) body)
 
 -- Types: a tag that is used is that of a struct that is defined before (C11 6.7.2.3).
 
@@ -204,28 +204,28 @@ module _ (names : SectionNames) where
       are_distinct (param_names tree) ∷ []
       )
 
-  abbrev pub function_lines : FunctionTree → List ℕ
-  function_lines tree =
+  abbrev pub function_name_lines : FunctionTree → List ℕ
+  function_name_lines tree =
       unless (head_of_known tree) tree.head.line ++ (locals_from names.structs names.globals
       (param_names tree) tree.locals ++ body_lines (known_in tree) tree.body)
 
-  abbrev pub decl_lines : Decl → List ℕ
-  decl_lines (Struct tree) = unless (struct_known tree) tree.line
-  decl_lines (Global tree) = unless (global_known tree) tree.line
-  decl_lines (Proto head) = unless (proto_known head) head.line
-  decl_lines (Function tree) = function_lines tree
+  abbrev pub decl_name_lines : Decl → List ℕ
+  decl_name_lines (Struct tree) = unless (struct_known tree) tree.line
+  decl_name_lines (Global tree) = unless (global_known tree) tree.line
+  decl_name_lines (Proto head) = unless (proto_known head) head.line
+  decl_name_lines (Function tree) = function_name_lines tree
 
 -- the lines of declarations, where these stand before
-abbrev pub lines_from : SectionTree → (before : List Decl) → List Decl → List ℕ
-lines_from section before [] = []
-lines_from section before (decl ∷ decls) = decl_lines (declared section before) decl ++
-    lines_from section (before ++ decl ∷ []) decls
+abbrev pub name_lines_from : SectionTree → (before : List Decl) → List Decl → List ℕ
+name_lines_from section before [] = []
+name_lines_from section before (decl ∷ decls) = decl_name_lines (declared section before) decl ++
+    name_lines_from section (before ++ decl ∷ []) decls
 
 -- the lines, counted in the section, at which rules of names are broken
-abbrev pub section_lines : SectionTree → List ℕ
-section_lines section = lines_from section [] section.decls
+abbrev pub section_name_lines : SectionTree → List ℕ
+section_name_lines section = name_lines_from section [] section.decls
 
 -- the lines of the text at which rules of names are broken
 abbrev pub names_broken : List SectionTree → List ℕ
 names_broken sections =
-    concat (map {A = SectionTree} (λ section. map (line_of_text section.line) (section_lines section)) sections)
+    concat (map {A = SectionTree} (λ section. map (line_of_text section.line) (section_name_lines section)) sections)

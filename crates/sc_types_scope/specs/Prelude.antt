@@ -4,16 +4,18 @@ pub use Rattle.sc_ast.specs.declared.section.FunctionParam.{FunctionParam}
 pub use Rattle.sc_types_scope.specs.Broken.{earlier, line_of_text, noted, refused_at, unless, with_lines}
 unfoldable pub use Rattle.sc_types_scope.specs.Broken.{noted_all}
 pub use Rattle.sc_types_scope.specs.Declarations.{among, are_distinct, export_names, function_in, function_names}
-pub use Rattle.sc_types_scope.specs.Declarations.{functions_in, global_in, global_names, globals_in, head_in, heads_in}
+pub use Rattle.sc_types_scope.specs.Declarations.{function_decls, global_in, global_names, globals_in, head_in}
+pub use Rattle.sc_types_scope.specs.Declarations.{heads_in}
 pub use Rattle.sc_types_scope.specs.Declarations.{import_names, is_new, proto_names, protos_in, struct_in, struct_names}
 pub use Rattle.sc_types_scope.specs.Declarations.{structs_in}
 pub use Rattle.sc_types_scope.specs.Interfaces.{base_scalar, defines_main, environment, function_named, import_of}
 pub use Rattle.sc_types_scope.specs.Interfaces.{interface_of, interfaces_from, interfaces_of, is_environment, main_from}
 pub use Rattle.sc_types_scope.specs.Interfaces.{main_name, number_or_zero, offered, offering, offers, promised}
 pub use Rattle.sc_types_scope.specs.Interfaces.{proto_of, scalar_of}
-pub use Rattle.sc_types_scope.specs.Names.{Known, all_in, base_known, body_lines, call_known, decl_lines, declared}
-pub use Rattle.sc_types_scope.specs.Names.{expr_known, function_lines, global_known, head_known, head_of_known}
-pub use Rattle.sc_types_scope.specs.Names.{init_known, is_callable, known, known_in, knows, lines_from, local_known}
+pub use Rattle.sc_types_scope.specs.Names.{Known, all_in, base_known, body_lines, call_known, decl_name_lines, declared}
+pub use Rattle.sc_types_scope.specs.Names.{expr_known, function_name_lines, global_known, head_known, head_of_known}
+pub use Rattle.sc_types_scope.specs.Names.{init_known, is_callable, known, known_in, knows, name_lines_from}
+pub use Rattle.sc_types_scope.specs.Names.{local_known}
 pub use Rattle.sc_types_scope.specs.Names.{local_names, locals_from, member_known, member_names, names_broken}
-pub use Rattle.sc_types_scope.specs.Names.{param_names, part_lines, pointed_known, proto_known, result_known}
-pub use Rattle.sc_types_scope.specs.Names.{section_lines, simple_known, stmt_lines, struct_known, with_decl}
+pub use Rattle.sc_types_scope.specs.Names.{param_names, part_name_lines, pointed_known, proto_known, result_known}
+pub use Rattle.sc_types_scope.specs.Names.{section_name_lines, simple_known, stmt_name_lines, struct_known, with_decl}

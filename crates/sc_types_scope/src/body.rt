@@ -1,7 +1,7 @@
 //! The bodies of functions.
 
 ghost use Rattle.sc_types_scope.specs.Prelude.{all_in, among, call_known, expr_known, is_callable, known, knows};
-ghost use Rattle.sc_types_scope.specs.Prelude.{part_lines, simple_known, stmt_lines, with_lines};
+ghost use Rattle.sc_types_scope.specs.Prelude.{part_name_lines, simple_known, stmt_name_lines, with_lines};
 ghost use Rattle.std.specs.Prelude.{◌≡◌, ◌++◌, [], map};
 ghost use Rattle.std.specs.List.{list_all};
 
@@ -21,7 +21,7 @@ pub fn all_lines(
     lines: &mut BrokenLines,
 )
     ensures { lines.new ≡ with_lines lines.old (all_in (known names.now own.now) looping
-        (map (stmt_lines (known names.now own.now)) stmts.now)) }
+        (map (stmt_name_lines (known names.now own.now)) stmts.now)) }
 {
     for stmt in stmts.as_slice() {
         stmt_lines(names, own, stmt, looping, lines);
@@ -36,7 +36,7 @@ fn stmt_lines(
     looping: bool,
     lines: &mut BrokenLines,
 )
-    ensures { lines.new ≡ with_lines lines.old (stmt_lines (known names.now own.now) stmt.now looping) }
+    ensures { lines.new ≡ with_lines lines.old (stmt_name_lines (known names.now own.now) stmt.now looping) }
 {
     let line = stmt.line;
     match &stmt.kind {
@@ -89,7 +89,7 @@ fn part_lines(
     part: &Option<SimpleTree>,
     lines: &mut BrokenLines,
 )
-    ensures { lines.new ≡ with_lines lines.old (part_lines (known names.now own.now) part.now) }
+    ensures { lines.new ≡ with_lines lines.old (part_name_lines (known names.now own.now) part.now) }
 {
     match part {
         None => {}

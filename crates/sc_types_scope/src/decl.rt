@@ -1,6 +1,7 @@
 //! Declarations.
 
-ghost use Rattle.sc_types_scope.specs.Prelude.{decl_lines, function_lines, global_known, head_of_known, init_known};
+ghost use Rattle.sc_types_scope.specs.Prelude.{decl_name_lines, function_name_lines, global_known, head_of_known};
+ghost use Rattle.sc_types_scope.specs.Prelude.{init_known};
 ghost use Rattle.sc_types_scope.specs.Prelude.{local_known, locals_from, param_names, proto_known, struct_known};
 ghost use Rattle.sc_types_scope.specs.Prelude.{with_lines};
 ghost use Rattle.std.specs.Prelude.{◌≡◌, ◌++◌, [], ◌∷◌, map, OnOk, IfOk};
@@ -24,7 +25,7 @@ pub fn decl_lines(
     decl: &Decl,
     lines: &mut BrokenLines,
 ) -> Result<(), OutOfMemory>
-    ensures { OnOk result (lines.new ≡ with_lines lines.old (decl_lines names.now decl.now)) }
+    ensures { OnOk result (lines.new ≡ with_lines lines.old (decl_name_lines names.now decl.now)) }
 {
     match decl {
         Decl::Struct(tree) => {
@@ -137,7 +138,7 @@ fn function_lines(
     tree: &FunctionTree,
     lines: &mut BrokenLines,
 ) -> Result<(), OutOfMemory>
-    ensures { OnOk result (lines.new ≡ with_lines lines.old (function_lines names.now tree.now)) }
+    ensures { OnOk result (lines.new ≡ with_lines lines.old (function_name_lines names.now tree.now)) }
 {
     let mut own = NameList::new(alloc);
     let holds = head_of_known(names, &mut own, tree)?;

@@ -1,6 +1,6 @@
 //! Sections, and the whole phase.
 
-ghost use Rattle.sc_types_scope.specs.Prelude.{names_broken, refused_at, section_lines, with_lines};
+ghost use Rattle.sc_types_scope.specs.Prelude.{names_broken, refused_at, section_name_lines, with_lines};
 ghost use Rattle.std.specs.Prelude.{◌≡◌, OnOk, IfOk};
 
 use crate::BrokenLines;
@@ -31,7 +31,7 @@ fn section_lines(
     section: &SectionTree,
     lines: &mut BrokenLines,
 ) -> Result<(), OutOfMemory>
-    ensures { OnOk result (lines.new ≡ with_lines lines.old (section_lines section.now)) }
+    ensures { OnOk result (lines.new ≡ with_lines lines.old (section_name_lines section.now)) }
 {
     let mut names = SectionNames::new(alloc, section)?;
     for decl in section.decls.as_slice() {

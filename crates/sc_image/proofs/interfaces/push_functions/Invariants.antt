@@ -1,5 +1,5 @@
-use Rattle.sc_image.proofs.Common.{import_of, map, take, ◌++◌, ◌≡◌}
+use Rattle.sc_image.proofs.Common.{image_import, map, take, ◌++◌, ◌≡◌}
 use Rattle.sc_image.proofs.interfaces.push_functions.Given as goal
 
 abbrev pub invariant-loop-other : goal.invariant-loop-other
-invariant-loop-other l = l.imports ≡ l.initial.imports ++ map import_of (take l.other-index l.others)
+invariant-loop-other l = l.imports ≡ l.initial.imports ++ map image_import (take l.other-index l.others)

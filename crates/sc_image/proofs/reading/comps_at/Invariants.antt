@@ -1,7 +1,7 @@
-use Rattle.sc_image.proofs.Common.{comp_at, fields_at, ◌-◌, ◌≡◌}
+use Rattle.sc_image.proofs.Common.{read_comp, fields_at, ◌-◌, ◌≡◌}
 use Rattle.sc_image.proofs.Loops.{with_prefix}
 use Rattle.sc_image.proofs.reading.comps_at.Given as goal
 
 abbrev pub invariant-loop : goal.invariant-loop
-invariant-loop l = with_prefix l.comps (fields_at (comp_at l.count) (l.count - l.counter) l.bytes.now) ≡
-    fields_at (comp_at l.count) l.count l.fn.bytes.now
+invariant-loop l = with_prefix l.comps (fields_at (read_comp l.count) (l.count - l.counter) l.bytes.now) ≡
+    fields_at (read_comp l.count) l.count l.fn.bytes.now

@@ -1,4 +1,4 @@
-use Rattle.sc_machine.proofs.Common.{ap, arith, get_or, next_there, one_there, stored, written_more, ◌+◌, ◌∙◌}
+use Rattle.sc_machine.proofs.Common.{ap, arith, get_or, next_there, one_there, with_bytes, written_more, ◌+◌, ◌∙◌}
 use Rattle.sc_machine.proofs.Start.{one_stored}
 use Rattle.sc_machine.proofs.loading.fill.Goals as goal
 
@@ -11,6 +11,6 @@ store8-requires g c =
 pub loop-k-preserved : goal.loop-k-preserved
 loop-k-preserved g c =
     let x = get_or c.args.bytes.now c.loop-k.k 0 in
-    c.store8.ensures ∙ ap (λ m. stored m (c.args.start + c.loop-k.k) 1 x) c.loop-k.invariant ∙
+    c.store8.ensures ∙ ap (λ m. with_bytes m (c.args.start + c.loop-k.k) 1 x) c.loop-k.invariant ∙
     one_stored _ (c.args.start + c.loop-k.k) x (omega (arith, c.type_inv.bytes c.loop-k.k)) ∙
     written_more (g.S.Store.bytes c.args.memory.now) c.args.start c.args.bytes.now c.loop-k.k c.loop-k-test.true

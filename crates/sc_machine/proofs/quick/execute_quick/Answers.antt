@@ -1,4 +1,5 @@
-use Rattle.sc_machine.proofs.Common.{active_in, add_word, at, calls, execute_by, leaves, slice_index, word_of, ◌*◌, ◌/◌}
+use Rattle.sc_machine.proofs.Common.{active_in, add_word, at, jump_outside, execute_by, leaves, slice_index, word_of}
+use Rattle.sc_machine.proofs.Common.{◌*◌, ◌/◌}
 use Rattle.sc_machine.proofs.Runs.{goes_if}
 use Rattle.sc_machine.proofs.quick.execute_quick.Goals as goal
 
@@ -13,7 +14,7 @@ unfolding execute_by
 returns-in-Jal-clause-goes g c = λ went inputs state.
     let there = active_in c.args.here.now.comp (g.S.Store.bytes c.args.memory.now) state in
     rw c.in-Jal.is (rw (c.number.ensures.same, c.jump_target-target.ensures) at
-    (c.jump_inside.ensures.goes went there (calls c.args.here.now.image (at there c.args.core.now) c.in-Jal.rd
+    (c.jump_inside.ensures.goes went there (jump_outside c.args.here.now.image (at there c.args.core.now) c.in-Jal.rd
     (add_word c.args.core.now.pc (word_of c.in-Jal.imm)))))
 
 pub returns-in-Jalr-clause-goes : goal.returns-in-Jalr-clause-goes

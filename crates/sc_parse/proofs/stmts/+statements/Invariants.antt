@@ -1,3 +1,4 @@
+use Rattle.sc_base.specs.Prelude.{most_brackets}
 use Rattle.sc_parse.proofs.Common.{[], adds, begins_with, grouped, length, stmt_at, ◌*◌, ◌+◌, ◌-◌, ◌≡◌}
 use Rattle.sc_parse_expr.specs.declared.mark.Mark.TheVariants as mark
 use Rattle.sc_parse.proofs.stmts.+statements.Given as goal
@@ -37,9 +38,9 @@ decreases-kind_by l = 9 * l.room + 7
 
 -- what is read is what the rest of the loop reads
 abbrev pub invariant-stmts_at-loop : goal.invariant-stmts_at-loop
-invariant-stmts_at-loop l = grouped (begins_with mark.CloseCurly) (adds (stmt_at 1024 l.room))
+invariant-stmts_at-loop l = grouped (begins_with mark.CloseCurly) (adds (stmt_at most_brackets l.room))
     (length l.initial.rest.now + 1) [] l.initial.rest.now ≡
-    grouped (begins_with mark.CloseCurly) (adds (stmt_at 1024 l.room))
+    grouped (begins_with mark.CloseCurly) (adds (stmt_at most_brackets l.room))
     (length l.initial.rest.now + 1 - l.counter) l.stmts l.rest.now
 
 abbrev pub decreases-stmt_within : goal.decreases-stmt_within

@@ -1,4 +1,4 @@
-use Rattle.sc_report.proofs.Common.{ap, arith, call_text, call_with, state_at, suc, ◌++◌, ◌+◌, ◌∙◌, ◌≡◌}
+use Rattle.sc_report.proofs.Common.{ap, arith, made_call, call_with, state_at, suc, ◌++◌, ◌+◌, ◌∙◌, ◌≡◌}
 use Rattle.sc_report.proofs.Counting.{number_turn}
 use Rattle.sc_report.proofs.make.append_calls.Goals as goal
 
@@ -9,7 +9,7 @@ loop-j-preserved c =
     let drawn = c.next_function.ensures c.args.seed j c.loop-j.invariant.drawn in
     record {
       drawn = drawn.state ∙ ap (state_at c.args.seed) next;
-      printed = number_turn (call_text c.args.seed) j c.args.text.now c.loop-j.text c.append_call.new.text
+      printed = number_turn (made_call c.args.seed) j c.args.text.now c.loop-j.text c.append_call.new.text
           c.loop-j.invariant.printed
           (c.in_ok-append_call.ensures ∙ ap (λ argument. c.loop-j.text ++ call_with j argument) drawn.argument);
     }

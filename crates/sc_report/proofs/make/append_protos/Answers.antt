@@ -1,8 +1,8 @@
-use Rattle.sc_report.proofs.Common.{proto_text}
+use Rattle.sc_report.proofs.Common.{made_proto}
 use Rattle.sc_report.proofs.Counting.{number_turn}
 use Rattle.sc_report.proofs.make.append_protos.Goals as goal
 
 pub loop-j-preserved : goal.loop-j-preserved
 loop-j-preserved c =
-    number_turn proto_text c.loop-j.j c.args.text.now c.loop-j.text c.append_proto.new.text
+    number_turn made_proto c.loop-j.j c.args.text.now c.loop-j.text c.append_proto.new.text
     c.loop-j.invariant c.in_ok-append_proto.ensures

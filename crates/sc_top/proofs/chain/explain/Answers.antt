@@ -1,4 +1,5 @@
-use Rattle.sc_top.proofs.Common.{Explain, map, refl, rules, word_of}
+use Rattle.sc_top.proofs.Common.{Explain, List, comp_of, is_listed, length, map, refl, rules, subst, sym, take, word_of}
+use Rattle.sc_top.proofs.Common.{ℕ, ◌≤◌}
 use Rattle.sc_top.proofs.Outputs.{compiled_cause}
 use Rattle.sc_top.proofs.Chains.{explained_perform}
 use Rattle.sc_top.proofs.chain.explain.Goals as goal
@@ -22,4 +23,7 @@ returns-clause-ok c = record {
   explanation = c.in_ok-explanation.explanation;
   explained = c.in_ok-explanation.ensures.explained;
   written = c.in_ok-account.ensures;
+  short = λ links. c.in_ok-explanation.ensures.explained.short
+      (subst (λ (text : List ℕ). length text ≤ 1048576) (sym c.in_ok-source.ensures.accepted.0) c.requires.short)
+      (is_listed (map comp_of (take links c.in_ok-explanation.explanation.links)));
 }

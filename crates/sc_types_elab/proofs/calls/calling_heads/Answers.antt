@@ -1,5 +1,5 @@
 -- The heads of declarations, one after another.
-use Rattle.sc_types_elab.proofs.Common.{FunctionTree, ap, functions_in, head_in, head_name, head_of, heads_in, map}
+use Rattle.sc_types_elab.proofs.Common.{FunctionTree, ap, function_decls, head_in, head_name, head_of, heads_in, map}
 use Rattle.sc_types_elab.proofs.Common.{signature_by, ◌++◌, ◌∙◌}
 use Rattle.sc_types_elab.proofs.Gathered.{gather_more, gather_end, made_of_both}
 use Rattle.sc_types_elab.proofs.calls.calling_heads.Goals as goal
@@ -7,12 +7,12 @@ use Rattle.sc_types_elab.proofs.calls.calling_heads.Goals as goal
 pub loop-decl-init : goal.loop-decl-init
 loop-decl-init c = record {
   names = ap (λ l. l ++ map head_name (heads_in c.args.decls.now)) c.in_ok-heads.ensures.names ∙
-      made_of_both head_name (λ (tree : FunctionTree). head_of tree.head) (functions_in c.args.decls.now)
+      made_of_both head_name (λ (tree : FunctionTree). head_of tree.head) (function_decls c.args.decls.now)
       (heads_in c.args.decls.now);
   signatures = ap (λ l. l ++ map (signature_by c.args.tags.now)
       (heads_in c.args.decls.now)) c.in_ok-heads.ensures.signatures ∙
       made_of_both (signature_by c.args.tags.now) (λ (tree : FunctionTree). head_of tree.head)
-      (functions_in c.args.decls.now) (heads_in c.args.decls.now);
+      (function_decls c.args.decls.now) (heads_in c.args.decls.now);
 }
 
 pub loop-decl-preserved : goal.loop-decl-preserved

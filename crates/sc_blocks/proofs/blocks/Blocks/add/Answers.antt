@@ -1,4 +1,4 @@
-use Rattle.sc_blocks.proofs.Common.{[], ap, length, living, memory_of, subst, sym, ◌++◌, ◌<◌, ◌∙◌, ◌∷◌}
+use Rattle.sc_blocks.proofs.Common.{[], ap, length, memory_of, subst, sym, variable, ◌++◌, ◌<◌, ◌∙◌, ◌∷◌}
 use Rattle.sc_blocks.proofs.Memories.{row_is, memory_changed}
 use Rattle.sc_blocks.proofs.blocks.Blocks.add.Goals as goal
 
@@ -16,6 +16,6 @@ returns-clause-made c =
     let there : c.args.comp < length c.self.inside.rows.items =
     subst (λ rows. c.args.comp < length rows) (sym c.self.view_is) c.in_ok-make_row.ensures.there in
     memory_changed c.self.inside.rows.items (memory_of c.args.self.now) c.number.result c.args.comp
-    c.index_mut-row.result.now c.push.new.self (λ row. row ++ living c.args.cells ∷ [])
+    c.index_mut-row.result.now c.push.new.self (λ row. row ++ variable c.args.cells ∷ [])
     (ap memory_of c.self.view_is ∙ c.in_ok-make_row.ensures.same) c.number.ensures.number there
     c.index_mut-row.ensures.value c.in_ok-push.ensures.ok

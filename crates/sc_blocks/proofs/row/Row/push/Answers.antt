@@ -1,4 +1,4 @@
-use Rattle.sc_blocks.proofs.Common.{Slot, [], ap, living, refl, ◌++◌, ◌∙◌, ◌∷◌}
+use Rattle.sc_blocks.proofs.Common.{Slot, [], ap, refl, variable, ◌++◌, ◌∙◌, ◌∷◌}
 use Rattle.sc_blocks.proofs.Storing.{rising_more, row_more}
 use Rattle.sc_blocks.proofs.row.Row.push.Goals as goal
 
@@ -12,4 +12,4 @@ pub returns-clause-ok : goal.returns-clause-ok
 returns-clause-ok c =
     let s : Slot = record { number = c.self.inside.made; cells = c.args.cells } in
     row_more c.self.inside.slots.items c.push.new.self.items c.self.inside.made s c.self.invariant refl
-    c.in_ok-push.ensures.items ∙ ap (λ bs. bs ++ living c.args.cells ∷ []) c.self.view_is
+    c.in_ok-push.ensures.items ∙ ap (λ bs. bs ++ variable c.args.cells ∷ []) c.self.view_is

@@ -1,4 +1,4 @@
-use Rattle.sc_blocks.proofs.Common.{IsOver, Ok, ap, bind, cells_among, get_or, laid_out, length, living, put_in, refl}
+use Rattle.sc_blocks.proofs.Common.{IsOver, Ok, ap, bind, cells_among, get_or, laid_out, length, put_in, refl}
 use Rattle.sc_blocks.proofs.Common.{slice_get, slice_set, subst, ◌<◌, ◌∙◌, ◌≡◌}
 use Rattle.sc_blocks.proofs.Storing.{found_lives, lost_over, over_dangles, rising_after, row_after, stored}
 use Rattle.sc_blocks.proofs.row.Row.store.Goals as goal
@@ -9,8 +9,8 @@ returns-in-None-clause-value c =
     let p = c.args.place in
     let over = lost_over c.self.inside.slots.items c.as_slice.result.now c.self.inside.made p.block c.self.invariant
     c.as_slice.ensures.value c.in-None.ensures.found in
-    ap (λ q. bind q (λ cells. bind (put_in cells p.index c.args.cell)
-    (λ cells. Ok (slice_set bs p.block (living cells)))))
+    ap (λ q. bind q (λ block. bind (put_in block.cells p.index c.args.cell)
+    (λ cells. Ok (slice_set bs p.block (record block { cells = cells })))))
     (over_dangles (slice_get bs p.block) (subst (λ bs. IsOver (slice_get bs p.block)) c.self.view_is over))
 
 pub invariant_of-self : goal.invariant_of-self

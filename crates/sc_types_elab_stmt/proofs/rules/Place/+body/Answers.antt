@@ -1,4 +1,4 @@
-use Rattle.sc_types_elab_stmt.proofs.Common.{called, stmt_lines, visible}
+use Rattle.sc_types_elab_stmt.proofs.Common.{called, stmt_type_lines, visible}
 use Rattle.sc_types_elab_stmt.proofs.Noted.{on_ok, noted-if, noted-while, noted-for, noted-empty, noted-break}
 use Rattle.sc_types_elab_stmt.proofs.Noted.{noted-continue, noted-next, noted-all}
 use Rattle.sc_types_elab_stmt.proofs.rules.Place.+body.Goals as goal
@@ -47,14 +47,14 @@ note_kind-returns-in-Continue t c scope suits = noted-continue
 
 pub note_stmts-loop-stmt-preserved : goal.note_stmts-loop-stmt-preserved
 note_stmts-loop-stmt-preserved t c scope suits =
-    noted-next (stmt_lines (visible c.args.self.now.section.now c.args.self.now.function.now)
+    noted-next (stmt_type_lines (visible c.args.self.now.section.now c.args.self.now.function.now)
     (called c.args.self.now.section.now.callees) scope c.args.self.now.function.now.result)
     c.as_slice-stmt-items.result.now c.loop-stmt.stmt-index _ _ _ c.stmt-item.result c.loop-stmt-test.true
     c.stmt-item.is (c.in_ok-note_stmt.ensures scope suits) (c.loop-stmt.invariant scope suits)
 
 pub note_stmts-returns : goal.note_stmts-returns
 note_stmts-returns t c scope suits =
-    noted-all (stmt_lines (visible c.args.self.now.section.now c.args.self.now.function.now)
+    noted-all (stmt_type_lines (visible c.args.self.now.section.now c.args.self.now.function.now)
     (called c.args.self.now.section.now.callees) scope c.args.self.now.function.now.result)
     c.as_slice-stmt-items.result.now c.loop-stmt.stmt-index _ _ c.loop-stmt-test.false
     (c.loop-stmt.invariant scope suits)

@@ -1,5 +1,5 @@
+use crate::Cause;
 use sc_base::{Stop, Text};
-use sc_core::Cause;
 use sc_event::{CompId, Trace};
 use sqlite_items::Items;
 

@@ -1,0 +1,373 @@
+-- An instance: three machines that don't isolate, for they do one thing more than the machine, on an image of two
+-- compartments.
+use Rattle.std.proofs.Common.{Bool, List, None, Option, Some, [], ap, arith, codes, false, if◌then◌else◌, is_some}
+use Rattle.std.proofs.Common.{length, nat_eq, pos, refl, replicate, slice_get, slice_index, slice_index_or, subst, suc}
+use Rattle.std.proofs.Common.{sym, true, zero, ℕ, ◌<◌, ◌^◌, ◌∙◌, ◌∷◌, ◌≡◌, ◌≢◌}
+use Rattle.std.proofs.lemmas.Bool.{false≢true}
+use Rattle.std.proofs.lemmas.List.Elements.{All-from_recursion}
+use Rattle.std.proofs.lemmas.Option.{none-some, same_Some}
+use Rattle.std.specs.Option.{option_map_or}
+unfoldable use Rattle.sc_base.specs.Prelude.{is_name}
+use Rattle.sc_store.specs.Prelude.{ByteMemory}
+unfoldable use Rattle.rv_code.specs.Prelude.{decoded, jalr_in, op_imm_in, op_imm_op_of}
+use Rattle.rv_code.specs.declared.instr.Instr.TheVariants.{Jalr, OpImm}
+use Rattle.rv_code.specs.declared.instr.OpImmOp.TheVariants.{Addi}
+use Rattle.sc_image.specs.Common.{Call, Event, Out}
+use Rattle.sc_image.specs.declared.parts.CompPart.{CompPart}
+use Rattle.sc_image.specs.declared.parts.ImageParts.{ImageParts}
+use Rattle.sc_image.specs.Calls.{exported_by}
+use Rattle.sc_image.specs.Cross.{on_call}
+use Rattle.sc_image.specs.Isolation.{EntersByEventBy, FollowsFromOwnBy, IsIsolating, IsSilentForBy, LeavesDataBy}
+use Rattle.sc_image.specs.Isolation.{LooksSame, Point, RunsAt, Stepping, after_by, after_outcome, later_by}
+use Rattle.sc_image.specs.Isolation.{observation_of, own_at}
+unfoldable use Rattle.sc_image.specs.Layout.{are_data, word_at}
+use Rattle.sc_image.specs.Own.{Own, data_of, own}
+use Rattle.sc_image.specs.State.{MachineState, reg, with_reg}
+use Rattle.sc_image.specs.Steady.{IsSteadyState, KeepsWords, inputs_in, open_calls}
+use Rattle.sc_image.specs.Step.{Goes, Outcome, Traps, execute, step}
+unfoldable use Rattle.sc_image.specs.Step.{execute_by}
+use Rattle.sc_image.specs.WellFormed.{IsComp, IsExport, IsImport, IsWellFormed}
+use Rattle.sc_base.specs.Word.{IsWord}
+use Rattle.sc_image.proofs.Running.{step_executes}
+
+-- The image: `M` does nothing, and then calls `f` of `N`.
+
+abbrev main_part : CompPart
+main_part = record {
+  name = codes "M";
+  input = false;
+  output = false;
+  exports = [];
+  imports = record { comp = 1; index = 0 } ∷ [];
+  code = 19 ∷ 164071 ∷ [];
+  globals = [];
+}
+
+abbrev other_part : CompPart
+other_part = record {
+  name = codes "N";
+  input = false;
+  output = false;
+  exports = record { name = codes "f"; params = 0; result = false; entry = 17825792 } ∷ [];
+  imports = [];
+  code = 19 ∷ [];
+  globals = [];
+}
+
+abbrev two : ImageParts
+two = record { main = 0; entry = 16777216; comps = main_part ∷ other_part ∷ [] }
+
+main_is : IsComp two 0 main_part
+unfolding is_name
+main_is = record {
+  name = refl;
+  no_environment = λ same. (let l = ap length same in omega (arith, l));
+  few_exports = omega arith;
+  exports = All-from_recursion (IsExport two 0) [] tt;
+  export_names = λ i j d before within. absurd (omega (arith, within));
+  export_entries = λ i j d before within. absurd (omega (arith, within));
+  few_imports = omega arith;
+  imports = All-from_recursion (IsImport two 0) main_part.imports
+      (record { other = λ same. omega (arith, same); offered = omega arith }, tt);
+  distinct_imports = λ i j d before within. absurd (omega (arith, before, within));
+  short_code = omega arith;
+  words = All-from_recursion IsWord main_part.code (omega arith, (omega arith, tt));
+  short_globals = omega arith;
+  bytes = All-from_recursion (λ byte. byte < 2 ^ 8) [] tt;
+}
+
+entry_there : is_some (word_at two 1 17825792) ≡ true
+unfolding word_at
+entry_there = refl
+
+other_is : IsComp two 1 other_part
+unfolding is_name
+other_is = record {
+  name = refl;
+  no_environment = λ same. (let l = ap length same in omega (arith, l));
+  few_exports = omega arith;
+  exports = All-from_recursion (IsExport two 1) other_part.exports
+      (record { name = refl; params = omega arith; entry = entry_there }, tt);
+  export_names = λ i j d before within. absurd (omega (arith, before, within));
+  export_entries = λ i j d before within. absurd (omega (arith, before, within));
+  few_imports = omega arith;
+  imports = All-from_recursion (IsImport two 1) [] tt;
+  distinct_imports = λ i j d before within. absurd (omega (arith, within));
+  short_code = omega arith;
+  words = All-from_recursion IsWord other_part.code (omega arith, tt);
+  short_globals = omega arith;
+  bytes = All-from_recursion (λ byte. byte < 2 ^ 8) [] tt;
+}
+
+main_there : is_some (word_at two 0 16777216) ≡ true
+unfolding word_at
+main_there = refl
+
+comps_are : (c : ℕ) (comp : CompPart) → slice_get two.comps c ≡ Some comp → IsComp two c comp
+comps_are zero comp got = subst (IsComp two 0) (same_Some main_part comp got) main_is
+comps_are (suc zero) comp got = subst (IsComp two 1) (same_Some other_part comp got) other_is
+comps_are (suc (suc c)) comp got = absurd (none-some comp got)
+
+names_differ : (i j : ℕ) (d : List ℕ) → i < j → j < 2 →
+    slice_index_or (codes "M" ∷ codes "N" ∷ []) i d ≢ slice_index_or (codes "M" ∷ codes "N" ∷ []) j d
+names_differ zero zero d before within = λ same. omega (arith, before)
+names_differ zero (suc zero) d before within =
+    λ same. (let first = ap (λ name. slice_index name 0) same in omega (arith, first))
+names_differ zero (suc (suc j)) d before within = λ same. omega (arith, within)
+names_differ (suc i) zero d before within = λ same. omega (arith, before)
+names_differ (suc i) (suc zero) d before within = λ same. omega (arith, before)
+names_differ (suc i) (suc (suc j)) d before within = λ same. omega (arith, within)
+
+formed : IsWellFormed two
+formed = record {
+  few_comps = omega arith;
+  main = omega arith;
+  entry = main_there;
+  comps = comps_are;
+  names = names_differ;
+}
+
+-- The machine does nothing at the first instruction of `M`, and calls `f` at the second.
+
+abbrev regs : (target other : ℕ) → List ℕ
+regs target other = 0 ∷ 0 ∷ 0 ∷ 0 ∷ 0 ∷ target ∷ other ∷ replicate 25 0
+
+abbrev standing : (pc target other : ℕ) → (memory : ByteMemory) → List Event → MachineState
+standing pc target other memory trace = record {
+  regs = regs target other;
+  pc = pc;
+  active = 0;
+  saved = 0 ∷ 0 ∷ [];
+  memory = memory;
+  cross = [];
+  input = 0;
+  trace = trace;
+}
+
+abbrev empty : ByteMemory
+empty = λ address. None
+
+abbrev resting : List Event → MachineState
+resting trace = standing 16777216 0 0 empty trace
+
+abbrev calling : (other : ℕ) → ByteMemory → MachineState
+calling other memory = standing 16777220 17825792 other memory []
+
+rests_at : word_at two 0 16777216 ≡ Some 19
+unfolding word_at
+rests_at = refl
+
+rests_by : decoded 19 ≡ Some (OpImm Addi 0 0 (pos 0))
+unfolding decoded op_imm_in op_imm_op_of
+rests_by = refl
+
+rests_so : (trace : List Event) → execute two [] (resting trace) (OpImm Addi 0 0 (pos 0)) ≡
+    Goes (standing 16777220 0 0 empty trace)
+unfolding execute_by
+rests_so trace = refl
+
+rests : (trace : List Event) → step two [] (resting trace) ≡ Goes (standing 16777220 0 0 empty trace)
+rests trace =
+    step_executes two [] (resting trace) 19 (OpImm Addi 0 0 (pos 0)) rests_at rests_by ∙ rests_so trace
+
+calls_at : word_at two 0 16777220 ≡ Some 164071
+unfolding word_at
+calls_at = refl
+
+calls_by : decoded 164071 ≡ Some (Jalr 1 5 (pos 0))
+unfolding decoded jalr_in
+calls_by = refl
+
+calls_so : (other : ℕ) (memory : ByteMemory) → execute two [] (calling other memory) (Jalr 1 5 (pos 0)) ≡
+    Goes (on_call (calling other memory) 1 0 0 17825792)
+unfolding execute_by word_at
+calls_so other memory = refl
+
+calls : (other : ℕ) (memory : ByteMemory) →
+    step two [] (calling other memory) ≡ Goes (on_call (calling other memory) 1 0 0 17825792)
+calls other memory =
+    step_executes two [] (calling other memory) 164071 (Jalr 1 5 (pos 0)) calls_at calls_by ∙ calls_so other memory
+
+-- These states are steady.
+
+zeros : (n r : ℕ) → IsWord (slice_index (replicate n 0) r)
+zeros zero r = omega arith
+zeros (suc n) zero = omega arith
+zeros (suc n) (suc r) = zeros n r
+
+regs_words : (target other : ℕ) → IsWord target → IsWord other → (r : ℕ) → IsWord (slice_index (regs target other) r)
+regs_words target other low small zero = omega arith
+regs_words target other low small (suc zero) = omega arith
+regs_words target other low small (suc (suc zero)) = omega arith
+regs_words target other low small (suc (suc (suc zero))) = omega arith
+regs_words target other low small (suc (suc (suc (suc zero)))) = omega arith
+regs_words target other low small (suc (suc (suc (suc (suc zero))))) = low
+regs_words target other low small (suc (suc (suc (suc (suc (suc zero)))))) = small
+regs_words target other low small (suc (suc (suc (suc (suc (suc (suc r))))))) = zeros 25 r
+
+saved_words : (c : ℕ) → IsWord (slice_index (0 ∷ 0 ∷ []) c)
+saved_words zero = omega arith
+saved_words (suc zero) = omega arith
+saved_words (suc (suc c)) = omega arith
+
+-- two words and two traces in which no call is open and no input was read
+steady : (pc target other : ℕ) (trace : List Event) → IsWord pc → IsWord target → IsWord other →
+    [] ≡ open_calls trace → 0 ≡ inputs_in trace → IsSteadyState two (standing pc target other empty trace)
+steady pc target other trace here low small calls inputs = record {
+  regs = refl;
+  words = regs_words target other low small;
+  zero = refl;
+  pc = here;
+  active = omega arith;
+  saved = refl;
+  saved_words = saved_words;
+  bytes = λ a b is. absurd (none-some b is);
+  chain = tt;
+  kept = All-from_recursion KeepsWords [] tt;
+  calls = calls;
+  input = inputs;
+}
+
+-- A machine that goes on from the state after each step.
+
+abbrev gone_on : (MachineState → MachineState) → Outcome → Outcome
+gone_on more (Goes next) = Goes (more next)
+gone_on more (Traps reason) = Traps reason
+
+abbrev spoilt : (more : ImageParts → (before after : MachineState) → MachineState) → Stepping
+spoilt more image inputs state = gone_on (more image state) (step image inputs state)
+
+-- What x5 of the active compartment is.
+abbrev fifth : Own → ℕ
+fifth parts = option_map_or (λ running. slice_index running.regs 5) parts.running 0
+
+abbrev sixth : Own → ℕ
+sixth parts = option_map_or (λ running. slice_index running.regs 6) parts.running 0
+
+-- It tells the active compartment how many events there were.
+
+abbrev counting : Stepping
+counting = spoilt (λ image before after. with_reg after 5 (length before.trace))
+
+abbrev one_event : List Event
+one_event = Out 1 0 ∷ []
+
+abbrev resting_point : List Event → Point
+resting_point trace = record { image = two; inputs = []; state = resting trace }
+
+runs : (trace : List Event) → [] ≡ open_calls trace → 0 ≡ inputs_in trace → RunsAt 0 (resting_point trace)
+runs trace calls inputs = record {
+  formed = formed;
+  inputs = All-from_recursion IsWord [] tt;
+  steady = steady 16777216 0 0 trace (omega arith) (omega arith) (omega arith) calls inputs;
+  active = refl;
+}
+
+looks_same : LooksSame 0 (resting_point []) (resting_point one_event)
+looks_same = record {
+  one_runs = runs [] refl refl;
+  other_runs = runs one_event refl refl;
+  images = record {
+    code = λ address. refl;
+    owned = λ address size. refl;
+    reads = refl;
+    writes = refl;
+    imports = λ to index. refl;
+    results = λ entry. refl;
+    entries = λ to address. refl;
+    params = λ to index may. refl;
+  };
+  own_parts = refl;
+  call = refl;
+  input = refl;
+}
+
+-- after its step, x5 is the count
+counted : (trace : List Event) → counting two [] (resting trace) ≡
+    Goes (with_reg (standing 16777220 0 0 empty trace) 5 (length trace))
+counted trace = ap (gone_on (λ after. with_reg after 5 (length trace))) (rests trace)
+
+pub counts_events : FollowsFromOwnBy counting → ⊥
+counts_events follows =
+    let one = counted [] in
+    let silent : IsSilentForBy counting 1 (resting_point []) =
+    (ap (observation_of (resting [])) one, tt) in
+    let goes = (follows 0 (resting_point []) (resting_point one_event) 1 looks_same).1 silent in
+    let first : fifth (own_at (later_by counting 1 (resting_point [])) 0) ≡ 0 =
+    ap (λ outcome. fifth (own two (after_outcome (resting []) outcome) 0)) one in
+    let second : fifth (own_at (later_by counting 1 (resting_point one_event)) 0) ≡ 1 =
+    ap (λ outcome. fifth (own two (after_outcome (resting one_event) outcome) 0)) (counted one_event) in
+    let same = sym first ∙ ap fifth goes.own_parts ∙ second in
+    omega (arith, same)
+
+-- Its calls and returns zero the data of the compartment that they make active.
+
+abbrev zeroing : Stepping
+zeroing = spoilt (λ image before after. if nat_eq after.active before.active then after else record after {
+  memory = λ address. if are_data image after.active address 1 then Some 0 else after.memory address;
+})
+
+abbrev ones : ByteMemory
+ones = λ address. Some 1
+
+owned : are_data two 1 269484032 1 ≡ true
+unfolding are_data
+owned = refl
+
+other_byte : (mine : Bool) → mine ≡ true → ◌≡◌ {A = Option ℕ} (if mine then (if mine then Some 0 else Some 1) else None)
+    (if mine then Some 1 else None) → ⊥
+other_byte true is same = let numbers = same_Some 0 1 same in omega (arith, numbers)
+other_byte false is same = false≢true is
+
+pub zeroes_data : LeavesDataBy zeroing → ⊥
+zeroes_data leaves =
+    let state : MachineState = calling 0 ones in
+    let after : zeroing two [] state ≡ Goes (record (on_call state 1 0 0 17825792) {
+      memory = λ address. if are_data two 1 address 1 then Some 0 else Some 1;
+    }) = ap (gone_on (λ next. if nat_eq next.active 0 then next else record next {
+      memory = λ address. if are_data two next.active address 1 then Some 0 else next.memory address;
+    })) (calls 0 ones) in
+    let kept = leaves two [] state 1 formed (λ same. omega (arith, same)) in
+    let at = ap (λ (memory : ByteMemory). memory 269484032)
+    (sym (ap (λ outcome. data_of two 1 (after_outcome state outcome).memory) after) ∙ kept) in
+    other_byte (are_data two 1 269484032 1) owned at
+
+-- A register passes to the callee that holds no argument.
+
+abbrev passing : Stepping
+passing = spoilt (λ image before after. if nat_eq after.active before.active then after else
+    with_reg after 6 (reg before 6))
+
+passes : (other : ℕ) → passing two [] (calling other empty) ≡
+    Goes (with_reg (on_call (calling other empty) 1 0 0 17825792) 6 other)
+passes other =
+    ap (gone_on (λ next. if nat_eq next.active 0 then next else with_reg next 6 other)) (calls other empty)
+
+pub passes_register : EntersByEventBy passing → ⊥
+passes_register enters =
+    let event : Event = Call 0 1 0 [] in
+    let entered = (enters 1).0 in
+    let own_after : (other : ℕ) → IsWord other → own two (after_by passing two [] (calling other empty)) 1 ≡
+    entered (exported_by two 1) (own two (calling 0 empty) 1) event =
+    λ other small. (enters 1).1 two [] (calling other empty) event formed
+    (steady 16777220 17825792 other [] (omega arith) (omega arith) small refl refl)
+    (λ same. omega (arith, same)) (ap (observation_of (calling other empty)) (passes other)) refl in
+    let sixth_is : (other : ℕ) → sixth (own two (after_by passing two [] (calling other empty)) 1) ≡ other =
+    λ other. ap (λ outcome. sixth (own two (after_outcome (calling other empty) outcome) 1)) (passes other) in
+    let same =
+    sym (sixth_is 0) ∙ ap sixth (own_after 0 (omega arith) ∙ sym (own_after 1 (omega arith))) ∙ sixth_is 1 in
+    omega (arith, same)
+
+-- None of them isolates.
+
+pub record NoneIsolates : Type 0 where
+  pub counts : IsIsolating counting → ⊥
+  pub zeroes : IsIsolating zeroing → ⊥
+  pub passes : IsIsolating passing → ⊥
+
+pub none_isolates : NoneIsolates
+none_isolates = record {
+  counts = λ isolates. counts_events isolates.follows;
+  zeroes = λ isolates. zeroes_data isolates.bytes;
+  passes = λ isolates. passes_register isolates.enters;
+}
