@@ -129,8 +129,10 @@ last_cut line words more word start at cut past same all =
     (same ∙ to_the_end line start) ∙ ap (λ ws. map now words ++ ws) (sym (split_none (drop start line) lacks)) ∙ cut.read
   where
     lacks : Lacks 32 (drop start line)
-    lacks = record { at = λ k within is. cut.between.at (start + k) (omega arith)
-        (omega (arith, within, past, length-drop start line)) (sym (get_or-drop start line k 0) ∙ is) }
+    lacks = record {
+      at = λ k within is. cut.between.at (start + k) (omega arith)
+          (omega (arith, within, past, length-drop start line)) (sym (get_or-drop start line k 0) ∙ is);
+    }
 
 pub no_line : (bytes : List ℕ) (at end : ℕ) → length bytes ≤ end → LacksBetween 10 bytes at end →
     lines_of (drop at bytes) ≡ []

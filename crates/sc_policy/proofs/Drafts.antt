@@ -1,11 +1,11 @@
 -- What lines are read as is a policy exactly where the lines are one.
 use Rattle.sc_policy.proofs.Common.{Bool, IsTrue, List, None, Option, Some, Text, [], ap, arith, cond, drop, false, length}
 use Rattle.sc_policy.proofs.Common.{◌&&◌}
-use Rattle.sc_policy.proofs.Common.{map, refl, subst, suc, sym, take, true, zero, ℕ, ◌++◌, ◌+◌, ◌-◌, ◌<◌, ◌∙◌, ◌∷◌, ◌≡◌, ◌≤◌}
+use Rattle.sc_policy.proofs.Common.{map, refl, subst, sym, take, true, ℕ, ◌++◌, ◌+◌, ◌<◌, ◌∙◌, ◌∷◌, ◌≡◌, ◌≤◌}
 use Rattle.std.proofs.Common.{append-nil, append_assoc, codes, option_and_then, rules}
 use Rattle.std.specs.List.{IsDistinct}
 unfoldable use Rattle.sc_base.specs.Prelude.{is_name}
-use Rattle.sc_policy.specs.Policies.{BeginsPolicy, IsBadAt, IsDraft, IsPolicy, end_line, policy_line, state_line}
+use Rattle.sc_policy.specs.Policies.{BeginsPolicy, IsDraft, IsPolicy, end_line, policy_line, state_line}
 use Rattle.sc_policy.specs.Reading.{after, after_all, begun, name_after}
 use Rattle.std.proofs.Common.{bytes_eq, nat_eq, option_map, take-append-drop}
 use Rattle.std.proofs.Math.Seq.{drop-append_seam, take-append_seam}
@@ -105,7 +105,7 @@ new_says policy line name is = go (length policy.rules == 0) refl (nat_le 256 (l
     go true none true full is = absurd (cc)
     go true none false few is =
         let found = bound (λ name. cond (is_numbered policy.states name) None (Some name))
-            (name_after (codes "state ") line) name is in
+        (name_after (codes "state ") line) name is in
         let said = name_after_says (codes "state ") line found.value found.is in
         let new = fresh found.value (is_numbered policy.states found.value) refl found.gives in
         record {
@@ -140,7 +140,7 @@ state_more lines line policy name draft new =
           ap (λ xs. head ∷ (xs ++ line ∷ [])) (append-nil states) ∙
           ap (λ l. head ∷ (states ++ l ∷ [])) new.is ∙
           ap (λ xs. head ∷ xs) (sym (map-append state_line policy.states (name ∷ [])) ∙
-              sym (append-nil (map state_line (policy.states ++ name ∷ []))));
+          sym (append-nil (map state_line (policy.states ++ name ∷ []))));
       rules = subst (λ rules. AreRuleLines (policy.states ++ name ∷ []) [] rules) (sym new.no_rules) tt;
       name = draft.name;
       names = all_more is_name policy.states name draft.names new.named;
@@ -307,7 +307,7 @@ unfolding IsDistinct
 not_before [] state more distinct = refl
 not_before (first ∷ before) state more distinct =
     let apart = nat_list_eq_equiv.symm state first ∙
-        all_reach (λ y. bytes_eq first y ≡ false) before state more distinct.0 in
+    all_reach (λ y. bytes_eq first y ≡ false) before state more distinct.0 in
     ap (λ b. b || is_numbered before state) apart ∙ not_before before state more distinct.1
 
 few_so : (n most : ℕ) → n < most → nat_le most n ≡ false

@@ -1,7 +1,7 @@
 -- No line of a policy has a newline, so the bytes of lines are cut into these lines again.
 use Rattle.sc_policy.proofs.Common.{Bool, IsTrue, List, None, Option, Some, Text, [], ap, bytes_of, cond, eqb-true, false}
-use Rattle.sc_policy.proofs.Common.{get_or, length, lines_of, map, onto_line, refl, subst, suc, sym, true, words_of, zero}
-use Rattle.sc_policy.proofs.Common.{arith, ℕ, ◌&&◌, ◌++◌, ◌+◌, ◌<◌, ◌==◌, ◌∙◌, ◌∷◌, ◌≡◌}
+use Rattle.sc_policy.proofs.Common.{length, lines_of, map, onto_line, refl, suc, sym, true, words_of, zero}
+use Rattle.sc_policy.proofs.Common.{ℕ, ◌&&◌, ◌++◌, ◌==◌, ◌∙◌, ◌∷◌, ◌≡◌}
 use Rattle.sc_policy.proofs.Spelling.{bound, made}
 use Rattle.std.proofs.Common.{append_assoc, codes, nat_lt, not, option_map}
 use Rattle.std.proofs.lemmas.Bool.{and_from, and_parts}
@@ -10,7 +10,7 @@ use Rattle.std.specs.List.{list_all, onto_first}
 use Rattle.std.specs.Prelude.{ℤ, pos, neg_ℤ}
 use Rattle.std.specs.Str.{all_ascii_digits}
 use Rattle.std.specs.Str.Parse.{digits_value}
-use Rattle.sc_base.specs.Prelude.{is_digit, is_name_byte, is_nondigit}
+use Rattle.sc_base.specs.Prelude.{is_name_byte, is_nondigit}
 unfoldable use Rattle.sc_base.specs.Prelude.{is_name}
 use Rattle.sc_base.proofs.Lists.{list_all_along}
 use Rattle.sc_number.specs.Numbers.{integer, number, number_within, when_within}
@@ -186,8 +186,16 @@ arg_is_plain None = tt
 arg_is_plain (Some arg) = (refl, test_is_plain (Some arg.test))
 
 pattern_is_plain : (pattern : Pattern) → IsPattern pattern → ArePlain (pattern_words pattern)
-pattern_is_plain (Call from to function arg) is = (refl, (who_is_plain from is.0, (who_is_plain to is.1,
-    (who_is_plain function is.2, arg_is_plain arg))))
+pattern_is_plain (Call from to function arg) is = (
+  refl,
+  (
+    who_is_plain from is.0,
+    (
+      who_is_plain to is.1,
+      (who_is_plain function is.2, arg_is_plain arg),
+    ),
+  ),
+)
 pattern_is_plain (Ret from to test) is = (refl, (who_is_plain from is.0, (who_is_plain to is.1, test_is_plain test)))
 pattern_is_plain (Out comp test) is = (refl, (who_is_plain comp is, test_is_plain test))
 pattern_is_plain (In comp test) is = (refl, (who_is_plain comp is, test_is_plain test))
@@ -208,8 +216,14 @@ goal_is_plain states (Some place) named = (refl, (state_is_plain states place na
 rule_is_plain : (states : List Text) (line : Text) (rule : Rule) → list_all is_name states ≡ true →
     IsRuleLine states line rule → is_plain line ≡ true
 rule_is_plain states line rule named is = line_is_plain line (written_plain (words_of line) (rule_words states rule)
-    is.words (refl, (state_is_plain states rule.state named, plain_append (pattern_words rule.pattern)
-    (goal_words states rule.goal) (pattern_is_plain rule.pattern is.pattern) (goal_is_plain states rule.goal named))))
+    is.words (
+      refl,
+      (
+        state_is_plain states rule.state named,
+        plain_append (pattern_words rule.pattern)
+            (goal_words states rule.goal) (pattern_is_plain rule.pattern is.pattern) (goal_is_plain states rule.goal named),
+      ),
+    ))
 
 rules_are_plain : (states lines : List Text) (rules : List Rule) → list_all is_name states ≡ true →
     AreRuleLines states lines rules → list_all is_plain lines ≡ true
@@ -225,7 +239,7 @@ policy_is_plain lines policy is =
     let states = map state_line policy.states in
     let first = all_append (λ byte. not (byte == 10)) (codes "policy ") policy.name refl (name_is_plain policy.name d.name) in
     let rest = all_append is_plain states d.rule_lines (names_are_plain (codes "state ") policy.states refl d.names)
-        (rules_are_plain policy.states d.rule_lines policy.rules d.names d.rules) in
+    (rules_are_plain policy.states d.rule_lines policy.rules d.names d.rules) in
     ap (list_all is_plain) (is.is ∙ ap (λ ls. ls ++ end_line ∷ []) d.is) ∙
     all_append is_plain (policy_line policy.name ∷ (states ++ d.rule_lines)) (end_line ∷ [])
     (and_from (is_plain (policy_line policy.name)) (list_all is_plain (states ++ d.rule_lines)) first rest) refl

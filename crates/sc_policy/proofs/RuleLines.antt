@@ -1,7 +1,7 @@
 -- A line is read as a rule exactly where it says that rule.
-use Rattle.sc_policy.proofs.Common.{Bool, IsTrue, List, None, Option, Some, Text, [], ap, arith, cond, drop, false, length}
-use Rattle.sc_policy.proofs.Common.{get_or, refl, subst, suc, sym, take, take-append-drop, true, words_of, zero, ℕ, ◌++◌, ◌<◌}
-use Rattle.sc_policy.proofs.Common.{◌∙◌, ◌∷◌, ◌≡◌, ◌≤◌}
+use Rattle.sc_policy.proofs.Common.{List, None, Option, Some, Text, [], ap, arith, cond, drop, length}
+use Rattle.sc_policy.proofs.Common.{get_or, refl, subst, suc, sym, take, take-append-drop, true, words_of, ℕ, ◌++◌, ◌<◌}
+use Rattle.sc_policy.proofs.Common.{◌∙◌, ◌∷◌, ◌≡◌}
 use Rattle.sc_policy.proofs.Spelling.{bound, either, made, maybe_arg_is, maybe_arg_says, maybe_test_is, maybe_test_says}
 use Rattle.sc_policy.proofs.Spelling.{who_is, who_says}
 use Rattle.std.proofs.Common.{bytes_eq, codes, nat_eq, option_and_then, option_map, ⊎_elim}
@@ -12,16 +12,14 @@ use Rattle.std.specs.Cmp.Lexicographic.{pointwise}
 use Rattle.sc_base.proofs.Lists.{position_of_only}
 use Rattle.sc_base.proofs.Texts.{bytes_eq_self, same_text}
 use Rattle.sc_base.specs.Prelude.{HasOneNumberEach, number_by_name}
-use Rattle.sc_policy.specs.Reading.{call_of, comp_of, ends_of, goal_of, goal_part, joined, maybe_arg_of, maybe_test_of}
+use Rattle.sc_policy.specs.Reading.{call_of, ends_of, goal_of, goal_part, joined, maybe_arg_of, maybe_test_of}
 use Rattle.sc_policy.specs.Reading.{pattern_count, pattern_of, pattern_part, pattern_with, ret_of, rule_of, who_of}
 use Rattle.sc_policy.specs.Rules.{IsGoal, IsPattern, IsRuleLine, IsWho}
 use Rattle.sc_policy.specs.Words.{AreWritten, Plain, Word, arg_words, goal_words, pattern_words, rule_words, state_name}
 use Rattle.sc_policy.specs.Words.{test_words, who_word}
-use Rattle.sc_policy.specs.declared.policy.ArgTest.{ArgTest}
 use Rattle.sc_policy.specs.declared.policy.Pattern.{Pattern}
 use Rattle.sc_policy.specs.declared.policy.Pattern.TheVariants.{Call, Ret, Out, In, End}
 use Rattle.sc_policy.specs.declared.policy.Rule.{Rule}
-use Rattle.sc_policy.specs.declared.policy.Test.{Test}
 use Rattle.sc_policy.specs.declared.policy.Who.{Who}
 
 -- ---- words in two parts
@@ -97,9 +95,9 @@ call_says comp [] p is = absurd (cc)
 call_says comp (to ∷ []) p is = absurd (cc)
 call_says comp (to ∷ function ∷ words) p is =
     let first = bound (λ to. option_and_then (λ function. option_map (λ arg. Call comp to function arg)
-        (maybe_arg_of words)) (who_of function)) (who_of to) p is in
+    (maybe_arg_of words)) (who_of function)) (who_of to) p is in
     let second = bound (λ function. option_map (λ arg. Call comp first.value function arg) (maybe_arg_of words))
-        (who_of function) p first.gives in
+    (who_of function) p first.gives in
     let third = made (λ arg. Call comp first.value second.value arg) (maybe_arg_of words) p second.gives in
     let to_is = who_says to first.value first.is in
     let function_is = who_says function second.value second.is in
@@ -291,9 +289,9 @@ rule_says states (on ∷ state ∷ kind ∷ []) rule is = absurd (cc)
 rule_says states (on ∷ state ∷ kind ∷ comp ∷ rest) rule is =
     let words = on ∷ state ∷ kind ∷ comp ∷ rest in
     let first = bound (λ comp. option_and_then (λ pattern. option_map (joined pattern) (ends_of states words))
-        (pattern_with comp words)) (who_of comp) rule is in
+    (pattern_with comp words)) (who_of comp) rule is in
     let second = bound (λ pattern. option_map (joined pattern) (ends_of states words))
-        (pattern_with first.value words) rule first.gives in
+    (pattern_with first.value words) rule first.gives in
     let third = made (joined second.value) (ends_of states words) rule second.gives in
     subst (λ r. SaysRule states words r) third.gives
     (all first.value second.value third.value first.is second.is third.is)
@@ -304,10 +302,10 @@ rule_says states (on ∷ state ∷ kind ∷ comp ∷ rest) rule is =
         (option_and_then (λ state. option_map (λ goal. (state, goal)) (goal_of states (goal_part kind rest)))
         (number_by_name states state)) None (Some ends)
         (λ same gives.
-          let first = bound (λ state. option_map (λ goal. (state, goal)) (goal_of states (goal_part kind rest)))
-              (number_by_name states state) ends gives in
-          let second = made (λ goal. (first.value, goal)) (goal_of states (goal_part kind rest)) ends first.gives in
-          (same, first.is ∙ ap (λ e. Some e.0) second.gives, second.is ∙ ap (λ e. Some e.1) second.gives))
+        let first = bound (λ state. option_map (λ goal. (state, goal)) (goal_of states (goal_part kind rest)))
+        (number_by_name states state) ends gives in
+        let second = made (λ goal. (first.value, goal)) (goal_of states (goal_part kind rest)) ends first.gives in
+        (same, first.is ∙ ap (λ e. Some e.0) second.gives, second.is ∙ ap (λ e. Some e.1) second.gives))
         (λ none. absurd (cc))
 
     all : (who : Who) (p : Pattern) (ends : ℕ × Option ℕ) → who_of comp ≡ Some who →
@@ -321,12 +319,18 @@ rule_says states (on ∷ state ∷ kind ∷ comp ∷ rest) rule is =
         let at = number_says states state ends.0 e.1 in
         let goal = goal_says states (goal_part kind rest) ends.1 e.2 in
         let parts = together (pattern_part kind rest) (goal_part kind rest) (last_words p) (goal_words states ends.1)
-            said.words goal.0 in
+        said.words goal.0 in
         let rest_words = subst (λ ws. AreWritten ws (last_words p ++ goal_words states ends.1))
-            (take-append-drop (pattern_count kind (length rest)) rest) parts in
+        (take-append-drop (pattern_count kind (length rest)) rest) parts in
         record {
-          words = (e.0, (at.0, subst (λ us. AreWritten (kind ∷ comp ∷ rest) (us ++ goal_words states ends.1))
-              (sym (pattern_words_are p)) (said.kind, (comp_says.0 ∙ ap who_word said.comp, rest_words))));
+          words = (
+            e.0,
+            (
+              at.0,
+              subst (λ us. AreWritten (kind ∷ comp ∷ rest) (us ++ goal_words states ends.1))
+                  (sym (pattern_words_are p)) (said.kind, (comp_says.0 ∙ ap who_word said.comp, rest_words)),
+            ),
+          );
           state = at.1;
           pattern = said.is comp_says.1;
           goal = goal.1;

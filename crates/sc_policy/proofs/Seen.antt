@@ -227,21 +227,31 @@ pub bad_line : (text : List ℕ) (at end : ℕ) (now : Progress) (number : ℕ) 
     IsNextLine text at end → after now (slice_range text at end) ≡ None → IsBadLine text number
 bad_line text at end now number is line stuck =
     let rest = lines_of (drop (end + 1) text) in
-    let are = is.lines ∙ ap (λ ls. is.seen ++ ls) line.line in
-    (suc (length is.seen), (record {
-      none = none_is_read (lines_of text) is.seen (slice_range text at end ∷ rest) now are is.read is.unclosed stuck;
-      some = omega arith;
-      before = begins_before (lines_of text) is.seen (slice_range text at end ∷ rest) now are is.read;
-      at = inl (begins_none (lines_of text) is.seen (slice_range text at end) rest now are is.read stuck);
-    }, is.counted))
+    let are = is.lines ∙ ap (λ ls. is.seen ++ ls) line.line in (
+      suc (length is.seen),
+      (
+        record {
+          none = none_is_read (lines_of text) is.seen (slice_range text at end ∷ rest) now are is.read is.unclosed stuck;
+          some = omega arith;
+          before = begins_before (lines_of text) is.seen (slice_range text at end ∷ rest) now are is.read;
+          at = inl (begins_none (lines_of text) is.seen (slice_range text at end) rest now are is.read stuck);
+        },
+        is.counted,
+      ),
+    )
 
 pub bad_end : (text : List ℕ) (at : ℕ) (now : Progress) (number : ℕ) → IsSeen text at now number →
     lines_of (drop at text) ≡ [] → IsBadLine text number
 bad_end text at now number is past =
-    let are = is.lines ∙ ap (λ ls. is.seen ++ ls) past in
-    (suc (length is.seen), (record {
-      none = none_is_read (lines_of text) is.seen [] now are is.read is.unclosed tt;
-      some = omega arith;
-      before = begins_before (lines_of text) is.seen [] now are is.read;
-      at = inr (ap (λ ls. suc (length ls)) (sym (are ∙ append-nil is.seen)));
-    }, is.counted))
+    let are = is.lines ∙ ap (λ ls. is.seen ++ ls) past in (
+      suc (length is.seen),
+      (
+        record {
+          none = none_is_read (lines_of text) is.seen [] now are is.read is.unclosed tt;
+          some = omega arith;
+          before = begins_before (lines_of text) is.seen [] now are is.read;
+          at = inr (ap (λ ls. suc (length ls)) (sym (are ∙ append-nil is.seen)));
+        },
+        is.counted,
+      ),
+    )

@@ -1,19 +1,17 @@
 -- What the words of a rule say, and the words that say it.
 use Rattle.sc_policy.proofs.Common.{Bool, IsTrue, List, None, Option, Some, Text, [], ap, arith, cond, false, length}
-use Rattle.sc_policy.proofs.Common.{◌&&◌, eqb-true, refl, subst, suc, sym, true, zero, ℕ, ◌<◌, ◌==◌, ◌∙◌, ◌∷◌, ◌≡◌, ◌≤◌}
+use Rattle.sc_policy.proofs.Common.{◌&&◌, eqb-true, refl, subst, suc, true, zero, ℕ, ◌==◌, ◌∙◌, ◌∷◌, ◌≡◌, ◌≤◌}
 use Rattle.std.proofs.Common.{bytes_eq, codes, nat_le, nat_lt, option_and_then, option_map}
 use Rattle.std.specs.Prelude.{ℤ, pos, neg_ℤ}
-use Rattle.std.proofs.lemmas.Bool.{and_parts}
 use Rattle.std.proofs.Common.{le-leb}
-use Rattle.std.specs.Str.{all_ascii_digits}
 use Rattle.std.specs.Str.Parse.{digits_value}
-use Rattle.sc_base.proofs.Texts.{bytes_eq_self, same_text}
+use Rattle.sc_base.proofs.Texts.{same_text}
 use Rattle.sc_base.specs.Prelude.{name_of}
 unfoldable use Rattle.sc_base.specs.Prelude.{is_name}
 use Rattle.sc_number.specs.Numbers.{integer, number, number_within, when_within}
 use Rattle.sc_policy.specs.Reading.{arg_of, compare_of, maybe_arg_of, maybe_test_of, test_of, who_of}
 use Rattle.sc_policy.specs.Rules.{IsArgTest, IsWho}
-use Rattle.sc_policy.specs.Words.{AreWritten, Decimal, Plain, arg_words, compare_word, test_words, who_word}
+use Rattle.sc_policy.specs.Words.{AreWritten, Decimal, arg_words, compare_word, test_words, who_word}
 use Rattle.sc_policy.specs.declared.policy.ArgTest.{ArgTest}
 use Rattle.sc_policy.specs.declared.policy.Compare.{Compare}
 use Rattle.sc_policy.specs.declared.policy.Compare.TheVariants.{Equal, NotEqual, Less, LessEqual, Greater, GreaterEqual}
@@ -137,8 +135,10 @@ within_says low high n m = go (nat_le low n) refl (nat_le n high) refl
   where
     least : nat_le low n ≡ true → low ≤ n
     least is = grind arith
+
     most : nat_le n high ≡ true → n ≤ high
     most is = grind arith
+
     go : (a : Bool) → nat_le low n ≡ a → (b : Bool) → nat_le n high ≡ b → cond (a && b) (Some n) None ≡ Some m →
         (n ≡ m) × (low ≤ n) × (n ≤ high)
     go true few true many is = (cc, least few, most many)
@@ -187,7 +187,7 @@ number_of_integer (byte ∷ rest) n is some = go (byte == 45) refl is
         let found = made pos (number_within 0 2147483647 (byte ∷ rest)) (pos n) is in
         let whole = bound (when_within 0 2147483647) (number (byte ∷ rest)) found.value found.is in
         whole.is ∙ ap (λ k. Some k) ((within_says 0 2147483647 whole.value found.value whole.gives).0 ∙
-            same_number found.value n found.gives)
+        same_number found.value n found.gives)
 
 abbrev arg_with : ℕ → Test → ArgTest
 arg_with place test = record { place = place; test = test }
@@ -204,8 +204,10 @@ arg_says text op value arg is =
     let least : 1 ≤ first.value = omega (arith, same, range.1) in
     let most : first.value ≤ 8 = omega (arith, same, range.2) in
     subst (λ a. AreWritten (text ∷ op ∷ value ∷ []) (Decimal (pos a.place) ∷ test_words (Some a.test)) × IsArgTest (Some a))
-    second.gives ((integer_of_number text first.value is_number most, test_says op value second.value second.is),
-      (least, most))
+    second.gives (
+      (integer_of_number text first.value is_number most, test_says op value second.value second.is),
+      (least, most),
+    )
 
 arg_is : (text op value : Text) (arg : ArgTest) →
     AreWritten (text ∷ op ∷ value ∷ []) (Decimal (pos arg.place) ∷ test_words (Some arg.test)) → IsArgTest (Some arg) →

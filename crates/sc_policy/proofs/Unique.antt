@@ -11,7 +11,7 @@ use Rattle.sc_policy.specs.Policies.{BeginsPolicy, IsBadAt, IsPolicy, IsPolicyRe
 use Rattle.sc_policy.specs.Reading.{after, after_all}
 use Rattle.sc_policy.specs.declared.policy.Policy.{Policy}
 use Rattle.sc_policy.specs.declared.progress.Progress.{Progress}
-use Rattle.sc_policy.specs.declared.progress.Progress.TheVariants.{Start, Titled, Open, Closed}
+use Rattle.sc_policy.specs.declared.progress.Progress.TheVariants.{Start, Closed}
 use Rattle.sc_policy.specs.declared.read.PolicyRead.{PolicyRead}
 
 -- ---- one policy
@@ -62,8 +62,8 @@ one_read bytes one other first second =
     let first_read = policy_is_read first.lines one.policy first.is in
     let second_read = policy_is_read second.lines other.policy second.is in
     let lines = same_closed Start one.policy other.policy first.lines second.lines (lines_of (drop one.rest bytes))
-        (lines_of (drop other.rest bytes)) first_read second_read
-        (sym (lines_are bytes one first) ∙ lines_are bytes other second) in
+    (lines_of (drop other.rest bytes)) first_read second_read
+    (sym (lines_are bytes one first) ∙ lines_are bytes other second) in
     let closed : ◌≡◌ {A = Option Progress} (Some (Closed one.policy)) (Some (Closed other.policy)) =
     sym first_read ∙ ap (after_all (Some Start)) lines ∙ second_read in
     let policy : one.policy ≡ other.policy = cc in
