@@ -1,15 +1,15 @@
 -- Bytes that are cut at their spaces into words, and at their newlines into lines.
-use Rattle.sc_policy.proofs.Common.{Bool, List, [], ap, arith, bytes_of, cond, drop, drop-cons, drop-drop, false, get_or}
-use Rattle.sc_policy.proofs.Common.{eq-eqb, length, lines_of, ne_eqb, onto_line, refl, slice_range, suc, sym, take}
-use Rattle.sc_policy.proofs.Common.{take-append-drop, true, words_of, zero, ℕ, ◌++◌, ◌+◌, ◌-◌, ◌<◌, ◌==◌, ◌∙◌, ◌∷◌, ◌≡◌}
-use Rattle.sc_policy.proofs.Common.{◌≤◌, length-take-le, length-drop}
-use Rattle.std.specs.List.{onto_first, slice_split}
+use Rattle.sc_policy.proofs.Common.{List, [], ap, arith, cond, drop, drop-cons, drop-drop, false, get_or}
+use Rattle.sc_policy.proofs.Common.{length, lines_of, ne_eqb, onto_line, refl, slice_range, suc, sym}
+use Rattle.sc_policy.proofs.Common.{take-append-drop, words_of, zero, ℕ, ◌++◌, ◌+◌, ◌-◌, ◌<◌, ◌==◌, ◌∙◌, ◌∷◌, ◌≡◌}
+use Rattle.sc_policy.proofs.Common.{◌≤◌, length-drop}
+use Rattle.std.specs.List.{onto_first}
 use Rattle.std.proofs.Common.{append_assoc, get_or-take, get_or-drop, length-take, map}
 use Rattle.std.proofs.Common.{⊎_elim}
 use Rattle.std.proofs.lemmas.Bool.{cases_lt}
 use Rattle.std.specs.Borrow.{Bor}
 use Rattle.sc_base.proofs.Lists.{take_all}
-use Rattle.std.proofs.lemmas.List.{drop_all, map-append}
+use Rattle.std.proofs.lemmas.List.{map-append}
 
 -- the byte isn't there
 pub record Lacks (byte : ℕ) (xs : List ℕ) : Type 0 where

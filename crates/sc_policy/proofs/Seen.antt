@@ -1,6 +1,6 @@
 -- What was read where the reading of a policy comes to a line, and what ends it.
-use Rattle.sc_policy.proofs.Common.{Bool, List, None, Option, Some, Text, [], ap, arith, bytes_of, cond, drop, false, get_or}
-use Rattle.sc_policy.proofs.Common.{length, length-append, lines_of, min, refl, slice_range, subst, suc, sym, take, true}
+use Rattle.sc_policy.proofs.Common.{List, None, Option, Some, Text, [], ap, arith, bytes_of, drop, get_or}
+use Rattle.sc_policy.proofs.Common.{length, length-append, lines_of, min, refl, slice_range, subst, suc, sym, take}
 use Rattle.sc_policy.proofs.Common.{zero, ℕ, ◌++◌, ◌+◌, ◌-◌, ◌<◌, ◌∙◌, ◌∷◌, ◌≡◌, ◌≤◌}
 use Rattle.std.proofs.Common.{append-nil, append_assoc, inl, inr, option_and_then}
 use Rattle.std.proofs.lemmas.List.{take_more}

@@ -1,4 +1,4 @@
-use Rattle.sc_policy.proofs.Common.{arith, refl}
+use Rattle.sc_policy.proofs.Common.{refl}
 use Rattle.sc_policy.proofs.Cuts.{cut_more, cut_same, last_cut}
 use Rattle.sc_policy.proofs.words.words.Goals as goal
 use Rattle.sc_policy.proofs.words.words.Goals.{then-line-at-eq32+in_ok-push, else-line-at-eq32}
