@@ -1,5 +1,6 @@
 -- The names that several proofs of this crate cite, passed on from one place. Declares nothing.
-pub use Rattle.std.proofs.Common.{Bool, IsTrue, List, None, Option, Some, [], ap, arith, cond, drop, drop-cons, drop-drop}
+pub use Rattle.std.proofs.Common.{Bool, IsTrue, List, None, Option, Some, [], ap, arith, cond, drop, drop-cons}
+pub use Rattle.std.proofs.Common.{drop-drop}
 pub use Rattle.std.proofs.Common.{eq-eqb, eqb-true, false, get_or, length, length-append, length-drop, map}
 pub use Rattle.std.proofs.Common.{length-take-le, min, ne_eqb, refl, slice_range, subst, suc, sym, take}
 pub use Rattle.std.proofs.Common.{take-append-drop, true, zero, ℕ, ◌&&◌, ◌++◌, ◌+◌, ◌-◌, ◌<◌, ◌==◌, ◌∙◌, ◌∷◌, ◌≡◌, ◌≤◌}

@@ -1,15 +1,14 @@
 -- Bytes that are cut at their spaces into words, and at their newlines into lines.
-use Rattle.sc_policy.proofs.Common.{List, [], ap, arith, cond, drop, drop-cons, drop-drop, false, get_or}
-use Rattle.sc_policy.proofs.Common.{length, lines_of, ne_eqb, onto_line, refl, slice_range, suc, sym}
+use Rattle.sc_policy.proofs.Common.{List, [], ap, arith, cond, drop, drop-cons, drop-drop, false, get_or, length}
+use Rattle.sc_policy.proofs.Common.{length-drop, lines_of, map, ne_eqb, onto_line, refl, slice_range, suc, sym}
 use Rattle.sc_policy.proofs.Common.{take-append-drop, words_of, zero, ℕ, ◌++◌, ◌+◌, ◌-◌, ◌<◌, ◌==◌, ◌∙◌, ◌∷◌, ◌≡◌}
-use Rattle.sc_policy.proofs.Common.{◌≤◌, length-drop}
-use Rattle.std.specs.List.{onto_first}
-use Rattle.std.proofs.Common.{append_assoc, get_or-take, get_or-drop, length-take, map}
-use Rattle.std.proofs.Common.{⊎_elim}
+use Rattle.sc_policy.proofs.Common.{◌≤◌}
+use Rattle.std.proofs.Common.{append_assoc, get_or-take, get_or-drop, length-take, ⊎_elim}
 use Rattle.std.proofs.lemmas.Bool.{cases_lt}
-use Rattle.std.specs.Borrow.{Bor}
-use Rattle.sc_base.proofs.Lists.{take_all}
 use Rattle.std.proofs.lemmas.List.{map-append}
+use Rattle.std.specs.Borrow.{Bor}
+use Rattle.std.specs.List.{onto_first}
+use Rattle.sc_base.proofs.Lists.{take_all}
 
 -- the byte isn't there
 pub record Lacks (byte : ℕ) (xs : List ℕ) : Type 0 where
@@ -69,7 +68,8 @@ lacks_range byte xs i j between = record { at = at }
         (sym (get_or-take (j - i) (drop i xs) k 0 below ∙ get_or-drop i xs k 0) ∙ is)
 
 pub next_word : (line : List ℕ) (start at : ℕ) → start ≤ at → at < length line → get_or line at 0 ≡ 32 →
-    LacksBetween 32 line start at → words_of (drop start line) ≡ slice_range line start at ∷ words_of (drop (at + 1) line)
+    LacksBetween 32 line start at →
+    words_of (drop start line) ≡ slice_range line start at ∷ words_of (drop (at + 1) line)
 next_word line start at from within is between =
     ap words_of (cut_at line start at from within) ∙
     ap (λ byte. words_of (slice_range line start at ++ byte ∷ drop (at + 1) line)) is ∙
@@ -121,12 +121,14 @@ to_the_end : (xs : List ℕ) (i : ℕ) → slice_range xs i (length xs) ≡ drop
 to_the_end xs i = take_all (length xs - i) (drop i xs) (omega (arith, length-drop i xs))
 
 pub last_cut : (line : List ℕ) (words more : List (Bor (List ℕ))) (word : Bor (List ℕ)) (start at : ℕ) →
-    IsCut line words start at → length line ≤ at → word.now ≡ slice_range line start (length line) → more ≡ words ++ word ∷ [] →
+    IsCut line words start at → length line ≤ at → word.now ≡ slice_range line start (length line) →
+    more ≡ words ++ word ∷ [] →
     map (λ (word : Bor (List ℕ)). word.now) more ≡ words_of line
 last_cut line words more word start at cut past same all =
     let now = λ (word : Bor (List ℕ)). word.now in
     ap (map now) all ∙ map-append now words (word ∷ []) ∙ ap (λ w. map now words ++ w ∷ [])
-    (same ∙ to_the_end line start) ∙ ap (λ ws. map now words ++ ws) (sym (split_none (drop start line) lacks)) ∙ cut.read
+    (same ∙ to_the_end line start) ∙
+    ap (λ ws. map now words ++ ws) (sym (split_none (drop start line) lacks)) ∙ cut.read
   where
     lacks : Lacks 32 (drop start line)
     lacks = record {

@@ -1,30 +1,25 @@
 -- What lines are read as is a policy exactly where the lines are one.
-use Rattle.sc_policy.proofs.Common.{Bool, IsTrue, List, None, Option, Some, Text, [], ap, arith, cond, drop, false, length}
-use Rattle.sc_policy.proofs.Common.{◌&&◌}
-use Rattle.sc_policy.proofs.Common.{map, refl, subst, sym, take, true, ℕ, ◌++◌, ◌+◌, ◌<◌, ◌∙◌, ◌∷◌, ◌≡◌, ◌≤◌}
-use Rattle.std.proofs.Common.{append-nil, append_assoc, codes, option_and_then, rules}
-use Rattle.std.specs.List.{IsDistinct}
-unfoldable use Rattle.sc_base.specs.Prelude.{is_name}
-use Rattle.sc_policy.specs.Policies.{BeginsPolicy, IsDraft, IsPolicy, end_line, policy_line, state_line}
-use Rattle.sc_policy.specs.Reading.{after, after_all, begun, name_after}
-use Rattle.std.proofs.Common.{bytes_eq, nat_eq, option_map, take-append-drop}
-use Rattle.std.proofs.Math.Seq.{drop-append_seam, take-append_seam}
-use Rattle.std.specs.List.{starts_with}
-use Rattle.sc_base.proofs.Texts.{bytes_eq_self, same_text}
-use Rattle.sc_base.specs.Prelude.{name_of}
-use Rattle.sc_policy.specs.Reading.{continued, new_state, rule_of, ruled, stated_or_ruled, with_rule, with_state}
-use Rattle.sc_policy.specs.Rules.{AreRuleLines, IsRuleLine}
-use Rattle.sc_policy.specs.Words.{AreWritten, rule_words}
+use Rattle.sc_policy.proofs.Common.{Bool, IsTrue, List, None, Option, Some, Text, [], ap, arith, cond, drop, eqb-true}
+use Rattle.sc_policy.proofs.Common.{false, length, length-append, map, refl, subst, sym, take, take-append-drop, true}
+use Rattle.sc_policy.proofs.Common.{words_of, ℕ, ◌&&◌, ◌++◌, ◌+◌, ◌<◌, ◌==◌, ◌∙◌, ◌∷◌, ◌≡◌, ◌≤◌}
 use Rattle.sc_policy.proofs.RuleLines.{line_is, line_says}
 use Rattle.sc_policy.proofs.Spelling.{bound, made}
-use Rattle.std.proofs.Common.{◌||◌, ◌==◌, eqb-true, length-append, nat_le, not}
+use Rattle.std.proofs.Common.{append-nil, append_assoc, bytes_eq, codes, nat_eq, nat_le, not, option_and_then}
+use Rattle.std.proofs.Common.{option_map, rules, ◌||◌}
+use Rattle.std.proofs.Math.Seq.{drop-append_seam, take-append_seam}
 use Rattle.std.proofs.lemmas.Bool.{and_parts, lt-leb}
 use Rattle.std.proofs.lemmas.Cmp.{nat_list_eq_equiv}
 use Rattle.std.proofs.lemmas.List.{map-append}
 use Rattle.std.proofs.lemmas.Map.Keys.{IsDistinct-push}
-use Rattle.std.specs.List.{AllByRecursion, list_all}
-use Rattle.sc_base.specs.Prelude.{HasOneNumberEach, is_numbered}
-use Rattle.sc_policy.proofs.Common.{words_of}
+use Rattle.std.specs.List.{AllByRecursion, IsDistinct, list_all, starts_with}
+use Rattle.sc_base.proofs.Texts.{bytes_eq_self, same_text}
+use Rattle.sc_base.specs.Prelude.{HasOneNumberEach, is_numbered, name_of}
+unfoldable use Rattle.sc_base.specs.Prelude.{is_name}
+use Rattle.sc_policy.specs.Policies.{BeginsPolicy, IsDraft, IsPolicy, end_line, policy_line, state_line}
+use Rattle.sc_policy.specs.Reading.{after, after_all, begun, continued, name_after, new_state, rule_of, ruled}
+use Rattle.sc_policy.specs.Reading.{stated_or_ruled, with_rule, with_state}
+use Rattle.sc_policy.specs.Rules.{AreRuleLines, IsRuleLine}
+use Rattle.sc_policy.specs.Words.{AreWritten, rule_words}
 use Rattle.sc_policy.specs.declared.policy.Policy.{Policy}
 use Rattle.sc_policy.specs.declared.policy.Rule.{Rule}
 use Rattle.sc_policy.specs.declared.progress.Progress.{Progress}
@@ -315,7 +310,8 @@ few_so n most few = lt-leb most n few
 
 state_read : (name : Text) (before : List Text) (state : Text) → IsTrue (is_name state) → length before < 256 →
     is_numbered before state ≡ false →
-    after (Open (policy_with name before [])) (state_line state) ≡ Some (Open (policy_with name (before ++ state ∷ []) []))
+    after (Open (policy_with name before [])) (state_line state) ≡
+    Some (Open (policy_with name (before ++ state ∷ []) []))
 state_read name before state named few new =
     let now = policy_with name before [] in
     let line = state_line state in
@@ -330,7 +326,8 @@ states_read : (name : Text) (before more : List Text) → IsTrue (list_all is_na
     HasOneNumberEach (before ++ more) → length before + length more ≤ 256 →
     after_all (Some (Open (policy_with name before []))) (map state_line more) ≡
     Some (Open (policy_with name (before ++ more) []))
-states_read name before [] named distinct few = ap (λ xs. Some (Open (policy_with name xs []))) (sym (append-nil before))
+states_read name before [] named distinct few =
+    ap (λ xs. Some (Open (policy_with name xs []))) (sym (append-nil before))
 states_read name before (state ∷ more) named distinct few =
     let parts = and_parts (is_name state) (list_all is_name more) named in
     let together = append_assoc before (state ∷ []) more in
@@ -357,7 +354,8 @@ rule_read : (name : Text) (states : List Text) (before : List Rule) (line : Text
     after (Open (policy_with name states before)) line ≡ Some (Open (policy_with name states (before ++ rule ∷ [])))
 rule_read name states before line rule distinct few is =
     not_end (bytes_eq line end_line) refl ∙ no_state (new_state now line) refl ∙
-    ap (λ b. cond b None (option_map (with_rule now) (rule_of states (words_of line)))) (few_so (length before) 4096 few) ∙
+    ap (λ b. cond b None (option_map (with_rule now) (rule_of states (words_of line))))
+    (few_so (length before) 4096 few) ∙
     ap (option_map (with_rule now)) (line_is states line rule distinct is)
   where
     now : Policy
@@ -368,7 +366,8 @@ rule_read name states before line rule distinct few is =
         (stated_or_ruled (policy_with name states before) line (new_state (policy_with name states before) line)) ≡
         stated_or_ruled (policy_with name states before) line (new_state (policy_with name states before) line)
     not_end true ended =
-        let words = subst (λ l. AreWritten (words_of l) (rule_words states rule)) (same_text line end_line ended) is.words in
+        let words = subst (λ l. AreWritten (words_of l) (rule_words states rule)) (same_text line end_line ended)
+        is.words in
         absurd (differ (codes "policy") (codes "on") refl words.0)
     not_end false other = refl
 

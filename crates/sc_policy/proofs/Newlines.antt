@@ -1,6 +1,6 @@
 -- No line of a policy has a newline, so the bytes of lines are cut into these lines again.
-use Rattle.sc_policy.proofs.Common.{Bool, IsTrue, List, None, Option, Some, Text, [], ap, bytes_of, cond, eqb-true, false}
-use Rattle.sc_policy.proofs.Common.{length, lines_of, map, onto_line, refl, suc, sym, true, words_of, zero}
+use Rattle.sc_policy.proofs.Common.{Bool, IsTrue, List, None, Option, Some, Text, [], ap, bytes_of, cond, eqb-true}
+use Rattle.sc_policy.proofs.Common.{false, length, lines_of, map, onto_line, refl, suc, sym, true, words_of, zero}
 use Rattle.sc_policy.proofs.Common.{ℕ, ◌&&◌, ◌++◌, ◌==◌, ◌∙◌, ◌∷◌, ◌≡◌}
 use Rattle.sc_policy.proofs.Spelling.{bound, made}
 use Rattle.std.proofs.Common.{append_assoc, codes, nat_lt, not, option_map}
@@ -99,7 +99,8 @@ digits_are_plain (byte ∷ rest) digits =
 number_is_plain : (low high : ℕ) (text : Text) (n : ℕ) → number_within low high text ≡ Some n → is_plain text ≡ true
 number_is_plain low high text n is =
     let found = bound (when_within low high) (number text) n is in
-    digits_are_plain text (go (nat_lt 0 (length text)) (all_ascii_digits text) (digits_value 10 text) found.value found.is)
+    digits_are_plain text
+    (go (nat_lt 0 (length text)) (all_ascii_digits text) (digits_value 10 text) found.value found.is)
   where
     go : (a b : Bool) (value other : ℕ) → cond (a && b) (Some value) None ≡ Some other → b ≡ true
     go true true value other is = refl
@@ -221,7 +222,8 @@ rule_is_plain states line rule named is = line_is_plain line (written_plain (wor
       (
         state_is_plain states rule.state named,
         plain_append (pattern_words rule.pattern)
-            (goal_words states rule.goal) (pattern_is_plain rule.pattern is.pattern) (goal_is_plain states rule.goal named),
+            (goal_words states rule.goal) (pattern_is_plain rule.pattern is.pattern)
+            (goal_is_plain states rule.goal named),
       ),
     ))
 
@@ -237,7 +239,8 @@ pub policy_is_plain : (lines : List Text) (policy : Policy) → IsPolicy lines p
 policy_is_plain lines policy is =
     let d = is.drafted in
     let states = map state_line policy.states in
-    let first = all_append (λ byte. not (byte == 10)) (codes "policy ") policy.name refl (name_is_plain policy.name d.name) in
+    let first = all_append (λ byte. not (byte == 10)) (codes "policy ") policy.name refl
+    (name_is_plain policy.name d.name) in
     let rest = all_append is_plain states d.rule_lines (names_are_plain (codes "state ") policy.states refl d.names)
     (rules_are_plain policy.states d.rule_lines policy.rules d.names d.rules) in
     ap (list_all is_plain) (is.is ∙ ap (λ ls. ls ++ end_line ∷ []) d.is) ∙

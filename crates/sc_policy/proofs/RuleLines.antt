@@ -24,7 +24,7 @@ use Rattle.sc_policy.specs.declared.policy.Who.{Who}
 
 -- ---- words in two parts
 
-pub split : (words : List Text) (us vs : List Word) → AreWritten words (us ++ vs) →
+split : (words : List Text) (us vs : List Word) → AreWritten words (us ++ vs) →
     AreWritten (take (length us) words) us × AreWritten (drop (length us) words) vs
 split words [] vs written = (tt, written)
 split [] (u ∷ us) vs written = absurd written
@@ -224,7 +224,8 @@ goal_says states (word ∷ []) goal is =
         let it : ◌≡◌ {A = Option ℕ} None goal = cc in
         subst (λ g. AreWritten (word ∷ []) (goal_words states g) × IsGoal (length states) g) it ((same, tt), tt)
 goal_says states (word ∷ state ∷ []) goal is =
-    either word (codes "to") (option_map Some (number_by_name states state)) None (Some goal) led (λ none. absurd (cc)) is
+    either word (codes "to") (option_map Some (number_by_name states state)) None (Some goal) led
+    (λ none. absurd (cc)) is
   where
     led : word ≡ codes "to" → option_map Some (number_by_name states state) ≡ Some goal →
         AreWritten (word ∷ state ∷ []) (goal_words states goal) × IsGoal (length states) goal
@@ -275,7 +276,7 @@ count_is states (End comp (Some test)) (Some place) = refl
 -- ---- rules
 
 -- the words that say a rule
-pub record SaysRule (states texts : List Text) (rule : Rule) : Type 0 where
+record SaysRule (states texts : List Text) (rule : Rule) : Type 0 where
   pub words : AreWritten texts (rule_words states rule)
   pub state : rule.state < length states
   pub pattern : IsPattern rule.pattern
@@ -297,7 +298,8 @@ rule_says states (on ∷ state ∷ kind ∷ comp ∷ rest) rule is =
     (all first.value second.value third.value first.is second.is third.is)
   where
     ended : (ends : ℕ × Option ℕ) → ends_of states (on ∷ state ∷ kind ∷ comp ∷ rest) ≡ Some ends →
-        (on ≡ codes "on") × (number_by_name states state ≡ Some ends.0) × (goal_of states (goal_part kind rest) ≡ Some ends.1)
+        (on ≡ codes "on") × (number_by_name states state ≡ Some ends.0) ×
+        (goal_of states (goal_part kind rest) ≡ Some ends.1)
     ended ends = either on (codes "on")
         (option_and_then (λ state. option_map (λ goal. (state, goal)) (goal_of states (goal_part kind rest)))
         (number_by_name states state)) None (Some ends)
@@ -339,7 +341,8 @@ rule_says states (on ∷ state ∷ kind ∷ comp ∷ rest) rule is =
 rule_is : (states words : List Text) (rule : Rule) → HasOneNumberEach states → SaysRule states words rule →
     rule_of states words ≡ Some rule
 rule_is states words rule distinct says = go words (subst
-    (λ us. AreWritten words (Plain (codes "on") ∷ Plain (state_name states rule.state) ∷ (us ++ goal_words states rule.goal)))
+    (λ us. AreWritten words
+    (Plain (codes "on") ∷ Plain (state_name states rule.state) ∷ (us ++ goal_words states rule.goal)))
     (pattern_words_are rule.pattern) says.words)
   where
     go : (words : List Text) → AreWritten words (Plain (codes "on") ∷ Plain (state_name states rule.state) ∷

@@ -4,11 +4,11 @@ use Rattle.sc_policy.proofs.Common.{length, length-append, lines_of, min, refl, 
 use Rattle.sc_policy.proofs.Common.{zero, ℕ, ◌++◌, ◌+◌, ◌-◌, ◌<◌, ◌∙◌, ◌∷◌, ◌≡◌, ◌≤◌}
 use Rattle.std.proofs.Common.{append-nil, append_assoc, inl, inr, option_and_then}
 use Rattle.std.proofs.lemmas.List.{take_more}
+use Rattle.std.specs.Prelude.{Err, IsErrOf}
 use Rattle.sc_base.proofs.Lists.{take_prefix}
 use Rattle.sc_policy.proofs.Drafts.{IsReached, after_more, begins, nothing_after, policy_is_read, reached_more}
 use Rattle.sc_policy.specs.Policies.{BeginsPolicy, IsBadAt, IsPolicy, IsPolicyRead}
 use Rattle.sc_policy.specs.Reading.{after, after_all}
-use Rattle.std.specs.Prelude.{Err, IsErrOf}
 use Rattle.sc_policy.specs.declared.fault.PolicyFault.{PolicyFault}
 use Rattle.sc_policy.specs.declared.fault.PolicyFault.TheVariants.{Bad}
 use Rattle.sc_policy.specs.declared.policy.Policy.{Policy}
@@ -231,7 +231,8 @@ bad_line text at end now number is line stuck =
       suc (length is.seen),
       (
         record {
-          none = none_is_read (lines_of text) is.seen (slice_range text at end ∷ rest) now are is.read is.unclosed stuck;
+          none = none_is_read (lines_of text) is.seen (slice_range text at end ∷ rest) now are is.read is.unclosed
+              stuck;
           some = omega arith;
           before = begins_before (lines_of text) is.seen (slice_range text at end ∷ rest) now are is.read;
           at = inl (begins_none (lines_of text) is.seen (slice_range text at end) rest now are is.read stuck);

@@ -1,9 +1,8 @@
 -- What the words of a rule say, and the words that say it.
-use Rattle.sc_policy.proofs.Common.{Bool, IsTrue, List, None, Option, Some, Text, [], ap, arith, cond, false, length}
-use Rattle.sc_policy.proofs.Common.{◌&&◌, eqb-true, refl, subst, suc, true, zero, ℕ, ◌==◌, ◌∙◌, ◌∷◌, ◌≡◌, ◌≤◌}
-use Rattle.std.proofs.Common.{bytes_eq, codes, nat_le, nat_lt, option_and_then, option_map}
+use Rattle.sc_policy.proofs.Common.{Bool, IsTrue, List, None, Option, Some, Text, [], ap, arith, cond, eqb-true}
+use Rattle.sc_policy.proofs.Common.{false, length, refl, subst, suc, true, zero, ℕ, ◌&&◌, ◌==◌, ◌∙◌, ◌∷◌, ◌≡◌, ◌≤◌}
+use Rattle.std.proofs.Common.{bytes_eq, codes, le-leb, nat_le, nat_lt, option_and_then, option_map}
 use Rattle.std.specs.Prelude.{ℤ, pos, neg_ℤ}
-use Rattle.std.proofs.Common.{le-leb}
 use Rattle.std.specs.Str.Parse.{digits_value}
 use Rattle.sc_base.proofs.Texts.{same_text}
 use Rattle.sc_base.specs.Prelude.{name_of}
@@ -83,7 +82,8 @@ compared word one op more later = either word (compare_word one) (Some one) more
 
 compare_says : (word : Text) (op : Compare) → compare_of word ≡ Some op → word ≡ compare_word op
 compare_says word op = compared word Equal op _ (compared word NotEqual op _ (compared word Less op _
-    (compared word LessEqual op _ (compared word Greater op _ (compared word GreaterEqual op None (λ is. absurd (cc)))))))
+    (compared word LessEqual op _ (compared word Greater op _
+    (compared word GreaterEqual op None (λ is. absurd (cc)))))))
 
 compare_is : (op : Compare) → compare_of (compare_word op) ≡ Some op
 compare_is Equal = refl
@@ -112,7 +112,8 @@ test_is op value test written =
 
 pub maybe_test_says : (words : List Text) (test : Option Test) → maybe_test_of words ≡ Some test →
     AreWritten words (test_words test)
-maybe_test_says [] test is = let it : ◌≡◌ {A = Option Test} None test = cc in subst (λ t. AreWritten [] (test_words t)) it tt
+maybe_test_says [] test is =
+    let it : ◌≡◌ {A = Option Test} None test = cc in subst (λ t. AreWritten [] (test_words t)) it tt
 maybe_test_says (op ∷ []) test is = absurd (cc)
 maybe_test_says (op ∷ value ∷ []) test is =
     let found = made {A = Test} Some (test_of op value) test is in
@@ -203,7 +204,8 @@ arg_says text op value arg is =
     let is_number : number text ≡ Some first.value = whole.is ∙ ap (λ k. Some k) same in
     let least : 1 ≤ first.value = omega (arith, same, range.1) in
     let most : first.value ≤ 8 = omega (arith, same, range.2) in
-    subst (λ a. AreWritten (text ∷ op ∷ value ∷ []) (Decimal (pos a.place) ∷ test_words (Some a.test)) × IsArgTest (Some a))
+    subst (λ a. AreWritten (text ∷ op ∷ value ∷ []) (Decimal (pos a.place) ∷ test_words (Some a.test)) ×
+    IsArgTest (Some a))
     second.gives (
       (integer_of_number text first.value is_number most, test_says op value second.value second.is),
       (least, most),
@@ -213,7 +215,8 @@ arg_is : (text op value : Text) (arg : ArgTest) →
     AreWritten (text ∷ op ∷ value ∷ []) (Decimal (pos arg.place) ∷ test_words (Some arg.test)) → IsArgTest (Some arg) →
     arg_of text op value ≡ Some arg
 arg_is text op value arg written range =
-    ap (λ o. option_and_then (λ place. option_map (arg_with place) (test_of op value)) (option_and_then (when_within 1 8) o))
+    ap (λ o. option_and_then (λ place. option_map (arg_with place) (test_of op value))
+    (option_and_then (when_within 1 8) o))
     (number_of_integer text arg.place written.0 range.0) ∙
     ap (option_and_then (λ place. option_map (arg_with place) (test_of op value)))
     (within_is 1 8 arg.place range.0 range.1) ∙

@@ -1,6 +1,8 @@
 -- Bytes begin with one policy at most, and where they begin with one no line is bad.
-use Rattle.sc_policy.proofs.Common.{List, None, Option, Some, Text, [], ap, arith, bytes_of, drop, length, length-take-le}
-use Rattle.sc_policy.proofs.Common.{lines_of, refl, subst, suc, sym, take, take-append-drop, zero, ℕ, ◌++◌, ◌-◌, ◌<◌, ◌∙◌}
+use Rattle.sc_policy.proofs.Common.{List, None, Option, Some, Text, [], ap, arith, bytes_of, drop, length}
+use Rattle.sc_policy.proofs.Common.{length-take-le}
+use Rattle.sc_policy.proofs.Common.{lines_of, refl, subst, suc, sym, take, take-append-drop, zero, ℕ, ◌++◌, ◌-◌, ◌<◌}
+use Rattle.sc_policy.proofs.Common.{◌∙◌}
 use Rattle.sc_policy.proofs.Common.{◌∷◌, ◌≡◌, ◌≤◌}
 use Rattle.std.proofs.Common.{append_assoc, ⊎_elim}
 use Rattle.std.proofs.lemmas.Bool.{cases_lt}
@@ -39,7 +41,8 @@ same_closed from one other (x ∷ xs) (y ∷ ys) more rest first second same =
     go (λ mid first second. same_closed mid one other xs ys more rest first second tail) head (after from x) first
     (ap (λ l. after_all (after from l) ys) head ∙ second)
   where
-    go : ((mid : Progress) → after_all (Some mid) xs ≡ Some (Closed one) → after_all (Some mid) ys ≡ Some (Closed other) →
+    go : ((mid : Progress) → after_all (Some mid) xs ≡ Some (Closed one) →
+        after_all (Some mid) ys ≡ Some (Closed other) →
         xs ≡ ys) → x ≡ y → (o : Option Progress) → after_all o xs ≡ Some (Closed one) →
         after_all o ys ≡ Some (Closed other) → ◌≡◌ {A = List Text} (x ∷ xs) (y ∷ ys)
     go on head None first second =
@@ -67,7 +70,8 @@ one_read bytes one other first second =
     let closed : ◌≡◌ {A = Option Progress} (Some (Closed one.policy)) (Some (Closed other.policy)) =
     sym first_read ∙ ap (after_all (Some Start)) lines ∙ second_read in
     let policy : one.policy ≡ other.policy = cc in
-    let bytes_are : take one.rest bytes ≡ take other.rest bytes = first.prefix ∙ ap bytes_of lines ∙ sym second.prefix in
+    let bytes_are : take one.rest bytes ≡ take other.rest bytes =
+    first.prefix ∙ ap bytes_of lines ∙ sym second.prefix in
     let rest : one.rest ≡ other.rest = sym (length-take-le one.rest bytes first.within) ∙ ap length bytes_are ∙
     length-take-le other.rest bytes second.within in
     ap (λ p. read_with p one.rest) policy ∙ ap (read_with other.policy) rest
@@ -94,15 +98,16 @@ begins_fewer lines n m fewer begins =
     record {
       more = drop n (take m lines) ++ begins.more;
       policy = begins.policy;
-      is = subst (λ ls. IsPolicy ls begins.policy) (sym (sym (append_assoc (take n lines) (drop n (take m lines)) begins.more) ∙
-          ap (λ xs. xs ++ begins.more) parts)) begins.is;
+      is = subst (λ ls. IsPolicy ls begins.policy) (ap (λ xs. xs ++ begins.more) (sym parts) ∙
+          append_assoc (take n lines) (drop n (take m lines)) begins.more) begins.is;
     }
 
 none_later : (lines : List Text) (one other : ℕ) → IsBadAt lines one → IsBadAt lines other → one < other → ⊥
 none_later lines one other first second before = ⊎_elim
     (λ stops. stops (begins_fewer lines one (other - 1) (omega (arith, before)) second.before))
     (λ past. ⊎_elim
-    (λ stops. stops (subst BeginsPolicy (all_taken (other - 1) other (omega (arith, before, past), omega arith)) second.before))
+    (λ stops. stops (subst BeginsPolicy (all_taken (other - 1) other (omega (arith, before, past), omega arith))
+    second.before))
     (λ ends. omega (arith, before, past, ends))
     second.at)
     first.at
@@ -113,5 +118,6 @@ none_later lines one other first second before = ⊎_elim
 pub one_bad_line : (lines : List Text) (one other : ℕ) → IsBadAt lines one → IsBadAt lines other → one ≡ other
 one_bad_line lines one other first second = ⊎_elim
     (λ before. absurd (none_later lines one other first second before))
-    (λ later. ⊎_elim (λ before. absurd (none_later lines other one second first before)) (λ most. omega (arith, later, most))
+    (λ later. ⊎_elim (λ before. absurd (none_later lines other one second first before))
+    (λ most. omega (arith, later, most))
     (cases_lt other one)) (cases_lt one other)

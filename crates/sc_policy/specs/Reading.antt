@@ -1,6 +1,7 @@
 -- Helping: how lines are read as a policy, one after another, and the words of a rule.
 use Rattle.sc_number.specs.Numbers.{integer, number_within}
-use Rattle.std.specs.Prelude.{ℕ, ◌+◌, ◌||◌, ◌==◌, nat_eq, nat_le, nat_lt, not, codes, bytes_eq, List, [], ◌∷◌, ◌++◌, length}
+use Rattle.std.specs.Prelude.{ℕ, ◌+◌, ◌||◌, ◌==◌, nat_eq, nat_le, nat_lt, not, codes, bytes_eq, List, []}
+use Rattle.std.specs.Prelude.{◌∷◌, ◌++◌, length}
 use Rattle.std.specs.Prelude.{take, drop, slice_get, Option, Some, None, option_and_then, option_map, if◌then◌else◌}
 use Rattle.std.specs.List.{starts_with}
 use Rattle.sc_base.specs.Prelude.{Text, is_numbered, name_of, number_by_name}

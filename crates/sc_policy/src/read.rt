@@ -2,8 +2,8 @@
 
 ghost use Rattle.sc_policy.specs.Lines.{lines_of};
 ghost use Rattle.sc_policy.specs.Policies.{IsBadAt, IsPolicyRead};
-ghost use Rattle.std.specs.Prelude.{◌≡◌, ℕ, ◌+◌, ◌<◌, ◌≤◌, ◌∷◌, [], min, drop, length, slice_range, slice_index, IfNone};
-ghost use Rattle.std.specs.Prelude.{IfOk, IfSome, IsErrOf};
+ghost use Rattle.std.specs.Prelude.{◌≡◌, ℕ, ◌+◌, ◌<◌, ◌≤◌, ◌∷◌, [], min, drop, length, slice_range, slice_index};
+ghost use Rattle.std.specs.Prelude.{IfNone, IfOk, IfSome, IsErrOf};
 
 use crate::progress::Progress;
 use crate::{Policy, PolicyFault};
