@@ -11,6 +11,8 @@ mod event;
 #[cfg(test)]
 mod names;
 #[cfg(test)]
+mod policies;
+#[cfg(test)]
 mod words;
 #[cfg(test)]
 mod zone;

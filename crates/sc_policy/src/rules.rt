@@ -8,7 +8,7 @@ use std::marker::Model;
 /// The rules of a policy in order, at most 4096 of them. Contracts see the list.
 #[derive(Drop)]
 pub struct Rules {
-    rules: Items<Rule>,
+    pub(crate) rules: Items<Rule>,
 }
 
 impl Model for Rules {

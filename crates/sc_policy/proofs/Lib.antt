@@ -1,0 +1,9 @@
+pub mod Common
+pub mod Cuts
+pub mod Drafts
+pub mod Newlines
+pub mod Parts
+pub mod RuleLines
+pub mod Seen
+pub mod Spelling
+pub mod Unique

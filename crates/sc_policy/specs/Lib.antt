@@ -1,0 +1,6 @@
+pub mod Prelude
+pub mod Lines
+pub mod Policies
+pub mod Reading
+pub mod Rules
+pub mod Words
