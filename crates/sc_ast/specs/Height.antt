@@ -59,8 +59,8 @@ abbrev pub kind_height_step : StmtKind-F ℕ ℕ → ℕ
 kind_height_step (layer.Assign place value) = max (expr_height place) (expr_height value)
 kind_height_step (layer.AssignCall place call) = max (expr_height place) (call_height call)
 kind_height_step (layer.Call call) = call_height call
-kind_height_step (layer.If cond then_part else_part) = max (expr_height cond) (max (highest then_part) (highest
-    else_part))
+kind_height_step (layer.If cond then_part else_part) =
+    max (expr_height cond) (max (highest then_part) (highest else_part))
 kind_height_step (layer.While cond body) = max (expr_height cond) (highest body)
 kind_height_step (layer.For first cond next body) = max (max (option_height first) (option_height next))
     (max (expr_height cond) (highest body))

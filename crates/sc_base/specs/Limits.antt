@@ -21,6 +21,10 @@ most_compartments = 32
 abbrev pub most_exports : ℕ
 most_exports = 4096
 
+-- parameters of a function, and arguments of a call: as many as argument registers
+abbrev pub most_params : ℕ
+most_params = 8
+
 -- events that a run emits, and that a trace which is explained has
 abbrev pub most_events : ℕ
 most_events = 4096

@@ -5,7 +5,7 @@ pub use Rattle.sc_base.specs.Identifier.{is_between, is_digit, is_name_byte, is_
 unfoldable pub use Rattle.sc_base.specs.Identifier.{is_name}
 pub use Rattle.sc_base.specs.Levels.{level_of, loosest_level, postfix_level, unary_level}
 pub use Rattle.sc_base.specs.Limits.{most_brackets, most_compartments, most_compiled, most_events, most_exports}
-pub use Rattle.sc_base.specs.Limits.{most_height, most_image, most_text}
+pub use Rattle.sc_base.specs.Limits.{most_height, most_image, most_params, most_text}
 pub use Rattle.sc_base.specs.Numbering.{HasOneNumberEach, is_numbered, next_number, number_by_name, numbered}
 pub use Rattle.sc_base.specs.Places.{HasPlaces}
 pub use Rattle.sc_base.specs.Prefix.{IsPrefix}

@@ -98,9 +98,8 @@ fn read_accepted(alloc: Global, text: &[u8]) -> Result<SourceText, OutOfMemory>
 }
 
 /// The text in which these compartments perform their parts of a trace, in place of running their functions; one may be
-/// named twice. The text is accepted, and means what the compartments' scripts say, whether memory suffices to write it
-/// or
-/// not.
+/// named twice. The text is accepted, and means what the compartments' scripts say, whether or not memory
+/// suffices to write it.
 pub fn replaced(
     alloc: Global,
     source: &SourceText,

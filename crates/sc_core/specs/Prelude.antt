@@ -1,5 +1,5 @@
 -- What this crate's contracts, its proofs and the crates above cite, passed on from one place. Declares nothing.
-pub use Rattle.sc_base.specs.Prelude.{most_compartments, most_exports, most_height}
+pub use Rattle.sc_base.specs.Prelude.{most_compartments, most_exports, most_height, most_params}
 pub use Rattle.sc_core.specs.Calls.{Body, Denotations, Function, Step, back_cross, back_own, begun, blocks_for}
 pub use Rattle.sc_core.specs.Calls.{call_cross, call_own, called, calls, crossed, crossing, done, first_word, found}
 pub use Rattle.sc_core.specs.Calls.{function, functions_of, is_word, leads, may_call, next_input, option_value}
@@ -51,6 +51,6 @@ pub use Rattle.sc_core.specs.WellTyped.{export_fits, export_name, export_names, 
 pub use Rattle.sc_core.specs.WellTyped.{has_distinct_names, has_few_compartments, has_fitting_sections, has_main}
 pub use Rattle.sc_core.specs.WellTyped.{import_fits, import_name, init_height, interface_fits, is_main, is_plain_name}
 pub use Rattle.sc_core.specs.WellTyped.{is_well_typed, local_fits, main_fits, main_signature, mains_in, members_fit}
-pub use Rattle.sc_core.specs.WellTyped.{most_cells, most_nodes, most_params, params_fit, passed_fits, result_fits}
+pub use Rattle.sc_core.specs.WellTyped.{most_cells, most_nodes, params_fit, passed_fits, result_fits}
 pub use Rattle.sc_core.specs.WellTyped.{same_results, same_signature, same_types, scope_of, section_fits, sections_fit}
 pub use Rattle.sc_core.specs.WellTyped.{starred_within, struct_fits, structs_fit, type_within, variable_fits, words_fit}

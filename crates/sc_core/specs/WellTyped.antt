@@ -1,6 +1,6 @@
 -- What every program keeps: its types, its names where they matter, its interfaces and its counts.
 use Rattle.sc_core.specs.Common.{Import, Interfaces, Proto, all_hold, export_at, most_compartments, most_exports}
-use Rattle.sc_core.specs.Common.{most_height}
+use Rattle.sc_core.specs.Common.{most_height, most_params}
 use Rattle.std.specs.Prelude.{ℕ, zero, suc, ◌+◌, Bool, true, false, not, ◌&&◌, ◌==◌, nat_lt, nat_le, IsTrue, List, []}
 use Rattle.std.specs.Prelude.{◌∷◌, ◌++◌, map, length, take, codes, bytes_eq, slice_get, Option, None, Some, is_some}
 use Rattle.std.specs.List.{list_any, list_all}
@@ -27,10 +27,6 @@ use Rattle.sc_core.specs.Height.{expr_height, stmt_height}
 use Rattle.sc_core.specs.Meaning.{main_name}
 use Rattle.sc_core.specs.Typing.{Scope, Callable, Signature, signature_of, proto_signature, same_ty, body_fits}
 use Rattle.sc_core.specs.Typing.{init_fits}
-
--- parameters of a function
-abbrev pub most_params : ℕ
-most_params = 8
 
 -- cells of a variable, and of a struct
 abbrev pub most_cells : ℕ

@@ -150,8 +150,8 @@ pub record HoldsOfSets (law : List Event → (CompSet → SourceRun) → Type 0)
 module _ (trace : List Event) (runs : CompSet → SourceRun) where
   -- where more compartments perform their parts of a trace that the run emits, it emits the trace too
   abbrev pub EmitsWithMore : Type 0
-  EmitsWithMore = (small large : CompSet) → IsSubset small large → (runs small).trace ≡ trace → (runs large).trace ≡
-      trace
+  EmitsWithMore = (small large : CompSet) → IsSubset small large →
+      (runs small).trace ≡ trace → (runs large).trace ≡ trace
 
   -- a blame that comes while the run keeps to the trace comes in the same run where more compartments perform, unless
   -- the blamed one does

@@ -1,3 +1,4 @@
+ghost use Rattle.sc_base.specs.Prelude.{most_params};
 ghost use Rattle.std.specs.Prelude.{◌≡◌, ◌≤◌, ◌<◌, ◌↔◌, [], ◌∷◌, ◌++◌, length, IsSome, IfSome, OnSome, IfNone, ◌==◌};
 ghost use Rattle.std.specs.Cmp.Lexicographic.{pointwise};
 ghost use Rattle.std.specs.Cmp.Rules.{comparing};
@@ -14,6 +15,7 @@ pub struct Args {
 }
 
 impl Model for Args {
+    ghost use Rattle.sc_base.specs.Prelude.{most_params};
     ghost use Rattle.std.specs.Prelude.{List, ℕ, ◌≤◌, length};
     ghost use Rattle.std.specs.Coded.{coded_list, coded_ℕ};
 
@@ -23,7 +25,7 @@ impl Model for Args {
 
     ghost view = { λ args. args.words.items };
 
-    ghost invariant = { λ args. (length args.words.items ≤ 8) × (8 ≤ args.words.capacity) };
+    ghost invariant = { λ args. (length args.words.items ≤ most_params) × (most_params ≤ args.words.capacity) };
 }
 
 impl Args {
@@ -41,7 +43,7 @@ impl Args {
 
     /// These words, `None` where they are more than 8.
     pub fn from_slice(alloc: Global, words: &[u32]) -> Option<Args>
-        ensures within { IsSome result ↔ (length words.now ≤ 8) }
+        ensures within { IsSome result ↔ (length words.now ≤ most_params) }
         ensures words { IfSome result (λ args. args ≡ words.now) }
     {
         if words.len() > Args::LIMIT {
@@ -53,7 +55,7 @@ impl Args {
 
     /// Adds one argument, `None` where there are 8 already.
     pub fn push(&mut self, word: u32) -> Option<()>
-        ensures within { IsSome result ↔ (length self.old < 8) }
+        ensures within { IsSome result ↔ (length self.old < most_params) }
         ensures pushed { OnSome result (self.new ≡ self.old ++ word ∷ []) }
         ensures full { IfNone result (self.new ≡ self.old) }
     {
@@ -67,7 +69,7 @@ impl Args {
     /// The words in order.
     pub fn as_slice(&self) -> &[u32]
         ensures words { result.now ≡ self.now }
-        ensures within { length result.now ≤ 8 }
+        ensures within { length result.now ≤ most_params }
     {
         self.words.as_slice()
     }

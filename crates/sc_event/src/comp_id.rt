@@ -1,3 +1,4 @@
+ghost use Rattle.sc_base.specs.Prelude.{most_compartments};
 ghost use Rattle.std.specs.Prelude.{◌≡◌, ◌<◌, IsSome, IfSome, ◌↔◌};
 
 use std::marker::Model;
@@ -7,13 +8,14 @@ use std::marker::Model;
 pub struct CompId(u8);
 
 impl Model for CompId {
+    ghost use Rattle.sc_base.specs.Prelude.{most_compartments};
     ghost use Rattle.std.specs.Prelude.{ℕ, ◌<◌};
 
     ghost Value = { ℕ };
 
     ghost view = { λ c. c.0 };
 
-    ghost invariant = { λ c. c.0 < 32 };
+    ghost invariant = { λ c. c.0 < most_compartments };
 
     ghost inverse = { λ n. record { 0 = n } };
 }
@@ -31,7 +33,7 @@ impl CompId {
 
     /// The compartment of this number, `None` from 32 on.
     pub fn new(number: u8) -> Option<CompId>
-        ensures within { IsSome result ↔ (number < 32) }
+        ensures within { IsSome result ↔ (number < most_compartments) }
         ensures number { IfSome result (λ comp. comp ≡ number) }
     {
         if number < CompId::LIMIT {
@@ -44,7 +46,7 @@ impl CompId {
     /// The number, which is below 32.
     pub fn number(self) -> u8
         ensures number { result ≡ self }
-        ensures within { result < 32 }
+        ensures within { result < most_compartments }
     {
         self.0
     }

@@ -1,3 +1,4 @@
+ghost use Rattle.sc_base.specs.Prelude.{most_params};
 ghost use Rattle.std.specs.Prelude.{◌≡◌, ◌≤◌, ◌<◌, ◌↔◌, [], ◌∷◌, ◌++◌, length, IsSome, IfSome, OnSome, IfNone};
 
 use crate::Scalar;
@@ -12,6 +13,7 @@ pub struct Params {
 }
 
 impl Model for Params {
+    ghost use Rattle.sc_base.specs.Prelude.{most_params};
     ghost use Rattle.std.specs.Prelude.{List, ◌≤◌, length};
     ghost use Rattle.sc_event.specs.declared.interface.Scalar.{Scalar};
 
@@ -19,7 +21,7 @@ impl Model for Params {
 
     ghost view = { λ params. params.scalars.items };
 
-    ghost invariant = { λ params. (length params.scalars.items ≤ 8) × (8 ≤ params.scalars.capacity) };
+    ghost invariant = { λ params. (length params.scalars.items ≤ most_params) × (most_params ≤ params.scalars.capacity) };
 }
 
 impl Params {
@@ -37,7 +39,7 @@ impl Params {
 
     /// These types, `None` where they are more than 8.
     pub fn from_slice(alloc: Global, scalars: &[Scalar]) -> Option<Params>
-        ensures within { IsSome result ↔ (length scalars.now ≤ 8) }
+        ensures within { IsSome result ↔ (length scalars.now ≤ most_params) }
         ensures scalars { IfSome result (λ params. params ≡ scalars.now) }
     {
         if scalars.len() > Params::LIMIT {
@@ -49,7 +51,7 @@ impl Params {
 
     /// Adds one parameter, `None` where there are 8 already.
     pub fn push(&mut self, scalar: Scalar) -> Option<()>
-        ensures within { IsSome result ↔ (length self.old < 8) }
+        ensures within { IsSome result ↔ (length self.old < most_params) }
         ensures pushed { OnSome result (self.new ≡ self.old ++ scalar ∷ []) }
         ensures full { IfNone result (self.new ≡ self.old) }
     {
@@ -63,7 +65,7 @@ impl Params {
     /// The types in order.
     pub fn as_slice(&self) -> &[Scalar]
         ensures scalars { result.now ≡ self.now }
-        ensures within { length result.now ≤ 8 }
+        ensures within { length result.now ≤ most_params }
     {
         self.scalars.as_slice()
     }

@@ -1,3 +1,4 @@
+ghost use Rattle.sc_base.specs.Prelude.{most_params};
 ghost use Rattle.sc_image.specs.Prelude.{cleared_for_call, cleared_for_return, is_argument, kept};
 ghost use Rattle.std.specs.Prelude.{◌≡◌, ◌≤◌};
 
@@ -5,7 +6,7 @@ use sc_image::layout::A0;
 
 /// Puts 0 into every register that doesn't hold one of `params` arguments, at most 8. They lie in a0 to a7.
 pub fn clear_for_call(regs: &mut [u32; 32], params: u8)
-    requires { params ≤ 8 }
+    requires { params ≤ most_params }
     ensures { regs.new ≡ cleared_for_call params regs.old }
 {
     keep(regs, params as usize);
@@ -20,7 +21,7 @@ pub fn clear_for_ret(regs: &mut [u32; 32], has_result: bool)
 
 /// Puts 0 into every register but the `count` from a0 on.
 fn keep(regs: &mut [u32; 32], count: usize)
-    requires { count ≤ 8 }
+    requires { count ≤ most_params }
     ensures { regs.new ≡ kept (is_argument count) regs.old }
 {
     for number in 0..32 {

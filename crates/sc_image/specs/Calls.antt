@@ -36,5 +36,5 @@ export_params image c index = option_map_or (λ export. export.params) (slice_ge
 -- whether a function of c gives a word back: `main` does
 abbrev pub has_result : ImageParts → (c : ℕ) → Entry → Bool
 has_result image c Main = true
-has_result image c (Export index) = option_map_or (λ export. export.result) (slice_get (exported_by image c) index)
-    false
+has_result image c (Export index) =
+    option_map_or (λ export. export.result) (slice_get (exported_by image c) index) false

@@ -14,8 +14,8 @@ use Rattle.sc_image.specs.Machine.{is_end, stopped, run}
 use Rattle.sc_image.specs.Walks.{Walks, IsAt}
 
 -- `steps` steps lead from one state to another and emit these events, of which none is the end
-pub record Emits (image : ImageParts) (inputs : List ℕ) (steps : ℕ) (emitted : List Event) (from to : MachineState) :
-    Type 0
+pub record Emits (image : ImageParts) (inputs : List ℕ) (steps : ℕ) (emitted : List Event)
+    (from to : MachineState) : Type 0
   where
     pub walks : Walks image inputs steps from to
     pub trace : to.trace ≡ from.trace ++ emitted
@@ -28,8 +28,8 @@ pub record EmittingComposes : Type 0 where
   pub one_event : (image : ImageParts) (inputs : List ℕ) (event : Event) (from to : MachineState) →
       step image inputs from ≡ Goes to → to.trace ≡ from.trace ++ event ∷ [] → is_end event ≡ false →
       Emits image inputs 1 (event ∷ []) from to
-  pub together : (image : ImageParts) (inputs : List ℕ) (m n : ℕ) (first second : List Event) (from middle to :
-      MachineState) →
+  pub together : (image : ImageParts) (inputs : List ℕ) (m n : ℕ) (first second : List Event)
+      (from middle to : MachineState) →
       Emits image inputs m first from middle → Emits image inputs n second middle to →
       Emits image inputs (m + n) (first ++ second) from to
   pub run_along : (image : ImageParts) (inputs : List ℕ) (events steps more : ℕ) (emitted : List Event)
@@ -60,8 +60,8 @@ pub record StepsEmit : Type 0 where
   pub jal_calls : (image : ImageParts) (inputs : List ℕ) (state : MachineState) (imm : ℤ) (to index target : ℕ) →
       IsWellFormed image → IsAt image state (Jal ra imm) → add_word state.pc (word_of imm) ≡ target →
       IsCall image state to index target → EmitsCall image inputs state to index target
-  pub jalr_calls : (image : ImageParts) (inputs : List ℕ) (state : MachineState) (rs1 : ℕ) (imm : ℤ) (to index target :
-      ℕ) →
+  pub jalr_calls : (image : ImageParts) (inputs : List ℕ) (state : MachineState) (rs1 : ℕ) (imm : ℤ)
+      (to index target : ℕ) →
       IsWellFormed image → IsAt image state (Jalr ra rs1 imm) → jalr_target (reg state rs1) imm ≡ target →
       IsCall image state to index target → EmitsCall image inputs state to index target
   pub returns : (image : ImageParts) (inputs : List ℕ) (state : MachineState) (rs1 : ℕ) (imm : ℤ) (crossing : Crossing)
@@ -70,9 +70,8 @@ pub record StepsEmit : Type 0 where
       let result = has_result image crossing.callee crossing.entry in
       Emits image inputs 1 (Ret state.active crossing.caller (given_back result state) ∷ []) state
       (on_return_to result state crossing waiting)
-  pub outputs : (image : ImageParts) (inputs : List ℕ) (state : MachineState) → IsAt image state Ecall → reg state a7 ≡
-      2 →
-      may_output image state.active ≡ true →
+  pub outputs : (image : ImageParts) (inputs : List ℕ) (state : MachineState) → IsAt image state Ecall →
+      reg state a7 ≡ 2 → may_output image state.active ≡ true →
       Emits image inputs 1 (Out state.active (reg state a0) ∷ []) state (with_pc (on_output state) (state.pc + 4))
   pub inputs : (image : ImageParts) (inputs : List ℕ) (state : MachineState) → IsAt image state Ecall → reg state a7 ≡ 1
       →

@@ -81,8 +81,8 @@ pub record AgreeFor (c : ℕ) (one other : ImageParts) : Type 0 where
   -- where the exports of all compartments begin
   pub entries : (to address : ℕ) → entered_export one to address ≡ entered_export other to address
   -- how many words the exports take that c may call
-  pub params : (to index : ℕ) → may_call_export one c to index ≡ true → export_params one to index ≡ export_params other
-      to index
+  pub params : (to index : ℕ) → may_call_export one c to index ≡ true →
+      export_params one to index ≡ export_params other to index
 
 -- Two points that a compartment can't distinguish: it is active at both, in images that agree for it, with the same own
 -- parts, the same caller and function of its in the latest call that is open, and the same input to come.
@@ -128,9 +128,8 @@ module _ (stepping : Stepping) where
   -- return that makes that one active.
   abbrev pub LeavesOthersBy : Type 0
   LeavesOthersBy =
-      (image : ImageParts) (inputs : List ℕ) (state : MachineState) (d : ℕ) → IsWellFormed image → IsSteadyState image
-      state →
-      d ≢ state.active → emits_entry d (observation_by image inputs state) ≡ false →
+      (image : ImageParts) (inputs : List ℕ) (state : MachineState) (d : ℕ) → IsWellFormed image →
+      IsSteadyState image state → d ≢ state.active → emits_entry d (observation_by image inputs state) ≡ false →
       own image (after_by image inputs state) d ≡ own image state d
 
   -- A step leaves the data of every compartment but the active one as they were, also of one that it makes active.

@@ -1,4 +1,5 @@
 -- Reading an image from its bytes, field by field in the order of the file, and why bytes are none.
+use Rattle.sc_base.specs.Prelude.{most_compartments, most_exports, most_params}
 use Rattle.sc_image.specs.Common.{is_between, is_name, little_number}
 use Rattle.std.specs.Prelude.{◌≡◌, ℕ, zero, suc, ◌/◌, ◌%◌, Bool, ◌&&◌, ◌==◌, not, nat_lt, nat_le, List, [], ◌∷◌, length}
 use Rattle.std.specs.Prelude.{take, drop, codes, Option, Some, None, Result, Ok, Err, if◌then◌else◌}
@@ -88,7 +89,7 @@ comp_name_at bytes = do
 unfoldable pub read_export : List ℕ → Read ExportPart
 read_export bytes = do
   name ← read_name Exports bytes
-  params ← number_that (λ n. nat_le n 8) Exports 1 name.1
+  params ← number_that (λ n. nat_le n most_params) Exports 1 name.1
   result ← number_that (λ n. nat_le n 1) Exports 1 params.1
   entry ← number_at Exports 4 result.1
   Ok (record { name = name.0; params = params.0; result = result.0 == 1; entry = entry.0 }, entry.1)
@@ -96,7 +97,7 @@ read_export bytes = do
 -- how many there are, and then each
 unfoldable pub read_exports : List ℕ → Read (List ExportPart)
 read_exports bytes = do
-  count ← number_that (λ n. nat_le n 4096) Exports 2 bytes
+  count ← number_that (λ n. nat_le n most_exports) Exports 2 bytes
   fields_at read_export count.0 count.1
 
 -- a function that may be called, in an image of `comps` compartments: the one that offers it, and its index there
@@ -108,7 +109,7 @@ import_at comps bytes = do
 
 unfoldable pub imports_at : (comps : ℕ) → List ℕ → Read (List ImportPart)
 imports_at comps bytes = do
-  count ← number_that (λ n. nat_le n 4096) Imports 2 bytes
+  count ← number_that (λ n. nat_le n most_exports) Imports 2 bytes
   fields_at (import_at comps) count.0 count.1
 
 -- whole words, after their length in bytes
@@ -150,7 +151,7 @@ unfoldable pub parts_in_version : (version : ℕ) → List ℕ → Read ImagePar
 parts_in_version version bytes = do
   mark ← mark_at bytes
   same ← number_that (λ v. v == version) Version 2 mark.1
-  count ← number_that (is_between 1 32) Count 1 same.1
+  count ← number_that (is_between 1 most_compartments) Count 1 same.1
   main ← number_that (λ c. nat_lt c count.0) Start 1 count.1
   entry ← number_at Start 4 main.1
   comps ← fields_at (read_comp count.0) count.0 entry.1

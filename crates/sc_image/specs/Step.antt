@@ -217,9 +217,9 @@ jump image state rd target elsewhere = jump_by (is_some (word_at image state.act
 abbrev pub export_called : ImageParts → MachineState → (to target : ℕ) → Option ℕ → Outcome
 export_called image state to target None = Traps BadJump
 export_called image state to target (Some index) =
-    if may_call_export image state.active to index then Goes (on_call state to index (export_params image to index)
-    target) else
-    Traps NoImport
+    if may_call_export image state.active to index
+    then Goes (on_call state to index (export_params image to index) target)
+    else Traps NoImport
 
 -- a jump out of the own code calls where rd is ra
 abbrev pub jump_outside : ImageParts → MachineState → (rd target : ℕ) → Outcome
@@ -231,16 +231,17 @@ jump_outside image state rd target =
 -- JALR returns, too, where rd is x0 and the target is the gate
 abbrev pub leaves : ImageParts → MachineState → (rd target : ℕ) → Outcome
 leaves image state rd target =
-    if nat_eq rd 0 && nat_eq target gate then Goes (on_return image state state.cross) else jump_outside image state rd
-    target
+    if nat_eq rd 0 && nat_eq target gate
+    then Goes (on_return image state state.cross)
+    else jump_outside image state rd target
 
 -- a7 says what is called: 1 is `input`, 2 is `output`
 abbrev pub environment_call : ImageParts → List ℕ → MachineState → Outcome
 environment_call image inputs state =
-    if nat_eq (reg state a7) 1 then (if may_input image state.active then next (on_input inputs state) else Traps
-    NoImport)
-    else if nat_eq (reg state a7) 2 then (if may_output image state.active then next (on_output state) else Traps
-    NoImport)
+    if nat_eq (reg state a7) 1
+    then (if may_input image state.active then next (on_input inputs state) else Traps NoImport)
+    else if nat_eq (reg state a7) 2
+    then (if may_output image state.active then next (on_output state) else Traps NoImport)
     else Traps BadCall
 
 abbrev pub by_owner : ImageParts → List ℕ → Protection

@@ -78,9 +78,8 @@ pub record StepsByInstruction : Type 0 where
   pub jalr : (image : ImageParts) (inputs : List ℕ) (state : MachineState) (rd rs1 : ℕ) (imm : ℤ) (target : ℕ) →
       IsAt image state (Jalr rd rs1 imm) → jalr_target (reg state rs1) imm ≡ target →
       step image inputs state ≡ jump image state rd target (leaves image state rd target)
-  pub branch_taken : (image : ImageParts) (inputs : List ℕ) (state : MachineState) (op : BranchOp) (rs1 rs2 : ℕ) (imm :
-      ℤ)
-      (target : ℕ) →
+  pub branch_taken : (image : ImageParts) (inputs : List ℕ) (state : MachineState) (op : BranchOp) (rs1 rs2 : ℕ)
+      (imm : ℤ) (target : ℕ) →
       IsAt image state (Branch op rs1 rs2 imm) → compares op (reg state rs1) (reg state rs2) ≡ true →
       add_word state.pc (word_of imm) ≡ target →
       step image inputs state ≡ jump image state 0 target (Traps BadJump)

@@ -1,4 +1,5 @@
 -- Which parts make an image.
+use Rattle.sc_base.specs.Prelude.{most_compartments, most_exports, most_params}
 use Rattle.sc_base.specs.Word.{IsWord}
 use Rattle.sc_image.specs.Common.{is_name}
 use Rattle.std.specs.Prelude.{List, ◌≡◌, ◌≢◌, ℕ, ◌*◌, ◌^◌, ◌<◌, ◌≤◌, IsTrue, length, map, All, AllPairs, codes}
@@ -21,7 +22,7 @@ IsEntry image c entry = IsSome (word_at image c entry)
 -- an export of compartment c
 pub record IsExport (image : ImageParts) (c : ℕ) (export : ExportPart) : Type 0 where
   pub name : IsTrue (is_name export.name)
-  pub params : export.params ≤ 8
+  pub params : export.params ≤ most_params
   pub entry : IsEntry image c export.entry
 
 -- an import of compartment c: an export of another compartment
@@ -37,11 +38,11 @@ pub record IsComp (image : ImageParts) (c : ℕ) (comp : CompPart) : Type 0 wher
   pub name : IsTrue (is_name comp.name)
   -- `Env` is the name of the environment, which offers `input` and `output`
   pub no_environment : comp.name ≢ codes "Env"
-  pub few_exports : length comp.exports ≤ 4096
+  pub few_exports : length comp.exports ≤ most_exports
   pub exports : All (IsExport image c) comp.exports
   pub export_names : IsDistinct (map (λ export. export.name) comp.exports)
   pub export_entries : IsDistinct (map (λ export. export.entry) comp.exports)
-  pub few_imports : length comp.imports ≤ 4096
+  pub few_imports : length comp.imports ≤ most_exports
   pub imports : All (IsImport image c) comp.imports
   pub distinct_imports : IsDistinct comp.imports
   pub short_code : 4 * length comp.code ≤ stretch
@@ -50,7 +51,7 @@ pub record IsComp (image : ImageParts) (c : ℕ) (comp : CompPart) : Type 0 wher
   pub bytes : All IsByte comp.globals
 
 pub record IsWellFormed (image : ImageParts) : Type 0 where
-  pub few_comps : length image.comps ≤ 32
+  pub few_comps : length image.comps ≤ most_compartments
   -- so there is at least one compartment
   pub main : image.main < length image.comps
   pub entry : IsEntry image image.main image.entry

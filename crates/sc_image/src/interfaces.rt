@@ -1,3 +1,4 @@
+ghost use Rattle.sc_base.specs.Prelude.{most_params};
 ghost use Rattle.sc_image.specs.Prelude.{image_import, image_interface, image_interfaces, image_proto};
 ghost use Rattle.std.specs.Prelude.{◌≡◌, ◌≤◌, [], ◌∷◌, ◌++◌, if◌then◌else◌, map, replicate, All, IfOk, OnOk};
 ghost use Rattle.sc_event.specs.declared.interface.Scalar.TheVariants.{Int};
@@ -26,7 +27,7 @@ pub fn image_interfaces(alloc: Global, image: &Image) -> Result<Interfaces, OutO
 }
 
 fn interface_of(alloc: Global, comp: &CompPart) -> Result<Interface, OutOfMemory>
-    requires { All (λ export. export.params ≤ 8) comp.now.exports }
+    requires { All (λ export. export.params ≤ most_params) comp.now.exports }
     ensures { IfOk result (λ interface. interface ≡ image_interface comp.now) }
 {
     let exports = protos_of(alloc, comp.exports.as_slice())?;
@@ -39,7 +40,7 @@ fn interface_of(alloc: Global, comp: &CompPart) -> Result<Interface, OutOfMemory
 }
 
 fn protos_of(alloc: Global, exports: &[ExportPart]) -> Result<Protos, OutOfMemory>
-    requires { All (λ export. export.params ≤ 8) exports.now }
+    requires { All (λ export. export.params ≤ most_params) exports.now }
     ensures { IfOk result (λ protos. protos ≡ map image_proto exports.now) }
 {
     let mut protos = Protos::new(alloc);
@@ -50,7 +51,7 @@ fn protos_of(alloc: Global, exports: &[ExportPart]) -> Result<Protos, OutOfMemor
 }
 
 fn proto_of(alloc: Global, export: &ExportPart) -> Proto
-    requires { export.now.params ≤ 8 }
+    requires { export.now.params ≤ most_params }
     ensures { result ≡ image_proto export.now }
 {
     Proto {
@@ -67,7 +68,7 @@ fn proto_of(alloc: Global, export: &ExportPart) -> Proto
 // `count` parameters, each an `int`.
 #[tactic(auto, using(crate::proofs::Keeping::ints_taken))]
 fn ints(alloc: Global, count: u8) -> Params
-    requires { count ≤ 8 }
+    requires { count ≤ most_params }
     ensures { result ≡ replicate count Int }
 {
     let all = [Scalar::Int; 8];

@@ -1,5 +1,6 @@
 //! Where things lie in memory, and the registers that have a use of their own.
 
+ghost use Rattle.sc_base.specs.Prelude.{most_compartments};
 ghost use Rattle.sc_image.specs.Prelude.{code_start, comp_of_code, data_start, stack_top};
 ghost use Rattle.std.specs.Prelude.{◌≡◌, ◌<◌};
 
@@ -72,7 +73,7 @@ pub fn comp_of_code(address: u32) -> usize
 
 /// The compartment of that number.
 pub fn comp_id(number: usize) -> CompId
-    requires { number < 32 }
+    requires { number < most_compartments }
     ensures { result ≡ number }
 {
     CompId::new(number as u8).unwrap()

@@ -5,7 +5,7 @@ ghost use Rattle.sc_image.specs.Prelude.{Gives, bad, bytes_at, code_at, read_com
 ghost use Rattle.sc_image.specs.Prelude.{fields_at};
 ghost use Rattle.sc_image.specs.Prelude.{globals_at, image_bytes, image_in, import_at, imports_at, mark_at, read_name};
 ghost use Rattle.sc_image.specs.Prelude.{number_at, number_that, parts_in_version, version};
-ghost use Rattle.sc_base.specs.Prelude.{is_between};
+ghost use Rattle.sc_base.specs.Prelude.{is_between, most_compartments};
 ghost use Rattle.std.specs.Prelude.{◌≡◌, ◌≤◌, ◌==◌, nat_le, nat_lt, Some, None, IfOk, OnOk, IsErrOf};
 ghost use Rattle.sc_image.specs.Reading.{read_export};
 ghost use Rattle.sc_image.specs.declared.fault.BadImage.TheVariants.{Version, Count, Contents};
@@ -22,6 +22,12 @@ use byteorder::{ByteOrder, LittleEndian};
 use sc_base::{Name, Text, Words};
 use sc_event::CompId;
 use std::alloc::Global;
+
+/// The most exports of a compartment, and the most imports.
+const MOST_EXPORTS: u16 = 4096;
+
+/// The most parameters of an export.
+const MOST_PARAMS: u8 = 8;
 
 /// The image that the bytes are, or why they are none: the cause of the first field, in the order of the file, that is
 /// missing, incomplete or bad. A file that isn't at fault is read unless memory runs out.
@@ -81,8 +87,8 @@ fn version_at(bytes: &mut &[u8]) -> Result<u16, ImageFault>
 }
 
 fn count_at(bytes: &mut &[u8]) -> Result<u8, ImageFault>
-    ensures count { Gives (λ x. (x, bytes.new.now)) result (number_that (is_between 1 32) Count 1 bytes.old.now) }
-    ensures within { IfOk result (λ count. count ≤ 32) }
+    ensures count { Gives (λ x. (x, bytes.new.now)) result (number_that (is_between 1 most_compartments) Count 1 bytes.old.now) }
+    ensures within { IfOk result (λ count. count ≤ most_compartments) }
 {
     let count = u8_at(BadImage::Count, bytes)?;
     if count < 1 || count > CompId::LIMIT {
@@ -92,7 +98,7 @@ fn count_at(bytes: &mut &[u8]) -> Result<u8, ImageFault>
 }
 
 fn comps_at(alloc: Global, count: u8, bytes: &mut &[u8]) -> Result<CompParts, ImageFault>
-    requires { count ≤ 32 }
+    requires { count ≤ most_compartments }
     ensures { Gives (λ x. (x, bytes.new.now)) result (fields_at (read_comp count) count bytes.old.now) }
 {
     let mut comps = CompParts::new(alloc);
@@ -105,7 +111,7 @@ fn comps_at(alloc: Global, count: u8, bytes: &mut &[u8]) -> Result<CompParts, Im
 
 #[tactic(auto, unfolding(crate::specs::Reading::read_comp))]
 fn comp_at(alloc: Global, comps: u8, bytes: &mut &[u8]) -> Result<CompPart, ImageFault>
-    requires { comps ≤ 32 }
+    requires { comps ≤ most_compartments }
     ensures { Gives (λ x. (x, bytes.new.now)) result (read_comp comps bytes.old.now) }
 {
     let name = comp_name_at(bytes)?;
@@ -140,7 +146,7 @@ fn comp_name_at(bytes: &mut &[u8]) -> Result<Name, ImageFault>
 fn exports_at(alloc: Global, bytes: &mut &[u8]) -> Result<ExportParts, ImageFault>
     ensures { Gives (λ x. (x, bytes.new.now)) result (read_exports bytes.old.now) }
 {
-    let count = u16_up_to(BadImage::Exports, 4096, bytes)?;
+    let count = u16_up_to(BadImage::Exports, MOST_EXPORTS, bytes)?;
     several_exports(alloc, count, bytes)
 }
 
@@ -160,7 +166,7 @@ fn export_at(bytes: &mut &[u8]) -> Result<ExportPart, ImageFault>
     ensures { Gives (λ x. (x, bytes.new.now)) result (read_export bytes.old.now) }
 {
     let name = name_at(BadImage::Exports, bytes)?;
-    let params = u8_up_to(BadImage::Exports, 8, bytes)?;
+    let params = u8_up_to(BadImage::Exports, MOST_PARAMS, bytes)?;
     let result = u8_up_to(BadImage::Exports, 1, bytes)?;
     let entry = u32_at(BadImage::Exports, bytes)?;
     Ok(ExportPart {
@@ -173,10 +179,10 @@ fn export_at(bytes: &mut &[u8]) -> Result<ExportPart, ImageFault>
 
 #[tactic(auto, unfolding(crate::specs::Reading::imports_at))]
 fn imports_at(alloc: Global, comps: u8, bytes: &mut &[u8]) -> Result<ImportParts, ImageFault>
-    requires { comps ≤ 32 }
+    requires { comps ≤ most_compartments }
     ensures { Gives (λ x. (x, bytes.new.now)) result (imports_at comps bytes.old.now) }
 {
-    let count = u16_up_to(BadImage::Imports, 4096, bytes)?;
+    let count = u16_up_to(BadImage::Imports, MOST_EXPORTS, bytes)?;
     several_imports(alloc, comps, count, bytes)
 }
 
@@ -186,7 +192,7 @@ fn several_imports(
     count: u16,
     bytes: &mut &[u8],
 ) -> Result<ImportParts, ImageFault>
-    requires { comps ≤ 32 }
+    requires { comps ≤ most_compartments }
     ensures { Gives (λ x. (x, bytes.new.now)) result (fields_at (import_at comps) count bytes.old.now) }
 {
     let mut imports = ImportParts::new(alloc);
@@ -199,7 +205,7 @@ fn several_imports(
 
 #[tactic(auto, unfolding(crate::specs::Reading::import_at))]
 fn import_at(comps: u8, bytes: &mut &[u8]) -> Result<ImportPart, ImageFault>
-    requires { comps ≤ 32 }
+    requires { comps ≤ most_compartments }
     ensures { Gives (λ x. (x, bytes.new.now)) result (import_at comps bytes.old.now) }
 {
     let comp = comp_id_at(BadImage::Imports, comps, bytes)?;
@@ -257,7 +263,7 @@ fn name_at(cause: BadImage, bytes: &mut &[u8]) -> Result<Name, ImageFault>
 
 // The number of one of `comps` compartments.
 fn comp_id_at(cause: BadImage, comps: u8, bytes: &mut &[u8]) -> Result<CompId, ImageFault>
-    requires { comps ≤ 32 }
+    requires { comps ≤ most_compartments }
     ensures { Gives (λ x. (x, bytes.new.now)) result (number_that (λ c. nat_lt c comps) cause 1 bytes.old.now) }
 {
     let number = u8_at(cause, bytes)?;

@@ -1,5 +1,6 @@
 //! The rules on a whole image.
 
+ghost use Rattle.sc_base.specs.Prelude.{most_compartments};
 ghost use Rattle.sc_image.specs.Prelude.{are_distinct_by, code_in, comps_keep, exports_keep, imports_keep, is_entry};
 ghost use Rattle.sc_image.specs.Prelude.{is_importable, is_same_import, is_same_name, keeps_rules};
 ghost use Rattle.std.specs.Prelude.{◌≡◌, ◌≤◌, ◌==◌, ◌&&◌, length, map, IfOk};
@@ -15,7 +16,7 @@ use std::collections::HashSet;
 /// Whether the parts keep the rules that can't be checked field by field: distinct names, entries and imports, entries
 /// at words of the code, and imports of what another compartment offers.
 pub fn keeps_rules(alloc: Global, parts: &ImageParts) -> Result<bool, AllocError>
-    requires { length parts.now.comps ≤ 32 }
+    requires { length parts.now.comps ≤ most_compartments }
     ensures { IfOk result (λ keeps. keeps ≡ keeps_rules parts.now) }
 {
     let comps = parts.comps.as_slice();
@@ -27,7 +28,7 @@ pub fn keeps_rules(alloc: Global, parts: &ImageParts) -> Result<bool, AllocError
 }
 
 fn comps_keep(alloc: Global, parts: &ImageParts, comps: &[CompPart]) -> Result<bool, AllocError>
-    requires { length comps.now ≤ 32 }
+    requires { length comps.now ≤ most_compartments }
     ensures { IfOk result (λ keep. keep ≡ comps_keep parts.now 0 comps.now) }
 {
     for (c, comp) in comps.iter().enumerate() {
@@ -137,8 +138,8 @@ fn names_of(alloc: Global, comps: &[CompPart]) -> Result<HashSet<Name>, AllocErr
 
 #[tactic(auto, using(crate::proofs::Keeping::counted))]
 fn have_distinct_export_names(alloc: Global, exports: &[ExportPart]) -> Result<bool, AllocError>
-    ensures { IfOk result (λ distinct. distinct ≡ are_distinct_by is_same_name (map (λ export. export.name)
-        exports.now)) }
+    ensures { IfOk result (λ distinct. distinct ≡
+        are_distinct_by is_same_name (map (λ export. export.name) exports.now)) }
 {
     let names = export_names_of(alloc, exports)?;
     Ok(names.len() == exports.len())

@@ -40,8 +40,8 @@ digits_number base digits = fold (λ value digit. value * base + digit_value dig
 -- at least one digit, all digits of the base, and a number that isn't too great
 unfoldable pub is_number_within : ℕ → ℕ → List ℕ → Bool
 is_number_within base greatest digits =
-    not (is_empty digits) && list_all (λ digit. is_digit_of base digit) digits && nat_le (digits_number base digits)
-    greatest
+    not (is_empty digits) && list_all (λ digit. is_digit_of base digit) digits &&
+    nat_le (digits_number base digits) greatest
 
 -- the greatest number with this base: without a suffix a decimal constant has the type `int`
 abbrev pub greatest_of : Bool → ℕ → ℕ

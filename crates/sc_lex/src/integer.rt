@@ -113,8 +113,8 @@ fn digit_value(byte: u8) -> u64
 fn number_within(base: u64, greatest: u64, digits: &[u8]) -> Option<u64>
     requires base { (1 ≤ base) × (base ≤ 16) }
     requires greatest { greatest ≤ 4294967295 }
-    ensures value { result ≡ (if is_number_within base greatest digits.now then Some (digits_number base digits.now)
-        else None) }
+    ensures value { result ≡
+        (if is_number_within base greatest digits.now then Some (digits_number base digits.now) else None) }
     ensures within { IfSome result (λ value. value ≤ 4294967295) }
 {
     let mut value = 0;

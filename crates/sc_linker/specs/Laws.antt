@@ -89,8 +89,8 @@ module _ (program : ProgramTree) (codes : List CodeTree) where
   -- imports are those of the interfaces
   pub record ImportsStand : Type 0 where
     pub function : (from to index : ℕ) →
-        may_call_export (linked_image program codes) from to index ≡ imports program.interfaces from (is_function to
-        index)
+        may_call_export (linked_image program codes) from to index ≡
+        imports program.interfaces from (is_function to index)
     pub input : (comp : ℕ) → may_input (linked_image program codes) comp ≡ imports program.interfaces comp is_input
     pub output : (comp : ℕ) → may_output (linked_image program codes) comp ≡ imports program.interfaces comp is_output
 

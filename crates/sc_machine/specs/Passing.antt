@@ -1,4 +1,5 @@
 -- Helping: what is called, and what passes in the registers.
+use Rattle.sc_base.specs.Prelude.{most_params}
 use Rattle.sc_machine.specs.Common.{ImageParts, cleared_for_call, cleared_for_return, comp_of_code, entered_export}
 use Rattle.sc_machine.specs.Common.{gate}
 use Rattle.sc_machine.specs.Common.{may_call_export, export_params, ra, sp, written}
@@ -12,7 +13,7 @@ pub record IsCallee (image : ImageParts) (caller : ℕ) (callee : Callee) : Type
   pub within : callee.comp < length image.comps
   pub index : entered_export image callee.comp callee.entry ≡ Some callee.index
   pub params : callee.params ≡ export_params image callee.comp callee.index
-  pub few : callee.params ≤ 8
+  pub few : callee.params ≤ most_params
   pub may : may_call_export image caller callee.comp callee.index ≡ true
 
 -- functions that the compartments from number c on may call

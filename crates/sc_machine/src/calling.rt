@@ -1,6 +1,7 @@
 //! Calls of other compartments.
 #![tactic(auto, unfolding(sc_image::specs::Step::execute_by))]
 
+ghost use Rattle.sc_base.specs.Prelude.{most_params};
 ghost use Rattle.sc_machine.specs.Prelude.{IsCallee, IsReady, IsWellFormed, LeavesSound, ByteMemory, MachineState};
 ghost use Rattle.sc_machine.specs.Prelude.{StaysSound};
 ghost use Rattle.sc_machine.specs.Prelude.{Traps, arguments, on_call, jump_outside, comp_of_code, entered};
@@ -151,7 +152,7 @@ fn call(here: &Here<'_>, hart: &mut Hart, callee: &Callee)
 
 /// The words of `params` arguments.
 fn arguments(alloc: Global, core: &Core, params: u8) -> Args
-    requires { params ≤ 8 }
+    requires { params ≤ most_params }
     ensures { result ≡ arguments params core.now.registers }
 {
     Args::from_slice(alloc, &core.registers[A0..A0 + params as usize]).unwrap()
@@ -160,7 +161,7 @@ fn arguments(alloc: Global, core: &Core, params: u8) -> Args
 /// Goes to the beginning of a function, with nothing in the registers but its arguments, its stack
 /// and the gate to return through.
 fn enter(core: &mut Core, params: u8, sp: u32, entry: u32)
-    requires { params ≤ 8 }
+    requires { params ≤ most_params }
     ensures { core.new ≡ entered core.old params sp entry }
 {
     clear_for_call(&mut core.registers, params);

@@ -43,8 +43,8 @@ pub(crate) fn environment_call(
 fn output(here: &Here<'_>, hart: &mut Hart)
     requires pc { hart.old.core.pc + 4 < 2 ^ 32 }
     requires ready { IsReady here.now hart.old }
-    ensures state { (memory : ByteMemory) → Goes (state_in memory hart.new) ≡ next (on_output (state_in memory
-        hart.old)) }
+    ensures state { (memory : ByteMemory) → Goes (state_in memory hart.new) ≡
+        next (on_output (state_in memory hart.old)) }
     ensures stays { StaysSound here.now.image hart.old hart.new }
 {
     hart.emit(Event::Out {

@@ -1,6 +1,7 @@
 //! The state that a run starts in.
 #![tactic(auto, unfolding(sc_image::specs::Step::execute_by))]
 
+ghost use Rattle.sc_base.specs.Prelude.{most_compartments};
 ghost use Rattle.sc_machine.specs.Prelude.{HasBytes, HasRoom, IsSound, stack_tops, start, start_memory, state_in};
 ghost use Rattle.sc_machine.specs.Prelude.{zeros};
 ghost use Rattle.sc_store.specs.Prelude.{written};
@@ -44,7 +45,7 @@ pub(crate) fn start(alloc: Global, image: &Image, events: u32) -> Result<Hart, O
 /// The tops of all stacks.
 #[tactic(auto, using(crate::proofs::Start::next_top))]
 fn stack_tops(alloc: Global, comps: &[CompPart]) -> Result<Vec<u32>, AllocError>
-    requires { length comps.now ≤ 32 }
+    requires { length comps.now ≤ most_compartments }
     ensures { IfOk result (λ tops. tops.items ≡ stack_tops 0 comps.now) }
 {
     let mut tops = Vec::new(alloc);
@@ -68,7 +69,7 @@ pub(crate) fn start_memory<S: Store>(alloc: Global, image: &Image) -> Result<S, 
 /// The regions of each compartment's data: its stack and its globals.
 #[tactic(auto, using(crate::proofs::Start::next_regions))]
 fn regions(alloc: Global, comps: &[CompPart]) -> Result<Vec<Region>, AllocError>
-    requires count { length comps.now ≤ 32 }
+    requires count { length comps.now ≤ most_compartments }
     requires few { All HasFewGlobals comps.now }
     ensures { IfOk result (λ regions. regions.items ≡ regions_of (all_data 0 comps.now)) }
 {
@@ -88,7 +89,7 @@ fn regions(alloc: Global, comps: &[CompPart]) -> Result<Vec<Region>, AllocError>
 
 /// Puts the bytes that each compartment's data begin with: its globals, since a stack begins with none.
 fn fill_all<S: Store>(memory: &mut S, comps: &[CompPart])
-    requires count { length comps.now ≤ 32 }
+    requires count { length comps.now ≤ most_compartments }
     requires few { All HasFewGlobals comps.now }
     requires zeros { S.bytes memory.old ≡ zeros (regions_of (all_data 0 comps.now)) }
     ensures { S.bytes memory.new ≡ filled_with (all_data 0 comps.now) (S.bytes memory.old) }

@@ -1,5 +1,6 @@
 //! The automaton of a policy on the events of a trace.
 
+ghost use Rattle.sc_policy.specs.Policies.{most_rules};
 ghost use Rattle.sc_monitor.specs.Verdict.{goal_of, is_compromised, move_at, rule_for, verdict};
 ghost use Rattle.std.specs.Prelude.{◌≡◌, ◌<◌, ◌^◌, ◌≤◌, length, IfSome};
 
@@ -47,7 +48,7 @@ pub fn judge(policy: &Policy, interfaces: &Interfaces, explanation: &Explanation
 }
 
 fn move_at(rules: &[Rule], interfaces: &Interfaces, state: u16, event: &Event) -> Move
-    requires { length rules.now ≤ 4096 }
+    requires { length rules.now ≤ most_rules }
     ensures { result ≡ move_at rules.now interfaces.now state event.now }
 {
     match rule_for(rules, interfaces, state, event) {

@@ -42,7 +42,7 @@ IsReached lines (Titled name) = (lines ≡ policy_line name ∷ []) × IsTrue (i
 IsReached lines (Open policy) = IsDraft lines policy
 IsReached lines (Closed policy) = IsPolicy lines policy
 
--- a name behind these bytes
+-- a name after these bytes
 name_after_says : (prefix line name : Text) → name_after prefix line ≡ Some name →
     (line ≡ prefix ++ name) × IsTrue (is_name name)
 name_after_says prefix line name says = prefixed (starts_with nat_eq line prefix) refl says

@@ -59,7 +59,7 @@ comp_in (Out comp test) = comp
 comp_in (In comp test) = comp
 comp_in (End comp test) = comp
 
--- the words behind the compartment
+-- the words after the compartment
 abbrev last_words : Pattern → List Word
 last_words (Call from to function arg) = Plain (who_word to) ∷ Plain (who_word function) ∷ arg_words arg
 last_words (Ret from to test) = Plain (who_word to) ∷ test_words test

@@ -8,6 +8,14 @@ use Rattle.sc_policy.specs.Rules.{AreRuleLines}
 use Rattle.sc_policy.specs.declared.policy.Policy.{Policy}
 use Rattle.sc_policy.specs.declared.read.PolicyRead.{PolicyRead}
 
+-- states of a policy
+abbrev pub most_states : ℕ
+most_states = 256
+
+-- rules of a policy
+abbrev pub most_rules : ℕ
+most_rules = 4096
+
 abbrev pub policy_line : (name : Text) → Text
 policy_line name = codes "policy " ++ name
 
@@ -26,8 +34,8 @@ pub record IsDraft (lines : List Text) (policy : Policy) : Type 0 where
   pub names : IsTrue (list_all is_name policy.states)
   pub distinct : HasOneNumberEach policy.states
   pub some_states : 1 ≤ length policy.states
-  pub few_states : length policy.states ≤ 256
-  pub few_rules : length policy.rules ≤ 4096
+  pub few_states : length policy.states ≤ most_states
+  pub few_rules : length policy.rules ≤ most_rules
 
 -- the lines are a policy
 pub record IsPolicy (lines : List Text) (policy : Policy) : Type 0 where

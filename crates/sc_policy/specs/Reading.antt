@@ -4,9 +4,9 @@ use Rattle.std.specs.Prelude.{ℕ, ◌+◌, ◌||◌, ◌==◌, nat_eq, nat_le, 
 use Rattle.std.specs.Prelude.{◌∷◌, ◌++◌, length}
 use Rattle.std.specs.Prelude.{take, drop, slice_get, Option, Some, None, option_and_then, option_map, if◌then◌else◌}
 use Rattle.std.specs.List.{starts_with}
-use Rattle.sc_base.specs.Prelude.{Text, is_numbered, name_of, number_by_name}
+use Rattle.sc_base.specs.Prelude.{Text, is_numbered, most_params, name_of, number_by_name}
 use Rattle.sc_policy.specs.Lines.{words_of}
-use Rattle.sc_policy.specs.Policies.{end_line}
+use Rattle.sc_policy.specs.Policies.{end_line, most_rules, most_states}
 use Rattle.sc_policy.specs.declared.policy.ArgTest.{ArgTest}
 use Rattle.sc_policy.specs.declared.policy.Compare.{Compare}
 use Rattle.sc_policy.specs.declared.policy.Compare.TheVariants.{Equal, NotEqual, Less, LessEqual, Greater, GreaterEqual}
@@ -47,7 +47,7 @@ maybe_test_of _ = None
 abbrev pub arg_of : (number op value : Text) → Option ArgTest
 arg_of number op value =
     option_and_then (λ place. option_map (λ test. record { place = place; test = test }) (test_of op value))
-    (number_within 1 8 number)
+    (number_within 1 most_params number)
 
 abbrev pub maybe_arg_of : List Text → Option (Option ArgTest)
 maybe_arg_of [] = Some None
@@ -76,7 +76,7 @@ pattern_of kind comp words =
     if bytes_eq kind (codes "in") then option_map (λ test. In comp test) (maybe_test_of words) else (
     if bytes_eq kind (codes "end") then option_map (λ test. End comp test) (maybe_test_of words) else None))))
 
--- how many of the words behind the compartment are the pattern's: names, and a test where more than a goal follows
+-- how many of the words after the compartment are the pattern's: names, and a test where more than a goal follows
 abbrev pub name_count : (kind : Text) → ℕ
 name_count kind = if bytes_eq kind (codes "call") then 2 else (if bytes_eq kind (codes "ret") then 1 else 0)
 
@@ -87,7 +87,7 @@ abbrev pub pattern_count : (kind : Text) → (count : ℕ) → ℕ
 pattern_count kind count =
     if nat_lt (name_count kind + 2) count then name_count kind + test_count kind else name_count kind
 
--- the words behind the compartment that are the pattern's, and those that are the goal's
+-- the words after the compartment that are the pattern's, and those that are the goal's
 abbrev pub pattern_part : (kind : Text) → List Text → List Text
 pattern_part kind words = take (pattern_count kind (length words)) words
 
@@ -140,7 +140,7 @@ begun name state = Open (record { name = name; states = state ∷ []; rules = []
 -- a state that a policy can have besides, before its rules
 abbrev pub new_state : Policy → Text → Option Text
 new_state policy line =
-    if not (length policy.rules == 0) || nat_le 256 (length policy.states) then None else
+    if not (length policy.rules == 0) || nat_le most_states (length policy.states) then None else
     option_and_then (λ name. if is_numbered policy.states name then None else Some name)
     (name_after (codes "state ") line)
 
@@ -152,7 +152,7 @@ with_rule policy rule = Open (record policy { rules = policy.rules ++ rule ∷ [
 
 abbrev pub ruled : Policy → Text → Option Progress
 ruled policy line =
-    if nat_le 4096 (length policy.rules) then None else option_map (with_rule policy)
+    if nat_le most_rules (length policy.rules) then None else option_map (with_rule policy)
     (rule_of policy.states (words_of line))
 
 abbrev pub stated_or_ruled : Policy → Text → Option Text → Option Progress

@@ -1,6 +1,6 @@
 -- Which rules there are, and the lines that they have.
 use Rattle.std.specs.Prelude.{ℕ, ◌<◌, ◌≤◌, IsTrue, List, [], ◌∷◌, length, Option, Some, None}
-use Rattle.sc_base.specs.Prelude.{Text}
+use Rattle.sc_base.specs.Prelude.{Text, most_params}
 unfoldable use Rattle.sc_base.specs.Prelude.{is_name}
 use Rattle.sc_policy.specs.Lines.{words_of}
 use Rattle.sc_policy.specs.Words.{AreWritten, rule_words}
@@ -19,7 +19,7 @@ IsWho (Named name) = IsTrue (is_name name)
 -- an argument's number is one that an argument has
 abbrev pub IsArgTest : Option ArgTest → Type 0
 IsArgTest None = Unit {0}
-IsArgTest (Some arg) = (1 ≤ arg.place) × (arg.place ≤ 8)
+IsArgTest (Some arg) = (1 ≤ arg.place) × (arg.place ≤ most_params)
 
 abbrev pub IsPattern : Pattern → Type 0
 IsPattern (Call from to function arg) = IsWho from × IsWho to × IsWho function × IsArgTest arg

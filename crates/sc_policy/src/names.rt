@@ -1,3 +1,4 @@
+ghost use Rattle.sc_policy.specs.Policies.{most_states};
 ghost use Rattle.std.specs.Prelude.{◌≡◌, ◌≤◌, ◌<◌, ◌↔◌, [], ◌∷◌, ◌++◌, length, IfOk, OnOk, OnErr, IsTrue};
 
 use sc_base::{Name, OutOfMemory};
@@ -12,20 +13,21 @@ pub struct Names {
 }
 
 impl Model for Names {
+    ghost use Rattle.sc_policy.specs.Policies.{most_states};
     ghost use Rattle.std.specs.Prelude.{List, ℕ, ◌≤◌, length};
 
     ghost Value = { List (List ℕ) };
 
     ghost view = { λ list. list.names };
 
-    ghost invariant = { λ list. (1 ≤ length list.names) × (length list.names ≤ 256) };
+    ghost invariant = { λ list. (1 ≤ length list.names) × (length list.names ≤ most_states) };
 }
 
 impl Names {
     /// How many states a policy has at most.
     pub const LIMIT: usize = 256;
 
-    /// This name alone.
+    /// Only this name.
     pub fn of(alloc: Global, name: Name) -> Result<Names, OutOfMemory>
         ensures { IfOk result (λ names. names ≡ name ∷ []) }
     {
@@ -36,14 +38,14 @@ impl Names {
 
     /// Whether no name can be added.
     pub fn is_full(&self) -> bool
-        ensures { IsTrue result ↔ (256 ≤ length self.now) }
+        ensures { IsTrue result ↔ (most_states ≤ length self.now) }
     {
         self.names.len() >= Names::LIMIT
     }
 
     /// Adds a name after the others.
     pub fn push(&mut self, name: Name) -> Result<(), OutOfMemory>
-        requires { length self.old < 256 }
+        requires { length self.old < most_states }
         ensures ok { OnOk result (self.new ≡ self.old ++ name ∷ []) }
         ensures err { OnErr result (self.new ≡ self.old) }
     {
@@ -54,7 +56,7 @@ impl Names {
     /// The names in order.
     pub fn as_slice(&self) -> &[Name]
         ensures names { result.now ≡ self.now }
-        ensures within { (1 ≤ length result.now) × (length result.now ≤ 256) }
+        ensures within { (1 ≤ length result.now) × (length result.now ≤ most_states) }
     {
         self.names.as_slice()
     }

@@ -1,5 +1,6 @@
 //! The words of rules.
 
+ghost use Rattle.sc_policy.specs.Policies.{most_states};
 ghost use Rattle.sc_policy.specs.Reading.{call_of, comp_of, ends_of, goal_of, goal_part, name_count};
 ghost use Rattle.sc_policy.specs.Reading.{pattern_count, pattern_of, pattern_part, pattern_with, ret_of, test_count};
 ghost use Rattle.std.specs.Prelude.{◌≡◌, ◌<◌, ◌≤◌, IfSome, length, map, nat_eq};
@@ -10,7 +11,7 @@ use crate::words::{maybe_arg_of, maybe_test_of, who_of};
 use crate::{Pattern, Who};
 use sc_base::Name;
 
-/// The compartment of a rule's pattern, which stands behind the pattern's kind.
+/// The compartment of a rule's pattern, which stands after the pattern's kind.
 pub(crate) fn comp_of(words: &[&[u8]]) -> Option<Who>
     ensures { result ≡ comp_of (map (λ word. word.now) words.now) }
 {
@@ -30,7 +31,7 @@ pub(crate) fn pattern_with(comp: Who, words: &[&[u8]]) -> Option<Pattern>
 
 /// The state and the goal of a rule.
 pub(crate) fn ends_of(states: &[Name], words: &[&[u8]]) -> Option<(u16, Option<u16>)>
-    requires { length states.now ≤ 256 }
+    requires { length states.now ≤ most_states }
     ensures { result ≡ ends_of states.now (map (λ word. word.now) words.now) }
 {
     let [on, state, kind, _, rest @ ..] = words else {
@@ -46,7 +47,7 @@ pub(crate) fn ends_of(states: &[Name], words: &[&[u8]]) -> Option<(u16, Option<u
 
 // The place of the state of this name.
 fn place_of(states: &[Name], name: &[u8]) -> Option<u16>
-    requires { length states.now ≤ 256 }
+    requires { length states.now ≤ most_states }
     ensures { result ≡ number_by_name states.now name.now }
 {
     let place = position_of(states, name)?;
@@ -67,7 +68,7 @@ fn is_called(state: &Name, name: &[u8]) -> bool
 }
 
 fn goal_of(states: &[Name], words: &[&[u8]]) -> Option<Option<u16>>
-    requires { length states.now ≤ 256 }
+    requires { length states.now ≤ most_states }
     ensures { result ≡ goal_of states.now (map (λ word. word.now) words.now) }
 {
     match words {
@@ -89,7 +90,7 @@ fn goal_of(states: &[Name], words: &[&[u8]]) -> Option<Option<u16>>
     }
 }
 
-// The words behind the compartment that are the pattern's.
+// The words after the compartment that are the pattern's.
 #[tactic(auto, using(crate::proofs::Parts::parts))]
 fn pattern_part<'a>(kind: &[u8], words: &'a [&'a [u8]]) -> &'a [&'a [u8]]
     ensures { map (λ word. word.now) result.now ≡ pattern_part kind.now (map (λ word. word.now) words.now) }
@@ -98,7 +99,7 @@ fn pattern_part<'a>(kind: &[u8], words: &'a [&'a [u8]]) -> &'a [&'a [u8]]
     &words[..count.min(words.len())]
 }
 
-// The words behind the compartment that are the goal's.
+// The words after the compartment that are the goal's.
 #[tactic(auto, using(crate::proofs::Parts::parts))]
 fn goal_part<'a>(kind: &[u8], words: &'a [&'a [u8]]) -> &'a [&'a [u8]]
     ensures { map (λ word. word.now) result.now ≡ goal_part kind.now (map (λ word. word.now) words.now) }

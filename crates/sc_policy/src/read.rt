@@ -9,7 +9,7 @@ use crate::progress::Progress;
 use crate::{Policy, PolicyFault};
 use std::alloc::Global;
 
-/// A policy, and the place in the bytes behind the newline of its last line.
+/// A policy, and the place in the bytes after the newline of its last line.
 #[derive(Drop)]
 pub struct PolicyRead {
     pub policy: Policy,

@@ -1,3 +1,4 @@
+ghost use Rattle.sc_policy.specs.Policies.{most_rules};
 ghost use Rattle.std.specs.Prelude.{◌≡◌, ◌≤◌, ◌↔◌, [], length, IsTrue};
 
 use crate::Rule;
@@ -12,6 +13,7 @@ pub struct Rules {
 }
 
 impl Model for Rules {
+    ghost use Rattle.sc_policy.specs.Policies.{most_rules};
     ghost use Rattle.std.specs.Prelude.{List, ◌≤◌, length};
     ghost use Rattle.sc_policy.specs.declared.policy.Rule.{Rule};
 
@@ -19,7 +21,7 @@ impl Model for Rules {
 
     ghost view = { λ list. list.rules };
 
-    ghost invariant = { λ list. length list.rules ≤ 4096 };
+    ghost invariant = { λ list. length list.rules ≤ most_rules };
 }
 
 impl Rules {
@@ -37,7 +39,7 @@ impl Rules {
 
     /// Whether no rule can be added.
     pub fn is_full(&self) -> bool
-        ensures { IsTrue result ↔ (4096 ≤ length self.now) }
+        ensures { IsTrue result ↔ (most_rules ≤ length self.now) }
     {
         self.rules.len() >= Rules::LIMIT
     }
@@ -45,7 +47,7 @@ impl Rules {
     /// The rules in order.
     pub fn as_slice(&self) -> &[Rule]
         ensures rules { result.now ≡ self.now }
-        ensures within { length result.now ≤ 4096 }
+        ensures within { length result.now ≤ most_rules }
     {
         self.rules.as_slice()
     }

@@ -56,8 +56,8 @@ fn section_lines(
     section: &SectionTree,
     lines: &mut BrokenLines,
 ) -> Result<(), OutOfMemory>
-    ensures { (callees : Callees) → OnOk result (lines.new ≡ with_lines lines.old (section_count_lines section.now
-        callees)) }
+    ensures { (callees : Callees) → OnOk result (lines.new ≡
+        with_lines lines.old (section_count_lines section.now callees)) }
 {
     let sizes = Sizes::new(alloc, section)?;
     lines.unless(is_short(&section.decls), 1);

@@ -94,8 +94,8 @@ pub fn globals_lines(sizes: &Sizes, decls: &Decls, lines: &mut BrokenLines)
 
 #[tactic(auto, using(crate::proofs::Noted::noting))]
 fn if_global(sizes: &Sizes, decl: &Decl, lines: &mut BrokenLines)
-    ensures { lines.new ≡ with_lines lines.old (concat (map (global_count_lines sizes.now) (globals_in (decl.now ∷
-        [])))) }
+    ensures { lines.new ≡ with_lines lines.old
+        (concat (map (global_count_lines sizes.now) (globals_in (decl.now ∷ [])))) }
 {
     match decl {
         Decl::Global(tree) => lines.unless(sizes.is_small(&tree.ty), tree.line),
@@ -127,8 +127,8 @@ fn if_head(sizes: &Sizes, decl: &Decl, lines: &mut BrokenLines)
 
 /// Notes the functions with parameters and the locals that are too large.
 pub fn functions_lines(sizes: &Sizes, decls: &Decls, lines: &mut BrokenLines)
-    ensures { lines.new ≡ with_lines lines.old (concat (map (function_count_lines sizes.now) (function_decls
-        decls.now))) }
+    ensures { lines.new ≡ with_lines lines.old
+        (concat (map (function_count_lines sizes.now) (function_decls decls.now))) }
 {
     for decl in decls.as_slice() {
         if_function(sizes, decl, lines);

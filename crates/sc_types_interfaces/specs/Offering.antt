@@ -1,4 +1,5 @@
 -- Helping: the interfaces of sections by tables of places, in which a name is found at once.
+use Rattle.sc_base.specs.Prelude.{most_params}
 use Rattle.sc_types_interfaces.specs.Common.{Decl, ExportLine, ImportLine, SectionTable, SectionTree, Text, among}
 use Rattle.sc_types_interfaces.specs.Common.{first_by_name, function_in, function_decls, is_environment, main_name}
 use Rattle.sc_types_interfaces.specs.Common.{most_compartments, most_exports, number_or_zero, scalar_of, with_first}
@@ -20,9 +21,9 @@ abbrev pub HasFewExports : SectionTree → Type 0
 HasFewExports section = length section.exports ≤ most_exports
 
 abbrev pub HasFewParams : FunctionTree → Type 0
-HasFewParams tree = length tree.head.params ≤ 8
+HasFewParams tree = length tree.head.params ≤ most_params
 
--- at most 32 sections, 4,096 exports each, and 8 parameters a function
+-- at most as many sections, exports and parameters as are allowed
 pub record IsWithinCounts (text : List SectionTree) : Type 0 where
   pub sections : length text ≤ most_compartments
   pub exports : All HasFewExports text
@@ -67,7 +68,7 @@ promised_by name None = record { name = name; params = []; result = None }
 promised_by name (Some tree) =
     record {
       name = name;
-      params = take 8 (map {A = FunctionParam} (λ param. scalar_of param.ty) tree.head.params);
+      params = take most_params (map {A = FunctionParam} (λ param. scalar_of param.ty) tree.head.params);
       result = option_map scalar_of tree.head.result;
     }
 
