@@ -1,29 +1,19 @@
 -- What lines are read as is a policy exactly where the lines are one.
-use Rattle.sc_policy.proofs.Common.{Bool, IsTrue, List, None, Option, Some, Text, [], ap, arith, cond, drop, eqb-true}
-use Rattle.sc_policy.proofs.Common.{false, length, length-append, map, refl, subst, sym, take, take-append-drop, true}
-use Rattle.sc_policy.proofs.Common.{words_of, ℕ, ◌&&◌, ◌++◌, ◌+◌, ◌<◌, ◌==◌, ◌∙◌, ◌∷◌, ◌≡◌, ◌≤◌}
+use Rattle.sc_policy.proofs.Common.{AllByRecursion, AreRuleLines, AreWritten, BeginsPolicy, Bool, Closed}
+use Rattle.sc_policy.proofs.Common.{HasOneNumberEach, IsDistinct, IsDistinct-push, IsDraft, IsPolicy, IsRuleLine}
+use Rattle.sc_policy.proofs.Common.{IsTrue, List, None, Open, Option, Policy, Progress, Rule, Some, Start, Text, Titled}
+use Rattle.sc_policy.proofs.Common.{[], after, after_all, and_parts, ap, append-nil, append_assoc, arith, begun}
+use Rattle.sc_policy.proofs.Common.{bytes_eq, bytes_eq_self, codes, cond, continued, drop, end_line, eqb-true, false}
+use Rattle.sc_policy.proofs.Common.{is_numbered, length, length-append, list_all, lt-leb, map, map-append, name_after}
+use Rattle.sc_policy.proofs.Common.{name_of, nat_eq, nat_le, new_state, not, option_and_then, option_map, policy_line}
+use Rattle.sc_policy.proofs.Common.{refl, rule_of, rule_words, ruled, rules, same_text, starts_with, state_line}
+use Rattle.sc_policy.proofs.Common.{stated_or_ruled, subst, sym, take, take-append-drop, true, with_rule, with_state}
+use Rattle.sc_policy.proofs.Common.{words_of, ℕ, ◌&&◌, ◌++◌, ◌+◌, ◌<◌, ◌==◌, ◌||◌, ◌∙◌, ◌∷◌, ◌≡◌, ◌≤◌}
 use Rattle.sc_policy.proofs.RuleLines.{line_is, line_says}
 use Rattle.sc_policy.proofs.Spelling.{bound, made}
-use Rattle.std.proofs.Common.{append-nil, append_assoc, bytes_eq, codes, nat_eq, nat_le, not, option_and_then}
-use Rattle.std.proofs.Common.{option_map, rules, ◌||◌}
 use Rattle.std.proofs.Math.Seq.{drop-append_seam, take-append_seam}
-use Rattle.std.proofs.lemmas.Bool.{and_parts, lt-leb}
 use Rattle.std.proofs.lemmas.Cmp.{nat_list_eq_equiv}
-use Rattle.std.proofs.lemmas.List.{map-append}
-use Rattle.std.proofs.lemmas.Map.Keys.{IsDistinct-push}
-use Rattle.std.specs.List.{AllByRecursion, IsDistinct, list_all, starts_with}
-use Rattle.sc_base.proofs.Texts.{bytes_eq_self, same_text}
-use Rattle.sc_base.specs.Prelude.{HasOneNumberEach, is_numbered, name_of}
 unfoldable use Rattle.sc_base.specs.Prelude.{is_name}
-use Rattle.sc_policy.specs.Policies.{BeginsPolicy, IsDraft, IsPolicy, end_line, policy_line, state_line}
-use Rattle.sc_policy.specs.Reading.{after, after_all, begun, continued, name_after, new_state, rule_of, ruled}
-use Rattle.sc_policy.specs.Reading.{stated_or_ruled, with_rule, with_state}
-use Rattle.sc_policy.specs.Rules.{AreRuleLines, IsRuleLine}
-use Rattle.sc_policy.specs.Words.{AreWritten, rule_words}
-use Rattle.sc_policy.specs.declared.policy.Policy.{Policy}
-use Rattle.sc_policy.specs.declared.policy.Rule.{Rule}
-use Rattle.sc_policy.specs.declared.progress.Progress.{Progress}
-use Rattle.sc_policy.specs.declared.progress.Progress.TheVariants.{Start, Titled, Open, Closed}
 
 -- lines are read one after another
 pub after_more : (progress : Option Progress) (xs ys : List Text) →

@@ -1,33 +1,18 @@
 -- No line of a policy has a newline, so the bytes of lines are cut into these lines again.
-use Rattle.sc_policy.proofs.Common.{Bool, IsTrue, List, None, Option, Some, Text, [], ap, bytes_of, cond, eqb-true}
-use Rattle.sc_policy.proofs.Common.{false, length, lines_of, map, onto_line, refl, suc, sym, true, words_of, zero}
-use Rattle.sc_policy.proofs.Common.{ℕ, ◌&&◌, ◌++◌, ◌==◌, ◌∙◌, ◌∷◌, ◌≡◌}
+use Rattle.sc_policy.proofs.Common.{Any, AreRuleLines, AreWritten, ArgTest, Bool, Call, Compare, Decimal, End, Equal}
+use Rattle.sc_policy.proofs.Common.{Greater, GreaterEqual, In, IsPattern, IsPolicy, IsRuleLine, IsTrue, IsWho, Less}
+use Rattle.sc_policy.proofs.Common.{LessEqual, List, Named, None, NotEqual, Option, Out, Pattern, Plain, Policy, Ret}
+use Rattle.sc_policy.proofs.Common.{Rule, Some, Test, Text, Who, Word, [], and_from, and_parts, ap, append_assoc}
+use Rattle.sc_policy.proofs.Common.{arg_words, bytes_of, codes, compare_word, cond, digits_value, end_line, eqb-true}
+use Rattle.sc_policy.proofs.Common.{false, goal_words, integer, is_name_byte, is_nondigit, length, lines_of, list_all}
+use Rattle.sc_policy.proofs.Common.{list_all_along, map, nat_lt, neg_ℤ, not, number, number_within, onto_first}
+use Rattle.sc_policy.proofs.Common.{onto_line, option_map, pattern_words, policy_line, pos, refl, rule_words}
+use Rattle.sc_policy.proofs.Common.{state_line, state_name, suc, sym, test_words, true, when_within, who_word, words_of}
+use Rattle.sc_policy.proofs.Common.{zero, ℕ, ℤ, ◌&&◌, ◌++◌, ◌==◌, ◌∙◌, ◌∷◌, ◌≡◌}
 use Rattle.sc_policy.proofs.Spelling.{bound, made}
-use Rattle.std.proofs.Common.{append_assoc, codes, nat_lt, not, option_map}
-use Rattle.std.proofs.lemmas.Bool.{and_from, and_parts}
 use Rattle.std.specs.Char.{is_ascii_digit}
-use Rattle.std.specs.List.{list_all, onto_first}
-use Rattle.std.specs.Prelude.{ℤ, pos, neg_ℤ}
 use Rattle.std.specs.Str.{all_ascii_digits}
-use Rattle.std.specs.Str.Parse.{digits_value}
-use Rattle.sc_base.specs.Prelude.{is_name_byte, is_nondigit}
 unfoldable use Rattle.sc_base.specs.Prelude.{is_name}
-use Rattle.sc_base.proofs.Lists.{list_all_along}
-use Rattle.sc_number.specs.Numbers.{integer, number, number_within, when_within}
-use Rattle.sc_policy.specs.Policies.{IsPolicy, end_line, policy_line, state_line}
-use Rattle.sc_policy.specs.Rules.{AreRuleLines, IsRuleLine, IsWho, IsPattern}
-use Rattle.sc_policy.specs.Words.{AreWritten, Decimal, Plain, Word, arg_words, compare_word, goal_words, pattern_words}
-use Rattle.sc_policy.specs.Words.{rule_words, state_name, test_words, who_word}
-use Rattle.sc_policy.specs.declared.policy.ArgTest.{ArgTest}
-use Rattle.sc_policy.specs.declared.policy.Compare.{Compare}
-use Rattle.sc_policy.specs.declared.policy.Compare.TheVariants.{Equal, NotEqual, Less, LessEqual, Greater, GreaterEqual}
-use Rattle.sc_policy.specs.declared.policy.Pattern.{Pattern}
-use Rattle.sc_policy.specs.declared.policy.Pattern.TheVariants.{Call, Ret, Out, In, End}
-use Rattle.sc_policy.specs.declared.policy.Policy.{Policy}
-use Rattle.sc_policy.specs.declared.policy.Rule.{Rule}
-use Rattle.sc_policy.specs.declared.policy.Test.{Test}
-use Rattle.sc_policy.specs.declared.policy.Who.{Who}
-use Rattle.sc_policy.specs.declared.policy.Who.TheVariants.{Any, Named}
 
 abbrev is_plain : Text → Bool
 is_plain text = list_all (λ byte. not (byte == 10)) text

@@ -1,7 +1,7 @@
 -- Lists of words that are cut in two, and those that are too short or too long.
-use Rattle.sc_policy.proofs.Common.{List, None, Option, [], ap, arith, drop, length, map, min, refl, suc, sym}
-use Rattle.sc_policy.proofs.Common.{Text, take, zero, ℕ, ◌<◌, ◌∙◌, ◌∷◌, ◌≡◌, ◌≤◌}
-use Rattle.sc_policy.specs.Reading.{goal_of, goal_part, maybe_arg_of, maybe_test_of, pattern_count, pattern_part}
+use Rattle.sc_policy.proofs.Common.{List, None, Option, Text, [], ap, arith, drop, goal_of, goal_part, length, map}
+use Rattle.sc_policy.proofs.Common.{maybe_arg_of, maybe_test_of, min, pattern_count, pattern_part, refl, suc, sym, take}
+use Rattle.sc_policy.proofs.Common.{zero, ℕ, ◌<◌, ◌∙◌, ◌∷◌, ◌≡◌, ◌≤◌}
 
 module _ {A : Type 0} (f : A → Text) where
   taken : (n : ℕ) (xs : List A) → map f (take (min n (length xs)) xs) ≡ take n (map f xs)

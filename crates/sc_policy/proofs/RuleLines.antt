@@ -1,26 +1,17 @@
 -- A line is read as a rule exactly where it says that rule.
-use Rattle.sc_policy.proofs.Common.{List, None, Option, Some, Text, [], ap, arith, cond, drop, length}
-use Rattle.sc_policy.proofs.Common.{get_or, refl, subst, suc, sym, take, take-append-drop, true, words_of, ℕ, ◌++◌, ◌<◌}
-use Rattle.sc_policy.proofs.Common.{◌∙◌, ◌∷◌, ◌≡◌}
+use Rattle.sc_policy.proofs.Common.{AreWritten, Call, End, HasOneNumberEach, In, IsGoal, IsPattern, IsRuleLine, IsWho}
+use Rattle.sc_policy.proofs.Common.{List, None, Option, Out, Pattern, Plain, Ret, Rule, Some, Text, Who, Word, [], ap}
+use Rattle.sc_policy.proofs.Common.{apart_from_distinct, arg_words, arith, bytes_eq, bytes_eq_self, call_of, cases_lt}
+use Rattle.sc_policy.proofs.Common.{codes, cond, drop, ends_of, get_or, goal_of, goal_part, goal_words, joined, length}
+use Rattle.sc_policy.proofs.Common.{maybe_arg_of, maybe_test_of, nat_eq, number_by_name, option_and_then, option_map}
+use Rattle.sc_policy.proofs.Common.{pattern_count, pattern_of, pattern_part, pattern_with, pattern_words}
+use Rattle.sc_policy.proofs.Common.{position_of_only, refl, ret_of, rule_of, rule_words, same_text, state_name, subst}
+use Rattle.sc_policy.proofs.Common.{suc, sym, take, take-append-drop, test_words, true, who_of, who_word, words_of, ℕ}
+use Rattle.sc_policy.proofs.Common.{⊎_elim, ◌++◌, ◌<◌, ◌∙◌, ◌∷◌, ◌≡◌}
 use Rattle.sc_policy.proofs.Spelling.{bound, either, made, maybe_arg_is, maybe_arg_says, maybe_test_is, maybe_test_says}
 use Rattle.sc_policy.proofs.Spelling.{who_is, who_says}
-use Rattle.std.proofs.Common.{bytes_eq, codes, nat_eq, option_and_then, option_map, ⊎_elim}
-use Rattle.std.proofs.lemmas.Bool.{cases_lt}
 use Rattle.std.proofs.lemmas.List.Quantifiers.{position-Some}
-use Rattle.std.proofs.lemmas.Map.Keys.{apart_from_distinct}
 use Rattle.std.specs.Cmp.Lexicographic.{pointwise}
-use Rattle.sc_base.proofs.Lists.{position_of_only}
-use Rattle.sc_base.proofs.Texts.{bytes_eq_self, same_text}
-use Rattle.sc_base.specs.Prelude.{HasOneNumberEach, number_by_name}
-use Rattle.sc_policy.specs.Reading.{call_of, ends_of, goal_of, goal_part, joined, maybe_arg_of, maybe_test_of}
-use Rattle.sc_policy.specs.Reading.{pattern_count, pattern_of, pattern_part, pattern_with, ret_of, rule_of, who_of}
-use Rattle.sc_policy.specs.Rules.{IsGoal, IsPattern, IsRuleLine, IsWho}
-use Rattle.sc_policy.specs.Words.{AreWritten, Plain, Word, arg_words, goal_words, pattern_words, rule_words, state_name}
-use Rattle.sc_policy.specs.Words.{test_words, who_word}
-use Rattle.sc_policy.specs.declared.policy.Pattern.{Pattern}
-use Rattle.sc_policy.specs.declared.policy.Pattern.TheVariants.{Call, Ret, Out, In, End}
-use Rattle.sc_policy.specs.declared.policy.Rule.{Rule}
-use Rattle.sc_policy.specs.declared.policy.Who.{Who}
 
 -- ---- words in two parts
 

@@ -1,20 +1,13 @@
 -- What was read where the reading of a policy comes to a line, and what ends it.
-use Rattle.sc_policy.proofs.Common.{List, None, Option, Some, Text, [], ap, arith, bytes_of, drop, get_or}
-use Rattle.sc_policy.proofs.Common.{length, length-append, lines_of, min, refl, slice_range, subst, suc, sym, take}
-use Rattle.sc_policy.proofs.Common.{zero, ℕ, ◌++◌, ◌+◌, ◌-◌, ◌<◌, ◌∙◌, ◌∷◌, ◌≡◌, ◌≤◌}
-use Rattle.std.proofs.Common.{append-nil, append_assoc, inl, inr, option_and_then}
-use Rattle.std.proofs.lemmas.List.{take_more}
-use Rattle.std.specs.Prelude.{Err, IsErrOf}
-use Rattle.sc_base.proofs.Lists.{take_prefix}
+use Rattle.sc_policy.proofs.Common.{BeginsPolicy, Closed, Err, IsBadAt, IsErrOf, IsPolicy, IsPolicyRead, List, None}
+use Rattle.sc_policy.proofs.Common.{Open, Option, Policy, PolicyRead, Progress, Some, Start, Text, Titled, [], after}
+use Rattle.sc_policy.proofs.Common.{after_all, ap, append-nil, append_assoc, arith, bytes_of, drop, get_or, inl, inr}
+use Rattle.sc_policy.proofs.Common.{length, length-append, lines_of, min, option_and_then, refl, slice_range, subst}
+use Rattle.sc_policy.proofs.Common.{suc, sym, take, take_more, take_prefix, zero, ℕ, ◌++◌, ◌+◌, ◌-◌, ◌<◌, ◌∙◌, ◌∷◌, ◌≡◌}
+use Rattle.sc_policy.proofs.Common.{◌≤◌}
 use Rattle.sc_policy.proofs.Drafts.{IsReached, after_more, begins, nothing_after, policy_is_read, reached_more}
-use Rattle.sc_policy.specs.Policies.{BeginsPolicy, IsBadAt, IsPolicy, IsPolicyRead}
-use Rattle.sc_policy.specs.Reading.{after, after_all}
 use Rattle.sc_policy.specs.declared.fault.PolicyFault.{PolicyFault}
 use Rattle.sc_policy.specs.declared.fault.PolicyFault.TheVariants.{Bad}
-use Rattle.sc_policy.specs.declared.policy.Policy.{Policy}
-use Rattle.sc_policy.specs.declared.progress.Progress.{Progress}
-use Rattle.sc_policy.specs.declared.progress.Progress.TheVariants.{Start, Titled, Open, Closed}
-use Rattle.sc_policy.specs.declared.read.PolicyRead.{PolicyRead}
 
 abbrev pub IsUnclosed : Progress → Type 0
 IsUnclosed Start = Unit {0}

@@ -1,22 +1,13 @@
 -- What the words of a rule say, and the words that say it.
-use Rattle.sc_policy.proofs.Common.{Bool, IsTrue, List, None, Option, Some, Text, [], ap, arith, cond, eqb-true}
-use Rattle.sc_policy.proofs.Common.{false, length, refl, subst, suc, true, zero, ℕ, ◌&&◌, ◌==◌, ◌∙◌, ◌∷◌, ◌≡◌, ◌≤◌}
-use Rattle.std.proofs.Common.{bytes_eq, codes, le-leb, nat_le, nat_lt, option_and_then, option_map}
-use Rattle.std.specs.Prelude.{ℤ, pos, neg_ℤ}
-use Rattle.std.specs.Str.Parse.{digits_value}
-use Rattle.sc_base.proofs.Texts.{same_text}
-use Rattle.sc_base.specs.Prelude.{name_of}
+use Rattle.sc_policy.proofs.Common.{Any, AreWritten, ArgTest, Bool, Compare, Decimal, Equal, Greater, GreaterEqual}
+use Rattle.sc_policy.proofs.Common.{IsArgTest, IsTrue, IsWho, Less, LessEqual, List, Named, None, NotEqual, Option}
+use Rattle.sc_policy.proofs.Common.{Some, Test, Text, Who, [], ap, arg_of, arg_words, arith, bytes_eq, codes}
+use Rattle.sc_policy.proofs.Common.{compare_of, compare_word, cond, digits_value, eqb-true, false, integer, le-leb}
+use Rattle.sc_policy.proofs.Common.{length, maybe_arg_of, maybe_test_of, name_of, nat_le, nat_lt, neg_ℤ, number}
+use Rattle.sc_policy.proofs.Common.{number_within, option_and_then, option_map, pos, refl, same_text, subst, suc}
+use Rattle.sc_policy.proofs.Common.{test_of, test_words, true, when_within, who_of, who_word, zero, ℕ, ℤ, ◌&&◌, ◌==◌}
+use Rattle.sc_policy.proofs.Common.{◌∙◌, ◌∷◌, ◌≡◌, ◌≤◌}
 unfoldable use Rattle.sc_base.specs.Prelude.{is_name}
-use Rattle.sc_number.specs.Numbers.{integer, number, number_within, when_within}
-use Rattle.sc_policy.specs.Reading.{arg_of, compare_of, maybe_arg_of, maybe_test_of, test_of, who_of}
-use Rattle.sc_policy.specs.Rules.{IsArgTest, IsWho}
-use Rattle.sc_policy.specs.Words.{AreWritten, Decimal, arg_words, compare_word, test_words, who_word}
-use Rattle.sc_policy.specs.declared.policy.ArgTest.{ArgTest}
-use Rattle.sc_policy.specs.declared.policy.Compare.{Compare}
-use Rattle.sc_policy.specs.declared.policy.Compare.TheVariants.{Equal, NotEqual, Less, LessEqual, Greater, GreaterEqual}
-use Rattle.sc_policy.specs.declared.policy.Test.{Test}
-use Rattle.sc_policy.specs.declared.policy.Who.{Who}
-use Rattle.sc_policy.specs.declared.policy.Who.TheVariants.{Any, Named}
 
 -- what an option was made from
 pub record IsMade {A B : Type 0} (f : A → B) (from : Option A) (to : B) : Type 0 where

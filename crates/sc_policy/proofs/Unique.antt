@@ -1,20 +1,11 @@
 -- Bytes begin with one policy at most, and where they begin with one no line is bad.
-use Rattle.sc_policy.proofs.Common.{List, None, Option, Some, Text, [], ap, arith, bytes_of, drop, length}
-use Rattle.sc_policy.proofs.Common.{length-take-le}
-use Rattle.sc_policy.proofs.Common.{lines_of, refl, subst, suc, sym, take, take-append-drop, zero, ℕ, ◌++◌, ◌-◌, ◌<◌}
-use Rattle.sc_policy.proofs.Common.{◌∙◌}
-use Rattle.sc_policy.proofs.Common.{◌∷◌, ◌≡◌, ◌≤◌}
-use Rattle.std.proofs.Common.{append_assoc, ⊎_elim}
-use Rattle.std.proofs.lemmas.Bool.{cases_lt}
-use Rattle.sc_base.proofs.Lists.{take_all, take_prefix}
+use Rattle.sc_policy.proofs.Common.{BeginsPolicy, Closed, IsBadAt, IsPolicy, IsPolicyRead, List, None, Option, Policy}
+use Rattle.sc_policy.proofs.Common.{PolicyRead, Progress, Some, Start, Text, [], after, after_all, ap, append_assoc}
+use Rattle.sc_policy.proofs.Common.{arith, bytes_of, cases_lt, drop, length, length-take-le, lines_of, refl, subst, suc}
+use Rattle.sc_policy.proofs.Common.{sym, take, take-append-drop, take_all, take_prefix, zero, ℕ, ⊎_elim, ◌++◌, ◌-◌, ◌<◌}
+use Rattle.sc_policy.proofs.Common.{◌∙◌, ◌∷◌, ◌≡◌, ◌≤◌}
 use Rattle.sc_policy.proofs.Drafts.{nothing_after, policy_is_read}
 use Rattle.sc_policy.proofs.Newlines.{lines_again, policy_is_plain}
-use Rattle.sc_policy.specs.Policies.{BeginsPolicy, IsBadAt, IsPolicy, IsPolicyRead}
-use Rattle.sc_policy.specs.Reading.{after, after_all}
-use Rattle.sc_policy.specs.declared.policy.Policy.{Policy}
-use Rattle.sc_policy.specs.declared.progress.Progress.{Progress}
-use Rattle.sc_policy.specs.declared.progress.Progress.TheVariants.{Start, Closed}
-use Rattle.sc_policy.specs.declared.read.PolicyRead.{PolicyRead}
 
 -- ---- one policy
 

@@ -1,4 +1,4 @@
-pub mod Prelude
+pub mod Limits
 pub mod Lines
 pub mod Policies
 pub mod Reading

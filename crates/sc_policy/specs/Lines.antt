@@ -1,7 +1,7 @@
 -- The lines of a text, and the words of a line.
+use Rattle.sc_base.specs.Prelude.{Text}
 use Rattle.std.specs.Prelude.{ℕ, ◌==◌, List, [], ◌∷◌, ◌++◌, flat_map, if◌then◌else◌}
 use Rattle.std.specs.List.{slice_split}
-use Rattle.sc_base.specs.Prelude.{Text}
 
 -- a byte that stands before the first line belongs to it, if there is one
 abbrev pub onto_line : ℕ → List Text → List Text

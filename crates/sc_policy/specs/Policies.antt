@@ -1,20 +1,13 @@
 -- Which lines are a policy, and where lines that are none go wrong.
+use Rattle.sc_base.specs.Prelude.{HasOneNumberEach, Text}
 use Rattle.std.specs.Prelude.{◌≡◌, ℕ, suc, ◌-◌, ◌≤◌, ◌⊎◌, IsTrue, codes, List, [], ◌∷◌, ◌++◌, map, take, length}
 use Rattle.std.specs.List.{list_all}
-use Rattle.sc_base.specs.Prelude.{HasOneNumberEach, Text}
 unfoldable use Rattle.sc_base.specs.Prelude.{is_name}
+use Rattle.sc_policy.specs.Limits.{most_rules, most_states}
 use Rattle.sc_policy.specs.Lines.{bytes_of}
 use Rattle.sc_policy.specs.Rules.{AreRuleLines}
 use Rattle.sc_policy.specs.declared.policy.Policy.{Policy}
 use Rattle.sc_policy.specs.declared.read.PolicyRead.{PolicyRead}
-
--- states of a policy
-abbrev pub most_states : ℕ
-most_states = 256
-
--- rules of a policy
-abbrev pub most_rules : ℕ
-most_rules = 4096
 
 abbrev pub policy_line : (name : Text) → Text
 policy_line name = codes "policy " ++ name

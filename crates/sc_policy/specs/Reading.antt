@@ -1,12 +1,13 @@
 -- Helping: how lines are read as a policy, one after another, and the words of a rule.
-use Rattle.sc_number.specs.Numbers.{integer, number_within}
-use Rattle.std.specs.Prelude.{ℕ, ◌+◌, ◌||◌, ◌==◌, nat_eq, nat_le, nat_lt, not, codes, bytes_eq, List, []}
-use Rattle.std.specs.Prelude.{◌∷◌, ◌++◌, length}
-use Rattle.std.specs.Prelude.{take, drop, slice_get, Option, Some, None, option_and_then, option_map, if◌then◌else◌}
-use Rattle.std.specs.List.{starts_with}
 use Rattle.sc_base.specs.Prelude.{Text, is_numbered, most_params, name_of, number_by_name}
+use Rattle.sc_number.specs.Numbers.{integer, number_within}
+use Rattle.std.specs.Prelude.{ℕ, ◌+◌, ◌||◌, ◌==◌, nat_eq, nat_le, nat_lt, not, codes, bytes_eq, List, [], ◌∷◌, ◌++◌}
+use Rattle.std.specs.Prelude.{length, take, drop, slice_get, Option, Some, None, option_and_then, option_map}
+use Rattle.std.specs.Prelude.{if◌then◌else◌}
+use Rattle.std.specs.List.{starts_with}
 use Rattle.sc_policy.specs.Lines.{words_of}
-use Rattle.sc_policy.specs.Policies.{end_line, most_rules, most_states}
+use Rattle.sc_policy.specs.Limits.{most_rules, most_states}
+use Rattle.sc_policy.specs.Policies.{end_line}
 use Rattle.sc_policy.specs.declared.policy.ArgTest.{ArgTest}
 use Rattle.sc_policy.specs.declared.policy.Compare.{Compare}
 use Rattle.sc_policy.specs.declared.policy.Compare.TheVariants.{Equal, NotEqual, Less, LessEqual, Greater, GreaterEqual}

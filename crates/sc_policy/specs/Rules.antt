@@ -1,6 +1,6 @@
 -- Which rules there are, and the lines that they have.
-use Rattle.std.specs.Prelude.{ℕ, ◌<◌, ◌≤◌, IsTrue, List, [], ◌∷◌, length, Option, Some, None}
 use Rattle.sc_base.specs.Prelude.{Text, most_params}
+use Rattle.std.specs.Prelude.{ℕ, ◌<◌, ◌≤◌, IsTrue, List, [], ◌∷◌, length, Option, Some, None}
 unfoldable use Rattle.sc_base.specs.Prelude.{is_name}
 use Rattle.sc_policy.specs.Lines.{words_of}
 use Rattle.sc_policy.specs.Words.{AreWritten, rule_words}

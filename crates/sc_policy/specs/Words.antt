@@ -1,7 +1,7 @@
 -- The words that spell a rule.
+use Rattle.sc_base.specs.Prelude.{Text}
 use Rattle.sc_number.specs.Numbers.{integer}
 use Rattle.std.specs.Prelude.{◌≡◌, ℕ, ℤ, pos, codes, List, [], ◌∷◌, ◌++◌, get_or, Option, Some, None}
-use Rattle.sc_base.specs.Prelude.{Text}
 use Rattle.sc_policy.specs.declared.policy.ArgTest.{ArgTest}
 use Rattle.sc_policy.specs.declared.policy.Compare.{Compare}
 use Rattle.sc_policy.specs.declared.policy.Compare.TheVariants.{Equal, NotEqual, Less, LessEqual, Greater, GreaterEqual}

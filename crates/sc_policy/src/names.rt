@@ -1,4 +1,4 @@
-ghost use Rattle.sc_policy.specs.Policies.{most_states};
+ghost use Rattle.sc_policy.specs.Limits.{most_states};
 ghost use Rattle.std.specs.Prelude.{◌≡◌, ◌≤◌, ◌<◌, ◌↔◌, [], ◌∷◌, ◌++◌, length, IfOk, OnOk, OnErr, IsTrue};
 
 use sc_base::{Name, OutOfMemory};
@@ -13,7 +13,7 @@ pub struct Names {
 }
 
 impl Model for Names {
-    ghost use Rattle.sc_policy.specs.Policies.{most_states};
+    ghost use Rattle.sc_policy.specs.Limits.{most_states};
     ghost use Rattle.std.specs.Prelude.{List, ℕ, ◌≤◌, length};
 
     ghost Value = { List (List ℕ) };

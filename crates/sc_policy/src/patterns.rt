@@ -1,11 +1,11 @@
 //! The words of rules.
 
-ghost use Rattle.sc_policy.specs.Policies.{most_states};
-ghost use Rattle.sc_policy.specs.Reading.{call_of, comp_of, ends_of, goal_of, goal_part, name_count};
-ghost use Rattle.sc_policy.specs.Reading.{pattern_count, pattern_of, pattern_part, pattern_with, ret_of, test_count};
+ghost use Rattle.sc_base.specs.Prelude.{number_by_name};
+ghost use Rattle.sc_policy.specs.Limits.{most_states};
+ghost use Rattle.sc_policy.specs.Reading.{call_of, comp_of, ends_of, goal_of, goal_part, name_count, pattern_count};
+ghost use Rattle.sc_policy.specs.Reading.{pattern_of, pattern_part, pattern_with, ret_of, test_count};
 ghost use Rattle.std.specs.Prelude.{◌≡◌, ◌<◌, ◌≤◌, IfSome, length, map, nat_eq};
 ghost use Rattle.std.specs.Cmp.Lexicographic.{pointwise};
-ghost use Rattle.sc_base.specs.Prelude.{number_by_name};
 
 use crate::words::{maybe_arg_of, maybe_test_of, who_of};
 use crate::{Pattern, Who};

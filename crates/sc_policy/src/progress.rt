@@ -1,7 +1,7 @@
 //! Lines as parts of a policy.
 
-ghost use Rattle.sc_policy.specs.Reading.{after, begun, continued, new_state, ruled};
 ghost use Rattle.sc_base.specs.Prelude.{is_numbered};
+ghost use Rattle.sc_policy.specs.Reading.{after, begun, continued, new_state, ruled};
 ghost use Rattle.std.specs.Prelude.{◌≡◌, ◌≤◌, length, Some, IfOk, option_map};
 
 use crate::patterns::{comp_of, ends_of, pattern_with};

@@ -1,4 +1,4 @@
-ghost use Rattle.sc_policy.specs.Policies.{most_rules};
+ghost use Rattle.sc_policy.specs.Limits.{most_rules};
 ghost use Rattle.std.specs.Prelude.{◌≡◌, ◌≤◌, ◌↔◌, [], length, IsTrue};
 
 use crate::Rule;
@@ -13,7 +13,7 @@ pub struct Rules {
 }
 
 impl Model for Rules {
-    ghost use Rattle.sc_policy.specs.Policies.{most_rules};
+    ghost use Rattle.sc_policy.specs.Limits.{most_rules};
     ghost use Rattle.std.specs.Prelude.{List, ◌≤◌, length};
     ghost use Rattle.sc_policy.specs.declared.policy.Rule.{Rule};
 

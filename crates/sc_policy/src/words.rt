@@ -5,24 +5,15 @@ ghost use Rattle.sc_policy.specs.Reading.{arg_of, compare_of, maybe_arg_of, mayb
 ghost use Rattle.std.specs.Prelude.{◌≡◌, IfOk, map};
 
 use crate::{ArgTest, Compare, Test, Who};
-use sc_base::{Name, OutOfMemory};
+use sc_base::Name;
 use sc_number::{integer, number_within};
-use std::alloc::Global;
+use std::alloc::{AllocError, Global};
 
 /// What stands before, between and after the single spaces of a line.
-pub(crate) fn words(alloc: Global, line: &[u8]) -> Result<Vec<&[u8]>, OutOfMemory>
+pub(crate) fn words(alloc: Global, line: &[u8]) -> Result<Vec<&[u8]>, AllocError>
     ensures { IfOk result (λ words. map (λ word. word.now) words.items ≡ words_of line.now) }
 {
-    let mut words = Vec::new(alloc);
-    let mut start = 0;
-    for at in 0..line.len() {
-        if line[at] == b' ' {
-            words.push(&line[start..at])?;
-            start = at + 1;
-        }
-    }
-    words.push(&line[start..])?;
-    Ok(words)
+    line.split(|byte| *byte == b' ').collect(alloc)
 }
 
 /// The name that follows these bytes on the line.

@@ -1,4 +1,4 @@
-use Rattle.std.proofs.Common.{Some, ap, subst, sym, ◌+◌, ◌∙◌}
+use Rattle.sc_policy.proofs.Common.{Some, ap, subst, sym, ◌+◌, ◌∙◌}
 use Rattle.sc_policy.proofs.Seen.{IsSeen, bad_end, bad_line, bad_number, next_is, read_to_the_end, see_more}
 use Rattle.sc_policy.proofs.Seen.{unclosed_so}
 use Rattle.sc_policy.proofs.read.read_policy.Goals as goal

@@ -1,4 +1,4 @@
-use Rattle.std.proofs.Common.{length, ◌-◌}
+use Rattle.sc_policy.proofs.Common.{length, ◌-◌}
 use Rattle.sc_policy.proofs.Seen.{IsSeen}
 use Rattle.sc_policy.proofs.read.read_policy.Given as goal
 

@@ -1,5 +1,4 @@
-use Rattle.std.specs.Borrow.{Bor}
-use Rattle.sc_policy.proofs.Common.{List, ℕ}
+use Rattle.sc_policy.proofs.Common.{Bor, List, ℕ}
 use Rattle.sc_policy.proofs.Parts.{long_arg, short_arg}
 use Rattle.sc_policy.proofs.words.maybe_arg_of.Goals as goal
 

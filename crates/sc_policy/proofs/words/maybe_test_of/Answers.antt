@@ -1,5 +1,4 @@
-use Rattle.std.specs.Borrow.{Bor}
-use Rattle.sc_policy.proofs.Common.{List, ℕ}
+use Rattle.sc_policy.proofs.Common.{Bor, List, ℕ}
 use Rattle.sc_policy.proofs.Parts.{long_test, short_test}
 use Rattle.sc_policy.proofs.words.maybe_test_of.Goals as goal
 
