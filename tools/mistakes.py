@@ -7,6 +7,8 @@ import subprocess
 import sys
 import tempfile
 
+from sections import count
+
 # Where a mistake stands in a text: in main, between the functions, or as the whole text.
 MAIN = "#pragma compartment Main\nint main(void) {\n@\n  return 0;\n}\n"
 FILE = "#pragma compartment Main\n@\nint main(void) {\n  return 0;\n}\n"
@@ -113,8 +115,8 @@ MISTAKES = [
 ]
 
 
-def main():
-    passed = failed = 0
+def answers():
+    """What tools/why says of each mistake, where it isn't what it must."""
     with tempfile.TemporaryDirectory() as folder:
         path = os.path.join(folder, "text.c")
         for template, part, line, reason in MISTAKES:
@@ -122,14 +124,10 @@ def main():
                 it.write(template.replace("@", part, 1))
             ran = subprocess.run(["tools/why", path], capture_output=True, text=True, check=False)
             first = ran.stdout.split("\n")[0]
-            if first.startswith(f"{path}:{line}: ") and reason in first:
-                passed += 1
-            else:
-                failed += 1
-                print(f"{part!r}: wanted line {line}, {reason!r}, and came {first.replace(path, 'text.c')!r}")
-    print(f"{passed} passed, {failed} failed")
-    return 1 if failed else 0
+            right = first.startswith(f"{path}:{line}: ") and reason in first
+            came = first.replace(path, "text.c")
+            yield "" if right else f"{part!r}: wanted line {line}, {reason!r}, and came {came!r}"
 
 
 if __name__ == "__main__":
-    sys.exit(main())
+    sys.exit(count(answers()))

@@ -15,7 +15,7 @@ import subprocess
 import sys
 import tempfile
 
-from sections import read, secomp
+from sections import count, read, secomp
 
 MEASURE = """
 <script>
@@ -114,18 +114,13 @@ def tested(program, folder, name, words, wanted):
 
 
 def main():
-    program, passed = browser(), 0
+    program = browser()
     if not program:
         print("no page was tested: there is no chromium")
         return 0
     with tempfile.TemporaryDirectory() as folder:
-        for name, words, wanted in PAGES:
-            found = tested(program, folder, name, words, wanted)
-            passed += not found
-            for fault in found:
-                print(f"the page of {name}.c: {fault}")
-    print(f"{passed} passed, {len(PAGES) - passed} failed")
-    return 1 if passed < len(PAGES) else 0
+        return count("\n".join(f"the page of {name}.c: {fault}" for fault in tested(program, folder, name, words, wanted))
+                     for name, words, wanted in PAGES)
 
 
 if __name__ == "__main__":

@@ -14,13 +14,12 @@ import concurrent.futures
 import json
 import os
 import re
-import sys
 
-from sections import read, secomp
+from sections import commands, count, read, secomp, start
 
 FOLDER = "examples/real"
 MOST = {"meaning": ["--turns=16777216"], "run": ["--steps=16777216"], "explain": []}
-COMMAND = re.compile(r"    \$ \./secomp (.*) < (\S+)\n")
+COMMAND = re.compile(r"\./secomp (.*) < (\S+)")
 
 
 def from_hex(digits):
@@ -86,34 +85,18 @@ def session(words, path, shown):
 
 def sessions(prefix):
     """The tests by what the README shows."""
-    text = read(f"{FOLDER}/README.md").decode()
-    for found in COMMAND.finditer(text):
-        lines = []
-        for line in text[found.end():].split("\n"):
-            if not line.startswith("    ") or line.startswith("    $ "):
-                break
-            lines.append(line[4:] + "\n")
-        words, path, shown = *found.groups(), "".join(lines)
-        if path.startswith(f"{FOLDER}/{prefix}"):
-            yield f"session {words} < {path}", lambda w=words, p=path, s=shown: session(w, p, s)
+    for command, shown, _ in commands(f"{FOLDER}/README.md"):
+        found = COMMAND.fullmatch(command)
+        if found and found.group(2).startswith(f"{FOLDER}/{prefix}"):
+            yield f"session {command}", lambda found=found, shown=shown: session(*found.groups(), shown)
 
 
 def main(prefix=""):
     os.nice(10)
-    passed = failed = 0
     with concurrent.futures.ThreadPoolExecutor(os.cpu_count()) as pool:
         running = [(name, pool.submit(test)) for name, test in (*vectors(prefix), *sessions(prefix))]
-        for name, test in running:
-            if test.result():
-                failed += 1
-                print(f"{name}: {test.result()}", flush=True)
-            else:
-                passed += 1
-    print(f"{passed} passed, {failed} failed")
-    return 1 if failed else 0
+        return count(test.result() and f"{name}: {test.result()}" for name, test in running)
 
 
 if __name__ == "__main__":
-    if len(sys.argv) > 2 or sys.argv[1:2] in (["-h"], ["--help"]):
-        raise SystemExit(__doc__)
-    sys.exit(main(*sys.argv[1:]))
+    start(main, __doc__)

@@ -1,4 +1,5 @@
-"""The sections of a text, for the tools beside `secomp`: nothing here is part of the proved program."""
+"""What the tools beside `secomp` share: a text's sections, the program, the sessions that a document shows, and how tests
+are counted. Nothing here is part of the proved program."""
 import os
 import re
 import subprocess
@@ -71,3 +72,37 @@ def read(path):
             return it.read()
     except OSError as error:
         sys.exit(f"{path}: {error.strerror}")
+
+
+def commands(document):
+    """Each command of a document, what is shown below it, and all that follows."""
+    lines = read(document).decode().split("\n")
+    for number, line in enumerate(lines):
+        if line.startswith("    $ "):
+            shown = []
+            for below in lines[number + 1:]:
+                if not below.startswith("    ") or below.startswith("    $ "):
+                    break
+                shown.append(below[4:] + "\n")
+            yield line[6:], "".join(shown), "\n".join(lines[number + 1:])
+
+
+def count(answers):
+    """Prints each answer of a test that isn't empty, since it says why the test failed, and at the end how many passed
+    and how many failed. The status of a program that ran these tests."""
+    passed = failed = 0
+    for answer in answers:
+        if answer:
+            failed += 1
+            print(answer, flush=True)
+        else:
+            passed += 1
+    print(f"{passed} passed, {failed} failed")
+    return 1 if failed else 0
+
+
+def start(main, usage):
+    """Runs a tool that takes one word at most, or says how it is used."""
+    if len(sys.argv) > 2 or sys.argv[1:2] in (["-h"], ["--help"]):
+        raise SystemExit(usage)
+    sys.exit(main(*sys.argv[1:]))

@@ -14,6 +14,8 @@ import re
 import subprocess
 import sys
 
+from sections import commands
+
 DOCUMENTS = {"TUTORIAL": "docs/TUTORIAL.md", "EXAMPLES": "examples/README.md", "EXPLAIN": "docs/EXPLAIN.md"}
 TARGET = "crates/command_tests/src/examples/sessions.rt"
 COMMAND = re.compile(r"\./secomp (.*?) < (\S+)(?: > (\S+)| \| (examples/draw))?$")
@@ -23,19 +25,6 @@ HEADING = "#pragma compartment "
 def read(path):
     with open(path, encoding="utf-8") as it:
         return it.read()
-
-
-def commands(document):
-    """Each command of a document with what is shown below it and all that follows."""
-    lines = read(document).split("\n")
-    for number, line in enumerate(lines):
-        if line.startswith("    $ "):
-            shown = []
-            for below in lines[number + 1:]:
-                if not below.startswith("    ") or below.startswith("    $ "):
-                    break
-                shown.append(below[4:] + "\n")
-            yield line[6:], "".join(shown), "\n".join(lines[number + 1:])
 
 
 def replaced(text, section):
@@ -59,7 +48,7 @@ def drawn(report):
 def sessions(document):
     """The words, the name of the input and the output of each session; and the texts by their names."""
     texts, reports, found = {}, {}, []
-    for command, shown, behind in commands(document):
+    for command, shown, after in commands(document):
         parts = COMMAND.fullmatch(command)
         if not parts:
             continue
@@ -68,7 +57,7 @@ def sessions(document):
         if name:
             texts[name] = shown = kept(document, name, texts[path])
         if draw:
-            diagram = behind.split("```mermaid\n", 1)[1].split("```", 1)[0]
+            diagram = after.split("```mermaid\n", 1)[1].split("```", 1)[0]
             if drawn(reports[words, path]) != diagram:
                 raise SystemExit(f"{document}: the diagram of `{command}` is another one")
         else:

@@ -10,27 +10,13 @@ status is 1 if one failed.
 import os
 import re
 import subprocess
-import sys
 import tempfile
 
-from sections import TOP, program, read
+from sections import TOP, commands, count, program, start
 
 PAGE = "docs/TOOLS.md"
 CHECKED = re.compile(r"^secomp: (this program has run-time checks|building ).*\n", re.M)
 WANTING = re.compile(r"campaign: this takes GNU parallel.*\n")
-
-
-def sessions():
-    """Each command with what is shown below it."""
-    lines = read(PAGE).decode().split("\n")
-    for number, line in enumerate(lines):
-        if line.startswith("    $ "):
-            shown = []
-            for below in lines[number + 1:]:
-                if not below.startswith("    ") or below.startswith("    $ "):
-                    break
-                shown.append(below[4:] + "\n")
-            yield line[6:], "".join(shown)
 
 
 def run(command, folder):
@@ -39,28 +25,25 @@ def run(command, folder):
     return CHECKED.sub("", ran.stdout.decode(errors="replace"))
 
 
+def answers(word, folder):
+    """How each session went that was tried: nothing where it wrote what is shown."""
+    for command, shown, _ in commands(PAGE):
+        if shown and word not in command:
+            continue
+        wrote = run(command, folder)
+        if WANTING.fullmatch(wrote):
+            print(f"$ {command}\nwasn't tried: {wrote}", end="")
+        else:
+            yield "" if wrote == shown else f"$ {command}\nwrote\n{wrote}in place of\n{shown}"
+
+
 def main(word=""):
-    passed = failed = 0
     program()
     with tempfile.TemporaryDirectory() as folder:
         for name in ("secomp", "tools", "docs", "examples"):
             os.symlink(f"{TOP}/{name}", f"{folder}/{name}")
-        for command, shown in sessions():
-            if shown and word not in command:
-                continue
-            wrote = run(command, folder)
-            if wrote == shown:
-                passed += 1
-            elif WANTING.fullmatch(wrote):
-                print(f"$ {command}\nwasn't tried: {wrote}", end="")
-            else:
-                failed += 1
-                print(f"$ {command}\nwrote\n{wrote}in place of\n{shown}", end="")
-    print(f"{passed} passed, {failed} failed")
-    return 1 if failed else 0
+        return count(answers(word, folder))
 
 
 if __name__ == "__main__":
-    if len(sys.argv) > 2 or sys.argv[1:2] in (["-h"], ["--help"]):
-        raise SystemExit(__doc__)
-    sys.exit(main(*sys.argv[1:]))
+    start(main, __doc__)
