@@ -6,6 +6,7 @@ use std::test::Fail;
 fn ended_blocks_dangle(rt: HostRuntime) -> Result<(), Fail> {
     let comp = CompId::first();
     let mut blocks = Blocks::new(rt.alloc());
+    assert!(rt; blocks.made(comp) == 0);
     let block = blocks.new_blank(comp, 2)?;
     let place = Cell::Ptr(Pointer { block, index: 1 });
     assert!(rt; blocks.load(comp, place) == Err(BlockFault::Indeterminate));
@@ -24,7 +25,8 @@ fn ended_blocks_dangle(rt: HostRuntime) -> Result<(), Fail> {
 fn later_blocks_live_on(rt: HostRuntime) -> Result<(), Fail> {
     let comp = CompId::first();
     let mut blocks = Blocks::new(rt.alloc());
-    for _ in 0..4 {
+    for made in 0..4 {
+        assert!(rt; blocks.made(comp) == made);
         blocks.new_block(comp, &[Cell::Word(5)])?;
     }
     blocks.end(comp, 1, 2);

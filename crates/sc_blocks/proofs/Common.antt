@@ -3,7 +3,7 @@ pub use Rattle.std.proofs.Common.{Bool, Err, List, MatchResult, None, Ok, Option
 pub use Rattle.std.proofs.Common.{eqb-true, false, get_or, get_or-set_same, if◌then◌else◌, inl, inr, le-ltb, leb-false}
 pub use Rattle.std.proofs.Common.{leb-true, length, length-set, lt-ltb, ltb-false, ltb-true, nat_le, nat_lt, ne_eqb}
 pub use Rattle.std.proofs.Common.{refl, rules, slice_get, slice_index_or, slice_set, subst, suc, sym, true, zero, ℕ}
-pub use Rattle.std.proofs.Common.{◌++◌, ◌+◌, ◌-◌, ◌<◌, ◌==◌, ◌∙◌, ◌∷◌, ◌≡◌, ◌≤◌, ◌⊎◌}
+pub use Rattle.std.proofs.Common.{◌++◌, ◌+◌, ◌-◌, ◌<◌, ◌==◌, ◌^◌, ◌∙◌, ◌∷◌, ◌≡◌, ◌≤◌, ◌⊎◌}
 pub use Rattle.std.proofs.lemmas.Bool.{cases_lt, eqb-false}
 pub use Rattle.std.proofs.lemmas.List.Sorted.{answers_always, searchable_from_sorted}
 pub use Rattle.std.specs.List.{HoldsAt, remove_range}

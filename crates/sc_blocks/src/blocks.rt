@@ -63,6 +63,7 @@ impl Blocks {
 
     // A block with these cells, after those of the compartment.
     fn add(&mut self, comp: CompId, cells: Cells) -> Result<u64, OutOfMemory>
+        requires { length (memory_of self.old comp) < 2 ^ 63 }
         ensures number { IfOk result (λ number. number ≡ length (memory_of self.old comp)) }
         ensures made { OnOk result (memory_of self.new ≡
             with_blocks comp (memory_of self.old comp ++ variable cells ∷ []) (memory_of self.old)) }
@@ -77,7 +78,8 @@ impl Blocks {
 
     /// A new block with these cells, and its number: the next one of the compartment.
     pub fn new_block(&mut self, comp: CompId, cells: &[Cell]) -> Result<u64, OutOfMemory>
-        requires { length cells.now < 2 ^ 32 }
+        requires few { length (memory_of self.old comp) < 2 ^ 63 }
+        requires small { length cells.now < 2 ^ 32 }
         ensures number { IfOk result (λ number. number ≡ length (memory_of self.old comp)) }
         ensures made { OnOk result (memory_of self.new ≡
             with_blocks comp (memory_of self.old comp ++ variable cells.now ∷ []) (memory_of self.old)) }
@@ -89,6 +91,7 @@ impl Blocks {
 
     /// A new block of `count` cells, in which nothing was stored yet.
     pub fn new_blank(&mut self, comp: CompId, count: u32) -> Result<u64, OutOfMemory>
+        requires { length (memory_of self.old comp) < 2 ^ 63 }
         ensures number { IfOk result (λ number. number ≡ length (memory_of self.old comp)) }
         ensures made { OnOk result (memory_of self.new ≡
             with_blocks comp (memory_of self.old comp ++ variable (replicate count Undef) ∷ []) (memory_of self.old)) }

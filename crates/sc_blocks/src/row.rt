@@ -1,5 +1,5 @@
-ghost use Rattle.std.specs.Prelude.{◌≡◌, [], ◌∷◌, ◌++◌, length, OnOk, OnErr, Ok, Err, MatchResult, IfSome, MatchOption};
-ghost use Rattle.std.specs.Prelude.{Some, slice_get};
+ghost use Rattle.std.specs.Prelude.{◌≡◌, ◌<◌, ◌^◌, [], ◌∷◌, ◌++◌, length, OnOk, OnErr, Ok, Err, MatchResult, IfSome};
+ghost use Rattle.std.specs.Prelude.{MatchOption, Some, slice_get};
 ghost use Rattle.std.specs.Option.{option_copied};
 ghost use Rattle.sc_core.specs.declared.value.Cell.TheVariants.{Ptr, Word};
 ghost use Rattle.sc_core.specs.Memory.{is_live, cells_at, variable};
@@ -52,13 +52,12 @@ impl Row {
     }
 
     /// One more block, with these cells.
+    #[tactic(auto, using(crate::proofs::Laying::length_laid))]
     pub fn push(&mut self, cells: Cells) -> Result<(), AllocError>
+        requires { length self.old < 2 ^ 63 }
         ensures ok { OnOk result (self.new ≡ self.old ++ variable cells ∷ []) }
         ensures err { OnErr result (self.new ≡ self.old) }
     {
-        if self.made == usize::MAX {
-            return Err(AllocError);
-        }
         let number = self.made;
         self.slots.push(Slot { number, cells })?;
         self.made += 1;
