@@ -2,7 +2,7 @@
 pub use Rattle.std.proofs.Common.{Bool, List, None, Option, Some, [], ap, append-nil, append_assoc, arith, drop}
 pub use Rattle.std.proofs.Common.{drop-cons, false, get_or, if◌then◌else◌, inl, inr, leb, length, map, min, not, refl}
 pub use Rattle.std.proofs.Common.{replicate, rules, slice_get, subst, suc, sym, take, true, zero-add, ℕ, ◌&&◌, ◌++◌}
-pub use Rattle.std.proofs.Common.{◌+◌, ◌-◌, ◌<◌, ◌==◌, ◌||◌, ◌∙◌, ◌∷◌, ◌≡◌, ◌≤◌, ◌⊎◌}
+pub use Rattle.std.proofs.Common.{zero, ◌*◌, ◌+◌, ◌-◌, ◌<◌, ◌==◌, ◌^◌, ◌||◌, ◌∙◌, ◌∷◌, ◌≡◌, ◌≤◌, ◌⊎◌}
 pub use Rattle.std.specs.List.{filter, list_any, range_with_len}
 pub use Rattle.std.specs.Option.{option_map, unwrap_or}
 pub use Rattle.sc_tac.specs.Prelude.{AreIntervals, Lives, Point, TempSet, Span, Trail, ahead_at, from_here}
@@ -10,7 +10,8 @@ pub use Rattle.sc_tac.specs.Prelude.{function_points}
 pub use Rattle.sc_tac.specs.Prelude.{has_call, if_calls, in_body, in_head, in_next, interval_of, is_one, is_used}
 pub use Rattle.sc_tac.specs.Prelude.{live_across, live_at_start, live_before, loop_points, nothing, nothing_live}
 pub use Rattle.sc_tac.specs.Prelude.{one_or_none, or_first, part_lives, plain_points, point, points, readings}
-pub use Rattle.sc_tac.specs.Prelude.{row_first, row_points, span_from, stmt_points, trail, trail_step}
+pub use Rattle.sc_tac.specs.Prelude.{row_first, row_points, span_from, stmt_points, stmt_weight, trail, trail_step}
+pub use Rattle.sc_tac.specs.Prelude.{weight}
 pub use Rattle.sc_tac.specs.declared.stmt.TacStmt.{TacStmt, TacStmt-F, fold-roll-TacStmt, map-TacStmt, roll-TacStmt}
 pub use Rattle.sc_live.specs.Marks.{is_met, mark_from, mark_here, mark_of, mark_to, marked, nearest_call, set_of}
 pub use Rattle.sc_live.specs.Walks.{Holds, Passed, Walked, WalkedAll, WalkedOver, interval_at, live_first, lives_at}

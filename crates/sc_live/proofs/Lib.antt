@@ -6,3 +6,4 @@ pub mod Marking
 pub mod Spans
 pub mod Starting
 pub mod Walking
+pub mod Weights

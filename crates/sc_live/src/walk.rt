@@ -1,5 +1,6 @@
-ghost use Rattle.sc_tac.specs.Prelude.{if_calls, is_one, one_or_none, plain_points, point};
-ghost use Rattle.std.specs.Prelude.{◌≡◌, ◌∷◌, [], ◌&&◌, ◌||◌, ◌==◌, not, suc, IfOk, Some, true, false};
+ghost use Rattle.sc_tac.specs.Prelude.{if_calls, is_one, one_or_none, plain_points, point, stmt_weight, weight};
+ghost use Rattle.std.specs.Prelude.{◌≡◌, ◌<◌, ◌≤◌, ◌+◌, ◌^◌, ◌∷◌, [], ◌&&◌, ◌||◌, ◌==◌, not, IfOk, OnOk, Some, true};
+ghost use Rattle.std.specs.Prelude.{false};
 ghost use Rattle.sc_live.specs.Marks.{set_of};
 ghost use Rattle.sc_live.specs.Walks.{Holds, Passed, Walked, WalkedAll, WalkedOver, lives_at};
 
@@ -29,20 +30,11 @@ pub struct Exits<'a> {
     pub continued: &'a LiveSet,
 }
 
-// There is no memory for more than 4294967295 points.
-fn one_more(number: u32) -> Result<u32, OutOfMemory>
-    ensures { IfOk result (λ more. more ≡ suc number) }
-{
-    match number.checked_add(1) {
-        Some(more) => Ok(more),
-        None => Err(OutOfMemory),
-    }
-}
-
 impl Walk {
     /// A walk that stands after all points, of a function with `temps` temporaries.
     pub fn new(alloc: Global, temps: u32) -> Result<Walk, OutOfMemory>
-        ensures { IfOk result (λ walk. (walk.live ≡ []) × Holds temps walk []) }
+        ensures start { IfOk result (λ walk. (walk.live ≡ []) × Holds temps walk []) }
+        ensures none { IfOk result (λ walk. walk.points ≡ 0) }
     {
         let mut marks = Marks::new(alloc);
         for _ in 0..temps {
@@ -57,9 +49,11 @@ impl Walk {
     }
 
     // One point: whether a temporary is assigned and a function called there. What is used there is used to the end.
-    fn pass_to(&mut self, assigned: Option<u32>, calls: bool, end: u32) -> Result<(), OutOfMemory>
-        ensures { IfOk result (λ _. Passed
-            (record { assigned = assigned; calls = calls; live = set_of self.old.live }) end self.old self.new) }
+    fn pass_to(&mut self, assigned: Option<u32>, calls: bool, end: u32)
+        requires { self.old.points + 1 < 2 ^ 32 }
+        ensures passed { Passed (record { assigned = assigned; calls = calls; live = set_of self.old.live }) end
+            self.old self.new }
+        ensures few { self.new.points ≡ self.old.points + 1 }
     {
         let at = self.points;
         if calls {
@@ -71,51 +65,56 @@ impl Walk {
             end,
         };
         mark_used(&mut self.marks, here, assigned, &self.live);
-        self.points = one_more(at)?;
-        Ok(())
+        self.points = at + 1;
     }
 
     // One point, at which nothing ends.
-    fn pass(&mut self, assigned: Option<u32>, calls: bool) -> Result<(), OutOfMemory>
-        ensures { IfOk result (λ _. Walked
+    fn pass(&mut self, assigned: Option<u32>, calls: bool)
+        requires { self.old.points + 1 < 2 ^ 32 }
+        ensures walked { Walked
             (record { assigned = assigned; calls = calls; live = set_of self.old.live } ∷ []) (set_of self.old.live)
-            self.old self.new) }
+            self.old self.new }
+        ensures few { self.new.points ≡ self.old.points + 1 }
     {
-        self.pass_to(assigned, calls, self.points)?;
-        Ok(())
+        self.pass_to(assigned, calls, self.points);
     }
 
     // The point at which a statement assigns.
-    fn assign(&mut self, assigned: Option<u32>) -> Result<(), OutOfMemory>
-        ensures { IfOk result (λ _. Walked
+    fn assign(&mut self, assigned: Option<u32>)
+        requires { self.old.points + 1 < 2 ^ 32 }
+        ensures walked { Walked
             (record { assigned = assigned; calls = false; live = set_of self.old.live } ∷ [])
-            (λ t. not (is_one t (one_or_none assigned)) && is_one t self.old.live) self.old self.new) }
+            (λ t. not (is_one t (one_or_none assigned)) && is_one t self.old.live) self.old self.new }
+        ensures few { self.new.points ≡ self.old.points + 1 }
     {
-        self.pass(assigned, false)?;
+        self.pass(assigned, false);
         if let Some(temp) = assigned {
             self.live.remove(temp);
         }
-        Ok(())
     }
 
     // The point at which it calls a function, if it does.
-    fn call(&mut self, calls: bool) -> Result<(), OutOfMemory>
-        ensures { IfOk result (λ _. Walked (if_calls calls (point true (set_of self.old.live)))
-            (set_of self.old.live) self.old self.new) }
+    fn call(&mut self, calls: bool)
+        requires { self.old.points + 1 < 2 ^ 32 }
+        ensures walked { Walked (if_calls calls (point true (set_of self.old.live)))
+            (set_of self.old.live) self.old self.new }
+        ensures few { self.new.points ≤ self.old.points + 1 }
     {
         if calls {
-            self.pass(None, true)?;
+            self.pass(None, true);
         }
-        Ok(())
     }
 
     // The point at which it reads.
     fn read(&mut self, reads: &[u32]) -> Result<(), OutOfMemory>
-        ensures { IfOk result (λ _. Walked (point false (λ t. is_one t reads.now || is_one t self.old.live) ∷ [])
+        requires { self.old.points + 1 < 2 ^ 32 }
+        ensures walked { IfOk result (λ _. Walked
+            (point false (λ t. is_one t reads.now || is_one t self.old.live) ∷ [])
             (λ t. is_one t reads.now || is_one t self.old.live) self.old self.new) }
+        ensures few { OnOk result (self.new.points ≡ self.old.points + 1) }
     {
         self.live.insert_all(reads)?;
-        self.pass(None, false)?;
+        self.pass(None, false);
         Ok(())
     }
 
@@ -126,23 +125,27 @@ impl Walk {
         calls: bool,
         assigned: Option<u32>,
     ) -> Result<(), OutOfMemory>
-        ensures { IfOk result (λ _. Walked
+        requires { self.old.points + 3 < 2 ^ 32 }
+        ensures walked { IfOk result (λ _. Walked
             (plain_points reads.now calls assigned (lives_at self.old.live [] []))
             (λ t. is_one t reads.now || (not (is_one t (one_or_none assigned)) && is_one t self.old.live))
             self.old self.new) }
+        ensures few { OnOk result (self.new.points ≤ self.old.points + 3) }
     {
-        self.assign(assigned)?;
-        self.call(calls)?;
+        self.assign(assigned);
+        self.call(calls);
         self.read(reads)?;
         Ok(())
     }
 
     // An operator, which may read only one value.
     fn op(&mut self, dest: u32, left: u32, right: Option<u32>) -> Result<(), OutOfMemory>
-        ensures { IfOk result (λ _. Walked
+        requires { self.old.points + 3 < 2 ^ 32 }
+        ensures walked { IfOk result (λ _. Walked
             (plain_points (left ∷ one_or_none right) false (Some dest) (lives_at self.old.live [] []))
             (λ t. is_one t (left ∷ one_or_none right) ||
             (not (is_one t (dest ∷ [])) && is_one t self.old.live)) self.old self.new) }
+        ensures few { OnOk result (self.new.points ≤ self.old.points + 3) }
     {
         match right {
             None => self.plain(&[left], false, Some(dest)),
@@ -151,31 +154,58 @@ impl Walk {
     }
 
     // Control goes on elsewhere, where this is live.
-    fn leave(&mut self, live: LiveSet) -> Result<(), OutOfMemory>
-        ensures { IfOk result (λ _. Walked (point false (set_of live) ∷ []) (set_of live) self.old self.new) }
+    fn leave(&mut self, live: LiveSet)
+        requires { self.old.points + 1 < 2 ^ 32 }
+        ensures walked { Walked (point false (set_of live) ∷ []) (set_of live) self.old self.new }
+        ensures few { self.new.points ≡ self.old.points + 1 }
     {
         self.live = live;
-        self.pass(None, false)?;
+        self.pass(None, false);
+    }
+
+    // To a place elsewhere, where this is live.
+    fn jump(&mut self, alloc: Global, live: &LiveSet) -> Result<(), OutOfMemory>
+        requires { self.old.points + 1 < 2 ^ 32 }
+        ensures walked { IfOk result (λ _. Walked (point false (set_of live.now) ∷ []) (set_of live.now)
+            self.old self.new) }
+        ensures few { OnOk result (self.new.points ≡ self.old.points + 1) }
+    {
+        self.leave(live.copy(alloc)?);
+        Ok(())
+    }
+
+    // To the caller, who gets a value or none.
+    fn give_back(&mut self, alloc: Global, value: Option<u32>) -> Result<(), OutOfMemory>
+        requires { self.old.points + 1 < 2 ^ 32 }
+        ensures walked { IfOk result (λ _. Walked (point false (set_of (one_or_none value)) ∷ [])
+            (set_of (one_or_none value)) self.old self.new) }
+        ensures few { OnOk result (self.new.points ≡ self.old.points + 1) }
+    {
+        self.leave(LiveSet::one(alloc, value)?);
         Ok(())
     }
 
     // What is live on the other way too, and the point at which a condition decides.
     fn join(&mut self, other: &LiveSet, cond: u32) -> Result<(), OutOfMemory>
-        ensures { IfOk result (λ _. Walked
+        requires { self.old.points + 1 < 2 ^ 32 }
+        ensures walked { IfOk result (λ _. Walked
             (point false (λ t. cond == t || (is_one t other.now || is_one t self.old.live)) ∷ [])
             (λ t. cond == t || (is_one t other.now || is_one t self.old.live)) self.old self.new) }
+        ensures few { OnOk result (self.new.points ≡ self.old.points + 1) }
     {
         self.live.insert_all(other.as_slice())?;
         self.live.insert(cond)?;
-        self.pass(None, false)?;
+        self.pass(None, false);
         Ok(())
     }
 
     // A part of a loop: what is live at its end is live at a `Continue`.
     #[cycle(walk)]
     fn part(&mut self, alloc: Global, broken: &LiveSet, part: &TacStmts) -> Result<(), OutOfMemory>
-        ensures { IfOk result (λ _. WalkedAll part.now (lives_at self.old.live broken.now self.old.live)
+        requires { self.old.points + weight part.now < 2 ^ 32 }
+        ensures walked { IfOk result (λ _. WalkedAll part.now (lives_at self.old.live broken.now self.old.live)
             self.old self.new) }
+        ensures few { OnOk result (self.new.points ≤ self.old.points + weight part.now) }
     {
         let continued = self.live.copy(alloc)?;
         let exits = Exits {
@@ -189,8 +219,10 @@ impl Walk {
     /// Over statements in order, from the last one back.
     #[cycle(walk)]
     pub fn row(&mut self, alloc: Global, exits: Exits, stmts: &TacStmts) -> Result<(), OutOfMemory>
-        ensures { IfOk result (λ _. WalkedAll stmts.now
+        requires { self.old.points + weight stmts.now < 2 ^ 32 }
+        ensures walked { IfOk result (λ _. WalkedAll stmts.now
             (lives_at self.old.live exits.entry.broken.now exits.entry.continued.now) self.old self.new) }
+        ensures few { OnOk result (self.new.points ≤ self.old.points + weight stmts.now) }
     {
         let list = stmts.as_slice();
         let mut at = list.len();
@@ -204,8 +236,10 @@ impl Walk {
     // Of a loop one round is walked, with nothing live at its end; what is then live at its start is used all through.
     #[cycle(walk)]
     fn stmt(&mut self, alloc: Global, exits: Exits, stmt: &TacStmt) -> Result<(), OutOfMemory>
-        ensures { IfOk result (λ _. WalkedOver stmt.now
+        requires { self.old.points + stmt_weight stmt.now < 2 ^ 32 }
+        ensures walked { IfOk result (λ _. WalkedOver stmt.now
             (lives_at self.old.live exits.entry.broken.now exits.entry.continued.now) self.old self.new) }
+        ensures few { OnOk result (self.new.points ≤ self.old.points + stmt_weight stmt.now) }
     {
         match stmt {
             TacStmt::Const { dest, .. } => self.plain(&[], false, Some(*dest)),
@@ -235,20 +269,20 @@ impl Walk {
             TacStmt::Loop { head, body, next } => {
                 let end = self.points;
                 let broken = replace(&mut self.live, LiveSet::new(alloc));
-                self.pass(None, false)?;
+                self.pass(None, false);
                 self.part(alloc, &broken, next)?;
                 self.part(alloc, &broken, body)?;
                 self.part(alloc, &broken, head)?;
-                self.pass_to(None, false, end)?;
+                self.pass_to(None, false, end);
                 Ok(())
             }
-            TacStmt::Break => self.leave(exits.broken.copy(alloc)?),
-            TacStmt::Continue => self.leave(exits.continued.copy(alloc)?),
+            TacStmt::Break => self.jump(alloc, exits.broken),
+            TacStmt::Continue => self.jump(alloc, exits.continued),
             TacStmt::CallOwn { dest, args, .. } => self.plain(args.as_slice(), true, *dest),
             TacStmt::CallCross { dest, args, .. } => self.plain(args.as_slice(), true, *dest),
             TacStmt::Input { dest } => self.plain(&[], false, *dest),
             TacStmt::Output { value } => self.plain(&[*value], false, None),
-            TacStmt::Return { value } => self.leave(LiveSet::one(alloc, *value)?),
+            TacStmt::Return { value } => self.give_back(alloc, *value),
         }
     }
 }

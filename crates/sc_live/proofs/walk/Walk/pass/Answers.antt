@@ -1,5 +1,5 @@
 use Rattle.sc_live.proofs.Marking.{passed}
 use Rattle.sc_live.proofs.walk.Walk.pass.Goals as goal
 
-pub returns : goal.returns
-returns c = passed _ _ _ c.in_ok-pass_to.ensures
+pub returns-clause-walked : goal.returns-clause-walked
+returns-clause-walked c = passed _ _ _ c.pass_to.ensures.passed
