@@ -7,6 +7,7 @@ ghost use Rattle.sc_store.specs.Region.{AreApart};
 ghost use Rattle.sc_store.specs.Memory.{HoldsBytes, HasBytes, load_of, with_bytes};
 ghost use Rattle.sc_store.specs.Flat.{regions_of, bytes_of, spans, IsZero, Reads, written};
 
+use crate::access::{self, Access};
 use crate::part::Part;
 use crate::{OutOfMemory, Region, Store};
 use std::alloc::{AllocError, Global};
@@ -70,57 +71,30 @@ impl FlatStore {
         }
         self.parts.iter().position(|part| part.spans(at, size))
     }
+}
+
+impl Access for FlatStore {
+    ghost bytes = { λ s. bytes_of s.parts.items };
+
+    ghost holds_bytes = { λ s. s.holds };
 
     #[inline(always)]
     #[tactic(auto, using(crate::proofs::Parts::finding))]
-    fn byte(&self, at: u32) -> u8
-        requires { IsSome (bytes_of self.now.parts.items at) }
-        ensures { bytes_of self.now.parts.items at ≡ Some result }
-    {
+    fn byte(&self, at: u32) -> u8 {
         let place = self.find(at, 1).unwrap();
         self.parts[place].byte(at)
     }
 
     #[inline(always)]
     #[tactic(auto, using(crate::proofs::Parts::found, crate::proofs::Parts::found_spans))]
-    fn put(&mut self, at: u32, byte: u8)
-        requires { IsSome (bytes_of self.old.parts.items at) }
-        ensures { bytes_of self.new.parts.items ≡ written (bytes_of self.old.parts.items) at (byte ∷ []) }
-    {
+    fn put(&mut self, at: u32, byte: u8) {
         let place = self.find(at, 1).unwrap();
         self.parts[place].write(at, &[byte]);
     }
 
-    // Byte by byte, wherever they lie.
-    fn read_each(&self, at: u32, into: &mut [u8])
-        requires size { length into.old ≤ 4 }
-        requires there { HasBytes (bytes_of self.now.parts.items) at (length into.old) }
-        ensures { Reads (bytes_of self.now.parts.items) at into.new }
-    {
-        for (k, byte) in into.iter_mut().enumerate() {
-            *byte = self.byte(at + k as u32);
-        }
-    }
-
-    fn write_each(&mut self, at: u32, bytes: &[u8])
-        requires size { length bytes.now ≤ 4 }
-        requires there { HasBytes (bytes_of self.old.parts.items) at (length bytes.now) }
-        ensures { bytes_of self.new.parts.items ≡ written (bytes_of self.old.parts.items) at bytes.now }
-    {
-        for (k, byte) in bytes.iter().enumerate() {
-            self.put(at + k as u32, *byte);
-        }
-    }
-
-    // Reads bytes that lie in one region, and says whether they do.
     #[inline(always)]
     #[tactic(auto, using(crate::proofs::Parts::found_spans, crate::proofs::Parts::found_bytes))]
-    fn read(&self, at: u32, into: &mut [u8]) -> bool
-        requires some { 0 < length into.old }
-        requires size { length into.old ≤ 4 }
-        ensures length { length into.new ≡ length into.old }
-        ensures bytes { IsTrue result → Reads (bytes_of self.now.parts.items) at into.new }
-    {
+    fn read(&self, at: u32, into: &mut [u8]) -> bool {
         let Some(place) = self.find(at, into.len()) else {
             return false;
         };
@@ -128,52 +102,14 @@ impl FlatStore {
         true
     }
 
-    // Writes bytes whose addresses lie in one region, and says whether they do. If not, nothing changes.
     #[inline(always)]
     #[tactic(auto, using(crate::proofs::Parts::found_spans))]
-    fn write(&mut self, at: u32, bytes: &[u8]) -> bool
-        requires some { 0 < length bytes.now }
-        requires size { length bytes.now ≤ 4 }
-        requires there { HasBytes (bytes_of self.old.parts.items) at (length bytes.now) }
-        ensures written { IsTrue result →
-            bytes_of self.new.parts.items ≡ written (bytes_of self.old.parts.items) at bytes.now }
-        ensures unchanged { result ≡ false → self.new ≡ self.old }
-    {
-        let Some(place) = self.find(at, bytes.len()) else {
+    fn write(&mut self, at: u32, from: &[u8]) -> bool {
+        let Some(place) = self.find(at, from.len()) else {
             return false;
         };
-        self.parts[place].write(at, bytes);
+        self.parts[place].write(at, from);
         true
-    }
-
-    // Loads and stores that reach from one region into another.
-    #[inline(never)]
-    fn load16_each(&self, at: u32) -> u32
-        requires { HasBytes (bytes_of self.now.parts.items) at 2 }
-        ensures { result ≡ load_of (bytes_of self.now.parts.items) at 2 }
-    {
-        let mut bytes = [0; 2];
-        self.read_each(at, &mut bytes);
-        u16::from_le_bytes(bytes).into()
-    }
-
-    #[inline(never)]
-    fn load32_each(&self, at: u32) -> u32
-        requires { HasBytes (bytes_of self.now.parts.items) at 4 }
-        ensures { result ≡ load_of (bytes_of self.now.parts.items) at 4 }
-    {
-        let mut bytes = [0; 4];
-        self.read_each(at, &mut bytes);
-        u32::from_le_bytes(bytes)
-    }
-
-    #[inline(never)]
-    fn store_each(&mut self, at: u32, value: u32, size: usize)
-        requires size { size ≤ 4 }
-        requires there { HasBytes (bytes_of self.old.parts.items) at size }
-        ensures { bytes_of self.new.parts.items ≡ with_bytes (bytes_of self.old.parts.items) at size value }
-    {
-        self.write_each(at, &value.to_le_bytes()[..size]);
     }
 }
 
@@ -200,43 +136,31 @@ impl Store for FlatStore {
 
     #[inline(always)]
     fn load8(&self, at: u32) -> u32 {
-        self.byte(at).into()
+        access::load8(self, at)
     }
 
     #[inline(always)]
     fn load16(&self, at: u32) -> u32 {
-        let mut bytes = [0; 2];
-        if !self.read(at, &mut bytes) {
-            return self.load16_each(at);
-        }
-        u16::from_le_bytes(bytes).into()
+        access::load16(self, at)
     }
 
     #[inline(always)]
     fn load32(&self, at: u32) -> u32 {
-        let mut bytes = [0; 4];
-        if !self.read(at, &mut bytes) {
-            return self.load32_each(at);
-        }
-        u32::from_le_bytes(bytes)
+        access::load32(self, at)
     }
 
     #[inline(always)]
     fn store8(&mut self, at: u32, value: u32) {
-        self.put(at, value.to_le_bytes()[0]);
+        access::store8(self, at, value);
     }
 
     #[inline(always)]
     fn store16(&mut self, at: u32, value: u32) {
-        if !self.write(at, &value.to_le_bytes()[..2]) {
-            self.store_each(at, value, 2);
-        }
+        access::store16(self, at, value);
     }
 
     #[inline(always)]
     fn store32(&mut self, at: u32, value: u32) {
-        if !self.write(at, &value.to_le_bytes()) {
-            self.store_each(at, value, 4);
-        }
+        access::store32(self, at, value);
     }
 }

@@ -5,6 +5,7 @@
 //! [`FlatStore`] keeps one vector per region, and [`PagedStore`] pages of a pool.
 #![tactic(auto)]
 
+mod access;
 mod area;
 mod cells;
 mod flat;

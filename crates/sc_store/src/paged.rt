@@ -10,6 +10,7 @@ ghost use Rattle.sc_store.specs.Paged.{reaches, regions_in, place_of, place_foun
 ghost use Rattle.sc_store.specs.Paged.{IsFocus};
 ghost use Rattle.sc_store.specs.Cells.{cell};
 
+use crate::access::{self, Access};
 use crate::area::Area;
 use crate::cells::Cells;
 use crate::{OutOfMemory, Region, Store};
@@ -99,13 +100,18 @@ impl PagedStore {
         }
         Area::empty()
     }
+}
+
+impl Access for PagedStore {
+    ghost use Rattle.sc_store.specs.Store.{bytes_in};
+
+    ghost bytes = { bytes_in };
+
+    ghost holds_bytes = { λ s. s.holds };
 
     #[inline(always)]
     #[tactic(auto, using(crate::proofs::Places::has_place))]
-    fn byte(&self, at: u32) -> u8
-        requires { IsSome (bytes_in self.now at) }
-        ensures { bytes_in self.now at ≡ Some result }
-    {
+    fn byte(&self, at: u32) -> u8 {
         let place = self.place(at, 1).unwrap();
         let mut byte = [0];
         self.cells.read(place, &mut byte);
@@ -114,43 +120,13 @@ impl PagedStore {
 
     #[inline(always)]
     #[tactic(auto, using(crate::proofs::Places::has_place))]
-    fn put(&mut self, at: u32, byte: u8)
-        requires { IsSome (bytes_in self.old at) }
-        ensures { bytes_in self.new ≡ written (bytes_in self.old) at (byte ∷ []) }
-    {
+    fn put(&mut self, at: u32, byte: u8) {
         let place = self.place(at, 1).unwrap();
         self.cells.write(place, &[byte]);
     }
 
-    // Byte by byte, wherever they lie.
-    fn read_each(&self, at: u32, into: &mut [u8])
-        requires size { length into.old ≤ 4 }
-        requires there { HasBytes (bytes_in self.now) at (length into.old) }
-        ensures { Reads (bytes_in self.now) at into.new }
-    {
-        for (k, byte) in into.iter_mut().enumerate() {
-            *byte = self.byte(at + k as u32);
-        }
-    }
-
-    fn write_each(&mut self, at: u32, bytes: &[u8])
-        requires size { length bytes.now ≤ 4 }
-        requires there { HasBytes (bytes_in self.old) at (length bytes.now) }
-        ensures { bytes_in self.new ≡ written (bytes_in self.old) at bytes.now }
-    {
-        for (k, byte) in bytes.iter().enumerate() {
-            self.put(at + k as u32, *byte);
-        }
-    }
-
-    // Reads bytes that lie on one page, and says whether they do.
     #[inline(always)]
-    fn read(&self, at: u32, into: &mut [u8]) -> bool
-        requires some { 0 < length into.old }
-        requires size { length into.old ≤ 4 }
-        ensures length { length into.new ≡ length into.old }
-        ensures bytes { IsTrue result → Reads (bytes_in self.now) at into.new }
-    {
+    fn read(&self, at: u32, into: &mut [u8]) -> bool {
         match self.place(at, into.len()) {
             Some(place) if place % PAGE_BYTES + into.len() <= PAGE_BYTES => {
                 self.cells.read(place, into);
@@ -160,52 +136,15 @@ impl PagedStore {
         }
     }
 
-    // Writes bytes whose addresses lie on one page, and says whether they do. If not, nothing changes.
     #[inline(always)]
-    fn write(&mut self, at: u32, bytes: &[u8]) -> bool
-        requires some { 0 < length bytes.now }
-        requires size { length bytes.now ≤ 4 }
-        requires there { HasBytes (bytes_in self.old) at (length bytes.now) }
-        ensures written { IsTrue result → bytes_in self.new ≡ written (bytes_in self.old) at bytes.now }
-        ensures unchanged { result ≡ false → self.new ≡ self.old }
-    {
-        match self.place(at, bytes.len()) {
-            Some(place) if place % PAGE_BYTES + bytes.len() <= PAGE_BYTES => {
-                self.cells.write(place, bytes);
+    fn write(&mut self, at: u32, from: &[u8]) -> bool {
+        match self.place(at, from.len()) {
+            Some(place) if place % PAGE_BYTES + from.len() <= PAGE_BYTES => {
+                self.cells.write(place, from);
                 true
             }
             _ => false,
         }
-    }
-
-    // Loads and stores that reach from one page, or from one region, into another.
-    #[inline(never)]
-    fn load16_each(&self, at: u32) -> u32
-        requires { HasBytes (bytes_in self.now) at 2 }
-        ensures { result ≡ load_of (bytes_in self.now) at 2 }
-    {
-        let mut bytes = [0; 2];
-        self.read_each(at, &mut bytes);
-        u16::from_le_bytes(bytes).into()
-    }
-
-    #[inline(never)]
-    fn load32_each(&self, at: u32) -> u32
-        requires { HasBytes (bytes_in self.now) at 4 }
-        ensures { result ≡ load_of (bytes_in self.now) at 4 }
-    {
-        let mut bytes = [0; 4];
-        self.read_each(at, &mut bytes);
-        u32::from_le_bytes(bytes)
-    }
-
-    #[inline(never)]
-    fn store_each(&mut self, at: u32, value: u32, size: usize)
-        requires size { size ≤ 4 }
-        requires there { HasBytes (bytes_in self.old) at size }
-        ensures { bytes_in self.new ≡ with_bytes (bytes_in self.old) at size value }
-    {
-        self.write_each(at, &value.to_le_bytes()[..size]);
     }
 }
 
@@ -241,43 +180,31 @@ impl Store for PagedStore {
 
     #[inline(always)]
     fn load8(&self, at: u32) -> u32 {
-        self.byte(at).into()
+        access::load8(self, at)
     }
 
     #[inline(always)]
     fn load16(&self, at: u32) -> u32 {
-        let mut bytes = [0; 2];
-        if !self.read(at, &mut bytes) {
-            return self.load16_each(at);
-        }
-        u16::from_le_bytes(bytes).into()
+        access::load16(self, at)
     }
 
     #[inline(always)]
     fn load32(&self, at: u32) -> u32 {
-        let mut bytes = [0; 4];
-        if !self.read(at, &mut bytes) {
-            return self.load32_each(at);
-        }
-        u32::from_le_bytes(bytes)
+        access::load32(self, at)
     }
 
     #[inline(always)]
     fn store8(&mut self, at: u32, value: u32) {
-        self.put(at, value.to_le_bytes()[0]);
+        access::store8(self, at, value);
     }
 
     #[inline(always)]
     fn store16(&mut self, at: u32, value: u32) {
-        if !self.write(at, &value.to_le_bytes()[..2]) {
-            self.store_each(at, value, 2);
-        }
+        access::store16(self, at, value);
     }
 
     #[inline(always)]
     fn store32(&mut self, at: u32, value: u32) {
-        if !self.write(at, &value.to_le_bytes()) {
-            self.store_each(at, value, 4);
-        }
+        access::store32(self, at, value);
     }
 }
