@@ -46,6 +46,13 @@ module _ {A : Type 0} (pick : Decl → Option A) (part : A → List ℕ) where
       length decls ≤ i → with_lines a (lines_of (drop i decls)) ≡ with_lines old all → a ≡ with_lines old all
   kind-done decls i old a all le p = done old a _ all p (ap lines_of (drop_all i decls le))
 
+-- a declaration is at most one struct
+pub few-structs : (decl : Decl) → length (structs_in (decl ∷ [])) ≤ 1
+few-structs decl = by (struct_in decl) where
+  by : (tree : Option StructTree) → length (filter_map (λ x. x) (tree ∷ [])) ≤ 1
+  by None = omega arith
+  by (Some tree) = omega arith
+
 module _ (section : SectionTree) where
   -- Structs, which have numbers.
 

@@ -63,7 +63,7 @@ fn section_lines(
     lines.unless(is_short(&section.decls), 1);
     export_lines(&section.exports, lines);
     import_lines(&section.imports, lines);
-    structs_lines(&sizes, &section.decls, lines)?;
+    structs_lines(&sizes, &section.decls, lines);
     globals_lines(&sizes, &section.decls, lines);
     heads_lines(&sizes, &section.decls, lines);
     functions_lines(&sizes, &section.decls, lines);

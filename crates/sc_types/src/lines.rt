@@ -4,14 +4,13 @@ ghost use Rattle.sc_types.specs.Prelude.{function_count_lines, function_decls, g
 ghost use Rattle.sc_types.specs.Prelude.{head_lines, heads_in};
 ghost use Rattle.sc_types.specs.Prelude.{line_beyond, local_lines, most_exports, param_small, structs_from, structs_in};
 ghost use Rattle.sc_types.specs.Prelude.{with_lines};
-ghost use Rattle.std.specs.Prelude.{◌≡◌, ◌+◌, [], ◌∷◌, length, map, IfOk, OnOk};
+ghost use Rattle.std.specs.Prelude.{◌≡◌, ◌<◌, ◌+◌, ◌^◌, [], ◌∷◌, length, map};
 ghost use Rattle.std.specs.List.{concat, list_all};
 ghost use Rattle.sc_ast.specs.declared.section.ExportLine.{ExportLine};
 ghost use Rattle.sc_ast.specs.declared.section.ImportLine.{ImportLine};
 
 use crate::sizes::Sizes;
 use sc_ast::{Decl, Decls, ExportLines, FunctionParam, FunctionTree, ImportLines, LocalTrees};
-use sc_base::OutOfMemory;
 use sc_types_scope::BrokenLines;
 
 /// The most parameters that a function may have.
@@ -45,41 +44,28 @@ pub fn import_lines(imports: &ImportLines, lines: &mut BrokenLines)
 }
 
 /// Notes the structs that are too large.
-pub fn structs_lines(
-    sizes: &Sizes,
-    decls: &Decls,
-    lines: &mut BrokenLines,
-) -> Result<(), OutOfMemory>
-    ensures { OnOk result (lines.new ≡ with_lines lines.old (structs_from sizes.now 0 (structs_in decls.now))) }
+pub fn structs_lines(sizes: &Sizes, decls: &Decls, lines: &mut BrokenLines)
+    ensures { lines.new ≡ with_lines lines.old (structs_from sizes.now 0 (structs_in decls.now)) }
 {
-    let mut number: u32 = 0;
+    let mut number = 0;
     for decl in decls.as_slice() {
-        number = struct_lines(sizes, number, decl, lines)?;
+        number = struct_lines(sizes, number, decl, lines);
     }
-    Ok(())
 }
 
 // A struct of this number, where it is one. The number of the next struct is handed back.
 #[tactic(auto, using(crate::proofs::Noted::noting))]
-fn struct_lines(
-    sizes: &Sizes,
-    number: u32,
-    decl: &Decl,
-    lines: &mut BrokenLines,
-) -> Result<u32, OutOfMemory>
-    ensures lines { OnOk result (lines.new ≡ with_lines lines.old
-        (structs_from sizes.now number (structs_in (decl.now ∷ [])))) }
-    ensures number { IfOk result (λ next. next ≡ number + length (structs_in (decl.now ∷ []))) }
+fn struct_lines(sizes: &Sizes, number: usize, decl: &Decl, lines: &mut BrokenLines) -> usize
+    requires { number + 1 < 2 ^ 64 }
+    ensures lines { lines.new ≡ with_lines lines.old (structs_from sizes.now number (structs_in (decl.now ∷ []))) }
+    ensures number { result ≡ number + length (structs_in (decl.now ∷ [])) }
 {
     match decl {
         Decl::Struct(tree) => {
-            let Some(next) = number.checked_add(1) else {
-                return Err(OutOfMemory);
-            };
             lines.unless(sizes.is_small_struct(number), tree.line);
-            Ok(next)
+            number + 1
         }
-        _ => Ok(number),
+        _ => number,
     }
 }
 

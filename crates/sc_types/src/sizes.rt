@@ -79,9 +79,10 @@ impl<'a> Sizes<'a> {
     }
 
     /// Whether the struct of this number has no more cells than are allowed.
-    pub fn is_small_struct(&self, number: u32) -> bool
+    #[tactic(auto, using(crate::proofs::Noted::measures))]
+    pub fn is_small_struct(&self, number: usize) -> bool
         ensures { result ≡ is_small self.now (ty.Struct number) }
     {
-        self.is_within(Ty::Struct(number))
+        self.structs.cells(number) <= MOST_CELLS
     }
 }

@@ -64,10 +64,10 @@ impl Structs {
     }
 
     /// The cells of the struct of this number, 0 where there is none.
-    pub fn cells(&self, number: u32) -> u32
+    pub fn cells(&self, number: usize) -> u32
         ensures { result ≡ struct_cells (slice_get self.now number) }
     {
-        match self.list.get(number as usize) {
+        match self.list.get(number) {
             None => 0,
             Some(tree) => tree.cells,
         }
@@ -83,7 +83,7 @@ impl Structs {
         match base {
             BaseTy::Int => 1,
             BaseTy::Unsigned => 1,
-            BaseTy::Struct(number) => self.cells(number),
+            BaseTy::Struct(number) => self.cells(number as usize),
         }
     }
 
@@ -92,7 +92,7 @@ impl Structs {
         ensures { result ≡ limited (cells_of self.now ty) }
     {
         match ty {
-            Ty::Struct(number) => self.cells(number),
+            Ty::Struct(number) => self.cells(number as usize),
             Ty::Array {
                 stars,
                 base,
