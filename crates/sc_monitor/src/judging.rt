@@ -1,6 +1,6 @@
 //! The automaton of a policy on the events of a trace.
 
-ghost use Rattle.sc_policy.specs.Policies.{most_rules};
+ghost use Rattle.sc_policy.specs.Prelude.{most_rules};
 ghost use Rattle.sc_monitor.specs.Verdict.{goal_of, is_compromised, move_at, rule_for, verdict};
 ghost use Rattle.std.specs.Prelude.{◌≡◌, ◌<◌, ◌^◌, ◌≤◌, length, IfSome};
 
