@@ -123,7 +123,7 @@ class Walk:
         return bound
 
     def let(self, nodes, at, bound):
-        """Notes a `let`, binds its name, and gives the place behind its `in`."""
+        """Notes a `let`, binds its name, and gives the place after its `in`."""
         value = at + at_word(nodes[at:], "=")
         depth, end = 1, value
         while depth:

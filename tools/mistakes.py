@@ -32,7 +32,7 @@ MISTAKES = [
     (FILE, "#pragma export a b", 2, "a line for each"),
     (FILE, "#pragma export", 2, "names a function"),
     (FILE, "#pragma compartment", 2, "has a name"),
-    (FILE, "#pragma compartment A B", 2, "nothing stands behind"),
+    (FILE, "#pragma compartment A B", 2, "nothing follows"),
     (FILE, "#pragma compartment 1A", 2, "begins with a letter"),
     (FILE, "#pragma compartment  A", 2, "one blank"),
     (MAIN, "  int a; a = 1 ? 2 : 3;", 3, "?:"),

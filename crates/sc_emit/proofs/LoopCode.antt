@@ -40,11 +40,11 @@ pub record EndsLoop (stmts : List TacStmt) (instrs : List Instr) (i : ℕ) (x : 
   pub back : LeadsOver over x
   pub to : (over + begins ≡ i) ⊎ (over + suc begins ≡ i)
 
--- with other code before it, and behind it
-behind : (stmts all : List TacStmt) (xs ys : List Instr) (i j : ℕ) (x : Instr) →
+-- with other code before it, and after it
+between : (stmts all : List TacStmt) (xs ys : List Instr) (i j : ℕ) (x : Instr) →
     ((stmt : TacStmt) → StandsIn stmt stmts → StandsIn stmt all) → i ≡ length xs + j → EndsLoop stmts ys j x →
     EndsLoop all (xs ++ ys) i x
-behind stmts all xs ys i j x inside is e = record {
+between stmts all xs ys i j x inside is e = record {
   begins = length xs + e.begins;
   loop = record {
     head = e.loop.head;
@@ -94,11 +94,11 @@ in_either : (all : List TacStmt) (xs ys : List Instr) (i : ℕ) (x : Instr) → 
     ((j : ℕ) → slice_get ys j ≡ Some x → EndsLoop all ys j x) → EndsLoop all (xs ++ ys) i x
 in_either all xs ys i x at one two =
     ⊎_elim (λ h. before all all xs ys i x (λ stmt s. s) (one h))
-    (λ h. behind all all xs ys i h.0 x (λ stmt s. s) h.1.0 (two h.0 h.1.1)) (in_parts xs ys i x at)
+    (λ h. between all all xs ys i h.0 x (λ stmt s. s) h.1.0 (two h.0 h.1.1)) (in_parts xs ys i x at)
 
 moved : (stmts all : List TacStmt) (instrs : List Instr) (i : ℕ) (x : Instr) →
     ((stmt : TacStmt) → StandsIn stmt stmts → StandsIn stmt all) → EndsLoop stmts instrs i x → EndsLoop all instrs i x
-moved stmts all instrs i x inside e = behind stmts all [] instrs i i x inside (omega arith) e
+moved stmts all instrs i x inside e = between stmts all [] instrs i i x inside (omega arith) e
 
 -- the loop itself
 itself : (head body next rest : List TacStmt) (at_head at_body at_next inside more : List Instr) (begin last : Instr)
@@ -173,17 +173,17 @@ module _ (head body next rest : List TacStmt) (at_head at_body at_next inside mo
       subst (EndsLoop all (begin ∷ (inside ++ (last ∷ more))) i) same
       (itself head body next rest at_head at_body at_next inside more begin last i goes h b n (omega (arith, is)))
   at_end i (suc j) is k =
-      behind all all (begin ∷ []) (inside ++ (last ∷ more)) i (length inside + suc j) x (λ s it. it)
+      between all all (begin ∷ []) (inside ++ (last ∷ more)) i (length inside + suc j) x (λ s it. it)
       (omega (arith, is))
-      (behind all all inside (last ∷ more) (length inside + suc j) (suc j) x (λ s it. it) refl
-      (behind rest all (last ∷ []) more (suc j) j x (λ s it. later (tac.Loop head body next) rest it)
+      (between all all inside (last ∷ more) (length inside + suc j) (suc j) x (λ s it. it) refl
+      (between rest all (last ∷ []) more (suc j) j x (λ s it. later (tac.Loop head body next) rest it)
       (omega arith) (rested j k)))
 
   loop_ends : (i : ℕ) → slice_get (begin ∷ (inside ++ (last ∷ more))) i ≡ Some x →
       EndsLoop all (begin ∷ (inside ++ (last ∷ more))) i x
   loop_ends zero k = absurd (one_back begin x goes.on (cc k) back)
   loop_ends (suc i) k =
-      ⊎_elim (λ l. behind all all (begin ∷ []) (inside ++ (last ∷ more)) (suc i) i x (λ s it. it) (omega arith)
+      ⊎_elim (λ l. between all all (begin ∷ []) (inside ++ (last ∷ more)) (suc i) i x (λ s it. it) (omega arith)
       (before all all inside (last ∷ more) i x (λ s it. it) (inner i l)))
       (λ l. at_end (suc i) l.0 (omega (arith, l.1.0)) l.1.1) (in_parts inside (last ∷ more) i x k)
 

@@ -33,7 +33,7 @@ pub record ComesBack (from : ℕ) (before after : MachineState) : Type 0 where
   pub cross : after.cross ≡ before.cross
 
 -- A call keeps the caller's sp. The step that closes it, however long the callee ran and whatever it called in between,
--- is a return of the callee, and the caller goes on behind its call.
+-- is a return of the callee, and the caller goes on after its call.
 pub record CallsComeBack : Type 0 where
   pub call : (point : Point) (from to index : ℕ) (args : List ℕ) → RunsAt point.state.active point →
       observation_at point ≡ Adds (Call from to index args ∷ []) → HasCalled from to point.state (later 1 point).state

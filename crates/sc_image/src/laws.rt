@@ -70,7 +70,7 @@ pub fn isolates()
 {}
 
 /// A call keeps the caller's stack pointer. The step that closes the call is a return of the callee,
-/// and the caller goes on behind its call, with that stack pointer.
+/// and the caller goes on after its call, with that stack pointer.
 pub fn calls_come_back()
     ensures { CallsComeBack }
 {}
