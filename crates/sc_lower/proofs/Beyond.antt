@@ -7,8 +7,8 @@ use Rattle.sc_lower.proofs.Common.{assign_call_fits, assign_fits, beyond, body_f
 use Rattle.sc_lower.proofs.Common.{expr_beyond, expr_induction, false, false≢true, goes_into, if◌then◌else◌}
 use Rattle.sc_lower.proofs.Common.{init_beyond, init_fits, int_fits, is_address, is_int, is_scalar, is_target, is_type}
 use Rattle.sc_lower.proofs.Common.{judged, kind_beyond, kind_fits, layer_of, length, list_all, local_beyond}
-use Rattle.sc_lower.proofs.Common.{local_nodes, lt-ltb, map, most_nodes, nat_lt, part_beyond, part_fits, refl}
-use Rattle.sc_lower.proofs.Common.{returned_call_fits, returned_fits, signed, simple_beyond, simple_fits, stmt_at}
+use Rattle.sc_lower.proofs.Common.{local_nodes, lt-ltb, map, most_nodes, part_beyond, part_fits, refl}
+use Rattle.sc_lower.proofs.Common.{returned_call_fits, signed, simple_beyond, simple_fits, stmt_at}
 use Rattle.sc_lower.proofs.Common.{stmt_beyond, stmt_fits, stmt_induction, subst, suc, target_signature, term_beyond}
 use Rattle.sc_lower.proofs.Common.{term_judged, term_of, total, true, variable_beyond, variable_ty, ℕ, ◌+◌, ◌∙◌, ◌∷◌}
 use Rattle.sc_lower.proofs.Common.{◌≡◌, ◌≤◌}

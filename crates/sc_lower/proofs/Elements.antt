@@ -11,7 +11,7 @@ use Rattle.sc_lower.proofs.Common.{list_any, literal_fits, local_fits, lt-ltb, l
 use Rattle.sc_lower.proofs.Common.{members_fit, most_cells, nat_le, nat_lt, not, not-true, passed_fits, pointer_to}
 use Rattle.sc_lower.proofs.Common.{points, refl, same_base, same_pointers, same_ty, scope_of, slice_get, starred}
 use Rattle.sc_lower.proofs.Common.{starred_cells, starred_within, struct_cells, struct_fits, structs_fit, subst, suc}
-use Rattle.sc_lower.proofs.Common.{sum_fits, sym, target, target_cells, term_judged, term_of, true, type_within, typed}
+use Rattle.sc_lower.proofs.Common.{sum_fits, sym, target, target_cells, term_judged, term_of, true, type_within}
 use Rattle.sc_lower.proofs.Common.{unary_fits, variable_fits, variable_ty, zero, ℕ, ◌&&◌, ◌*◌, ◌+◌, ◌-◌, ◌<◌, ◌==◌, ◌^◌}
 use Rattle.sc_lower.proofs.Common.{◌||◌, ◌∙◌, ◌∷◌, ◌≡◌, ◌≤◌}
 use Rattle.std.proofs.Math.Nat.{mul-pos}

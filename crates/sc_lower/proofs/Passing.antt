@@ -3,7 +3,7 @@ use Rattle.sc_lower.proofs.Common.{Bool, CallTarget, Callable, Each, Forms, Insi
 use Rattle.sc_lower.proofs.Common.{Many, None, Option, Part, Parts, Scope, Signature, Signed, Some, TacStmt, TacStmt-F}
 use Rattle.sc_lower.proofs.Common.{Ty, TypedCall, TypedExpr, TypedLocal, TypedSimple, TypedSimpleKind, TypedStmt}
 use Rattle.sc_lower.proofs.Common.{TypedStmtKind, TypedStmtKind-F, TypedStruct, [], after, all_go_into, and_first}
-use Rattle.sc_lower.proofs.Common.{and_from, and_rest, ap, args_fit, arith as numbers, assign, assign_call_fits}
+use Rattle.sc_lower.proofs.Common.{and_from, and_rest, ap, arith as numbers, assign, assign_call_fits}
 use Rattle.sc_lower.proofs.Common.{assign_fits, at_place, block_code, body_fits, both, call_code, call_fits, call_for}
 use Rattle.sc_lower.proofs.Common.{call_statement, cycle, everywhere, false, false≢true, first_of, fork, forms}
 use Rattle.sc_lower.proofs.Common.{goes_into, in_turn, init_code, init_fits, inits_code, is_scalar, is_some, is_target}
@@ -18,7 +18,7 @@ use Rattle.sc_core.specs.declared.stmt.TypedSimpleKind.TheVariants as simple
 use Rattle.sc_core.specs.declared.value.Want.TheVariants as want
 use Rattle.sc_tac.specs.declared.stmt.TacStmt.TheOpen as tac
 use Rattle.sc_tac.specs.declared.stmt.TacStmt.TheVariants as emit
-use Rattle.sc_lower.proofs.Tests.{call_layer, scalar_fits, all_append, all_one, all_after, Below, AllBelow, PassedBy}
+use Rattle.sc_lower.proofs.Tests.{scalar_fits, all_append, all_one, all_after, Below, AllBelow, OfExpression, PassedBy}
 use Rattle.sc_lower.proofs.Tests.{PointsToElements, Clean, lone_clean, place_clean, place_passes, fork_passes}
 use Rattle.sc_lower.proofs.Tests.{expr_clean}
 
@@ -42,25 +42,52 @@ InitsFit scope k (local ∷ locals) =
     (is_type (variable_ty scope (Local k)) local.ty ≡ true) × (init_fits scope local.ty local.init ≡ true)
     × InitsFit scope (suc k) locals
 
--- a test that is passed by what statements emit
-pub record PassedByAll (temps : ℕ) (scope : Scope) (callable : Callable) (result : Option Ty) (test : TacStmt-F Bool →
-    Bool) : Type 0 where
-  pub exprs : PassedBy temps scope test
-  pub store : (q v : ℕ) → q < temps → v < temps → test (tac.Store q v) ≡ true
-  pub cycle : (a b c : List Bool) → test (tac.Loop a b c) ≡ true
-  pub breaks : test tac.Break ≡ true
-  pub continues : test tac.Continue ≡ true
-  pub called : (to : CallTarget) (signature : Signature) (dest : Option ℕ) (at : List ℕ) →
-      target_signature callable to ≡ Some signature →
-      (es : List TypedExpr) → all_go_into signature.params (map (judged scope) es) ≡ true →
-      length at ≡ length signature.params → (is_some dest ≡ true → is_some signature.result ≡ true) → Below temps dest →
-      AllBelow temps at →
-      test (call_layer to dest at) ≡ true
-  pub returned : (v : Option ℕ) → is_some v ≡ is_some result → Below temps v → test (tac.Return v) ≡ true
+-- what a call that fits takes and gives, in the code
+pub record FitsCall (temps : ℕ) (scope : Scope) (callable : Callable) (to : CallTarget) (dest : Option ℕ) (at : List ℕ) :
+    Type 0 where
+  pub signature : Signature
+  pub is : target_signature callable to ≡ Some signature
+  pub args : List TypedExpr
+  pub go : all_go_into signature.params (map (judged scope) args) ≡ true
+  pub count : length at ≡ length signature.params
+  pub results : is_some dest ≡ true → is_some signature.result ≡ true
+  pub below : Below temps dest
+  pub every : AllBelow temps at
+
+module _ (temps : ℕ) (scope : Scope) (callable : Callable) (result : Option Ty) where
+  -- a statement that statements emit, by itself
+  abbrev pub OfStatement : TacStmt-F Bool → Type 0
+  OfStatement (tac.Store q v) = (q < temps) × (v < temps)
+  OfStatement (tac.Loop a b c) = Unit {0}
+  OfStatement tac.Break = Unit {0}
+  OfStatement tac.Continue = Unit {0}
+  OfStatement (tac.CallOwn dest n at) = FitsCall temps scope callable (target.Own n) dest at
+  OfStatement (tac.CallCross dest to index at) = FitsCall temps scope callable (target.Cross to index) dest at
+  OfStatement (tac.Input dest) = (at : List ℕ) × FitsCall temps scope callable target.Input dest at
+  OfStatement (tac.Output v) =
+      (dest : Option ℕ) × (at : List ℕ) × (first_of at ≡ v) × FitsCall temps scope callable target.Output dest at
+  OfStatement (tac.Return v) = (is_some v ≡ is_some result) × Below temps v
+  OfStatement layer = OfExpression temps scope layer
+
+  of_expression : (layer : TacStmt-F Bool) → OfExpression temps scope layer → OfStatement layer
+  of_expression (tac.Const d c) h = h
+  of_expression (tac.Op d o x y) h = h
+  of_expression (tac.ObjectPlace d i) h = h
+  of_expression (tac.GlobalPlace d g) h = h
+  of_expression (tac.Load d x b) h = h
+  of_expression (tac.If c a b) h = h
+  of_expression _ h = absurd h
+
+  -- a test that each of them passes
+  abbrev pub PassedByAll : (TacStmt-F Bool → Bool) → Type 0
+  PassedByAll test = (layer : TacStmt-F Bool) → OfStatement layer → test layer ≡ true
 
 module _ (temps : ℕ) (scope : Scope) (callable : Callable) (result : Option Ty) (test : TacStmt-F Bool → Bool)
     (passed : PassedByAll temps scope callable result test) (structs : List TypedStruct)
     (elements : PointsToElements scope structs) where
+  exprs : PassedBy temps scope test
+  exprs layer h = passed layer (of_expression temps scope callable result layer h)
+
   abbrev params : ℕ
   params = length scope.params
 
@@ -71,13 +98,13 @@ module _ (temps : ℕ) (scope : Scope) (callable : Callable) (result : Option Ty
   All xs = everywhere test xs ≡ true
 
   abbrev Cleans : Lows → Type 0
-  Cleans = Clean temps scope test passed.exprs
+  Cleans = Clean temps scope test exprs
 
   clean : (e : TypedExpr) → (judged scope e).fits ≡ true → Cleans (form e want.Value)
-  clean e h = expr_clean temps scope test passed.exprs structs elements e h want.Value
+  clean e h = expr_clean temps scope test exprs structs elements e h want.Value
 
   clean_place : (e : TypedExpr) → (judged scope e).fits ≡ true → Cleans (form e want.Place)
-  clean_place e h = expr_clean temps scope test passed.exprs structs elements e h want.Place
+  clean_place e h = expr_clean temps scope test exprs structs elements e h want.Place
 
   pub record CleanPart (p : Parts) : Type 0 where
     pub up : (n : ℕ) → n ≤ (p n).next
@@ -118,7 +145,7 @@ module _ (temps : ℕ) (scope : Scope) (callable : Callable) (result : Option Ty
         let q : ℕ = (f want.Place n).at in
         all_append test (f want.Place n).code (emit.Store q at ∷ []) (hf.passes n le)
         (all_one test (tac.Store q at) (emit.Store q at) (emit.rolls-Store q at)
-        (and_from _ true (passed.store q at (omega (numbers, hf.below n, le)) lt) refl));
+        (and_from _ true (passed (tac.Store q at) (omega (numbers, hf.below n, le), lt)) refl));
   }
 
   assign_clean : (f e : Forms) → Cleans (f want.Place) → Cleans (e want.Value) → CleanPart (assign f e)
@@ -157,29 +184,36 @@ module _ (temps : ℕ) (scope : Scope) (callable : Callable) (result : Option Ty
         below = λ le. (omega (numbers, le, rest.up, c.below n), rest.below le);
       }
 
-  call_one : (to : CallTarget) (dest : Option ℕ) (at : List ℕ) → test (call_layer to dest at) ≡ true →
+  call_one : (to : CallTarget) (dest : Option ℕ) (at : List ℕ) → FitsCall temps scope callable to dest at →
       All (call_code to dest at ∷ [])
-  call_one (target.Own function) dest at h = all_one test (tac.CallOwn dest function at) (emit.CallOwn dest function at)
-      (emit.rolls-CallOwn dest function at) (and_from _ true h refl)
+  call_one (target.Own function) dest at h =
+      all_one test (tac.CallOwn dest function at) (emit.CallOwn dest function at)
+      (emit.rolls-CallOwn dest function at) (and_from _ true (passed (tac.CallOwn dest function at) h) refl)
   call_one (target.Cross comp index) dest at h =
       all_one test (tac.CallCross dest comp index at) (emit.CallCross dest comp index at)
-      (emit.rolls-CallCross dest comp index at) (and_from _ true h refl)
+      (emit.rolls-CallCross dest comp index at) (and_from _ true (passed (tac.CallCross dest comp index at) h) refl)
   call_one target.Input dest at h =
-      all_one test (tac.Input dest) (emit.Input dest) (emit.rolls-Input dest) (and_from _ true h refl)
+      all_one test (tac.Input dest) (emit.Input dest) (emit.rolls-Input dest)
+      (and_from _ true (passed (tac.Input dest) (at, h)) refl)
   call_one target.Output dest at h =
       all_one test (tac.Output (first_of at)) (emit.Output (first_of at)) (emit.rolls-Output (first_of at))
-      (and_from _ true h refl)
+      (and_from _ true (passed (tac.Output (first_of at)) (dest, at, refl, h)) refl)
 
   call_passes : (c : TypedCall) (s : Signed (target_signature callable c.target) (map (judged scope) c.args))
       (dest : Option ℕ) (n : ℕ) →
       (is_some dest ≡ true → is_some s.signature.result ≡ true) → Below temps dest →
       (many (map form c.args) n).next ≤ temps →
       All (call_code c.target dest (many (map form c.args) n).at ∷ [])
-  call_passes c s dest n results lt le =
-      call_one c.target dest (many (map form c.args) n).at
-      (passed.called c.target s.signature dest (many (map form c.args) n).at s.is c.args s.fit (many_length c.args n
-      ∙ goes_length s.signature.params c.args s.fit) results lt ((many_clean s.signature.params c.args n s.fit).below
-      le))
+  call_passes c s dest n results lt le = call_one c.target dest (many (map form c.args) n).at (record {
+    signature = s.signature;
+    is = s.is;
+    args = c.args;
+    go = s.fit;
+    count = many_length c.args n ∙ goes_length s.signature.params c.args s.fit;
+    results = results;
+    below = lt;
+    every = (many_clean s.signature.params c.args n s.fit).below le;
+  })
 
   call_statement_clean : (c : TypedCall) → call_fits callable c.target (map (judged scope) c.args) ≡ true →
       CleanPart (call_statement c.target (map form c.args))
@@ -223,22 +257,22 @@ module _ (temps : ℕ) (scope : Scope) (callable : Callable) (result : Option Ty
   return_with : is_some result ≡ true → CleanWith return_value
   return_with h =
       just_with (λ v. emit.Return (Some v) ∷ []) (λ v lt. all_one test (tac.Return (Some v)) (emit.Return (Some v))
-      (emit.rolls-Return (Some v)) (and_from _ true (passed.returned (Some v) (sym h) lt) refl))
+      (emit.rolls-Return (Some v)) (and_from _ true (passed (tac.Return (Some v)) (sym h, lt)) refl))
 
   fork_with : (p q : Parts) → CleanPart p → CleanPart q → CleanWith (fork p q)
   fork_with p q hp hq = record {
     up = λ at n. omega (numbers, hp.up n, hq.up (p n).next);
-    passes = λ at n lt le. fork_passes temps scope test passed.exprs at (p n).code (q (p n).next).code lt
+    passes = λ at n lt le. fork_passes temps scope test exprs at (p n).code (q (p n).next).code lt
         (hp.passes n (omega (numbers, le, hq.up (p n).next))) (hq.passes (p n).next le);
   }
 
   break_passes : All (emit.Break ∷ [])
-  break_passes = all_one test tac.Break emit.Break emit.rolls-Break (and_from _ true passed.breaks refl)
+  break_passes = all_one test tac.Break emit.Break emit.rolls-Break (and_from _ true (passed tac.Break tt) refl)
 
   test_clean : (cond : TypedExpr) → (judged scope cond).fits ≡ true → CleanPart (tests (form cond))
   test_clean cond h =
       after_clean (form cond want.Value) _ (clean cond h) (just_with (λ v. emit.If v [] (emit.Break ∷ []) ∷ [])
-      (λ v lt. fork_passes temps scope test passed.exprs v [] (emit.Break ∷ []) lt refl break_passes))
+      (λ v lt. fork_passes temps scope test exprs v [] (emit.Break ∷ []) lt refl break_passes))
 
   cycle_clean : (p q r : Parts) → CleanPart p → CleanPart q → CleanPart r → CleanPart (cycle p q r)
   cycle_clean p q r hp hq hr = record {
@@ -247,7 +281,7 @@ module _ (temps : ℕ) (scope : Scope) (callable : Callable) (result : Option Ty
         let x : Part = p n in let y : Part = q x.next in let z : Part = r y.next in
         all_one test (tac.Loop x.code y.code z.code) (emit.Loop x.code y.code z.code)
         (emit.rolls-Loop x.code y.code z.code)
-        (and_from _ _ (passed.cycle _ _ _) (and_from _ _ (hp.passes n (omega (numbers, le, hq.up x.next, hr.up y.next)))
+        (and_from _ _ (passed (tac.Loop _ _ _) tt) (and_from _ _ (hp.passes n (omega (numbers, le, hq.up x.next, hr.up y.next)))
         (and_from _ _ (hq.passes x.next (omega (numbers, le, hr.up y.next))) (and_from _ true (hr.passes y.next le)
         refl))));
   }
@@ -342,10 +376,10 @@ module _ (temps : ℕ) (scope : Scope) (callable : Callable) (result : Option Ty
   level line layer.Break h looping fits = just_clean (emit.Break ∷ []) break_passes
   level line layer.Continue h looping fits =
       just_clean (emit.Continue ∷ []) (all_one test tac.Continue emit.Continue emit.rolls-Continue
-      (and_from _ true passed.continues refl))
+      (and_from _ true (passed tac.Continue tt) refl))
   level line layer.Return h looping fits =
       just_clean (emit.Return None ∷ []) (all_one test (tac.Return None) (emit.Return None) (emit.rolls-Return None)
-      (and_from _ true (passed.returned None (nothing result fits) tt) refl))
+      (and_from _ true (passed (tac.Return None) (nothing result fits, tt)) refl))
   level line (layer.ReturnValue e) h looping fits =
       after_clean (form e want.Value) return_value (clean e (returned_value result (judged scope e) fits))
       (return_with (returned_some result (judged scope e) fits))
@@ -370,9 +404,9 @@ module _ (temps : ℕ) (scope : Scope) (callable : Callable) (result : Option Ty
   init_clean k local None own h = just_clean [] refl
   init_clean k local (Some e) own h =
       assign_clean (at_place local.ty (lone (place_code params (Local k)))) (form e)
-      (place_clean temps scope test passed.exprs local.ty want.Place (lone (place_code params (Local k)))
-      (lone_clean temps scope test passed.exprs (place_code params (Local k))
-      (place_passes temps scope test passed.exprs (Local k) local.ty own)))
+      (place_clean temps scope test exprs local.ty want.Place (lone (place_code params (Local k)))
+      (lone_clean temps scope test exprs (place_code params (Local k))
+      (place_passes temps scope test exprs (Local k) local.ty own)))
       (clean e (and_first (judged scope e).fits _ h))
 
   inits_clean : (k : ℕ) (locals : List TypedLocal) → InitsFit scope k locals →

@@ -1,5 +1,5 @@
 -- The code of a function of a well-typed program keeps the rules of functions.
-use Rattle.sc_lower.proofs.Common.{After, All, BaseTy, Bool, CallTarget, Callable, Export, ForSection, Interface}
+use Rattle.sc_lower.proofs.Common.{After, All, BaseTy, Bool, Callable, Export, ForSection, Interface}
 use Rattle.sc_lower.proofs.Common.{Interfaces, IsFunction, IsLowerable, List, Main, None, Option, Part, Placed}
 use Rattle.sc_lower.proofs.Common.{ProgramTree, Proto, Scalar, Scope, Signature, Some, TacOp, TacStmt-F, Ty}
 use Rattle.sc_lower.proofs.Common.{TypedFunction, TypedLocal, TypedParam, TypedSection, TypedStruct, []}
@@ -14,7 +14,7 @@ use Rattle.sc_lower.proofs.Common.{is_plain_name, is_some, is_type, is_well_type
 use Rattle.sc_lower.proofs.Common.{length-append, length-map, list_all, list_any, local_fits, lowered_function, lt-ltb}
 use Rattle.sc_lower.proofs.Common.{main_fits, main_name, main_so, map, most_cells, most_exports, most_nodes}
 use Rattle.sc_lower.proofs.Common.{most_params, named_so, names_own_object, names_own_temps, nat_le, nat_lt, nodes, not}
-use Rattle.sc_lower.proofs.Common.{one_or_none, option_and_then, option_map, option_signature, own_names_differ}
+use Rattle.sc_lower.proofs.Common.{one_or_none, option_map, option_signature, own_names_differ}
 use Rattle.sc_lower.proofs.Common.{passed_fits, passes_few, passes_words, position, proto_signature, refl, result_fits}
 use Rattle.sc_lower.proofs.Common.{returns_result, same_base, same_import, same_signature, same_ty, same_types}
 use Rattle.sc_lower.proofs.Common.{scalar_ty, scope_of, sections_so, signature_of, slice_get, slice_get-map}
@@ -23,6 +23,7 @@ use Rattle.sc_lower.proofs.Common.{target_signature, total, true, type_within, t
 use Rattle.sc_lower.proofs.Common.{zero, ℕ, ◌&&◌, ◌++◌, ◌+◌, ◌<◌, ◌==◌, ◌∙◌, ◌∷◌, ◌≡◌, ◌≤◌}
 use Rattle.std.proofs.lemmas.List.Sums.{AllPass-from_list_all}
 use Rattle.sc_tac.specs.declared.stmt.TacOp.TheVariants as tacop
+use Rattle.sc_tac.specs.declared.stmt.TacStmt.TheOpen as tac
 use Rattle.sc_event.specs.declared.interface.Import.TheVariants as import
 use Rattle.sc_event.specs.declared.interface.Scalar.TheVariants as scalar
 use Rattle.sc_core.specs.declared.expr.CallTarget.TheVariants as target
@@ -32,10 +33,10 @@ use Rattle.sc_core_kind_laws.proofs.Sections.{first_of}
 use Rattle.sc_lower.proofs.Beyond.{function_near, locals_few}
 use Rattle.sc_lower.proofs.Elements.{points_to_elements}
 use Rattle.sc_lower.proofs.Flowing.{all_assigned}
-use Rattle.sc_lower.proofs.Passing.{InitsFit, PassedByAll, body_passes}
+use Rattle.sc_lower.proofs.Passing.{FitsCall, InitsFit, PassedByAll, body_passes}
 use Rattle.sc_lower.proofs.Sizes.{few_temps, light}
 use Rattle.sc_lower.proofs.Strays.{breaks_in_loops, continues_in_bodies}
-use Rattle.sc_lower.proofs.Tests.{call_layer, Below, AllBelow, PassedBy, PointsToElements}
+use Rattle.sc_lower.proofs.Tests.{Below, AllBelow, PointsToElements}
 
 -- TESTS
 pub beq_same : (a b : Bool) → a ≡ b → beq a b ≡ true
@@ -43,29 +44,6 @@ beq_same true true h = refl
 beq_same true false h = absurd (cc)
 beq_same false true h = absurd (cc)
 beq_same false false h = refl
-
--- a statement without operators of its own has as many operands as these take
-operands_passed : (temps : ℕ) (scope : Scope) → PassedBy temps scope has_operands
-operands_passed temps scope = record {
-  constant = λ d c word lt. refl;
-  one = λ d o x two ld lx. beq_same false (takes_two o) (sym two);
-  two = λ d o x y two cells ld lx ly. beq_same true (takes_two o) (sym two);
-  object = λ d i lt li. refl;
-  global = λ d g lt lg. refl;
-  load = λ d x b ld lx. refl;
-  fork = λ c a b lt. refl;
-}
-
-words_passed : (temps : ℕ) (scope : Scope) → PassedBy temps scope has_words
-words_passed temps scope = record {
-  constant = λ d c word lt. word;
-  one = λ d o x two ld lx. refl;
-  two = λ d o x y two cells ld lx ly. refl;
-  object = λ d i lt li. refl;
-  global = λ d g lt lg. refl;
-  load = λ d x b ld lx. refl;
-  fork = λ c a b lt. refl;
-}
 
 -- what takes one value counts no elements
 one_counted : (o : TacOp) → takes_two o ≡ false → counts_elements o ≡ true
@@ -76,51 +54,6 @@ one_counted (tacop.PointerMove minus cells index) h = refl
 one_counted (tacop.PointerMember offset) h = refl
 one_counted (tacop.PointerDifference cells) h = absurd (false≢true (sym h))
 one_counted (tacop.PointerCompare op) h = refl
-
-elements_passed : (temps : ℕ) (scope : Scope) → PassedBy temps scope has_elements
-elements_passed temps scope = record {
-  constant = λ d c word lt. refl;
-  one = λ d o x two ld lx. one_counted o two;
-  two = λ d o x y two cells ld lx ly. cells;
-  object = λ d i lt li. refl;
-  global = λ d g lt lg. refl;
-  load = λ d x b ld lx. refl;
-  fork = λ c a b lt. refl;
-}
-
-few_passed : (temps : ℕ) (scope : Scope) → PassedBy temps scope passes_few
-few_passed temps scope = record {
-  constant = λ d c word lt. refl;
-  one = λ d o x two ld lx. refl;
-  two = λ d o x y two cells ld lx ly. refl;
-  object = λ d i lt li. refl;
-  global = λ d g lt lg. refl;
-  load = λ d x b ld lx. refl;
-  fork = λ c a b lt. refl;
-}
-
-returns_passed : (temps : ℕ) (scope : Scope) (result : Bool) → PassedBy temps scope (returns_result result)
-returns_passed temps scope result = record {
-  constant = λ d c word lt. refl;
-  one = λ d o x two ld lx. refl;
-  two = λ d o x y two cells ld lx ly. refl;
-  object = λ d i lt li. refl;
-  global = λ d g lt lg. refl;
-  load = λ d x b ld lx. refl;
-  fork = λ c a b lt. refl;
-}
-
-objects_passed : (temps : ℕ) (scope : Scope) (objects : ℕ) → objects ≡ length scope.params + length scope.locals →
-    PassedBy temps scope (names_own_object objects)
-objects_passed temps scope objects same = record {
-  constant = λ d c word lt. refl;
-  one = λ d o x two ld lx. refl;
-  two = λ d o x y two cells ld lx ly. refl;
-  object = λ d i lt li. lt-ltb i objects (subst (λ m. i < m) (sym same) li);
-  global = λ d g lt lg. refl;
-  load = λ d x b ld lx. refl;
-  fork = λ c a b lt. refl;
-}
 
 module _ (temps : ℕ) where
   abbrev own : ℕ → Bool
@@ -148,17 +81,6 @@ module _ (temps : ℕ) where
   own_first : (ts : List ℕ) → length ts ≡ 1 → AllBelow temps ts → list_all own (first_temp ts ∷ []) ≡ true
   own_first [] one h = absurd (cc)
   own_first (t ∷ ts) one h = own_one t h.0
-
-  temps_passed : (scope : Scope) → PassedBy temps scope (names_own_temps temps)
-  temps_passed scope = record {
-    constant = λ d c word lt. own_one d lt;
-    one = λ d o x two ld lx. own_two d x ld lx;
-    two = λ d o x y two cells ld lx ly. and_from (own d) _ (lt-ltb d temps ld) (own_two x y lx ly);
-    object = λ d i lt li. own_one d lt;
-    global = λ d g lt lg. own_one d lt;
-    load = λ d x b ld lx. own_two d x ld lx;
-    fork = λ c a b lt. own_one c lt;
-  }
 
 -- SIGNATURES
 pub found_allowed : (b : Bool) (o : Option Signature) (signature : Signature) → allowed b o ≡ Some signature →
@@ -382,64 +304,83 @@ module _ (program : ProgramTree) (typed : is_well_typed program ≡ true) where
         subst (λ m. m ≤ most_params) (sym (length-map proto.params scalar_ty) ∙ ap (λ (s : Signature). length s.params)
         same) (export_few to index proto at)
 
-    call_few : (to : CallTarget) (signature : Signature) (dest : Option ℕ) (at : List ℕ) →
-        target_signature callable to ≡ Some signature → length at ≡ length signature.params →
-        passes_few (call_layer to dest at) ≡ true
-    call_few (target.Own n) signature dest at h count =
+    own_call_few : (n : ℕ) (signature : Signature) (at : List ℕ) →
+        target_signature callable (target.Own n) ≡ Some signature → length at ≡ length signature.params →
+        nat_le (length at) most_params ≡ true
+    own_call_few n signature at h count =
         le-leb (length at) most_params (subst (λ m. m ≤ most_params) (sym count)
         (own_few (slice_get section.functions n) n signature refl (sym (slice_get-map signature_of section.functions n)
         ∙ h)))
-    call_few (target.Cross to index) signature dest at h count =
+
+    cross_call_few : (to index : ℕ) (signature : Signature) (at : List ℕ) →
+        target_signature callable (target.Cross to index) ≡ Some signature → length at ≡ length signature.params →
+        nat_le (length at) most_params ≡ true
+    cross_call_few to index signature at h count =
         le-leb (length at) most_params (subst (λ m. m ≤ most_params) (sym count)
         (cross_few (export_at interfaces to index) to index signature refl
         (found_allowed (list_any (same_import (import.Function to index)) place.interface.imports)
         (option_signature proto_signature (export_at interfaces to index)) signature h)))
-    call_few target.Input signature dest at h count = refl
-    call_few target.Output signature dest at h count = refl
 
-    call_own_temps : (temps : ℕ) (to : CallTarget) (signature : Signature) (dest : Option ℕ) (at : List ℕ) →
-        target_signature callable to ≡ Some signature → length at ≡ length signature.params → Below temps dest →
-        AllBelow temps at →
-        names_own_temps temps (call_layer to dest at) ≡ true
-    call_own_temps temps (target.Own n) signature dest at h count below all = own_after temps dest at below all
-    call_own_temps temps (target.Cross to index) signature dest at h count below all =
-        own_after temps dest at below all
-    call_own_temps temps target.Input signature dest at h count below all = own_after temps dest [] below tt
-    call_own_temps temps target.Output signature dest at h count below all =
-        own_first temps at (count ∙ output_takes_one (list_any (same_import import.Output) place.interface.imports)
-        signature h) all
+    -- tests that what is emitted passes
+    module _ (temps : ℕ) (scope : Scope) (result : Option Ty) where
+      abbrev Passes : (TacStmt-F Bool → Bool) → Type 0
+      Passes = PassedByAll temps scope callable result
 
-    call_words : (to : CallTarget) (dest : Option ℕ) (at : List ℕ) → has_words (call_layer to dest at) ≡ true
-    call_words (target.Own n) dest at = refl
-    call_words (target.Cross to index) dest at = refl
-    call_words target.Input dest at = refl
-    call_words target.Output dest at = refl
+      output_names_own : (v : ℕ) (dest : Option ℕ) (at : List ℕ) → first_temp at ≡ v →
+          FitsCall temps scope callable target.Output dest at → list_all (own temps) (v ∷ []) ≡ true
+      output_names_own v dest at is call =
+          subst (λ v. list_all (own temps) (v ∷ []) ≡ true) is (own_first temps at
+          (call.count ∙ output_takes_one (list_any (same_import import.Output) place.interface.imports) call.signature
+          call.is) call.every)
 
-    call_elements : (to : CallTarget) (dest : Option ℕ) (at : List ℕ) → has_elements (call_layer to dest at) ≡ true
-    call_elements (target.Own n) dest at = refl
-    call_elements (target.Cross to index) dest at = refl
-    call_elements target.Input dest at = refl
-    call_elements target.Output dest at = refl
+      temps_passed : Passes (names_own_temps temps)
+      temps_passed (tac.Const d c) h = own_one temps d h.1
+      temps_passed (tac.Op d o x None) h = own_two temps d x h.1 h.2
+      temps_passed (tac.Op d o x (Some y)) h =
+          and_from (own temps d) _ (lt-ltb d temps h.2) (own_two temps x y h.3 h.4)
+      temps_passed (tac.ObjectPlace d i) h = own_one temps d h.0
+      temps_passed (tac.GlobalPlace d g) h = own_one temps d h.0
+      temps_passed (tac.Load d x b) h = own_two temps d x h.0 h.1
+      temps_passed (tac.If c a b) h = own_one temps c h
+      temps_passed (tac.Store q v) h = own_two temps q v h.0 h.1
+      temps_passed (tac.Loop a b c) h = refl
+      temps_passed tac.Break h = refl
+      temps_passed tac.Continue h = refl
+      temps_passed (tac.CallOwn dest n at) h = own_after temps dest at h.below h.every
+      temps_passed (tac.CallCross dest to index at) h = own_after temps dest at h.below h.every
+      temps_passed (tac.Input dest) h = own_after temps dest [] h.1.below tt
+      temps_passed (tac.Output v) h = output_names_own v h.0 h.1 h.2 h.3
+      temps_passed (tac.Return v) h = own_option temps v h.1
+      temps_passed (tac.Copy d x) h = absurd h
 
-    call_operands : (to : CallTarget) (dest : Option ℕ) (at : List ℕ) → has_operands (call_layer to dest at) ≡ true
-    call_operands (target.Own n) dest at = refl
-    call_operands (target.Cross to index) dest at = refl
-    call_operands target.Input dest at = refl
-    call_operands target.Output dest at = refl
+      objects_passed : (objects : ℕ) → objects ≡ length scope.params + length scope.locals →
+          Passes (names_own_object objects)
+      objects_passed objects same (tac.ObjectPlace d i) h =
+          lt-ltb i objects (subst (λ m. i < m) (sym same) h.1)
+      objects_passed objects same _ h = refl
 
-    call_returns : (result : Bool) (to : CallTarget) (dest : Option ℕ) (at : List ℕ) →
-        returns_result result (call_layer to dest at) ≡ true
-    call_returns result (target.Own n) dest at = refl
-    call_returns result (target.Cross to index) dest at = refl
-    call_returns result target.Input dest at = refl
-    call_returns result target.Output dest at = refl
+      words_passed : Passes has_words
+      words_passed (tac.Const d c) h = h.0
+      words_passed _ h = refl
 
-    call_objects : (objects : ℕ) (to : CallTarget) (dest : Option ℕ) (at : List ℕ) →
-        names_own_object objects (call_layer to dest at) ≡ true
-    call_objects objects (target.Own n) dest at = refl
-    call_objects objects (target.Cross to index) dest at = refl
-    call_objects objects target.Input dest at = refl
-    call_objects objects target.Output dest at = refl
+      elements_passed : Passes has_elements
+      elements_passed (tac.Op d o x None) h = one_counted o h.0
+      elements_passed (tac.Op d o x (Some y)) h = h.1
+      elements_passed _ h = refl
+
+      operands_passed : Passes has_operands
+      operands_passed (tac.Op d o x None) h = beq_same false (takes_two o) (sym h.0)
+      operands_passed (tac.Op d o x (Some y)) h = beq_same true (takes_two o) (sym h.0)
+      operands_passed _ h = refl
+
+      few_passed : Passes passes_few
+      few_passed (tac.CallOwn dest n at) h = own_call_few n h.signature at h.is h.count
+      few_passed (tac.CallCross dest to index at) h = cross_call_few to index h.signature at h.is h.count
+      few_passed _ h = refl
+
+      returns_passed : Passes (returns_result (is_some result))
+      returns_passed (tac.Return v) h = beq_same (is_some v) (is_some result) h.0
+      returns_passed _ h = refl
 
     module _ (n : ℕ) (f : TypedFunction) (item : slice_get section.functions n ≡ Some f) where
       abbrev pub scope : Scope
@@ -495,88 +436,28 @@ module _ (program : ProgramTree) (typed : is_well_typed program ≡ true) where
           i + (length-map f.locals (λ l. cells_of section.structs l.ty) ∙ sym (length-map f.locals (λ l. l.ty))) i)
 
       own_temps : everywhere (names_own_temps temps) (body_code section.structs f 0).code ≡ true
-      own_temps = all (names_own_temps temps) (record {
-        exprs = temps_passed temps scope;
-        store = λ q v lq lv. own_two temps q v lq lv;
-        cycle = λ a b c. refl;
-        breaks = refl;
-        continues = refl;
-        called = λ to signature dest at is es goes count results below every. call_own_temps temps to signature dest at
-            is count
-            below every;
-        returned = λ v there below. own_option temps v below;
-      })
+      own_temps = all (names_own_temps temps) (temps_passed temps scope f.result)
 
       own_objects : everywhere (names_own_object (length (variables section.structs f)))
           (body_code section.structs f 0).code ≡ true
-      own_objects = all (names_own_object (length (variables section.structs f))) (record {
-        exprs = objects_passed temps scope (length (variables section.structs f)) objects_same;
-        store = λ q v lq lv. refl;
-        cycle = λ a b c. refl;
-        breaks = refl;
-        continues = refl;
-        called =
-            λ to signature dest at is es goes count results below every. call_objects
-            (length (variables section.structs f)) to
-            dest at;
-        returned = λ v there below. refl;
-      })
+      own_objects =
+          all (names_own_object (length (variables section.structs f)))
+          (objects_passed temps scope f.result (length (variables section.structs f)) objects_same)
 
       words : everywhere has_words (body_code section.structs f 0).code ≡ true
-      words = all has_words (record {
-        exprs = words_passed temps scope;
-        store = λ q v lq lv. refl;
-        cycle = λ a b c. refl;
-        breaks = refl;
-        continues = refl;
-        called = λ to signature dest at is es goes count results below every. call_words to dest at;
-        returned = λ v there below. refl;
-      })
+      words = all has_words (words_passed temps scope f.result)
 
       elements_counted : everywhere has_elements (body_code section.structs f 0).code ≡ true
-      elements_counted = all has_elements (record {
-        exprs = elements_passed temps scope;
-        store = λ q v lq lv. refl;
-        cycle = λ a b c. refl;
-        breaks = refl;
-        continues = refl;
-        called = λ to signature dest at is es goes count results below every. call_elements to dest at;
-        returned = λ v there below. refl;
-      })
+      elements_counted = all has_elements (elements_passed temps scope f.result)
 
       operands : everywhere has_operands (body_code section.structs f 0).code ≡ true
-      operands = all has_operands (record {
-        exprs = operands_passed temps scope;
-        store = λ q v lq lv. refl;
-        cycle = λ a b c. refl;
-        breaks = refl;
-        continues = refl;
-        called = λ to signature dest at is es goes count results below every. call_operands to dest at;
-        returned = λ v there below. refl;
-      })
+      operands = all has_operands (operands_passed temps scope f.result)
 
       few_arguments : everywhere passes_few (body_code section.structs f 0).code ≡ true
-      few_arguments = all passes_few (record {
-        exprs = few_passed temps scope;
-        store = λ q v lq lv. refl;
-        cycle = λ a b c. refl;
-        breaks = refl;
-        continues = refl;
-        called = λ to signature dest at is es goes count results below every. call_few to signature dest at is count;
-        returned = λ v there below. refl;
-      })
+      few_arguments = all passes_few (few_passed temps scope f.result)
 
       results_returned : everywhere (returns_result (is_some f.result)) (body_code section.structs f 0).code ≡ true
-      results_returned = all (returns_result (is_some f.result)) (record {
-        exprs = returns_passed temps scope (is_some f.result);
-        store = λ q v lq lv. refl;
-        cycle = λ a b c. refl;
-        breaks = refl;
-        continues = refl;
-        called = λ to signature dest at is es goes count results below every. call_returns (is_some f.result) to dest
-            at;
-        returned = λ v there below. beq_same (is_some v) (is_some f.result) there;
-      })
+      results_returned = all (returns_result (is_some f.result)) (returns_passed temps scope f.result)
 
       -- words enter
       abbrev parameters : List ℕ

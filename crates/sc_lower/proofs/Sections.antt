@@ -1,6 +1,6 @@
 -- The code of a well-typed program keeps the rules of programs.
-use Rattle.sc_lower.proofs.Common.{Bool, CallTarget, Callable, Interface, Interfaces, Judged, List, None, Option}
-use Rattle.sc_lower.proofs.Common.{ProgramTree, Proto, Scalar, Scope, Signature, Some, TacSection, Ty, TypedExpr}
+use Rattle.sc_lower.proofs.Common.{Bool, Callable, Interface, Interfaces, Judged, List, None, Option}
+use Rattle.sc_lower.proofs.Common.{ProgramTree, Proto, Scalar, Scope, Signature, Some, TacSection, TacStmt-F, Ty, TypedExpr}
 use Rattle.sc_lower.proofs.Common.{TypedFunction, TypedLocal, TypedParam, TypedSection, TypedStruct, [], all_go_into}
 use Rattle.sc_lower.proofs.Common.{allowed, and_first, and_from, and_rest, any_along, ap, calls_exports, calls_imports}
 use Rattle.sc_lower.proofs.Common.{calls_own, cells_of, cross_call_fits, decayed, eq-eqb, export_at, false, false≢true}
@@ -16,8 +16,9 @@ use Rattle.sc_event.specs.declared.interface.Import.{Import}
 use Rattle.sc_event.specs.declared.interface.Import.TheVariants as import
 use Rattle.sc_core.specs.declared.expr.CallTarget.TheVariants as target
 use Rattle.sc_core.specs.declared.ty.Ty.TheVariants as ty
+use Rattle.sc_tac.specs.declared.stmt.TacStmt.TheOpen as tac
+use Rattle.sc_lower.proofs.Passing.{PassedByAll}
 use Rattle.sc_lower.proofs.Rules.{found_allowed, function_at, place as place_of, callable, all}
-use Rattle.sc_lower.proofs.Tests.{call_layer, PassedBy}
 
 -- a test of each item of a list that is made from another
 pub all_made : {A B : Type 0} (p : B → Bool) (g : A → B) (xs : List A) →
@@ -74,63 +75,6 @@ module _ (program : ProgramTree) (typed : is_well_typed program ≡ true) (comp 
   abbrev interface : Interface
   interface = (place_of program typed comp section is).interface
 
-  -- globals
-  globals_passed : (temps : ℕ) (f : TypedFunction) →
-      PassedBy temps (scope_of section f) (names_own_global interfaces comp lowered)
-  globals_passed temps f = record {
-    constant = λ d c word lt. refl;
-    one = λ d o x two ld lx. refl;
-    two = λ d o x y two cells ld lx ly. refl;
-    object = λ d i lt li. refl;
-    global =
-        λ d g lt lg. lt-ltb g (length section.globals) (subst (λ m. g < m) (length-map section.globals (λ g. g.ty)) lg);
-    load = λ d x b ld lx. refl;
-    fork = λ c a b lt. refl;
-  }
-
-  own_passed : (temps : ℕ) (f : TypedFunction) →
-      PassedBy temps (scope_of section f) (calls_own interfaces comp lowered)
-  own_passed temps f = record {
-    constant = λ d c word lt. refl;
-    one = λ d o x two ld lx. refl;
-    two = λ d o x y two cells ld lx ly. refl;
-    object = λ d i lt li. refl;
-    global = λ d g lt lg. refl;
-    load = λ d x b ld lx. refl;
-    fork = λ c a b lt. refl;
-  }
-
-  exports_passed : (temps : ℕ) (f : TypedFunction) →
-      PassedBy temps (scope_of section f) (calls_exports interfaces comp lowered)
-  exports_passed temps f = record {
-    constant = λ d c word lt. refl;
-    one = λ d o x two ld lx. refl;
-    two = λ d o x y two cells ld lx ly. refl;
-    object = λ d i lt li. refl;
-    global = λ d g lt lg. refl;
-    load = λ d x b ld lx. refl;
-    fork = λ c a b lt. refl;
-  }
-
-  imports_passed : (temps : ℕ) (f : TypedFunction) →
-      PassedBy temps (scope_of section f) (calls_imports interfaces comp lowered)
-  imports_passed temps f = record {
-    constant = λ d c word lt. refl;
-    one = λ d o x two ld lx. refl;
-    two = λ d o x y two cells ld lx ly. refl;
-    object = λ d i lt li. refl;
-    global = λ d g lt lg. refl;
-    load = λ d x b ld lx. refl;
-    fork = λ c a b lt. refl;
-  }
-
-  call_globals : (to : CallTarget) (dest : Option ℕ) (at : List ℕ) →
-      names_own_global interfaces comp lowered (call_layer to dest at) ≡ true
-  call_globals (target.Own n) dest at = refl
-  call_globals (target.Cross to index) dest at = refl
-  call_globals target.Input dest at = refl
-  call_globals target.Output dest at = refl
-
   -- a call of a function of the section
   own_fits : (scope : Scope) (o : Option TypedFunction) (n : ℕ) (signature : Signature) (dest : Option ℕ) (at : List ℕ)
       (es : List TypedExpr) → slice_get section.functions n ≡ o → option_map signature_of o ≡ Some signature →
@@ -151,20 +95,17 @@ module _ (program : ProgramTree) (typed : is_well_typed program ≡ true) (comp 
       (function_at program typed interface section (place_of program typed comp section is).placed n g item).passed)
       (takes dest (is_some g.result) (λ k. ap (λ (s : Signature). is_some s.result) same ∙ results k)))
 
-  call_own_fits : (scope : Scope) (to : CallTarget) (signature : Signature) (dest : Option ℕ) (at : List ℕ)
-      (es : List TypedExpr) → target_signature may to ≡ Some signature →
+  call_own_fits : (scope : Scope) (n : ℕ) (signature : Signature) (dest : Option ℕ) (at : List ℕ)
+      (es : List TypedExpr) → target_signature may (target.Own n) ≡ Some signature →
       all_go_into signature.params (map (judged scope) es) ≡ true → length at ≡ length signature.params →
       (is_some dest ≡ true → is_some signature.result ≡ true) →
-      calls_own interfaces comp lowered (call_layer to dest at) ≡ true
-  call_own_fits scope (target.Own n) signature dest at es h goes count results =
+      calls_own interfaces comp lowered (tac.CallOwn dest n at) ≡ true
+  call_own_fits scope n signature dest at es h goes count results =
       ap (λ o. own_call_fits o dest (length at))
       (slice_get-map (lowered_function interfaces comp section.structs)
       section.functions n)
       ∙ own_fits scope (slice_get section.functions n) n signature dest at es refl
       (sym (slice_get-map signature_of section.functions n) ∙ h) goes count results
-  call_own_fits scope (target.Cross to index) signature dest at es h goes count results = refl
-  call_own_fits scope target.Input signature dest at es h goes count results = refl
-  call_own_fits scope target.Output signature dest at es h goes count results = refl
 
   -- a call of an export
   cross_fits : (o : Option Proto) (signature : Signature) (dest : Option ℕ) (at : List ℕ) →
@@ -179,19 +120,6 @@ module _ (program : ProgramTree) (typed : is_well_typed program ≡ true) (comp 
       (takes dest (is_some proto.result) (λ k. sym (result_same proto.result) ∙ ap (λ (s : Signature). is_some s.result)
       same ∙ results k))
 
-  call_exports_fit : (to : CallTarget) (signature : Signature) (dest : Option ℕ) (at : List ℕ) →
-      target_signature may to ≡ Some signature → length at ≡ length signature.params →
-      (is_some dest ≡ true → is_some signature.result ≡ true) →
-      calls_exports interfaces comp lowered (call_layer to dest at)
-      ≡ true
-  call_exports_fit (target.Own n) signature dest at h count results = refl
-  call_exports_fit (target.Cross to index) signature dest at h count results =
-      cross_fits (export_at interfaces to index) signature dest at
-      (found_allowed (list_any (same_import (import.Function to index)) interface.imports)
-      (option_signature proto_signature (export_at interfaces to index)) signature h) count results
-  call_exports_fit target.Input signature dest at h count results = refl
-  call_exports_fit target.Output signature dest at h count results = refl
-
   -- only what is imported is called
   imports_so : (p q : Import → Bool) → ((x : Import) → p x ≡ true → q x ≡ true) → list_any p interface.imports ≡ true →
       imports interfaces comp q ≡ true
@@ -199,70 +127,56 @@ module _ (program : ProgramTree) (typed : is_well_typed program ≡ true) (comp 
       ap (λ (o : Option Interface). list_any q (option_map_or (λ found. found.imports) o []))
       (place_of program typed comp section is).is ∙ any_along p q on interface.imports h
 
-  call_imports_fit : (to : CallTarget) (signature : Signature) (dest : Option ℕ) (at : List ℕ) →
-      target_signature may to ≡ Some signature →
-      calls_imports interfaces comp lowered (call_layer to dest at) ≡ true
-  call_imports_fit (target.Own n) signature dest at h = refl
-  call_imports_fit (target.Cross to index) signature dest at h =
-      imports_so (same_import (import.Function to index)) (is_function to index) (function_imported to index)
-      (is_allowed (list_any (same_import (import.Function to index)) interface.imports)
-      (option_signature proto_signature (export_at interfaces to index)) signature h)
-  call_imports_fit target.Input signature dest at h =
-      imports_so (same_import import.Input) is_input input_imported
-      (is_allowed (list_any (same_import import.Input) interface.imports)
-      (Some (record { params = []; result = Some ty.Int })) signature h)
-  call_imports_fit target.Output signature dest at h =
-      imports_so (same_import import.Output) is_output output_imported
-      (is_allowed (list_any (same_import import.Output) interface.imports)
-      (Some (record { params = ty.Int ∷ []; result = None })) signature h)
+  -- tests that what is emitted passes
+  module _ (temps : ℕ) (f : TypedFunction) where
+    abbrev Passes : (TacStmt-F Bool → Bool) → Type 0
+    Passes = PassedByAll temps (scope_of section f) may f.result
+
+    globals_passed : Passes (names_own_global interfaces comp lowered)
+    globals_passed (tac.GlobalPlace d g) h =
+        lt-ltb g (length section.globals) (subst (λ m. g < m) (length-map section.globals (λ g. g.ty)) h.1)
+    globals_passed _ h = refl
+
+    own_passed : Passes (calls_own interfaces comp lowered)
+    own_passed (tac.CallOwn dest n at) h =
+        call_own_fits (scope_of section f) n h.signature dest at h.args h.is h.go h.count h.results
+    own_passed _ h = refl
+
+    exports_passed : Passes (calls_exports interfaces comp lowered)
+    exports_passed (tac.CallCross dest to index at) h =
+        cross_fits (export_at interfaces to index) h.signature dest at
+        (found_allowed (list_any (same_import (import.Function to index)) interface.imports)
+        (option_signature proto_signature (export_at interfaces to index)) h.signature h.is) h.count h.results
+    exports_passed _ h = refl
+
+    imports_passed : Passes (calls_imports interfaces comp lowered)
+    imports_passed (tac.CallCross dest to index at) h =
+        imports_so (same_import (import.Function to index)) (is_function to index) (function_imported to index)
+        (is_allowed (list_any (same_import (import.Function to index)) interface.imports)
+        (option_signature proto_signature (export_at interfaces to index)) h.signature h.is)
+    imports_passed (tac.Input dest) h =
+        imports_so (same_import import.Input) is_input input_imported
+        (is_allowed (list_any (same_import import.Input) interface.imports)
+        (Some (record { params = []; result = Some ty.Int })) h.1.signature h.1.is)
+    imports_passed (tac.Output v) h =
+        imports_so (same_import import.Output) is_output output_imported
+        (is_allowed (list_any (same_import import.Output) interface.imports)
+        (Some (record { params = ty.Int ∷ []; result = None })) h.3.signature h.3.is)
+    imports_passed _ h = refl
 
   -- the statements of a section
   pub globals_named : in_section (names_own_global interfaces comp lowered) lowered ≡ true
   globals_named = all_made _ (lowered_function interfaces comp section.structs) section.functions (λ n f item.
-      all program typed comp section is n f item (names_own_global interfaces comp lowered) (record {
-        exprs = globals_passed _ f;
-        store = λ q v lq lv. refl;
-        cycle = λ a b c. refl;
-        breaks = refl;
-        continues = refl;
-        called = λ to signature dest at is es goes count results below every. call_globals to dest at;
-        returned = λ v there below. refl;
-      }))
+      all program typed comp section is n f item (names_own_global interfaces comp lowered) (globals_passed _ f))
 
   pub own_called : in_section (calls_own interfaces comp lowered) lowered ≡ true
   own_called = all_made _ (lowered_function interfaces comp section.structs) section.functions (λ n f item.
-      all program typed comp section is n f item (calls_own interfaces comp lowered) (record {
-        exprs = own_passed _ f;
-        store = λ q v lq lv. refl;
-        cycle = λ a b c. refl;
-        breaks = refl;
-        continues = refl;
-        called = λ to signature dest at h es goes count results below every. call_own_fits (scope_of section f) to
-            signature dest at es h goes count results;
-        returned = λ v there below. refl;
-      }))
+      all program typed comp section is n f item (calls_own interfaces comp lowered) (own_passed _ f))
 
   pub exports_called : in_section (calls_exports interfaces comp lowered) lowered ≡ true
   exports_called = all_made _ (lowered_function interfaces comp section.structs) section.functions (λ n f item.
-      all program typed comp section is n f item (calls_exports interfaces comp lowered) (record {
-        exprs = exports_passed _ f;
-        store = λ q v lq lv. refl;
-        cycle = λ a b c. refl;
-        breaks = refl;
-        continues = refl;
-        called = λ to signature dest at h es goes count results below every. call_exports_fit to signature dest at h
-            count results;
-        returned = λ v there below. refl;
-      }))
+      all program typed comp section is n f item (calls_exports interfaces comp lowered) (exports_passed _ f))
 
   pub imports_called : in_section (calls_imports interfaces comp lowered) lowered ≡ true
   imports_called = all_made _ (lowered_function interfaces comp section.structs) section.functions (λ n f item.
-      all program typed comp section is n f item (calls_imports interfaces comp lowered) (record {
-        exprs = imports_passed _ f;
-        store = λ q v lq lv. refl;
-        cycle = λ a b c. refl;
-        breaks = refl;
-        continues = refl;
-        called = λ to signature dest at h es goes count results below every. call_imports_fit to signature dest at h;
-        returned = λ v there below. refl;
-      }))
+      all program typed comp section is n f item (calls_imports interfaces comp lowered) (imports_passed _ f))

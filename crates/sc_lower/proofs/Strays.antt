@@ -33,15 +33,10 @@ is_straight tac.Continue = false
 is_straight _ = true
 
 pub straight_passed : (temps : ℕ) (scope : Scope) → PassedBy temps scope is_straight
-straight_passed temps scope = record {
-  constant = λ d c word lt. refl;
-  one = λ d o x two ld lx. refl;
-  two = λ d o x y two cells ld lx ly. refl;
-  object = λ d i lt li. refl;
-  global = λ d g lt lg. refl;
-  load = λ d x b ld lx. refl;
-  fork = λ c a b lt. refl;
-}
+straight_passed temps scope (tac.Loop head body next) h = absurd h
+straight_passed temps scope tac.Break h = absurd h
+straight_passed temps scope tac.Continue h = absurd h
+straight_passed temps scope _ h = refl
 
 abbrev pub Straight : List TacStmt → Type 0
 Straight xs = everywhere is_straight xs ≡ true

@@ -1,11 +1,11 @@
 -- The statements of lowered code pass each test that the statements which are emitted pass.
-use Rattle.sc_lower.proofs.Common.{BinaryOp, Bool, CallTarget, Constant, Global, Int, Judged, List, Local, Low, Lowered}
+use Rattle.sc_lower.proofs.Common.{BinaryOp, Bool, Constant, Global, Int, Judged, List, Local, Low, Lowered}
 use Rattle.sc_lower.proofs.Common.{Lows, None, Option, Param, Scope, Some, TacOp, TacStmt, TacStmt-F, Ty, TypedExpr}
 use Rattle.sc_lower.proofs.Common.{TypedKind, TypedKind-F, TypedStruct, UnaryOp, Under, VarRef, Want, [], address_fits}
 use Rattle.sc_lower.proofs.Common.{and_code, and_first, and_from, and_rest, ap, are_equatable, are_ordered}
 use Rattle.sc_lower.proofs.Common.{arith as numbers, at_place, between_op, binary, binary_code, binary_fits, both_ints}
 use Rattle.sc_lower.proofs.Common.{common, constant_of, counts_elements, decayed, difference_fits, either, everywhere}
-use Rattle.sc_lower.proofs.Common.{expr_at, expr_induction, false, false≢true, first_of, fold-TacStmt}
+use Rattle.sc_lower.proofs.Common.{expr_at, expr_induction, false, false≢true, fold-TacStmt}
 use Rattle.sc_lower.proofs.Common.{fold-roll-TacStmt, from_first, from_one, from_two, if◌then◌else◌, int_fits}
 use Rattle.sc_lower.proofs.Common.{integer_kind, is_address, is_array, is_int, is_machine_word, is_pointer, is_scalar}
 use Rattle.sc_lower.proofs.Common.{is_type, is_unsigned_op, judged, judged_ty, leb-true, length, literal_fits, loaded}
@@ -17,20 +17,12 @@ use Rattle.sc_lower.proofs.Common.{◌&&◌, ◌++◌, ◌+◌, ◌<◌, ◌^◌
 use Rattle.sc_lower.proofs.Lowered.{lowered_ty}
 use Rattle.sc_base.specs.declared.op.BinaryOp.TheVariants as op
 use Rattle.sc_base.specs.declared.op.UnaryOp.TheVariants as unary
-use Rattle.sc_core.specs.declared.expr.CallTarget.TheVariants as target
 use Rattle.sc_core.specs.declared.expr.TypedKind.TheOpen as term
 use Rattle.sc_core.specs.declared.ty.Ty.TheVariants as ty
 use Rattle.sc_core.specs.declared.value.Want.TheVariants as want
 use Rattle.sc_tac.specs.declared.stmt.TacOp.TheVariants as tacop
 use Rattle.sc_tac.specs.declared.stmt.TacStmt.TheOpen as tac
 use Rattle.sc_tac.specs.declared.stmt.TacStmt.TheVariants as emit
-
--- a call as it stands in the code
-abbrev pub call_layer : CallTarget → Option ℕ → List ℕ → TacStmt-F Bool
-call_layer (target.Own function) dest at = tac.CallOwn dest function at
-call_layer (target.Cross comp index) dest at = tac.CallCross dest comp index at
-call_layer target.Input dest at = tac.Input dest
-call_layer target.Output dest at = tac.Output (first_of at)
 
 -- WHAT FITS
 points_fits : (a : Judged) → points a ≡ true → a.fits ≡ true
@@ -207,16 +199,21 @@ abbrev pub AllBelow : ℕ → List ℕ → Type 0
 AllBelow temps [] = Unit {0}
 AllBelow temps (t ∷ ts) = (t < temps) × AllBelow temps ts
 
--- a test that is passed by what expressions emit, where they name the variables of a scope and `temps` temporaries
-pub record PassedBy (temps : ℕ) (scope : Scope) (test : TacStmt-F Bool → Bool) : Type 0 where
-  pub constant : (d : ℕ) (c : Constant) → is_machine_word c ≡ true → d < temps → test (tac.Const d c) ≡ true
-  pub one : (d : ℕ) (o : TacOp) (x : ℕ) → takes_two o ≡ false → d < temps → x < temps → test (tac.Op d o x None) ≡ true
-  pub two : (d : ℕ) (o : TacOp) (x y : ℕ) → takes_two o ≡ true → counts_elements o ≡ true → d < temps → x < temps →
-      y < temps → test (tac.Op d o x (Some y)) ≡ true
-  pub object : (d i : ℕ) → d < temps → i < length scope.params + length scope.locals → test (tac.ObjectPlace d i) ≡ true
-  pub global : (d g : ℕ) → d < temps → g < length scope.globals → test (tac.GlobalPlace d g) ≡ true
-  pub load : (d x : ℕ) (b : Bool) → d < temps → x < temps → test (tac.Load d x b) ≡ true
-  pub fork : (c : ℕ) (a b : List Bool) → c < temps → test (tac.If c a b) ≡ true
+-- a statement that expressions emit, by itself, where they name the variables of a scope and `temps` temporaries
+abbrev pub OfExpression : ℕ → Scope → TacStmt-F Bool → Type 0
+OfExpression temps scope (tac.Const d c) = (is_machine_word c ≡ true) × (d < temps)
+OfExpression temps scope (tac.Op d o x None) = (takes_two o ≡ false) × (d < temps) × (x < temps)
+OfExpression temps scope (tac.Op d o x (Some y)) =
+    (takes_two o ≡ true) × (counts_elements o ≡ true) × (d < temps) × (x < temps) × (y < temps)
+OfExpression temps scope (tac.ObjectPlace d i) = (d < temps) × (i < length scope.params + length scope.locals)
+OfExpression temps scope (tac.GlobalPlace d g) = (d < temps) × (g < length scope.globals)
+OfExpression temps scope (tac.Load d x b) = (d < temps) × (x < temps)
+OfExpression temps scope (tac.If c a b) = c < temps
+OfExpression temps scope _ = ⊥
+
+-- a test that each of them passes
+abbrev pub PassedBy : ℕ → Scope → (TacStmt-F Bool → Bool) → Type 0
+PassedBy temps scope test = (layer : TacStmt-F Bool) → OfExpression temps scope layer → test layer ≡ true
 
 module _ (temps : ℕ) (scope : Scope) (test : TacStmt-F Bool → Bool) (passed : PassedBy temps scope test) where
   pub record Clean (l : Lows) : Type 0 where
@@ -227,24 +224,24 @@ module _ (temps : ℕ) (scope : Scope) (test : TacStmt-F Bool → Bool) (passed 
   const_passes : (d : ℕ) (c : Constant) → is_machine_word c ≡ true → d < temps →
       everywhere test (emit.Const d c ∷ []) ≡ true
   const_passes d c word lt =
-      all_one test (tac.Const d c) (emit.Const d c) (emit.rolls-Const d c) (and_from _ true (passed.constant d c word
-      lt) refl)
+      all_one test (tac.Const d c) (emit.Const d c) (emit.rolls-Const d c) (and_from _ true (passed (tac.Const d c)
+      (word, lt)) refl)
 
   pub one_passes : (d : ℕ) (o : TacOp) (x : ℕ) → takes_two o ≡ false → d < temps → x < temps →
       everywhere test (emit.Op d o x None ∷ []) ≡ true
   one_passes d o x two ld lx = all_one test (tac.Op d o x None) (emit.Op d o x None) (emit.rolls-Op d o x None)
-      (and_from _ true (passed.one d o x two ld lx) refl)
+      (and_from _ true (passed (tac.Op d o x None) (two, ld, lx)) refl)
 
   two_passes : (d : ℕ) (o : TacOp) (x y : ℕ) → takes_two o ≡ true → counts_elements o ≡ true → d < temps →
       x < temps → y < temps → everywhere test (emit.Op d o x (Some y) ∷ []) ≡ true
   two_passes d o x y two cells ld lx ly =
       all_one test (tac.Op d o x (Some y)) (emit.Op d o x (Some y)) (emit.rolls-Op d o x (Some y))
-      (and_from _ true (passed.two d o x y two cells ld lx ly) refl)
+      (and_from _ true (passed (tac.Op d o x (Some y)) (two, cells, ld, lx, ly)) refl)
 
   pub fork_passes : (c : ℕ) (x y : List TacStmt) → c < temps → everywhere test x ≡ true → everywhere test y ≡ true →
       everywhere test (emit.If c x y ∷ []) ≡ true
   fork_passes c x y lt hx hy =
-      all_one test (tac.If c x y) (emit.If c x y) (emit.rolls-If c x y) (and_from _ _ (passed.fork c _ _ lt)
+      all_one test (tac.If c x y) (emit.If c x y) (emit.rolls-If c x y) (and_from _ _ (passed (tac.If c _ _) lt)
       (and_from _ _ hx (and_from _ true hy refl)))
 
   pub lone_clean : (make : ℕ → TacStmt) → ((d : ℕ) → d < temps → everywhere test (make d ∷ []) ≡ true) →
@@ -258,7 +255,7 @@ module _ (temps : ℕ) (scope : Scope) (test : TacStmt-F Bool → Bool) (passed 
     by : (b : Bool) → everywhere test (if b then [] else emit.Load at at (is_pointer t) ∷ []) ≡ true
     by true = refl
     by false = all_one test (tac.Load at at (is_pointer t)) (emit.Load at at (is_pointer t))
-        (emit.rolls-Load at at (is_pointer t)) (and_from _ true (passed.load at at (is_pointer t) lt lt) refl)
+        (emit.rolls-Load at at (is_pointer t)) (and_from _ true (passed (tac.Load at at (is_pointer t)) (lt, lt)) refl)
 
   pub place_clean : (t : Ty) (w : Want) (l : Lows) → Clean l → Clean (at_place t l w)
   place_clean t w l h = record {
@@ -361,16 +358,16 @@ module _ (temps : ℕ) (scope : Scope) (test : TacStmt-F Bool → Bool) (passed 
       everywhere test (place_code (length scope.params) v d ∷ []) ≡ true
   place_passes (Global g) t h d lt =
       all_one test (tac.GlobalPlace d g) (emit.GlobalPlace d g) (emit.rolls-GlobalPlace d g)
-      (and_from _ true (passed.global d g lt (typed_at scope.globals g t h)) refl)
+      (and_from _ true (passed (tac.GlobalPlace d g) (lt, typed_at scope.globals g t h)) refl)
   place_passes (Param p) t h d lt =
       all_one test (tac.ObjectPlace d p) (emit.ObjectPlace d p) (emit.rolls-ObjectPlace d p)
-      (and_from _ true (passed.object d p lt (by (typed_at scope.params p t h))) refl) where
+      (and_from _ true (passed (tac.ObjectPlace d p) (lt, by (typed_at scope.params p t h))) refl) where
         by : p < length scope.params → p < length scope.params + length scope.locals
         by h = omega (numbers, h)
   place_passes (Local l) t h d lt =
       all_one test (tac.ObjectPlace d (length scope.params + l)) (emit.ObjectPlace d (length scope.params + l))
       (emit.rolls-ObjectPlace d (length scope.params + l))
-      (and_from _ true (passed.object d (length scope.params + l) lt (by (typed_at scope.locals l t h))) refl) where
+      (and_from _ true (passed (tac.ObjectPlace d (length scope.params + l)) (lt, by (typed_at scope.locals l t h))) refl) where
         by : l < length scope.locals → length scope.params + l < length scope.params + length scope.locals
         by h = omega (numbers, h)
 

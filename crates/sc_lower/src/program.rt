@@ -2,6 +2,7 @@
 
 ghost use Rattle.sc_lower.specs.Prelude.{AreFunctions, HasBranches, IsWellTyped, KeepsCodeRules, MeansTheSame};
 ghost use Rattle.sc_lower.specs.Prelude.{lowered_function, lowered_program, lowered_section, lowered_sections};
+ghost use Rattle.sc_base.specs.Prelude.{most_compartments};
 ghost use Rattle.std.specs.Prelude.{◌≡◌, ◌<◌, map, IfOk};
 
 use crate::copies::{copy_globals, copy_interfaces, copy_structs};
@@ -50,9 +51,9 @@ fn lower_section(
 
 // The compartment of this number.
 fn comp_of(number: u8) -> CompId
-    requires { number < 32 }
+    requires { number < most_compartments }
     ensures number { result ≡ number }
-    ensures within { number < 32 }
+    ensures within { result < most_compartments }
 {
     CompId::new(number).unwrap()
 }
