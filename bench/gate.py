@@ -31,18 +31,18 @@ def libraries(top):
     return {name: [crate for crate in rest if crate in below] for name, rest in below.items()}
 
 
-def kind_of(folder, words, crates):
-    """The crate that a process works for, and at what, or None."""
+def kind_of(folder, words, tops):
+    """The crate that a process works for, and at what, or None. The gate works in the clone or in a copy of it."""
     named = re.search(r" --crate-name (\w+)", words)
     if "/rt-edit-" in folder:
         return (named.group(1), "edits") if named else None
-    if not folder.startswith(crates):
+    crate = re.search(r"/crates/(\w+)", folder)
+    if not crate or not any(top in folder for top in tops):
         return None
-    crate = folder[len(crates):].split("/")[0]
-    return crate, "tests" if " --test" in words else "proof"
+    return crate.group(1), "tests" if " --test" in words else "proof"
 
 
-def sample(crates, seen):
+def sample(tops, seen):
     """Notes the processor seconds of each process that works for a crate."""
     for process in os.listdir("/proc"):
         if not process.isdigit():
@@ -52,7 +52,7 @@ def sample(crates, seen):
             key = (process, fields[19])
             if key not in seen:
                 words = open(f"/proc/{process}/cmdline", encoding="utf-8").read().replace("\0", " ")
-                seen[key] = [kind_of(os.readlink(f"/proc/{process}/cwd"), words, crates), 0.0]
+                seen[key] = [kind_of(os.readlink(f"/proc/{process}/cwd"), words, tops), 0.0]
             seen[key][1] = (int(fields[11]) + int(fields[12])) / TICKS
         except (OSError, ValueError, UnicodeDecodeError):
             continue
@@ -81,7 +81,7 @@ def main(words):
     gate = subprocess.Popen(["rt", "ci", "--anew"], cwd=clone, stdout=log, stderr=subprocess.STDOUT)
     seen = {}
     while gate.poll() is None:
-        sample(os.path.join(clone, "crates") + "/", seen)
+        sample([clone + "/", f"/rt-copy-{gate.pid}-"], seen)
         time.sleep(0.3)
     minutes = collections.Counter()
     for kind, seconds in seen.values():
