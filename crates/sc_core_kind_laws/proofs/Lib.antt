@@ -1,5 +1,6 @@
 pub mod Common
 pub mod Bodies
+pub mod Cells
 pub mod Kinded
 pub mod Pieces
 pub mod Results

@@ -1,7 +1,7 @@
 -- The names that several proofs of this crate cite, passed on from one place. Declares nothing.
 pub use Rattle.std.proofs.Common.{All, AllPairs, Bool, IfSome, IsSome, IsSomeAnd, IsTrue, List, None, Option, Some, []}
 pub use Rattle.std.proofs.Common.{add-one, ap, append-nil, append_assoc, ap₂, arith, bytes_eq, codes, cond, drop}
-pub use Rattle.std.proofs.Common.{eq-eqb, eqb-true, false, flat_map, get_or, get_or-append-add, if◌then◌else◌, inl, inr}
+pub use Rattle.std.proofs.Common.{eq-eqb, eqb-true, false, flat_map, get_or, if◌then◌else◌, inl, inr}
 pub use Rattle.std.proofs.Common.{is_some, le-leb, le-ltb, leb-true, length, length-append, length-drop, length-take}
 pub use Rattle.std.proofs.Common.{length-take-le, lit<, ltb-false, ltb-true, map, nat_eq, nat_le, nat_lt, ne_eqb}
 pub use Rattle.std.proofs.Common.{negsuc, not, option_and_then, option_map, pos, position, refl, replicate, rules}

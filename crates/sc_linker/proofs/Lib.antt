@@ -1,7 +1,6 @@
 pub mod Common
 pub mod Agreeing
 pub mod Beginnings
-pub mod Cells
 pub mod Codes
 pub mod Compartments
 pub mod Comps

@@ -11,7 +11,7 @@ use Rattle.std.specs.Int.{byte_at, bytes_low_first}
 use Rattle.sc_core.specs.declared.ty.BaseTy.TheVariants as base
 use Rattle.sc_core.specs.declared.ty.Ty.TheVariants as ty
 use Rattle.sc_core.specs.declared.value.Cell.TheVariants as cell
-use Rattle.sc_linker.proofs.Cells.{variable_many, words_length}
+use Rattle.sc_core_kind_laws.proofs.Cells.{variable_many, words_length}
 use Rattle.sc_linker.proofs.Places.{all_from, get_after, get_before}
 
 -- PLACES

@@ -5,10 +5,10 @@ ghost use Rattle.sc_run.specs.Prelude.{here_of, in_body, in_round, kept_by, leav
 ghost use Rattle.sc_run.specs.Prelude.{simple_does, stmt_acts, way_in};
 ghost use Rattle.std.specs.Prelude.{◌≡◌, ◌≤◌, ◌∷◌, IfSome, List, MatchOption, drop, length, suc, true};
 
-use crate::machine::Machine;
+use crate::state::Machine;
 use crate::work::{Frame, Leaving, Loop, Position};
 use sc_core::{
-    ProgramTree, TypedExpr, TypedSimple, TypedSimpleKind, TypedStmt, TypedStmtKind, Want,
+    Program, TypedExpr, TypedSimple, TypedSimpleKind, TypedStmt, TypedStmtKind, Want,
 };
 use sc_run_value::is_true;
 
@@ -30,7 +30,7 @@ fn is_assigned(
 
 // A statement that makes no call and doesn't leave, or nothing.
 #[inline(always)]
-fn is_done(program: &ProgramTree, machine: &mut Machine, frame: &Frame, stmt: &TypedStmt) -> bool
+fn is_done(program: &Program, machine: &mut Machine, frame: &Frame, stmt: &TypedStmt) -> bool
     ensures { PassesIf result (kept_by machine.old) (kept_by machine.new)
         (λ n. stmt_acts program.now n frame.now stmt.now tt) ended_so }
 {
@@ -45,7 +45,7 @@ fn is_done(program: &ProgramTree, machine: &mut Machine, frame: &Frame, stmt: &T
 
 // How many of the first statements were done at once, of those that choose nothing.
 fn done_plainly(
-    program: &ProgramTree,
+    program: &Program,
     machine: &mut Machine,
     frame: &Frame,
     stmts: &[TypedStmt],
@@ -65,7 +65,7 @@ fn done_plainly(
 
 // The statements that a condition chooses, where it is known.
 fn chosen<'a>(
-    program: &'a ProgramTree,
+    program: &'a Program,
     machine: &Machine,
     frame: &Frame,
     stmt: &'a TypedStmt,
@@ -94,7 +94,7 @@ fn chosen<'a>(
 // What is left of a statement once what of it is done at once was done. None where nothing is.
 #[inline(always)]
 fn left_of<'a>(
-    program: &'a ProgramTree,
+    program: &'a Program,
     machine: &mut Machine,
     frame: &Frame,
     stmt: &'a TypedStmt,
@@ -113,7 +113,7 @@ fn left_of<'a>(
 
 /// Does at once what it can of statements: where that stopped, if not after the last one.
 pub fn done_first<'a>(
-    program: &'a ProgramTree,
+    program: &'a Program,
     machine: &mut Machine,
     frame: &Frame,
     stmts: &'a [TypedStmt],
@@ -146,7 +146,7 @@ pub fn done_first<'a>(
 // How control leaves a function by a statement, where that is known.
 #[inline(always)]
 fn exit_by(
-    program: &ProgramTree,
+    program: &Program,
     machine: &Machine,
     frame: &Frame,
     stmt: &TypedStmt,
@@ -168,7 +168,7 @@ fn exit_by(
 
 /// How control leaves the last statements of a function, where that is known at once.
 pub fn exit_at_once(
-    program: &ProgramTree,
+    program: &Program,
     machine: &Machine,
     frame: &Frame,
     stmts: &[TypedStmt],
@@ -185,7 +185,7 @@ pub fn exit_at_once(
 // A part of a `for` that makes no call, or nothing.
 #[inline(always)]
 fn is_part_done(
-    program: &ProgramTree,
+    program: &Program,
     machine: &mut Machine,
     frame: &Frame,
     part: &TypedSimple,
@@ -204,7 +204,7 @@ fn is_part_done(
 
 /// What comes before the next round of a loop, or nothing.
 pub fn is_next_done(
-    program: &ProgramTree,
+    program: &Program,
     machine: &mut Machine,
     frame: &Frame,
     whole: &Loop,
@@ -220,7 +220,7 @@ pub fn is_next_done(
 
 // The test of a loop where it holds, and a turn; or nothing.
 #[inline(always)]
-fn is_begun(program: &ProgramTree, machine: &mut Machine, frame: &Frame, whole: &Loop) -> bool
+fn is_begun(program: &Program, machine: &mut Machine, frame: &Frame, whole: &Loop) -> bool
     ensures passes { PassesIf result (kept_by machine.old) (kept_by machine.new)
         (λ n. loop_acts program.now n frame.now whole.now tt)
         (in_body program.now frame.now whole.now whole.now.body.now) }
@@ -239,7 +239,7 @@ fn is_begun(program: &ProgramTree, machine: &mut Machine, frame: &Frame, whole: 
 /// As many rounds of a loop as are done at once: where that stopped in the body of a round, or none where the loop
 /// stands before a round.
 pub fn done_rounds<'a>(
-    program: &'a ProgramTree,
+    program: &'a Program,
     machine: &mut Machine,
     frame: &Frame,
     whole: &Loop<'a>,

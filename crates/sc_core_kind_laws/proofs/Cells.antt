@@ -1,11 +1,16 @@
 -- The cells of globals: as many as their types take.
-use Rattle.sc_linker.proofs.Common.{BaseTy, Cell, List, Ty, TypedMember, TypedStruct, [], and_first, and_rest, ap}
-use Rattle.sc_linker.proofs.Common.{arith, base_cells, base_within, base_zeros, cases_lt, cells_of, eqb-true}
-use Rattle.sc_linker.proofs.Common.{get_or-append-add, get_or_append_left, length, length-append, ltb-true}
-use Rattle.sc_linker.proofs.Common.{member_zeros, members_fit, nat_le, refl, repeated, slice_get, slice_index_or}
-use Rattle.sc_linker.proofs.Common.{starred_cells, starred_within, starred_zeros, struct_cells, struct_fits}
-use Rattle.sc_linker.proofs.Common.{struct_zeros, structs_fit, suc, sym, true, type_within, variable_fits, with_words}
-use Rattle.sc_linker.proofs.Common.{zero, zeros_of, ℕ, ⊎_elim, ◌*◌, ◌++◌, ◌+◌, ◌<◌, ◌==◌, ◌∙◌, ◌∷◌, ◌≡◌}
+use Rattle.sc_core_kind_laws.proofs.Common.{List, Ty, TypedStruct, [], and_first, and_rest, ap, eqb-true, length}
+use Rattle.sc_core_kind_laws.proofs.Common.{nat_le, refl, slice_get, slice_index_or, structs_fit, suc, sym, true, zero}
+use Rattle.sc_core_kind_laws.proofs.Common.{ℕ, ◌++◌, ◌==◌, ◌∙◌, ◌∷◌, ◌≡◌}
+use Rattle.sc_core.specs.Prelude.{base_cells, base_within, base_zeros, cells_of, member_zeros, members_fit, repeated}
+use Rattle.sc_core.specs.Prelude.{starred_cells, starred_within, starred_zeros, struct_cells, struct_fits, struct_zeros}
+use Rattle.sc_core.specs.Prelude.{type_within, variable_fits, with_words, zeros_of}
+use Rattle.sc_core.specs.declared.section.TypedMember.{TypedMember}
+use Rattle.sc_core.specs.declared.ty.BaseTy.{BaseTy}
+use Rattle.sc_core.specs.declared.value.Cell.{Cell}
+use Rattle.std.proofs.Common.{arith, get_or-append-add, length-append, ltb-true, ⊎_elim, ◌*◌, ◌+◌, ◌<◌}
+use Rattle.std.proofs.lemmas.Bool.{cases_lt}
+use Rattle.std.proofs.lemmas.List.{get_or_append_left}
 use Rattle.sc_core.specs.declared.ty.BaseTy.TheVariants as base
 use Rattle.sc_core.specs.declared.ty.Ty.TheVariants as ty
 use Rattle.sc_core.specs.declared.value.Cell.TheVariants as cell
