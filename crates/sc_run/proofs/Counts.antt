@@ -18,6 +18,7 @@ use Rattle.sc_core_kind_laws.proofs.Cells.{variable_many, words_length}
 use Rattle.sc_core_kind_laws.proofs.Sections.{Placed, all_at, for_section, sections_so}
 use Rattle.sc_run.specs.Room.{AreSmall, HasFewVariables, HasRoom, HasSmallGlobals, HaveSmallGlobals}
 use Rattle.sc_run.proofs.Making.{at_itself, local_sizes, param_sizes}
+use Rattle.sc_run.proofs.Room.{room_fewer}
 
 -- SIZES, ONE AFTER THE OTHER
 
@@ -253,3 +254,11 @@ module _ (program : ProgramTree) (typed : IsWellTyped program) where
       (record {
         room = λ comp. omega (arith, below, few_at comp (slice_get program.sections comp) refl);
       })
+
+-- the same, and room for the turns by themselves, where the sections are the program's
+pub room_started : {program tree : ProgramTree} {sections : List TypedSection} {memory : Memory} {turns : ℕ} →
+    IsWellTyped program → tree ≡ program → sections ≡ tree.sections → memory ≡ globals_of sections → turns < 2 ^ 32 →
+    HasRoom memory turns
+room_started {program} typed same are is below =
+    room_fewer (omega arith) (room_at_first program typed below
+    (is ∙ ap globals_of (are ∙ ap (λ (p : ProgramTree). p.sections) same)))

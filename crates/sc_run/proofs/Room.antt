@@ -105,15 +105,26 @@ module _ (comp : ℕ) (sizes : List ℕ) (args : List Value) {memory now : Memor
   pub room_begun : (turns : ℕ) → length sizes < most_nodes → HasRoom memory (suc turns) → HasRoom now turns
   room_begun turns few h =
       subst (λ m. HasRoom m turns) (sym is) (room_with comp (memory comp ++ blocks_for sizes args)
-      (omega (arith, few, h.room comp, length-append (memory comp) (blocks_for sizes args),
-      length_blocks_for sizes args)) (room_fewer (omega arith) h))
+      (omega (
+        arith,
+        few,
+        h.room comp,
+        length-append (memory comp) (blocks_for sizes args),
+        length_blocks_for sizes args,
+      )) (room_fewer (omega arith) h))
 
   -- while they begin, one more may
   pub room_beginning : length sizes < most_nodes → HasRoom memory 1 → length (now comp) < 2 ^ 63
   room_beginning few h =
       let there : now comp ≡ memory comp ++ blocks_for sizes args = (λ i. is i comp) ∙ at_itself comp memory in
-      omega (arith, few, h.room comp, ap (length {A = Block}) there,
-      length-append (memory comp) (blocks_for sizes args), length_blocks_for sizes args)
+      omega (
+        arith,
+        few,
+        h.room comp,
+        ap (length {A = Block}) there,
+        length-append (memory comp) (blocks_for sizes args),
+        length_blocks_for sizes args,
+      )
 
 -- an event takes no room
 pub room_emitted : (caller : Frame) (callee : Callee) (args : List Value) (crossing : Option ℕ) (before : Seen) {after : Seen} →

@@ -62,12 +62,7 @@ pub fn start<'a>(
 }
 
 // The variables of a call begin.
-#[tactic(auto, using(
-    crate::proofs::Room::room_number,
-    crate::proofs::Room::room_for_one,
-    crate::proofs::Counts::param_number,
-    crate::proofs::Counts::local_number
-))]
+#[tactic(auto, using(crate::proofs::Room::room_number, crate::proofs::Room::room_for_one, crate::proofs::Counts::param_number, crate::proofs::Counts::local_number))]
 pub fn begin<'a>(
     machine: &mut Machine,
     callee: &Callee<'a>,

@@ -175,12 +175,7 @@ fn end_variables(machine: &mut Machine, frame: &Frame)
         .end(*frame.scope.comp, first, variable_count(frame));
 }
 
-fn word_crossing(
-    program: &Program,
-    frame: &Frame,
-    index: u16,
-    value: Option<Value>,
-) -> Option<u32>
+fn word_crossing(program: &Program, frame: &Frame, index: u16, value: Option<Value>) -> Option<u32>
     ensures { result ≡ word_crossing program.now frame.now index value }
 {
     match program.interfaces().export(*frame.scope.comp, index) {

@@ -60,11 +60,7 @@ fn entry_place(
 }
 
 /// The function that an entry of a compartment leads to.
-pub fn entry_callee<'a>(
-    program: &'a Program,
-    comp: &'a CompId,
-    entry: Entry,
-) -> Option<Callee<'a>>
+pub fn entry_callee<'a>(program: &'a Program, comp: &'a CompId, entry: Entry) -> Option<Callee<'a>>
     ensures found { EntryAt program.now comp.now entry result }
     ensures variables { IfSome result (λ callee. HasFewVariables callee.structs.now callee.function.now) }
 {
@@ -78,11 +74,7 @@ pub fn entry_callee<'a>(
 }
 
 /// The function of a compartment at this place.
-pub fn callee_at<'a>(
-    program: &'a Program,
-    comp: &'a CompId,
-    number: usize,
-) -> Option<Callee<'a>>
+pub fn callee_at<'a>(program: &'a Program, comp: &'a CompId, number: usize) -> Option<Callee<'a>>
     ensures found { FoundAt program.now comp.now number result }
     ensures variables { IfSome result (λ callee. HasFewVariables callee.structs.now callee.function.now) }
 {

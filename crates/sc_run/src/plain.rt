@@ -7,9 +7,7 @@ ghost use Rattle.std.specs.Prelude.{◌≡◌, ◌≤◌, ◌∷◌, IfSome, Lis
 
 use crate::state::Machine;
 use crate::work::{Frame, Leaving, Loop, Position};
-use sc_core::{
-    Program, TypedExpr, TypedSimple, TypedSimpleKind, TypedStmt, TypedStmtKind, Want,
-};
+use sc_core::{Program, TypedExpr, TypedSimple, TypedSimpleKind, TypedStmt, TypedStmtKind, Want};
 use sc_run_value::is_true;
 
 // An assignment that meets no cause of blame, or nothing.
@@ -145,12 +143,7 @@ pub fn done_first<'a>(
 
 // How control leaves a function by a statement, where that is known.
 #[inline(always)]
-fn exit_by(
-    program: &Program,
-    machine: &Machine,
-    frame: &Frame,
-    stmt: &TypedStmt,
-) -> Option<Leaving>
+fn exit_by(program: &Program, machine: &Machine, frame: &Frame, stmt: &TypedStmt) -> Option<Leaving>
     ensures { IfSome result (λ exit. (rest : List TypedStmt) → Passes (kept_by machine.now) (kept_by machine.now)
         (λ n s. block_acts program.now n frame.now (stmt.now ∷ rest) tt s) (λ n s. leave (exit_of exit) tt s)) }
 {
@@ -184,12 +177,7 @@ pub fn exit_at_once(
 
 // A part of a `for` that makes no call, or nothing.
 #[inline(always)]
-fn is_part_done(
-    program: &Program,
-    machine: &mut Machine,
-    frame: &Frame,
-    part: &TypedSimple,
-) -> bool
+fn is_part_done(program: &Program, machine: &mut Machine, frame: &Frame, part: &TypedSimple) -> bool
     ensures { PassesIf result (kept_by machine.old) (kept_by machine.new)
         (λ n. simple_does c_arith frame.now.scope.structs.now (here_of frame.now.scope) frame.now.scope.params
         (calls_in program.now n) part.now.kind part.now.line tt) ended_so }
@@ -203,12 +191,7 @@ fn is_part_done(
 }
 
 /// What comes before the next round of a loop, or nothing.
-pub fn is_next_done(
-    program: &Program,
-    machine: &mut Machine,
-    frame: &Frame,
-    whole: &Loop,
-) -> bool
+pub fn is_next_done(program: &Program, machine: &mut Machine, frame: &Frame, whole: &Loop) -> bool
     ensures { PassesIf result (kept_by machine.old) (kept_by machine.new)
         (λ n. next_acts program.now n frame.now whole.now tt) ended_so }
 {

@@ -15,8 +15,7 @@ use crate::state::Machine;
 use crate::work::{Frame, Leaving, Now, Run, Step, To, Work};
 use sc_base::OutOfMemory;
 use sc_core::{
-    CallTarget, Cause, Program, RunEnd, TypedCall, TypedExpr, TypedSimple, TypedSimpleKind,
-    Value,
+    CallTarget, Cause, Program, RunEnd, TypedCall, TypedExpr, TypedSimple, TypedSimpleKind, Value,
 };
 use sc_event::{CompId, Entry, Event};
 use sc_run_value::Arguments;
@@ -88,13 +87,7 @@ fn call_cross<'a>(
         (λ n s. and_then (calls_in program.now n run.old.frame.scope.comp.now
         (CallTarget.Cross comp.now index) args.now s) (result_goes program.now run.old.frame to.entry)) step run.new) }
 {
-    if !may_cross(
-        program,
-        *run.frame.scope.comp,
-        *comp,
-        index,
-        args,
-    ) {
+    if !may_cross(program, *run.frame.scope.comp, *comp, index, args) {
         return Ok(Step::Stop(refusal(&run.frame)));
     }
     match entry_callee(program, comp, Entry::Export(index)) {

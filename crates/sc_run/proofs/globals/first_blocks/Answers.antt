@@ -3,8 +3,8 @@ use Rattle.std.proofs.lemmas.Option.{slice_get_read}
 use Rattle.sc_run.proofs.Making.{none_yet, section_more}
 use Rattle.sc_run.proofs.globals.first_blocks.Goals as goal
 
-pub comp_at-requires : goal.comp_at-requires
-comp_at-requires c = omega (arith, c.requires.few)
+pub comp_at-comp-requires : goal.comp_at-comp-requires
+comp_at-comp-requires c = omega (arith, c.requires.few)
 
 pub make_globals-requires-clause-none : goal.make_globals-requires-clause-none
 make_globals-requires-clause-none c =

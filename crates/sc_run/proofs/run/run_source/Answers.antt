@@ -1,8 +1,7 @@
 use Rattle.sc_run.proofs.Common.{EntryAt, Main, Some, ap, arith, globals_of, map, subst, sym, ◌∙◌}
 use Rattle.sc_word.specs.Prelude.{word_of}
 use Rattle.sc_run.proofs.Counts.{room_at_first, sections_small}
-use Rattle.sc_run.proofs.Room.{room_fewer}
-use Rattle.sc_run.proofs.Whole.{seen_at_first, over_at_once, gone_through}
+use Rattle.sc_run.proofs.Whole.{gone_through, over_at_once, seen_at_first}
 use Rattle.sc_run.specs.Room.{HaveSmallGlobals}
 use Rattle.sc_run.proofs.run.run_source.Goals as goal
 
