@@ -127,8 +127,10 @@ module _ (comp : ℕ) (sizes : List ℕ) (args : List Value) {memory now : Memor
       )
 
 -- an event takes no room
-pub room_emitted : (caller : Frame) (callee : Callee) (args : List Value) (crossing : Option ℕ) (before : Seen) {after : Seen} →
+pub room_emitted : (caller : Frame) (callee : Callee) (args : List Value) (crossing : Option ℕ)
+    (before : Seen) {after : Seen} →
     after ≡ emitted_call caller callee args crossing before → HasRoom before.memory (suc before.turns) →
     HasRoom after.memory (suc after.turns)
 room_emitted caller callee args None before is h = subst (λ seen. HasRoom seen.memory (suc seen.turns)) (sym is) h
-room_emitted caller callee args (Some index) before is h = subst (λ seen. HasRoom seen.memory (suc seen.turns)) (sym is) h
+room_emitted caller callee args (Some index) before is h =
+    subst (λ seen. HasRoom seen.memory (suc seen.turns)) (sym is) h
