@@ -16,9 +16,9 @@ use Rattle.sc_core.specs.Prelude.{passed_fits, result_fits, scope_of, structs_fi
 use Rattle.sc_core.specs.declared.section.TypedFunction.{TypedFunction}
 use Rattle.sc_core_kind_laws.proofs.Cells.{variable_many, words_length}
 use Rattle.sc_core_kind_laws.proofs.Sections.{Placed, all_at, for_section, sections_so}
-use Rattle.sc_run.specs.Room.{AreSmall, HasFewVariables, HasRoom, HasSmallGlobals, HaveSmallGlobals}
+use Rattle.sc_run.specs.Numbers.{AreSmall, HasFewVariables, NumbersSuffice, HasSmallGlobals, HaveSmallGlobals}
 use Rattle.sc_run.proofs.Making.{at_itself, local_sizes, param_sizes}
-use Rattle.sc_run.proofs.Room.{room_fewer}
+use Rattle.sc_run.proofs.Numbers.{next_number, numbers_fewer, numbers_for_one}
 
 -- SIZES, ONE AFTER THE OTHER
 
@@ -247,18 +247,20 @@ module _ (program : ProgramTree) (typed : IsWellTyped program) where
         length-map section.globals (global_block (struct_zeros [] section.structs)),
       )
 
-  -- there is room for the call of `main`, and for those in the turns that follow
-  pub room_at_first : {memory : Memory} {turns : ℕ} → turns < 2 ^ 32 → memory ≡ globals_of program.sections →
-      HasRoom memory (suc turns)
-  room_at_first {turns} below is = subst (λ m. HasRoom m (suc turns)) (sym is)
+  -- numbers suffice for the call of `main`, and for those in the turns that follow
+  pub numbers_at_first : {memory : Memory} {turns : ℕ} → turns < 2 ^ 32 → memory ≡ globals_of program.sections →
+      NumbersSuffice memory (suc turns)
+  numbers_at_first {turns} below is = subst (λ m. NumbersSuffice m (suc turns)) (sym is)
       (record {
-        room = λ comp. omega (arith, below, few_at comp (slice_get program.sections comp) refl);
+        numbers = λ comp. omega (arith, below, few_at comp (slice_get program.sections comp) refl);
       })
 
--- the same, and room for the turns by themselves, where the sections are the program's
-pub room_started : {program tree : ProgramTree} {sections : List TypedSection} {memory : Memory} {turns : ℕ} →
+-- the same, numbers for the turns by themselves, where the sections are the program's
+pub numbers_started : {program tree : ProgramTree} {sections : List TypedSection} {memory : Memory} {turns : ℕ} →
     IsWellTyped program → tree ≡ program → sections ≡ tree.sections → memory ≡ globals_of sections → turns < 2 ^ 32 →
-    HasRoom memory turns
-room_started {program} typed same are is below =
-    room_fewer (omega arith) (room_at_first program typed below
+    NumbersSuffice memory turns
+numbers_started {program} typed same are is below =
+    numbers_fewer (omega arith) (numbers_at_first program typed below
     (is ∙ ap globals_of (are ∙ ap (λ (p : ProgramTree). p.sections) same)))
+
+pub ruleset beginning = (next_number, numbers_for_one, param_number, local_number)

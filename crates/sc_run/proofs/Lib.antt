@@ -9,6 +9,6 @@ pub mod Going
 pub mod Invoking
 pub mod Looping
 pub mod Making
-pub mod Room
+pub mod Numbers
 pub mod Stating
 pub mod Whole

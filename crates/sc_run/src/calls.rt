@@ -1,10 +1,11 @@
 //! Calls: from their arguments to the first statement of what is called, and back (C11 6.5.2.2).
 
+ghost use Rattle.sc_core.specs.Prelude.{most_params};
 ghost use Rattle.sc_run.specs.Prelude.{Advances, Begun, Steps, and_then, back_from, block_acts, bodies, body_acts};
 ghost use Rattle.sc_run.specs.Prelude.{c_arith, denotations, emitted_call, entry_from, function, function_of, kept_by};
 ghost use Rattle.sc_run.specs.Prelude.{memory_of, result_goes, run_in, turn, word_in};
-ghost use Rattle.sc_run.specs.Room.{HasFewVariables, HasRoom};
-ghost use Rattle.std.specs.Prelude.{◌≡◌, ◌<◌, ◌^◌, ◌++◌, [], ◌∷◌, suc, IfOk, OnOk, Some, map, length};
+ghost use Rattle.sc_run.specs.Numbers.{HasFewVariables, NumbersSuffice};
+ghost use Rattle.std.specs.Prelude.{◌≡◌, ◌<◌, ◌≤◌, ◌^◌, ◌++◌, [], ◌∷◌, suc, IfOk, IfSome, OnOk, Some, map, length};
 
 use crate::leaves::return_to;
 use crate::machine::{emit_event, init_all, make_blocks, store_at, take_turn};
@@ -62,14 +63,14 @@ pub fn start<'a>(
 }
 
 // The variables of a call begin.
-#[tactic(auto, using(crate::proofs::Room::room_number, crate::proofs::Room::room_for_one, crate::proofs::Counts::param_number, crate::proofs::Counts::local_number))]
+#[tactic(auto, using(crate::proofs::Counts::beginning))]
 pub fn begin<'a>(
     machine: &mut Machine,
     callee: &Callee<'a>,
     args: &[Value],
 ) -> Result<Frame<'a>, OutOfMemory>
     requires variables { HasFewVariables callee.now.structs.now callee.now.function.now }
-    requires room { HasRoom (memory_of machine.old.blocks) (suc machine.old.turns) }
+    requires numbers { NumbersSuffice (memory_of machine.old.blocks) (suc machine.old.turns) }
     ensures { IfOk result (λ frame. Begun callee.now args.now (kept_by machine.old) (kept_by machine.new) frame) }
 {
     let first = machine.blocks.made(*callee.comp) as i64;
@@ -94,12 +95,13 @@ fn emit_call<'a>(
     args: &[Value],
     crossing: Option<u16>,
 ) -> Result<(), OutOfMemory>
+    requires { IfSome crossing (λ _. length args.now ≤ most_params) }
     ensures { OnOk result (kept_by machine.new ≡ emitted_call frame.now callee.now args.now crossing
         (kept_by machine.old)) }
 {
     match crossing {
         Some(index) => {
-            let words = words_of(machine.alloc, args)?;
+            let words = words_of(machine.alloc, args);
             emit_event(
                 machine,
                 Event::Call {
@@ -126,17 +128,15 @@ pub fn word_in(value: Value) -> u32
 }
 
 // The words that cross.
-fn words_of(alloc: Global, values: &[Value]) -> Result<Args, OutOfMemory>
-    ensures { IfOk result (λ words. words ≡ map word_in values.now) }
+fn words_of(alloc: Global, values: &[Value]) -> Args
+    requires { length values.now ≤ most_params }
+    ensures { result ≡ map word_in values.now }
 {
     let mut words = Args::new(alloc);
     for value in values {
-        match words.push(word_in(*value)) {
-            Some(()) => {}
-            None => return Err(OutOfMemory),
-        }
+        words.push(word_in(*value)).unwrap();
     }
-    Ok(words)
+    words
 }
 
 // The statements of a call that has begun. Where what is left of them leaves the function at once, the function that
@@ -201,6 +201,7 @@ pub fn enter<'a>(
     crossing: Option<u16>,
 ) -> Result<Step<'a>, OutOfMemory>
     requires variables { HasFewVariables callee.now.structs.now callee.now.function.now }
+    requires words { IfSome crossing (λ _. length args.now ≤ most_params) }
     requires function { function (denotations program.now) callee.now.comp.now callee.now.number ≡
         Some (function_of c_arith program.now.interfaces.main callee.now.structs.now callee.now.function.now) }
     ensures { IfOk result (λ step. Advances program.now run.old

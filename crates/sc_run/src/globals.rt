@@ -2,7 +2,7 @@
 
 ghost use Rattle.sc_run.specs.Prelude.{base_zeros, cell_with, global_block, globals_of, member_zeros, memory_of};
 ghost use Rattle.sc_run.specs.Prelude.{repeated, starred_zeros, struct_zeros, with_blocks, with_words, zeros_of};
-ghost use Rattle.sc_run.specs.Room.{HasSmallGlobals, HaveSmallGlobals};
+ghost use Rattle.sc_run.specs.Numbers.{HasSmallGlobals, HaveSmallGlobals};
 ghost use Rattle.std.specs.Prelude.{◌≡◌, ◌<◌, ◌^◌, ◌++◌, [], ◌∷◌, IfOk, OnOk, length, map, slice_get};
 ghost use Rattle.std.specs.Prelude.{slice_index_or};
 

@@ -1,7 +1,7 @@
 //! The functions of a program, and those that calls lead to.
 
 ghost use Rattle.sc_run.specs.Prelude.{EntryAt, FoundAt, entry_in, is_word, place_named};
-ghost use Rattle.sc_run.specs.Room.{HasFewVariables};
+ghost use Rattle.sc_run.specs.Numbers.{HasFewVariables};
 ghost use Rattle.sc_core.specs.WellTyped.{IsWellTyped};
 ghost use Rattle.std.specs.Prelude.{◌≡◌, bytes_eq, IfSome, Some, slice_get};
 ghost use Rattle.std.specs.List.{list_all};

@@ -3,7 +3,7 @@
 ghost use Rattle.sc_run.specs.Prelude.{Comes, Next, all_do, assign, block_for, c_arith, evaluated, here_of, init_does};
 ghost use Rattle.sc_run.specs.Prelude.{inits_do, kept_by, memory_of, store_at, stored, turn, way_in, with_blocks};
 ghost use Rattle.sc_run.specs.Prelude.{with_exit, with_variables};
-ghost use Rattle.sc_run.specs.Room.{HasFewVariables, HasRoom};
+ghost use Rattle.sc_run.specs.Numbers.{HasFewVariables, NumbersSuffice};
 ghost use Rattle.std.specs.Prelude.{◌≡◌, ◌<◌, ◌^◌, ◌++◌, ℕ, [], ◌∷◌, suc, length, OnErr, OnOk, slice_get};
 ghost use Rattle.sc_core.specs.declared.value.Want.TheVariants as want;
 
@@ -98,7 +98,7 @@ pub fn assign(
 pub fn take_turn(machine: &mut Machine) -> Result<(), RunEnd>
     ensures comes { Comes (kept_by machine.old) (kept_by machine.new) result turn }
     ensures taken { OnOk result (machine.old.turns ≡ suc machine.new.turns) }
-    ensures room { OnOk result (HasRoom (memory_of machine.new.blocks) (suc machine.new.turns)) }
+    ensures numbers { OnOk result (NumbersSuffice (memory_of machine.new.blocks) (suc machine.new.turns)) }
 {
     if machine.turns == 0 {
         return Err(RunEnd::TurnsOut);
@@ -145,9 +145,9 @@ fn value_at(values: &[Value], at: usize) -> Option<Value>
 /// The blocks of the variables of a function: parameters hold the arguments.
 pub fn make_blocks(blocks: &mut Blocks, callee: &Callee, args: &[Value]) -> Result<(), OutOfMemory>
     requires variables { HasFewVariables callee.now.structs.now callee.now.function.now }
-    requires room { HasRoom (memory_of blocks.old) 1 }
+    requires numbers { NumbersSuffice (memory_of blocks.old) 1 }
     ensures made { OnOk result (memory_of blocks.new ≡ with_variables callee.now args.now (memory_of blocks.old)) }
-    ensures room { (turns : ℕ) → HasRoom (memory_of blocks.old) (suc turns) → HasRoom (memory_of blocks.new) turns }
+    ensures numbers { (turns : ℕ) → NumbersSuffice (memory_of blocks.old) (suc turns) → NumbersSuffice (memory_of blocks.new) turns }
 {
     let params = callee.function.params.as_slice();
     let locals = callee.function.locals.as_slice();

@@ -87,7 +87,7 @@ fn run_on<'a>(
 }
 
 /// Runs a program as its meaning says, with these inputs, up to `turns` turns and `events` events.
-#[tactic(auto, using(crate::proofs::Counts::room_started))]
+#[tactic(auto, using(crate::proofs::Counts::numbers_started))]
 pub fn run_source(
     alloc: Global,
     program: &Program,

@@ -1,10 +1,11 @@
 //! Calls in statements, and the statements that may stand in the head of a `for`.
 
+ghost use Rattle.sc_core.specs.Prelude.{most_params};
 ghost use Rattle.sc_run.specs.Prelude.{Advances, Comes, Steps, and_then, assign, c_arith, call, calls_in, computed};
 ghost use Rattle.sc_run.specs.Prelude.{denotations, first_word, here_of, is_word, kept_by, may_call, next_input};
 ghost use Rattle.sc_run.specs.Prelude.{result_goes, simple_does, values, way_in};
 ghost use Rattle.sc_event.specs.Prelude.{imports, is_function, takes};
-ghost use Rattle.std.specs.Prelude.{◌≡◌, ◌&&◌, IfOk, length, map, drop};
+ghost use Rattle.std.specs.Prelude.{◌≡◌, ◌≤◌, ◌&&◌, IfOk, IsTrue, length, map, drop};
 ghost use Rattle.std.specs.List.{list_all};
 ghost use Rattle.sc_core.specs.declared.cause.Cause.TheVariants.{BadType};
 
@@ -64,14 +65,25 @@ fn call_own<'a>(
     }
 }
 
+// Whether an export takes this many arguments, which are at most 8.
+fn takes(program: &Program, to: CompId, index: u16, count: usize) -> bool
+    ensures allowed { result ≡ takes program.now.interfaces to index count }
+    ensures few { IsTrue result → count ≤ most_params }
+{
+    match program.interfaces().export(to, index) {
+        None => false,
+        Some(export) => export.params.as_slice().len() == count,
+    }
+}
+
 // Whether a call across may be made, but for its function.
 fn may_cross(program: &Program, from: CompId, to: CompId, index: u16, args: &[Value]) -> bool
-    ensures { result ≡ (imports program.now.interfaces from (is_function to index) &&
+    ensures allowed { result ≡ (imports program.now.interfaces from (is_function to index) &&
         (takes program.now.interfaces to index (length args.now) && list_all is_word args.now)) }
+    ensures few { IsTrue result → length args.now ≤ most_params }
 {
-    let interfaces = program.interfaces();
-    interfaces.imports_function(from, to, index)
-        && (interfaces.takes(to, index, args.len()) && are_words(args))
+    program.interfaces().imports_function(from, to, index)
+        && (takes(program, to, index, args.len()) && are_words(args))
 }
 
 // A call of an export of another compartment. It is looked up by its name, and is an event, of which a run has few.

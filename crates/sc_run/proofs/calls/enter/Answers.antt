@@ -1,12 +1,12 @@
 use Rattle.sc_run.proofs.Common.{IfOk-weaker, kept_by, refl}
 use Rattle.sc_run.proofs.Calling.{enter_steps, enter_stops}
-use Rattle.sc_run.proofs.Room.{room_emitted}
+use Rattle.sc_run.proofs.Numbers.{numbers_emitted}
 use Rattle.sc_run.proofs.calls.enter.Goals as goal
 
-pub begin-requires-clause-room : goal.begin-requires-clause-room
-begin-requires-clause-room c = room_emitted c.args.run.now.frame c.args.callee.now c.args.args.now c.args.crossing
+pub begin-requires-clause-numbers : goal.begin-requires-clause-numbers
+begin-requires-clause-numbers c = numbers_emitted c.args.run.now.frame c.args.callee.now c.args.args.now c.args.crossing
     (kept_by c.take_turn.new.machine)
-    c.in_ok-emit_call-in-Ok.ensures c.in-Ok.ensures.room
+    c.in_ok-emit_call-in-Ok.ensures c.in-Ok.ensures.numbers
 
 pub returns-in-Err : goal.returns-in-Err
 returns-in-Err c =

@@ -1,6 +1,6 @@
 use Rattle.sc_run.proofs.Common.{subst, sym}
 use Rattle.sc_run.proofs.Counts.{functions_small}
-use Rattle.sc_run.specs.Room.{HasFewVariables}
+use Rattle.sc_run.specs.Numbers.{HasFewVariables}
 use Rattle.sc_run.proofs.lookups.callee_in.Goals as goal
 
 pub returns-in-Some-clause-variables : goal.returns-in-Some-clause-variables

@@ -2,14 +2,14 @@ use Rattle.sc_run.proofs.Common.{TypedLocal, TypedParam, [], ap, arith, cells_of
 use Rattle.sc_run.proofs.Common.{take, ◌++◌, ◌+◌, ◌∙◌}
 use Rattle.sc_run.proofs.Making.{local_sizes, one_more, param_sizes}
 use Rattle.sc_run.proofs.Counts.{few_locals, few_params, small_local, small_param}
-use Rattle.sc_run.proofs.Room.{room_beginning, room_begun}
+use Rattle.sc_run.proofs.Numbers.{numbers_beginning, numbers_begun}
 use Rattle.sc_run.proofs.machine.make_blocks.Goals as goal
 
 pub make_block-requires-clause-few : goal.make_block-requires-clause-few
 make_block-requires-clause-few c =
     let callee = c.args.callee.now in
-    room_beginning callee.comp.now (take c.loop-at.at (param_sizes callee.structs.now callee.function.now))
-    c.args.args.now c.loop-at.invariant (few_params c.requires.variables c.loop-at.at) c.requires.room
+    numbers_beginning callee.comp.now (take c.loop-at.at (param_sizes callee.structs.now callee.function.now))
+    c.args.args.now c.loop-at.invariant (few_params c.requires.variables c.loop-at.at) c.requires.numbers
 
 pub make_block-requires-clause-small : goal.make_block-requires-clause-small
 make_block-requires-clause-small c =
@@ -19,19 +19,19 @@ make_block-requires-clause-small c =
     (rw c.as_slice-params.ensures at c.index-params-at.is)
     (c.cells_of-count.ensures ∙ ap (λ (p : TypedParam). cells_of structs p.ty) (sym c.index-params-at.is))
 
-pub returns-in_err-make_block-clause-room : goal.returns-in_err-make_block-clause-room
-returns-in_err-make_block-clause-room c = λ turns room.
+pub returns-in_err-make_block-clause-numbers : goal.returns-in_err-make_block-clause-numbers
+returns-in_err-make_block-clause-numbers c = λ turns numbers.
     let callee = c.args.callee.now in
-    room_begun callee.comp.now (take c.loop-at.at (param_sizes callee.structs.now callee.function.now))
+    numbers_begun callee.comp.now (take c.loop-at.at (param_sizes callee.structs.now callee.function.now))
     c.args.args.now (c.in_err-make_block.ensures.err ∙ c.loop-at.invariant) turns
-    (few_params c.requires.variables c.loop-at.at) room
+    (few_params c.requires.variables c.loop-at.at) numbers
 
 pub make_block-requires-in-loop-at-2-clause-few : goal.make_block-requires-in-loop-at-2-clause-few
 make_block-requires-in-loop-at-2-clause-few c =
     let callee = c.args.callee.now in
-    room_beginning callee.comp.now (param_sizes callee.structs.now callee.function.now ++
+    numbers_beginning callee.comp.now (param_sizes callee.structs.now callee.function.now ++
     take c.loop-at-2.at (local_sizes callee.structs.now callee.function.now))
-    c.args.args.now c.loop-at-2.invariant (few_locals c.requires.variables c.loop-at-2.at) c.requires.room
+    c.args.args.now c.loop-at-2.invariant (few_locals c.requires.variables c.loop-at-2.at) c.requires.numbers
 
 pub make_block-requires-in-loop-at-2-clause-small : goal.make_block-requires-in-loop-at-2-clause-small
 make_block-requires-in-loop-at-2-clause-small c =
@@ -42,20 +42,20 @@ make_block-requires-in-loop-at-2-clause-small c =
     (c.cells_of-count-in-loop-at-2.ensures ∙ ap (λ (l : TypedLocal). cells_of structs l.ty)
     (sym c.index-locals-at.is))
 
-pub returns-in_err-make_block-2-clause-room : goal.returns-in_err-make_block-2-clause-room
-returns-in_err-make_block-2-clause-room c = λ turns room.
+pub returns-in_err-make_block-2-clause-numbers : goal.returns-in_err-make_block-2-clause-numbers
+returns-in_err-make_block-2-clause-numbers c = λ turns numbers.
     let callee = c.args.callee.now in
-    room_begun callee.comp.now (param_sizes callee.structs.now callee.function.now ++
+    numbers_begun callee.comp.now (param_sizes callee.structs.now callee.function.now ++
     take c.loop-at-2.at (local_sizes callee.structs.now callee.function.now))
     c.args.args.now (c.in_err-make_block-2.ensures.err ∙ c.loop-at-2.invariant) turns
-    (few_locals c.requires.variables c.loop-at-2.at) room
+    (few_locals c.requires.variables c.loop-at-2.at) numbers
 
-pub returns-clause-room : goal.returns-clause-room
-returns-clause-room c = λ turns room.
+pub returns-clause-numbers : goal.returns-clause-numbers
+returns-clause-numbers c = λ turns numbers.
     let callee = c.args.callee.now in
-    room_begun callee.comp.now (param_sizes callee.structs.now callee.function.now ++
+    numbers_begun callee.comp.now (param_sizes callee.structs.now callee.function.now ++
     take c.loop-at-2.at (local_sizes callee.structs.now callee.function.now))
-    c.args.args.now c.loop-at-2.invariant turns (few_locals c.requires.variables c.loop-at-2.at) room
+    c.args.args.now c.loop-at-2.invariant turns (few_locals c.requires.variables c.loop-at-2.at) numbers
 
 pub loop-at-preserved : goal.loop-at-preserved
 loop-at-preserved c =

@@ -1,14 +1,14 @@
 use Rattle.sc_run.proofs.Common.{kept_by, memory_of, way_in}
 use Rattle.sc_run.proofs.Ahead.{assigned_passes}
-use Rattle.sc_run.proofs.Room.{room_assigned}
+use Rattle.sc_run.proofs.Numbers.{numbers_assigned}
 use Rattle.sc_run.proofs.plain.is_assigned.Goals as goal
 
 pub invariant_of-machine : goal.invariant_of-machine
 invariant_of-machine c =
     record {
-      room = room_assigned c.is_assigned.result c.args.frame.now.scope.comp.now
+      numbers = numbers_assigned c.is_assigned.result c.args.frame.now.scope.comp.now
           (way_in c.args.frame.now c.args.place.now) (way_in c.args.frame.now c.args.value.now) c.is_assigned.ensures
-          c.args.machine.now.room;
+          c.args.machine.now.numbers;
     }
 
 pub returns : goal.returns

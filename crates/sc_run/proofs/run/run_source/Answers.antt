@@ -1,8 +1,8 @@
 use Rattle.sc_run.proofs.Common.{EntryAt, Main, Some, ap, arith, globals_of, map, subst, sym, ◌∙◌}
 use Rattle.sc_word.specs.Prelude.{word_of}
-use Rattle.sc_run.proofs.Counts.{room_at_first, sections_small}
+use Rattle.sc_run.proofs.Counts.{numbers_at_first, sections_small}
 use Rattle.sc_run.proofs.Whole.{gone_through, over_at_once, seen_at_first}
-use Rattle.sc_run.specs.Room.{HaveSmallGlobals}
+use Rattle.sc_run.specs.Numbers.{HaveSmallGlobals}
 use Rattle.sc_run.proofs.run.run_source.Goals as goal
 
 pub first_blocks-requires : goal.first_blocks-requires
@@ -10,9 +10,9 @@ first_blocks-requires c =
     subst HaveSmallGlobals (sym (c.as_slice.ensures ∙ ap (λ p. p.sections) c.tree-tree.ensures.tree))
     (sections_small c.args.program.now c.tree-tree.ensures.typed)
 
-pub begin-requires-clause-room : goal.begin-requires-clause-room
-begin-requires-clause-room c =
-    room_at_first c.args.program.now c.tree-tree.ensures.typed (omega arith) (c.in_ok-globals.ensures ∙
+pub begin-requires-clause-numbers : goal.begin-requires-clause-numbers
+begin-requires-clause-numbers c =
+    numbers_at_first c.args.program.now c.tree-tree.ensures.typed (omega arith) (c.in_ok-globals.ensures ∙
     ap globals_of (c.as_slice.ensures ∙ ap (λ p. p.sections) c.tree-tree.ensures.tree))
 
 pub returns-in-Stop : goal.returns-in-Stop

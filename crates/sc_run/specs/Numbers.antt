@@ -1,4 +1,4 @@
--- Helping: room for the variables of calls. The blocks of a compartment have numbers below 2^63.
+-- Helping: numbers for the variables of calls. The blocks of a compartment have numbers below 2^63.
 use Rattle.sc_core.specs.Prelude.{Memory, most_cells, most_compartments, most_nodes, struct_zeros, variables}
 use Rattle.sc_core.specs.Prelude.{zeros_of}
 use Rattle.std.specs.Prelude.{◌≡◌, ℕ, ◌+◌, ◌*◌, ◌^◌, ◌<◌, ◌≤◌, true, List, [], length, map, nat_le, slice_get}
@@ -9,9 +9,9 @@ use Rattle.sc_core.specs.declared.section.TypedGlobal.{TypedGlobal}
 use Rattle.sc_core.specs.declared.section.TypedSection.{TypedSection}
 use Rattle.sc_core.specs.declared.section.TypedStruct.{TypedStruct}
 
--- the blocks of each compartment, with those that the calls in this many turns make at most, have such numbers
-pub record HasRoom (memory : Memory) (turns : ℕ) : Type 0 where
-  pub room : (comp : ℕ) → length (memory comp) + most_nodes * turns ≤ 2 ^ 63
+-- such numbers suffice for the blocks of each compartment and for those that calls make in this many turns
+pub record NumbersSuffice (memory : Memory) (turns : ℕ) : Type 0 where
+  pub numbers : (comp : ℕ) → length (memory comp) + most_nodes * turns ≤ 2 ^ 63
 
 -- none of these numbers of cells is more than a variable may have
 abbrev pub AreSmall : List ℕ → Type 0

@@ -10,7 +10,7 @@ use Rattle.sc_core.specs.Prelude.{most_nodes}
 use Rattle.sc_core.specs.declared.value.Pointer.{Pointer}
 use Rattle.sc_core.specs.declared.value.Value.TheVariants.{Null, Ptr}
 use Rattle.sc_run_value.specs.Assigning.{AssignedIf}
-use Rattle.sc_run.specs.Room.{HasRoom}
+use Rattle.sc_run.specs.Numbers.{NumbersSuffice}
 use Rattle.sc_run.proofs.Making.{at_itself, with_sizes}
 
 -- THE NUMBER OF BLOCKS
@@ -50,87 +50,87 @@ length_blocks_for (n ∷ sizes) (v ∷ args) = ap suc (length_blocks_for sizes a
 
 -- ROOM IS KEPT
 
-pub room_fewer : {memory : Memory} {turns fewer : ℕ} → fewer ≤ turns → HasRoom memory turns → HasRoom memory fewer
-room_fewer le h = record { room = λ comp. omega (arith, le, h.room comp) }
+pub numbers_fewer : {memory : Memory} {turns fewer : ℕ} → fewer ≤ turns → NumbersSuffice memory turns → NumbersSuffice memory fewer
+numbers_fewer le h = record { numbers = λ comp. omega (arith, le, h.numbers comp) }
 
 -- the next block has a number of 63 bits
-pub room_number : {memory : Memory} {turns : ℕ} (comp : ℕ) → HasRoom memory (suc turns) → length (memory comp) < 2 ^ 63
-room_number comp h = omega (arith, h.room comp)
+pub next_number : {memory : Memory} {turns : ℕ} (comp : ℕ) → NumbersSuffice memory (suc turns) → length (memory comp) < 2 ^ 63
+next_number comp h = omega (arith, h.numbers comp)
 
-pub room_for_one : {memory : Memory} {turns : ℕ} → HasRoom memory (suc turns) → HasRoom memory 1
-room_for_one h = room_fewer (omega arith) h
+pub numbers_for_one : {memory : Memory} {turns : ℕ} → NumbersSuffice memory (suc turns) → NumbersSuffice memory 1
+numbers_for_one h = numbers_fewer (omega arith) h
 
 either_way : (b : Bool) (x y : Blocks) (more most : ℕ) → length x + more ≤ most → length y + more ≤ most →
     length (if b then x else y) + more ≤ most
 either_way true x y more most h k = h
 either_way false x y more most h k = k
 
-room_with : (comp : ℕ) (bs : Blocks) {memory : Memory} {turns : ℕ} → length bs + most_nodes * turns ≤ 2 ^ 63 →
-    HasRoom memory turns → HasRoom (with_blocks comp bs memory) turns
-room_with comp bs {memory} {turns} few h =
-    record { room = λ c. either_way (c == comp) bs (memory c) (most_nodes * turns) (2 ^ 63) few (h.room c) }
+numbers_with : (comp : ℕ) (bs : Blocks) {memory : Memory} {turns : ℕ} → length bs + most_nodes * turns ≤ 2 ^ 63 →
+    NumbersSuffice memory turns → NumbersSuffice (with_blocks comp bs memory) turns
+numbers_with comp bs {memory} {turns} few h =
+    record { numbers = λ c. either_way (c == comp) bs (memory c) (most_nodes * turns) (2 ^ 63) few (h.numbers c) }
 
-pub room_stored : (comp : ℕ) (q v : Value) {memory after : Memory} {turns : ℕ} →
+pub numbers_stored : (comp : ℕ) (q v : Value) {memory after : Memory} {turns : ℕ} →
     store (memory comp) q v ≡ Ok (after comp) → after ≡ with_blocks comp (after comp) memory →
-    HasRoom memory turns → HasRoom after turns
-room_stored comp q v {memory} {after} {turns} is others h =
-    subst (λ m. HasRoom m turns) (sym others) (room_with comp (after comp)
-    (omega (arith, length_store (memory comp) q v is, h.room comp)) h)
+    NumbersSuffice memory turns → NumbersSuffice after turns
+numbers_stored comp q v {memory} {after} {turns} is others h =
+    subst (λ m. NumbersSuffice m turns) (sym others) (numbers_with comp (after comp)
+    (omega (arith, length_store (memory comp) q v is, h.numbers comp)) h)
 
-pub room_assigned : (b : Bool) (comp : ℕ) (place value : Ways) {memory after : Memory} {turns : ℕ} →
-    AssignedIf b comp place value memory after → HasRoom memory turns → HasRoom after turns
-room_assigned true comp place value done h =
-    room_stored comp done.put.at done.given done.put.stored.is done.put.stored.others h
-room_assigned false comp place value {turns} same h = subst (λ m. HasRoom m turns) (sym same) h
+pub numbers_assigned : (b : Bool) (comp : ℕ) (place value : Ways) {memory after : Memory} {turns : ℕ} →
+    AssignedIf b comp place value memory after → NumbersSuffice memory turns → NumbersSuffice after turns
+numbers_assigned true comp place value done h =
+    numbers_stored comp done.put.at done.given done.put.stored.is done.put.stored.others h
+numbers_assigned false comp place value {turns} same h = subst (λ m. NumbersSuffice m turns) (sym same) h
 
 -- the same, whether something was stored or not
-pub room_result : {A : Type 0} (result : Result A Cause) (comp : ℕ) (q v : Value) {memory after : Memory} {turns : ℕ} →
+pub numbers_result : {A : Type 0} (result : Result A Cause) (comp : ℕ) (q v : Value) {memory after : Memory} {turns : ℕ} →
     MatchResult result (λ _. store (memory comp) q v ≡ Ok (after comp)) (λ cause. store (memory comp) q v ≡ Err cause) →
     after ≡ with_blocks comp (after comp) memory → OnErr result (after ≡ memory) →
-    HasRoom memory turns → HasRoom after turns
-room_result (Ok x) comp q v is others same h = room_stored comp q v is others h
-room_result (Err cause) comp q v {turns} is others same h = subst (λ m. HasRoom m turns) (sym same) h
+    NumbersSuffice memory turns → NumbersSuffice after turns
+numbers_result (Ok x) comp q v is others same h = numbers_stored comp q v is others h
+numbers_result (Err cause) comp q v {turns} is others same h = subst (λ m. NumbersSuffice m turns) (sym same) h
 
 -- variables that end keep their numbers
-pub room_cleared : (comp first count : ℕ) {memory after : Memory} {turns : ℕ} →
+pub numbers_cleared : (comp first count : ℕ) {memory after : Memory} {turns : ℕ} →
     after ≡ with_blocks comp (cleared first count (memory comp)) memory →
-    HasRoom memory turns → HasRoom after turns
-room_cleared comp first count {memory} {turns} is h =
-    subst (λ m. HasRoom m turns) (sym is) (room_with comp (cleared first count (memory comp))
-    (omega (arith, length_cleared first count (memory comp), h.room comp)) h)
+    NumbersSuffice memory turns → NumbersSuffice after turns
+numbers_cleared comp first count {memory} {turns} is h =
+    subst (λ m. NumbersSuffice m turns) (sym is) (numbers_with comp (cleared first count (memory comp))
+    (omega (arith, length_cleared first count (memory comp), h.numbers comp)) h)
 
 module _ (comp : ℕ) (sizes : List ℕ) (args : List Value) {memory now : Memory}
     (is : now ≡ with_sizes comp sizes args memory) where
-  -- the variables of a call take a turn's room
-  pub room_begun : (turns : ℕ) → length sizes < most_nodes → HasRoom memory (suc turns) → HasRoom now turns
-  room_begun turns few h =
-      subst (λ m. HasRoom m turns) (sym is) (room_with comp (memory comp ++ blocks_for sizes args)
+  -- the variables of a call take a turn's numbers
+  pub numbers_begun : (turns : ℕ) → length sizes < most_nodes → NumbersSuffice memory (suc turns) → NumbersSuffice now turns
+  numbers_begun turns few h =
+      subst (λ m. NumbersSuffice m turns) (sym is) (numbers_with comp (memory comp ++ blocks_for sizes args)
       (omega (
         arith,
         few,
-        h.room comp,
+        h.numbers comp,
         length-append (memory comp) (blocks_for sizes args),
         length_blocks_for sizes args,
-      )) (room_fewer (omega arith) h))
+      )) (numbers_fewer (omega arith) h))
 
   -- while they begin, one more may
-  pub room_beginning : length sizes < most_nodes → HasRoom memory 1 → length (now comp) < 2 ^ 63
-  room_beginning few h =
+  pub numbers_beginning : length sizes < most_nodes → NumbersSuffice memory 1 → length (now comp) < 2 ^ 63
+  numbers_beginning few h =
       let there : now comp ≡ memory comp ++ blocks_for sizes args = (λ i. is i comp) ∙ at_itself comp memory in
       omega (
         arith,
         few,
-        h.room comp,
+        h.numbers comp,
         ap (length {A = Block}) there,
         length-append (memory comp) (blocks_for sizes args),
         length_blocks_for sizes args,
       )
 
--- an event takes no room
-pub room_emitted : (caller : Frame) (callee : Callee) (args : List Value) (crossing : Option ℕ)
+-- an event takes no numbers
+pub numbers_emitted : (caller : Frame) (callee : Callee) (args : List Value) (crossing : Option ℕ)
     (before : Seen) {after : Seen} →
-    after ≡ emitted_call caller callee args crossing before → HasRoom before.memory (suc before.turns) →
-    HasRoom after.memory (suc after.turns)
-room_emitted caller callee args None before is h = subst (λ seen. HasRoom seen.memory (suc seen.turns)) (sym is) h
-room_emitted caller callee args (Some index) before is h =
-    subst (λ seen. HasRoom seen.memory (suc seen.turns)) (sym is) h
+    after ≡ emitted_call caller callee args crossing before → NumbersSuffice before.memory (suc before.turns) →
+    NumbersSuffice after.memory (suc after.turns)
+numbers_emitted caller callee args None before is h = subst (λ seen. NumbersSuffice seen.memory (suc seen.turns)) (sym is) h
+numbers_emitted caller callee args (Some index) before is h =
+    subst (λ seen. NumbersSuffice seen.memory (suc seen.turns)) (sym is) h
