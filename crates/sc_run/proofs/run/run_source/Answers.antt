@@ -1,6 +1,6 @@
 use Rattle.sc_run.proofs.Common.{EntryAt, Main, Some, ap, arith, globals_of, map, subst, sym, ◌∙◌}
 use Rattle.sc_word.specs.Prelude.{word_of}
-use Rattle.sc_run.proofs.Counts.{numbers_at_first, sections_small}
+use Rattle.sc_run.proofs.Counts.{numbers_at_first, numbers_started, sections_small}
 use Rattle.sc_run.proofs.Whole.{gone_through, over_at_once, seen_at_first}
 use Rattle.sc_run.specs.Numbers.{HaveSmallGlobals}
 use Rattle.sc_run.proofs.run.run_source.Goals as goal
@@ -14,6 +14,18 @@ pub begin-requires-clause-numbers : goal.begin-requires-clause-numbers
 begin-requires-clause-numbers c =
     numbers_at_first c.args.program.now c.tree-tree.ensures.typed (omega arith) (c.in_ok-globals.ensures ∙
     ap globals_of (c.as_slice.ensures ∙ ap (λ p. p.sections) c.tree-tree.ensures.tree))
+
+pub invariant_of-machine : goal.invariant_of-machine
+invariant_of-machine c = record {
+  numbers = numbers_started c.tree-tree.ensures.typed c.tree-tree.ensures.tree c.as_slice.ensures
+      c.in_ok-globals.ensures (omega arith);
+}
+
+pub invariant_of-machine-2 : goal.invariant_of-machine-2
+invariant_of-machine-2 c = record {
+  numbers = numbers_started c.tree-tree.ensures.typed c.tree-tree.ensures.tree c.as_slice.ensures
+      c.in_ok-globals.ensures (omega arith);
+}
 
 pub returns-in-Stop : goal.returns-in-Stop
 returns-in-Stop c =
