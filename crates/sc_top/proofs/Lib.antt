@@ -2,7 +2,9 @@ pub mod Common
 pub mod Answers
 pub mod Asked
 pub mod Chains
+pub mod Committed
 pub mod Executed
+pub mod Judged
 pub mod Known
 pub mod Large
 pub mod Lengths
