@@ -41,8 +41,8 @@ def below(crate, deps, order):
 
 
 def same(one, other):
-    """Whether two folders hold the same files, what was built aside."""
-    found = filecmp.dircmp(one, other, ignore=["out"])
+    """Whether two folders hold the same files, edits and what was built aside."""
+    found = filecmp.dircmp(one, other, ignore=["out", "must-fail"])
     if found.left_only or found.right_only or found.diff_files or found.funny_files:
         return False
     return all(same(os.path.join(one, sub), os.path.join(other, sub)) for sub in found.common_dirs)
