@@ -3,10 +3,12 @@ pub mod Ahead
 pub mod Blank
 pub mod Calling
 pub mod Coming
+pub mod Counts
 pub mod Finding
 pub mod Going
 pub mod Invoking
 pub mod Looping
 pub mod Making
+pub mod Numbers
 pub mod Stating
 pub mod Whole

@@ -8,7 +8,7 @@ use Rattle.sc_run.proofs.Common.{follow, get_or, global_block, globals_of, if◌
 use Rattle.sc_run.proofs.Common.{length, length-append, length-map, length-take, map, map-append, member_zeros, refl}
 use Rattle.sc_run.proofs.Common.{repeated, seen_of, slice_get, subst, suc, sym, take, take-map, take_more, true}
 use Rattle.sc_run.proofs.Common.{with_blocks, with_words, zero, zeros_of, ℕ, ◌++◌, ◌+◌, ◌<◌, ◌==◌, ◌∙◌, ◌∷◌, ◌≡◌, ◌≤◌}
-use Rattle.std.proofs.Math.Dec.{eqb-suc-zero, eqb-zero-suc, eqb-suc-suc}
+use Rattle.std.proofs.Math.Dec.{eqb-suc-suc, eqb-suc-zero, eqb-zero-suc}
 use Rattle.sc_core.specs.declared.section.TypedMember.{TypedMember}
 use Rattle.sc_core.specs.declared.section.TypedFunction.{TypedFunction}
 use Rattle.sc_run.proofs.Coming.{usual}
@@ -213,6 +213,10 @@ global_more zeros gs i {g} comp memory {now} there item is gives =
     (memory comp ++ map _ _) memory ∙ ap (λ bs. with_blocks comp bs memory) (append_assoc (memory comp) (map _ _)
     (global_block zeros g ∷ []) ∙ ap (λ bs. memory comp ++ bs) more)
 
+past : (sections : List TypedSection) → first_blocks (slice_get sections (length sections)) ≡ []
+past [] = refl
+past (s ∷ sections) = past sections
+
 module _ (section : TypedSection) where
   abbrev its_blocks : Blocks
   its_blocks = first_blocks (Some section)
@@ -225,9 +229,12 @@ module _ (section : TypedSection) where
   at_next (s ∷ sections) (suc c) = at_next sections c ∙ ap
       (λ b. if b then its_blocks else first_blocks (slice_get sections c)) (sym (eqb-suc-suc c _))
 
-  past : (sections : List TypedSection) → first_blocks (slice_get sections (length sections)) ≡ []
-  past [] = refl
-  past (s ∷ sections) = past sections
+-- a compartment has no globals before its section
+pub none_yet : (sections : List TypedSection) {at comp : ℕ} {now : Memory} → at < length sections → comp ≡ at →
+    now ≡ globals_of (take at sections) → now comp ≡ []
+none_yet sections {at} {comp} there same is =
+    let short : length (take at sections) ≡ at = omega (arith, length-take at sections, there) in
+    (λ k. is k comp) ∙ ap (λ n. globals_of (take at sections) n) (same ∙ sym short) ∙ past (take at sections)
 
 -- the globals of one more section
 pub section_more : (sections : List TypedSection) {at comp : ℕ} {section : TypedSection} {now later : Memory} →
@@ -235,8 +242,7 @@ pub section_more : (sections : List TypedSection) {at comp : ℕ} {section : Typ
     later ≡ with_blocks comp (now comp ++ first_blocks (Some section)) now → later ≡ globals_of (take (at + 1) sections)
 section_more sections {at} {comp} {section} {now} there item same is gives =
     let short : length (take at sections) ≡ at = omega (arith, length-take at sections, there) in
-    let here : now comp ≡ [] = (λ k. is k comp) ∙ ap (λ n. globals_of (take at sections) n) (same ∙ sym short) ∙
-    past section (take at sections) in
+    let here : now comp ≡ [] = none_yet sections there same is in
     let next : globals_of (take at sections ++ section ∷ []) ≡ with_blocks at (first_blocks (Some section))
     (globals_of (take at sections)) = (λ k c. at_next section (take at sections) c k) ∙ ap
     (λ n. with_blocks n (first_blocks (Some section)) (globals_of (take at sections))) short in

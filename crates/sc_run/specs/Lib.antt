@@ -6,5 +6,6 @@ pub mod Entering
 pub mod Finding
 pub mod Resume
 pub mod Returning
+pub mod Numbers
 pub mod Seen
 pub mod Starting

@@ -3,7 +3,7 @@
 use Rattle.sc_run.specs.Common.{Event, Memory, State, given_back, memory_of}
 use Rattle.sc_word.specs.Prelude.{word_of}
 use Rattle.std.specs.Prelude.{ℕ, List, map}
-use Rattle.sc_run.specs.declared.machine.Machine.{Machine}
+use Rattle.sc_run.specs.declared.state.Machine.{Machine}
 
 pub record Seen : Type 0 where
   pub memory : Memory

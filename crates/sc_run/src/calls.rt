@@ -1,24 +1,27 @@
 //! Calls: from their arguments to the first statement of what is called, and back (C11 6.5.2.2).
 
+ghost use Rattle.sc_core.specs.Prelude.{most_params};
 ghost use Rattle.sc_run.specs.Prelude.{Advances, Begun, Steps, and_then, back_from, block_acts, bodies, body_acts};
 ghost use Rattle.sc_run.specs.Prelude.{c_arith, denotations, emitted_call, entry_from, function, function_of, kept_by};
-ghost use Rattle.sc_run.specs.Prelude.{result_goes, run_in, turn, word_in};
-ghost use Rattle.std.specs.Prelude.{◌≡◌, ◌<◌, ◌^◌, ◌++◌, [], ◌∷◌, IfOk, OnOk, Some, map, length};
+ghost use Rattle.sc_run.specs.Prelude.{memory_of, result_goes, run_in, turn, word_in};
+ghost use Rattle.sc_run.specs.Numbers.{HasFewVariables, NumbersSuffice};
+ghost use Rattle.std.specs.Prelude.{◌≡◌, ◌<◌, ◌≤◌, ◌^◌, ◌++◌, [], ◌∷◌, suc, IfOk, IfSome, OnOk, Some, map, length};
 
 use crate::leaves::return_to;
-use crate::machine::{Machine, emit_event, init_all, make_blocks, store_at, take_turn};
+use crate::machine::{emit_event, init_all, make_blocks, store_at, take_turn};
 use crate::plain::{done_first, exit_at_once};
+use crate::state::Machine;
 use crate::steps::go_on;
 use crate::work::{Callee, Frame, Leaving, Now, Run, Step, To, Work};
 use sc_base::OutOfMemory;
-use sc_core::{ProgramTree, Value};
+use sc_core::{Program, Value};
 use sc_event::{Args, Event};
 use sc_run_value::Scope;
 use std::alloc::Global;
 
 // What is done with the result of a call.
 pub fn hand_back<'a>(
-    program: &'a ProgramTree,
+    program: &'a Program,
     machine: &mut Machine,
     work: &Vec<Work<'a>>,
     frame: &Frame<'a>,
@@ -44,7 +47,7 @@ pub fn hand_back<'a>(
 
 // The initialisers and then the statements of a call that has begun.
 pub fn start<'a>(
-    program: &'a ProgramTree,
+    program: &'a Program,
     machine: &mut Machine,
     work: &Vec<Work<'a>>,
     frame: &Frame<'a>,
@@ -60,24 +63,18 @@ pub fn start<'a>(
 }
 
 // The variables of a call begin.
+#[tactic(auto, using(crate::proofs::Counts::beginning))]
 pub fn begin<'a>(
     machine: &mut Machine,
     callee: &Callee<'a>,
     args: &[Value],
 ) -> Result<Frame<'a>, OutOfMemory>
+    requires variables { HasFewVariables callee.now.structs.now callee.now.function.now }
+    requires numbers { NumbersSuffice (memory_of machine.old.blocks) (suc machine.old.turns) }
     ensures { IfOk result (λ frame. Begun callee.now args.now (kept_by machine.old) (kept_by machine.new) frame) }
 {
-    let first = match i64::try_from(machine.blocks.made(*callee.comp)) {
-        Ok(first) => first,
-        Err(_) => return Err(OutOfMemory),
-    };
-    let params = match u32::try_from(callee.function.params.len()) {
-        Ok(params) => params,
-        Err(_) => return Err(OutOfMemory),
-    };
-    if callee.function.locals.len() > u32::MAX as usize {
-        return Err(OutOfMemory);
-    }
+    let first = machine.blocks.made(*callee.comp) as i64;
+    let params = callee.function.params.len() as u32;
     make_blocks(&mut machine.blocks, callee, args)?;
     Ok(Frame {
         scope: Scope {
@@ -98,12 +95,13 @@ fn emit_call<'a>(
     args: &[Value],
     crossing: Option<u16>,
 ) -> Result<(), OutOfMemory>
+    requires { IfSome crossing (λ _. length args.now ≤ most_params) }
     ensures { OnOk result (kept_by machine.new ≡ emitted_call frame.now callee.now args.now crossing
         (kept_by machine.old)) }
 {
     match crossing {
         Some(index) => {
-            let words = words_of(machine.alloc, args)?;
+            let words = words_of(machine.alloc, args);
             emit_event(
                 machine,
                 Event::Call {
@@ -130,23 +128,21 @@ pub fn word_in(value: Value) -> u32
 }
 
 // The words that cross.
-fn words_of(alloc: Global, values: &[Value]) -> Result<Args, OutOfMemory>
-    ensures { IfOk result (λ words. words ≡ map word_in values.now) }
+fn words_of(alloc: Global, values: &[Value]) -> Args
+    requires { length values.now ≤ most_params }
+    ensures { result ≡ map word_in values.now }
 {
     let mut words = Args::new(alloc);
     for value in values {
-        match words.push(word_in(*value)) {
-            Some(()) => {}
-            None => return Err(OutOfMemory),
-        }
+        words.push(word_in(*value)).unwrap();
     }
-    Ok(words)
+    words
 }
 
 // The statements of a call that has begun. Where what is left of them leaves the function at once, the function that
 // called doesn't wait for it.
 fn run_body<'a>(
-    program: &'a ProgramTree,
+    program: &'a Program,
     run: &mut Run<'a, '_>,
     next: &Frame<'a>,
     to: To<'a>,
@@ -177,7 +173,7 @@ fn run_body<'a>(
 
 // The initialisers and the statements of a call that has begun.
 fn run_called<'a>(
-    program: &'a ProgramTree,
+    program: &'a Program,
     run: &mut Run<'a, '_>,
     next: &Frame<'a>,
     to: To<'a>,
@@ -197,14 +193,16 @@ fn run_called<'a>(
 
 // A function begins, once it is found: a turn, its event, its variables, and its first statement.
 pub fn enter<'a>(
-    program: &'a ProgramTree,
+    program: &'a Program,
     run: &mut Run<'a, '_>,
     callee: &Callee<'a>,
     args: &[Value],
     to: To<'a>,
     crossing: Option<u16>,
 ) -> Result<Step<'a>, OutOfMemory>
-    requires { function (denotations program.now) callee.now.comp.now callee.now.number ≡
+    requires variables { HasFewVariables callee.now.structs.now callee.now.function.now }
+    requires words { IfSome crossing (λ _. length args.now ≤ most_params) }
+    requires function { function (denotations program.now) callee.now.comp.now callee.now.number ≡
         Some (function_of c_arith program.now.interfaces.main callee.now.structs.now callee.now.function.now) }
     ensures { IfOk result (λ step. Advances program.now run.old
         (λ n s. and_then (and_then (turn s) (λ _ s. run_in (denotations program.now)

@@ -2,7 +2,9 @@
 
 ghost use Rattle.sc_run.specs.Prelude.{base_zeros, cell_with, global_block, globals_of, member_zeros, memory_of};
 ghost use Rattle.sc_run.specs.Prelude.{repeated, starred_zeros, struct_zeros, with_blocks, with_words, zeros_of};
-ghost use Rattle.std.specs.Prelude.{◌≡◌, ◌++◌, [], ◌∷◌, IfOk, OnOk, map, slice_get, slice_index_or};
+ghost use Rattle.sc_run.specs.Numbers.{HasSmallGlobals, HaveSmallGlobals};
+ghost use Rattle.std.specs.Prelude.{◌≡◌, ◌<◌, ◌^◌, ◌++◌, [], ◌∷◌, IfOk, OnOk, length, map, slice_get};
+ghost use Rattle.std.specs.Prelude.{slice_index_or};
 
 use sc_base::OutOfMemory;
 use sc_blocks::Blocks;
@@ -160,6 +162,7 @@ fn with_words(alloc: Global, words: &[u32], cells: &[Cell]) -> Result<Items<Cell
 }
 
 // The block of a global.
+#[tactic(auto, using(crate::proofs::Counts::words_many))]
 fn make_global(
     alloc: Global,
     blocks: &mut Blocks,
@@ -167,14 +170,13 @@ fn make_global(
     zeros: &[Items<Cell>],
     global: &TypedGlobal,
 ) -> Result<(), OutOfMemory>
+    requires few { length (memory_of blocks.old comp) < 2 ^ 63 }
+    requires small { length (zeros_of zeros.now global.now.ty) < 2 ^ 32 }
     ensures { OnOk result (memory_of blocks.new ≡ with_blocks comp
         (memory_of blocks.old comp ++ global_block zeros.now global.now ∷ []) (memory_of blocks.old)) }
 {
     let cells = zeros_of(alloc, zeros, global.ty)?;
     let cells = with_words(alloc, global.init.as_slice(), cells.as_slice())?;
-    if cells.len() > u32::MAX as usize {
-        return Err(OutOfMemory);
-    }
     blocks.new_block(comp, cells.as_slice())?;
     Ok(())
 }
@@ -186,6 +188,8 @@ fn make_globals(
     comp: CompId,
     section: &TypedSection,
 ) -> Result<(), OutOfMemory>
+    requires none { memory_of blocks.old comp ≡ [] }
+    requires globals { HasSmallGlobals section.now }
     ensures { OnOk result (memory_of blocks.new ≡ with_blocks comp
         (memory_of blocks.old comp ++ map (global_block (struct_zeros [] section.now.structs)) section.now.globals)
         (memory_of blocks.old)) }
@@ -199,22 +203,21 @@ fn make_globals(
 
 /// The blocks with which a run begins.
 pub fn first_blocks(alloc: Global, sections: &[TypedSection]) -> Result<Blocks, OutOfMemory>
+    requires { HaveSmallGlobals sections.now }
     ensures { IfOk result (λ blocks. memory_of blocks ≡ globals_of sections.now) }
 {
     let mut blocks = Blocks::new(alloc);
     for at in 0..sections.len() {
-        let comp = comp_at(at)?;
+        let comp = comp_at(at);
         make_globals(alloc, &mut blocks, comp, &sections[at])?;
     }
     Ok(blocks)
 }
 
-// The compartment of this number. A program has at most 32.
-fn comp_at(number: usize) -> Result<CompId, OutOfMemory>
-    ensures { IfOk result (λ comp. comp ≡ number) }
+// The compartment of this number.
+fn comp_at(number: usize) -> CompId
+    requires { number < 32 }
+    ensures { result ≡ number }
 {
-    match u8::try_from(number) {
-        Ok(number) => CompId::new(number).ok_or(OutOfMemory),
-        Err(_) => Err(OutOfMemory),
-    }
+    CompId::new(number as u8).unwrap()
 }

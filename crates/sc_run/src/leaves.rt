@@ -6,18 +6,19 @@ ghost use Rattle.sc_run.specs.Prelude.{left_by, loop_acts, main_name, next_acts,
 ghost use Rattle.std.specs.Prelude.{◌≡◌, ◌++◌, [], ◌∷◌, IfOk, OnOk, bytes_eq, ◌==◌, ◌&&◌};
 
 use crate::calls::{hand_back, word_in};
-use crate::machine::{Machine, emit_event};
+use crate::machine::emit_event;
 use crate::plain::is_next_done;
 use crate::simple::simple;
+use crate::state::Machine;
 use crate::steps::round;
 use crate::work::{Frame, Leaving, Loop, Now, Run, Step, To, Work};
 use sc_base::OutOfMemory;
-use sc_core::{Cause, ProgramTree, RunEnd, TypedStmt, Value};
+use sc_core::{Cause, Program, RunEnd, TypedStmt, Value};
 use sc_event::Event;
 
 // The statements that follow, where control reached the end of those before.
 fn leave_before_rest<'a>(
-    program: &'a ProgramTree,
+    program: &'a Program,
     run: &Run<'a, '_>,
     rest: &'a [TypedStmt],
     exit: Leaving,
@@ -35,7 +36,7 @@ fn leave_before_rest<'a>(
 
 // The loop, where control reached the end of its first part.
 fn leave_first<'a>(
-    program: &'a ProgramTree,
+    program: &'a Program,
     run: &mut Run<'a, '_>,
     whole: &Loop<'a>,
     exit: Leaving,
@@ -54,7 +55,7 @@ fn leave_first<'a>(
 
 // The next round, where control reached the end of what stands before it.
 fn leave_before_round<'a>(
-    program: &'a ProgramTree,
+    program: &'a Program,
     run: &mut Run<'a, '_>,
     whole: &Loop<'a>,
     exit: Leaving,
@@ -73,7 +74,7 @@ fn leave_before_round<'a>(
 
 // What stands between the body of a loop and its next round, while the loop waits.
 fn begin_next<'a>(
-    program: &'a ProgramTree,
+    program: &'a Program,
     run: &mut Run<'a, '_>,
     whole: &Loop<'a>,
 ) -> Result<Step<'a>, OutOfMemory>
@@ -92,7 +93,7 @@ fn begin_next<'a>(
 
 // What stands between the body of a loop and its next round, at once where it may be.
 fn next_part<'a>(
-    program: &'a ProgramTree,
+    program: &'a Program,
     run: &mut Run<'a, '_>,
     whole: &Loop<'a>,
 ) -> Result<Step<'a>, OutOfMemory>
@@ -108,7 +109,7 @@ fn next_part<'a>(
 
 // What follows the body of a loop.
 fn leave_body<'a>(
-    program: &'a ProgramTree,
+    program: &'a Program,
     run: &mut Run<'a, '_>,
     whole: &Loop<'a>,
     exit: Leaving,
@@ -126,16 +127,16 @@ fn leave_body<'a>(
     }
 }
 
-fn is_main(program: &ProgramTree, frame: &Frame) -> bool
+fn is_main(program: &Program, frame: &Frame) -> bool
     ensures { result ≡ (frame.now.scope.comp.now == program.now.interfaces.main &&
         bytes_eq frame.now.function.now.name main_name) }
 {
-    frame.scope.comp.number() == program.interfaces.main.number()
+    frame.scope.comp.number() == program.interfaces().main.number()
         && frame.function.name.as_bytes() == b"main".as_slice()
 }
 
 // How a call ends, once control left the body of its function.
-fn closed(program: &ProgramTree, frame: &Frame, exit: Leaving) -> Result<Option<Value>, RunEnd>
+fn closed(program: &Program, frame: &Frame, exit: Leaving) -> Result<Option<Value>, RunEnd>
     ensures { (s : State) → closes program.now frame.now (record { exit = exit_of exit; carried = tt }) s ≡
         ended_as result s }
 {
@@ -174,15 +175,10 @@ fn end_variables(machine: &mut Machine, frame: &Frame)
         .end(*frame.scope.comp, first, variable_count(frame));
 }
 
-fn word_crossing(
-    program: &ProgramTree,
-    frame: &Frame,
-    index: u16,
-    value: Option<Value>,
-) -> Option<u32>
+fn word_crossing(program: &Program, frame: &Frame, index: u16, value: Option<Value>) -> Option<u32>
     ensures { result ≡ word_crossing program.now frame.now index value }
 {
-    match program.interfaces.export(*frame.scope.comp, index) {
+    match program.interfaces().export(*frame.scope.comp, index) {
         None => None,
         Some(proto) => match proto.result {
             None => None,
@@ -196,7 +192,7 @@ fn word_crossing(
 
 // Emits a return from an export, and gives what the caller gets.
 fn emit_return(
-    program: &ProgramTree,
+    program: &Program,
     machine: &mut Machine,
     caller: &Frame,
     frame: &Frame,
@@ -229,7 +225,7 @@ fn emit_return(
 
 /// A call ends, and the function that called goes on.
 pub fn return_to<'a>(
-    program: &'a ProgramTree,
+    program: &'a Program,
     run: &mut Run<'a, '_>,
     caller: &Frame<'a>,
     to: To<'a>,
@@ -269,7 +265,7 @@ fn exit_word(value: Option<Value>) -> u32
 
 // The first call of `main` ends, and the run with it.
 fn finish<'a>(
-    program: &'a ProgramTree,
+    program: &'a Program,
     machine: &mut Machine,
     frame: &Frame<'a>,
     exit: Leaving,
@@ -280,7 +276,7 @@ fn finish<'a>(
     match closed(program, frame, exit) {
         Err(end) => Ok(Step::Stop(end)),
         Ok(value) => {
-            let comp = program.interfaces.main;
+            let comp = program.interfaces().main;
             let value = exit_word(value);
             emit_event(machine, Event::End { comp, value })?;
             Ok(Step::Stop(RunEnd::Ended))
@@ -290,7 +286,7 @@ fn finish<'a>(
 
 /// What follows when control leaves statements.
 pub fn leave<'a>(
-    program: &'a ProgramTree,
+    program: &'a Program,
     run: &mut Run<'a, '_>,
     exit: Leaving,
 ) -> Result<Step<'a>, OutOfMemory>

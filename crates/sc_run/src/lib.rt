@@ -9,6 +9,7 @@ mod machine;
 mod plain;
 mod run;
 mod simple;
+mod state;
 mod steps;
 mod work;
 

@@ -1,11 +1,13 @@
 //! The functions of a program, and those that calls lead to.
 
 ghost use Rattle.sc_run.specs.Prelude.{EntryAt, FoundAt, entry_in, is_word, place_named};
-ghost use Rattle.std.specs.Prelude.{◌≡◌, bytes_eq, Some, slice_get};
+ghost use Rattle.sc_run.specs.Numbers.{HasFewVariables};
+ghost use Rattle.sc_core.specs.WellTyped.{IsWellTyped};
+ghost use Rattle.std.specs.Prelude.{◌≡◌, bytes_eq, IfSome, Some, slice_get};
 ghost use Rattle.std.specs.List.{list_all};
 
 use crate::work::Callee;
-use sc_core::{ProgramTree, TypedFunction, TypedSection, Value};
+use sc_core::{Program, TypedFunction, TypedSection, Value};
 use sc_event::{CompId, Entry};
 
 /// Whether each value is a word, which may cross.
@@ -40,7 +42,7 @@ fn place_named(section: &TypedSection, name: &[u8]) -> Option<usize>
 
 // The place of the function that an entry leads to.
 fn entry_place(
-    program: &ProgramTree,
+    program: &Program,
     comp: CompId,
     section: &TypedSection,
     entry: Entry,
@@ -50,7 +52,7 @@ fn entry_place(
 {
     match entry {
         Entry::Main => place_named(section, b"main"),
-        Entry::Export(index) => match program.interfaces.export(comp, index) {
+        Entry::Export(index) => match program.interfaces().export(comp, index) {
             None => None,
             Some(proto) => place_named(section, proto.name.as_bytes()),
         },
@@ -58,14 +60,11 @@ fn entry_place(
 }
 
 /// The function that an entry of a compartment leads to.
-pub fn entry_callee<'a>(
-    program: &'a ProgramTree,
-    comp: &'a CompId,
-    entry: Entry,
-) -> Option<Callee<'a>>
-    ensures { EntryAt program.now comp.now entry result }
+pub fn entry_callee<'a>(program: &'a Program, comp: &'a CompId, entry: Entry) -> Option<Callee<'a>>
+    ensures found { EntryAt program.now comp.now entry result }
+    ensures variables { IfSome result (λ callee. HasFewVariables callee.structs.now callee.function.now) }
 {
-    match program.sections.get(comp.number() as usize) {
+    match program.tree().sections.get(comp.number() as usize) {
         None => None,
         Some(section) => match entry_place(program, *comp, section, entry) {
             None => None,
@@ -75,27 +74,26 @@ pub fn entry_callee<'a>(
 }
 
 /// The function of a compartment at this place.
-pub fn callee_at<'a>(
-    program: &'a ProgramTree,
-    comp: &'a CompId,
-    number: usize,
-) -> Option<Callee<'a>>
-    ensures { FoundAt program.now comp.now number result }
+pub fn callee_at<'a>(program: &'a Program, comp: &'a CompId, number: usize) -> Option<Callee<'a>>
+    ensures found { FoundAt program.now comp.now number result }
+    ensures variables { IfSome result (λ callee. HasFewVariables callee.structs.now callee.function.now) }
 {
-    match program.sections.get(comp.number() as usize) {
+    match program.tree().sections.get(comp.number() as usize) {
         None => None,
         Some(section) => callee_in(program, comp, number, section),
     }
 }
 
 fn callee_in<'a>(
-    program: &'a ProgramTree,
+    program: &'a Program,
     comp: &'a CompId,
     number: usize,
     section: &'a TypedSection,
 ) -> Option<Callee<'a>>
-    requires { slice_get program.now.sections comp.now ≡ Some section.now }
-    ensures { FoundAt program.now comp.now number result }
+    requires typed { IsWellTyped program.now }
+    requires section { slice_get program.now.sections comp.now ≡ Some section.now }
+    ensures found { FoundAt program.now comp.now number result }
+    ensures variables { IfSome result (λ callee. HasFewVariables callee.structs.now callee.function.now) }
 {
     match section.functions.get(number) {
         None => None,

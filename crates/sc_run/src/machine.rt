@@ -1,27 +1,19 @@
-//! The state of a run.
+//! What changes the state of a run.
 
 ghost use Rattle.sc_run.specs.Prelude.{Comes, Next, all_do, assign, block_for, c_arith, evaluated, here_of, init_does};
 ghost use Rattle.sc_run.specs.Prelude.{inits_do, kept_by, memory_of, store_at, stored, turn, way_in, with_blocks};
 ghost use Rattle.sc_run.specs.Prelude.{with_exit, with_variables};
-ghost use Rattle.std.specs.Prelude.{◌≡◌, ◌<◌, ◌^◌, ◌++◌, [], ◌∷◌, suc, length, OnOk, slice_get};
+ghost use Rattle.sc_run.specs.Numbers.{HasFewVariables, NumbersSuffice};
+ghost use Rattle.std.specs.Prelude.{◌≡◌, ◌<◌, ◌^◌, ◌++◌, ℕ, [], ◌∷◌, suc, length, OnErr, OnOk, slice_get};
 ghost use Rattle.sc_core.specs.declared.value.Want.TheVariants as want;
 
+use crate::state::Machine;
 use crate::work::{Callee, Frame};
 use sc_base::OutOfMemory;
 use sc_blocks::Blocks;
 use sc_core::{Cause, RunEnd, TypedExpr, TypedLocal, Value, VarRef, Want, cells_of};
-use sc_event::{CompId, Event, Trace};
-use std::alloc::{AllocError, Global};
-
-/// What a run has come to: its variables, its events, and the turns and inputs that are left.
-#[derive(Drop)]
-pub struct Machine<'a> {
-    pub alloc: Global,
-    pub blocks: Blocks,
-    pub trace: Trace,
-    pub turns: u32,
-    pub inputs: &'a [i32],
-}
+use sc_event::{CompId, Event};
+use std::alloc::AllocError;
 
 /// Blame of the compartment that runs.
 pub fn blamed(frame: &Frame, cause: Cause, line: u32) -> RunEnd
@@ -106,6 +98,7 @@ pub fn assign(
 pub fn take_turn(machine: &mut Machine) -> Result<(), RunEnd>
     ensures comes { Comes (kept_by machine.old) (kept_by machine.new) result turn }
     ensures taken { OnOk result (machine.old.turns ≡ suc machine.new.turns) }
+    ensures numbers { OnOk result (NumbersSuffice (memory_of machine.new.blocks) (suc machine.new.turns)) }
 {
     if machine.turns == 0 {
         return Err(RunEnd::TurnsOut);
@@ -121,8 +114,11 @@ fn make_block(
     count: u64,
     arg: Option<Value>,
 ) -> Result<(), OutOfMemory>
-    ensures { OnOk result (memory_of blocks.new ≡ with_blocks comp
+    requires few { length (memory_of blocks.old comp) < 2 ^ 63 }
+    requires small { count < 2 ^ 32 }
+    ensures made { OnOk result (memory_of blocks.new ≡ with_blocks comp
         (memory_of blocks.old comp ++ block_for count arg ∷ []) (memory_of blocks.old)) }
+    ensures err { OnErr result (memory_of blocks.new ≡ memory_of blocks.old) }
 {
     match arg {
         Some(value) => {
@@ -130,13 +126,10 @@ fn make_block(
             blocks.new_block(comp, &cells)?;
             Ok(())
         }
-        None => match u32::try_from(count) {
-            Ok(count) => {
-                blocks.new_blank(comp, count)?;
-                Ok(())
-            }
-            Err(_) => Err(OutOfMemory),
-        },
+        None => {
+            blocks.new_blank(comp, count as u32)?;
+            Ok(())
+        }
     }
 }
 
@@ -151,9 +144,10 @@ fn value_at(values: &[Value], at: usize) -> Option<Value>
 
 /// The blocks of the variables of a function: parameters hold the arguments.
 pub fn make_blocks(blocks: &mut Blocks, callee: &Callee, args: &[Value]) -> Result<(), OutOfMemory>
-    requires params { length callee.now.function.now.params < 2 ^ 32 }
-    requires locals { length callee.now.function.now.locals < 2 ^ 32 }
-    ensures { OnOk result (memory_of blocks.new ≡ with_variables callee.now args.now (memory_of blocks.old)) }
+    requires variables { HasFewVariables callee.now.structs.now callee.now.function.now }
+    requires numbers { NumbersSuffice (memory_of blocks.old) 1 }
+    ensures made { OnOk result (memory_of blocks.new ≡ with_variables callee.now args.now (memory_of blocks.old)) }
+    ensures numbers { (turns : ℕ) → NumbersSuffice (memory_of blocks.old) (suc turns) → NumbersSuffice (memory_of blocks.new) turns }
 {
     let params = callee.function.params.as_slice();
     let locals = callee.function.locals.as_slice();

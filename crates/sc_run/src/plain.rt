@@ -5,11 +5,9 @@ ghost use Rattle.sc_run.specs.Prelude.{here_of, in_body, in_round, kept_by, leav
 ghost use Rattle.sc_run.specs.Prelude.{simple_does, stmt_acts, way_in};
 ghost use Rattle.std.specs.Prelude.{◌≡◌, ◌≤◌, ◌∷◌, IfSome, List, MatchOption, drop, length, suc, true};
 
-use crate::machine::Machine;
+use crate::state::Machine;
 use crate::work::{Frame, Leaving, Loop, Position};
-use sc_core::{
-    ProgramTree, TypedExpr, TypedSimple, TypedSimpleKind, TypedStmt, TypedStmtKind, Want,
-};
+use sc_core::{Program, TypedExpr, TypedSimple, TypedSimpleKind, TypedStmt, TypedStmtKind, Want};
 use sc_run_value::is_true;
 
 // An assignment that meets no cause of blame, or nothing.
@@ -30,7 +28,7 @@ fn is_assigned(
 
 // A statement that makes no call and doesn't leave, or nothing.
 #[inline(always)]
-fn is_done(program: &ProgramTree, machine: &mut Machine, frame: &Frame, stmt: &TypedStmt) -> bool
+fn is_done(program: &Program, machine: &mut Machine, frame: &Frame, stmt: &TypedStmt) -> bool
     ensures { PassesIf result (kept_by machine.old) (kept_by machine.new)
         (λ n. stmt_acts program.now n frame.now stmt.now tt) ended_so }
 {
@@ -45,7 +43,7 @@ fn is_done(program: &ProgramTree, machine: &mut Machine, frame: &Frame, stmt: &T
 
 // How many of the first statements were done at once, of those that choose nothing.
 fn done_plainly(
-    program: &ProgramTree,
+    program: &Program,
     machine: &mut Machine,
     frame: &Frame,
     stmts: &[TypedStmt],
@@ -65,7 +63,7 @@ fn done_plainly(
 
 // The statements that a condition chooses, where it is known.
 fn chosen<'a>(
-    program: &'a ProgramTree,
+    program: &'a Program,
     machine: &Machine,
     frame: &Frame,
     stmt: &'a TypedStmt,
@@ -94,7 +92,7 @@ fn chosen<'a>(
 // What is left of a statement once what of it is done at once was done. None where nothing is.
 #[inline(always)]
 fn left_of<'a>(
-    program: &'a ProgramTree,
+    program: &'a Program,
     machine: &mut Machine,
     frame: &Frame,
     stmt: &'a TypedStmt,
@@ -113,7 +111,7 @@ fn left_of<'a>(
 
 /// Does at once what it can of statements: where that stopped, if not after the last one.
 pub fn done_first<'a>(
-    program: &'a ProgramTree,
+    program: &'a Program,
     machine: &mut Machine,
     frame: &Frame,
     stmts: &'a [TypedStmt],
@@ -145,12 +143,7 @@ pub fn done_first<'a>(
 
 // How control leaves a function by a statement, where that is known.
 #[inline(always)]
-fn exit_by(
-    program: &ProgramTree,
-    machine: &Machine,
-    frame: &Frame,
-    stmt: &TypedStmt,
-) -> Option<Leaving>
+fn exit_by(program: &Program, machine: &Machine, frame: &Frame, stmt: &TypedStmt) -> Option<Leaving>
     ensures { IfSome result (λ exit. (rest : List TypedStmt) → Passes (kept_by machine.now) (kept_by machine.now)
         (λ n s. block_acts program.now n frame.now (stmt.now ∷ rest) tt s) (λ n s. leave (exit_of exit) tt s)) }
 {
@@ -168,7 +161,7 @@ fn exit_by(
 
 /// How control leaves the last statements of a function, where that is known at once.
 pub fn exit_at_once(
-    program: &ProgramTree,
+    program: &Program,
     machine: &Machine,
     frame: &Frame,
     stmts: &[TypedStmt],
@@ -184,12 +177,7 @@ pub fn exit_at_once(
 
 // A part of a `for` that makes no call, or nothing.
 #[inline(always)]
-fn is_part_done(
-    program: &ProgramTree,
-    machine: &mut Machine,
-    frame: &Frame,
-    part: &TypedSimple,
-) -> bool
+fn is_part_done(program: &Program, machine: &mut Machine, frame: &Frame, part: &TypedSimple) -> bool
     ensures { PassesIf result (kept_by machine.old) (kept_by machine.new)
         (λ n. simple_does c_arith frame.now.scope.structs.now (here_of frame.now.scope) frame.now.scope.params
         (calls_in program.now n) part.now.kind part.now.line tt) ended_so }
@@ -203,12 +191,7 @@ fn is_part_done(
 }
 
 /// What comes before the next round of a loop, or nothing.
-pub fn is_next_done(
-    program: &ProgramTree,
-    machine: &mut Machine,
-    frame: &Frame,
-    whole: &Loop,
-) -> bool
+pub fn is_next_done(program: &Program, machine: &mut Machine, frame: &Frame, whole: &Loop) -> bool
     ensures { PassesIf result (kept_by machine.old) (kept_by machine.new)
         (λ n. next_acts program.now n frame.now whole.now tt) ended_so }
 {
@@ -220,7 +203,7 @@ pub fn is_next_done(
 
 // The test of a loop where it holds, and a turn; or nothing.
 #[inline(always)]
-fn is_begun(program: &ProgramTree, machine: &mut Machine, frame: &Frame, whole: &Loop) -> bool
+fn is_begun(program: &Program, machine: &mut Machine, frame: &Frame, whole: &Loop) -> bool
     ensures passes { PassesIf result (kept_by machine.old) (kept_by machine.new)
         (λ n. loop_acts program.now n frame.now whole.now tt)
         (in_body program.now frame.now whole.now whole.now.body.now) }
@@ -239,7 +222,7 @@ fn is_begun(program: &ProgramTree, machine: &mut Machine, frame: &Frame, whole: 
 /// As many rounds of a loop as are done at once: where that stopped in the body of a round, or none where the loop
 /// stands before a round.
 pub fn done_rounds<'a>(
-    program: &'a ProgramTree,
+    program: &'a Program,
     machine: &mut Machine,
     frame: &Frame,
     whole: &Loop<'a>,

@@ -8,17 +8,17 @@ use crate::calls::{begin, start};
 use crate::globals::first_blocks;
 use crate::leaves::leave;
 use crate::lookups::entry_callee;
-use crate::machine::Machine;
+use crate::state::Machine;
 use crate::steps::run_list;
 use crate::work::{Now, Run, Step};
 use sc_base::OutOfMemory;
-use sc_core::{Program, ProgramTree, RunEnd, SourceRun};
+use sc_core::{Program, RunEnd, SourceRun};
 use sc_event::{Entry, Trace};
 use std::alloc::Global;
 
 // One step of a run.
 fn proceed<'a>(
-    program: &'a ProgramTree,
+    program: &'a Program,
     run: &mut Run<'a, '_>,
     now: Now<'a>,
 ) -> Result<Step<'a>, OutOfMemory>
@@ -63,7 +63,7 @@ fn behaviour(machine: Machine, end: RunEnd, events: u32) -> SourceRun
 
 // Steps from the first statements of `main` to the end of the run, or to `events` events.
 fn run_on<'a>(
-    program: &'a ProgramTree,
+    program: &'a Program,
     run: &mut Run<'a, '_>,
     first: Now<'a>,
     events: u32,
@@ -87,6 +87,7 @@ fn run_on<'a>(
 }
 
 /// Runs a program as its meaning says, with these inputs, up to `turns` turns and `events` events.
+#[tactic(auto, using(crate::proofs::Counts::numbers_started))]
 pub fn run_source(
     alloc: Global,
     program: &Program,
@@ -105,12 +106,12 @@ pub fn run_source(
         turns,
         inputs,
     };
-    let Some(callee) = entry_callee(tree, &tree.interfaces.main, Entry::Main) else {
+    let Some(callee) = entry_callee(program, &tree.interfaces.main, Entry::Main) else {
         return Ok(behaviour(machine, RunEnd::TurnsOut, events));
     };
     let frame = begin(&mut machine, &callee, &[])?;
     let work = Vec::new(alloc);
-    match start(tree, &mut machine, &work, &frame) {
+    match start(program, &mut machine, &work, &frame) {
         Step::Stop(end) => Ok(behaviour(machine, end, events)),
         Step::Go(now) => {
             let mut run = Run {
@@ -118,7 +119,7 @@ pub fn run_source(
                 work,
                 frame,
             };
-            let end = run_on(tree, &mut run, now, events)?;
+            let end = run_on(program, &mut run, now, events)?;
             let Run { machine, .. } = run;
             Ok(behaviour(machine, end, events))
         }

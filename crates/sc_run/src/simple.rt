@@ -1,23 +1,24 @@
 //! Calls in statements, and the statements that may stand in the head of a `for`.
 
+ghost use Rattle.sc_core.specs.Prelude.{most_params};
 ghost use Rattle.sc_run.specs.Prelude.{Advances, Comes, Steps, and_then, assign, c_arith, call, calls_in, computed};
 ghost use Rattle.sc_run.specs.Prelude.{denotations, first_word, here_of, is_word, kept_by, may_call, next_input};
 ghost use Rattle.sc_run.specs.Prelude.{result_goes, simple_does, values, way_in};
 ghost use Rattle.sc_event.specs.Prelude.{imports, is_function, takes};
-ghost use Rattle.std.specs.Prelude.{◌≡◌, ◌&&◌, IfOk, length, map, drop};
+ghost use Rattle.std.specs.Prelude.{◌≡◌, ◌≤◌, ◌&&◌, IfOk, IsTrue, length, map, drop};
 ghost use Rattle.std.specs.List.{list_all};
 ghost use Rattle.sc_core.specs.declared.cause.Cause.TheVariants.{BadType};
 
 use crate::calls::{enter, hand_back, word_in};
 use crate::lookups::{are_words, callee_at, entry_callee};
-use crate::machine::{Machine, assign, blamed, emit_event};
+use crate::machine::{assign, blamed, emit_event};
+use crate::state::Machine;
 use crate::work::{Frame, Leaving, Now, Run, Step, To, Work};
 use sc_base::OutOfMemory;
 use sc_core::{
-    CallTarget, Cause, ProgramTree, RunEnd, TypedCall, TypedExpr, TypedSimple, TypedSimpleKind,
-    Value,
+    CallTarget, Cause, Program, RunEnd, TypedCall, TypedExpr, TypedSimple, TypedSimpleKind, Value,
 };
-use sc_event::{CompId, Entry, Event, Interfaces};
+use sc_event::{CompId, Entry, Event};
 use sc_run_value::Arguments;
 use std::alloc::AllocError;
 
@@ -47,7 +48,7 @@ fn refusal(frame: &Frame) -> RunEnd
 
 // A call inside the compartment.
 fn call_own<'a>(
-    program: &'a ProgramTree,
+    program: &'a Program,
     run: &mut Run<'a, '_>,
     number: usize,
     args: &[Value],
@@ -64,18 +65,30 @@ fn call_own<'a>(
     }
 }
 
-// Whether a call across may be made, but for its function.
-fn may_cross(interfaces: &Interfaces, from: CompId, to: CompId, index: u16, args: &[Value]) -> bool
-    ensures { result ≡ (imports interfaces.now from (is_function to index) &&
-        (takes interfaces.now to index (length args.now) && list_all is_word args.now)) }
+// Whether an export takes this many arguments, which are at most 8.
+fn takes(program: &Program, to: CompId, index: u16, count: usize) -> bool
+    ensures allowed { result ≡ takes program.now.interfaces to index count }
+    ensures few { IsTrue result → count ≤ most_params }
 {
-    interfaces.imports_function(from, to, index)
-        && (interfaces.takes(to, index, args.len()) && are_words(args))
+    match program.interfaces().export(to, index) {
+        None => false,
+        Some(export) => export.params.as_slice().len() == count,
+    }
+}
+
+// Whether a call across may be made, but for its function.
+fn may_cross(program: &Program, from: CompId, to: CompId, index: u16, args: &[Value]) -> bool
+    ensures allowed { result ≡ (imports program.now.interfaces from (is_function to index) &&
+        (takes program.now.interfaces to index (length args.now) && list_all is_word args.now)) }
+    ensures few { IsTrue result → length args.now ≤ most_params }
+{
+    program.interfaces().imports_function(from, to, index)
+        && (takes(program, to, index, args.len()) && are_words(args))
 }
 
 // A call of an export of another compartment. It is looked up by its name, and is an event, of which a run has few.
 fn call_cross<'a>(
-    program: &'a ProgramTree,
+    program: &'a Program,
     run: &mut Run<'a, '_>,
     comp: &'a CompId,
     index: u16,
@@ -86,13 +99,7 @@ fn call_cross<'a>(
         (λ n s. and_then (calls_in program.now n run.old.frame.scope.comp.now
         (CallTarget.Cross comp.now index) args.now s) (result_goes program.now run.old.frame to.entry)) step run.new) }
 {
-    if !may_cross(
-        &program.interfaces,
-        *run.frame.scope.comp,
-        *comp,
-        index,
-        args,
-    ) {
+    if !may_cross(program, *run.frame.scope.comp, *comp, index, args) {
         return Ok(Step::Stop(refusal(&run.frame)));
     }
     match entry_callee(program, comp, Entry::Export(index)) {
@@ -126,7 +133,7 @@ fn first_word(args: &[Value]) -> u32
 
 // A call of `input`.
 fn call_input<'a>(
-    program: &'a ProgramTree,
+    program: &'a Program,
     machine: &mut Machine,
     work: &Vec<Work<'a>>,
     frame: &Frame<'a>,
@@ -138,7 +145,7 @@ fn call_input<'a>(
         (result_goes program.now frame.now to.entry)) step (kept_by machine.new) work.now.items frame.now) }
 {
     let comp = *frame.scope.comp;
-    if !program.interfaces.imports_input(comp) {
+    if !program.interfaces().imports_input(comp) {
         return Ok(Step::Stop(refusal(frame)));
     }
     let value = next_input(machine);
@@ -146,15 +153,15 @@ fn call_input<'a>(
     Ok(hand_back(program, machine, work, frame, to, Some(Value::Word(value))))
 }
 
-fn may_output(program: &ProgramTree, comp: CompId, args: &[Value]) -> bool
+fn may_output(program: &Program, comp: CompId, args: &[Value]) -> bool
     ensures { result ≡ may_call (denotations program.now) comp CallTarget.Output args.now }
 {
-    program.interfaces.imports_output(comp) && (args.len() == 1 && are_words(args))
+    program.interfaces().imports_output(comp) && (args.len() == 1 && are_words(args))
 }
 
 // A call of `output`.
 fn call_output<'a>(
-    program: &'a ProgramTree,
+    program: &'a Program,
     machine: &mut Machine,
     work: &Vec<Work<'a>>,
     frame: &Frame<'a>,
@@ -176,7 +183,7 @@ fn call_output<'a>(
 
 // A call, once its arguments have their values.
 fn called<'a>(
-    program: &'a ProgramTree,
+    program: &'a Program,
     run: &mut Run<'a, '_>,
     target: &'a CallTarget,
     args: &[Value],
@@ -203,7 +210,7 @@ fn called<'a>(
 
 /// A call: its arguments, and then what is called.
 pub fn call<'a>(
-    program: &'a ProgramTree,
+    program: &'a Program,
     run: &mut Run<'a, '_>,
     made: &'a TypedCall,
     to: To<'a>,
@@ -222,7 +229,7 @@ pub fn call<'a>(
 
 // An assignment.
 pub fn assigned<'a>(
-    program: &'a ProgramTree,
+    program: &'a Program,
     run: &mut Run<'a, '_>,
     place: &TypedExpr,
     value: &TypedExpr,
@@ -239,7 +246,7 @@ pub fn assigned<'a>(
 
 /// A statement in the head of a `for`.
 pub fn simple<'a>(
-    program: &'a ProgramTree,
+    program: &'a Program,
     run: &mut Run<'a, '_>,
     part: &'a TypedSimple,
 ) -> Result<Step<'a>, OutOfMemory>

@@ -11,12 +11,12 @@ use crate::plain::{done_first, done_rounds};
 use crate::simple::{assigned, call, simple};
 use crate::work::{Leaving, Loop, Now, Position, Run, Step, To, Work};
 use sc_base::OutOfMemory;
-use sc_core::{ProgramTree, TypedExpr, TypedSimple, TypedStmt, TypedStmtKind, Want};
+use sc_core::{Program, TypedExpr, TypedSimple, TypedStmt, TypedStmtKind, Want};
 use sc_run_value::is_true;
 
 // The first statements where the condition holds, else the second.
 fn branch<'a>(
-    program: &'a ProgramTree,
+    program: &'a Program,
     run: &Run<'a, '_>,
     cond: &TypedExpr,
     line: u32,
@@ -42,7 +42,7 @@ fn branch<'a>(
 
 // A round of a loop: its test, a turn, and its body.
 fn begin_round<'a>(
-    program: &'a ProgramTree,
+    program: &'a Program,
     run: &mut Run<'a, '_>,
     whole: &Loop<'a>,
 ) -> Result<Step<'a>, OutOfMemory>
@@ -74,7 +74,7 @@ fn begin_round<'a>(
 
 /// Statements from a place in them. Those after a part wait for it, if there are any.
 pub fn go_on<'a>(
-    program: &'a ProgramTree,
+    program: &'a Program,
     run: &mut Run<'a, '_>,
     stmts: &'a [TypedStmt],
     at: Position<'a>,
@@ -96,7 +96,7 @@ pub fn go_on<'a>(
 
 /// A loop from here.
 pub fn round<'a>(
-    program: &'a ProgramTree,
+    program: &'a Program,
     run: &mut Run<'a, '_>,
     whole: &Loop<'a>,
 ) -> Result<Step<'a>, OutOfMemory>
@@ -114,7 +114,7 @@ pub fn round<'a>(
 
 // A `while`.
 fn while_loop<'a>(
-    program: &'a ProgramTree,
+    program: &'a Program,
     run: &mut Run<'a, '_>,
     cond: &'a TypedExpr,
     body: &'a [TypedStmt],
@@ -135,7 +135,7 @@ fn while_loop<'a>(
 
 // The first part of a `for`, and then the loop.
 fn first_part<'a>(
-    program: &'a ProgramTree,
+    program: &'a Program,
     run: &mut Run<'a, '_>,
     first: &'a Option<TypedSimple>,
     whole: &Loop<'a>,
@@ -155,7 +155,7 @@ fn first_part<'a>(
 
 // A value to return.
 fn returned_value<'a>(
-    program: &'a ProgramTree,
+    program: &'a Program,
     run: &Run<'a, '_>,
     value: &TypedExpr,
     line: u32,
@@ -172,7 +172,7 @@ fn returned_value<'a>(
 
 // A statement.
 fn statement<'a>(
-    program: &'a ProgramTree,
+    program: &'a Program,
     run: &mut Run<'a, '_>,
     stmt: &'a TypedStmt,
 ) -> Result<Step<'a>, OutOfMemory>
@@ -234,7 +234,7 @@ fn statement<'a>(
 
 // The first of these statements, or what follows them. Nothing waits after the last one.
 fn run_first<'a>(
-    program: &'a ProgramTree,
+    program: &'a Program,
     run: &mut Run<'a, '_>,
     stmts: &'a [TypedStmt],
 ) -> Result<Step<'a>, OutOfMemory>
@@ -255,7 +255,7 @@ fn run_first<'a>(
 
 /// The first of these statements that isn't done at once, or what follows them.
 pub fn run_list<'a>(
-    program: &'a ProgramTree,
+    program: &'a Program,
     run: &mut Run<'a, '_>,
     stmts: &'a [TypedStmt],
 ) -> Result<Step<'a>, OutOfMemory>

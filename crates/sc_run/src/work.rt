@@ -1,6 +1,6 @@
 //! What a run does at the moment, and what waits.
 
-use crate::machine::Machine;
+use crate::state::Machine;
 use sc_core::{RunEnd, TypedExpr, TypedFunction, TypedSimple, TypedStmt, TypedStruct, Value};
 use sc_event::CompId;
 use sc_run_value::Scope;

@@ -1,6 +1,18 @@
 use Rattle.sc_run.proofs.Common.{[], ap, global_block, memory_of, struct_zeros, subst, with_blocks, ◌++◌, ◌∙◌, ◌∷◌, ◌≡◌}
+use Rattle.sc_run.proofs.Counts.{few_globals, small_global}
 use Rattle.sc_run.proofs.Making.{global_more}
 use Rattle.sc_run.proofs.globals.make_globals.Goals as goal
+
+pub make_global-requires-clause-few : goal.make_global-requires-clause-few
+make_global-requires-clause-few c = few_globals c.requires.globals c.args.comp c.loop-global.global-index
+    (memory_of c.args.blocks.now) c.requires.none c.loop-global.invariant
+
+pub make_global-requires-clause-small : goal.make_global-requires-clause-small
+make_global-requires-clause-small c =
+    small_global c.requires.globals c.loop-global.global-index {g = c.global-item.result}
+    (rw c.as_slice-global-items.ensures at c.loop-global-test.true)
+    (rw c.as_slice-global-items.ensures at c.global-item.is)
+    (c.as_slice-in-loop-global.ensures.value ∙ c.in_ok-zeros.ensures ∙ ap (struct_zeros []) c.as_slice.ensures)
 
 pub loop-global-preserved : goal.loop-global-preserved
 loop-global-preserved c =

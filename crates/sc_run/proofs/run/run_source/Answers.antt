@@ -1,23 +1,38 @@
-use Rattle.sc_run.proofs.Common.{ap, globals_of, map, meaning, ◌∙◌}
+use Rattle.sc_run.proofs.Common.{EntryAt, Main, Some, ap, arith, globals_of, map, subst, sym, ◌∙◌}
 use Rattle.sc_word.specs.Prelude.{word_of}
-use Rattle.sc_run.proofs.Whole.{seen_at_first, over_at_once, gone_through}
+use Rattle.sc_run.proofs.Counts.{numbers_at_first, sections_small}
+use Rattle.sc_run.proofs.Whole.{gone_through, over_at_once, seen_at_first}
+use Rattle.sc_run.specs.Numbers.{HaveSmallGlobals}
 use Rattle.sc_run.proofs.run.run_source.Goals as goal
+
+pub first_blocks-requires : goal.first_blocks-requires
+first_blocks-requires c =
+    subst HaveSmallGlobals (sym (c.as_slice.ensures ∙ ap (λ p. p.sections) c.tree-tree.ensures.tree))
+    (sections_small c.args.program.now c.tree-tree.ensures.typed)
+
+pub begin-requires-clause-numbers : goal.begin-requires-clause-numbers
+begin-requires-clause-numbers c =
+    numbers_at_first c.args.program.now c.tree-tree.ensures.typed (omega arith) (c.in_ok-globals.ensures ∙
+    ap globals_of (c.as_slice.ensures ∙ ap (λ p. p.sections) c.tree-tree.ensures.tree))
 
 pub returns-in-Stop : goal.returns-in-Stop
 returns-in-Stop c =
-    let tree = c.tree-tree.result.now in
+    let program = c.args.program.now in
     let inputs = map word_of c.args.inputs.now in
-    over_at_once tree inputs c.args.turns c.args.events
-    (seen_at_first tree inputs c.args.turns c.args.events (c.in_ok-globals.ensures ∙ ap globals_of c.as_slice.ensures)
-    c.new.ensures) c.in-Some.ensures c.in_ok-frame.ensures (rw c.new-work.ensures.items at c.start.ensures) c.in-Stop.is
-    c.behaviour-in-Stop.ensures ∙ ap (λ p. meaning p inputs c.args.turns c.args.events) c.tree-tree.ensures.tree
+    over_at_once program inputs c.args.turns c.args.events
+    (seen_at_first program inputs c.args.turns c.args.events (c.in_ok-globals.ensures ∙
+    ap globals_of (c.as_slice.ensures ∙ ap (λ p. p.sections) c.tree-tree.ensures.tree)) c.new.ensures)
+    (subst (λ p. EntryAt program p.interfaces.main Main (Some c.in-Some.callee)) c.tree-tree.ensures.tree
+    c.in-Some.ensures.found) c.in_ok-frame.ensures (rw c.new-work.ensures.items at c.start.ensures) c.in-Stop.is
+    c.behaviour-in-Stop.ensures
 
 pub returns-in_ok-end-in-Go : goal.returns-in_ok-end-in-Go
 returns-in_ok-end-in-Go c =
-    let tree = c.tree-tree.result.now in
+    let program = c.args.program.now in
     let inputs = map word_of c.args.inputs.now in
-    gone_through tree inputs c.args.turns c.args.events
-    (seen_at_first tree inputs c.args.turns c.args.events (c.in_ok-globals.ensures ∙ ap globals_of c.as_slice.ensures)
-    c.new.ensures) c.in-Some.ensures c.in_ok-frame.ensures (rw c.new-work.ensures.items at c.start.ensures)
-    c.run_on.new.run.machine.trace _ c.in-Go.is c.in_ok-end-in-Go.ensures c.behaviour-in-Go.ensures ∙ ap
-    (λ p. meaning p inputs c.args.turns c.args.events) c.tree-tree.ensures.tree
+    gone_through program inputs c.args.turns c.args.events
+    (seen_at_first program inputs c.args.turns c.args.events (c.in_ok-globals.ensures ∙
+    ap globals_of (c.as_slice.ensures ∙ ap (λ p. p.sections) c.tree-tree.ensures.tree)) c.new.ensures)
+    (subst (λ p. EntryAt program p.interfaces.main Main (Some c.in-Some.callee)) c.tree-tree.ensures.tree
+    c.in-Some.ensures.found) c.in_ok-frame.ensures (rw c.new-work.ensures.items at c.start.ensures)
+    c.run_on.new.run.machine.trace _ c.in-Go.is c.in_ok-end-in-Go.ensures c.behaviour-in-Go.ensures
