@@ -47,7 +47,7 @@ found_within (x ∷ xs) zero y is = omega arith
 found_within (x ∷ xs) (suc n) y is = let less = found_within xs n y is in omega (arith, less)
 
 some_within : {A : Type 0} (xs : List A) (n : ℕ) → IsSome (slice_get xs n) → n < length xs
-some_within xs n some = by (slice_get xs n) refl some where
+some_within {A = A} xs n some = by (slice_get xs n) refl some where
   by : (found : Option A) → slice_get xs n ≡ found → IsSome found → n < length xs
   by None is some = absurd (false≢true some)
   by (Some x) is some = found_within xs n x is
@@ -107,16 +107,15 @@ module _ (source : SourceParts) (inputs : List ℕ) (steps : ℕ) (trace : List 
   none_early : (comps : List ℕ) (least : ℕ) (links : List Link) → Chain comps least links → after < least →
       length (filter is_early links) ≡ 0
   none_early comps least [] chain low = refl
-  none_early comps least (link ∷ links) chain low = by (is_early link) refl where
-    by : (is : Bool) → is_early link ≡ is →
-        length (if is then link ∷ filter is_early links else filter is_early links) ≡ 0
-    by true is =
-        let early = leb-true link.after after is in
-        let later = chain.0.later in
-        absurd (omega (arith, early, later, low))
-    by false is =
-        let later = chain.0.later in
-        none_early (link.comp ∷ comps) (suc link.after) links chain.1 (omega (arith, later, low))
+  none_early comps least (link ∷ links) chain low =
+      by (is_early link) refl (none_early (link.comp ∷ comps) (suc link.after) links chain.1) where
+        by : (is : Bool) → is_early link ≡ is → (after < suc link.after → length (filter is_early links) ≡ 0) →
+            length (if is then link ∷ filter is_early links else filter is_early links) ≡ 0
+        by true is none =
+            let early = leb-true link.after after is in
+            let later = chain.0.later in
+            absurd (omega (arith, early, later, low))
+        by false is none = let later = chain.0.later in none (omega (arith, later, low))
 
   -- after a link that comes later there is none that comes earlier
   no_more : (comps : List ℕ) (least : ℕ) (link : Link) (links : List Link) → Chain comps least (link ∷ links) →
@@ -137,41 +136,42 @@ module _ (source : SourceParts) (inputs : List ℕ) (steps : ℕ) (trace : List 
         text = chain.text;
         begins = subst (IsPrefix (take (suc after) trace)) (sym chain.is_trace) (prefix_of_all (suc after) trace);
       }
-  begins comps least (link ∷ links) chain = by (is_early link) refl where
-    here : is_early link ≡ false → Begins comps
-    here is =
-        let late = leb-false link.after after is in
-        record {
-          text = chain.0.text;
-          begins = subst (IsPrefix (take (suc after) trace)) (sym chain.0.blamed.prefix)
-              (prefix_of_take (suc after) link.after trace (omega (arith, late)));
-        }
+  begins comps least (link ∷ links) chain =
+      by (is_early link) refl (begins (link.comp ∷ comps) (suc link.after) links chain.1) where
+        here : is_early link ≡ false → Begins comps
+        here is =
+            let late = leb-false link.after after is in
+            record {
+              text = chain.0.text;
+              begins = subst (IsPrefix (take (suc after) trace)) (sym chain.0.blamed.prefix)
+                  (prefix_of_take (suc after) link.after trace (omega (arith, late)));
+            }
 
-    by : (is : Bool) → is_early link ≡ is → Begins (reached comps
-        (take (length (if is then link ∷ filter is_early links else filter is_early links)) (link ∷ links)))
-    by true is = begins (link.comp ∷ comps) (suc link.after) links chain.1
-    by false is =
-        subst (λ n. Begins (reached comps (take n (link ∷ links)))) (sym (no_more comps least link links chain is))
-        (here is)
+        by : (is : Bool) → is_early link ≡ is → Begins (reached (link.comp ∷ comps) (early links)) → Begins (reached comps
+            (take (length (if is then link ∷ filter is_early links else filter is_early links)) (link ∷ links)))
+        by true is later = later
+        by false is later =
+            subst (λ n. Begins (reached comps (take n (link ∷ links)))) (sym (no_more comps least link links chain is))
+            (here is)
 
   -- who isn't compromised doesn't perform there
   not_listed : (comps : List ℕ) (least : ℕ) (links : List Link) → Chain comps least links → (comp : ℕ) →
       is_compromised links comp after ≡ false → is_listed (map comp_of (early links)) comp ≡ false
   not_listed comps least [] chain comp clean = refl
-  not_listed comps least (link ∷ links) chain comp clean = by (is_early link) refl where
-    parts : ((link.comp == comp && is_early link) ≡ false) × (is_compromised links comp after ≡ false)
-    parts = or_parts (link.comp == comp && is_early link) (is_compromised links comp after) clean
+  not_listed comps least (link ∷ links) chain comp clean =
+      by (is_early link) refl (not_listed (link.comp ∷ comps) (suc link.after) links chain.1 comp parts.1) where
+        parts : ((link.comp == comp && is_early link) ≡ false) × (is_compromised links comp after ≡ false)
+        parts = or_parts (link.comp == comp && is_early link) (is_compromised links comp after) clean
 
-    by : (is : Bool) → is_early link ≡ is → is_listed (map comp_of
-        (take (length (if is then link ∷ filter is_early links else filter is_early links)) (link ∷ links))) comp ≡ false
-    by true is =
-        let other = sym (and-true (link.comp == comp)) ∙
-        subst (λ b. (link.comp == comp && b) ≡ false) is parts.0 in
-        ap₂ (λ one rest. one || rest) other
-        (not_listed (link.comp ∷ comps) (suc link.after) links chain.1 comp parts.1)
-    by false is =
-        subst (λ n. is_listed (map comp_of (take n (link ∷ links))) comp ≡ false)
-        (sym (no_more comps least link links chain is)) refl
+        by : (is : Bool) → is_early link ≡ is → is_listed (map comp_of (early links)) comp ≡ false → is_listed (map comp_of
+            (take (length (if is then link ∷ filter is_early links else filter is_early links)) (link ∷ links))) comp ≡ false
+        by true is later =
+            let other = sym (and-true (link.comp == comp)) ∙
+            subst (λ b. (link.comp == comp && b) ≡ false) is parts.0 in
+            ap₂ (λ one rest. one || rest) other later
+        by false is later =
+            subst (λ n. is_listed (map comp_of (take n (link ∷ links))) comp ≡ false)
+            (sym (no_more comps least link links chain is)) refl
 
 -- what isn't listed keeps its section
 kept : (interfaces : Interfaces) (trace : List Event) (comp : ℕ) (old : List ℕ) (performs : Bool) →
