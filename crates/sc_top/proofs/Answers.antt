@@ -3,10 +3,10 @@ use Rattle.sc_top.proofs.Common.{Accepts, Answers, Check, Command, Compile, Exec
 use Rattle.sc_top.proofs.Common.{FindsBadLine, FindsUnfit, HasExplanation, HoldsOfText, IsBadAt, IsPolicyRead, Judge}
 use Rattle.sc_top.proofs.Common.{PolicyRead, drop, intake, lines_of, min}
 use Rattle.sc_top.proofs.Common.{IsAnswer, IsErrOf, IsGood, IsGoodText, IsImage, IsInput, IsOutput}
-use Rattle.sc_top.proofs.Common.{IsTextOutput, IsTrue, IsUndisturbed, IsUnfit, IsWhole, IsWithin, IsWithinLimit, List}
+use Rattle.sc_top.proofs.Common.{IsTextOutput, IsUndisturbed, IsUnfit, IsWhole, IsWithin, IsWithinLimit, List}
 use Rattle.sc_top.proofs.Common.{Make, Meaning, None, Option, ProgramTree, Refusal, Refuses, Result, Run, RunOptions}
 use Rattle.sc_top.proofs.Common.{SameAnswer, Says, Some, Status, Takes, Traffic, ap, append-nil, arith, bad}
-use Rattle.sc_top.proofs.Common.{built_image, cause_in, cause_number, read_cause, compiles, false≢true, inl, inr}
+use Rattle.sc_top.proofs.Common.{built_image, cause_in, cause_number, read_cause, inl, inr}
 use Rattle.sc_top.proofs.Common.{length}
 use Rattle.sc_top.proofs.Common.{length-append, limit_of, none-some, option_and_then, refl, status_by, subst, sym}
 use Rattle.sc_top.proofs.Common.{too_large, ℕ, ⊎_elim, ◌++◌, ◌+◌, ◌∙◌, ◌≡◌, ◌≤◌, ◌⊎◌}
@@ -309,7 +309,8 @@ module _
   one_refusal : (c : Command) (bytes : List ℕ) (r q : Refusal) → Refuses c bytes r → Refuses c bytes q →
       SameAnswer (status.Refused r) (status.Refused q)
   one_refusal c bytes r q f g =
-      let both = both_hold (intake c) bytes (λ text. Fails text r.phase r.line) (λ text. Fails text q.phase q.line) f g in
+      let both =
+      both_hold (intake c) bytes (λ text. Fails text r.phase r.line) (λ text. Fails text q.phase q.line) f g in
       one_phase both.text r.phase q.phase r.line q.line both.one both.other
 
   -- a refused text isn't accepted

@@ -70,8 +70,8 @@ explained_perform source inputs steps events explanation is =
     All-from_recursion (Performs source _) _ (from_chain source _ inputs steps _ [] 0 is.chain.chain)
 
 -- a text that was read, with an explanation
-abbrev pub has_explanation : (options : RunOptions) (bytes : List ℕ) (source : SourceParts) (explanation : Explanation) →
-    IsSource source → source.bytes ≡ bytes →
+abbrev pub has_explanation : (options : RunOptions) (bytes : List ℕ) (source : SourceParts)
+    (explanation : Explanation) → IsSource source → source.bytes ≡ bytes →
     IsExplained source (map word_of options.inputs) options.steps options.events explanation →
     length bytes ≤ 1048576 → HasExplanation options bytes
 has_explanation options bytes source explanation parts whole explained short = record {

@@ -1,8 +1,8 @@
--- A violation is committed in the chain: the meaning of the text after the links until then begins with it, and who isn't
--- compromised keeps the section.
+-- A violation is committed in the chain: the meaning of the text after the links until then begins with it, and who
+-- isn't compromised keeps the section.
 use Rattle.sc_top.proofs.Common.{Accepts, All, AllByRecursion, Bool, Event, Explanation, Interfaces, IsChainFrom}
 use Rattle.sc_top.proofs.Common.{IsCommitted, IsExplained, IsJudged, IsKnown, IsPolicyRead, IsSome, IsSource}
-use Rattle.sc_top.proofs.Common.{IsWellTyped, Link, List, None, Option, Policy, PolicyRead, ProgramTree, RunOptions}
+use Rattle.sc_top.proofs.Common.{IsWellTyped, Link, List, None, Option, Policy, PolicyRead, RunOptions}
 use Rattle.sc_top.proofs.Common.{Some, SourceParts, [], and-true, ap, ap₂, arith, comp_at, comp_of, drop, false}
 use Rattle.sc_top.proofs.Common.{false≢true, filter, if◌then◌else◌, is_listed, judge_text, leb-false, leb-true, legal}
 use Rattle.sc_top.proofs.Common.{length, length-drop, map, meaning, nat_le, none-some, or-false, or_parts}
@@ -147,7 +147,8 @@ module _ (source : SourceParts) (inputs : List ℕ) (steps : ℕ) (trace : List 
                   (prefix_of_take (suc after) link.after trace (omega (arith, late)));
             }
 
-        by : (is : Bool) → is_early link ≡ is → Begins (reached (link.comp ∷ comps) (early links)) → Begins (reached comps
+        by : (is : Bool) → is_early link ≡ is → Begins (reached (link.comp ∷ comps) (early links)) →
+            Begins (reached comps
             (take (length (if is then link ∷ filter is_early links else filter is_early links)) (link ∷ links)))
         by true is later = later
         by false is later =
@@ -163,8 +164,9 @@ module _ (source : SourceParts) (inputs : List ℕ) (steps : ℕ) (trace : List 
         parts : ((link.comp == comp && is_early link) ≡ false) × (is_compromised links comp after ≡ false)
         parts = or_parts (link.comp == comp && is_early link) (is_compromised links comp after) clean
 
-        by : (is : Bool) → is_early link ≡ is → is_listed (map comp_of (early links)) comp ≡ false → is_listed (map comp_of
-            (take (length (if is then link ∷ filter is_early links else filter is_early links)) (link ∷ links))) comp ≡ false
+        by : (is : Bool) → is_early link ≡ is → is_listed (map comp_of (early links)) comp ≡ false →
+            is_listed (map comp_of (take (length
+            (if is then link ∷ filter is_early links else filter is_early links)) (link ∷ links))) comp ≡ false
         by true is later =
             let other = sym (and-true (link.comp == comp)) ∙
             subst (λ b. (link.comp == comp && b) ≡ false) is parts.0 in
@@ -214,7 +216,8 @@ module _
               (same_set (early source inputs steps explanation.trace after explanation.links)) text.text.accepted;
           begins = text.begins;
           own = violator_within policy after comp rule found;
-          clean = λ clean. kept source.program.interfaces explanation.trace comp (slice_index_or source.sections comp [])
+          clean = λ clean. kept source.program.interfaces explanation.trace comp
+              (slice_index_or source.sections comp [])
               _ (not_listed source inputs steps explanation.trace after [] 0 explanation.links is.chain.chain comp
               (sym same ∙ clean));
         }

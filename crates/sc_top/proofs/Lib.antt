@@ -4,7 +4,6 @@ pub mod Asked
 pub mod Chains
 pub mod Committed
 pub mod Executed
-pub mod Judged
 pub mod Known
 pub mod Large
 pub mod Lengths

@@ -108,7 +108,8 @@ module _
 
   -- a command has one output
   pub one_output : BytesNameOneImage → ((bytes : List ℕ) (one other : PolicyRead) → IsPolicyRead bytes one →
-      IsPolicyRead bytes other → one ≡ other) → (command : Command) (bytes text other : List ℕ) → IsOutput command bytes text →
+      IsPolicyRead bytes other → one ≡ other) → (command : Command) (bytes text other : List ℕ) →
+      IsOutput command bytes text →
       IsOutput command bytes other → text ≡ other
   one_output one one_policy commands.Check bytes text other is known = one_text _ bytes text other is known
   one_output one one_policy (commands.Meaning options) bytes text other is known = one_text _ bytes text other is known
@@ -118,5 +119,6 @@ module _
       one_account one_program options show bytes text other is known
   one_output one one_policy (commands.Judge options) bytes text other is known =
       one_verdict one_program one_policy options bytes text other is known
-  one_output one one_policy (commands.Exec options) bytes text other is known = one_run one options bytes text other is known
+  one_output one one_policy (commands.Exec options) bytes text other is known =
+      one_run one options bytes text other is known
   one_output one one_policy (commands.Make options) bytes text other is known = one_made _ options text other is known

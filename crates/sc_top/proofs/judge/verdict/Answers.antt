@@ -1,4 +1,4 @@
-use Rattle.sc_top.proofs.Common.{Interfaces, ProgramTree, ap, arith, sym, ◌∙◌}
+use Rattle.sc_top.proofs.Common.{ProgramTree, ap, arith, ◌∙◌}
 use Rattle.sc_top.proofs.Committed.{with_verdict}
 use Rattle.sc_top.proofs.judge.verdict.Goals as goal
 
