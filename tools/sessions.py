@@ -1,8 +1,8 @@
 #!/usr/bin/env python3
 """Makes the tests of what the documents show: `sessions.py [--check]`, at the top of the repository.
 
-A session is a line `$ ./secomp WORDS < FILE` in a block that is indented by four spaces, with what the program writes
-below it. The sessions of each document below are written, with the texts that they read, to
+A session is a line `$ ./secomp WORDS < FILE`, or `$ cat POLICY FILE | ./secomp WORDS`, in a block that is indented by
+four spaces, with what the program writes below it. The sessions of each document below are written, with the texts that they read, to
 crates/command_tests/src/examples/sessions.rt, whose tests run them over the program. With --check nothing is written,
 and the status is 1 where that file isn't what the documents and the examples give.
 
@@ -16,15 +16,25 @@ import sys
 
 from sections import commands
 
-DOCUMENTS = {"TUTORIAL": "docs/TUTORIAL.md", "EXAMPLES": "examples/README.md", "EXPLAIN": "docs/EXPLAIN.md"}
+DOCUMENTS = {
+    "TUTORIAL": "docs/TUTORIAL.md",
+    "EXAMPLES": "examples/README.md",
+    "EXPLAIN": "docs/EXPLAIN.md",
+    "POLICIES": "examples/policies/README.md",
+}
 TARGET = "crates/command_tests/src/examples/sessions.rt"
-COMMAND = re.compile(r"\./secomp (.*?) < (\S+)(?: > (\S+)| \| (examples/draw))?$")
+COMMAND = re.compile(r"(?:cat (\S+ \S+) \| )?\./secomp (.*?)(?: < (\S+))?(?: > (\S+)| \| (examples/draw))?$")
 HEADING = "#pragma compartment "
 
 
 def read(path):
     with open(path, encoding="utf-8") as it:
         return it.read()
+
+
+def joined(paths):
+    """The texts of files, one after the other."""
+    return "".join(read(path) for path in paths.split())
 
 
 def replaced(text, section):
@@ -50,10 +60,11 @@ def sessions(document):
     texts, reports, found = {}, {}, []
     for command, shown, after in commands(document):
         parts = COMMAND.fullmatch(command)
-        if not parts:
+        if not parts or not (parts[1] or parts[3]):
             continue
-        words, path, name, draw = parts.groups()
-        texts.setdefault(path, read(path) if path.startswith("examples/") else None)
+        paths, words, path, name, draw = parts.groups()
+        path = paths or path
+        texts.setdefault(path, joined(path) if path.startswith("examples/") else None)
         if name:
             texts[name] = shown = kept(document, name, texts[path])
         if draw:
@@ -67,8 +78,9 @@ def sessions(document):
 
 
 def variant(path):
-    """The name of a text among `Input`."""
-    return path.removeprefix("examples/").removesuffix(".c").capitalize()
+    """The name of a text among `Input`: that of the policy, where one comes first."""
+    name = path.split()[0].removeprefix("examples/").removeprefix("policies/")
+    return name.removesuffix(".policy").removesuffix(".c").capitalize()
 
 
 def constant(path):

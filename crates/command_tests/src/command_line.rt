@@ -31,7 +31,8 @@ const NO_LIMITS: &str = "\
 
 const NO_OPTIONS: &str = "\
     run help|run -- --steps 1|run --turns 5|run --step 1|run -steps 1|run --Steps 1|run --=1|run \u{e9}|run -\u{e9}|\
-    run --\u{e9}=1|explain --show 33|explain --show|run --show 1|explain --show 1 --show 1|run --speed 1";
+    run --\u{e9}=1|explain --show 33|explain --show|run --show 1|explain --show 1 --show 1|run --speed 1|\
+    judge --show 1|judge --turns 1|judge x";
 
 const NO_LISTS: &str = "\
     run --in -5,3|run --in -5|run --in 2147483648|run --in 1,-2147483649|run --in --in|run --in|run --in=|run --in |\
@@ -53,6 +54,7 @@ meaning -> Ok(Meaning(MeaningOptions { turns: 1000000, events: 1024, inputs: Ite
 run -> Ok(Run(RunOptions { steps: 1000000, events: 1024, inputs: Items { items: [] } }))
 exec -> Ok(Exec(RunOptions { steps: 1000000, events: 1024, inputs: Items { items: [] } }))
 explain -> Ok(Explain(RunOptions { steps: 1000000, events: 1024, inputs: Items { items: [] } }, None))
+judge -> Ok(Judge(RunOptions { steps: 1000000, events: 1024, inputs: Items { items: [] } }))
 run --steps 0 -> Ok(Run(RunOptions { steps: 0, events: 1024, inputs: Items { items: [] } }))
 run --steps=16777216 -> Ok(Run(RunOptions { steps: 16777216, events: 1024, inputs: Items { items: [] } }))
 run --steps 00000000000000000000000000000000000000007 -> \

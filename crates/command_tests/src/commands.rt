@@ -4,6 +4,7 @@ mod blame;
 mod check;
 mod compiled;
 mod exec;
+mod judge;
 mod machine;
 mod meaning;
 mod refusal;

@@ -170,6 +170,7 @@ pub fn explain(
     requires few { events ≤ most_events }
     ensures explained { IfOk result (IsExplained source.now (map word_of inputs.now) steps events) }
     ensures allowed { IfOk result (λ explanation. legal source.now.program.interfaces explanation.trace ≡ true) }
+    ensures few { IfOk result (λ explanation. length explanation.trace ≤ events) }
     ensures fault { IfErr result (IsFault source.now.program) }
 {
     let image = match compile(alloc, source.program()) {

@@ -2,3 +2,4 @@ pub mod Check
 pub mod Making
 pub mod Report
 pub mod Summary
+pub mod Verdict

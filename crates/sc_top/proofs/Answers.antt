@@ -1,13 +1,17 @@
 -- What an answer says, from what was read.
 use Rattle.sc_top.proofs.Common.{Accepts, Answers, Check, Command, Compile, Exec, Explain, Fails, Failure, FindsBad}
-use Rattle.sc_top.proofs.Common.{IsAccounted, IsAnswer, IsErrOf, IsGood, IsGoodText, IsImage, IsInput, IsOutput}
-use Rattle.sc_top.proofs.Common.{IsTextOutput, IsTrue, IsUndisturbed, IsUnfit, IsWhole, IsWithin, IsWithinLimit, List}
+use Rattle.sc_top.proofs.Common.{FindsBadLine, FindsUnfit, HasExplanation, HoldsOfText, IsBadAt, IsPolicyRead, Judge}
+use Rattle.sc_top.proofs.Common.{PolicyRead, drop, intake, lines_of, min}
+use Rattle.sc_top.proofs.Common.{IsAnswer, IsErrOf, IsGood, IsGoodText, IsImage, IsInput, IsOutput}
+use Rattle.sc_top.proofs.Common.{IsTextOutput, IsUndisturbed, IsUnfit, IsWhole, IsWithin, IsWithinLimit, List}
 use Rattle.sc_top.proofs.Common.{Make, Meaning, None, Option, ProgramTree, Refusal, Refuses, Result, Run, RunOptions}
 use Rattle.sc_top.proofs.Common.{SameAnswer, Says, Some, Status, Takes, Traffic, ap, append-nil, arith, bad}
-use Rattle.sc_top.proofs.Common.{built_image, cause_in, cause_number, read_cause, compiles, false≢true, inl, inr}
+use Rattle.sc_top.proofs.Common.{built_image, cause_in, cause_number, read_cause, inl, inr}
 use Rattle.sc_top.proofs.Common.{length}
 use Rattle.sc_top.proofs.Common.{length-append, limit_of, none-some, option_and_then, refl, status_by, subst, sym}
 use Rattle.sc_top.proofs.Common.{too_large, ℕ, ⊎_elim, ◌++◌, ◌+◌, ◌∙◌, ◌≡◌, ◌≤◌, ◌⊎◌}
+use Rattle.sc_top.specs.Answer.{HasBadLineIn, IsBadIn, IsGoodIn}
+use Rattle.sc_top.specs.Command.{Image, Intake, Nothing, PolicyAndText, Text}
 use Rattle.sc_top.specs.Large.{large_in}
 use Rattle.std.specs.Option.{option_map}
 use Rattle.sc_lex.specs.declared.refusal.Phase.{Phase}
@@ -52,8 +56,9 @@ input_at (Some limit) text bytes after input =
 record Reads (c : Command) : Type 0 where
   pub same : (bytes other text : List ℕ) → IsOutput c bytes text → IsOutput c other text
   pub refuses : (bytes : List ℕ) (refusal : Refusal) → Refuses c bytes refusal → ⊥
-  pub unfit : (bytes : List ℕ) (fault : TooLarge) → IsUnfit c bytes fault → ⊥
+  pub unfit : (bytes : List ℕ) (fault : TooLarge) → FindsUnfit c bytes fault → ⊥
   pub bad : (bytes : List ℕ) (cause : ℕ) → FindsBad c bytes cause → ⊥
+  pub bad_line : (bytes : List ℕ) (line : ℕ) → FindsBadLine c bytes line → ⊥
 
 reads_nothing : (c : Command) → limit_of c ≡ None → Reads c
 reads_nothing Check none = absurd (none-some 8388608 (sym none))
@@ -61,13 +66,15 @@ reads_nothing (Meaning options) none = absurd (none-some 8388608 (sym none))
 reads_nothing Compile none = absurd (none-some 1048576 (sym none))
 reads_nothing (Run options) none = absurd (none-some 1048576 (sym none))
 reads_nothing (Explain options show) none = absurd (none-some 1048576 (sym none))
+reads_nothing (Judge options) none = absurd (none-some 1048576 (sym none))
 reads_nothing (Exec options) none = absurd (none-some 67108864 (sym none))
 reads_nothing (Make options) none =
     record {
       same = λ bytes other text o. o;
       refuses = λ bytes r h. h;
-      unfit = λ bytes fault u. false≢true u.compiled;
+      unfit = λ bytes fault h. h;
       bad = λ bytes cause h. h;
+      bad_line = λ bytes line h. h;
     }
 
 within_none : (limit : Option ℕ) (text : List ℕ) → limit ≡ None → IsWithinLimit limit text
@@ -100,7 +107,7 @@ answered c t text s says is calm = go s says where
       inl (read_at c text t.left_after h.bytes (λ bytes. Refuses c bytes refusal) (input_of h.bytes h.input) h.holds
       (λ none o. absurd ((reads_nothing c none).refuses h.bytes refusal o)))
   go (status.TooLarge fault) h =
-      inl (read_at c text t.left_after h.bytes (λ bytes. IsUnfit c bytes fault) (input_of h.bytes h.input) h.holds
+      inl (read_at c text t.left_after h.bytes (λ bytes. FindsUnfit c bytes fault) (input_of h.bytes h.input) h.holds
       (λ none o. absurd ((reads_nothing c none).unfit h.bytes fault o)))
   go (status.TooLong limit) h =
       let read : Takes (Some text) t.left_after h.1.bytes = subst (λ l. Takes l t.left_after h.1.bytes) is h.1.read in
@@ -109,6 +116,9 @@ answered c t text s says is calm = go s says where
   go (status.BadImage cause) h =
       inl (read_at c text t.left_after h.bytes (λ bytes. FindsBad c bytes cause) (input_of h.bytes h.input) h.holds
       (λ none o. absurd ((reads_nothing c none).bad h.bytes cause o)))
+  go (status.BadPolicy line) h =
+      inl (read_at c text t.left_after h.bytes (λ bytes. FindsBadLine c bytes line) (input_of h.bytes h.input) h.holds
+      (λ none o. absurd ((reads_nothing c none).bad_line h.bytes line o)))
   go status.ReadFault h = absurd (calm.reads h)
   go status.WriteFault h = absurd (calm.writes h.0)
   go status.OutOfMemory h = inr refl
@@ -124,6 +134,7 @@ made c t s says none calm = go s says where
   go (status.TooLarge fault) h = absurd ((reads_nothing c none).unfit h.bytes fault h.holds)
   go (status.TooLong limit) h = absurd (none-some limit (sym none ∙ h.0))
   go (status.BadImage cause) h = absurd ((reads_nothing c none).bad h.bytes cause h.holds)
+  go (status.BadPolicy line) h = absurd ((reads_nothing c none).bad_line h.bytes line h.holds)
   go status.ReadFault h = absurd (calm.reads h)
   go status.WriteFault h = absurd (calm.writes h.0)
   go status.OutOfMemory h = inr refl
@@ -148,31 +159,7 @@ not_both (Some l) text most low long =
     let same = same_some _ l most refl long.0 in
     let more = long.1 in omega (arith, low, same, more)
 
--- what a command that takes a text says of it
-record OfText (c : Command) (text : List ℕ) : Type 0 where
-  pub output : (out : List ℕ) → IsOutput c text out → IsGoodText c text
-  pub refuses : (refusal : Refusal) → Refuses c text refusal → Fails text refusal.phase refusal.line
-  pub good : (cause : ℕ) → FindsBad c text cause → ⊥
-  pub proper : IsGood c text → IsGoodText c text
-
--- what `exec` says of an image
-record OfImage (c : Command) (bytes : List ℕ) : Type 0 where
-  pub output : (out : List ℕ) → IsOutput c bytes out → IsImage bytes
-  pub refuses : (refusal : Refusal) → Refuses c bytes refusal → ⊥
-  pub bad : (cause : ℕ) → FindsBad c bytes cause → cause_in bytes ≡ Some cause
-  pub compiles : IsTrue (compiles c) → ⊥
-  pub proper : IsGood c bytes → IsImage bytes
-
-data Sort (c : Command) (bytes : List ℕ) : Type 0 where
-  takes_text : OfText c bytes → Sort c bytes
-  takes_image : OfImage c bytes → Sort c bytes
-  takes_nothing : Reads c → Sort c bytes
-
-text_sort : (c : Command) (text : List ℕ) → ((out : List ℕ) → IsOutput c text out → IsGoodText c text) →
-    ((r : Refusal) → Refuses c text r → Fails text r.phase r.line) → ((cause : ℕ) → FindsBad c text cause → ⊥) →
-    (IsGood c text → IsGoodText c text) → Sort c text
-text_sort c text output refuses good proper =
-    takes_text (record { output = output; refuses = refuses; good = good; proper = proper })
+-- WHAT AN OUTPUT SAYS
 
 -- a text with an output is good
 good_text : (c : Command) (text out : List ℕ) → IsTextOutput c text out → IsGoodText c text
@@ -182,30 +169,63 @@ good_text c text out o = record {
   fits = λ compiled. fits_of _ _ o.image (o.compiled compiled).compiled;
 }
 
-accounted_text : (options : RunOptions) (show : Option ℕ) (text out : List ℕ) → IsAccounted options show text out →
-    IsGoodText (Explain options show) text
-accounted_text options show text out o = record {
-  program = o.source.program;
-  accepted = subst (λ bytes. Accepts bytes o.source.program) o.whole o.parts.accepted;
-  fits = λ compiled. fits_of _ (built_image _) o.explained.image o.explained.compiled;
+explained_text : (c : Command) (options : RunOptions) (text : List ℕ) → HasExplanation options text → IsGoodText c text
+explained_text c options text has = record {
+  program = has.source.program;
+  accepted = subst (λ bytes. Accepts bytes has.source.program) has.whole has.parts.accepted;
+  fits = λ compiled. fits_of _ (built_image _) has.explained.image has.explained.compiled;
 }
 
-sort : (c : Command) (bytes : List ℕ) → Sort c bytes
-sort Check bytes = text_sort Check bytes (good_text Check bytes) (λ r f. f) (λ cause b. b) (λ g. g)
-sort (Meaning options) bytes = text_sort _ bytes (good_text _ bytes) (λ r f. f) (λ cause b. b) (λ g. g)
-sort Compile bytes = text_sort Compile bytes (good_text Compile bytes) (λ r f. f) (λ cause b. b) (λ g. g)
-sort (Run options) bytes = text_sort _ bytes (good_text _ bytes) (λ r f. f) (λ cause b. b) (λ g. g)
-sort (Explain options show) bytes =
-    text_sort _ bytes (accounted_text options show bytes) (λ r f. f) (λ cause b. b) (λ g. g)
-sort (Exec options) bytes =
-    takes_image (record {
-      output = λ out o. o.read;
-      refuses = λ r f. f;
-      bad = λ cause b. b;
-      compiles = λ h. false≢true h;
-      proper = λ g. g;
-    })
-sort (Make options) bytes = takes_nothing (reads_nothing _ refl)
+-- input with an output is good
+good_output : (c : Command) (bytes out : List ℕ) → IsOutput c bytes out → IsGood c bytes
+good_output Check bytes out o = good_text Check bytes out o
+good_output (Meaning options) bytes out o = good_text (Meaning options) bytes out o
+good_output Compile bytes out o = good_text Compile bytes out o
+good_output (Run options) bytes out o = good_text (Run options) bytes out o
+good_output (Explain options show) bytes out o = explained_text (Explain options show) options bytes o.has
+good_output (Judge options) bytes out o = record {
+  read = o.read;
+  is = o.is;
+  holds = explained_text (Judge options) options (drop o.read.rest bytes) o.has;
+}
+good_output (Exec options) bytes out o = o.read
+good_output (Make options) bytes out o = tt
+
+-- a text of which both hold
+record BothHold (P Q : List ℕ → Type 0) : Type 0 where
+  pub text : List ℕ
+  pub one : P text
+  pub other : Q text
+
+-- a text isn't taken for an image
+text_or_image : (i : Intake) (bytes : List ℕ) (P : List ℕ → Type 0) (cause : ℕ) → HoldsOfText i bytes P →
+    IsBadIn i bytes cause → ⊥
+text_or_image (Text limit) bytes P cause p b = b
+text_or_image (PolicyAndText limit) bytes P cause p b = b
+text_or_image (Image limit) bytes P cause p b = p
+text_or_image Nothing bytes P cause p b = p
+
+policy_or_image : (i : Intake) (bytes : List ℕ) (cause line : ℕ) → IsBadIn i bytes cause → HasBadLineIn i bytes line → ⊥
+policy_or_image (Text limit) bytes cause line b l = b
+policy_or_image (PolicyAndText limit) bytes cause line b l = b
+policy_or_image (Image limit) bytes cause line b l = l
+policy_or_image Nothing bytes cause line b l = b
+
+one_cause : (i : Intake) (bytes : List ℕ) (n m : ℕ) → IsBadIn i bytes n → IsBadIn i bytes m → n ≡ m
+one_cause (Text limit) bytes n m a b = absurd a
+one_cause (PolicyAndText limit) bytes n m a b = absurd a
+one_cause (Image limit) bytes n m a b = same_some (cause_in bytes) n m a b
+one_cause Nothing bytes n m a b = absurd a
+
+-- good input has no cause
+record SoundIn (i : Intake) (c : Command) (bytes : List ℕ) : Type 0 where
+  pub refused : (refusal : Refusal) → HoldsOfText i bytes (λ text. Fails text refusal.phase refusal.line) → ⊥
+  pub unfit : (fault : TooLarge) → HoldsOfText i bytes (λ text. IsUnfit c text fault) → ⊥
+  pub bad : (cause : ℕ) → IsBadIn i bytes cause → ⊥
+  pub bad_line : (line : ℕ) → HasBadLineIn i bytes line → ⊥
+
+abbrev Sound : Command → List ℕ → Type 0
+Sound c bytes = SoundIn (intake c) c bytes
 
 module _
     (accepted_or_refused : (text : List ℕ) (program : ProgramTree) (phase : Phase) (line : ℕ) →
@@ -213,12 +233,40 @@ module _
     (one_phase : (text : List ℕ) (phase other : Phase) (line later : ℕ) → Fails text phase line →
     Fails text other later → (phase ≡ other) × ((phase ≡ Syntax → ⊥) → line ≡ later))
     (one_program : (text : List ℕ) (program other : ProgramTree) →
-    Accepts text program → Accepts text other → program ≡ other) where
-  -- good bytes have no cause
-  record Sound (c : Command) (text : List ℕ) : Type 0 where
-    pub refused : (refusal : Refusal) → Refuses c text refusal → ⊥
-    pub unfit : (fault : TooLarge) → IsUnfit c text fault → ⊥
-    pub bad : (cause : ℕ) → FindsBad c text cause → ⊥
+    Accepts text program → Accepts text other → program ≡ other)
+    (one_policy : (bytes : List ℕ) (one other : PolicyRead) → IsPolicyRead bytes one → IsPolicyRead bytes other →
+    one ≡ other)
+    (policy_or_bad : (bytes : List ℕ) (read : PolicyRead) (line : ℕ) → IsPolicyRead bytes read →
+    IsBadAt (lines_of bytes) line → ⊥)
+    (one_bad : (lines : List (List ℕ)) (one other : ℕ) → IsBadAt lines one → IsBadAt lines other → one ≡ other) where
+  -- the text is one
+  both_hold : (i : Intake) (bytes : List ℕ) (P Q : List ℕ → Type 0) → HoldsOfText i bytes P → HoldsOfText i bytes Q →
+      BothHold P Q
+  both_hold (Text limit) bytes P Q p q = record { text = bytes; one = p; other = q }
+  both_hold (PolicyAndText limit) bytes P Q p q =
+      let same = one_policy bytes p.read q.read p.is q.is in
+      record {
+        text = drop q.read.rest bytes;
+        one = subst (λ (r : PolicyRead). P (drop r.rest bytes)) same p.holds;
+        other = q.holds;
+      }
+  both_hold (Image limit) bytes P Q p q = absurd p
+  both_hold Nothing bytes P Q p q = absurd p
+
+  text_or_line : (i : Intake) (bytes : List ℕ) (P : List ℕ → Type 0) (line : ℕ) → HoldsOfText i bytes P →
+      HasBadLineIn i bytes line → ⊥
+  text_or_line (Text limit) bytes P line p l = l
+  text_or_line (PolicyAndText limit) bytes P line p l = policy_or_bad bytes p.read l.first p.is l.bad
+  text_or_line (Image limit) bytes P line p l = p
+  text_or_line Nothing bytes P line p l = p
+
+  one_line : (i : Intake) (bytes : List ℕ) (n m : ℕ) → HasBadLineIn i bytes n → HasBadLineIn i bytes m → n ≡ m
+  one_line (Text limit) bytes n m a b = absurd a
+  one_line (PolicyAndText limit) bytes n m a b =
+      a.number ∙ (ap (λ first. min first 4294967295) (one_bad (lines_of bytes) a.first b.first a.bad b.bad) ∙
+      sym b.number)
+  one_line (Image limit) bytes n m a b = absurd a
+  one_line Nothing bytes n m a b = absurd a
 
   fits_or_large : (text : List ℕ) (program other : ProgramTree) (fault : TooLarge) → Accepts text program →
       Accepts text other → too_large program ≡ None → large_in other ≡ Some fault → ⊥
@@ -227,83 +275,73 @@ module _
       let none = subst (λ p. too_large p ≡ None) same fits in
       none-some fault (ap (option_and_then _) (sym none) ∙ found)
 
-  sound_text : (c : Command) (text : List ℕ) (of : OfText c text) (program : ProgramTree) → Accepts text program →
-      (IsTrue (compiles c) → too_large program ≡ None) → Sound c text
-  sound_text c text of program accepted fits =
+  sound_text : (i : Intake) (c : Command) (bytes : List ℕ) → HoldsOfText i bytes (IsGoodText c) → SoundIn i c bytes
+  sound_text i c bytes good =
       record {
-        refused = λ r f. accepted_or_refused text program r.phase r.line accepted (of.refuses r f);
-        unfit = λ fault u. fits_or_large text program u.program fault accepted u.accepted (fits u.compiled) u.found;
-        bad = of.good;
+        refused = λ r f.
+            let both = both_hold i bytes (λ text. Fails text r.phase r.line) (IsGoodText c) f good in
+            accepted_or_refused both.text both.other.program r.phase r.line both.other.accepted both.one;
+        unfit = λ fault u.
+            let both = both_hold i bytes (λ text. IsUnfit c text fault) (IsGoodText c) u good in
+            fits_or_large both.text both.other.program both.one.program fault both.other.accepted both.one.accepted
+            (both.other.fits both.one.compiled) both.one.found;
+        bad = λ cause b. text_or_image i bytes (IsGoodText c) cause good b;
+        bad_line = λ line l. text_or_line i bytes (IsGoodText c) line good l;
       }
 
-  sound_image : (c : Command) (bytes : List ℕ) → OfImage c bytes → IsImage bytes → Sound c bytes
-  sound_image c bytes of is =
+  good_is_sound : (i : Intake) (c : Command) (bytes : List ℕ) → IsGoodIn i c bytes → SoundIn i c bytes
+  good_is_sound (Text limit) c bytes good = sound_text (Text limit) c bytes good
+  good_is_sound (PolicyAndText limit) c bytes good = sound_text (PolicyAndText limit) c bytes good
+  good_is_sound (Image limit) c bytes is =
       record {
-        refused = of.refuses;
-        unfit = λ fault u. of.compiles u.compiled;
-        bad = λ cause b. image_bad bytes cause is (of.bad cause b);
+        refused = λ r f. f;
+        unfit = λ fault u. u;
+        bad = λ cause b. image_bad bytes cause is b;
+        bad_line = λ line l. l;
       }
-
-  sound_nothing : (c : Command) (bytes : List ℕ) → Reads c → Sound c bytes
-  sound_nothing c bytes reads =
-      record {
-        refused = reads.refuses bytes;
-        unfit = reads.unfit bytes;
-        bad = reads.bad bytes;
-      }
+  good_is_sound Nothing c bytes good =
+      record { refused = λ r f. f; unfit = λ fault u. u; bad = λ cause b. b; bad_line = λ line l. l }
 
   -- where there is an output there is no cause
-  sound_output : (c : Command) (text out : List ℕ) → IsOutput c text out → Sound c text
-  sound_output c text out o = go (sort c text) where
-    go : Sort c text → Sound c text
-    go (takes_text of) = let d = of.output out o in sound_text c _ of d.program d.accepted d.fits
-    go (takes_image of) = sound_image c _ of (of.output out o)
-    go (takes_nothing reads) = sound_nothing c _ reads
+  sound_output : (c : Command) (bytes out : List ℕ) → IsOutput c bytes out → Sound c bytes
+  sound_output c bytes out o = good_is_sound (intake c) c bytes (good_output c bytes out o)
 
-  one_refusal : (c : Command) (text : List ℕ) (r q : Refusal) → Refuses c text r → Refuses c text q →
+  one_refusal : (c : Command) (bytes : List ℕ) (r q : Refusal) → Refuses c bytes r → Refuses c bytes q →
       SameAnswer (status.Refused r) (status.Refused q)
-  one_refusal c text r q f g = go (sort c text) where
-    go : Sort c text → SameAnswer (status.Refused r) (status.Refused q)
-    go (takes_text of) = one_phase _ r.phase q.phase r.line q.line (of.refuses r f) (of.refuses q g)
-    go (takes_image of) = absurd (of.refuses r f)
-    go (takes_nothing reads) = absurd (reads.refuses _ r f)
+  one_refusal c bytes r q f g =
+      let both =
+      both_hold (intake c) bytes (λ text. Fails text r.phase r.line) (λ text. Fails text q.phase q.line) f g in
+      one_phase both.text r.phase q.phase r.line q.line both.one both.other
 
-  one_cause : (c : Command) (bytes : List ℕ) (n m : ℕ) → FindsBad c bytes n → FindsBad c bytes m → n ≡ m
-  one_cause c bytes n m a b = go (sort c bytes) where
-    go : Sort c bytes → n ≡ m
-    go (takes_text of) = absurd (of.good n a)
-    go (takes_image of) = same_some (cause_in bytes) n m (of.bad n a) (of.bad m b)
-    go (takes_nothing reads) = absurd (reads.bad _ n a)
+  -- a refused text isn't accepted
+  refused_unfit : (c : Command) (bytes : List ℕ) (r : Refusal) (fault : TooLarge) → Refuses c bytes r →
+      FindsUnfit c bytes fault → ⊥
+  refused_unfit c bytes r fault f u =
+      let both = both_hold (intake c) bytes (λ text. Fails text r.phase r.line) (λ text. IsUnfit c text fault) f u in
+      accepted_or_refused both.text both.other.program r.phase r.line both.other.accepted both.one
 
-  -- a refused text isn't accepted, and bytes that are taken for an image are no text
-  refused_unfit : (c : Command) (text : List ℕ) (r : Refusal) (fault : TooLarge) → Refuses c text r →
-      IsUnfit c text fault → ⊥
-  refused_unfit c text r fault f u = go (sort c text) where
-    go : Sort c text → ⊥
-    go (takes_text of) = accepted_or_refused _ u.program r.phase r.line u.accepted (of.refuses r f)
-    go (takes_image of) = of.refuses r f
-    go (takes_nothing reads) = reads.refuses _ r f
+  one_unfit : (c : Command) (bytes : List ℕ) (fault other : TooLarge) → FindsUnfit c bytes fault →
+      FindsUnfit c bytes other → fault ≡ other
+  one_unfit c bytes fault other u v =
+      let both = both_hold (intake c) bytes (λ text. IsUnfit c text fault) (λ text. IsUnfit c text other) u v in
+      let same = one_program both.text both.one.program both.other.program both.one.accepted both.other.accepted in
+      same_some _ fault other (subst (λ p. large_in p ≡ Some fault) same both.one.found) both.other.found
 
-  refused_bad : (c : Command) (text : List ℕ) (r : Refusal) (cause : ℕ) → Refuses c text r → FindsBad c text cause → ⊥
-  refused_bad c text r cause f b = go (sort c text) where
-    go : Sort c text → ⊥
-    go (takes_text of) = of.good cause b
-    go (takes_image of) = of.refuses r f
-    go (takes_nothing reads) = reads.refuses _ r f
+  refused_bad : (c : Command) (bytes : List ℕ) (r : Refusal) (cause : ℕ) → Refuses c bytes r → FindsBad c bytes cause →
+      ⊥
+  refused_bad c bytes r cause f b = text_or_image (intake c) bytes (λ text. Fails text r.phase r.line) cause f b
 
-  unfit_bad : (c : Command) (text : List ℕ) (fault : TooLarge) (cause : ℕ) → IsUnfit c text fault →
-      FindsBad c text cause → ⊥
-  unfit_bad c text fault cause u b = go (sort c text) where
-    go : Sort c text → ⊥
-    go (takes_text of) = of.good cause b
-    go (takes_image of) = of.compiles u.compiled
-    go (takes_nothing reads) = reads.unfit _ fault u
+  refused_line : (c : Command) (bytes : List ℕ) (r : Refusal) (line : ℕ) → Refuses c bytes r →
+      FindsBadLine c bytes line → ⊥
+  refused_line c bytes r line f l = text_or_line (intake c) bytes (λ text. Fails text r.phase r.line) line f l
 
-  one_unfit : (c : Command) (text : List ℕ) (fault other : TooLarge) → IsUnfit c text fault → IsUnfit c text other →
-      fault ≡ other
-  one_unfit c text fault other u v =
-      let same = one_program text u.program v.program u.accepted v.accepted in
-      same_some _ fault other (subst (λ p. large_in p ≡ Some fault) same u.found) v.found
+  unfit_bad : (c : Command) (bytes : List ℕ) (fault : TooLarge) (cause : ℕ) → FindsUnfit c bytes fault →
+      FindsBad c bytes cause → ⊥
+  unfit_bad c bytes fault cause u b = text_or_image (intake c) bytes (λ text. IsUnfit c text fault) cause u b
+
+  unfit_line : (c : Command) (bytes : List ℕ) (fault : TooLarge) (line : ℕ) → FindsUnfit c bytes fault →
+      FindsBadLine c bytes line → ⊥
+  unfit_line c bytes fault line u l = text_or_line (intake c) bytes (λ text. IsUnfit c text fault) line u l
 
   -- bytes have one answer
   pub one_answer : (c : Command) (text : List ℕ) (s t : Status) → IsAnswer c text s → IsAnswer c text t → SameAnswer s t
@@ -320,35 +358,41 @@ module _
   one_answer c text status.Done (status.TooLarge f) a b = absurd ((sound_output c text a.1.0 a.1.1).unfit f b.1)
   one_answer c text status.Done (status.TooLong l) a b = absurd (not_both _ text l a.0 b)
   one_answer c text status.Done (status.BadImage n) a b = absurd ((sound_output c text a.1.0 a.1.1).bad n b.1)
+  one_answer c text status.Done (status.BadPolicy l) a b = absurd ((sound_output c text a.1.0 a.1.1).bad_line l b.1)
   one_answer c text (status.Refused r) status.Done a b = absurd ((sound_output c text b.1.0 b.1.1).refused r a.1)
   one_answer c text (status.Refused r) (status.Refused q) a b = one_refusal c text r q a.1 b.1
   one_answer c text (status.Refused r) (status.TooLarge f) a b = absurd (refused_unfit c text r f a.1 b.1)
   one_answer c text (status.Refused r) (status.TooLong l) a b = absurd (not_both _ text l a.0 b)
   one_answer c text (status.Refused r) (status.BadImage n) a b = absurd (refused_bad c text r n a.1 b.1)
+  one_answer c text (status.Refused r) (status.BadPolicy l) a b = absurd (refused_line c text r l a.1 b.1)
   one_answer c text (status.TooLarge f) status.Done a b = absurd ((sound_output c text b.1.0 b.1.1).unfit f a.1)
   one_answer c text (status.TooLarge f) (status.Refused r) a b = absurd (refused_unfit c text r f b.1 a.1)
   one_answer c text (status.TooLarge f) (status.TooLarge g) a b = ap status.TooLarge (one_unfit c text f g a.1 b.1)
   one_answer c text (status.TooLarge f) (status.TooLong l) a b = absurd (not_both _ text l a.0 b)
   one_answer c text (status.TooLarge f) (status.BadImage n) a b = absurd (unfit_bad c text f n a.1 b.1)
+  one_answer c text (status.TooLarge f) (status.BadPolicy l) a b = absurd (unfit_line c text f l a.1 b.1)
   one_answer c text (status.TooLong l) status.Done a b = absurd (not_both _ text l b.0 a)
   one_answer c text (status.TooLong l) (status.Refused r) a b = absurd (not_both _ text l b.0 a)
   one_answer c text (status.TooLong l) (status.TooLarge f) a b = absurd (not_both _ text l b.0 a)
   one_answer c text (status.TooLong l) (status.TooLong m) a b = ap status.TooLong (same_some _ l m a.0 b.0)
   one_answer c text (status.TooLong l) (status.BadImage n) a b = absurd (not_both _ text l b.0 a)
+  one_answer c text (status.TooLong l) (status.BadPolicy m) a b = absurd (not_both _ text l b.0 a)
   one_answer c text (status.BadImage n) status.Done a b = absurd ((sound_output c text b.1.0 b.1.1).bad n a.1)
   one_answer c text (status.BadImage n) (status.Refused r) a b = absurd (refused_bad c text r n b.1 a.1)
   one_answer c text (status.BadImage n) (status.TooLarge f) a b = absurd (unfit_bad c text f n b.1 a.1)
   one_answer c text (status.BadImage n) (status.TooLong l) a b = absurd (not_both _ text l a.0 b)
-  one_answer c text (status.BadImage n) (status.BadImage m) a b = ap status.BadImage (one_cause c text n m a.1 b.1)
+  one_answer c text (status.BadImage n) (status.BadImage m) a b =
+      ap status.BadImage (one_cause (intake c) text n m a.1 b.1)
+  one_answer c text (status.BadImage n) (status.BadPolicy l) a b = absurd (policy_or_image (intake c) text n l a.1 b.1)
+  one_answer c text (status.BadPolicy l) status.Done a b = absurd ((sound_output c text b.1.0 b.1.1).bad_line l a.1)
+  one_answer c text (status.BadPolicy l) (status.Refused r) a b = absurd (refused_line c text r l b.1 a.1)
+  one_answer c text (status.BadPolicy l) (status.TooLarge f) a b = absurd (unfit_line c text f l b.1 a.1)
+  one_answer c text (status.BadPolicy l) (status.TooLong m) a b = absurd (not_both _ text m a.0 b)
+  one_answer c text (status.BadPolicy l) (status.BadImage n) a b = absurd (policy_or_image (intake c) text n l b.1 a.1)
+  one_answer c text (status.BadPolicy l) (status.BadPolicy m) a b =
+      ap status.BadPolicy (one_line (intake c) text l m a.1 b.1)
 
   -- good input has no answer but `Done`
-  good_is_sound : (c : Command) (text : List ℕ) → IsGood c text → Sound c text
-  good_is_sound c text g = go (sort c text) where
-    go : Sort c text → Sound c text
-    go (takes_text of) = let d = of.proper g in sound_text c _ of d.program d.accepted d.fits
-    go (takes_image of) = sound_image c _ of (of.proper g)
-    go (takes_nothing reads) = sound_nothing c _ reads
-
   only_done : (c : Command) (text : List ℕ) (s : Status) → Sound c text → IsWithin c text → IsAnswer c text s →
       s ≡ status.Done
   only_done c text status.Done sound within a = refl
@@ -356,6 +400,7 @@ module _
   only_done c text (status.TooLarge f) sound within a = absurd (sound.unfit f a.1)
   only_done c text (status.TooLong l) sound within a = absurd (not_both _ text l within a)
   only_done c text (status.BadImage n) sound within a = absurd (sound.bad n a.1)
+  only_done c text (status.BadPolicy l) sound within a = absurd (sound.bad_line l a.1)
   only_done c text status.Usage sound within a = absurd a
   only_done c text status.ReadFault sound within a = absurd a
   only_done c text status.WriteFault sound within a = absurd a
@@ -364,7 +409,7 @@ module _
   pub completed : (c : Command) (t : Traffic) (text : List ℕ) (s : Status) → Says c t s → t.left ≡ Some text →
       IsUndisturbed t → IsWithin c text → IsGood c text → (s ≡ status.Done) ⊎ (s ≡ status.OutOfMemory)
   completed c t text s says is calm within good =
-      ⊎_elim (λ answer. inl (only_done c text s (good_is_sound c text good) within answer)) inr
+      ⊎_elim (λ answer. inl (only_done c text s (good_is_sound (intake c) c text good) within answer)) inr
       (answered c t text s says is calm)
 
   -- all that an answer says

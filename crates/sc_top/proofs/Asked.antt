@@ -1,5 +1,6 @@
--- What is asked of `explain` and `make` is bounded.
-use Rattle.sc_top.proofs.Common.{Bool, Check, Command, Compile, Exec, Explain, IsBounded, IsInput, IsWithinLimit, List}
+-- What is asked of `explain`, `judge` and `make` is bounded.
+use Rattle.sc_top.proofs.Common.{Bool, Check, Command, Compile, Exec, Explain, IsBounded, IsInput, IsWithinLimit, Judge}
+use Rattle.sc_top.proofs.Common.{List}
 use Rattle.sc_top.proofs.Common.{Make, MakeOptions, Meaning, None, Option, Run, RunOptions, Some, arith, codes, false}
 use Rattle.sc_top.proofs.Common.{if◌then◌else◌, leb-true, nat_le, none-some, option_and_then, option_map, refl, subst}
 use Rattle.sc_top.proofs.Common.{true, ℕ, ℤ, ◌&&◌, ◌≡◌, ◌≤◌}
@@ -86,8 +87,10 @@ with_values name value summary c =
     (either (bytes_eq name _) _ _ c (mapped Run _ _ c) (either (bytes_eq name _) _ _ c (mapped Exec _ _ c)
     (either (bytes_eq name _) _ _ c (of_explain _ _ c (λ options. of_run (words.limit (value _))
     (words.events (value _)) (words.inputs (value _)) options (of_events (value _))))
+    (either (bytes_eq name _) _ _ c (mapped Judge _ (λ options. of_run (words.limit (value _))
+    (words.events (value _)) (words.inputs (value _)) options (of_events (value _))) c)
     (either (bytes_eq name _) _ _ c (mapped Make _ (λ options. of_make _ _ summary options
-    (of_value 1 1000 (value _)) (of_value 0 4294967295 (value _))) c) (λ is. absurd (none-some c is))))))))
+    (of_value 1 1000 (value _)) (of_value 0 4294967295 (value _))) c) (λ is. absurd (none-some c is)))))))))
 
 of_parsed : (read : Option (List ℕ × List (List ℕ × List ℕ))) (c : Command) →
     option_and_then (λ read. words.command_with read.0 (λ name. given_value name read.1)

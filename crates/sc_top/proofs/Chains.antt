@@ -6,6 +6,7 @@ use Rattle.sc_top.proofs.Common.{Option, ProgramTree, Result, RunOptions, Some, 
 use Rattle.sc_top.proofs.Common.{ap₂, arith, comp_of, concat, false, if◌then◌else◌, joined_text, length, machine, map}
 use Rattle.sc_top.proofs.Common.{meaning, performing, performing_text, recomposed, recursion_from_All, refl}
 use Rattle.sc_top.proofs.Common.{replacement_of, subst, suc, summary_text, sym, take, text_after, text_for, true}
+use Rattle.sc_top.proofs.Common.{HasExplanation, IsJudged, IsPolicyRead, PolicyRead, drop, judge_text, performers}
 use Rattle.sc_top.proofs.Common.{word_of, zero, ℕ, ◌++◌, ◌==◌, ◌||◌, ◌∙◌, ◌∷◌, ◌≡◌, ◌≤◌}
 use Rattle.std.proofs.lemmas.Bool.Decides.{Decides-eqb}
 use Rattle.sc_chain.specs.declared.composed.Replacement.{Replacement}
@@ -67,6 +68,21 @@ pub explained_perform : (source : SourceParts) (inputs : List ℕ) (steps events
     ArePerforming source explanation.trace explanation.links
 explained_perform source inputs steps events explanation is =
     All-from_recursion (Performs source _) _ (from_chain source _ inputs steps _ [] 0 is.chain.chain)
+
+-- a text that was read, with an explanation
+abbrev pub has_explanation : (options : RunOptions) (bytes : List ℕ) (source : SourceParts)
+    (explanation : Explanation) → IsSource source → source.bytes ≡ bytes →
+    IsExplained source (map word_of options.inputs) options.steps options.events explanation →
+    length bytes ≤ 1048576 → HasExplanation options bytes
+has_explanation options bytes source explanation parts whole explained short = record {
+  source = source;
+  parts = parts;
+  whole = whole;
+  explanation = explanation;
+  explained = explained;
+  short = λ links. explained.short (subst (λ (text : List ℕ). length text ≤ 1048576) (sym whole) short)
+      (performers explanation links);
+}
 
 -- the text in which the first links replace is that of the chain after them
 pub recomposed_after : (source : SourceParts) (explanation : Explanation) (links : ℕ) →
@@ -233,15 +249,36 @@ module _
           (subst (λ (t : List Event). IsChainFrom source inputs steps t [] 0 other.links) (sym trace)
           known.chain.chain)
 
+  -- a text has one source and one explanation
+  explained_source : (options : RunOptions) (bytes others : List ℕ) → bytes ≡ others →
+      (is : HasExplanation options bytes) (known : HasExplanation options others) → is.source ≡ known.source
+  explained_source options bytes others same is known =
+      one_source is.source known.source is.parts known.parts (is.whole ∙ (same ∙ sym known.whole))
+
+  explained_once : (options : RunOptions) (bytes others : List ℕ) → bytes ≡ others →
+      (is : HasExplanation options bytes) (known : HasExplanation options others) → is.explanation ≡ known.explanation
+  explained_once options bytes others same is known =
+      one_explanation known.source (map word_of options.inputs) options.steps options.events
+      is.explanation known.explanation
+      (subst (λ s. IsExplained s (map word_of options.inputs) options.steps options.events is.explanation)
+      (explained_source options bytes others same is known) is.explained) known.explained
+
   -- a text has one account
   pub one_account : (options : RunOptions) (show : Option ℕ) (bytes text other : List ℕ) →
       IsAccounted options show bytes text → IsAccounted options show bytes other → text ≡ other
   one_account options show bytes text other is known =
-      let source = one_source is.source known.source is.parts known.parts (is.whole ∙ sym known.whole) in
-      let explained = subst (λ s. IsExplained s _ _ _ _) source is.explained in
-      let explanation = one_explanation known.source (map word_of _) options.steps options.events
-      is.explanation known.explanation explained known.explained in
-      is.written ∙ ap₂ (account show) source explanation ∙ sym known.written
+      is.written ∙ ap₂ (account show) (explained_source options bytes bytes refl is.has known.has)
+      (explained_once options bytes bytes refl is.has known.has) ∙ sym known.written
+
+  -- so has one that follows a policy
+  pub one_verdict : ((bytes : List ℕ) (one other : PolicyRead) → IsPolicyRead bytes one → IsPolicyRead bytes other →
+      one ≡ other) → (options : RunOptions) (bytes text other : List ℕ) →
+      IsJudged options bytes text → IsJudged options bytes other → text ≡ other
+  one_verdict one_policy options bytes text other is known =
+      let read = one_policy bytes is.read known.read is.is known.is in
+      let rest = ap (λ (r : PolicyRead). drop r.rest bytes) read in
+      is.written ∙ (λ i. judge_text (read i).policy (explained_source options _ _ rest is.has known.has i)
+      (explained_once options _ _ rest is.has known.has i)) ∙ sym known.written
 
   -- a made program has one summary
   pub one_summary : (options : MakeOptions) (text other : List ℕ) → IsSummary options text → IsSummary options other →

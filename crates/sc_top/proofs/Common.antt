@@ -1,15 +1,17 @@
 -- The names that several proofs of this crate cite, passed on from one place. Declares nothing.
 pub use Rattle.std.proofs.Common.{All, Bool, Err, IfOk, IsErrOf, IsSome, IsTrue, List, None, Ok, OnOk, Option, Result}
 pub use Rattle.std.proofs.Common.{Some, [], ap, append-nil, append_assoc, ap₂, arith, codes, decimal, drop, false}
-pub use Rattle.std.proofs.Common.{flat_map, if◌then◌else◌, inl, inr, le-ltb, leb-true, length, length-append}
+pub use Rattle.std.proofs.Common.{filter, flat_map, if◌then◌else◌, inl, inr, le-ltb, leb-true, length, length-append}
 pub use Rattle.std.proofs.Common.{length-drop, map, nat_le, option_and_then, option_map, refl, rules, slice_get, subst}
 pub use Rattle.std.proofs.Common.{suc, sym, take, take-append-drop, take_all, true, zero, ℕ, ℤ, ⊎_elim, ◌&&◌, ◌*◌, ◌++◌}
 pub use Rattle.std.proofs.Common.{◌+◌, ◌-◌, ◌<◌, ◌==◌, ◌||◌, ◌∙◌, ◌∷◌, ◌≡◌, ◌≤◌, ◌⊎◌}
-pub use Rattle.std.proofs.lemmas.Bool.{and_parts, false≢true}
+pub use Rattle.std.proofs.Math.Bool.{and-true, or-false}
+pub use Rattle.std.proofs.lemmas.Bool.{and_parts, false≢true, leb-false, or_parts}
 pub use Rattle.std.proofs.lemmas.List.{length-map, take_rest}
 pub use Rattle.std.proofs.lemmas.List.Elements.{All-from_recursion, All-map, recursion_from_All}
 pub use Rattle.std.proofs.lemmas.Option.{none-some}
 pub use Rattle.std.specs.List.{AllByRecursion, concat}
+pub use Rattle.std.specs.Prelude.{min, slice_index_or}
 pub use Rattle.sc_event.specs.Prelude.{IsKnown, comp_at, legal}
 pub use Rattle.sc_event.specs.declared.event.Event.{Event}
 pub use Rattle.sc_word.specs.Prelude.{word_of}
@@ -36,16 +38,20 @@ pub use Rattle.sc_report_made.specs.Laws.{AreSmall, IsAccepted, IsSmall}
 pub use Rattle.sc_top_words.specs.declared.command.Command.TheVariants.{Make}
 pub use Rattle.sc_top_words.specs.declared.command.MakeOptions.{MakeOptions}
 pub use Rattle.sc_top_words.specs.declared.command.RunOptions.{RunOptions}
+pub use Rattle.sc_policy.specs.Prelude.{IsBadAt, IsPolicyRead, lines_of}
+pub use Rattle.sc_policy.specs.declared.policy.Policy.{Policy}
+pub use Rattle.sc_policy.specs.declared.read.PolicyRead.{PolicyRead}
 pub use Rattle.sc_report.specs.Report.{meaning_text, run_text}
 pub use Rattle.sc_report.specs.Summary.{summary_text}
 pub use Rattle.sc_top.specs.Common.{Adds, CompileFault, Interfaces, IsAtEnd, Link, ProgramTree, Refusal, Rose, Takes}
-pub use Rattle.sc_top.specs.Prelude.{Answers, ArePerforming, Check, Command, Compile, Exec, Explain, Fetches, FindsBad}
-pub use Rattle.sc_top.specs.Prelude.{HasImage, IsAccounted, IsAnswer, IsBounded, IsCompiling, IsExecuted, IsGood}
-pub use Rattle.sc_top.specs.Prelude.{IsGoodText, IsInput, IsMadeBy, IsMadeText, IsNamed, IsOutput, IsOutputCause}
-pub use Rattle.sc_top.specs.Prelude.{IsSummary, IsTextOutput, IsUndisturbed, IsUnfit, IsWhole, IsWithin, IsWithinLimit}
-pub use Rattle.sc_top.specs.Prelude.{Meaning, Prints, Refuses, Run, SameAnswer, Says, Status, Traffic, Wrote, account}
-pub use Rattle.sc_top.specs.Prelude.{bytes_of, cause_in, comp_of, compiles, limit_of, machine_run, machine_text}
-pub use Rattle.sc_top.specs.Prelude.{meaning_asked}
-pub use Rattle.sc_top.specs.Prelude.{of_compile_fault, output, own_text, owner_text, replacement_of, status_by}
+pub use Rattle.sc_top.specs.Prelude.{Answers, ArePerforming, Check, Command, Compile, Exec, Explain, Fetches}
+pub use Rattle.sc_top.specs.Prelude.{FindsBad, FindsBadLine, FindsUnfit, HasExplanation, HasImage, HoldsAfterPolicy}
+pub use Rattle.sc_top.specs.Prelude.{HoldsOfText, IsAccounted, IsAnswer, IsBounded, IsCommitted, IsCompiling}
+pub use Rattle.sc_top.specs.Prelude.{IsExecuted, IsGood, IsGoodText, IsInput, IsJudged, IsMadeBy, IsMadeText, IsNamed}
+pub use Rattle.sc_top.specs.Prelude.{IsOutput, IsOutputCause, IsSummary, IsTextOutput, IsUndisturbed, IsUnfit}
+pub use Rattle.sc_top.specs.Prelude.{IsWhole, IsWithin, IsWithinLimit, Judge, Meaning, Prints, Refuses, Run}
+pub use Rattle.sc_top.specs.Prelude.{SameAnswer, Says, Status, Traffic, Wrote, account, bytes_of, cause_in, comp_of}
+pub use Rattle.sc_top.specs.Prelude.{compiles, intake, judge_text, limit_of, machine_run, machine_text, meaning_asked}
+pub use Rattle.sc_top.specs.Prelude.{of_compile_fault, output, own_text, owner_text, performers, replacement_of, status_by}
 pub use Rattle.sc_top.specs.Prelude.{text_after}
 pub use Rattle.sc_top.specs.declared.failure.Failure.{Failure}

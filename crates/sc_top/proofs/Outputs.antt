@@ -2,11 +2,11 @@
 use Rattle.sc_top.proofs.Common.{Accepts, Bool, BytesNameOneImage, Command, Failure, HasImage, ImageParts, IsCompiling}
 use Rattle.sc_top.proofs.Common.{IsExecuted, IsMadeBy, IsOutput, IsOutputCause, IsTextOutput, IsTrue, List, MakeOptions}
 use Rattle.sc_top.proofs.Common.{ProgramTree, RunOptions, [], ap, compiles, false, image_interfaces, machine_text}
-use Rattle.sc_top.proofs.Common.{output}
+use Rattle.sc_top.proofs.Common.{HoldsOfText, IsPolicyRead, IsUnfit, PolicyRead, intake, output}
 use Rattle.sc_top.proofs.Common.{refl, subst, sym, true, ℕ, ◌∙◌, ◌≡◌}
 use Rattle.sc_top_words.specs.declared.command.Command.TheVariants as commands
 use Rattle.sc_top.specs.declared.failure.Failure.TheVariants as failure
-use Rattle.sc_top.proofs.Chains.{one_account, one_summary}
+use Rattle.sc_top.proofs.Chains.{one_account, one_summary, one_verdict}
 
 -- the image that stands where a command compiles none
 pub no_image : ImageParts
@@ -39,23 +39,27 @@ compiled_output command bytes text program image accepted compiled written =
     }
 
 -- why a program isn't compiled is why a command that compiles has no output for its text
-unfit_cause : (command : Command) (bytes : List ℕ) (program : ProgramTree) (f : Failure) → Accepts bytes program →
+unfit_cause : (command : Command) (bytes text : List ℕ) (program : ProgramTree) (f : Failure) →
+    ((Q : List ℕ → Type 0) → Q text → HoldsOfText (intake command) bytes Q) → Accepts text program →
     IsTrue (compiles command) → IsCompiling program f → IsOutputCause command bytes f
-unfit_cause command bytes program failure.Usage accepted compiled why = why
-unfit_cause command bytes program (failure.Refused refusal) accepted compiled why = absurd why
-unfit_cause command bytes program (failure.TooLarge fault) accepted compiled why =
-    record { program = program; accepted = accepted; compiled = compiled; found = why }
-unfit_cause command bytes program (failure.TooLong limit) accepted compiled why = why
-unfit_cause command bytes program (failure.BadImage cause) accepted compiled why = absurd why
-unfit_cause command bytes program failure.ReadFault accepted compiled why = why
-unfit_cause command bytes program failure.WriteFault accepted compiled why = why
-unfit_cause command bytes program failure.OutOfMemory accepted compiled why = tt
+unfit_cause command bytes text program failure.Usage takes accepted compiled why = why
+unfit_cause command bytes text program (failure.Refused refusal) takes accepted compiled why = absurd why
+unfit_cause command bytes text program (failure.TooLarge fault) takes accepted compiled why =
+    takes (λ text. IsUnfit command text fault)
+    (record { program = program; accepted = accepted; compiled = compiled; found = why })
+unfit_cause command bytes text program (failure.TooLong limit) takes accepted compiled why = why
+unfit_cause command bytes text program (failure.BadImage cause) takes accepted compiled why = absurd why
+unfit_cause command bytes text program failure.ReadFault takes accepted compiled why = why
+unfit_cause command bytes text program failure.WriteFault takes accepted compiled why = why
+unfit_cause command bytes text program failure.OutOfMemory takes accepted compiled why = tt
+unfit_cause command bytes text program (failure.BadPolicy line) takes accepted compiled why = absurd why
 
-pub compiled_cause : (command : Command) (bytes : List ℕ) (program other : ProgramTree) (f : Failure) →
-    other ≡ program → Accepts bytes program → IsTrue (compiles command) → IsCompiling other f →
+pub compiled_cause : (command : Command) (bytes text : List ℕ) (program other : ProgramTree) (f : Failure) →
+    ((Q : List ℕ → Type 0) → Q text → HoldsOfText (intake command) bytes Q) →
+    other ≡ program → Accepts text program → IsTrue (compiles command) → IsCompiling other f →
     IsOutputCause command bytes f
-compiled_cause command bytes program other f same accepted compiled why =
-    unfit_cause command bytes program f accepted compiled (subst (λ p. IsCompiling p f) same why)
+compiled_cause command bytes text program other f takes same accepted compiled why =
+    unfit_cause command bytes text program f takes accepted compiled (subst (λ p. IsCompiling p f) same why)
 
 -- ONE OUTPUT
 
@@ -67,6 +71,7 @@ same_output (commands.Meaning options) program one other same = refl
 same_output commands.Compile program one other same = ap (output commands.Compile program) (same refl)
 same_output (commands.Run options) program one other same = ap (output (commands.Run options) program) (same refl)
 same_output (commands.Explain options show) program one other same = refl
+same_output (commands.Judge options) program one other same = refl
 same_output (commands.Exec options) program one other same = refl
 same_output (commands.Make options) program one other same = refl
 
@@ -102,13 +107,18 @@ module _
   one_made false options text other is known = is.written ∙ sym known.written
 
   -- a command has one output
-  pub one_output : BytesNameOneImage → (command : Command) (bytes text other : List ℕ) → IsOutput command bytes text →
+  pub one_output : BytesNameOneImage → ((bytes : List ℕ) (one other : PolicyRead) → IsPolicyRead bytes one →
+      IsPolicyRead bytes other → one ≡ other) → (command : Command) (bytes text other : List ℕ) →
+      IsOutput command bytes text →
       IsOutput command bytes other → text ≡ other
-  one_output one commands.Check bytes text other is known = one_text _ bytes text other is known
-  one_output one (commands.Meaning options) bytes text other is known = one_text _ bytes text other is known
-  one_output one commands.Compile bytes text other is known = one_text _ bytes text other is known
-  one_output one (commands.Run options) bytes text other is known = one_text _ bytes text other is known
-  one_output one (commands.Explain options show) bytes text other is known =
+  one_output one one_policy commands.Check bytes text other is known = one_text _ bytes text other is known
+  one_output one one_policy (commands.Meaning options) bytes text other is known = one_text _ bytes text other is known
+  one_output one one_policy commands.Compile bytes text other is known = one_text _ bytes text other is known
+  one_output one one_policy (commands.Run options) bytes text other is known = one_text _ bytes text other is known
+  one_output one one_policy (commands.Explain options show) bytes text other is known =
       one_account one_program options show bytes text other is known
-  one_output one (commands.Exec options) bytes text other is known = one_run one options bytes text other is known
-  one_output one (commands.Make options) bytes text other is known = one_made _ options text other is known
+  one_output one one_policy (commands.Judge options) bytes text other is known =
+      one_verdict one_program one_policy options bytes text other is known
+  one_output one one_policy (commands.Exec options) bytes text other is known =
+      one_run one options bytes text other is known
+  one_output one one_policy (commands.Make options) bytes text other is known = one_made _ options text other is known

@@ -2,15 +2,17 @@
 use Rattle.sc_top.specs.Common.{Accepts, Adds, Command, Fails, IsAtEnd, IsImage, ProgramTree, Refusal, Rose, Takes, bad}
 use Rattle.sc_top.specs.Common.{cause_number}
 use Rattle.sc_base.specs.Prelude.{IsPrefix}
-use Rattle.std.specs.Prelude.{◌≡◌, ◌≢◌, ◌≤◌, ◌⊎◌, ◌+◌, ℕ, IsTrue, List, [], ◌++◌, length, Option, Some, None}
+use Rattle.std.specs.Prelude.{◌≡◌, ◌≢◌, ◌≤◌, ◌⊎◌, ◌+◌, ℕ, IsTrue, List, [], ◌++◌, length, min, Option, Some, None}
 use Rattle.std.specs.Prelude.{option_and_then}
 use Rattle.std.specs.Option.{option_map}
 use Rattle.sc_lex.specs.declared.refusal.Phase.TheVariants.{Syntax}
+use Rattle.sc_policy.specs.Prelude.{IsBadAt, lines_of}
 use Rattle.sc_top.specs.declared.status.Status.{Status}
 use Rattle.sc_top.specs.declared.status.Status.TheVariants.{Done, Usage, Refused, TooLarge, TooLong, BadImage}
-use Rattle.sc_top.specs.declared.status.Status.TheVariants.{ReadFault, WriteFault, OutOfMemory}
+use Rattle.sc_top.specs.declared.status.Status.TheVariants.{ReadFault, WriteFault, OutOfMemory, BadPolicy}
 use Rattle.sc_top.specs.declared.status.TooLarge as large
-use Rattle.sc_top.specs.Command.{Intake, Text, Image, Nothing, intake, limit_of}
+use Rattle.sc_top.specs.Command.{HoldsAfterPolicy, HoldsOfText, Intake, Text, PolicyAndText, Image, Nothing, intake}
+use Rattle.sc_top.specs.Command.{limit_of}
 use Rattle.sc_top.specs.Large.{large_in}
 use Rattle.sc_top.specs.Output.{compiles, IsGoodText, IsOutput}
 
@@ -65,14 +67,9 @@ pub record HasBegun (command : Command) (traffic : Traffic) (bytes : List ℕ) :
 
 -- Causes: why a command has no output for its input.
 
--- a text fails a phase, at a line
-abbrev pub FailsIn : Intake → List ℕ → Refusal → Type 0
-FailsIn (Text limit) bytes refusal = Fails bytes refusal.phase refusal.line
-FailsIn (Image limit) bytes refusal = ⊥
-FailsIn Nothing bytes refusal = ⊥
-
+-- the text fails a phase, at a line of its own
 abbrev pub Refuses : Command → List ℕ → Refusal → Type 0
-Refuses command bytes refusal = FailsIn (intake command) bytes refusal
+Refuses command bytes refusal = HoldsOfText (intake command) bytes (λ text. Fails text refusal.phase refusal.line)
 
 -- the number of the cause for which the bytes are no image, if they are none
 abbrev pub cause_in : List ℕ → Option ℕ
@@ -81,17 +78,36 @@ cause_in bytes = option_map cause_number (bad bytes)
 abbrev pub IsBadIn : Intake → List ℕ → (cause : ℕ) → Type 0
 IsBadIn (Image limit) bytes cause = cause_in bytes ≡ Some cause
 IsBadIn (Text limit) bytes cause = ⊥
+IsBadIn (PolicyAndText limit) bytes cause = ⊥
 IsBadIn Nothing bytes cause = ⊥
 
 abbrev pub FindsBad : Command → List ℕ → (cause : ℕ) → Type 0
 FindsBad command bytes cause = IsBadIn (intake command) bytes cause
 
+-- the lines begin no policy, from the one of this number on; all after 4294967295 lines have that number
+pub record HasBadLine (bytes : List ℕ) (line : ℕ) : Type 0 where
+  pub first : ℕ
+  pub bad : IsBadAt (lines_of bytes) first
+  pub number : line ≡ min first 4294967295
+
+abbrev pub HasBadLineIn : Intake → List ℕ → (line : ℕ) → Type 0
+HasBadLineIn (PolicyAndText limit) bytes line = HasBadLine bytes line
+HasBadLineIn (Text limit) bytes line = ⊥
+HasBadLineIn (Image limit) bytes line = ⊥
+HasBadLineIn Nothing bytes line = ⊥
+
+abbrev pub FindsBadLine : Command → List ℕ → (line : ℕ) → Type 0
+FindsBadLine command bytes line = HasBadLineIn (intake command) bytes line
+
 -- the text is accepted, and the command compiles its program, which is too large
-pub record IsUnfit (command : Command) (bytes : List ℕ) (fault : large.TooLarge) : Type 0 where
+pub record IsUnfit (command : Command) (text : List ℕ) (fault : large.TooLarge) : Type 0 where
   pub program : ProgramTree
-  pub accepted : Accepts bytes program
+  pub accepted : Accepts text program
   pub compiled : IsTrue (compiles command)
   pub found : large_in program ≡ Some fault
+
+abbrev pub FindsUnfit : Command → List ℕ → large.TooLarge → Type 0
+FindsUnfit command bytes fault = HoldsOfText (intake command) bytes (λ text. IsUnfit command text fault)
 
 -- What each status says.
 
@@ -100,9 +116,10 @@ abbrev pub Says : Command → Traffic → Status → Type 0
 Says command traffic Done = HasRead command traffic (HasWritten command traffic)
 Says command traffic Usage = ⊥
 Says command traffic (Refused refusal) = HasRead command traffic (λ bytes. Refuses command bytes refusal)
-Says command traffic (TooLarge fault) = HasRead command traffic (λ bytes. IsUnfit command bytes fault)
+Says command traffic (TooLarge fault) = HasRead command traffic (λ bytes. FindsUnfit command bytes fault)
 Says command traffic (TooLong limit) = (limit_of command ≡ Some limit) × IsLonger limit traffic.left traffic.left_after
 Says command traffic (BadImage cause) = HasRead command traffic (λ bytes. FindsBad command bytes cause)
+Says command traffic (BadPolicy line) = HasRead command traffic (λ bytes. FindsBadLine command bytes line)
 Says command traffic ReadFault = Rose traffic.read_faults traffic.read_faults_after
 Says command traffic WriteFault =
     Rose traffic.write_faults traffic.write_faults_after × HasRead command traffic (HasBegun command traffic)
@@ -125,17 +142,19 @@ IsWithin command bytes = IsWithinLimit (limit_of command) bytes
 abbrev pub IsAnswer : Command → List ℕ → Status → Type 0
 IsAnswer command bytes Done = IsWithin command bytes × ((text : List ℕ) × IsOutput command bytes text)
 IsAnswer command bytes (Refused refusal) = IsWithin command bytes × Refuses command bytes refusal
-IsAnswer command bytes (TooLarge fault) = IsWithin command bytes × IsUnfit command bytes fault
+IsAnswer command bytes (TooLarge fault) = IsWithin command bytes × FindsUnfit command bytes fault
 IsAnswer command bytes (TooLong limit) = (limit_of command ≡ Some limit) × (limit + 1 ≤ length bytes)
 IsAnswer command bytes (BadImage cause) = IsWithin command bytes × FindsBad command bytes cause
+IsAnswer command bytes (BadPolicy line) = IsWithin command bytes × FindsBadLine command bytes line
 IsAnswer command bytes Usage = ⊥
 IsAnswer command bytes ReadFault = ⊥
 IsAnswer command bytes WriteFault = ⊥
 IsAnswer command bytes OutOfMemory = ⊥
 
--- good input: a good text; the bytes of an image; for a command that reads nothing whatever is there
+-- good input: a good text, a policy and a good text, the bytes of an image, or anything where a command reads nothing
 abbrev pub IsGoodIn : Intake → Command → List ℕ → Type 0
 IsGoodIn (Text limit) command bytes = IsGoodText command bytes
+IsGoodIn (PolicyAndText limit) command bytes = HoldsAfterPolicy bytes (IsGoodText command)
 IsGoodIn (Image limit) command bytes = IsImage bytes
 IsGoodIn Nothing command bytes = Unit {0}
 

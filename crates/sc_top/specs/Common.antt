@@ -8,6 +8,6 @@ pub use Rattle.sc_types.specs.Prelude.{Accepts, Fails, IsSource, SourceParts}
 pub use Rattle.sc_image.specs.Prelude.{IsImage, MachineRun, bad, cause_number, image_bytes, image_interfaces, machine}
 pub use Rattle.sc_compile.specs.Prelude.{IsCompiled, image_of, too_large}
 pub use Rattle.sc_compile.specs.declared.fault.CompileFault.{CompileFault}
-pub use Rattle.sc_chain.specs.Prelude.{IsExplained, is_listed, performing_text, recomposed}
+pub use Rattle.sc_chain.specs.Prelude.{IsExplained, is_listed, performing, performing_text, recomposed}
 pub use Rattle.sc_core.specs.declared.explanation.Link.{Link}
 pub use Rattle.sc_top_words.specs.declared.command.Command.{Command}

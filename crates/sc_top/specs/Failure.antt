@@ -5,16 +5,18 @@ use Rattle.sc_image.specs.declared.fault.ImageFault.{ImageFault}
 use Rattle.sc_image.specs.declared.fault.ImageFault.TheVariants as image
 use Rattle.sc_lex.specs.declared.fault.TextFault.{TextFault}
 use Rattle.sc_lex.specs.declared.fault.TextFault.TheVariants as text
+use Rattle.sc_policy.specs.declared.fault.PolicyFault.{PolicyFault}
+use Rattle.sc_policy.specs.declared.fault.PolicyFault.TheVariants as policy
 use Rattle.sc_top_words.specs.declared.fault.WordsFault.{WordsFault}
 use Rattle.sc_top_words.specs.declared.fault.WordsFault.TheVariants as words
 use Rattle.sc_top.specs.declared.input.ReadFault as read
 use Rattle.sc_top.specs.declared.input.ReadFault.TheVariants as faults
 use Rattle.sc_top.specs.declared.failure.Failure.{Failure}
 use Rattle.sc_top.specs.declared.failure.Failure.TheVariants.{Usage, Refused, TooLarge, TooLong, BadImage, ReadFault}
-use Rattle.sc_top.specs.declared.failure.Failure.TheVariants.{WriteFault, OutOfMemory}
+use Rattle.sc_top.specs.declared.failure.Failure.TheVariants.{WriteFault, OutOfMemory, BadPolicy}
 use Rattle.sc_top.specs.declared.status.Status.{Status}
 use Rattle.sc_top.specs.declared.status.Status.TheVariants as status
-use Rattle.sc_top.specs.Answer.{IsLonger, Refuses, IsUnfit, FindsBad}
+use Rattle.sc_top.specs.Answer.{IsLonger, Refuses, FindsUnfit, FindsBad, FindsBadLine}
 
 abbrev pub of_words_fault : WordsFault → Failure
 of_words_fault words.Usage = Usage
@@ -32,6 +34,10 @@ abbrev pub of_image_fault : ImageFault → Failure
 of_image_fault (image.Bad cause) = BadImage (cause_number cause)
 of_image_fault image.OutOfMemory = OutOfMemory
 
+abbrev pub of_policy_fault : PolicyFault → Failure
+of_policy_fault (policy.Bad line) = BadPolicy line
+of_policy_fault policy.OutOfMemory = OutOfMemory
+
 abbrev pub status_of : Failure → Status
 status_of Usage = status.Usage
 status_of (Refused refusal) = status.Refused refusal
@@ -41,6 +47,7 @@ status_of (BadImage cause) = status.BadImage cause
 status_of ReadFault = status.ReadFault
 status_of WriteFault = status.WriteFault
 status_of OutOfMemory = status.OutOfMemory
+status_of (BadPolicy line) = status.BadPolicy line
 
 -- the status of a call that went well or failed
 abbrev pub status_by : {A : Type 0} → Result A Failure → Status
@@ -58,7 +65,8 @@ IsInputCause limit left left_after faults faults_after _ = ⊥
 -- why a command has no output for these bytes
 abbrev pub IsOutputCause : Command → List ℕ → Failure → Type 0
 IsOutputCause command bytes (Refused refusal) = Refuses command bytes refusal
-IsOutputCause command bytes (TooLarge fault) = IsUnfit command bytes fault
+IsOutputCause command bytes (TooLarge fault) = FindsUnfit command bytes fault
 IsOutputCause command bytes (BadImage cause) = FindsBad command bytes cause
+IsOutputCause command bytes (BadPolicy line) = FindsBadLine command bytes line
 IsOutputCause command bytes OutOfMemory = Unit {0}
 IsOutputCause command bytes _ = ⊥

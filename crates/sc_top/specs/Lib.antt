@@ -2,6 +2,7 @@ pub mod Common
 pub mod Prelude
 pub mod Answer
 pub mod Command
+pub mod Committed
 pub mod Failure
 pub mod Fetching
 pub mod Large

@@ -1,15 +1,16 @@
 -- What each command writes for the program of a text and its image, or for an image.
 use Rattle.sc_top_words.specs.Words.{most_steps}
 use Rattle.sc_base.specs.Prelude.{most_compiled, most_events, most_text}
-use Rattle.sc_top.specs.Common.{Accepts, Command, Interfaces, IsCompiled, IsExplained, IsImage, IsSource, Link}
-use Rattle.sc_top.specs.Common.{ProgramTree, MachineRun, SourceParts, is_listed, image_bytes, image_of}
+use Rattle.sc_top.specs.Common.{Accepts, Command, Interfaces, IsCompiled, IsExplained, IsImage, IsSource}
+use Rattle.sc_top.specs.Common.{ProgramTree, MachineRun, SourceParts, image_bytes, image_of}
 use Rattle.sc_top.specs.Common.{image_interfaces, machine}
-use Rattle.sc_top.specs.Common.{recomposed, too_large}
+use Rattle.sc_top.specs.Common.{too_large}
 use Rattle.sc_word.specs.Prelude.{word_of}
 use Rattle.sc_core.specs.Prelude.{meaning}
 use Rattle.sc_image.specs.declared.parts.ImageParts.{ImageParts}
 use Rattle.sc_top_words.specs.declared.command.RunOptions.{RunOptions}
-use Rattle.std.specs.Prelude.{◌≡◌, ◌≤◌, ℕ, Bool, true, false, IsTrue, List, [], length, map, take, Option, Some, None}
+use Rattle.std.specs.Prelude.{◌≡◌, ◌≤◌, ◌++◌, ℕ, Bool, true, false, IsTrue, List, [], length, map, drop, Option, Some}
+use Rattle.std.specs.Prelude.{None}
 use Rattle.std.specs.Prelude.{Ok}
 use Rattle.sc_core.specs.declared.explanation.Explanation.{Explanation}
 use Rattle.sc_core.specs.declared.run.SourceRun.{SourceRun}
@@ -17,6 +18,13 @@ use Rattle.sc_report.specs.Check.{check_text}
 use Rattle.sc_report_made.specs.Text.{made_text}
 use Rattle.sc_report.specs.Report.{explain_text, meaning_text, run_text}
 use Rattle.sc_report.specs.Summary.{summary_text}
+use Rattle.sc_report.specs.Verdict.{verdict_text}
+use Rattle.sc_policy.specs.Prelude.{IsPolicyRead}
+use Rattle.sc_policy.specs.declared.policy.Policy.{Policy}
+use Rattle.sc_policy.specs.declared.read.PolicyRead.{PolicyRead}
+use Rattle.sc_monitor.specs.Prelude.{verdict}
+use Rattle.sc_monitor.specs.declared.verdict.Verdict.TheVariants.{Violated}
+use Rattle.sc_top.specs.Committed.{IsCommitted, text_after}
 use Rattle.sc_top_words.specs.declared.command.Command.TheVariants as commands
 use Rattle.sc_top_words.specs.declared.command.MakeOptions.{MakeOptions}
 use Rattle.sc_top_words.specs.declared.command.MeaningOptions.{MeaningOptions}
@@ -47,6 +55,7 @@ compiles commands.Compile = true
 compiles (commands.Run options) = true
 compiles (commands.Exec options) = false
 compiles (commands.Explain options show) = true
+compiles (commands.Judge options) = true
 compiles (commands.Make options) = false
 
 -- a text that is accepted, whose program fits where it is compiled
@@ -64,6 +73,7 @@ output commands.Compile program image = image_bytes image
 output (commands.Run options) program image = machine_text program.interfaces options image
 output (commands.Exec options) program image = []
 output (commands.Explain options show) program image = []
+output (commands.Judge options) program image = []
 output (commands.Make options) program image = []
 
 -- the bytes are an accepted text, with an image where the command compiles, and this is the output for them
@@ -74,31 +84,42 @@ pub record IsTextOutput (command : Command) (bytes text : List ℕ) : Type 0 whe
   pub compiled : IsTrue (compiles command) → HasImage program image
   pub written : text ≡ output command program image
 
-abbrev pub comp_of : Link → ℕ
-comp_of link = link.comp
-
--- the text of the chain after `links` links, or after all where there are fewer: the compartments of those links
--- perform their parts of the trace
-abbrev pub text_after : SourceParts → Explanation → (links : ℕ) → List ℕ
-text_after source explanation links =
-    recomposed source explanation.trace (is_listed (map comp_of (take links explanation.links)))
-
 -- what `explain` writes: the report, or one text of the chain
 abbrev pub account : (show : Option ℕ) → SourceParts → Explanation → List ℕ
 account None source explanation = explain_text source.program.interfaces explanation
 account (Some links) source explanation = text_after source explanation links
 
--- the bytes are an accepted text, the machine's trace on its program's image is explained by a chain of texts, and this
--- is the account of it
-pub record IsAccounted (options : RunOptions) (show : Option ℕ) (bytes text : List ℕ) : Type 0 where
+-- the bytes are an accepted text, and the machine's trace on its program's image is explained by a chain of texts
+pub record HasExplanation (options : RunOptions) (bytes : List ℕ) : Type 0 where
   pub source : SourceParts
   pub parts : IsSource source
   pub whole : source.bytes ≡ bytes
   pub explanation : Explanation
   pub explained : IsExplained source (map word_of options.inputs) options.steps options.events explanation
-  pub written : text ≡ account show source explanation
   -- no text of the chain is longer than `meaning` takes
   pub short : (links : ℕ) → length (text_after source explanation links) ≤ most_text
+
+-- this is the account of it
+pub record IsAccounted (options : RunOptions) (show : Option ℕ) (bytes text : List ℕ) : Type 0 where
+  pub has : HasExplanation options bytes
+  pub written : text ≡ account show has.source has.explanation
+
+-- what `judge` writes: the report, and what the policy says of the trace
+abbrev pub judge_text : Policy → SourceParts → Explanation → List ℕ
+judge_text policy source explanation =
+    explain_text source.program.interfaces explanation ++
+    verdict_text policy.states source.program.interfaces (verdict policy source.program.interfaces explanation)
+
+-- the bytes begin with a policy, the text that follows is explained, and this is the report with the policy's verdict. A
+-- violation is committed in the chain: in one of its texts, by source code where the compartment isn't compromised
+pub record IsJudged (options : RunOptions) (bytes text : List ℕ) : Type 0 where
+  pub read : PolicyRead
+  pub is : IsPolicyRead bytes read
+  pub has : HasExplanation options (drop read.rest bytes)
+  pub written : text ≡ judge_text read.policy has.source has.explanation
+  pub committed : (after comp rule : ℕ) (compromised : Bool) →
+      verdict read.policy has.source.program.interfaces has.explanation ≡ Violated after comp rule compromised →
+      IsCommitted has.source (map word_of options.inputs) options.steps has.explanation after comp compromised
 
 -- the bytes are those of an image, and the text reports the machine's run on it, by the image's own names
 pub record IsExecuted (options : RunOptions) (bytes text : List ℕ) : Type 0 where
@@ -131,6 +152,7 @@ IsMade options text = IsMadeBy options.summary options text
 -- the text is the command's output for these bytes
 abbrev pub IsOutput : Command → List ℕ → List ℕ → Type 0
 IsOutput (commands.Explain options show) bytes text = IsAccounted options show bytes text
+IsOutput (commands.Judge options) bytes text = IsJudged options bytes text
 IsOutput (commands.Exec options) bytes text = IsExecuted options bytes text
 IsOutput (commands.Make options) bytes text = IsMade options text
 IsOutput commands.Check bytes text = IsTextOutput commands.Check bytes text

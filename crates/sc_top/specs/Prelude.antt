@@ -7,19 +7,24 @@ pub use Rattle.sc_chain.specs.Prelude.{IsExplained, IsFault}
 pub use Rattle.sc_top_words.specs.Prelude.{most_steps}
 unfoldable pub use Rattle.sc_top_words.specs.Prelude.{command}
 pub use Rattle.sc_top_words.specs.declared.command.Command.{Command}
-pub use Rattle.sc_top_words.specs.declared.command.Command.TheVariants.{Check, Compile, Exec, Explain, Meaning, Run}
-pub use Rattle.sc_top.specs.Answer.{Answers, FindsBad, IsAnswer, IsGood, IsInput, IsSilent, IsUndisturbed}
+pub use Rattle.sc_top_words.specs.declared.command.Command.TheVariants.{Check, Compile, Exec, Explain, Judge, Meaning}
+pub use Rattle.sc_top_words.specs.declared.command.Command.TheVariants.{Run}
+pub use Rattle.sc_top.specs.Answer.{Answers, FindsBad, FindsBadLine, FindsUnfit, HasBadLine, IsAnswer, IsGood}
+pub use Rattle.sc_top.specs.Answer.{IsInput, IsSilent, IsUndisturbed}
 pub use Rattle.sc_top.specs.Answer.{IsUnfit, IsWhole, IsWithin, IsWithinLimit, Prints, Refuses, SameAnswer, Says}
 pub use Rattle.sc_top.specs.Answer.{Traffic, cause_in}
-pub use Rattle.sc_top.specs.Command.{limit_of}
+pub use Rattle.sc_top.specs.Command.{HoldsAfterPolicy, HoldsOfText, intake, limit_of}
+pub use Rattle.sc_top.specs.Committed.{IsCommitted, comp_of, links_until, performers, section_after, text_after}
+pub use Rattle.sc_top.specs.Committed.{section_read}
 pub use Rattle.sc_top.specs.Failure.{IsInputCause, IsOutputCause, of_image_fault, of_read_fault, of_text_fault}
-pub use Rattle.sc_top.specs.Failure.{of_words_fault, status_by, status_of}
+pub use Rattle.sc_top.specs.Failure.{of_policy_fault, of_words_fault, status_by, status_of}
 pub use Rattle.sc_top.specs.Fetching.{Fetches}
 pub use Rattle.sc_top.specs.Laws.{CompiledImagesRun, RunsAs}
-pub use Rattle.sc_top.specs.Output.{HasImage, IsAccounted, IsExecuted, IsGoodText, IsMade, IsMadeBy, IsMadeText}
+pub use Rattle.sc_top.specs.Output.{HasExplanation, HasImage, IsAccounted, IsExecuted, IsGoodText, IsJudged, IsMade}
+pub use Rattle.sc_top.specs.Output.{IsMadeBy, IsMadeText, judge_text}
 pub use Rattle.sc_top.specs.Output.{IsOutput}
-pub use Rattle.sc_top.specs.Output.{IsSummary, IsTextOutput, account, comp_of, compiles, machine_run, machine_text}
-pub use Rattle.sc_top.specs.Output.{meaning_asked, output, text_after}
+pub use Rattle.sc_top.specs.Output.{IsSummary, IsTextOutput, account, compiles, machine_run, machine_text}
+pub use Rattle.sc_top.specs.Output.{meaning_asked, output}
 pub use Rattle.sc_top.specs.Status.{bytes_of, fixed_text, kind_text, large_text, own_text, owner_text, phase_word}
 pub use Rattle.sc_top.specs.Status.{refusal_text, status_number, status_text}
 pub use Rattle.sc_top.specs.Texts.{ArePerforming, IsBounded, IsCompiling, IsNamed, IsReading, of_compile_fault}

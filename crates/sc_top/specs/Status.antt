@@ -8,7 +8,7 @@ use Rattle.sc_top.specs.declared.status.TooLarge as large
 use Rattle.sc_top.specs.declared.status.TooLarge.TheVariants as which
 use Rattle.sc_top.specs.declared.status.Status.{Status}
 use Rattle.sc_top.specs.declared.status.Status.TheVariants.{Done, Usage, Refused, TooLarge, TooLong, BadImage}
-use Rattle.sc_top.specs.declared.status.Status.TheVariants.{ReadFault, WriteFault, OutOfMemory}
+use Rattle.sc_top.specs.declared.status.Status.TheVariants.{ReadFault, WriteFault, OutOfMemory, BadPolicy}
 
 abbrev pub status_number : Status → ℕ
 status_number Done = 0
@@ -20,6 +20,7 @@ status_number (BadImage cause) = 6
 status_number ReadFault = 7
 status_number WriteFault = 8
 status_number OutOfMemory = 9
+status_number (BadPolicy line) = 14
 
 abbrev pub phase_word : Phase → List ℕ
 phase_word phase.Lex = codes "lex"
@@ -65,6 +66,7 @@ fixed_text (BadImage cause) = codes "secomp: bad image "
 fixed_text ReadFault = codes "secomp: read fault\n"
 fixed_text WriteFault = codes "secomp: write fault\n"
 fixed_text OutOfMemory = codes "secomp: out of memory\n"
+fixed_text (BadPolicy line) = codes "secomp: bad policy line "
 
 -- what follows it
 abbrev pub own_text : Status → List ℕ
@@ -72,6 +74,7 @@ own_text (Refused refusal) = refusal_text refusal
 own_text (TooLarge fault) = large_text fault
 own_text (TooLong limit) = decimal limit ++ codes "\n"
 own_text (BadImage cause) = decimal cause ++ codes "\n"
+own_text (BadPolicy line) = decimal line ++ codes "\n"
 own_text Done = []
 own_text Usage = []
 own_text ReadFault = []

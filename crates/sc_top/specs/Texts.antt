@@ -19,10 +19,11 @@ IsReading bytes (Refused refusal) = Fails bytes refusal.phase refusal.line
 IsReading bytes OutOfMemory = Unit {0}
 IsReading bytes _ = ⊥
 
--- the options of `explain` allow so few events that compartments can perform them, and those of `make` are such that
--- programs are made from them
+-- the options of `explain` and `judge` allow so few events that compartments can perform them, and those of `make` are
+-- such that programs are made from them
 abbrev pub IsBounded : Command → Type 0
 IsBounded (commands.Explain options show) = options.events ≤ most_events
+IsBounded (commands.Judge options) = options.events ≤ most_events
 IsBounded (commands.Make options) = IsAsked options.size options.seed
 IsBounded command = Unit {0}
 

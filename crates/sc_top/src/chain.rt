@@ -33,8 +33,8 @@ pub(crate) fn explain(
     Ok(account(alloc, &source, &explanation, show)?)
 }
 
-// The machine's trace and stop on the image of a program, and the chain.
-fn explained(
+/// The machine's trace and stop on the image of a program, and the chain.
+pub(crate) fn explained(
     alloc: Global,
     options: &RunOptions,
     source: &SourceText,
@@ -44,6 +44,7 @@ fn explained(
         options.now.steps options.now.events) }
     ensures allowed { IfOk result (λ explanation.
         legal source.now.program.interfaces explanation.trace ≡ true) }
+    ensures most { IfOk result (λ explanation. length explanation.trace ≤ most_events) }
     ensures cause { IfErr result (IsCompiling source.now.program) }
 {
     let inputs = options.inputs.as_slice();
@@ -83,7 +84,8 @@ fn account(
     }
 }
 
-fn report(
+/// The machine's trace and stop, and the chain.
+pub(crate) fn report(
     alloc: Global,
     source: &SourceText,
     explanation: &Explanation,

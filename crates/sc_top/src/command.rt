@@ -9,7 +9,9 @@ pub(crate) fn limit(command: &Command) -> Option<u32>
 {
     match command {
         Command::Check | Command::Meaning(_) => Some(8_388_608),
-        Command::Compile | Command::Run(_) | Command::Explain(_, _) => Some(1_048_576),
+        Command::Compile | Command::Run(_) | Command::Explain(_, _) | Command::Judge(_) => {
+            Some(1_048_576)
+        }
         Command::Exec(_) => Some(67_108_864),
         Command::Make(_) => None,
     }

@@ -1,7 +1,7 @@
 ghost use Rattle.std.specs.Prelude.{◌≡◌, IsSome};
 ghost use Rattle.sc_event.specs.Lookup.{comp_at};
 ghost use Rattle.sc_event.specs.Line.{comp_name};
-ghost use Rattle.sc_top.specs.Failure.{of_words_fault, of_text_fault, of_image_fault, of_read_fault};
+ghost use Rattle.sc_top.specs.Failure.{of_words_fault, of_policy_fault, of_text_fault, of_image_fault, of_read_fault};
 ghost use Rattle.sc_top.specs.Texts.{IsNamed, of_compile_fault};
 
 use crate::TooLarge;
@@ -11,6 +11,7 @@ use sc_compile::CompileFault;
 use sc_event::{CompId, Interfaces};
 use sc_image::ImageFault;
 use sc_lex::Refusal;
+use sc_policy::PolicyFault;
 use sc_top_words::WordsFault;
 use sc_types::TextFault;
 
@@ -25,6 +26,7 @@ pub(crate) enum Failure {
     ReadFault,
     WriteFault,
     OutOfMemory,
+    BadPolicy { line: u32 },
 }
 
 impl From<OutOfMemory> for Failure {
@@ -55,6 +57,17 @@ impl From<ReadFault> for Failure {
         match fault {
             ReadFault::Source => Failure::ReadFault,
             ReadFault::Memory => Failure::OutOfMemory,
+        }
+    }
+}
+
+impl From<PolicyFault> for Failure {
+    ghost from_gives = { λ fault f. f ≡ of_policy_fault fault };
+
+    fn from(fault: PolicyFault) -> Failure {
+        match fault {
+            PolicyFault::Bad { line } => Failure::BadPolicy { line },
+            PolicyFault::OutOfMemory => Failure::OutOfMemory,
         }
     }
 }

@@ -6,6 +6,7 @@ mod command;
 mod exec;
 mod failure;
 mod input;
+mod judge;
 mod laws;
 mod machine;
 mod make;

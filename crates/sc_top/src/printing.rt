@@ -27,6 +27,7 @@ fn write_status<E: Sink>(err: &mut E, status: &Status) -> Result<(), Failed>
         Status::TooLarge(fault) => write_large(err, fault),
         Status::TooLong { limit } => write_number(err, u64::from(*limit)),
         Status::BadImage { cause } => write_number(err, u64::from(*cause)),
+        Status::BadPolicy { line } => write_number(err, u64::from(*line)),
         _ => Ok(()),
     }
 }

@@ -50,6 +50,9 @@ pub enum Status {
     WriteFault,
     /// Memory ran out before anything was written.
     OutOfMemory,
+    /// The bytes begin with no policy: the first line with which none begins, counted from 1. 4294967295 is the number of
+    /// all later lines.
+    BadPolicy { line: u32 },
 }
 
 impl Status {
@@ -67,6 +70,7 @@ impl Status {
             Status::ReadFault => 7,
             Status::WriteFault => 8,
             Status::OutOfMemory => 9,
+            Status::BadPolicy { .. } => 14,
         }
     }
 }
@@ -85,6 +89,7 @@ pub(crate) fn fixed_text(status: &Status) -> &'static [u8]
         Status::ReadFault => b"secomp: read fault\n",
         Status::WriteFault => b"secomp: write fault\n",
         Status::OutOfMemory => b"secomp: out of memory\n",
+        Status::BadPolicy { .. } => b"secomp: bad policy line ",
     }
 }
 
@@ -126,6 +131,7 @@ impl From<Failure> for Status {
             Failure::ReadFault => Status::ReadFault,
             Failure::WriteFault => Status::WriteFault,
             Failure::OutOfMemory => Status::OutOfMemory,
+            Failure::BadPolicy { line } => Status::BadPolicy { line },
         }
     }
 }

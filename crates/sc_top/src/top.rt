@@ -11,12 +11,14 @@ use crate::chain::explain;
 use crate::exec::execute;
 use crate::failure::Failure;
 use crate::input::read_input;
+use crate::judge::judge;
 use crate::make::make;
 use crate::output::write_text;
 use crate::printing::print;
 use crate::text::{check, compiled, meaning, run};
 use sc_base::Text;
 use sc_edge::{Sink, Source};
+use sc_policy::{one_policy, policy_or_bad};
 use sc_top_words::{Command, read_command};
 use sc_types::{accepted_or_refused, one_phase, one_program};
 use std::alloc::Global;
@@ -51,6 +53,8 @@ pub fn secomp<S: Source, O: Sink, E: Sink>(
     accepted_or_refused();
     one_phase();
     one_program();
+    one_policy();
+    policy_or_bad();
     let status = status_by(answer(alloc, words, source, out));
     print(err, &status);
     status
@@ -110,6 +114,7 @@ fn output(alloc: Global, command: &Command, bytes: &[u8]) -> Result<Text, Failur
         Command::Run(options) => run(alloc, options, bytes),
         Command::Exec(options) => execute(alloc, options, bytes),
         Command::Explain(options, show) => explain(alloc, options, *show, bytes),
+        Command::Judge(options) => judge(alloc, options, bytes),
         Command::Make(options) => Ok(make(alloc, options)?),
     }
 }

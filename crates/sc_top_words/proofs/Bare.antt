@@ -32,8 +32,25 @@ abbrev HasNames : Form → Type 0
 HasNames form = (has_value form [] ≡ false) × (is_among form.flags [] ≡ false)
 
 pub names_of_forms : (name : Text) (form : Form) → form_of name ≡ Some form → HasNames form
-names_of_forms = by_command _ commands
-    ((refl, refl), ((refl, refl), ((refl, refl), ((refl, refl), ((refl, refl), ((refl, refl), ((refl, refl), tt)))))))
+names_of_forms = by_command _ commands (
+  (refl, refl),
+  (
+    (refl, refl),
+    (
+      (refl, refl),
+      (
+        (refl, refl),
+        (
+          (refl, refl),
+          (
+            (refl, refl),
+            ((refl, refl), ((refl, refl), tt)),
+          ),
+        ),
+      ),
+    ),
+  ),
+)
 
 nothing_after : (form : Form) (o : Option (Text × Option Text)) (following : Option Text → Option (List Given)) →
     ((waiting : Option Text) → following waiting ≡ None) → named_option form o following ≡ None

@@ -7,7 +7,8 @@ use Rattle.sc_number.specs.Numbers.{number_within}
 use Rattle.sc_top_words.specs.Numbers.{integer_list}
 use Rattle.sc_top_words.specs.Options.{Form, Given, has_option, options, given_value}
 use Rattle.sc_top_words.specs.declared.command.Command.{Command}
-use Rattle.sc_top_words.specs.declared.command.Command.TheVariants.{Check, Meaning, Compile, Run, Exec, Explain, Make}
+use Rattle.sc_top_words.specs.declared.command.Command.TheVariants.{Check, Meaning, Compile, Run, Exec, Explain}
+use Rattle.sc_top_words.specs.declared.command.Command.TheVariants.{Judge, Make}
 use Rattle.sc_top_words.specs.declared.command.MakeOptions.{MakeOptions}
 use Rattle.sc_top_words.specs.declared.command.MeaningOptions.{MeaningOptions}
 use Rattle.sc_top_words.specs.declared.command.RunOptions.{RunOptions}
@@ -29,6 +30,7 @@ commands =
     (codes "run", with_values (codes "steps" ∷ codes "events" ∷ codes "in" ∷ [])) ∷
     (codes "exec", with_values (codes "steps" ∷ codes "events" ∷ codes "in" ∷ [])) ∷
     (codes "explain", with_values (codes "steps" ∷ codes "events" ∷ codes "in" ∷ codes "show" ∷ [])) ∷
+    (codes "judge", with_values (codes "steps" ∷ codes "events" ∷ codes "in" ∷ [])) ∷
     (codes "make", make_form) ∷ []
 
 abbrev pub form_of : Text → Option Form
@@ -105,8 +107,9 @@ command_with name value summary =
     else (if bytes_eq name (codes "run") then option_map Run (run_options value)
     else (if bytes_eq name (codes "exec") then option_map Exec (run_options value)
     else (if bytes_eq name (codes "explain") then explain value
+    else (if bytes_eq name (codes "judge") then option_map Judge (run_options value)
     else (if bytes_eq name (codes "make") then option_map Make (make value summary)
-    else None))))))
+    else None)))))))
 
 -- the command that the words are
 unfoldable pub command : List Text → Option Command

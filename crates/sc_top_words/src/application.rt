@@ -16,6 +16,7 @@ pub(crate) fn application<'a>(alloc: Global) -> Result<Command<'a>, AllocError>
         .subcommand(running(alloc, "run", "steps")?)?
         .subcommand(running(alloc, "exec", "steps")?)?
         .subcommand(explain(alloc)?)?
+        .subcommand(running(alloc, "judge", "steps")?)?
         .subcommand(make(alloc)?)
 }
 

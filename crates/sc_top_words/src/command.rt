@@ -16,6 +16,8 @@ pub enum Command {
     /// The events of the machine on a program, and the chain of texts that accounts for them. With a number, the text
     /// of the chain that is to be written in place of that report, at most 32.
     Explain(RunOptions, Option<u32>),
+    /// The same report for a text that follows a policy, and what the policy says of these events.
+    Judge(RunOptions),
     /// A program that is made from a seed.
     Make(MakeOptions),
 }

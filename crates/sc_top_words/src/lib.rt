@@ -5,7 +5,7 @@
 //! | `check` | none |
 //! | `meaning` | `--turns N`, `--events M`, `--in LIST` |
 //! | `compile` | none |
-//! | `run`, `exec` | `--steps N`, `--events M`, `--in LIST` |
+//! | `run`, `exec`, `judge` | `--steps N`, `--events M`, `--in LIST` |
 //! | `explain` | `--steps N`, `--events M`, `--in LIST`, `--show K` |
 //! | `make` | `--size K`, `--seed N`, `--summary` |
 //!

@@ -15,20 +15,20 @@ commands
   compile   its machine image
   run       what the machine does on that image
   explain   the same, and the sections to replace so that the source does it too
+  judge     the same, and what a policy says of it
   exec      what the machine does on an image
   make      a program made from two numbers
 
 options, as --name value or --name=value, each at most once
   --turns N    meaning: at most N turns, 0 to 16777216 (1000000)
-  --steps N    run, exec, explain: at most N steps, 0 to 16777216 (1000000)
-  --events M   meaning, run, exec, explain: at most M events, 0 to 4096 (1024)
-  --in LIST    meaning, run, exec, explain: the inputs (none), as --in=-5,3:
-               1 to 65536 numbers from -2147483648 to 2147483647
+  --steps N    run, exec, explain, judge: up to N steps, 0 to 16777216 (1000000)
+  --events M   with --turns or --steps: at most M events, 0 to 4096 (1024)
+  --in LIST    likewise: 1 to 65536 signed 32-bit inputs (none), as --in=-5,3
   --show K     explain: only the text after K replacements, 0 to 32
   --size K     make, needed: how many functions, 1 to 1000
   --seed N     make, needed: which program, 0 to 4294967295
   --summary    make: a summary of the program in place of its text
 In parentheses stands what holds where the option is not given.
-The input is an image for exec, nothing for make, and else a program's text.
+exec reads an image, judge a policy and a text, make nothing, the others a text.
 "
 }

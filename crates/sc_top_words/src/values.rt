@@ -43,6 +43,8 @@ pub(crate) fn command_with(
         Ok(Command::Exec(run_options(alloc, options)?))
     } else if name == "explain" {
         explain(alloc, options)
+    } else if name == "judge" {
+        Ok(Command::Judge(run_options(alloc, options)?))
     } else if name == "make" {
         make(options)
     } else {

@@ -1,5 +1,5 @@
 // What the program writes in each session of a document.
-use crate::examples::sessions::{EXAMPLES, EXPLAIN, Input, TUTORIAL};
+use crate::examples::sessions::{EXAMPLES, EXPLAIN, Input, POLICIES, TUTORIAL};
 use memory_runs::Run;
 use std::alloc::Global;
 use std::test::Fail;
@@ -51,6 +51,13 @@ fn the_list_of_examples_has_what_the_program_writes(rt: HostRuntime) -> Result<(
 #[test]
 fn the_page_on_explanations_has_what_the_program_writes(rt: HostRuntime) -> Result<(), Fail> {
     let other = first_other(rt.alloc(), EXPLAIN)?;
+    assert!(rt; other == None);
+    Ok(())
+}
+
+#[test]
+fn the_page_on_policies_has_what_the_program_writes(rt: HostRuntime) -> Result<(), Fail> {
+    let other = first_other(rt.alloc(), POLICIES)?;
     assert!(rt; other == None);
     Ok(())
 }

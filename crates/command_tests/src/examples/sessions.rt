@@ -7,6 +7,12 @@ pub(crate) enum Input {
     Endless,
     Full,
     Messages,
+    Bounds,
+    Budget,
+    Key,
+    Order,
+    Sealed,
+    Silence,
     Reentry,
     Refused,
     Seven,
@@ -21,6 +27,12 @@ impl Input {
             Input::Endless => ENDLESS_TEXT,
             Input::Full => FULL_TEXT,
             Input::Messages => MESSAGES_TEXT,
+            Input::Bounds => BOUNDS_TEXT,
+            Input::Budget => BUDGET_TEXT,
+            Input::Key => KEY_TEXT,
+            Input::Order => ORDER_TEXT,
+            Input::Sealed => SEALED_TEXT,
+            Input::Silence => SILENCE_TEXT,
             Input::Reentry => REENTRY_TEXT,
             Input::Refused => REFUSED_TEXT,
             Input::Seven => SEVEN_TEXT,
@@ -156,6 +168,399 @@ int next_kind(void) {
 
 int number(void) {
   return fields[2];
+}
+";
+
+const BOUNDS_TEXT: &[u8] = b"policy Bounds
+state all
+on all call * Net put arg 1 < 0 deny
+on all call * Net put arg 1 > 3 deny
+policy end
+#pragma compartment Main
+#pragma import Net put
+#pragma import Env output
+int put(int i, int v);
+void output(int v);
+int main(void) {
+  int r;
+  r = put(4, 9);
+  output(r);
+  return 0;
+}
+#pragma compartment Net
+#pragma export put
+int buf[4];
+int key;
+int put(int i, int v) {
+  buf[i] = v;
+  return key;
+}
+";
+
+const BUDGET_TEXT: &[u8] = b"policy Budget
+state none
+state one
+state two
+state three
+on none call * Store is_key to one
+on one call * Store is_key to two
+on two call * Store is_key to three
+on three call * Store is_key deny
+policy end
+// A service that answers messages.
+// Main acts on them, Store has the key, Log tells what was done, and Parser reads.
+// A message is pairs of a field and what it holds, up to field 0: field 1 is the kind, and field 2 a number.
+// Kind 1 asks whether the number is the key. Kind 2 makes it the key, if the sender is trusted. Kind 0 ends.
+#pragma compartment Main
+#pragma import Parser next_kind
+#pragma import Parser number
+#pragma import Store is_key
+#pragma import Store set_key
+#pragma import Log note
+int next_kind(void);
+int number(void);
+int is_key(int guess);
+void set_key(int new_key);
+void note(int kind, int answer);
+
+int act(int kind) {
+  int value;
+  int answer = 0;
+  value = number();
+  if (kind == 1) {
+    answer = is_key(value);
+  } else if (kind == 2) {
+    set_key(value);
+  }
+  return answer;
+}
+
+int main(void) {
+  int kind;
+  int answer;
+  kind = next_kind();
+  while (kind != 0) {
+    answer = act(kind);
+    note(kind, answer);
+    kind = next_kind();
+  }
+  return 0;
+}
+#pragma compartment Store
+#pragma export is_key
+#pragma export set_key
+int key = 7341;
+
+int is_key(int guess) {
+  return guess == key;
+}
+
+void set_key(int new_key) {
+  key = new_key;
+}
+#pragma compartment Log
+#pragma export note
+#pragma import Env output
+void output(int v);
+int lines;
+
+void note(int kind, int answer) {
+  lines = (lines + 1) & 255;
+  output(kind * 10 + answer);
+}
+#pragma compartment Parser
+#pragma export next_kind
+#pragma export number
+#pragma import Env input
+int input(void);
+int fields[3];
+int trusted;
+
+int next_kind(void) {
+  int field;
+  fields[1] = 0;
+  fields[2] = 0;
+  field = input();
+  while (field != 0) {
+    fields[field] = input();
+    field = input();
+  }
+  if (fields[1] == 2 && !trusted) {
+    return 9;
+  }
+  return fields[1];
+}
+
+int number(void) {
+  return fields[2];
+}
+";
+
+const KEY_TEXT: &[u8] = b"policy Key
+state kept
+on kept call * Store set_key deny
+policy end
+// A service that answers messages.
+// Main acts on them, Store has the key, Log tells what was done, and Parser reads.
+// A message is pairs of a field and what it holds, up to field 0: field 1 is the kind, and field 2 a number.
+// Kind 1 asks whether the number is the key. Kind 2 makes it the key, if the sender is trusted. Kind 0 ends.
+#pragma compartment Main
+#pragma import Parser next_kind
+#pragma import Parser number
+#pragma import Store is_key
+#pragma import Store set_key
+#pragma import Log note
+int next_kind(void);
+int number(void);
+int is_key(int guess);
+void set_key(int new_key);
+void note(int kind, int answer);
+
+int act(int kind) {
+  int value;
+  int answer = 0;
+  value = number();
+  if (kind == 1) {
+    answer = is_key(value);
+  } else if (kind == 2) {
+    set_key(value);
+  }
+  return answer;
+}
+
+int main(void) {
+  int kind;
+  int answer;
+  kind = next_kind();
+  while (kind != 0) {
+    answer = act(kind);
+    note(kind, answer);
+    kind = next_kind();
+  }
+  return 0;
+}
+#pragma compartment Store
+#pragma export is_key
+#pragma export set_key
+int key = 7341;
+
+int is_key(int guess) {
+  return guess == key;
+}
+
+void set_key(int new_key) {
+  key = new_key;
+}
+#pragma compartment Log
+#pragma export note
+#pragma import Env output
+void output(int v);
+int lines;
+
+void note(int kind, int answer) {
+  lines = (lines + 1) & 255;
+  output(kind * 10 + answer);
+}
+#pragma compartment Parser
+#pragma export next_kind
+#pragma export number
+#pragma import Env input
+int input(void);
+int fields[3];
+int trusted;
+
+int next_kind(void) {
+  int field;
+  fields[1] = 0;
+  fields[2] = 0;
+  field = input();
+  while (field != 0) {
+    fields[field] = input();
+    field = input();
+  }
+  if (fields[1] == 2 && !trusted) {
+    return 9;
+  }
+  return fields[1];
+}
+
+int number(void) {
+  return fields[2];
+}
+";
+
+const ORDER_TEXT: &[u8] = b"policy Order
+state shut
+state opened
+on shut call * Vault open to opened
+on opened call * Vault close to shut
+on shut call * Vault take deny
+policy end
+// A clerk who opens a vault before taking from it, and closes it at the end.
+// An order is pairs of a field and what it holds, up to field 0: field 1 is how much to take, and field 2 from which shelf.
+#pragma compartment Clerk
+#pragma import Vault open
+#pragma import Vault take
+#pragma import Vault close
+#pragma import Env input
+void open(void);
+int take(int shelf, int wanted);
+void close(void);
+int input(void);
+int fields[3];
+int opened;
+
+void read(void) {
+  int field;
+  field = input();
+  while (field != 0) {
+    fields[field] = input();
+    field = input();
+  }
+}
+
+int main(void) {
+  int got;
+  read();
+  while (fields[1] != 0) {
+    if (!opened) {
+      open();
+      opened = 1;
+    }
+    got = take(fields[2], fields[1]);
+    fields[1] = 0;
+    read();
+  }
+  close();
+  return 0;
+}
+#pragma compartment Vault
+#pragma export open
+#pragma export take
+#pragma export close
+int shelves[2] = {100, 20};
+int is_open;
+
+void open(void) {
+  is_open = 1;
+}
+
+int take(int shelf, int wanted) {
+  if (shelf < 0 || shelf > 1 || wanted < 0 || wanted > shelves[shelf]) {
+    return 0;
+  }
+  shelves[shelf] = shelves[shelf] - wanted;
+  return wanted;
+}
+
+void close(void) {
+  is_open = 0;
+}
+";
+
+const SEALED_TEXT: &[u8] = b"policy Sealed
+state open
+state sealed
+on open in Keys to sealed
+on sealed out * deny
+policy end
+// A device that is set up, reads a key, and signs. Once it has the key nothing is to leave it.
+#pragma compartment Device
+#pragma import Net set_up
+#pragma import Net keep
+#pragma import Keys load
+#pragma import Keys sign
+void set_up(void);
+void keep(int v);
+void load(void);
+int sign(int message);
+
+int main(void) {
+  int signature;
+  set_up();
+  load();
+  signature = sign(7);
+  keep(signature);
+  return 0;
+}
+#pragma compartment Keys
+#pragma export load
+#pragma export sign
+#pragma import Env input
+int input(void);
+int key;
+
+void load(void) {
+  key = input();
+}
+
+int sign(int message) {
+  return message ^ key;
+}
+#pragma compartment Net
+#pragma export set_up
+#pragma export keep
+#pragma import Env input
+#pragma import Env output
+int input(void);
+void output(int v);
+int settings[4];
+int debug;
+int kept;
+
+void set_up(void) {
+  int field;
+  field = input();
+  while (field >= 0) {
+    settings[field] = input();
+    field = input();
+  }
+  output(settings[0]);
+}
+
+void keep(int v) {
+  kept = v;
+  if (debug) {
+    output(v);
+  }
+}
+";
+
+const SILENCE_TEXT: &[u8] = b"policy Silence
+state counting
+state failed
+on counting out * < 0 to failed
+on failed out * deny
+policy end
+// A till that writes the sum after each coin. A coin below 0 is an error: -1 is written, and from then on nothing.
+// The input is pairs of a place and a coin, up to a place below 0.
+#pragma compartment Till
+#pragma import Env input
+#pragma import Env output
+int input(void);
+void output(int v);
+int coins[3];
+int failed;
+
+int main(void) {
+  int place;
+  int coin;
+  int sum = 0;
+  place = input();
+  while (place >= 0) {
+    coin = input();
+    coins[place] = coin;
+    if (coin < 0) {
+      output(-1);
+      failed = 1;
+    }
+    if (!failed) {
+      sum = (sum + coin) & 65535;
+      output(sum);
+    }
+    place = input();
+  }
+  return 0;
 }
 ";
 
@@ -613,6 +1018,35 @@ chain 0
 ",
     },
     Session {
+        words: "judge --in 3,1,1,2,2,99,0",
+        input: Input::Key,
+        want: b"call Main Parser next_kind
+in Parser 3
+in Parser 1
+in Parser 1
+in Parser 2
+in Parser 2
+in Parser 99
+in Parser 0
+ret Parser Main 2
+call Main Parser number
+ret Parser Main 99
+call Main Store set_key 99
+ret Store Main
+call Main Log note 2 0
+out Log 20
+ret Log Main
+call Main Parser next_kind
+in Parser 0
+ret Parser Main 0
+end Main 0
+stop ended
+chain 1
+replace Parser after 3 OutOfBounds line 15
+verdict violated after 11 by Main rule 1 clean
+",
+    },
+    Session {
         words: "explain --in=-524288,5,0",
         input: Input::Messages,
         want: b"call Main Parser next_kind
@@ -744,3 +1178,218 @@ chain 1
 replace Net after 1 OutOfBounds line 6
 ",
 }];
+
+// Of examples/policies/README.md.
+pub(crate) const POLICIES: &[Session] = &[
+    Session {
+        words: "judge --in 1,10,2,1,0,0",
+        input: Input::Order,
+        want: b"in Clerk 1
+in Clerk 10
+in Clerk 2
+in Clerk 1
+in Clerk 0
+call Clerk Vault open
+ret Vault Clerk
+call Clerk Vault take 1 10
+ret Vault Clerk 10
+in Clerk 0
+call Clerk Vault close
+ret Vault Clerk
+end Clerk 0
+stop ended
+chain 0
+verdict holds shut
+",
+    },
+    Session {
+        words: "judge --in 3,1,1,10,0,0",
+        input: Input::Order,
+        want: b"in Clerk 3
+in Clerk 1
+in Clerk 1
+in Clerk 10
+in Clerk 0
+call Clerk Vault take 0 10
+ret Vault Clerk 10
+in Clerk 0
+call Clerk Vault close
+ret Vault Clerk
+end Clerk 0
+stop ended
+chain 1
+replace Clerk after 2 OutOfBounds line 17
+verdict violated after 5 by Clerk rule 3 compromised
+",
+    },
+    Session {
+        words: "judge",
+        input: Input::Bounds,
+        want: b"call Main Net put 4 9
+ret Net Main 9
+out Main 9
+end Main 0
+stop ended
+chain 1
+replace Net after 1 OutOfBounds line 6
+verdict violated after 0 by Main rule 2 clean
+",
+    },
+    Session {
+        words: "judge --in=0,5,1,-2,2,4,-1",
+        input: Input::Silence,
+        want: b"in Till 0
+in Till 5
+out Till 5
+in Till 1
+in Till -2
+out Till -1
+in Till 2
+in Till 4
+in Till -1
+end Till 0
+stop ended
+chain 0
+verdict holds failed
+",
+    },
+    Session {
+        words: "judge --in=0,5,1,-2,3,0,2,4,-1",
+        input: Input::Silence,
+        want: b"in Till 0
+in Till 5
+out Till 5
+in Till 1
+in Till -2
+out Till -1
+in Till 3
+in Till 0
+out Till 5
+in Till 2
+in Till 4
+out Till 9
+in Till -1
+end Till 0
+stop ended
+chain 1
+replace Till after 8 OutOfBounds line 16
+verdict violated after 8 by Till rule 2 compromised
+",
+    },
+    Session {
+        words: "judge --in 1,1,2,1,0,1,1,2,2,0,1,1,2,3,0,1,1,2,7341,0,0",
+        input: Input::Budget,
+        want: b"call Main Parser next_kind
+in Parser 1
+in Parser 1
+in Parser 2
+in Parser 1
+in Parser 0
+ret Parser Main 1
+call Main Parser number
+ret Parser Main 1
+call Main Store is_key 1
+ret Store Main 0
+call Main Log note 1 0
+out Log 10
+ret Log Main
+call Main Parser next_kind
+in Parser 1
+in Parser 1
+in Parser 2
+in Parser 2
+in Parser 0
+ret Parser Main 1
+call Main Parser number
+ret Parser Main 2
+call Main Store is_key 2
+ret Store Main 0
+call Main Log note 1 0
+out Log 10
+ret Log Main
+call Main Parser next_kind
+in Parser 1
+in Parser 1
+in Parser 2
+in Parser 3
+in Parser 0
+ret Parser Main 1
+call Main Parser number
+ret Parser Main 3
+call Main Store is_key 3
+ret Store Main 0
+call Main Log note 1 0
+out Log 10
+ret Log Main
+call Main Parser next_kind
+in Parser 1
+in Parser 1
+in Parser 2
+in Parser 7341
+in Parser 0
+ret Parser Main 1
+call Main Parser number
+ret Parser Main 7341
+call Main Store is_key 7341
+ret Store Main 1
+call Main Log note 1 1
+out Log 11
+ret Log Main
+call Main Parser next_kind
+in Parser 0
+ret Parser Main 0
+end Main 0
+stop ended
+chain 0
+verdict violated after 51 by Main rule 4 clean
+",
+    },
+    Session {
+        words: "judge --in=0,3,-1,1234",
+        input: Input::Sealed,
+        want: b"call Device Net set_up
+in Net 0
+in Net 3
+in Net -1
+out Net 3
+ret Net Device
+call Device Keys load
+in Keys 1234
+ret Keys Device
+call Device Keys sign 7
+ret Keys Device 1237
+call Device Net keep 1237
+ret Net Device
+end Device 0
+stop ended
+chain 0
+verdict holds sealed
+",
+    },
+    Session {
+        words: "judge --in=0,3,4,1,-1,1234",
+        input: Input::Sealed,
+        want: b"call Device Net set_up
+in Net 0
+in Net 3
+in Net 4
+in Net 1
+in Net -1
+out Net 3
+ret Net Device
+call Device Keys load
+in Keys 1234
+ret Keys Device
+call Device Keys sign 7
+ret Keys Device 1237
+call Device Net keep 1237
+out Net 1237
+ret Net Device
+end Device 0
+stop ended
+chain 1
+replace Net after 5 OutOfBounds line 16
+verdict violated after 14 by Net rule 2 compromised
+",
+    },
+];

@@ -39,3 +39,12 @@ returns-in-BadImage g c =
     (ap own_text c.in-BadImage.is ∙
     ap (λ n. decimal n ++ codes "\n")
     (sym c.from-in-BadImage.ensures))) fixed.ok fixed.counted c.write_number-in-BadImage.ensures
+
+pub returns-in-BadPolicy : goal.returns-in-BadPolicy
+returns-in-BadPolicy g c =
+    let fixed = c.in_ok-write_text.ensures in
+    then_wrote _ c.fixed_text.result.now _ c.write_number-in-BadPolicy.result _ _ _ _ _ _
+    (ap₂ (λ f own. f ++ own) (sym c.fixed_text.ensures)
+    (ap own_text c.in-BadPolicy.is ∙
+    ap (λ n. decimal n ++ codes "\n")
+    (sym c.from-in-BadPolicy.ensures))) fixed.ok fixed.counted c.write_number-in-BadPolicy.ensures

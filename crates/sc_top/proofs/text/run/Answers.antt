@@ -4,7 +4,9 @@ use Rattle.sc_top.proofs.text.run.Goals as goal
 
 pub returns-in_err-image-clause-cause : goal.returns-in_err-image-clause-cause
 returns-in_err-image-clause-cause c =
-    let cause = compiled_cause (Run c.args.options.now) c.args.bytes.now c.in_ok-source.source.program _ _
+    let cause =
+    compiled_cause (Run c.args.options.now) c.args.bytes.now c.args.bytes.now c.in_ok-source.source.program _ _
+    (λ Q q. q)
     c.program-program.ensures.program c.in_ok-source.ensures.accepted.1 refl c.in_err-image.ensures.cause in
     search (rules, cause)
 

@@ -34,5 +34,7 @@ returns c =
     let six = added _ _ _ _ (codes "explain") (with_values
     (codes "steps" ∷ codes "events" ∷ codes "in" ∷ codes "show" ∷
     [])) c.in_ok-subcommand-6.ensures five c.in_ok-explain.ensures in
-    IfOk-weaker c.subcommand-7.result _ _ (λ secomp adds.
-    added _ _ secomp _ (codes "make") make_form adds six c.in_ok-make.ensures) c.subcommand-7.ensures
+    let seven = added _ _ _ _ (codes "judge") (limited (codes "steps")) c.in_ok-subcommand-7.ensures six
+    c.in_ok-running-4.ensures in
+    IfOk-weaker c.subcommand-8.result _ _ (λ secomp adds.
+    added _ _ secomp _ (codes "make") make_form adds seven c.in_ok-make.ensures) c.subcommand-8.ensures
