@@ -4,7 +4,7 @@
 # In each text `Main` runs 620,000 rounds of a loop, in as many parts as the chain has texts, and after each but the
 # last calls a compartment that stores past the end of an array. Then it prints the most memory of `explain` at two
 # numbers of steps, on a text whose `Main` loops for ever once it has called such a compartment.
-# Usage: bench/explain.sh [PROGRAM]. PROGRAM is a built secomp (by default what ./secomp builds and proves first). An
+# Usage: bench/explain.sh [PROGRAM]. PROGRAM is a built secomp (by default what ./secomp runs). An
 # unproved build is some thousand times slower.
 # Each time is the fastest of three runs; the ratio is that of `explain` to 1.2 times `run` and all `meaning`s.
 set -e

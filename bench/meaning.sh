@@ -1,7 +1,7 @@
 #!/bin/sh
 # Times `secomp meaning` on small programs of 16,777,216 turns, and the same programs as C, compiled by
 # `clang -O0 -fsanitize=undefined`.
-# Usage: bench/meaning.sh [PROGRAM]. PROGRAM is a built secomp (by default what ./secomp builds and proves first).
+# Usage: bench/meaning.sh [PROGRAM]. PROGRAM is a built secomp (by default what ./secomp runs).
 # It prints, for each program, turns per second of both and how many times as long the meaning takes. A cross call is two
 # events, and a run has 4,096 events at most, so cross calls are timed over many runs of 2,048 calls each, less as many runs
 # that stop at once.

@@ -2,7 +2,7 @@
 # Times `secomp explain --show 32` on a program of 32 compartments for which the machine emits 4,096 events. Each
 # compartment commits undefined behaviour in its first call, so each one's section is replaced by a text that performs its
 # part of all events.
-# Usage: bench/replace.sh [PROGRAM [FOLDER]]. PROGRAM is a built secomp (by default what ./secomp builds and proves first).
+# Usage: bench/replace.sh [PROGRAM [FOLDER]]. PROGRAM is a built secomp (by default what ./secomp runs).
 # FOLDER (by default a new one) gets a copy of the crates and a program over them, which is proved and built there; where it
 # has bench_replace, that program is taken.
 # It prints the seconds of the fastest of three runs and the most memory in MiB: of `run`, which replaces nothing, and of
