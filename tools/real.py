@@ -4,7 +4,7 @@
 examples/real/vectors.json has two lists. Each of `vectors` is run by `meaning` and by `run`, and wants its `out` from
 both, and that they end. Each of `hostile` is run by `explain`, and wants its `out` and its `account`: all lines from
 the one that says how the run stops. With a name only those vectors are run whose program begins with it. The sessions
-of examples/real/README.md, `$ ./secomp WORDS < FILE` in blocks that are indented by four spaces, want what is below.
+of examples/real/README.md, `$ COMMAND` in blocks that are indented by four spaces, want what is below.
 
 Among `inputs` a number is itself, a text that begins with 0x its bytes by their hexadecimal digits, another text its
 bytes, and an object `of` repeated `times`. In `out` a text is words of four bytes each, highest first, as outputs are.
@@ -14,12 +14,13 @@ import concurrent.futures
 import json
 import os
 import re
+import subprocess
 
-from sections import commands, count, read, secomp, start
+from sections import TOP, commands, count, read, secomp, start
 
 FOLDER = "examples/real"
 MOST = {"meaning": ["--turns=16777216"], "run": ["--steps=16777216"], "explain": []}
-COMMAND = re.compile(r"\./secomp (.*) < (\S+)")
+PROGRAM = re.compile(rf"{FOLDER}/(\w+\.c)")
 
 
 def from_hex(digits):
@@ -77,18 +78,17 @@ def vectors(prefix):
                 yield f"{command} {vector['program']}, {vector['name']}", lambda c=command, v=vector: differences(c, v)
 
 
-def session(words, path, shown):
-    out, err, _ = secomp(words.split(), read(path))
-    wrote = out.decode() or err
+def session(command, shown):
+    ran = subprocess.run(["bash", "-c", command], cwd=TOP, capture_output=True, check=False)
+    wrote = (ran.stdout or ran.stderr).decode(errors="replace")
     return "" if wrote == shown else f"writes\n{wrote}"
 
 
 def sessions(prefix):
     """The tests by what the README shows."""
     for command, shown, _ in commands(f"{FOLDER}/README.md"):
-        found = COMMAND.fullmatch(command)
-        if found and found.group(2).startswith(f"{FOLDER}/{prefix}"):
-            yield f"session {command}", lambda found=found, shown=shown: session(*found.groups(), shown)
+        if PROGRAM.search(command).group(1).startswith(prefix):
+            yield f"session {command}", lambda command=command, shown=shown: session(command, shown)
 
 
 def main(prefix=""):
