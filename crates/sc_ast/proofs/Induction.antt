@@ -2,13 +2,9 @@
 use Rattle.sc_ast.proofs.Common.{ExprTree, ExprTree-F, List, StmtKind, StmtKind-F, StmtTree, [], ind-ExprTree}
 use Rattle.sc_ast.proofs.Common.{ind-StmtTree, map, map-ExprTree, map-StmtKind, roll-ExprTree, roll-StmtKind}
 use Rattle.sc_ast.proofs.Common.{roll-StmtTree, subst, ℕ, ◌∷◌}
+pub use Rattle.sc_base.proofs.Lists.{Each, everywhere}
 use Rattle.sc_ast.specs.declared.expr.ExprTree.TheOpen as term
 use Rattle.sc_ast.specs.declared.stmt.StmtKind.TheOpen as layer
-
--- P of each in the list
-abbrev pub Each : {A : Type 0} → (A → Type 0) → List A → Type 0
-Each P [] = Unit {0}
-Each P (x ∷ xs) = P x × Each P xs
 
 -- P of each expression directly inside
 abbrev pub Under : (ExprTree → Type 0) → ExprTree-F ExprTree → Type 0
@@ -42,11 +38,6 @@ Inside P (layer.If cond then_part else_part) = Each P then_part × Each P else_p
 Inside P (layer.While cond body) = Each P body
 Inside P (layer.For first cond next body) = Each P body
 Inside P _ = Unit {0}
-
--- P of each statement of every list, where it holds of every statement
-pub everywhere : {A : Type 0} (P : A → Type 0) → ((x : A) → P x) → (xs : List A) → Each P xs
-everywhere P h [] = tt
-everywhere P h (x ∷ xs) = (h x, everywhere P h xs)
 
 module _ (P : StmtTree → Type 0) where
   abbrev AnyLine : StmtKind → Type 0

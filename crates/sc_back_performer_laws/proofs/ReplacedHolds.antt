@@ -223,7 +223,7 @@ module _ (olds : List SectionTree) (in_interfaces : interface_broken olds ≡ []
 
   module _ (first_main : here ≡ true → mains ≡ false) where
     main_holds_here : (b : Bool) → here ≡ b →
-        Each {A = Entry × Proto} (λ e. HoldsMain e.1) (if b then (Main, main_proto) ∷ [] else [])
+        Each {X = Entry × Proto} (λ e. HoldsMain e.1) (if b then (Main, main_proto) ∷ [] else [])
     main_holds_here true at = (
       λ line close body. ap (λ m. main_holds m
           (head_of (function_at main_proto line close body).head)) (first_main at),

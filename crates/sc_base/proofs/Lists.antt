@@ -4,9 +4,15 @@ use Rattle.sc_base.proofs.Common.{All, Bool, List, None, Some, [], add-one, and_
 use Rattle.sc_base.proofs.Common.{cond, drop, drop-cons, false, find, get_or, if◌then◌else◌, length, list_all, lt-ltb}
 use Rattle.sc_base.proofs.Common.{ltb, map, nat_lt, not, position, position_or_len, refl, slice_get, subst, suc, sym}
 use Rattle.sc_base.proofs.Common.{take, take_more, true, zero, ℕ, ⊎_elim, ◌++◌, ◌+◌, ◌<◌, ◌∙◌, ◌∷◌, ◌≡◌, ◌≤◌}
+pub use Rattle.std.specs.List.{AllByRecursion as Each}
 use Rattle.std.specs.Option.{option_map}
 use Rattle.std.proofs.lemmas.List.Sums.{passes_at_first, fails_before_first}
 use Rattle.std.proofs.lemmas.Option.{get_or_from_slice_get, slice_get-get_or, slice_get_within}
+
+-- P of each in every list, where it holds of every one
+pub everywhere : {A : Type 0} (P : A → Type 0) → ((x : A) → P x) → (xs : List A) → Each P xs
+everywhere P h [] = tt
+everywhere P h (x ∷ xs) = (h x, everywhere P h xs)
 
 -- the element after a prefix
 pub get_after : {A : Type 0} (xs : List A) (y : A) (ys : List A) → slice_get (xs ++ y ∷ ys) (length xs) ≡ Some y

@@ -2,14 +2,10 @@
 use Rattle.sc_core.proofs.Common.{List, Ty, TypedExpr, TypedKind, TypedKind-F, TypedStmt, TypedStmtKind}
 use Rattle.sc_core.proofs.Common.{TypedStmtKind-F, [], ind-TypedExpr, ind-TypedStmt, map, map-TypedKind}
 use Rattle.sc_core.proofs.Common.{map-TypedStmtKind, roll-TypedExpr, roll-TypedStmt, subst, ℕ, ◌∷◌}
+pub use Rattle.sc_base.proofs.Lists.{Each, everywhere}
 use Rattle.sc_core.specs.declared.stmt.TypedStmtKind.TheOpen as layer
 use Rattle.sc_core.specs.declared.expr.TypedKind.TheOpen as term
 use Rattle.sc_core.proofs.Layers.{typed, on_line}
-
--- P of each in the list
-abbrev pub Each : {A : Type 0} → (A → Type 0) → List A → Type 0
-Each P [] = Unit {0}
-Each P (x ∷ xs) = P x × Each P xs
 
 -- P of each statement directly inside
 abbrev pub Inside : (TypedStmt → Type 0) → TypedStmtKind-F TypedStmtKind TypedStmt → Type 0
@@ -17,11 +13,6 @@ Inside P (layer.If cond first second) = Each P first × Each P second
 Inside P (layer.While cond body) = Each P body
 Inside P (layer.For first cond next body) = Each P body
 Inside P _ = Unit {0}
-
--- P of each in every list, where it holds of every one
-pub everywhere : {A : Type 0} (P : A → Type 0) → ((x : A) → P x) → (xs : List A) → Each P xs
-everywhere P h [] = tt
-everywhere P h (x ∷ xs) = (h x, everywhere P h xs)
 
 module _ (P : TypedStmt → Type 0) where
   abbrev AnyLine : TypedStmtKind → Type 0

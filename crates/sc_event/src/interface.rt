@@ -1,6 +1,7 @@
+ghost use Rattle.sc_base.specs.Prelude.{most_params};
 ghost use Rattle.sc_event.specs.Prelude.{comp_at, comp_name, export_at, fits_result, imports, imports_of, is_function};
 ghost use Rattle.sc_event.specs.Prelude.{is_input, is_output, may_return, takes};
-ghost use Rattle.std.specs.Prelude.{◌≡◌};
+ghost use Rattle.std.specs.Prelude.{◌≡◌, ◌≤◌, IsTrue};
 ghost use Rattle.sc_event.specs.declared.row.Entry.TheVariants.{Export};
 ghost use Rattle.std.specs.Option.{option_copied};
 
@@ -109,7 +110,8 @@ impl Interfaces {
 
     /// Whether the export takes `count` arguments.
     pub fn takes(&self, comp: CompId, index: u16, count: usize) -> bool
-        ensures { result ≡ takes self.now comp index count }
+        ensures allowed { result ≡ takes self.now comp index count }
+        ensures few { IsTrue result → count ≤ most_params }
     {
         match self.export(comp, index) {
             None => false,

@@ -19,8 +19,8 @@ pub use Rattle.sc_base.specs.Prelude.{HasOneNumberEach, Text, is_name_byte, is_n
 pub use Rattle.sc_base.specs.Prelude.{number_by_name}
 pub use Rattle.sc_number.specs.Numbers.{integer, number, number_within, when_within}
 pub use Rattle.sc_policy.specs.Lines.{bytes_of, lines_of, onto_line, words_of}
-pub use Rattle.sc_policy.specs.Policies.{BeginsPolicy, IsBadAt, IsDraft, IsPolicy, IsPolicyRead, end_line, policy_line}
-pub use Rattle.sc_policy.specs.Policies.{state_line}
+pub use Rattle.sc_policy.specs.Policies.{BeginsPolicy, HasBadLine, IsBadAt, IsDraft, IsPolicy, IsPolicyRead, end_line}
+pub use Rattle.sc_policy.specs.Policies.{policy_line, state_line}
 pub use Rattle.sc_policy.specs.Reading.{after, after_all, arg_of, begun, call_of, compare_of, continued, ends_of}
 pub use Rattle.sc_policy.specs.Reading.{goal_of, goal_part, joined, maybe_arg_of, maybe_test_of, name_after, new_state}
 pub use Rattle.sc_policy.specs.Reading.{pattern_count, pattern_of, pattern_part, pattern_with, ret_of, rule_of, ruled}

@@ -1,5 +1,5 @@
 -- What was read where the reading of a policy comes to a line, and what ends it.
-use Rattle.sc_policy.proofs.Common.{BeginsPolicy, Closed, Err, IsBadAt, IsErrOf, IsPolicy, IsPolicyRead, List, None}
+use Rattle.sc_policy.proofs.Common.{BeginsPolicy, Closed, Err, HasBadLine, IsErrOf, IsPolicy, IsPolicyRead, List, None}
 use Rattle.sc_policy.proofs.Common.{Open, Option, Policy, PolicyRead, Progress, Some, Start, Text, Titled, [], after}
 use Rattle.sc_policy.proofs.Common.{after_all, ap, append-nil, append_assoc, arith, bytes_of, drop, get_or, inl, inr}
 use Rattle.sc_policy.proofs.Common.{length, length-append, lines_of, min, option_and_then, refl, slice_range, subst}
@@ -208,44 +208,36 @@ begins_none lines seen line rest now are read stuck begun =
     ap (λ o. after_all o begun.more) (read_more seen line now None read stuck) ∙ nothing_after begun.more in
     let no : ◌≡◌ {A = Option Progress} None (Some (Closed begun.policy)) = sym never ∙ closed in absurd (cc)
 
--- the line of this number is bad
-abbrev pub IsBadLine : List ℕ → ℕ → Type 0
-IsBadLine text number = (first : ℕ) × (IsBadAt (lines_of text) first × (number ≡ min first 4294967295))
-
-pub bad_number : (text : List ℕ) (number : ℕ) → IsBadLine text number → (line : ℕ) →
-    IsErrOf {T = PolicyRead} {E = PolicyFault} (Err (Bad number)) (Bad line) → IsBadLine text line
-bad_number text number bad line is = let same : number ≡ line = cc in subst (λ n. IsBadLine text n) same bad
+pub bad_number : (text : List ℕ) (number : ℕ) → HasBadLine text number → (line : ℕ) →
+    IsErrOf {T = PolicyRead} {E = PolicyFault} (Err (Bad number)) (Bad line) → HasBadLine text line
+bad_number text number bad line is = let same : number ≡ line = cc in subst (λ n. HasBadLine text n) same bad
 
 pub bad_line : (text : List ℕ) (at end : ℕ) (now : Progress) (number : ℕ) → IsSeen text at now number →
-    IsNextLine text at end → after now (slice_range text at end) ≡ None → IsBadLine text number
+    IsNextLine text at end → after now (slice_range text at end) ≡ None → HasBadLine text number
 bad_line text at end now number is line stuck =
     let rest = lines_of (drop (end + 1) text) in
-    let are = is.lines ∙ ap (λ ls. is.seen ++ ls) line.line in (
-      suc (length is.seen),
-      (
-        record {
-          none = none_is_read (lines_of text) is.seen (slice_range text at end ∷ rest) now are is.read is.unclosed
-              stuck;
-          some = omega arith;
-          before = begins_before (lines_of text) is.seen (slice_range text at end ∷ rest) now are is.read;
-          at = inl (begins_none (lines_of text) is.seen (slice_range text at end) rest now are is.read stuck);
-        },
-        is.counted,
-      ),
-    )
+    let are = is.lines ∙ ap (λ ls. is.seen ++ ls) line.line in record {
+      first = suc (length is.seen);
+      bad = record {
+        none = none_is_read (lines_of text) is.seen (slice_range text at end ∷ rest) now are is.read is.unclosed
+            stuck;
+        some = omega arith;
+        before = begins_before (lines_of text) is.seen (slice_range text at end ∷ rest) now are is.read;
+        at = inl (begins_none (lines_of text) is.seen (slice_range text at end) rest now are is.read stuck);
+      };
+      number = is.counted;
+    }
 
 pub bad_end : (text : List ℕ) (at : ℕ) (now : Progress) (number : ℕ) → IsSeen text at now number →
-    lines_of (drop at text) ≡ [] → IsBadLine text number
+    lines_of (drop at text) ≡ [] → HasBadLine text number
 bad_end text at now number is past =
-    let are = is.lines ∙ ap (λ ls. is.seen ++ ls) past in (
-      suc (length is.seen),
-      (
-        record {
-          none = none_is_read (lines_of text) is.seen [] now are is.read is.unclosed tt;
-          some = omega arith;
-          before = begins_before (lines_of text) is.seen [] now are is.read;
-          at = inr (ap (λ ls. suc (length ls)) (sym (are ∙ append-nil is.seen)));
-        },
-        is.counted,
-      ),
-    )
+    let are = is.lines ∙ ap (λ ls. is.seen ++ ls) past in record {
+      first = suc (length is.seen);
+      bad = record {
+        none = none_is_read (lines_of text) is.seen [] now are is.read is.unclosed tt;
+        some = omega arith;
+        before = begins_before (lines_of text) is.seen [] now are is.read;
+        at = inr (ap (λ ls. suc (length ls)) (sym (are ∙ append-nil is.seen)));
+      };
+      number = is.counted;
+    }

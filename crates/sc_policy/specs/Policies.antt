@@ -1,10 +1,10 @@
 -- Which lines are a policy, and where lines that are none go wrong.
 use Rattle.sc_base.specs.Prelude.{HasOneNumberEach, Text}
-use Rattle.std.specs.Prelude.{◌≡◌, ℕ, suc, ◌-◌, ◌≤◌, ◌⊎◌, IsTrue, codes, List, [], ◌∷◌, ◌++◌, map, take, length}
+use Rattle.std.specs.Prelude.{◌≡◌, ℕ, suc, ◌-◌, ◌≤◌, ◌⊎◌, IsTrue, codes, List, [], ◌∷◌, ◌++◌, map, take, length, min}
 use Rattle.std.specs.List.{list_all}
 unfoldable use Rattle.sc_base.specs.Prelude.{is_name}
 use Rattle.sc_policy.specs.Limits.{most_rules, most_states}
-use Rattle.sc_policy.specs.Lines.{bytes_of}
+use Rattle.sc_policy.specs.Lines.{bytes_of, lines_of}
 use Rattle.sc_policy.specs.Rules.{AreRuleLines}
 use Rattle.sc_policy.specs.declared.policy.Policy.{Policy}
 use Rattle.sc_policy.specs.declared.read.PolicyRead.{PolicyRead}
@@ -49,6 +49,12 @@ pub record IsBadAt (lines : List Text) (line : ℕ) : Type 0 where
   pub some : 1 ≤ line
   pub before : BeginsPolicy (take (line - 1) lines)
   pub at : (BeginsPolicy (take line lines) → ⊥) ⊎ (line ≡ suc (length lines))
+
+-- the line of this number is the first with which the bytes begin no policy; all lines after 4294967295 have that number
+pub record HasBadLine (bytes : List ℕ) (line : ℕ) : Type 0 where
+  pub first : ℕ
+  pub bad : IsBadAt (lines_of bytes) first
+  pub number : line ≡ min first 4294967295
 
 -- the policy stands in the first bytes, and the rest of them follows
 pub record IsPolicyRead (bytes : List ℕ) (read : PolicyRead) : Type 0 where

@@ -1,8 +1,8 @@
 //! The reading of a policy.
 
 ghost use Rattle.sc_policy.specs.Lines.{lines_of};
-ghost use Rattle.sc_policy.specs.Policies.{IsBadAt, IsPolicyRead};
-ghost use Rattle.std.specs.Prelude.{◌≡◌, ℕ, ◌+◌, ◌<◌, ◌≤◌, ◌∷◌, [], min, drop, length, slice_range, slice_index};
+ghost use Rattle.sc_policy.specs.Policies.{HasBadLine, IsPolicyRead};
+ghost use Rattle.std.specs.Prelude.{◌≡◌, ℕ, ◌+◌, ◌<◌, ◌≤◌, ◌∷◌, [], drop, length, slice_range, slice_index};
 ghost use Rattle.std.specs.Prelude.{IfNone, IfOk, IfSome, IsErrOf};
 
 use crate::progress::Progress;
@@ -20,8 +20,7 @@ pub struct PolicyRead {
 /// from 1, or at the line that would follow where the lines end too early. 4294967295 is the number of all later lines.
 pub fn read_policy(alloc: Global, bytes: &[u8]) -> Result<PolicyRead, PolicyFault>
     ensures read { IfOk result (λ read. IsPolicyRead bytes.now read) }
-    ensures bad { (line : ℕ) → IsErrOf result (PolicyFault.Bad line) → (first : ℕ) ×
-        (IsBadAt (lines_of bytes.now) first × (line ≡ min first 4294967295)) }
+    ensures bad { (line : ℕ) → IsErrOf result (PolicyFault.Bad line) → HasBadLine bytes.now line }
 {
     let mut progress = Progress::Start;
     let mut at = 0;

@@ -1,5 +1,6 @@
 //! The variables with which a program begins (C11 6.2.4p3, 6.7.9p10).
 
+ghost use Rattle.sc_core.specs.Prelude.{most_compartments};
 ghost use Rattle.sc_run.specs.Prelude.{base_zeros, cell_with, global_block, globals_of, member_zeros, memory_of};
 ghost use Rattle.sc_run.specs.Prelude.{repeated, starred_zeros, struct_zeros, with_blocks, with_words, zeros_of};
 ghost use Rattle.sc_run.specs.Numbers.{HasSmallGlobals, HaveSmallGlobals};
@@ -216,7 +217,7 @@ pub fn first_blocks(alloc: Global, sections: &[TypedSection]) -> Result<Blocks, 
 
 // The compartment of this number.
 fn comp_at(number: usize) -> CompId
-    requires { number < 32 }
+    requires { number < most_compartments }
     ensures { result ≡ number }
 {
     CompId::new(number as u8).unwrap()

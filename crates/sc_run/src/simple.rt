@@ -65,17 +65,6 @@ fn call_own<'a>(
     }
 }
 
-// Whether an export takes this many arguments, which are at most 8.
-fn takes(program: &Program, to: CompId, index: u16, count: usize) -> bool
-    ensures allowed { result ≡ takes program.now.interfaces to index count }
-    ensures few { IsTrue result → count ≤ most_params }
-{
-    match program.interfaces().export(to, index) {
-        None => false,
-        Some(export) => export.params.as_slice().len() == count,
-    }
-}
-
 // Whether a call across may be made, but for its function.
 fn may_cross(program: &Program, from: CompId, to: CompId, index: u16, args: &[Value]) -> bool
     ensures allowed { result ≡ (imports program.now.interfaces from (is_function to index) &&
@@ -83,7 +72,7 @@ fn may_cross(program: &Program, from: CompId, to: CompId, index: u16, args: &[Va
     ensures few { IsTrue result → length args.now ≤ most_params }
 {
     program.interfaces().imports_function(from, to, index)
-        && (takes(program, to, index, args.len()) && are_words(args))
+        && (program.interfaces().takes(to, index, args.len()) && are_words(args))
 }
 
 // A call of an export of another compartment. It is looked up by its name, and is an event, of which a run has few.

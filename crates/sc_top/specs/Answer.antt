@@ -2,11 +2,11 @@
 use Rattle.sc_top.specs.Common.{Accepts, Adds, Command, Fails, IsAtEnd, IsImage, ProgramTree, Refusal, Rose, Takes, bad}
 use Rattle.sc_top.specs.Common.{cause_number}
 use Rattle.sc_base.specs.Prelude.{IsPrefix}
-use Rattle.std.specs.Prelude.{◌≡◌, ◌≢◌, ◌≤◌, ◌⊎◌, ◌+◌, ℕ, IsTrue, List, [], ◌++◌, length, min, Option, Some, None}
+use Rattle.std.specs.Prelude.{◌≡◌, ◌≢◌, ◌≤◌, ◌⊎◌, ◌+◌, ℕ, IsTrue, List, [], ◌++◌, length, Option, Some, None}
 use Rattle.std.specs.Prelude.{option_and_then}
 use Rattle.std.specs.Option.{option_map}
 use Rattle.sc_lex.specs.declared.refusal.Phase.TheVariants.{Syntax}
-use Rattle.sc_policy.specs.Prelude.{IsBadAt, lines_of}
+use Rattle.sc_policy.specs.Prelude.{HasBadLine}
 use Rattle.sc_top.specs.declared.status.Status.{Status}
 use Rattle.sc_top.specs.declared.status.Status.TheVariants.{Done, Usage, Refused, TooLarge, TooLong, BadImage}
 use Rattle.sc_top.specs.declared.status.Status.TheVariants.{ReadFault, WriteFault, OutOfMemory, BadPolicy}
@@ -83,12 +83,6 @@ IsBadIn Nothing bytes cause = ⊥
 
 abbrev pub FindsBad : Command → List ℕ → (cause : ℕ) → Type 0
 FindsBad command bytes cause = IsBadIn (intake command) bytes cause
-
--- the lines begin no policy, from the one of this number on; all after 4294967295 lines have that number
-pub record HasBadLine (bytes : List ℕ) (line : ℕ) : Type 0 where
-  pub first : ℕ
-  pub bad : IsBadAt (lines_of bytes) first
-  pub number : line ≡ min first 4294967295
 
 abbrev pub HasBadLineIn : Intake → List ℕ → (line : ℕ) → Type 0
 HasBadLineIn (PolicyAndText limit) bytes line = HasBadLine bytes line

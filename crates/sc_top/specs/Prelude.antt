@@ -9,7 +9,7 @@ unfoldable pub use Rattle.sc_top_words.specs.Prelude.{command}
 pub use Rattle.sc_top_words.specs.declared.command.Command.{Command}
 pub use Rattle.sc_top_words.specs.declared.command.Command.TheVariants.{Check, Compile, Exec, Explain, Judge, Meaning}
 pub use Rattle.sc_top_words.specs.declared.command.Command.TheVariants.{Run}
-pub use Rattle.sc_top.specs.Answer.{Answers, FindsBad, FindsBadLine, FindsUnfit, HasBadLine, IsAnswer, IsGood}
+pub use Rattle.sc_top.specs.Answer.{Answers, FindsBad, FindsBadLine, FindsUnfit, IsAnswer, IsGood}
 pub use Rattle.sc_top.specs.Answer.{IsInput, IsSilent, IsUndisturbed}
 pub use Rattle.sc_top.specs.Answer.{IsUnfit, IsWhole, IsWithin, IsWithinLimit, Prints, Refuses, SameAnswer, Says}
 pub use Rattle.sc_top.specs.Answer.{Traffic, cause_in}

@@ -8,6 +8,7 @@ use Rattle.sc_types.proofs.Common.{map, nat_le, nat_lt, not, number_by_name, num
 use Rattle.sc_types.proofs.Common.{position}
 use Rattle.sc_types.proofs.Common.{position-cons, proto_names, refl, slice_get, subst, suc, sym, true, unless, zero, ℕ}
 use Rattle.sc_types.proofs.Common.{◌++◌, ◌<◌, ◌==◌, ◌||◌, ◌∙◌, ◌∷◌, ◌≡◌, ◌≤◌}
+pub use Rattle.sc_base.proofs.Lists.{Each}
 use Rattle.std.proofs.lemmas.Slice.Eq.{bytes_eq-Decides}
 use Rattle.std.proofs.lemmas.Cmp.{nat_list_eq_equiv}
 
@@ -35,11 +36,6 @@ pub ruleset no_lines = (rule_holds, prefix_empty, back_empty)
 pub map_empty : {A B : Type 0} (f : A → B) (xs : List A) → map f xs ≡ [] → xs ≡ []
 map_empty f [] h = refl
 map_empty f (x ∷ xs) h = cc
-
--- P of each
-abbrev pub Each : {A : Type 0} → (A → Type 0) → List A → Type 0
-Each P [] = Unit {0}
-Each P (x ∷ xs) = P x × Each P xs
 
 pub each_empty : {A : Type 0} (f : A → List ℕ) (xs : List A) → concat (map f xs) ≡ [] → Each (λ x. f x ≡ []) xs
 each_empty f [] h = tt
