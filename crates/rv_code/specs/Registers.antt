@@ -1,5 +1,5 @@
 -- Registers by their numbers (RISC-V calling convention): the return address, the stack pointer, the first argument and
--- result, and the number of an environment call.
+-- result, the second argument, and the number of an environment call.
 use Rattle.std.specs.Prelude.{ℕ}
 
 abbrev pub ra : ℕ
@@ -10,6 +10,9 @@ sp = 2
 
 abbrev pub a0 : ℕ
 a0 = 10
+
+abbrev pub a1 : ℕ
+a1 = 11
 
 abbrev pub a7 : ℕ
 a7 = 17

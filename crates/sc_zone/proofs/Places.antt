@@ -1,8 +1,15 @@
 -- The least free place is the one that is free and before which none is.
 use Rattle.sc_zone.proofs.Common.{Bool, List, None, Option, Some, Span, ap, arith, eqb-false, eqb-true, false}
-use Rattle.sc_zone.proofs.Common.{if◌then◌else◌, is_free, lt-leb, list_all, misses, nat_le, refl, suc, sym, true, zero}
-use Rattle.sc_zone.proofs.Common.{zone_words, ℕ, ◌&&◌, ◌+◌, ◌<◌, ◌==◌, ◌∙◌, ◌≡◌, ◌≤◌}
+use Rattle.sc_zone.proofs.Common.{if◌then◌else◌, is_free, leb-true, list_all, lt-leb, misses, nat_le, refl, subst, suc}
+use Rattle.sc_zone.proofs.Common.{sym, true, zero, zone_words, ℕ, ◌&&◌, ◌+◌, ◌<◌, ◌==◌, ◌∙◌, ◌≡◌, ◌≤◌}
 unfoldable use Rattle.sc_zone.proofs.Common.{first_free, least_free}
+
+some_place : (a b : ℕ) → Some a ≡ Some b → a ≡ b
+some_place a b is = cc
+
+first_true : (a b : Bool) → (a && b) ≡ true → a ≡ true
+first_true true b is = refl
+first_true false b is = cc is
 
 module _ (spans : List Span) (words : ℕ) where
   passes : (free : Bool) (place : ℕ) (later : Option ℕ) → free ≡ false →
@@ -63,6 +70,33 @@ module _ (spans : List Span) (words : ℕ) where
 
   pub least_of_many : zone_words < words → least_free spans words ≡ None
   least_of_many many = least_none (λ q. beyond q (omega (arith, many)))
+
+  first_is_free : (count from place : ℕ) → first_free spans words count from ≡ Some place →
+      is_free spans words place ≡ true
+  unfolding first_free
+  first_is_free zero from place is = cc is
+  first_is_free (suc count) from place is =
+      by (is_free spans words from) refl is (λ later. first_is_free count (suc from) place later) where
+        by : (free : Bool) → is_free spans words from ≡ free →
+            (if free then Some from else first_free spans words count (suc from)) ≡ Some place →
+            (first_free spans words count (suc from) ≡ Some place → is_free spans words place ≡ true) →
+            is_free spans words place ≡ true
+        by true free is later = subst (λ p. is_free spans words p ≡ true) (some_place from place is) free
+        by false free is later = later is
+
+  pub least_is_free : (place : ℕ) → least_free spans words ≡ Some place → is_free spans words place ≡ true
+  unfolding least_free
+  least_is_free place is = by (words == 0) is where
+    by : (none : Bool) → (if none then None else first_free spans words zone_words 0) ≡ Some place →
+        is_free spans words place ≡ true
+    by true is = cc is
+    by false is = first_is_free zone_words 0 place is
+
+  -- and so it ends within the zone
+  pub least_is_within : (place : ℕ) → least_free spans words ≡ Some place → place + words ≤ zone_words
+  least_is_within place is =
+      leb-true (place + words) zone_words
+      (first_true (nat_le (place + words) zone_words) (list_all (misses words place) spans) (least_is_free place is))
 
 pub least_of_none : (spans : List Span) → least_free spans 0 ≡ None
 unfolding least_free
