@@ -42,12 +42,16 @@ pub use Rattle.sc_word.specs.Prelude.{add_word, word_of}
 pub use Rattle.rv_code.specs.Prelude.{HasWord, decoded}
 pub use Rattle.sc_store.proofs.Words.{load_of-same, stored-apart}
 pub use Rattle.sc_store.specs.Prelude.{HoldsBytes, ByteMemory, byte_of, is_in, load_of, with_bytes}
-pub use Rattle.sc_image.specs.Common.{Auipc, BadCall, BadJump, Branch, Breakpoint, Call, Ebreak, Ecall, End, Ended}
+pub use Rattle.sc_image.specs.Common.{Auipc, BadCall, BadFree, BadJump, Branch, Breakpoint, Call, Ebreak, Ecall, End, Ended}
 pub use Rattle.sc_image.specs.Common.{Entry, Event, EventsOut, Export, Fence, Illegal, In, Instr, Jal, Jalr, Load}
 pub use Rattle.sc_image.specs.Common.{LoadOp, Lui, Main, Misaligned, NoImport, Op, OpImm, OpOp, Out, Owner, Region, Ret}
 pub use Rattle.sc_image.specs.Common.{Shift, ShiftOp, StepsOut, Stop, Store, StoreOp, Trap, TrapReason, Upper}
 pub use Rattle.sc_image.specs.Common.{little_bytes, little_number}
-pub use Rattle.sc_image.specs.Prelude.{Adds, AgreeFor, BadOrImage, BytesNameOneImage, CallsComeBack}
+pub use Rattle.sc_image.specs.Prelude.{Adds, AgreeFor, AreBytesOf, BadOrImage, BytesNameOneImage, CallsComeBack}
+pub use Rattle.sc_image.specs.Prelude.{WrittenIsRead, a1, data_end, frees, has_heap, latest_version, most_flags}
+pub use Rattle.sc_image.specs.Prelude.{on_alloc, on_free, parts_bytes, starts_block, version_at, with_zone}
+pub use Rattle.sc_image.specs.Prelude.{zone_address, zone_of, zone_size, zone_start}
+pub use Rattle.sc_zone.specs.declared.span.Span.{Span}
 pub use Rattle.sc_image.specs.Prelude.{ComesBack, Crossing, Emits, EmittingComposes, Entered, EntersByEvent, Fails}
 pub use Rattle.sc_image.specs.Prelude.{FitsItsFields, FollowsFromOwn, Goes, HasCalled, ImageInMemory, IsAt}
 pub use Rattle.sc_image.specs.Prelude.{IsByte, IsCall, AreNested, IsComp, IsDistinct, IsEntry, IsImage, IsImport}
@@ -69,7 +73,7 @@ pub use Rattle.sc_image.specs.Prelude.{execute, entered_export, export_bytes, ex
 pub use Rattle.sc_image.specs.Prelude.{exports_keep}
 pub use Rattle.sc_image.specs.Prelude.{exported_by, extended, flags, gate, given_back, gives, globals_bytes}
 pub use Rattle.sc_image.specs.Prelude.{initial_globals}
-pub use Rattle.sc_image.specs.Prelude.{has_result, if_decoded, if_fetched, if_good, image_bytes, image_in, import_bytes}
+pub use Rattle.sc_image.specs.Prelude.{has_result, if_decoded, if_fetched, if_good, image_bytes, import_bytes}
 pub use Rattle.sc_image.specs.Prelude.{image_import, imports_bytes, imports_keep, on_input, input_at, inputs_in}
 pub use Rattle.sc_image.specs.Prelude.{image_interface}
 pub use Rattle.sc_image.specs.Prelude.{image_interfaces, is_argument, is_end, is_ended, is_entry, is_importable}
@@ -83,11 +87,11 @@ pub use Rattle.sc_image.specs.Prelude.{on_return}
 pub use Rattle.sc_image.specs.Prelude.{on_return_to, saved_sp, shift_on_registers, sp, stack_size, stack_top}
 pub use Rattle.sc_image.specs.Prelude.{stack_tops}
 pub use Rattle.sc_image.specs.Prelude.{start, step, stops_or, store_by, store_size, stretch, then_on, unless_trap}
-pub use Rattle.sc_image.specs.Prelude.{unless_stopped, version, walk, with_pc, with_stored, without_latest}
+pub use Rattle.sc_image.specs.Prelude.{unless_stopped, walk, with_pc, with_stored, without_latest}
 pub use Rattle.sc_image.specs.Prelude.{word_interface, word_interfaces, word_proto, written, ◌>>=◌}
 unfoldable pub use Rattle.sc_image.specs.Prelude.{are_data, code_at, read_comp, comp_name_at, execute_by, read_exports}
-unfoldable pub use Rattle.sc_image.specs.Prelude.{fields_at, globals_at, image_in_version, import_at, imports_at}
-unfoldable pub use Rattle.sc_image.specs.Prelude.{read_name, parts_in_version, run, start_memory, step_by, stopped}
+unfoldable pub use Rattle.sc_image.specs.Prelude.{fields_at, globals_at, image_in, import_at, imports_at}
+unfoldable pub use Rattle.sc_image.specs.Prelude.{read_name, parts_at, run, start_memory, step_by, stopped}
 unfoldable pub use Rattle.sc_image.specs.Prelude.{word_at}
 pub use Rattle.sc_image.specs.declared.fault.BadImage.{BadImage}
 pub use Rattle.sc_image.specs.declared.fault.BadImage.TheVariants.{Compartment, Contents, Count, Exports, Imports, Mark}

@@ -13,9 +13,9 @@ bit b = if b then 1 else 0
 abbrev pub name_bytes : List ℕ → List ℕ
 name_bytes name = length name ∷ name
 
--- what a compartment may call of the environment: bit 0 is `input`, bit 1 is `output`
+-- what a compartment may call of the environment: bit 0 is `input`, bit 1 is `output`; and bit 2 is its heap
 abbrev pub flags : CompPart → ℕ
-flags comp = bit comp.input + 2 * bit comp.output
+flags comp = bit comp.input + 2 * bit comp.output + 4 * bit comp.heap
 
 abbrev pub export_bytes : ExportPart → List ℕ
 export_bytes export = name_bytes export.name ++ export.params ∷ bit export.result ∷ little_bytes 4 export.entry
@@ -41,17 +41,20 @@ comp_bytes comp =
     name_bytes comp.name ++ flags comp ∷ exports_bytes comp.exports ++ imports_bytes comp.imports ++
     code_bytes comp.code ++ globals_bytes comp.globals
 
--- the mark and the version, how many compartments, where the run starts, and the compartments
-abbrev pub bytes_in_version : (version : ℕ) → ImageParts → List ℕ
-bytes_in_version version image =
-    codes "SCIM" ++ little_bytes 2 version ++ length image.comps ∷ image.main ∷ little_bytes 4 image.entry ++
-    flat_map comp_bytes image.comps
+-- how many compartments, where the run starts, and the compartments
+abbrev pub parts_bytes : ImageParts → List ℕ
+parts_bytes image = length image.comps ∷ image.main ∷ little_bytes 4 image.entry ++ flat_map comp_bytes image.comps
 
-abbrev pub version : ℕ
-version = 1
+-- the mark and the version, and the parts
+abbrev pub bytes_in_version : (version : ℕ) → ImageParts → List ℕ
+bytes_in_version version image = codes "SCIM" ++ little_bytes 2 version ++ parts_bytes image
+
+-- the version that images are written in; in version 1 there is no heap
+abbrev pub latest_version : ℕ
+latest_version = 2
 
 abbrev pub image_bytes : ImageParts → List ℕ
-image_bytes image = bytes_in_version version image
+image_bytes image = bytes_in_version latest_version image
 
 -- the lengths that are written fit their fields
 pub record FitsItsFields (comp : CompPart) : Type 0 where

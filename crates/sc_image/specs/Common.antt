@@ -4,8 +4,8 @@ pub use Rattle.sc_base.specs.Prelude.{is_between, is_name}
 pub use Rattle.sc_base.specs.declared.stop.Stop.{Stop}
 pub use Rattle.sc_base.specs.declared.stop.Stop.TheVariants.{Ended, EventsOut, StepsOut, Trap}
 pub use Rattle.sc_base.specs.declared.stop.TrapReason.{TrapReason}
-pub use Rattle.sc_base.specs.declared.stop.TrapReason.TheVariants.{BadCall, BadJump, Breakpoint, Illegal, Misaligned}
-pub use Rattle.sc_base.specs.declared.stop.TrapReason.TheVariants.{NoImport, Owner}
+pub use Rattle.sc_base.specs.declared.stop.TrapReason.TheVariants.{BadCall, BadFree, BadJump, Breakpoint, Illegal}
+pub use Rattle.sc_base.specs.declared.stop.TrapReason.TheVariants.{Misaligned, NoImport, Owner}
 pub use Rattle.sc_event.specs.declared.event.Event.{Event}
 pub use Rattle.sc_event.specs.declared.event.Event.TheVariants.{Call, End, In, Out, Ret}
 pub use Rattle.sc_event.specs.declared.row.Entry.{Entry}

@@ -1,12 +1,18 @@
 -- What passes between compartments, and between a compartment and the environment: calls, returns, outputs and inputs.
 -- Only numbers pass: every register that isn't named here is 0 on the other side.
 use Rattle.sc_image.specs.Common.{Call, End, Export, In, Out, Ret}
-use Rattle.std.specs.Prelude.{ℕ, suc, ◌+◌, Bool, ◌&&◌, nat_eq, nat_le, nat_lt, List, [], ◌∷◌, ◌++◌, take, drop}
+use Rattle.std.specs.Prelude.{ℕ, suc, ◌+◌, ◌-◌, ◌*◌, ◌/◌, Bool, ◌&&◌, ◌==◌, nat_eq, nat_le, nat_lt, List, [], ◌∷◌}
+use Rattle.std.specs.Prelude.{◌++◌, take, drop}
 use Rattle.std.specs.Prelude.{slice_get, slice_set, Option, Some, None, unwrap_or, if◌then◌else◌}
+use Rattle.std.specs.List.{list_any}
+use Rattle.sc_zone.specs.Prelude.{taken, without_span}
+unfoldable use Rattle.sc_zone.specs.Prelude.{least_free}
+use Rattle.sc_zone.specs.declared.span.Span.{Span}
 use Rattle.sc_image.specs.declared.parts.ImageParts.{ImageParts}
-use Rattle.sc_image.specs.Layout.{gate}
+use Rattle.sc_image.specs.Layout.{gate, zone_start}
 use Rattle.sc_image.specs.Calls.{has_result}
 use Rattle.sc_image.specs.State.{MachineState, Crossing, ra, sp, a0, reg, saved_sp, written, with_reg, with_event}
+use Rattle.sc_image.specs.State.{zone_of}
 
 -- the registers with 0 in each that isn't kept
 abbrev pub kept_from : (ℕ → Bool) → (r : ℕ) → List ℕ → List ℕ
@@ -41,6 +47,7 @@ on_call state to index params entry = record {
   pc = entry;
   active = to;
   saved = slice_set state.saved state.active (reg state sp);
+  zones = state.zones;
   memory = state.memory;
   cross =
       record {
@@ -67,6 +74,7 @@ on_return_to result state crossing waiting = record {
   pc = crossing.pc;
   active = crossing.caller;
   saved = slice_set state.saved state.active crossing.saved;
+  zones = state.zones;
   memory = state.memory;
   cross = waiting;
   input = state.input;
@@ -99,3 +107,29 @@ on_input inputs state =
     let word = input_at inputs state.input in
     let read : MachineState = record (with_reg state a0 word) { input = suc state.input } in
     with_event read (In state.active word)
+
+-- The heap: the active compartment's zone, from which blocks are taken first fit.
+
+abbrev pub with_zone : MachineState → List Span → MachineState
+with_zone state spans = record state { zones = slice_set state.zones state.active spans }
+
+-- the address of a place in the zone of compartment c, and 0 for none
+abbrev pub zone_address : (c : ℕ) → Option ℕ → ℕ
+zone_address c None = 0
+zone_address c (Some place) = zone_start c + 4 * place
+
+-- the address of a new block of `words` words comes into a0, and 0 where no place is free for it
+abbrev pub on_alloc : MachineState → (words : ℕ) → MachineState
+on_alloc state words =
+    let spans = zone_of state state.active in
+    let found = least_free spans words in
+    with_reg (with_zone state (taken words found spans)) a0 (zone_address state.active found)
+
+-- one of the zone's blocks starts at an address
+abbrev pub starts_block : (c : ℕ) → List Span → (address : ℕ) → Bool
+starts_block c spans address = list_any (λ span. zone_address c (Some span.place) == address) spans
+
+-- the block that starts at an address is given back
+abbrev pub on_free : MachineState → (address : ℕ) → MachineState
+on_free state address = with_zone state
+    (without_span ((address - zone_start state.active) / 4) (zone_of state state.active))

@@ -3,7 +3,8 @@ use Rattle.sc_image.specs.Common.{ByteMemory}
 use Rattle.std.specs.Prelude.{ℕ, nat_eq, List, [], ◌∷◌, ◌++◌, flat_map, Option, Some, None, if◌then◌else◌}
 use Rattle.sc_image.specs.declared.parts.ImageParts.{ImageParts}
 use Rattle.sc_image.specs.Layout.{are_data}
-use Rattle.sc_image.specs.State.{MachineState, Crossing, saved_sp}
+use Rattle.sc_zone.specs.declared.span.Span.{Span}
+use Rattle.sc_image.specs.State.{MachineState, Crossing, saved_sp, zone_of}
 
 -- what a compartment has on the cross stack in a call: its return address and sp as the caller, or its saved sp of
 -- before as the callee
@@ -24,6 +25,8 @@ pub record Running : Type 0 where
 pub record Own : Type 0 where
   -- the bytes of its data
   pub bytes : ByteMemory
+  -- the live blocks of its zone
+  pub zone : List Span
   -- its saved sp
   pub saved : ℕ
   -- its numbers on the cross stack, the latest call first
@@ -38,6 +41,7 @@ data_of image c memory address = if are_data image c address 1 then memory addre
 abbrev pub own : ImageParts → MachineState → (c : ℕ) → Own
 own image state c = record {
   bytes = data_of image c state.memory;
+  zone = zone_of state c;
   saved = saved_sp state c;
   calls = flat_map (kept_by c) state.cross;
   running = if nat_eq state.active c then Some (record { regs = state.regs; pc = state.pc }) else None;

@@ -12,7 +12,7 @@ use Rattle.sc_image.specs.declared.parts.ImageParts.{ImageParts}
 use Rattle.sc_image.specs.declared.parts.CompPart.{CompPart}
 use Rattle.sc_image.specs.declared.parts.ExportPart.{ExportPart}
 use Rattle.sc_image.specs.declared.parts.ImportPart.{ImportPart}
-use Rattle.sc_image.specs.Bytes.{version}
+use Rattle.sc_image.specs.Bytes.{latest_version}
 use Rattle.sc_image.specs.Layout.{stretch, most_globals}
 use Rattle.sc_image.specs.Rules.{is_same_name, keeps_rules}
 
@@ -124,11 +124,19 @@ globals_at bytes = do
   size ← number_that (λ n. nat_le n most_globals) Contents 4 bytes
   bytes_at Contents size.0 size.1
 
--- a compartment of an image of `comps`: bit 0 of the flags allows `input`, and bit 1 `output`
-unfoldable pub read_comp : (comps : ℕ) → List ℕ → Read CompPart
-read_comp comps bytes = do
+-- the version of the format
+abbrev pub version_at : List ℕ → Read ℕ
+version_at bytes = number_that (is_between 1 latest_version) Version 2 bytes
+
+-- the greatest flags of a compartment: in version 1 there is no heap
+abbrev pub most_flags : (version : ℕ) → ℕ
+most_flags version = if version == 1 then 3 else 7
+
+-- a compartment of an image of `comps`: bit 0 of the flags allows `input`, bit 1 `output`, and bit 2 gives it a heap
+unfoldable pub read_comp : (version comps : ℕ) → List ℕ → Read CompPart
+read_comp version comps bytes = do
   name ← comp_name_at bytes
-  flags ← number_that (λ f. nat_le f 3) Compartment 1 name.1
+  flags ← number_that (λ f. nat_le f (most_flags version)) Compartment 1 name.1
   exports ← read_exports flags.1
   imports ← imports_at comps exports.1
   code ← code_at imports.1
@@ -137,7 +145,8 @@ read_comp comps bytes = do
     record {
       name = name.0;
       input = flags.0 % 2 == 1;
-      output = flags.0 / 2 == 1;
+      output = flags.0 / 2 % 2 == 1;
+      heap = flags.0 / 4 == 1;
       exports = exports.0;
       imports = imports.0;
       code = code.0;
@@ -146,26 +155,23 @@ read_comp comps bytes = do
     globals.1,
   )
 
--- the mark, this version, how many compartments there are, where the run starts, and each compartment
-unfoldable pub parts_in_version : (version : ℕ) → List ℕ → Read ImageParts
-parts_in_version version bytes = do
-  mark ← mark_at bytes
-  same ← number_that (λ v. v == version) Version 2 mark.1
-  count ← number_that (is_between 1 most_compartments) Count 1 same.1
+-- how many compartments there are, where the run starts, and each compartment
+unfoldable pub parts_at : (version : ℕ) → List ℕ → Read ImageParts
+parts_at version bytes = do
+  count ← number_that (is_between 1 most_compartments) Count 1 bytes
   main ← number_that (λ c. nat_lt c count.0) Start 1 count.1
   entry ← number_at Start 4 main.1
-  comps ← fields_at (read_comp count.0) count.0 entry.1
+  comps ← fields_at (read_comp version count.0) count.0 entry.1
   Ok (record { main = main.0; entry = entry.0; comps = comps.0 }, comps.1)
 
--- The image that the bytes are in this version, or the cause of the first field that isn't good. Where all are, no byte
+-- The image that the bytes are, or the cause of the first field that isn't good. Where all are, no byte
 -- may follow them, and the parts keep the rules on a whole image.
-unfoldable pub image_in_version : (version : ℕ) → List ℕ → Result ImageParts BadImage
-image_in_version version bytes = do
-  parts ← parts_in_version version bytes
+unfoldable pub image_in : List ℕ → Result ImageParts BadImage
+image_in bytes = do
+  mark ← mark_at bytes
+  version ← version_at mark.1
+  parts ← parts_at version.0 version.1
   if_good Whole (length parts.1 == 0 && keeps_rules parts.0) parts.0
-
-abbrev pub image_in : List ℕ → Result ImageParts BadImage
-image_in bytes = image_in_version version bytes
 
 abbrev pub read_cause : {A : Type 0} → Result A BadImage → Option BadImage
 read_cause (Ok x) = None

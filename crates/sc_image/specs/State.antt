@@ -1,9 +1,10 @@
 -- The machine's state, and the state that a run starts in.
-pub use Rattle.rv_code.specs.Registers.{a0, a7, ra, sp}
+pub use Rattle.rv_code.specs.Registers.{a0, a1, a7, ra, sp}
 use Rattle.sc_image.specs.Common.{Entry, Event, ByteMemory, is_in}
-use Rattle.std.specs.Prelude.{ℕ, suc, ◌-◌, nat_eq, List, [], ◌∷◌, ◌++◌, replicate, slice_get, slice_index, slice_set}
-use Rattle.std.specs.Prelude.{Option, Some, None, if◌then◌else◌}
+use Rattle.std.specs.Prelude.{ℕ, suc, ◌-◌, nat_eq, List, [], ◌∷◌, ◌++◌, map, replicate, slice_get, slice_index, slice_set}
+use Rattle.std.specs.Prelude.{slice_index_or, Option, Some, None, if◌then◌else◌}
 use Rattle.std.specs.Option.{option_and_then}
+use Rattle.sc_zone.specs.declared.span.Span.{Span}
 use Rattle.sc_image.specs.declared.parts.ImageParts.{ImageParts}
 use Rattle.sc_image.specs.declared.parts.CompPart.{CompPart}
 use Rattle.sc_image.specs.Layout.{comp_of_data, stack_top, gate, Filled, data_with}
@@ -27,6 +28,8 @@ pub record MachineState : Type 0 where
   pub active : ℕ
   -- of each compartment, the sp that it gets at its next call
   pub saved : List ℕ
+  -- of each compartment, the live blocks of its zone
+  pub zones : List (List Span)
   -- the bytes at the addresses that have an owner
   pub memory : ByteMemory
   -- the latest call first
@@ -42,6 +45,10 @@ reg state r = slice_index state.regs r
 -- the sp that a compartment gets at its next call
 abbrev pub saved_sp : MachineState → ℕ → ℕ
 saved_sp state c = slice_index state.saved c
+
+-- the live blocks of a compartment's zone
+abbrev pub zone_of : MachineState → ℕ → List Span
+zone_of state c = slice_index_or state.zones c []
 
 -- the registers with a word in one of them; x0 stays 0
 abbrev pub written : List ℕ → (r word : ℕ) → List ℕ
@@ -69,20 +76,21 @@ byte_at (filled ∷ others) address =
 unfoldable pub start_memory : ImageParts → ByteMemory
 start_memory image address =
     let c = comp_of_data address in
-    option_and_then (λ comp. byte_at (data_with c comp.globals) address) (slice_get image.comps c)
+    option_and_then (λ comp. byte_at (data_with c comp.globals comp.heap) address) (slice_get image.comps c)
 
 -- the stack tops of the compartments from number c on
 abbrev pub stack_tops : ℕ → List CompPart → List ℕ
 stack_tops c [] = []
 stack_tops c (comp ∷ comps) = stack_top c ∷ stack_tops (suc c) comps
 
--- the run starts at the main entry, with an empty stack and with ra at the gate
+-- the run starts at the main entry, with an empty stack, with ra at the gate, and with all of each zone free
 abbrev pub start : ImageParts → MachineState
 start image = record {
   regs = 0 ∷ gate ∷ stack_top image.main ∷ replicate 29 0;
   pc = image.entry;
   active = image.main;
   saved = stack_tops 0 image.comps;
+  zones = map (λ comp. []) image.comps;
   memory = start_memory image;
   cross = [];
   input = 0;

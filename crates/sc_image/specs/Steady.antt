@@ -1,7 +1,7 @@
 -- The steady states: those that a run may go on from, whether or not a run reaches them. The start is one, and each
 -- step keeps it so.
--- They differ from one another in all that a compartment may hold: its data, its registers, and its numbers on the
--- cross stack.
+-- They differ from one another in all that a compartment may hold: its data, its zone's blocks, its registers, and its
+-- numbers on the cross stack.
 use Rattle.sc_image.specs.Common.{Call, End, Entry, Event, Export, HoldsBytes, In, Out, Ret}
 use Rattle.std.specs.Prelude.{◌≡◌, ◌≢◌, ℕ, suc, ◌<◌, List, [], ◌∷◌, length, map, fold, All, slice_get, Option}
 use Rattle.sc_image.specs.declared.parts.ImageParts.{ImageParts}
@@ -67,6 +67,7 @@ pub record IsSteadyState (image : ImageParts) (state : MachineState) : Type 0 wh
   pub active : state.active < length image.comps
   pub saved : length state.saved ≡ length image.comps
   pub saved_words : (c : ℕ) → IsWord (saved_sp state c)
+  pub zones : length state.zones ≡ length image.comps
   pub bytes : HoldsBytes state.memory
   pub chain : AreNested (length image.comps) state.active state.cross
   pub kept : All KeepsWords state.cross

@@ -1,5 +1,5 @@
 -- What one instruction does (RISC-V Unprivileged ISA, RV32I and M), and when it traps.
-use Rattle.sc_image.specs.Common.{Auipc, BadCall, BadJump, Branch, BranchOp, Breakpoint, Ebreak, Ecall, Fence, Illegal}
+use Rattle.sc_image.specs.Common.{Auipc, BadCall, BadFree, BadJump, Branch, BranchOp, Breakpoint, Ebreak, Ecall, Fence, Illegal}
 use Rattle.sc_image.specs.Common.{Instr, Jal, Jalr, Load, LoadOp, Lui, Misaligned, NoImport, Op, OpImm, OpImmOp, OpOp}
 use Rattle.sc_image.specs.Common.{Owner, Shift, ShiftOp, Store, StoreOp, TrapReason, Upper, add_word, decoded, div_word}
 use Rattle.sc_image.specs.Common.{divu_word, load_of, mul_word, mulh_word, mulhsu_word, mulhu_word, rem_word, remu_word}
@@ -15,10 +15,10 @@ use Rattle.rv_code.specs.declared.instr.ShiftOp.TheVariants.{Slli, Srli, Srai}
 use Rattle.rv_code.specs.declared.instr.OpOp.TheVariants.{Add, Sub, Sll, Slt, Sltu, Xor, Srl, Sra, Or, And, Mul, Mulh}
 use Rattle.rv_code.specs.declared.instr.OpOp.TheVariants.{Mulhsu, Mulhu, Div, Divu, Rem, Remu}
 use Rattle.sc_image.specs.declared.parts.ImageParts.{ImageParts}
-use Rattle.sc_image.specs.Layout.{gate, comp_of_code, word_at, are_data}
+use Rattle.sc_image.specs.Layout.{gate, comp_of_code, has_heap, word_at, are_data}
 use Rattle.sc_image.specs.Calls.{may_input, may_output, may_call_export, entered_export, export_params}
-use Rattle.sc_image.specs.State.{MachineState, ra, a7, reg, with_reg, with_pc}
-use Rattle.sc_image.specs.Cross.{on_call, on_return, on_output, on_input}
+use Rattle.sc_image.specs.State.{MachineState, ra, a0, a1, a7, reg, with_reg, with_pc, zone_of}
+use Rattle.sc_image.specs.Cross.{on_alloc, on_call, on_free, on_input, on_output, on_return, starts_block}
 
 -- the state after a step, or the reason why there is no step
 pub data Outcome : Type 0 where
@@ -235,13 +235,23 @@ leaves image state rd target =
     then Goes (on_return image state state.cross)
     else jump_outside image state rd target
 
--- a7 says what is called: 1 is `input`, 2 is `output`
+-- the block that starts at an address is freed, and nothing where that is 0
+abbrev pub frees : MachineState → (address : ℕ) → Outcome
+frees state address =
+    if nat_eq address 0 then next state
+    else if starts_block state.active (zone_of state state.active) address then next (on_free state address)
+    else Traps BadFree
+
+-- a7 says what is called: 1 is `input`, 2 is `output`; with a heap, 3 allocates a0 times a1 words, and 4 frees
 abbrev pub environment_call : ImageParts → List ℕ → MachineState → Outcome
 environment_call image inputs state =
     if nat_eq (reg state a7) 1
     then (if may_input image state.active then next (on_input inputs state) else Traps NoImport)
     else if nat_eq (reg state a7) 2
     then (if may_output image state.active then next (on_output state) else Traps NoImport)
+    else if not (has_heap image state.active) then Traps BadCall
+    else if nat_eq (reg state a7) 3 then next (on_alloc state (reg state a0 * reg state a1))
+    else if nat_eq (reg state a7) 4 then frees state (reg state a0)
     else Traps BadCall
 
 abbrev pub by_owner : ImageParts → List ℕ → Protection

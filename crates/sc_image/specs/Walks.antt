@@ -11,7 +11,7 @@ use Rattle.sc_image.specs.declared.parts.CompPart.{CompPart}
 use Rattle.sc_base.specs.Word.{IsWord}
 use Rattle.sc_image.specs.WellFormed.{IsWellFormed}
 use Rattle.sc_image.specs.Layout.{stack_size, code_start, data_start, stack_top, code_in, word_at, data_regions}
-use Rattle.sc_image.specs.Layout.{are_data}
+use Rattle.sc_image.specs.Layout.{are_data, data_end, zone_size, zone_start}
 use Rattle.sc_image.specs.State.{MachineState, reg, start_memory}
 use Rattle.sc_image.specs.Step.{Outcome, Goes, Traps, next, gives, op_result, on_registers, shift_on_registers}
 use Rattle.sc_image.specs.Step.{compares}
@@ -124,7 +124,14 @@ pub record ImageInMemory : Type 0 where
   pub global_words : (image : ImageParts) (c : ℕ) (comp : CompPart) (words : List ℕ) (k word : ℕ) → IsWellFormed image →
       slice_get image.comps c ≡ Some comp → comp.globals ≡ flat_map (little_bytes 4) words →
       slice_get words k ≡ Some word → IsWord word → load_of (start_memory image) (stack_top c + 4 * k) 4 ≡ word
+  -- a zone holds zeros
+  pub zone : (image : ImageParts) (c : ℕ) (comp : CompPart) (k : ℕ) → IsWellFormed image →
+      slice_get image.comps c ≡ Some comp → comp.heap ≡ true → k < zone_size →
+      start_memory image (zone_start c + k) ≡ Some 0
   -- the addresses of a region of the compartment's data are its data
   pub owned : (image : ImageParts) (c number address size : ℕ) (region : Region) →
       slice_get (data_regions image c) number ≡ Some region → region.start ≤ address →
       address + size ≤ region.start + region.bytes → are_data image c address size ≡ true
+  -- and all its data lie between these
+  pub within : (image : ImageParts) (c address size : ℕ) → IsWellFormed image → 0 < size →
+      are_data image c address size ≡ true → (data_start c ≤ address) × (address + size ≤ data_end c)

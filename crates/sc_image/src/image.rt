@@ -5,7 +5,7 @@ use crate::ImageParts;
 use std::marker::Model;
 
 /// The version of the format that images are written in.
-pub(crate) const VERSION: u16 = 1;
+pub(crate) const LATEST_VERSION: u16 = 2;
 
 /// A program that the machine can run. Contracts see its parts, which are well formed.
 #[derive(Drop)]

@@ -5,12 +5,18 @@ ghost use Rattle.sc_image.specs.Prelude.{BadOrImage, BytesNameOneImage, CallsCom
 ghost use Rattle.sc_image.specs.Prelude.{FollowsFromOwn, ImageInMemory, IsIsolating, LeavesData, LeavesOthers};
 ghost use Rattle.sc_image.specs.Prelude.{LegalByWords};
 ghost use Rattle.sc_image.specs.Prelude.{RunsAreSteady, StepsByInstruction, StepsEmit, StretchesCompose};
-ghost use Rattle.sc_image.specs.Prelude.{MachineTracesAreLegal, step};
+ghost use Rattle.sc_image.specs.Prelude.{MachineTracesAreLegal, WrittenIsRead, step};
 
 /// Bytes are those of one image at most.
 #[tactic(auto, using(crate::proofs::Whole::one_image_each))]
 pub fn one_image()
     ensures { BytesNameOneImage }
+{}
+
+/// What is written of an image is read as that image.
+#[tactic(auto, using(crate::proofs::Whole::written_is_read))]
+pub fn written_is_read()
+    ensures { WrittenIsRead }
 {}
 
 /// Bytes are bad, for one cause, or they are those of an image.

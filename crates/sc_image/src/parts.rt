@@ -29,6 +29,8 @@ pub struct CompPart {
     pub input: bool,
     /// Whether it may output.
     pub output: bool,
+    /// Whether it has a heap, and so a zone.
+    pub heap: bool,
     pub exports: ExportParts,
     pub imports: ImportParts,
     /// Its instructions, one word each.

@@ -1,17 +1,18 @@
 //! Images read from their bytes. After the first two, each function takes a field from the start of the bytes that are
 //! left.
 
-ghost use Rattle.sc_image.specs.Prelude.{Gives, bad, bytes_at, code_at, read_comp, comp_name_at, read_exports};
+ghost use Rattle.sc_image.specs.Prelude.{AreBytesOf, Gives, bad, bytes_at, code_at, read_comp, comp_name_at};
+ghost use Rattle.sc_image.specs.Prelude.{most_flags, read_exports};
 ghost use Rattle.sc_image.specs.Prelude.{fields_at};
-ghost use Rattle.sc_image.specs.Prelude.{globals_at, image_bytes, image_in, import_at, imports_at, mark_at, read_name};
-ghost use Rattle.sc_image.specs.Prelude.{number_at, number_that, parts_in_version, version};
+ghost use Rattle.sc_image.specs.Prelude.{globals_at, image_in, import_at, imports_at, mark_at, read_name};
+ghost use Rattle.sc_image.specs.Prelude.{number_at, number_that, parts_at, version_at};
 ghost use Rattle.sc_base.specs.Prelude.{is_between, most_compartments};
 ghost use Rattle.std.specs.Prelude.{◌≡◌, ◌≤◌, ◌==◌, nat_le, nat_lt, Some, None, IfOk, OnOk, IsErrOf};
 ghost use Rattle.sc_image.specs.Reading.{read_export};
-ghost use Rattle.sc_image.specs.declared.fault.BadImage.TheVariants.{Version, Count, Contents};
+ghost use Rattle.sc_image.specs.declared.fault.BadImage.TheVariants.{Count, Contents};
 ghost use Rattle.sc_image.specs.declared.fault.ImageFault.TheVariants.{Bad};
 
-use crate::image::VERSION;
+use crate::image::LATEST_VERSION;
 use crate::layout::{MOST_GLOBALS, STRETCH};
 use crate::rules::keeps_rules;
 use crate::{
@@ -32,7 +33,7 @@ const MOST_PARAMS: u8 = 8;
 /// The image that the bytes are, or why they are none: the cause of the first field, in the order of the file, that is
 /// missing, incomplete or bad. A file that isn't at fault is read unless memory runs out.
 pub fn read_image(alloc: Global, bytes: &[u8]) -> Result<Image, ImageFault>
-    ensures image { IfOk result (λ image. bytes.now ≡ image_bytes image) }
+    ensures image { IfOk result (λ image. AreBytesOf image bytes.now) }
     ensures good { OnOk result (bad bytes.now ≡ None) }
     ensures bad { (cause : BadImage) → IsErrOf result (Bad cause) → bad bytes.now ≡ Some cause }
 {
@@ -40,12 +41,14 @@ pub fn read_image(alloc: Global, bytes: &[u8]) -> Result<Image, ImageFault>
     Ok(Image::new(parts))
 }
 
-#[tactic(auto, unfolding(crate::specs::Reading::image_in_version))]
+#[tactic(auto, unfolding(crate::specs::Reading::image_in))]
 fn image_of(alloc: Global, bytes: &[u8]) -> Result<ImageParts, ImageFault>
     ensures { Gives (λ parts. parts) result (image_in bytes.now) }
 {
     let mut rest = bytes;
-    let parts = parts_at(alloc, &mut rest)?;
+    mark_at(&mut rest)?;
+    let version = version_at(&mut rest)?;
+    let parts = parts_at(alloc, version, &mut rest)?;
     let is_whole = rest.is_empty() && keeps_rules(alloc, &parts)?;
     if !is_whole {
         return Err(ImageFault::Bad(BadImage::Whole));
@@ -53,16 +56,14 @@ fn image_of(alloc: Global, bytes: &[u8]) -> Result<ImageParts, ImageFault>
     Ok(parts)
 }
 
-#[tactic(auto, unfolding(crate::specs::Reading::parts_in_version))]
-fn parts_at(alloc: Global, bytes: &mut &[u8]) -> Result<ImageParts, ImageFault>
-    ensures { Gives (λ x. (x, bytes.new.now)) result (parts_in_version version bytes.old.now) }
+#[tactic(auto, unfolding(crate::specs::Reading::parts_at))]
+fn parts_at(alloc: Global, version: u16, bytes: &mut &[u8]) -> Result<ImageParts, ImageFault>
+    ensures { Gives (λ x. (x, bytes.new.now)) result (parts_at version bytes.old.now) }
 {
-    mark_at(bytes)?;
-    version_at(bytes)?;
     let count = count_at(bytes)?;
     let main = comp_id_at(BadImage::Start, count, bytes)?;
     let entry = u32_at(BadImage::Start, bytes)?;
-    let comps = comps_at(alloc, count, bytes)?;
+    let comps = comps_at(alloc, version, count, bytes)?;
     Ok(ImageParts { main, entry, comps })
 }
 
@@ -77,10 +78,10 @@ fn mark_at<'a>(bytes: &mut &'a [u8]) -> Result<&'a [u8], ImageFault>
 }
 
 fn version_at(bytes: &mut &[u8]) -> Result<u16, ImageFault>
-    ensures { Gives (λ x. (x, bytes.new.now)) result (number_that (λ v. v == version) Version 2 bytes.old.now) }
+    ensures { Gives (λ x. (x, bytes.new.now)) result (version_at bytes.old.now) }
 {
     let version = u16_at(BadImage::Version, bytes)?;
-    if version != VERSION {
+    if version < 1 || version > LATEST_VERSION {
         return Err(ImageFault::Bad(BadImage::Version));
     }
     Ok(version)
@@ -97,25 +98,42 @@ fn count_at(bytes: &mut &[u8]) -> Result<u8, ImageFault>
     Ok(count)
 }
 
-fn comps_at(alloc: Global, count: u8, bytes: &mut &[u8]) -> Result<CompParts, ImageFault>
+fn comps_at(
+    alloc: Global,
+    version: u16,
+    count: u8,
+    bytes: &mut &[u8],
+) -> Result<CompParts, ImageFault>
     requires { count ≤ most_compartments }
-    ensures { Gives (λ x. (x, bytes.new.now)) result (fields_at (read_comp count) count bytes.old.now) }
+    ensures { Gives (λ x. (x, bytes.new.now)) result (fields_at (read_comp version count) count bytes.old.now) }
 {
     let mut comps = CompParts::new(alloc);
     for _ in 0..count {
-        let comp = comp_at(alloc, count, bytes)?;
+        let comp = comp_at(alloc, version, count, bytes)?;
         comps.push(comp)?;
     }
     Ok(comps)
 }
 
+// The greatest flags of a compartment.
+fn most_flags(version: u16) -> u8
+    ensures { result ≡ most_flags version }
+{
+    if version == 1 { 3 } else { 7 }
+}
+
 #[tactic(auto, unfolding(crate::specs::Reading::read_comp))]
-fn comp_at(alloc: Global, comps: u8, bytes: &mut &[u8]) -> Result<CompPart, ImageFault>
+fn comp_at(
+    alloc: Global,
+    version: u16,
+    comps: u8,
+    bytes: &mut &[u8],
+) -> Result<CompPart, ImageFault>
     requires { comps ≤ most_compartments }
-    ensures { Gives (λ x. (x, bytes.new.now)) result (read_comp comps bytes.old.now) }
+    ensures { Gives (λ x. (x, bytes.new.now)) result (read_comp version comps bytes.old.now) }
 {
     let name = comp_name_at(bytes)?;
-    let flags = u8_up_to(BadImage::Compartment, 3, bytes)?;
+    let flags = u8_up_to(BadImage::Compartment, most_flags(version), bytes)?;
     let exports = exports_at(alloc, bytes)?;
     let imports = imports_at(alloc, comps, bytes)?;
     let code = code_at(alloc, bytes)?;
@@ -123,7 +141,8 @@ fn comp_at(alloc: Global, comps: u8, bytes: &mut &[u8]) -> Result<CompPart, Imag
     Ok(CompPart {
         name,
         input: flags % 2 == 1,
-        output: flags / 2 == 1,
+        output: flags / 2 % 2 == 1,
+        heap: flags / 4 == 1,
         exports,
         imports,
         code,

@@ -3,7 +3,7 @@ ghost use Rattle.sc_image.specs.Prelude.{globals_bytes, image_bytes, import_byte
 ghost use Rattle.std.specs.Prelude.{◌≡◌, ◌*◌, ◌^◌, ◌<◌, ◌++◌, length, flat_map, All, IfOk, OnOk};
 ghost use Rattle.byteorder.specs.Endian.{little_bytes};
 
-use crate::image::VERSION;
+use crate::image::LATEST_VERSION;
 use crate::{CompPart, ExportPart, Image, ImportPart};
 use byteorder::{ByteOrder, LittleEndian};
 use sc_base::{Name, OutOfMemory, Text};
@@ -17,7 +17,7 @@ pub fn write_image(alloc: Global, image: &Image) -> Result<Text, OutOfMemory>
     let comps = parts.comps.as_slice();
     let mut text = Text::new(alloc);
     text.append(b"SCIM")?;
-    append_u16(&mut text, VERSION)?;
+    append_u16(&mut text, LATEST_VERSION)?;
     text.push(comps.len() as u8)?;
     text.push(parts.main.number())?;
     append_u32(&mut text, parts.entry)?;
@@ -50,7 +50,7 @@ fn append_comp(text: &mut Text, comp: &CompPart) -> Result<(), OutOfMemory>
 fn flags(comp: &CompPart) -> u8
     ensures { result ≡ flags comp.now }
 {
-    u8::from(comp.input) + 2 * u8::from(comp.output)
+    u8::from(comp.input) + 2 * u8::from(comp.output) + 4 * u8::from(comp.heap)
 }
 
 fn append_exports(text: &mut Text, exports: &[ExportPart]) -> Result<(), OutOfMemory>
