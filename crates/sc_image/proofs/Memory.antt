@@ -190,8 +190,8 @@ module _ (c a : ℕ) where
 
     data_is : (comp : CompPart) → byte_at (data_with c comp.globals comp.heap) a ≡ data_byte (a - data_start c) comp
     data_is comp =
-        ap (λ inside. if inside then Some 0 else if nat_le (stack_top c) a && nat_lt a (stack_top c + length comp.globals)
-        then Some (slice_index comp.globals (a - stack_top c)) else byte_at (zone_part c comp.heap) a) in_stack ∙
+        ap (λ inside. if inside then Some 0 else
+        if nat_le (stack_top c) a && nat_lt a (stack_top c + length comp.globals) then Some (slice_index comp.globals (a - stack_top c)) else byte_at (zone_part c comp.heap) a) in_stack ∙
         data_by_stack comp _ refl
 
 module _ (a : ℕ) where
@@ -259,7 +259,8 @@ module _ (image : ImageParts) (formed : IsWellFormed image) (a b : ℕ) where
   byte_in_zone true is = zero_byte is
   byte_in_zone false is = let never = is in cc never
 
-  byte_by : (c : ℕ) (comp : CompPart) → slice_get image.comps c ≡ Some comp → (offset : ℕ) (in_stack in_globals : Bool) →
+  byte_by : (c : ℕ) (comp : CompPart) → slice_get image.comps c ≡ Some comp →
+      (offset : ℕ) (in_stack in_globals : Bool) →
       (if in_stack then Some 0 else if in_globals then slice_get comp.globals (offset - stack_size)
       else zone_byte comp.heap offset) ≡ Some b → b < 256
   byte_by c comp is offset true in_globals at = zero_byte at
