@@ -1,7 +1,13 @@
 -- The names that several proofs of this crate cite, passed on from one place. Declares nothing.
 pub use Rattle.std.proofs.Common.{Bool, List, None, Option, Some, [], ap, arith, cond, drop, false, length, position, refl}
 pub use Rattle.std.proofs.Common.{slice_get, subst, suc, sym, take, true, zero, ℕ, ◌&&◌, ◌+◌, ◌<◌, ◌==◌, ◌∙◌, ◌∷◌, ◌≡◌}
-pub use Rattle.std.specs.Option.{option_map}
+pub use Rattle.std.proofs.Common.{if◌then◌else◌, zero-add}
+pub use Rattle.std.proofs.Common.{slice_index}
+pub use Rattle.std.proofs.lemmas.List.Quantifiers.{position-Some}
+pub use Rattle.std.specs.List.{find}
+pub use Rattle.std.specs.Option.{option_map, option_map_or}
+pub use Rattle.sc_policy.specs.Prelude.{places_from, places_of}
+pub use Rattle.sc_monitor.specs.Verdict.{matches_at}
 pub use Rattle.sc_base.proofs.Lists.{drop-step, position-cons}
 pub use Rattle.sc_event.specs.Prelude.{performer}
 pub use Rattle.sc_event.specs.declared.event.Event.{Event}

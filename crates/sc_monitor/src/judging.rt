@@ -1,14 +1,13 @@
 //! The automaton of a policy on the events of a trace.
 
-ghost use Rattle.sc_policy.specs.Prelude.{most_rules};
-ghost use Rattle.sc_monitor.specs.Verdict.{goal_of, is_compromised, move_at, rule_for, verdict};
-ghost use Rattle.std.specs.Prelude.{◌≡◌, ◌<◌, ◌^◌, ◌≤◌, length, IfSome};
+ghost use Rattle.sc_monitor.specs.Verdict.{goal_of, is_compromised, matches_at, move_at, rule_for, verdict};
+ghost use Rattle.std.specs.Prelude.{◌≡◌, ◌<◌, ◌^◌, length, position, IfSome};
 
 use crate::Verdict;
 use crate::matching::matches;
 use sc_core::{Explanation, Link};
 use sc_event::{CompId, Event, Interfaces};
-use sc_policy::{Policy, Rule};
+use sc_policy::{Policy, Rule, Rules};
 
 // What an event does to the automaton.
 enum Move {
@@ -24,12 +23,11 @@ pub fn judge(policy: &Policy, interfaces: &Interfaces, explanation: &Explanation
     requires { length explanation.now.trace < 2 ^ 32 }
     ensures { result ≡ verdict policy.now interfaces.now explanation.now }
 {
-    let rules = policy.rules.as_slice();
     let events = explanation.trace.as_slice();
     let mut state = 0;
     for after in 0..events.len() {
         let event = &events[after];
-        match move_at(rules, interfaces, state, event) {
+        match move_at(&policy.rules, interfaces, state, event) {
             Move::Goes(next) => state = next,
             Move::Breaks(rule) => {
                 let after = after as u32;
@@ -47,25 +45,51 @@ pub fn judge(policy: &Policy, interfaces: &Interfaces, explanation: &Explanation
     Verdict::Holds { state }
 }
 
-fn move_at(rules: &[Rule], interfaces: &Interfaces, state: u16, event: &Event) -> Move
-    requires { length rules.now ≤ most_rules }
+fn move_at(rules: &Rules, interfaces: &Interfaces, state: u16, event: &Event) -> Move
     ensures { result ≡ move_at rules.now interfaces.now state event.now }
 {
     match rule_for(rules, interfaces, state, event) {
         None => Move::Goes(state),
-        Some(place) => match rules[place].goal {
+        Some(place) => match rules.as_slice()[place].goal {
             None => Move::Breaks(place as u32 + 1),
             Some(goal) => Move::Goes(goal),
         },
     }
 }
 
-// The place of the rule that the event takes, if it takes one.
-fn rule_for(rules: &[Rule], interfaces: &Interfaces, state: u16, event: &Event) -> Option<usize>
+// The place of the rule that the event takes, if it takes one: only the state's rules are tried.
+#[tactic(auto, using(crate::proofs::Places::taken, crate::proofs::Places::none_taken))]
+fn rule_for(rules: &Rules, interfaces: &Interfaces, state: u16, event: &Event) -> Option<usize>
     ensures place { result ≡ rule_for rules.now interfaces.now state event.now }
     ensures within { IfSome result (λ place. place < length rules.now) }
 {
-    rules.iter().position(|rule| rule.state == state && matches(interfaces, &rule.pattern, event))
+    let places = rules.of_state(state);
+    let found = first_match(rules.as_slice(), interfaces, event, places)?;
+    Some(usize::from(places[found]))
+}
+
+// Which of the rules at these places the event matches first.
+fn first_match(
+    rules: &[Rule],
+    interfaces: &Interfaces,
+    event: &Event,
+    places: &[u16],
+) -> Option<usize>
+    ensures { result ≡ position (matches_at rules.now interfaces.now event.now) places.now }
+{
+    places
+        .iter()
+        .position(|place| matches_at(rules, interfaces, event, *place))
+}
+
+// Whether the event matches the pattern of the rule at a place.
+fn matches_at(rules: &[Rule], interfaces: &Interfaces, event: &Event, place: u16) -> bool
+    ensures { result ≡ matches_at rules.now interfaces.now event.now place }
+{
+    match rules.get(usize::from(place)) {
+        None => false,
+        Some(rule) => matches(interfaces, &rule.pattern, event),
+    }
 }
 
 // Whether the compartment had been replaced when this many events were over.

@@ -5,8 +5,12 @@ pub use Rattle.std.proofs.Common.{false, get_or, get_or-drop, get_or-take, inl, 
 pub use Rattle.std.proofs.Common.{length-drop, length-take, length-take-le, map, min, nat_eq, nat_le, nat_lt, ne_eqb}
 pub use Rattle.std.proofs.Common.{neg_ℤ, not, option_and_then, option_map, pos, refl, rules, slice_range, subst, suc}
 pub use Rattle.std.proofs.Common.{sym, take, take-append-drop, tests, true, zero, ℕ, ℤ, ⊎_elim, ◌&&◌, ◌++◌, ◌+◌, ◌-◌}
-pub use Rattle.std.proofs.Common.{◌<◌, ◌==◌, ◌||◌, ◌∙◌, ◌∷◌, ◌≡◌, ◌≤◌}
-pub use Rattle.std.proofs.lemmas.Bool.{and_from, and_parts, cases_lt, lt-leb}
+pub use Rattle.std.proofs.Common.{◌<◌, ◌==◌, ◌||◌, ◌∙◌, ◌∷◌, ◌≡◌, ◌≢◌, ◌≤◌, get_or-set_other, get_or-set_same}
+pub use Rattle.std.proofs.Common.{if◌then◌else◌, slice_index_or, slice_set, zero-add}
+pub use Rattle.std.specs.Prelude.{◌↔◌}
+pub use Rattle.sc_policy.specs.Limits.{most_rules}
+pub use Rattle.sc_policy.specs.Index.{IsIndex, places_from, places_of, with_place}
+pub use Rattle.std.proofs.lemmas.Bool.{and_from, and_parts, cases_lt, eqb-false, lt-leb}
 pub use Rattle.std.proofs.lemmas.List.{map-append, take_more}
 pub use Rattle.std.proofs.lemmas.Map.Keys.{IsDistinct-push, apart_from_distinct}
 pub use Rattle.std.specs.Borrow.{Bor}

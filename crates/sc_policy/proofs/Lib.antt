@@ -7,3 +7,4 @@ pub mod RuleLines
 pub mod Seen
 pub mod Spelling
 pub mod Unique
+pub mod Indexes

@@ -1,4 +1,5 @@
 -- What this crate's contracts, its proofs and the crates above cite, passed on from one place. Declares nothing.
+pub use Rattle.sc_policy.specs.Index.{IsIndex, places_from, places_of}
 pub use Rattle.sc_policy.specs.Limits.{most_rules, most_states}
 pub use Rattle.sc_policy.specs.Lines.{bytes_of, lines_of, onto_line, words_of}
 pub use Rattle.sc_policy.specs.Policies.{BeginsPolicy, HasBadLine, IsBadAt, IsDraft, IsPolicy, IsPolicyRead, end_line}

@@ -2,6 +2,7 @@
 #![tactic(auto)]
 
 mod fault;
+mod index;
 mod laws;
 mod names;
 mod patterns;

@@ -108,6 +108,8 @@ fn ruled(alloc: Global, mut policy: Policy, line: &[u8]) -> Result<Option<Progre
     let Some((state, goal)) = ends_of(policy.states.as_slice(), &words) else {
         return Ok(None);
     };
+    let place = policy.rules.rules.len() as u16;
+    policy.rules.index.push(alloc, state, place)?;
     policy.rules.rules.push(Rule {
         state,
         pattern,

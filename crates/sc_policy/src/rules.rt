@@ -1,7 +1,9 @@
+ghost use Rattle.sc_policy.specs.Index.{places_of};
 ghost use Rattle.sc_policy.specs.Limits.{most_rules};
 ghost use Rattle.std.specs.Prelude.{◌≡◌, ◌≤◌, ◌↔◌, [], length, IsTrue};
 
 use crate::Rule;
+use crate::index::Index;
 use sqlite_items::Items;
 use std::alloc::Global;
 use std::marker::Model;
@@ -10,9 +12,11 @@ use std::marker::Model;
 #[derive(Drop)]
 pub struct Rules {
     pub(crate) rules: Items<Rule>,
+    pub(crate) index: Index,
 }
 
 impl Model for Rules {
+    ghost use Rattle.sc_policy.specs.Index.{IsIndex};
     ghost use Rattle.sc_policy.specs.Limits.{most_rules};
     ghost use Rattle.std.specs.Prelude.{List, ◌≤◌, length};
     ghost use Rattle.sc_policy.specs.declared.policy.Rule.{Rule};
@@ -21,7 +25,7 @@ impl Model for Rules {
 
     ghost view = { λ list. list.rules };
 
-    ghost invariant = { λ list. length list.rules ≤ most_rules };
+    ghost invariant = { λ list. (length list.rules ≤ most_rules) × IsIndex list.rules list.index };
 }
 
 impl Rules {
@@ -34,6 +38,7 @@ impl Rules {
     {
         Rules {
             rules: Items::new(alloc),
+            index: Index::new(alloc),
         }
     }
 
@@ -42,6 +47,13 @@ impl Rules {
         ensures { IsTrue result ↔ (most_rules ≤ length self.now) }
     {
         self.rules.len() >= Rules::LIMIT
+    }
+
+    /// The places of a state's rules, in order.
+    pub fn of_state(&self, state: u16) -> &[u16]
+        ensures { result.now ≡ places_of self.now state }
+    {
+        self.index.of_state(state)
     }
 
     /// The rules in order.
