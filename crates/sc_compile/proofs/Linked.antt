@@ -19,6 +19,9 @@ use Rattle.sc_emit_hart.specs.Prelude.{CodeAt, Fetches, word}
 use Rattle.sc_emit_relation.specs.Prelude.{InCell}
 use Rattle.sc_core.specs.declared.value.Cell.{Cell}
 use Rattle.sc_core.specs.declared.value.Cell.TheVariants as cell
+use Rattle.sc_image.proofs.Memory.{few_globals}
+use Rattle.sc_image.proofs.Running.{image_in_memory}
+use Rattle.sc_image.specs.Prelude.{IsWellFormed, zone_start}
 use Rattle.sc_emit_relation.proofs.Access.{living_block}
 use Rattle.sc_linker.proofs.Whole.{linked_images_hold}
 use Rattle.sc_compile.proofs.Codes.{code_there}
@@ -156,36 +159,49 @@ module _ (program : ProgramTree) (typed : IsWellTyped program) where
           cells_at (globals_of program.sections comp) number ≡ Ok cells
       its_cells comp number cells is = ap (λ blocks. cells_at blocks number) (sym (globals_same comp)) ∙ is
 
-      stands : (comp number : ℕ) (cells : List Cell) →
-          cells_at (globals_of program.sections comp) number ≡ Ok cells →
-          GlobalStands image comp ((addresses comp).global number) cells
-      stands comp number cells is =
-          let g = global_there (slice_get program.sections comp) number cells is in
-          record {
-            placed = record {
-              aligned = globals.aligned comp number;
-              above = globals.low comp number;
-              low = omega (arith, globals.low comp number);
-              high = globals.high comp number cells is;
-            };
-            is_address = record {
-              above = omega (arith, globals.low comp number);
-              below = globals.there comp number g.0 g.1;
-            };
-            holds = λ i one at.
-                in_cell one (word (start_memory image) ((addresses comp).global number + 4 * i))
-                (globals.known comp number i cells one is at)
-                (word_is (start_memory image) ((addresses comp).global number + 4 * i) ∙
-                globals.words comp number i cells one is at);
-          }
-
       module _ (named : AreNamed program.interfaces) where
         imports : ImportsStand program codes
         imports = linked_images_hold.imports program codes typed
 
+        formed : IsWellFormed image
+        formed = linked_images_hold.well_formed program codes typed named emitted.whole linkable
+
+        -- between the stack and the zone
+        below : (comp number : ℕ) (cells : List Cell) →
+            cells_at (globals_of program.sections comp) number ≡ Ok cells →
+            (addresses comp).global number + 4 * length cells ≤ zone_start comp
+        below comp number cells is = omega (arith, globals.high comp number cells is, few_globals image comp formed)
+
+        stands : (comp number : ℕ) (cells : List Cell) →
+            cells_at (globals_of program.sections comp) number ≡ Ok cells →
+            GlobalStands image comp ((addresses comp).global number) cells
+        stands comp number cells is =
+            let g = global_there (slice_get program.sections comp) number cells is in
+            let address : ℕ = (addresses comp).global number in
+            record {
+              placed = record {
+                aligned = globals.aligned comp number;
+                above = globals.low comp number;
+                low = omega (arith, globals.low comp number);
+                high = omega (arith, below comp number cells is);
+                its = λ i l. image_in_memory.owned image comp 1 (address + 4 * i) 4 _ refl
+                    (omega (arith, globals.low comp number))
+                    (omega (arith, globals.high comp number cells is, l));
+              };
+              below = below comp number cells is;
+              is_address = record {
+                above = omega (arith, globals.low comp number);
+                below = globals.there comp number g.0 g.1;
+              };
+              holds = λ i one at.
+                  in_cell one (word (start_memory image) (address + 4 * i))
+                  (globals.known comp number i cells one is at)
+                  (word_is (start_memory image) (address + 4 * i) ∙ globals.words comp number i cells one is at);
+            }
+
         linked : IsLinked code image (24 * program_nodes program) addresses
         linked = record {
-          formed = linked_images_hold.well_formed program codes typed named emitted.whole linkable;
+          formed = formed;
           main = refl;
           comps = comps_length program codes;
           functions = has_code;
