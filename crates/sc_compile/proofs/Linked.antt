@@ -1,16 +1,17 @@
 -- The code of a program stands in its image.
-use Rattle.sc_compile.proofs.Common.{Addresses, AreEmitted, AreNamed, CodeTree, EntersBy, EntriesStand, Entry}
-use Rattle.sc_compile.proofs.Common.{Export, Fits, FunctionsStand, GlobalStands, GlobalsAreWords, GlobalsStand, HasCode}
+use Rattle.sc_compile.proofs.Common.{Addresses, AreEmitted, AreNamed, CodeTree, EntersBy, EntriesStand, Entry, Export}
+use Rattle.sc_compile.proofs.Common.{Fits, FunctionsStand, GlobalStands, GlobalsAreWords, GlobalsStand, HasCode}
 use Rattle.sc_compile.proofs.Common.{ImageParts, ImportsStand, Instr, IsCodeAddress, IsLinkable, IsLinked, IsStart}
-use Rattle.sc_compile.proofs.Common.{IsWellTyped, List, Main, None, Option, ProgramTree, Some, StandFrom, StandsAt}
-use Rattle.sc_compile.proofs.Common.{TacFnTree, TacTree, TypedGlobal, TypedSection, [], addresses_at, all_codes, ap}
-use Rattle.sc_compile.proofs.Common.{arith, assigned, built_image, cell_word, code_globals, comp_at, comps_length}
-use Rattle.sc_compile.proofs.Common.{entry_in, first_at, first_blocks, fits_or_none, frame_of, function_code}
-use Rattle.sc_compile.proofs.Common.{function_entered, functions_in, functions_or_none, global_block, globals_of, inl}
-use Rattle.sc_compile.proofs.Common.{inr, intervals_of, keeps_meaning, length, linked_image, lowered_program}
-use Rattle.sc_compile.proofs.Common.{lowered_section, map, nodes, number_below, option_map, program_nodes, refl}
-use Rattle.sc_compile.proofs.Common.{section_or_none, slice_get, start_memory, struct_zeros, subst, suc, sym, too_large}
-use Rattle.sc_compile.proofs.Common.{total, total_upto, wrapping, ℕ, ◌*◌, ◌+◌, ◌<◌, ◌∙◌, ◌∷◌, ◌≡◌, ◌≤◌, ◌⊎◌}
+use Rattle.sc_compile.proofs.Common.{IsWellFormed, IsWellTyped, List, Main, None, Option, ProgramTree, Some, StandFrom}
+use Rattle.sc_compile.proofs.Common.{StandsAt, TacFnTree, TacTree, TypedGlobal, TypedSection, [], addresses_at}
+use Rattle.sc_compile.proofs.Common.{all_codes, ap, arith, assigned, built_image, cell_word, code_globals, comp_at}
+use Rattle.sc_compile.proofs.Common.{comps_length, entry_in, first_at, first_blocks, fits_or_none, frame_of}
+use Rattle.sc_compile.proofs.Common.{function_code, function_entered, functions_in, functions_or_none, global_block}
+use Rattle.sc_compile.proofs.Common.{globals_of, inl, inr, intervals_of, keeps_meaning, length, linked_image}
+use Rattle.sc_compile.proofs.Common.{lowered_program, lowered_section, map, nodes, number_below, option_map}
+use Rattle.sc_compile.proofs.Common.{program_nodes, refl, section_or_none, slice_get, start_memory, struct_zeros, subst}
+use Rattle.sc_compile.proofs.Common.{suc, sym, too_large, total, total_upto, wrapping, ℕ, ◌*◌, ◌+◌, ◌<◌, ◌∙◌, ◌∷◌, ◌≡◌}
+use Rattle.sc_compile.proofs.Common.{◌≤◌, ◌⊎◌}
 use Rattle.std.proofs.Common.{Ok}
 use Rattle.sc_store.specs.Prelude.{ByteMemory, load_of}
 use Rattle.sc_core.specs.Prelude.{cells_at}
@@ -21,7 +22,7 @@ use Rattle.sc_core.specs.declared.value.Cell.{Cell}
 use Rattle.sc_core.specs.declared.value.Cell.TheVariants as cell
 use Rattle.sc_image.proofs.Memory.{few_globals}
 use Rattle.sc_image.proofs.Running.{image_in_memory}
-use Rattle.sc_image.specs.Prelude.{IsWellFormed, zone_start}
+use Rattle.sc_image.specs.Prelude.{zone_start}
 use Rattle.sc_emit_relation.proofs.Access.{living_block}
 use Rattle.sc_linker.proofs.Whole.{linked_images_hold}
 use Rattle.sc_compile.proofs.Codes.{code_there}
