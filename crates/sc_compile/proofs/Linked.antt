@@ -1,16 +1,17 @@
 -- The code of a program stands in its image.
-use Rattle.sc_compile.proofs.Common.{Addresses, AreEmitted, AreNamed, CodeTree, EntersBy, EntriesStand, Entry}
-use Rattle.sc_compile.proofs.Common.{Export, Fits, FunctionsStand, GlobalStands, GlobalsAreWords, GlobalsStand, HasCode}
+use Rattle.sc_compile.proofs.Common.{Addresses, AreEmitted, AreNamed, CodeTree, EntersBy, EntriesStand, Entry, Export}
+use Rattle.sc_compile.proofs.Common.{Fits, FunctionsStand, GlobalStands, GlobalsAreWords, GlobalsStand, HasCode}
 use Rattle.sc_compile.proofs.Common.{ImageParts, ImportsStand, Instr, IsCodeAddress, IsLinkable, IsLinked, IsStart}
-use Rattle.sc_compile.proofs.Common.{IsWellTyped, List, Main, None, Option, ProgramTree, Some, StandFrom, StandsAt}
-use Rattle.sc_compile.proofs.Common.{TacFnTree, TacTree, TypedGlobal, TypedSection, [], addresses_at, all_codes, ap}
-use Rattle.sc_compile.proofs.Common.{arith, assigned, built_image, cell_word, code_globals, comp_at, comps_length}
-use Rattle.sc_compile.proofs.Common.{entry_in, first_at, first_blocks, fits_or_none, frame_of, function_code}
-use Rattle.sc_compile.proofs.Common.{function_entered, functions_in, functions_or_none, global_block, globals_of, inl}
-use Rattle.sc_compile.proofs.Common.{inr, intervals_of, keeps_meaning, length, linked_image, lowered_program}
-use Rattle.sc_compile.proofs.Common.{lowered_section, map, nodes, number_below, option_map, program_nodes, refl}
-use Rattle.sc_compile.proofs.Common.{section_or_none, slice_get, start_memory, struct_zeros, subst, suc, sym, too_large}
-use Rattle.sc_compile.proofs.Common.{total, total_upto, wrapping, ℕ, ◌*◌, ◌+◌, ◌<◌, ◌∙◌, ◌∷◌, ◌≡◌, ◌≤◌, ◌⊎◌}
+use Rattle.sc_compile.proofs.Common.{IsWellFormed, IsWellTyped, List, Main, None, Option, ProgramTree, Some, StandFrom}
+use Rattle.sc_compile.proofs.Common.{StandsAt, TacFnTree, TacTree, TypedGlobal, TypedSection, [], addresses_at}
+use Rattle.sc_compile.proofs.Common.{all_codes, ap, arith, assigned, built_image, cell_word, code_globals, comp_at}
+use Rattle.sc_compile.proofs.Common.{comps_length, entry_in, first_at, first_blocks, fits_or_none, frame_of}
+use Rattle.sc_compile.proofs.Common.{function_code, function_entered, functions_in, functions_or_none, global_block}
+use Rattle.sc_compile.proofs.Common.{globals_of, inl, inr, intervals_of, keeps_meaning, length, linked_image}
+use Rattle.sc_compile.proofs.Common.{lowered_program, lowered_section, map, nodes, number_below, option_map}
+use Rattle.sc_compile.proofs.Common.{program_nodes, refl, section_or_none, slice_get, start_memory, struct_zeros, subst}
+use Rattle.sc_compile.proofs.Common.{suc, sym, too_large, total, total_upto, wrapping, ℕ, ◌*◌, ◌+◌, ◌<◌, ◌∙◌, ◌∷◌, ◌≡◌}
+use Rattle.sc_compile.proofs.Common.{◌≤◌, ◌⊎◌}
 use Rattle.std.proofs.Common.{Ok}
 use Rattle.sc_store.specs.Prelude.{ByteMemory, load_of}
 use Rattle.sc_core.specs.Prelude.{cells_at}
@@ -19,6 +20,9 @@ use Rattle.sc_emit_hart.specs.Prelude.{CodeAt, Fetches, word}
 use Rattle.sc_emit_relation.specs.Prelude.{InCell}
 use Rattle.sc_core.specs.declared.value.Cell.{Cell}
 use Rattle.sc_core.specs.declared.value.Cell.TheVariants as cell
+use Rattle.sc_image.proofs.Memory.{few_globals}
+use Rattle.sc_image.proofs.Running.{image_in_memory}
+use Rattle.sc_image.specs.Prelude.{zone_start}
 use Rattle.sc_emit_relation.proofs.Access.{living_block}
 use Rattle.sc_linker.proofs.Whole.{linked_images_hold}
 use Rattle.sc_compile.proofs.Codes.{code_there}
@@ -156,36 +160,49 @@ module _ (program : ProgramTree) (typed : IsWellTyped program) where
           cells_at (globals_of program.sections comp) number ≡ Ok cells
       its_cells comp number cells is = ap (λ blocks. cells_at blocks number) (sym (globals_same comp)) ∙ is
 
-      stands : (comp number : ℕ) (cells : List Cell) →
-          cells_at (globals_of program.sections comp) number ≡ Ok cells →
-          GlobalStands image comp ((addresses comp).global number) cells
-      stands comp number cells is =
-          let g = global_there (slice_get program.sections comp) number cells is in
-          record {
-            placed = record {
-              aligned = globals.aligned comp number;
-              above = globals.low comp number;
-              low = omega (arith, globals.low comp number);
-              high = globals.high comp number cells is;
-            };
-            is_address = record {
-              above = omega (arith, globals.low comp number);
-              below = globals.there comp number g.0 g.1;
-            };
-            holds = λ i one at.
-                in_cell one (word (start_memory image) ((addresses comp).global number + 4 * i))
-                (globals.known comp number i cells one is at)
-                (word_is (start_memory image) ((addresses comp).global number + 4 * i) ∙
-                globals.words comp number i cells one is at);
-          }
-
       module _ (named : AreNamed program.interfaces) where
         imports : ImportsStand program codes
         imports = linked_images_hold.imports program codes typed
 
+        formed : IsWellFormed image
+        formed = linked_images_hold.well_formed program codes typed named emitted.whole linkable
+
+        -- between the stack and the zone
+        below : (comp number : ℕ) (cells : List Cell) →
+            cells_at (globals_of program.sections comp) number ≡ Ok cells →
+            (addresses comp).global number + 4 * length cells ≤ zone_start comp
+        below comp number cells is = omega (arith, globals.high comp number cells is, few_globals image comp formed)
+
+        stands : (comp number : ℕ) (cells : List Cell) →
+            cells_at (globals_of program.sections comp) number ≡ Ok cells →
+            GlobalStands image comp ((addresses comp).global number) cells
+        stands comp number cells is =
+            let g = global_there (slice_get program.sections comp) number cells is in
+            let address : ℕ = (addresses comp).global number in
+            record {
+              placed = record {
+                aligned = globals.aligned comp number;
+                above = globals.low comp number;
+                low = omega (arith, globals.low comp number);
+                high = omega (arith, below comp number cells is);
+                its = λ i l. image_in_memory.owned image comp 1 (address + 4 * i) 4 _ refl
+                    (omega (arith, globals.low comp number))
+                    (omega (arith, globals.high comp number cells is, l));
+              };
+              below = below comp number cells is;
+              is_address = record {
+                above = omega (arith, globals.low comp number);
+                below = globals.there comp number g.0 g.1;
+              };
+              holds = λ i one at.
+                  in_cell one (word (start_memory image) (address + 4 * i))
+                  (globals.known comp number i cells one is at)
+                  (word_is (start_memory image) (address + 4 * i) ∙ globals.words comp number i cells one is at);
+            }
+
         linked : IsLinked code image (24 * program_nodes program) addresses
         linked = record {
-          formed = linked_images_hold.well_formed program codes typed named emitted.whole linkable;
+          formed = formed;
           main = refl;
           comps = comps_length program codes;
           functions = has_code;

@@ -73,6 +73,7 @@ module _ (comp : CompPart) (inputs : List ℕ) (words : All IsWord inputs) (turn
     regs = first_regs;
     bytes = start_memory image;
     saved = stack_top 0 ∷ [];
+    zones = [] ∷ [];
     input = 0;
   }
 

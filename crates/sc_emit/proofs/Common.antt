@@ -1,10 +1,10 @@
 -- The names that several proofs of this crate cite, passed on from one place. Declares nothing.
 pub use Rattle.std.proofs.Common.{All, Bool, Err, IfOk, IsSome, IsTrue, List, None, Ok, Option, Result, Some, [], ap}
 pub use Rattle.std.proofs.Common.{append-nil, append_assoc, ap₂, arith, cond, eq-eqb, eqb-true, false, if◌then◌else◌}
-pub use Rattle.std.proofs.Common.{inl, inr, is_some, le-leb, le-ltb, leb-true, length, length-append, lt-ltb, ltb-true}
-pub use Rattle.std.proofs.Common.{map, max, nat_eq, nat_le, nat_lt, ne_eqb, neg_ℤ, not, pos, refl, slice_get, subst}
-pub use Rattle.std.proofs.Common.{suc, sym, true, true≢false, zero, ℕ, ℤ, ⊎_elim, ◌%◌, ◌&&◌, ◌*◌, ◌++◌, ◌+◌, ◌-ℤ◌, ◌-◌}
-pub use Rattle.std.proofs.Common.{◌/◌, ◌<◌, ◌==◌, ◌^◌, ◌||◌, ◌∙◌, ◌∷◌, ◌≡◌, ◌≢◌, ◌≤◌, ◌⊎◌}
+pub use Rattle.std.proofs.Common.{inl, inr, is_some, le-leb, leb-true, length, length-append, lt-ltb, ltb-true, map}
+pub use Rattle.std.proofs.Common.{max, nat_eq, nat_le, nat_lt, ne_eqb, neg_ℤ, not, pos, refl, slice_get, subst, suc}
+pub use Rattle.std.proofs.Common.{sym, true, true≢false, zero, ℕ, ℤ, ⊎_elim, ◌%◌, ◌&&◌, ◌*◌, ◌++◌, ◌+◌, ◌-ℤ◌, ◌-◌, ◌/◌}
+pub use Rattle.std.proofs.Common.{◌<◌, ◌==◌, ◌^◌, ◌||◌, ◌∙◌, ◌∷◌, ◌≡◌, ◌≢◌, ◌≤◌, ◌⊎◌}
 pub use Rattle.std.proofs.lemmas.Bool.{and_from, and_parts, cases_eq, cases_lt, lt-leb, or_left, or_right}
 pub use Rattle.std.proofs.lemmas.List.{length-map, map-append}
 pub use Rattle.std.proofs.lemmas.List.Elements.{All-cons, All-nil, All-tail}
@@ -39,9 +39,8 @@ pub use Rattle.rv_code.specs.declared.instr.OpImmOp.TheVariants.{Addi}
 pub use Rattle.rv_code.specs.declared.instr.StoreOp.TheVariants.{Sw}
 pub use Rattle.rv_code.specs.declared.instr.UpperOp.TheVariants.{Lui}
 pub use Rattle.sc_store.specs.Prelude.{ByteMemory}
-pub use Rattle.sc_image.specs.Prelude.{IsWellFormed, IsWord, Traps, Walks, code_start, data_start, gate}
-pub use Rattle.sc_image.specs.Prelude.{initial_globals, jalr_target, refused, stack_size, stack_top, start}
-pub use Rattle.sc_image.specs.Prelude.{start_memory, step, unless_trap}
+pub use Rattle.sc_image.specs.Prelude.{IsWellFormed, IsWord, Traps, Walks, code_start, data_start, gate, jalr_target}
+pub use Rattle.sc_image.specs.Prelude.{refused, stack_top, start, start_memory, step, unless_trap}
 unfoldable pub use Rattle.sc_image.specs.Prelude.{are_data, word_at}
 pub use Rattle.sc_image.specs.declared.parts.ImageParts.{ImageParts}
 pub use Rattle.sc_tac.proofs.Induction.{Inside, stmt_induction}
@@ -130,7 +129,7 @@ pub use Rattle.sc_emit_relation.specs.Prelude.{Follows, FrameMatches, FunctionFo
 pub use Rattle.sc_emit_relation.specs.Prelude.{InPlace, IsActivation, IsAddress, IsInPlace, IsSound, Joint, Leads}
 pub use Rattle.sc_emit_relation.specs.Prelude.{Overflows, Ready, Returns, ReturnsValue, Running, Setting, Settled}
 pub use Rattle.sc_emit_relation.specs.Prelude.{Standpoint, StandsAt, StandsFor, Starts, ends_of, live_at, machine}
-pub use Rattle.sc_emit_relation.specs.Prelude.{of_environment, row, runs_with, seen_from, wanted}
+pub use Rattle.sc_emit_relation.specs.Prelude.{of_environment, row, runs_with, seen_from, wanted, world_at}
 pub use Rattle.sc_emit.specs.Common.{CodeTree, Instr, TacStmt, TacStmt-F, fold-TacStmt}
 pub use Rattle.sc_emit.specs.Prelude.{AreReached, IsEmitted, IsPlaced, calls_only, code_back_edges, code_branches}
 pub use Rattle.sc_emit.specs.Prelude.{has_known_jumps, has_no_ebreak, is_backward, is_branch, is_call, is_ebreak}

@@ -148,7 +148,7 @@ module _ {T : Setting} {R : Running} (valid : IsRunning T R) (calls : Calls)
         h.stands.word small o form form_is in
         record {
           word = op_word o h.word word;
-          stands = operator_stands valid.formed ready.settled.blocks valid.is.honest valid.is.known o v start r h.word
+          stands = operator_stands ready.settled.blocks valid.is.honest valid.is.known o v start r h.word
               word for gave small h.stands (λ two. constant_stands valid calls (x.inj comp) value small);
           after = piece.after;
           does = in_row T.image T.inputs (world T R x) h.does piece.does;

@@ -5,20 +5,20 @@ use Rattle.sc_emit.proofs.Common.{FrameFits, FrameOverflows, FrameTree, Function
 use Rattle.sc_emit.proofs.Common.{IsFromSp, IsWellFormed, IsWord, Joint, List, Option, Overflows, Piece, Place}
 use Rattle.sc_emit.proofs.Common.{Registers, Setting, Some, Standpoint, Store, Stores, Sw, TakesFrame, Traps, Value}
 use Rattle.sc_emit.proofs.Common.{Walks, World, [], a0, add_word, all_at, ap, are_data, arith, at, back_at, begun}
-use Rattle.sc_emit.proofs.Common.{cases_eq, cases_lt, computes, data_start, eq-eqb, false, frame_taken, in_row}
-use Rattle.sc_emit.proofs.Common.{initial_globals, inl, inr, is_there, last, le-leb, le-ltb, length, length-append}
-use Rattle.sc_emit.proofs.Common.{look_at, moved_by, moved_to, moves_on, nat_le, nat_lt, object_inside, object_there}
-use Rattle.sc_emit.proofs.Common.{objects_apart, overflows, overflows_entering, own_beside, own_inside, pos, prefix_at}
-use Rattle.sc_emit.proofs.Common.{prologue, put_word, ra, refl, refused, same_Some, slice_get, sp, stack_size}
-use Rattle.sc_emit.proofs.Common.{stack_top, step, store_arguments, store_word, stores_word, sub_word, subst, suc, sym}
-use Rattle.sc_emit.proofs.Common.{takes_frame, true, unless_trap, unwrap_or, word, word_of-lt, word_of-unsigned_sub}
-use Rattle.sc_emit.proofs.Common.{zero, ℕ, ⊎_elim, ◌%◌, ◌*◌, ◌++◌, ◌+◌, ◌-◌, ◌<◌, ◌^◌, ◌∙◌, ◌∷◌, ◌≡◌, ◌≢◌, ◌≤◌, ◌⊎◌}
+use Rattle.sc_emit.proofs.Common.{cases_eq, cases_lt, computes, data_start, eq-eqb, false, frame_taken, in_row, inl}
+use Rattle.sc_emit.proofs.Common.{inr, is_there, last, length, length-append, look_at, moved_by, moved_to, moves_on}
+use Rattle.sc_emit.proofs.Common.{object_inside, object_there, objects_apart, overflows, overflows_entering, own_beside}
+use Rattle.sc_emit.proofs.Common.{own_inside, pos, prefix_at, prologue, put_word, ra, refl, refused, same_Some}
+use Rattle.sc_emit.proofs.Common.{slice_get, sp, stack_top, step, store_arguments, store_word, stores_word, sub_word}
+use Rattle.sc_emit.proofs.Common.{subst, suc, sym, takes_frame, unless_trap, unwrap_or, word, word_of-lt}
+use Rattle.sc_emit.proofs.Common.{word_of-unsigned_sub, world_at, zero, ℕ, ⊎_elim, ◌%◌, ◌*◌, ◌++◌, ◌+◌, ◌-◌, ◌<◌, ◌^◌}
+use Rattle.sc_emit.proofs.Common.{◌∙◌, ◌∷◌, ◌≡◌, ◌≢◌, ◌≤◌, ◌⊎◌}
 use Rattle.sc_store.specs.Prelude.{with_bytes}
 use Rattle.sc_image.specs.Prelude.{Goes}
 use Rattle.sc_base.specs.declared.stop.TrapReason.TheVariants.{Owner}
-use Rattle.sc_image.proofs.Memory.{few_globals}
-use Rattle.sc_image.proofs.Running.{steps_by_instruction}
-use Rattle.sc_emit_hart.proofs.Words.{word_same, word_apart}
+use Rattle.std.proofs.lemmas.Bool.{false_from_ne_true}
+use Rattle.sc_image.proofs.Running.{image_in_memory, steps_by_instruction}
+use Rattle.sc_emit_hart.proofs.Words.{word_same, word_apart, stack_owned}
 use Rattle.sc_emit_hart.specs.Prelude.{LacksRoom}
 
 -- Arguments, each into its variable.
@@ -58,11 +58,8 @@ module _ (image : ImageParts) (inputs : List ℕ) (world : World) (low : ℕ) {c
       record {
         sum = ap (λ s. s + offset) at_low;
         below = omega (arith, inside, some);
-        owned = record {
-          aligned = omega (arith, four);
-          low = omega arith;
-          high = omega (arith, inside, some);
-        };
+        owned = stack_owned image world.active (low + offset) (omega (arith, four)) (omega arith)
+            (omega (arith, inside, some));
       }
 
   -- each of `params` parameters has a variable of one cell at least
@@ -162,19 +159,9 @@ module _ (image : ImageParts) (inputs : List ℕ) (world : World) (low : ℕ) {c
 module _ (image : ImageParts) (formed : IsWellFormed image) (inputs : List ℕ) (world : World)
     (known : world.active < 32) where
   beyond_data : (a : ℕ) → 2 ^ 31 ≤ a → are_data image world.active a 4 ≡ false
-  unfolding are_data
-  beyond_data a high =
-      let few = few_globals image world.active formed in
-      let stack : nat_lt (a + 0) (data_start world.active + stack_size) ≡ false =
-      le-ltb (a + 0) (data_start world.active + stack_size) (omega (arith, high, known)) in
-      let globals : nat_lt (a + 0) (stack_top world.active + length (initial_globals image world.active)) ≡ false =
-      le-ltb (a + 0) (stack_top world.active + length (initial_globals image world.active))
-      (omega (arith, high, known, few)) in
-      let above_stack : nat_le (data_start world.active) (a + 0) ≡ true =
-      le-leb (data_start world.active) (a + 0) (omega (arith, high, known)) in
-      let above_globals : nat_le (stack_top world.active) (a + 0) ≡ true =
-      le-leb (stack_top world.active) (a + 0) (omega (arith, high, known)) in
-      rw (above_stack, stack, above_globals, globals) refl
+  beyond_data a high = false_from_ne_true (are_data image world.active a 4) (λ its.
+      (let within = image_in_memory.within image world.active a 4 formed (omega arith) its in
+      omega (arith, high, known, within.1)))
 
   beyond_refused : (a : ℕ) → a % 4 ≡ 0 → 2 ^ 31 ≤ a → refused image world.active 4 a ≡ Some Owner
   beyond_refused a aligned high = rw (eq-eqb (a % 4) 0 aligned, beyond_data a high) refl
@@ -237,7 +224,7 @@ module _ (T : Setting) (formed : IsWellFormed T.image) (inputs : All IsWord T.in
     (frame_fits : FrameFits f.cells places nodes frame) (roomy : frame.bytes ≤ f.frame_size)
     (code : CodeAt T.image P.comp x.pc (prologue frame places params)) where
   abbrev world : World
-  world = record { active = P.comp; saved = x.saved; cross = P.cross; input = x.input; trace = x.meant.trace }
+  world = world_at P x
 
   known : P.comp < 32
   known = omega (arith, begins.settled.steady.active, formed.few_comps)
@@ -304,7 +291,7 @@ module _ (T : Setting) (formed : IsWellFormed T.image) (inputs : All IsWord T.in
     takes =
         takes_frame T.image T.inputs world x.bytes x.regs frame.bytes low (sym (begins.sp ∙ bound_is))
         (omega (arith, begins.sp, begins.base.high, known))
-        (record { aligned = aligned; low = start; high = omega (arith, four, bound_is, begins.base.high) })
+        (stack_owned T.image P.comp low aligned start (omega (arith, four, bound_is, begins.base.high)))
 
     argument_kept : (o : ℕ) → takes.after (a0 + o) ≡ x.regs (a0 + o)
     argument_kept o = takes.others (a0 + o) ((λ e. omega (arith, e)), ((λ e. omega (arith, e)), tt))

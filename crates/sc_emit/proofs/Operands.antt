@@ -9,7 +9,7 @@ use Rattle.sc_emit.proofs.Common.{load_word, loads_word, look, look_at, machine,
 use Rattle.sc_emit.proofs.Common.{own_inside, plain_points, put_word, refl, register_of, register_there}
 use Rattle.sc_emit.proofs.Common.{result_register, same_Some, second_scratch, seen_from, slice_get, slot_offset, sp}
 use Rattle.sc_emit.proofs.Common.{store_word, stores_word, subst, suc, sym, take, taken, unwrap_or, with_temp, word}
-use Rattle.sc_emit.proofs.Common.{zero, ℕ, ◌*◌, ◌++◌, ◌+◌, ◌<◌, ◌∙◌, ◌∷◌, ◌≡◌, ◌≢◌, ◌⊎◌}
+use Rattle.sc_emit.proofs.Common.{world_at, zero, ℕ, ◌*◌, ◌++◌, ◌+◌, ◌<◌, ◌∙◌, ◌∷◌, ◌≡◌, ◌≢◌, ◌⊎◌}
 
 -- an operand may be brought to this register without loss of the other one
 pub record IsScratch (scratch : ℕ) : Type 0 where
@@ -39,7 +39,7 @@ module _ (T : Setting) (R : Running) (x : Joint) where
   P = seen_from R.activation
 
   abbrev pub world : World
-  world = record { active = A.here.comp; saved = x.saved; cross = A.cross; input = x.input; trace = x.meant.trace }
+  world = world_at P x
 
   -- an operand at hand: its register holds the word that stands for its value
   pub record AtHand (regs : Registers) (scratch t : ℕ) (v : Value) : Type 0 where

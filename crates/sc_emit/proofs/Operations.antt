@@ -262,7 +262,7 @@ module _ {T : Setting} {R : Running} (valid : IsRunning T R) (calls : Calls)
           gives_word T.image T.inputs (world T R x) x.bytes after rd left right a b d.writable operands o in
           record {
             word = op_word o a b;
-            stands = operator_stands valid.formed settled.blocks valid.is.honest valid.is.known o v w r a b for gave
+            stands = operator_stands settled.blocks valid.is.honest valid.is.known o v w r a b for gave
                 operands.right_word one two;
             after = piece.after;
             does = in_row T.image T.inputs (world T R x) does piece.does;

@@ -5,6 +5,7 @@ pub use Rattle.std.proofs.Common.{leb-true, length, length-append, ltb-false, lt
 pub use Rattle.std.proofs.Common.{nat_lt, ne_eqb, neg_ℤ, negsuc, not, pos, refl, slice_get, slice_index, slice_set}
 pub use Rattle.std.proofs.Common.{subst, suc, sym, true, zero, ℕ, ℤ, ⊎_elim, ◌%◌, ◌&&◌, ◌*ℤ◌, ◌*◌, ◌++◌, ◌+ℤ◌, ◌+◌}
 pub use Rattle.std.proofs.Common.{◌-ℤ◌, ◌-◌, ◌/◌, ◌<◌, ◌==◌, ◌^◌, ◌||◌, ◌∙◌, ◌∷◌, ◌≡◌, ◌≢◌, ◌≤◌, ◌⊎◌}
+pub use Rattle.std.specs.List.{list_any}
 pub use Rattle.std.proofs.lemmas.Bool.{and_parts, cases_lt, lt-leb}
 pub use Rattle.std.proofs.lemmas.Nat.{and_le_l, and_le_r, and_mask, le_or_l, le_or_r, mul-mod_second, or_of_32}
 pub use Rattle.std.proofs.lemmas.Nat.{xor_of_32}
@@ -25,12 +26,12 @@ pub use Rattle.rv_code.specs.declared.instr.OpOp.TheVariants.{Sra, Srl, Sub, Xor
 pub use Rattle.rv_code.specs.declared.instr.ShiftOp.{ShiftOp}
 pub use Rattle.rv_code.specs.declared.instr.StoreOp.TheVariants.{Sw}
 pub use Rattle.rv_code.specs.declared.instr.UpperOp.TheVariants.{Lui}
-pub use Rattle.sc_store.specs.Prelude.{ByteMemory, load_of, with_bytes}
+pub use Rattle.sc_store.specs.Prelude.{ByteMemory, is_in, load_of, with_bytes}
 pub use Rattle.sc_image.proofs.Running.{image_in_memory, steps_by_instruction}
 pub use Rattle.sc_image.specs.Prelude.{Goes, IsAt, IsSteadyState, IsWellFormed, IsWord, Outcome, MachineState, Traps}
 pub use Rattle.sc_image.specs.Prelude.{Walks}
 pub use Rattle.sc_image.specs.Prelude.{after_outcome, jump_outside, code_in, code_start, compares, op_result}
-pub use Rattle.sc_image.specs.Prelude.{data_start, gives}
+pub use Rattle.sc_image.specs.Prelude.{data_start, data_with, gives, has_heap, initial_globals, zone_start}
 pub use Rattle.sc_image.specs.Prelude.{jalr_target, jump, leaves, on_registers, refused, shift_on_registers, stack_top}
 pub use Rattle.sc_image.specs.Prelude.{step, store, then_on, unless_trap, walk, written}
 unfoldable pub use Rattle.sc_image.specs.Prelude.{are_data, word_at}

@@ -3,6 +3,7 @@
 use Rattle.sc_emit_hart.specs.Common.{Crossing, ByteMemory, MachineState}
 use Rattle.std.specs.Prelude.{ℕ, zero, suc, List, [], ◌∷◌, nat_eq, if◌then◌else◌}
 use Rattle.sc_event.specs.declared.event.Event.{Event}
+use Rattle.sc_zone.specs.declared.span.Span.{Span}
 
 abbrev pub Registers : Type 0
 Registers = ℕ → ℕ
@@ -32,6 +33,7 @@ listed regs = 0 ∷ words_from 31 1 regs
 pub record World : Type 0 where
   pub active : ℕ
   pub saved : List ℕ
+  pub zones : List (List Span)
   pub cross : List Crossing
   pub input : ℕ
   pub trace : List Event
@@ -42,6 +44,7 @@ at pc regs memory world = record {
   pc = pc;
   active = world.active;
   saved = world.saved;
+  zones = world.zones;
   memory = memory;
   cross = world.cross;
   input = world.input;

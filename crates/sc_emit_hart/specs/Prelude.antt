@@ -6,5 +6,5 @@ pub use Rattle.sc_emit_hart.specs.Hart.{Registers, World, at, listed, look, put,
 pub use Rattle.sc_emit_hart.specs.Laws.{CodeIsFetched, WordsAreKept}
 pub use Rattle.sc_emit_hart.specs.Operators.{AreOperands, op_word, stepped_word, unary_word}
 pub use Rattle.sc_emit_hart.specs.Pieces.{Besides, Computes, Does, IsFromSp, IsWritable, Stores}
-pub use Rattle.sc_emit_hart.specs.Words.{Apart, Owned, data_end}
+pub use Rattle.sc_emit_hart.specs.Words.{Apart, Owned}
 unfoldable pub use Rattle.sc_emit_hart.specs.Words.{put_word, word}

@@ -1,7 +1,7 @@
 -- Words of four bytes. Two laws are all that proofs about code use of them, so these definitions stay shut.
-use Rattle.sc_emit_hart.specs.Common.{ImageParts, ByteMemory, data_start, initial_globals, load_of, stack_top}
-use Rattle.sc_emit_hart.specs.Common.{with_bytes}
-use Rattle.std.specs.Prelude.{◌≡◌, ℕ, ◌+◌, ◌%◌, ◌≤◌, ◌⊎◌, length}
+use Rattle.sc_emit_hart.specs.Common.{ImageParts, ByteMemory, data_end, data_start, load_of, with_bytes}
+unfoldable use Rattle.sc_emit_hart.specs.Common.{are_data}
+use Rattle.std.specs.Prelude.{◌≡◌, ℕ, ◌+◌, ◌%◌, ◌≤◌, ◌⊎◌, true}
 
 -- the word at an address
 unfoldable pub word : ByteMemory → ℕ → ℕ
@@ -15,12 +15,9 @@ put_word memory a value = with_bytes memory a 4 value
 abbrev pub Apart : ℕ → ℕ → Type 0
 Apart a b = (a + 4 ≤ b) ⊎ (b + 4 ≤ a)
 
--- where the data of a compartment end
-abbrev pub data_end : ImageParts → ℕ → ℕ
-data_end image c = stack_top c + length (initial_globals image c)
-
 -- a whole aligned word of c's data
 pub record Owned (image : ImageParts) (c a : ℕ) : Type 0 where
   pub aligned : a % 4 ≡ 0
   pub low : data_start c ≤ a
-  pub high : a + 4 ≤ data_end image c
+  pub high : a + 4 ≤ data_end c
+  pub its : are_data image c a 4 ≡ true

@@ -38,9 +38,9 @@ module _ {T : Setting} {R : Running} (valid : IsRunning T R) where
     others = kept_but_slot A valid.cells R.places valid.nodes valid.is.frame_fits k offset w its x.regs regs x.bytes
         others;
     ra = ra_kept A valid.cells R.places valid.nodes valid.is.frame_fits k offset w its x.bytes;
-    cells = own_cells T valid.formed valid.cells R.places valid.nodes A valid.is x (suc k) offset w its ready.settled
+    cells = own_cells T valid.cells R.places valid.nodes A valid.is x (suc k) offset w its ready.settled
         ready.frame;
-    keeps = own_keeps T valid.formed valid.cells R.places valid.nodes A valid.is x (suc k) offset w its ready.frame;
+    keeps = own_keeps T valid.cells R.places valid.nodes A valid.is x (suc k) offset w its ready.frame;
   }
 
   -- registers with another use change, and control moves on
@@ -117,7 +117,7 @@ module _ {T : Setting} {R : Running} (valid : IsRunning T R) where
       let s = ready.settled in
       let later : Bytes = put_word x.bytes (a + 4 * p.index) w in
       let kept : (q : ℕ) → Guarded T.image x.inj x.meant.memory A.here.comp q → word later q ≡ word x.bytes q =
-      guarded_kept valid.formed s.blocks A.here.comp a w p v after valid.is.honest stores is_at A.here.comp in
+      guarded_kept s.blocks A.here.comp a w p v after valid.is.honest stores is_at A.here.comp in
       let own : (i o : ℕ) → slice_get (own_words A.frame) i ≡ Some o →
       word later (A.sp + o) ≡ word x.bytes (A.sp + o) = λ i o e. kept (A.sp + o) (ready.frame.guard i o e) in
       let here : A.sp + 0 ≡ A.sp = omega arith in
@@ -131,7 +131,7 @@ module _ {T : Setting} {R : Running} (valid : IsRunning T R) where
           settled = settled_stored T valid.formed valid.inputs P x n pc a w regs p v after s valid.is.honest stores
               is_at stands walks;
           frame = frame_kept A T.image x.inj x.inj x.meant.memory _ x.bytes later (λ b a e. e)
-              (guarded_after valid.formed s.blocks A.here.comp a w p v after valid.is.honest stores is_at A.here.comp)
+              (guarded_after s.blocks A.here.comp a w p v after valid.is.honest stores is_at A.here.comp)
               (subst (λ q. word later q ≡ word x.bytes q) here (own 0 0 refl)) ready.frame;
           held = held_kept A R.places x.inj x.inj x.regs regs x.bytes later (λ b a e. e)
               (wanted R.plan.needed (live_plain reads None lives)) (wanted R.plan.needed lives.following) temps
@@ -155,9 +155,9 @@ module _ {T : Setting} {R : Running} (valid : IsRunning T R) where
   loads live temps x w pointer Null v ready stands h = cc h
   loads live temps x w pointer (Ptr p) v ready stands h =
       let m = stands.means in
-      let r : LoadsWord valid.formed ready.settled.blocks
+      let r : LoadsWord ready.settled.blocks
       A.here.comp m.0 p v =
-      loads_word valid.formed ready.settled.blocks A.here.comp m.0 pointer p v valid.is.honest h m.1 in
+      loads_word ready.settled.blocks A.here.comp m.0 pointer p v valid.is.honest h m.1 in
       subst (λ w. IsLoaded x w v) (sym m.2) (record { owned = r.owned; stands = r.stands })
 
   pub may_store : (live : TempSet) (temps : Temps) (x : Joint) (w : ℕ) (q v : Value) (after : Blocks) →
@@ -167,7 +167,7 @@ module _ {T : Setting} {R : Running} (valid : IsRunning T R) where
   may_store live temps x w Null v after ready stands h = cc h
   may_store live temps x w (Ptr p) v after ready stands h =
       let m = stands.means in
-      subst (Owned T.image A.here.comp) (sym m.2) (target_owned valid.formed ready.settled.blocks
+      subst (Owned T.image A.here.comp) (sym m.2) (target_owned ready.settled.blocks
       A.here.comp m.0 0 p v after valid.is.honest h m.1)
 
   pub stores : (reads : List ℕ) (lives : Lives) (temps : Temps) (x : Joint) (n left pc to w : ℕ) (q v : Value)

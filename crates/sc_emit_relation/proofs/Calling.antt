@@ -117,7 +117,7 @@ module _ (T : Setting) (formed : IsWellFormed T.image) (inputs : All IsWord T.in
 
       grows : (k b a : ℕ) → x.inj k b ≡ Some a → y.inj k b ≡ Some a
       grows = injection_grows T.image T.performs P.floor x.inj x.meant.memory x.bytes bytes P.comp low frame f.cells
-          args formed places nodes whole frame_fits begins.settled.blocks prepared
+          args places nodes whole frame_fits begins.settled.blocks prepared
 
       floor_there : (k : ℕ) → k ≢ P.comp → put P.floor P.comp low k ≡ P.floor k
       floor_there k d = rw (ne_eqb k P.comp d) refl
@@ -148,7 +148,7 @@ module _ (T : Setting) (formed : IsWellFormed T.image) (inputs : All IsWord T.in
       pub settled_entered : Settled T (seen_from A) y
       settled_entered = record {
         blocks = blocks_opened T.image T.performs P.floor x.inj x.meant.memory x.bytes bytes P.comp low frame f.cells
-            args formed places nodes whole frame_fits begins.settled.blocks prepared;
+            args places nodes whole frame_fits begins.settled.blocks prepared;
         globals = λ k number honest l. grows k number _ (begins.settled.globals k number honest l);
         saved = λ k d honest. begins.settled.saved k d honest ∙ sym (floor_there k d);
         inputs = begins.settled.inputs;
@@ -162,9 +162,9 @@ module _ (T : Setting) (formed : IsWellFormed T.image) (inputs : All IsWord T.in
       frame_entered = record {
         ra = enters.ra;
         guard = λ i offset e. own_guarded T.image T.performs P.floor x.inj x.meant.memory x.bytes bytes P.comp low frame
-            f.cells args formed places nodes whole frame_fits begins.settled.blocks prepared i offset begins.honest e;
+            f.cells args places nodes whole frame_fits begins.settled.blocks prepared i offset begins.honest e;
         objects = objects_placed T.image T.performs P.floor x.inj x.meant.memory x.bytes bytes P.comp low frame f.cells
-            args formed places nodes whole frame_fits begins.settled.blocks prepared;
+            args places nodes whole frame_fits begins.settled.blocks prepared;
       }
 
       -- the code of the body begins with all that it takes
@@ -184,7 +184,7 @@ module _ (T : Setting) (formed : IsWellFormed T.image) (inputs : All IsWord T.in
       protected_entered k q p = record {
         honest = p.honest;
         guard = above_guarded T.image T.performs P.floor x.inj x.meant.memory x.bytes bytes P.comp low frame f.cells
-            args formed places nodes whole frame_fits begins.settled.blocks prepared k q p.guard
+            args places nodes whole frame_fits begins.settled.blocks prepared k q p.guard
             (λ e. omega (arith, p.own e, bound_is));
         own = λ e. omega (arith, p.own e, bound_is);
         other = λ d. omega (arith, p.other d, floor_there k d);
@@ -193,7 +193,7 @@ module _ (T : Setting) (formed : IsWellFormed T.image) (inputs : All IsWord T.in
       kept_entered : (k q : ℕ) → Protected T P x.inj x.meant.memory k q → word bytes q ≡ word x.bytes q
       kept_entered k q p = enters.outside q (⊎_elim
           (λ e. inr (omega (arith, p.own e, bound_is)))
-          (λ d. other_range T.image k P.comp q low frame.bytes formed d p.guard.owned start
+          (λ d. other_range T.image k P.comp q low frame.bytes d p.guard.owned start
           (omega (arith, begins.base.high, bound_is))) (cases_eq k P.comp))
 
       module _ (z : Joint) (budget left : ℕ) (leads : Leads T (seen_from A) y z budget left)
@@ -302,6 +302,7 @@ module _ (T : Setting) (formed : IsWellFormed T.image) (inputs : All IsWord T.in
               above = omega (arith, same, far.2, begins.base.floors.high k honest);
               low = now.low;
               high = now.high;
+              its = now.its;
             }
 
         placed_closed : (k b a : ℕ) (xs : List Cell) → T.performs k ≡ false → LiveAt end.meant.memory k b xs →

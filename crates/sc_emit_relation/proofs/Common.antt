@@ -30,7 +30,6 @@ pub use Rattle.sc_core_laws.proofs.Growing.{turn_goes}
 pub use Rattle.sc_core_laws.specs.Prelude.{AllBefore, Goes, Grown, depth_after, last, stack_depth}
 pub use Rattle.rv_code.specs.declared.instr.Instr.{Instr}
 pub use Rattle.sc_store.specs.Prelude.{ByteMemory}
-pub use Rattle.sc_image.proofs.Memory.{few_globals}
 pub use Rattle.sc_image.specs.Prelude.{IsWellFormed, IsWord, Traps, Walks, data_start, stack_size, stack_top, step}
 pub use Rattle.sc_image.specs.Prelude.{word_at, zone_start}
 pub use Rattle.sc_tac.specs.Prelude.{Codes, FrameFits, InSlot, IsClear, IsFrame, Lives, Point, Range, TempSet, Temps}
@@ -51,7 +50,7 @@ pub use Rattle.sc_emit_hart.proofs.Inside.{IsInside, code_inside}
 pub use Rattle.sc_emit_hart.proofs.Steady.{walks_steady}
 pub use Rattle.sc_emit_hart.proofs.Steps.{jal, op_imm, stay, then_go}
 pub use Rattle.sc_emit_hart.proofs.Words.{apart_from, word_apart, word_same}
-pub use Rattle.sc_emit_hart.specs.Prelude.{Apart, CodeAt, Fetches, Owned, Registers, data_end, op_word, put, put_word}
+pub use Rattle.sc_emit_hart.specs.Prelude.{Apart, CodeAt, Fetches, Owned, Registers, op_word, put, put_word}
 pub use Rattle.sc_emit_hart.specs.Prelude.{stepped_word, unary_word, word}
 pub use Rattle.sc_emit_relation.specs.Common.{CallTarget, Cell, ImageParts, Jal, Place, Value}
 pub use Rattle.sc_emit_relation.specs.Prelude.{Activation, AreInPlace, Arrives, Begins, Beside, BlocksMatch, Came}
@@ -60,4 +59,4 @@ pub use Rattle.sc_emit_relation.specs.Prelude.{FrameMatches, FunctionGives, Give
 pub use Rattle.sc_emit_relation.specs.Prelude.{IsActivation, IsAddress, IsElement, IsInPlace, IsLeft, IsSound, Joint}
 pub use Rattle.sc_emit_relation.specs.Prelude.{Leads, LiveAt, Means, Overflows, Placed, Protected, Ready, Returns}
 pub use Rattle.sc_emit_relation.specs.Prelude.{ReturnsValue, Running, Setting, Settled, Standpoint, StandsAt, StandsFor}
-pub use Rattle.sc_emit_relation.specs.Prelude.{Starts, ends_of, machine, own_words, row, seen_from, wanted}
+pub use Rattle.sc_emit_relation.specs.Prelude.{Starts, ends_of, machine, own_words, row, seen_from, wanted, world_at}

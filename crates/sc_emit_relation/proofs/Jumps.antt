@@ -3,8 +3,8 @@ use Rattle.sc_emit_relation.proofs.Common.{Arrives, Break, Continue, Fetches, Fo
 use Rattle.sc_emit_relation.proofs.Common.{Joint, Leads, Ready, Running, Setting, Some, Standpoint, TempSet, Temps}
 use Rattle.sc_emit_relation.proofs.Common.{add_word, ap, arith, breaking, code_inside, continuing, inl, is_some, jal}
 use Rattle.sc_emit_relation.proofs.Common.{leave, machine, neg_ℤ, pos, refl, seen_from, stays, suc, trail_step}
-use Rattle.sc_emit_relation.proofs.Common.{walks_steady, word_at, word_of, zero, ℕ, ℤ, ◌*◌, ◌+◌, ◌-◌, ◌<◌, ◌^◌, ◌∙◌}
-use Rattle.sc_emit_relation.proofs.Common.{◌≡◌, ◌≤◌}
+use Rattle.sc_emit_relation.proofs.Common.{walks_steady, word_at, word_of, world_at, zero, ℕ, ℤ, ◌*◌, ◌+◌, ◌-◌, ◌<◌}
+use Rattle.sc_emit_relation.proofs.Common.{◌^◌, ◌∙◌, ◌≡◌, ◌≤◌}
 use Rattle.sc_emit_relation.proofs.Coming.{came_by}
 use Rattle.sc_tac.specs.declared.stmt.TacStmt.TheOpen as tac
 use Rattle.sc_emit_relation.proofs.Stretches.{effect_still, arrives_with}
@@ -29,9 +29,8 @@ module _ (T : Setting) (formed : IsWellFormed T.image) (P : Standpoint) where
       Leads T P x (record x { pc = target }) budget left
   jumps x imm target word budget left f e there h = record {
     steps = 1;
-    run = jal T.image T.inputs x.pc x.regs x.bytes
-        (record { active = P.comp; saved = x.saved; cross = P.cross; input = x.input; trace = x.meant.trace }) 0 imm
-        target word (omega arith) f e (code_inside T.image formed P.comp target word there).aligned there;
+    run = jal T.image T.inputs x.pc x.regs x.bytes (world_at P x) 0 imm target word (omega arith) f e
+        (code_inside T.image formed P.comp target word there).aligned there;
     costs = record { least = omega arith; most = λ all. omega (arith, h) };
     effect = effect_still T P x target x.regs;
   }

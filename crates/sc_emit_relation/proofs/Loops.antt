@@ -6,8 +6,8 @@ use Rattle.sc_emit_relation.proofs.Common.{StandsAt, Starts, Stopped, TempSet, T
 use Rattle.sc_emit_relation.proofs.Common.{arith, code_inside, cycle, ends_of, follow, in_body, in_head, in_loop, inl}
 use Rattle.sc_emit_relation.proofs.Common.{is_some, jump_back, length, length-append, live_at_start, live_before, loop}
 use Rattle.sc_emit_relation.proofs.Common.{loop_points, low_after, machine, neg_ℤ, op_imm, pos, refl, rounds, row}
-use Rattle.sc_emit_relation.proofs.Common.{seen_from, subst, suc, sym, take, trail_step, word_of, zero, ℕ, ⊎_elim, ◌*◌}
-use Rattle.sc_emit_relation.proofs.Common.{◌++◌, ◌+◌, ◌∙◌, ◌∷◌, ◌≡◌, ◌≤◌}
+use Rattle.sc_emit_relation.proofs.Common.{seen_from, subst, suc, sym, take, trail_step, word_of, world_at, zero, ℕ}
+use Rattle.sc_emit_relation.proofs.Common.{⊎_elim, ◌*◌, ◌++◌, ◌+◌, ◌∙◌, ◌∷◌, ◌≡◌, ◌≤◌}
 use Rattle.sc_emit_select.specs.Prelude.{Piece as Code}
 use Rattle.rv_code.specs.declared.instr.Instr.TheVariants.{OpImm}
 use Rattle.rv_code.specs.declared.instr.OpImmOp.TheVariants.{Addi}
@@ -221,13 +221,8 @@ module _ {T : Setting} {R : Running} (valid : IsRunning T R)
         steps = 1;
         run =
             subst (λ pc. Walks T.image T.inputs 1 (machine P (record x { pc = pc })) (machine P (inside x))) (sym place)
-            (op_imm T.image T.inputs L x.regs x.bytes (record {
-              active = comp;
-              saved = x.saved;
-              cross = P.cross;
-              input = x.input;
-              trace = x.meant.trace;
-            }) Addi 0 0 (pos 0) (add_word 0 0) (omega arith) (omega arith) code.first refl);
+            (op_imm T.image T.inputs L x.regs x.bytes (world_at P x) Addi 0 0 (pos 0) (add_word 0 0) (omega arith)
+            (omega arith) code.first refl);
         costs = record { least = omega arith; most = λ all. omega arith };
         effect = effect_still T P x (L + 4) x.regs;
       }

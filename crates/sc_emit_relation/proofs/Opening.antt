@@ -1,28 +1,28 @@
 -- A call begins: its blocks, their places in its frame, and how the bytes stand for all blocks then.
 use Rattle.sc_emit_relation.proofs.Common.{Block, BlocksMatch, Bool, ByteMemory as Bytes, Cell, FrameFits, FrameTree}
-use Rattle.sc_emit_relation.proofs.Common.{Guarded, ImageParts, InCell, Injection, IsFrame, IsWellFormed, List, LiveAt}
-use Rattle.sc_emit_relation.proofs.Common.{None, Ok, Option, Owned, Place, Placed, Some, StandsFor, Value, [], all_at}
-use Rattle.sc_emit_relation.proofs.Common.{ap, arith, blocks_for, cases_eq, cases_lt, cases_order, cell_of, cells_at}
-use Rattle.sc_emit_relation.proofs.Common.{data_start, eq-eqb, false, few_globals, get_prefix, if◌then◌else◌, inl, inr}
-use Rattle.sc_emit_relation.proofs.Common.{le-leb, length, length-append, live_cells, lt-leb, nat_eq, nat_le, ne_eqb}
-use Rattle.sc_emit_relation.proofs.Common.{own_words, put, refl, replicate, same_Some, slice_get, slice_get_within}
-use Rattle.sc_emit_relation.proofs.Common.{stack_top, subst, suc, sym, variable, with_blocks, word, zero, ℕ, ⊎_elim}
-use Rattle.sc_emit_relation.proofs.Common.{◌%◌, ◌&&◌, ◌*◌, ◌++◌, ◌+◌, ◌-◌, ◌<◌, ◌∙◌, ◌∷◌, ◌≡◌, ◌≢◌, ◌≤◌, ◌⊎◌}
+use Rattle.sc_emit_relation.proofs.Common.{Guarded, ImageParts, InCell, Injection, IsFrame, List, LiveAt, None, Ok}
+use Rattle.sc_emit_relation.proofs.Common.{Option, Owned, Place, Placed, Some, StandsFor, Value, [], all_at, ap, arith}
+use Rattle.sc_emit_relation.proofs.Common.{blocks_for, cases_eq, cases_lt, cases_order, cell_of, cells_at, data_start}
+use Rattle.sc_emit_relation.proofs.Common.{eq-eqb, false, get_prefix, if◌then◌else◌, inl, inr, le-leb, length}
+use Rattle.sc_emit_relation.proofs.Common.{length-append, live_cells, lt-leb, nat_eq, nat_le, ne_eqb, own_words, put}
+use Rattle.sc_emit_relation.proofs.Common.{refl, replicate, same_Some, slice_get, slice_get_within, stack_top, subst}
+use Rattle.sc_emit_relation.proofs.Common.{suc, sym, variable, with_blocks, word, zero, ℕ, ⊎_elim, ◌%◌, ◌&&◌, ◌*◌, ◌++◌}
+use Rattle.sc_emit_relation.proofs.Common.{◌+◌, ◌-◌, ◌<◌, ◌∙◌, ◌∷◌, ◌≡◌, ◌≢◌, ◌≤◌, ◌⊎◌}
 use Rattle.sc_core.specs.Prelude.{Memory}
 use Rattle.std.specs.Option.{option_map}
 use Rattle.sc_core.specs.declared.value.Cell.TheVariants as cell
+use Rattle.sc_emit_hart.proofs.Words.{stack_data, stack_owned}
 use Rattle.sc_emit_relation.proofs.Access.{LivingBlock, living_block}
 use Rattle.sc_emit_relation.proofs.Frames.{get_back, own_inside, object_there, object_inside, objects_apart, own_beside}
 use Rattle.sc_emit_relation.proofs.Held.{Grows, stands_more}
 use Rattle.sc_emit_relation.proofs.Storing.{in_cell, block_owned}
 
 -- a word of other data lies outside a part of a stack
-pub other_range : (image : ImageParts) (k c q low bytes : ℕ) → IsWellFormed image → k ≢ c → Owned image k q →
-    data_start c ≤ low → low + bytes ≤ stack_top c → (q + 4 ≤ low) ⊎ (low + bytes ≤ q)
-other_range image k c q low bytes formed n o start high =
-    let few = few_globals image k formed in
+pub other_range : (image : ImageParts) (k c q low bytes : ℕ) → k ≢ c → Owned image k q → data_start c ≤ low →
+    low + bytes ≤ stack_top c → (q + 4 ≤ low) ⊎ (low + bytes ≤ q)
+other_range image k c q low bytes n o start high =
     ⊎_elim (λ e. absurd (n e))
-    (λ w. ⊎_elim (λ below. inl (omega (arith, few, o.high, below, start)))
+    (λ w. ⊎_elim (λ below. inl (omega (arith, o.high, below, start)))
     (λ above. inr (omega (arith, o.low, above, high))) w) (cases_order k c)
 
 -- a new block: with an argument in its one cell, or with nothing in `size` cells
@@ -165,7 +165,7 @@ module _ (image : ImageParts) (performs : ℕ → Bool) (floor : ℕ → ℕ) (i
       by (Old live e) = live
       by (Fresh o block ek eb new ex) = absurd (let below : b < first = l ek in omega (arith, eb, below))
 
-  module _ (formed : IsWellFormed image) (places : List Place) (nodes : ℕ) (whole : IsFrame frame)
+  module _ (places : List Place) (nodes : ℕ) (whole : IsFrame frame)
       (frame_fits : FrameFits cells places nodes frame) (blocks : BlocksMatch image performs floor inj memory bytes)
       (ready : Prepared) where
     pub injection_grows : (k b a : ℕ) → inj k b ≡ Some a → more k b ≡ Some a
@@ -224,8 +224,8 @@ module _ (image : ImageParts) (performs : ℕ → Bool) (floor : ℕ → ℕ) (i
     old_outside k b a i xs s live e l = ready.outside (a + 4 * i) (⊎_elim
         (λ same. inr (let above : floor k ≤ a = (blocks.placed k b a xs s live e).above in
         let floors : floor k ≡ floor c = ap floor same in omega (arith, above, floors, ready.floor_is)))
-        (λ n. other_range image k c (a + 4 * i) low frame.bytes formed n
-        (block_owned formed blocks k b a i xs s live e l) ready.start
+        (λ n. other_range image k c (a + 4 * i) low frame.bytes n
+        (block_owned blocks k b a i xs s live e l) ready.start
         (omega (arith, ready.floor_is, ready.high))) (cases_eq k c))
 
     old_above : (k b a : ℕ) (xs : List Cell) → performs k ≡ false → k ≡ c → LiveAt memory k b xs → inj k b ≡ Some a →
@@ -249,7 +249,13 @@ module _ (image : ImageParts) (performs : ℕ → Bool) (floor : ℕ → ℕ) (i
         Placed image (lowered k) k a (length xs)
     placed_by k b a xs s (Old live e) is_at =
         let p : Placed image (floor k) k a (length xs) = blocks.placed k b a xs s live (sym e ∙ is_at) in
-        record { aligned = p.aligned; above = omega (arith, p.above, floor_low k); low = p.low; high = p.high }
+        record {
+          aligned = p.aligned;
+          above = omega (arith, p.above, floor_low k);
+          low = p.low;
+          high = p.high;
+          its = p.its;
+        }
     placed_by k b a xs s (Fresh o block ek eb new ex) is_at =
         let x : HasObject o xs = object_of o block xs new ex in
         let place : low + x.offset ≡ a = fresh_at k b a o x.offset ek eb x.object is_at in
@@ -258,6 +264,8 @@ module _ (image : ImageParts) (performs : ℕ → Bool) (floor : ℕ → ℕ) (i
           above = omega (arith, place, floor_here k ek);
           low = omega (arith, place, ready.start);
           high = omega (arith, place, x.fits, x.inside, ready.floor_is, ready.high);
+          its = λ i l. stack_data image c (a + 4 * i) (omega (arith, place, ready.start))
+              (omega (arith, place, x.fits, x.inside, ready.floor_is, ready.high, l));
         })
 
     one_holds : (v : Value) (a i : ℕ) (x : Cell) → StandsFor (more c) (word later a) v →
@@ -370,11 +378,9 @@ module _ (image : ImageParts) (performs : ℕ → Bool) (floor : ℕ → ℕ) (i
     pub own_guarded : (i u : ℕ) → performs c ≡ false → slice_get (own_words frame) i ≡ Some u →
         Guarded image more opened c (low + u)
     own_guarded i u s e = record {
-      owned = record {
-        aligned = omega (arith, ready.aligned, own_aligned i u e);
-        low = omega (arith, ready.start);
-        high = omega (arith, ready.floor_is, ready.high, own_inside cells places nodes frame frame_fits i u e);
-      };
+      owned = stack_owned image c (low + u) (omega (arith, ready.aligned, own_aligned i u e))
+          (omega (arith, ready.start))
+          (omega (arith, ready.floor_is, ready.high, own_inside cells places nodes frame frame_fits i u e));
       below = omega (arith, ready.floor_is, ready.high, own_inside cells places nodes frame frame_fits i u e);
       free = λ b a xs live is_at. own_free i u b a xs s e (origin c b xs live) is_at;
     }

@@ -1,17 +1,17 @@
 -- The word that an operator's code computes stands for the operator's value.
 use Rattle.sc_emit_relation.proofs.Common.{BadPointer, BadType, BlocksMatch, Bool, ByteMemory as Bytes, Cause, Cell}
-use Rattle.sc_emit_relation.proofs.Common.{Err, ImageParts, Injection, IsAddress, IsElement, IsSound, IsWellFormed}
-use Rattle.sc_emit_relation.proofs.Common.{List, LiveAt, Means, Null, Ok, Option, Pointer, Ptr, Result, Some, StandsFor}
-use Rattle.sc_emit_relation.proofs.Common.{Value, Word, add_word, ap, apart, applied_one, ap₂, arith, between, bind}
-use Rattle.sc_emit_relation.proofs.Common.{bytes_of, data_end, div_word, eq-eqb, eqb-true, false, few_globals}
-use Rattle.sc_emit_relation.proofs.Common.{if◌then◌else◌, in_elements, int_div, int_rem, is_comparison, is_inside}
-use Rattle.sc_emit_relation.proofs.Common.{is_pointer, is_unsigned, is_zero, length, moved, moved_back, moved_on}
-use Rattle.sc_emit_relation.proofs.Common.{nat_lt, ne_eqb, neg_ℤ, negated_word, not, number_of, of_bool, on_all_words}
-use Rattle.sc_emit_relation.proofs.Common.{on_words, op_word, operated, ordered, pos, refl, same_Some, same_place}
-use Rattle.sc_emit_relation.proofs.Common.{stepped_word, sub_word, subst, sym, takes_two, true, true≢false, truth}
-use Rattle.sc_emit_relation.proofs.Common.{unary_word, word_of, wrapping, ℕ, ℤ, ⊎_elim, ◌&&◌, ◌*ℤ◌, ◌*◌, ◌+ℤ◌, ◌+◌}
-use Rattle.sc_emit_relation.proofs.Common.{◌-ℤ◌, ◌-◌, ◌<◌, ◌==◌, ◌^◌, ◌∙◌, ◌≡◌, ◌≢◌, ◌≤◌}
+use Rattle.sc_emit_relation.proofs.Common.{Err, ImageParts, Injection, IsAddress, IsElement, IsSound, List, LiveAt}
+use Rattle.sc_emit_relation.proofs.Common.{Means, Null, Ok, Option, Pointer, Ptr, Result, Some, StandsFor, Value, Word}
+use Rattle.sc_emit_relation.proofs.Common.{add_word, ap, apart, applied_one, ap₂, arith, between, bind, bytes_of}
+use Rattle.sc_emit_relation.proofs.Common.{div_word, eq-eqb, eqb-true, false, if◌then◌else◌, in_elements, int_div}
+use Rattle.sc_emit_relation.proofs.Common.{int_rem, is_comparison, is_inside, is_pointer, is_unsigned, is_zero, length}
+use Rattle.sc_emit_relation.proofs.Common.{moved, moved_back, moved_on, nat_lt, ne_eqb, neg_ℤ, negated_word, not}
+use Rattle.sc_emit_relation.proofs.Common.{number_of, of_bool, on_all_words, on_words, op_word, operated, ordered, pos}
+use Rattle.sc_emit_relation.proofs.Common.{refl, same_Some, same_place, stepped_word, sub_word, subst, sym, takes_two}
+use Rattle.sc_emit_relation.proofs.Common.{true, true≢false, truth, unary_word, word_of, wrapping, ℕ, ℤ, ⊎_elim, ◌&&◌}
+use Rattle.sc_emit_relation.proofs.Common.{◌*ℤ◌, ◌*◌, ◌+ℤ◌, ◌+◌, ◌-ℤ◌, ◌-◌, ◌<◌, ◌==◌, ◌^◌, ◌∙◌, ◌≡◌, ◌≢◌, ◌≤◌}
 use Rattle.sc_core.specs.Prelude.{Memory}
+use Rattle.sc_image.specs.Prelude.{data_end}
 use Rattle.sc_base.specs.declared.op.UnaryOp.{UnaryOp}
 use Rattle.sc_base.specs.declared.op.UnaryOp.TheVariants as unary
 use Rattle.sc_base.specs.declared.op.BinaryOp.{BinaryOp}
@@ -24,8 +24,8 @@ use Rattle.sc_emit_hart.proofs.Below.{op_below}
 use Rattle.sc_emit_relation.proofs.Pointers.{moved_found, between_found, Apart, apart_found, bound}
 
 -- the data of a compartment end below 2 ^ 31
-pub data_below : (image : ImageParts) (c : ℕ) → IsWellFormed image → c < 32 → data_end image c < 2 ^ 31
-data_below image c formed h = let few = few_globals image c formed in omega (arith, few)
+pub data_below : (c : ℕ) → c < 32 → data_end c < 2 ^ 31
+data_below c h = omega (arith, h)
 
 -- A value before an operator.
 module _ (place : ℕ → Option ℕ) where
@@ -80,8 +80,8 @@ module _ (place : ℕ → Option ℕ) where
   binary_means unsigned o (Ptr p) w r a b is its h = cc h
 
 -- Pointers.
-module _ {image : ImageParts} (formed : IsWellFormed image) {performs : ℕ → Bool} {floor : ℕ → ℕ} {inj : Injection}
-    {memory : Memory} {bytes : Bytes} (matches : BlocksMatch image performs floor inj memory bytes) {comp : ℕ}
+module _ {image : ImageParts} {performs : ℕ → Bool} {floor : ℕ → ℕ} {inj : Injection} {memory : Memory}
+    {bytes : Bytes} (matches : BlocksMatch image performs floor inj memory bytes) {comp : ℕ}
     (honest : performs comp ≡ false) (known : comp < 32) where
   -- where a place is
 
@@ -90,7 +90,7 @@ module _ {image : ImageParts} (formed : IsWellFormed image) {performs : ℕ → 
       i ≤ length cells → IsAddress (x + 4 * i)
   place_address b x i cells live lies inside =
       let placed = matches.placed comp b x cells honest live lies in
-      let below = data_below image comp formed known in
+      let below = data_below comp known in
       record { above = omega (arith, placed.low); below = omega (arith, placed.high, below) }
 
   address_small : (w : ℕ) → IsAddress w → w < 2 ^ 32

@@ -6,6 +6,7 @@ use Rattle.sc_emit_relation.proofs.Common.{Protected, Ptr, Registers, Setting, S
 use Rattle.sc_emit_relation.proofs.Common.{Value, Walks, arith, cases_eq, false, inl, inr, machine, own_words, put_word}
 use Rattle.sc_emit_relation.proofs.Common.{refl, seen_from, slice_get, store, walks_steady, with_memory, word}
 use Rattle.sc_emit_relation.proofs.Common.{word_apart, ℕ, ⊎_elim, ◌*◌, ◌+◌, ◌≡◌, ◌≤◌}
+use Rattle.sc_zone.specs.declared.span.Span.{Span}
 use Rattle.sc_emit_relation.proofs.Frames.{own_inside}
 use Rattle.sc_emit_relation.proofs.Storing.{CellsKept, other_data, blocks_kept, guarded_cells, was, guarded_kept}
 use Rattle.sc_emit_relation.proofs.Storing.{blocks_after}
@@ -15,17 +16,22 @@ use Rattle.sc_emit_relation.proofs.Coming.{came_by}
 abbrev pub moved : Joint → (pc : ℕ) → Registers → Bytes → Joint
 moved x pc regs bytes = record x { pc = pc; regs = regs; bytes = bytes }
 
+-- and with these zones
+abbrev pub rezoned : Joint → (pc : ℕ) → Registers → Bytes → List (List Span) → Joint
+rezoned x pc regs bytes zones = record x { pc = pc; regs = regs; bytes = bytes; zones = zones }
+
 -- and the compartment has these blocks
 abbrev pub moved_with : Joint → (comp : ℕ) → Blocks → (pc : ℕ) → Registers → Bytes → Joint
 moved_with x comp blocks pc regs bytes =
     record x { meant = with_memory comp blocks x.meant; pc = pc; regs = regs; bytes = bytes }
 
 module _ (T : Setting) (formed : IsWellFormed T.image) (inputs : All IsWord T.inputs) (P : Standpoint) where
-  pub settled_moved : (x : Joint) (n pc : ℕ) (regs : Registers) (later : Bytes) → Settled T P x →
-      CellsKept T.performs x.inj x.meant.memory x.bytes later →
-      Walks T.image T.inputs n (machine P x) (machine P (moved x pc regs later)) → Settled T P (moved x pc regs later)
-  settled_moved x n pc regs later s kept walks = record {
-    blocks = blocks_kept formed s.blocks later kept;
+  pub settled_rezoned : (x : Joint) (n pc : ℕ) (regs : Registers) (later : Bytes) (zones : List (List Span)) →
+      Settled T P x → CellsKept T.performs x.inj x.meant.memory x.bytes later →
+      Walks T.image T.inputs n (machine P x) (machine P (rezoned x pc regs later zones)) →
+      Settled T P (rezoned x pc regs later zones)
+  settled_rezoned x n pc regs later zones s kept walks = record {
+    blocks = blocks_kept s.blocks later kept;
     globals = s.globals;
     saved = s.saved;
     inputs = s.inputs;
@@ -35,12 +41,17 @@ module _ (T : Setting) (formed : IsWellFormed T.image) (inputs : All IsWord T.in
     timed = s.timed;
   }
 
+  pub settled_moved : (x : Joint) (n pc : ℕ) (regs : Registers) (later : Bytes) → Settled T P x →
+      CellsKept T.performs x.inj x.meant.memory x.bytes later →
+      Walks T.image T.inputs n (machine P x) (machine P (moved x pc regs later)) → Settled T P (moved x pc regs later)
+  settled_moved x n pc regs later s kept walks = settled_rezoned x n pc regs later x.zones s kept walks
+
   -- a stretch that leaves protected words unchanged
-  pub leads_moved : (x : Joint) (n left pc : ℕ) (regs : Registers) (later : Bytes) →
+  pub leads_rezoned : (x : Joint) (n left pc : ℕ) (regs : Registers) (later : Bytes) (zones : List (List Span)) →
       ((k q : ℕ) → Protected T P x.inj x.meant.memory k q → word later q ≡ word x.bytes q) →
-      Walks T.image T.inputs n (machine P x) (machine P (moved x pc regs later)) →
-      Leads T P x (moved x pc regs later) (n + left) left
-  leads_moved x n left pc regs later kept walks = record {
+      Walks T.image T.inputs n (machine P x) (machine P (rezoned x pc regs later zones)) →
+      Leads T P x (rezoned x pc regs later zones) (n + left) left
+  leads_rezoned x n left pc regs later zones kept walks = record {
     steps = n;
     run = walks;
     costs = record { least = omega arith; most = λ all. omega arith };
@@ -51,6 +62,12 @@ module _ (T : Setting) (formed : IsWellFormed T.image) (inputs : All IsWord T.in
       depths = λ k. refl;
     };
   }
+
+  pub leads_moved : (x : Joint) (n left pc : ℕ) (regs : Registers) (later : Bytes) →
+      ((k q : ℕ) → Protected T P x.inj x.meant.memory k q → word later q ≡ word x.bytes q) →
+      Walks T.image T.inputs n (machine P x) (machine P (moved x pc regs later)) →
+      Leads T P x (moved x pc regs later) (n + left) left
+  leads_moved x n left pc regs later kept walks = leads_rezoned x n left pc regs later x.zones kept walks
 
   -- A store through a pointer.
   module _ (x : Joint) (n pc a w : ℕ) (regs : Registers) (p : Pointer) (v : Value) (after : Blocks) (s : Settled T P x)
@@ -65,7 +82,7 @@ module _ (T : Setting) (formed : IsWellFormed T.image) (inputs : All IsWord T.in
     pub settled_stored : StandsFor (x.inj P.comp) w v →
         Walks T.image T.inputs n (machine P x) (machine P stored_at) → Settled T P stored_at
     settled_stored stands walks = record {
-      blocks = blocks_after formed s.blocks P.comp a w p v after honest stores is_at stands;
+      blocks = blocks_after s.blocks P.comp a w p v after honest stores is_at stands;
       globals = s.globals;
       saved = s.saved;
       inputs = s.inputs;
@@ -84,15 +101,15 @@ module _ (T : Setting) (formed : IsWellFormed T.image) (inputs : All IsWord T.in
       effect = record {
         grows = λ k b a e. e;
         lived = λ k b cells h live.
-            (let old = was formed s.blocks P.comp a w p v after honest stores is_at k b cells live in
+            (let old = was s.blocks P.comp a w p v after honest stores is_at k b cells live in
             inl (old.old, old.live, old.long));
-        keeps = λ k q g. guarded_kept formed s.blocks P.comp a w p v after honest stores is_at k q g.guard;
+        keeps = λ k q g. guarded_kept s.blocks P.comp a w p v after honest stores is_at k q g.guard;
         depths = λ k. refl;
       };
     }
 
 -- A word of the running call's frame is written.
-module _ (T : Setting) (formed : IsWellFormed T.image) (cells : List ℕ) (places : List Place) (nodes : ℕ)
+module _ (T : Setting) (cells : List ℕ) (places : List Place) (nodes : ℕ)
     (A : Activation) (is : IsActivation T.performs cells places nodes A) (x : Joint) (i offset w : ℕ)
     (its : slice_get (own_words A.frame) i ≡ Some offset) where
   abbrev P : Standpoint
@@ -100,7 +117,7 @@ module _ (T : Setting) (formed : IsWellFormed T.image) (cells : List ℕ) (place
 
   pub own_cells : Settled T P x → FrameMatches T.image A x.inj x.meant.memory x.bytes →
       CellsKept T.performs x.inj x.meant.memory x.bytes (put_word x.bytes (A.sp + offset) w)
-  own_cells s frame = guarded_cells formed s.blocks A.here.comp (A.sp + offset) w (frame.guard i offset its)
+  own_cells s frame = guarded_cells s.blocks A.here.comp (A.sp + offset) w (frame.guard i offset its)
 
   -- what belongs to what lies above the frame is none of its words
   pub own_keeps : FrameMatches T.image A x.inj x.meant.memory x.bytes → (k q : ℕ) →
@@ -109,6 +126,6 @@ module _ (T : Setting) (formed : IsWellFormed T.image) (cells : List ℕ) (place
       let inside : offset + 4 ≤ A.frame.bytes = own_inside cells places nodes A.frame is.frame_fits i offset its in
       let apart : Apart q (A.sp + offset) =
       ⊎_elim (λ e. inr (omega (arith, p.own e, inside)))
-      (λ n. other_data T.image k A.here.comp q (A.sp + offset) formed n p.guard.owned
+      (λ n. other_data T.image k A.here.comp q (A.sp + offset) n p.guard.owned
       (frame.guard i offset its).owned) (cases_eq k A.here.comp) in
       word_apart x.bytes (A.sp + offset) w q apart

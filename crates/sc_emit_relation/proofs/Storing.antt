@@ -1,30 +1,32 @@
 -- Blocks and guarded words across stores: at a guarded word, and through a pointer to a live cell.
 use Rattle.sc_emit_relation.proofs.Common.{Apart, Beside, Block, Blocks, BlocksMatch, Bool, ByteMemory as Bytes, Cell}
-use Rattle.sc_emit_relation.proofs.Common.{Guarded, ImageParts, InCell, Injection, IsWellFormed, List, LiveAt, Null, Ok}
-use Rattle.sc_emit_relation.proofs.Common.{Option, Owned, Placed, Pointer, Ptr, Some, StandsFor, Value, Word, ap}
-use Rattle.sc_emit_relation.proofs.Common.{apart_from, arith, cases_eq, cases_order, cell_of, cells_at, eq-eqb, false}
-use Rattle.sc_emit_relation.proofs.Common.{few_globals, inl, inr, length, length-set, live_cells, load, ne_eqb}
-use Rattle.sc_emit_relation.proofs.Common.{put_word, refl, same_Some, slice_get, slice_get-get_or, slice_get_within}
-use Rattle.sc_emit_relation.proofs.Common.{slice_set, store, subst, sym, with_blocks, word, word_apart, word_same, ℕ}
-use Rattle.sc_emit_relation.proofs.Common.{⊎_elim, ◌*◌, ◌+◌, ◌<◌, ◌∙◌, ◌≡◌, ◌≢◌, ◌≤◌, ◌⊎◌}
+use Rattle.sc_emit_relation.proofs.Common.{Guarded, ImageParts, InCell, Injection, List, LiveAt, Null, Ok, Option}
+use Rattle.sc_emit_relation.proofs.Common.{Owned, Placed, Pointer, Ptr, Some, StandsFor, Value, Word, ap, apart_from}
+use Rattle.sc_emit_relation.proofs.Common.{arith, cases_eq, cases_order, cell_of, cells_at, eq-eqb, false, inl, inr}
+use Rattle.sc_emit_relation.proofs.Common.{length, length-set, live_cells, load, ne_eqb, put_word, refl, same_Some}
+use Rattle.sc_emit_relation.proofs.Common.{slice_get, slice_get-get_or, slice_get_within, slice_set, store, subst, sym}
+use Rattle.sc_emit_relation.proofs.Common.{with_blocks, word, word_apart, word_same, ℕ, ⊎_elim, ◌*◌, ◌+◌, ◌<◌, ◌∙◌, ◌≡◌}
+use Rattle.sc_emit_relation.proofs.Common.{◌≢◌, ◌≤◌, ◌⊎◌}
 use Rattle.sc_core.specs.Prelude.{Memory}
 use Rattle.sc_emit_relation.proofs.Access.{alive, get_set_same, get_set_other, with_value, Loads, load_found, Stores}
 use Rattle.sc_emit_relation.proofs.Access.{store_found, written_to}
 
 -- the data of two compartments don't meet
-pub other_data : (image : ImageParts) (k c p q : ℕ) → IsWellFormed image → k ≢ c → Owned image k p → Owned image c q →
-    Apart p q
-other_data image k c p q formed n o u =
-    apart_from p q (λ l r. (let few = few_globals image k formed in let fewer = few_globals image c formed in
-    ⊎_elim (λ e. n e) (λ w. ⊎_elim
-    (λ below. omega (arith, few, fewer, o.low, o.high, u.low, u.high))
-    (λ above. omega (arith, few, fewer, o.low, o.high, u.low, u.high)) w) (cases_order k c)))
+pub other_data : (image : ImageParts) (k c p q : ℕ) → k ≢ c → Owned image k p → Owned image c q → Apart p q
+other_data image k c p q n o u =
+    ⊎_elim (λ e. absurd (n e))
+    (λ w. ⊎_elim (λ below. inl (omega (arith, below, o.high, u.low)))
+    (λ above. inr (omega (arith, above, o.low, u.high))) w) (cases_order k c)
 
 -- a cell of a live block is an owned word
 pub cell_owned : (image : ImageParts) (floor k a words i : ℕ) → Placed image floor k a words → i < words →
     Owned image k (a + 4 * i)
-cell_owned image floor k a words i h l =
-    record { aligned = omega (arith, h.aligned); low = omega (arith, h.low); high = omega (arith, h.high) }
+cell_owned image floor k a words i h l = record {
+  aligned = omega (arith, h.aligned);
+  low = omega (arith, h.low);
+  high = omega (arith, h.high, l);
+  its = h.its i l;
+}
 
 -- a cell with a value, and its word
 pub in_cell : (place : ℕ → Option ℕ) (w : ℕ) (v : Value) → StandsFor place w v → InCell place w (cell_of v)
@@ -43,8 +45,8 @@ CellsKept performs inj memory bytes after =
     (k b a i : ℕ) (cells : List Cell) → performs k ≡ false → LiveAt memory k b cells → inj k b ≡ Some a →
     i < length cells → word after (a + 4 * i) ≡ word bytes (a + 4 * i)
 
-module _ {image : ImageParts} (formed : IsWellFormed image) {performs : ℕ → Bool} {floor : ℕ → ℕ} {inj : Injection}
-    {memory : Memory} {bytes : Bytes} (blocks : BlocksMatch image performs floor inj memory bytes) where
+module _ {image : ImageParts} {performs : ℕ → Bool} {floor : ℕ → ℕ} {inj : Injection} {memory : Memory}
+    {bytes : Bytes} (blocks : BlocksMatch image performs floor inj memory bytes) where
   pub block_owned : (k b a i : ℕ) (cells : List Cell) → performs k ≡ false → LiveAt memory k b cells →
       inj k b ≡ Some a → i < length cells → Owned image k (a + 4 * i)
   block_owned k b a i cells honest live e l =
@@ -67,7 +69,7 @@ module _ {image : ImageParts} (formed : IsWellFormed image) {performs : ℕ → 
       LiveAt memory k b cells → inj k b ≡ Some a → i < length cells → Apart (a + 4 * i) q
   guarded_apart c q k b a i cells g honest live e l =
       ⊎_elim here
-      (λ n. other_data image k c (a + 4 * i) q formed n (block_owned k b a i cells honest live e l) g.owned)
+      (λ n. other_data image k c (a + 4 * i) q n (block_owned k b a i cells honest live e l) g.owned)
       (cases_eq k c)
     where
       here : k ≡ c → Apart (a + 4 * i) q
@@ -236,7 +238,7 @@ module _ {image : ImageParts} (formed : IsWellFormed image) {performs : ℕ → 
         i < length old → (IsTarget k b i → ⊥) → Apart (d + 4 * i) target
     cells_apart k b d i old s live e l n = ⊎_elim
         (λ ek. ⊎_elim (same_block k b d i e n ek) (other_block k b d i old s live e l ek) (cases_eq b p.block))
-        (λ nk. other_data image k c (d + 4 * i) target formed nk (block_owned k b d i old s live e l) target_owned)
+        (λ nk. other_data image k c (d + 4 * i) target nk (block_owned k b d i old s live e l) target_owned)
         (cases_eq k c)
 
     same_length : (k : ℕ) → length (after_memory k) ≡ length (memory k)

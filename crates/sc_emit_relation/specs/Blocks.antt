@@ -2,6 +2,7 @@
 -- perform.
 use Rattle.sc_emit_relation.specs.Common.{Cell, ImageParts, Memory, Owned, Value, cells_at, data_end, data_start, word}
 use Rattle.sc_emit_relation.specs.Common.{zone_start}
+unfoldable use Rattle.sc_emit_relation.specs.Common.{are_data}
 use Rattle.sc_store.specs.Prelude.{ByteMemory as Bytes}
 use Rattle.std.specs.Prelude.{◌≡◌, ◌≢◌, ℕ, ◌+◌, ◌*◌, ◌%◌, ◌^◌, ◌<◌, ◌≤◌, ◌⊎◌, Bool, true, false, List, length, Option}
 use Rattle.std.specs.Prelude.{Ok, Some, slice_get}
@@ -48,7 +49,8 @@ pub record Placed (image : ImageParts) (floor k a words : ℕ) : Type 0 where
   pub aligned : a % 4 ≡ 0
   pub above : floor ≤ a
   pub low : data_start k ≤ a
-  pub high : a + 4 * words ≤ data_end image k
+  pub high : a + 4 * words ≤ data_end k
+  pub its : (i : ℕ) → i < words → are_data image k (a + 4 * i) 4 ≡ true
 
 -- the floor of a compartment is the frame of its latest open call, or its stack's top where it has none
 pub record BlocksMatch (image : ImageParts) (performs : ℕ → Bool) (floor : ℕ → ℕ) (inj : Injection) (memory : Memory)

@@ -11,3 +11,4 @@ pub use Rattle.sc_emit_relation.specs.Frames.{IsInPlace, own_words}
 pub use Rattle.sc_emit_relation.specs.Operators.{IsElement, IsSound}
 pub use Rattle.sc_emit_relation.specs.Stretches.{AllHonest, Came, Costs, Effect, Emits, Joint, Leads, Overflows}
 pub use Rattle.sc_emit_relation.specs.Stretches.{Protected, ReturnsValue, Setting, Settled, Standpoint, machine}
+pub use Rattle.sc_emit_relation.specs.Stretches.{world_at}

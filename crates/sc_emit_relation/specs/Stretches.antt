@@ -3,9 +3,10 @@ use Rattle.sc_emit_relation.specs.Common.{Addresses, AllBefore, CallTarget, Cell
 use Rattle.sc_emit_relation.specs.Common.{IsSteadyState}
 use Rattle.sc_emit_relation.specs.Common.{Memory, Piece, Registers, State as Meant, Traps, Value, Walks, at, last}
 use Rattle.sc_emit_relation.specs.Common.{stack_depth, stack_size, stack_top, step, word, zone_start}
-use Rattle.sc_emit_hart.specs.Prelude.{LacksRoom, TakesLast}
+use Rattle.sc_emit_hart.specs.Prelude.{LacksRoom, TakesLast, World}
 use Rattle.sc_store.specs.Prelude.{ByteMemory as Bytes}
 use Rattle.sc_image.specs.Prelude.{MachineState}
+use Rattle.sc_zone.specs.declared.span.Span.{Span}
 use Rattle.std.specs.Prelude.{◌≡◌, ◌≢◌, ℕ, suc, ◌+◌, ◌*◌, ◌<◌, ◌≤◌, ◌⊎◌, Bool, false, List, length, drop, Option, None}
 use Rattle.std.specs.Prelude.{Some, slice_index}
 use Rattle.sc_base.specs.declared.stop.TrapReason.TheVariants.{Owner}
@@ -33,6 +34,7 @@ pub record Joint : Type 0 where
   pub regs : Registers
   pub bytes : Bytes
   pub saved : List ℕ
+  pub zones : List (List Span)
   pub input : ℕ
 
 -- from where a stretch is seen: the active compartment, the open cross calls, the address from which on its stack
@@ -43,10 +45,19 @@ pub record Standpoint : Type 0 where
   pub bound : ℕ
   pub floor : ℕ → ℕ
 
--- the traces agree without a clause
+-- what the machine has besides its pc, its registers and its memory; the traces agree without a clause
+abbrev pub world_at : Standpoint → Joint → World
+world_at P x = record {
+  active = P.comp;
+  saved = x.saved;
+  zones = x.zones;
+  cross = P.cross;
+  input = x.input;
+  trace = x.meant.trace;
+}
+
 abbrev pub machine : Standpoint → Joint → MachineState
-machine P x = at x.pc x.regs x.bytes
-    (record { active = P.comp; saved = x.saved; cross = P.cross; input = x.input; trace = x.meant.trace })
+machine P x = at x.pc x.regs x.bytes (world_at P x)
 
 module _ (T : Setting) where
   -- the machine's run came to a state

@@ -50,6 +50,7 @@ module _ (T : Setting) (formed : IsWellFormed T.image) (inputs : All IsWord T.in
       pc = entry;
       active = to;
       saved = slice_set x.saved P.comp (x.regs sp);
+      zones = x.zones;
       memory = x.bytes;
       cross = opened ∷ P.cross;
       input = x.input;

@@ -79,13 +79,13 @@ pub use Rattle.sc_emit_hart.proofs.Steps.{jal, jalr, stay, then_go}
 pub use Rattle.sc_emit_hart.specs.Prelude.{CodeAt, Fetches, Owned, Registers, listed, put, words_from}
 unfoldable pub use Rattle.sc_emit_hart.specs.Prelude.{word}
 pub use Rattle.sc_emit_relation.proofs.Coming.{came_by}
-pub use Rattle.sc_emit_relation.proofs.Settling.{leads_moved, settled_moved}
+pub use Rattle.sc_emit_relation.proofs.Settling.{settled_moved}
 pub use Rattle.sc_emit_relation.proofs.Stretches.{emits_after, emits_here, leads_then, overflows_after, overflows_then}
 pub use Rattle.sc_emit_relation.specs.Prelude.{AllHonest, AreFloors, ArePassed, Begins, BlocksMatch, CallGives}
 pub use Rattle.sc_emit_relation.specs.Prelude.{CallStands, CallsFollow, ComesBack, Costs, Effect, Emits, FunctionGives}
 pub use Rattle.sc_emit_relation.specs.Prelude.{GivesValue, InCell, Injection, IsAddress, IsBase, IsLeft, Joint, Leads}
 pub use Rattle.sc_emit_relation.specs.Prelude.{LiveAt, Overflows, Placed, Protected, ReturnsValue, Setting, Settled}
-pub use Rattle.sc_emit_relation.specs.Prelude.{Standpoint, StandsFor, machine}
+pub use Rattle.sc_emit_relation.specs.Prelude.{Standpoint, StandsFor, machine, world_at}
 pub use Rattle.sc_emit_run_laws.specs.Common.{Blamed, Cross, Ended, Event, EventsOut, Export, ImageParts, Input, Main}
 pub use Rattle.sc_emit_run_laws.specs.Common.{Output, Own, Owner, Proto, TacFnTree, TacTree, TurnsOut, Value, Word}
 pub use Rattle.sc_emit_run_laws.specs.Prelude.{BodiesFollow, Departs, EntersBy, Finishes, GivesResults, HasCode}

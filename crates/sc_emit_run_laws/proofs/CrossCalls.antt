@@ -13,8 +13,8 @@ use Rattle.sc_emit_run_laws.proofs.Common.{is_some, is_word, jal, jalr_target, l
 use Rattle.sc_emit_run_laws.proofs.Common.{lt-ltb, machine, map, may_call, nat_lt, not, option_map, option_value}
 use Rattle.sc_emit_run_laws.proofs.Common.{overflows_then, pos, ra, ran, read_listed, refl, reg, run_in, setting}
 use Rattle.sc_emit_run_laws.proofs.Common.{settled_moved, slice_get, slice_index, sp, steps_emit, subst, suc, sym}
-use Rattle.sc_emit_run_laws.proofs.Common.{takes, then_go, then_then, true, word_at, word_back, word_in, wrapping, ℕ}
-use Rattle.sc_emit_run_laws.proofs.Common.{⊎_elim, ◌<◌, ◌==◌, ◌||◌, ◌∙◌, ◌≡◌, ◌≢◌, ◌≤◌, ◌⊎◌}
+use Rattle.sc_emit_run_laws.proofs.Common.{takes, then_go, then_then, true, word_at, word_back, word_in, world_at}
+use Rattle.sc_emit_run_laws.proofs.Common.{wrapping, ℕ, ⊎_elim, ◌<◌, ◌==◌, ◌||◌, ◌∙◌, ◌≡◌, ◌≢◌, ◌≤◌, ◌⊎◌}
 use Rattle.sc_image.specs.Prelude.{entered_export as image_export}
 use Rattle.sc_emit_run_laws.proofs.Across.{IsMade, across, opened, seen_across}
 use Rattle.sc_emit_run_laws.proofs.Made.{IsDone, comes_back, goes_across, low_is, settled_in, walks_in}
@@ -231,15 +231,8 @@ module _ {program : TacTree} {image : ImageParts} {turn_pays : ℕ} (built : IsB
       module _ (word : ℕ) (there : word_at image to address ≡ Some word) where
         walks_inside : Walks image inputs 1 (machine Q entering) (machine Q y)
         walks_inside =
-            jal image inputs entry entering.regs x.bytes
-            (record {
-              active = to;
-              saved = entering.saved;
-              cross = Q.cross;
-              input = x.input;
-              trace = entering.meant.trace;
-            }) 0 enters.imm address word (omega arith) enters.jump enters.leads
-            (code_inside image built.linked.formed to address word there).aligned there
+            jal image inputs entry entering.regs x.bytes (world_at Q entering) 0 enters.imm address word (omega arith)
+            enters.jump enters.leads (code_inside image built.linked.formed to address word there).aligned there
 
         walks : Walks image inputs 2 (machine P x) (machine Q y)
         walks = then_go image inputs (walks_in made) walks_inside

@@ -33,6 +33,7 @@ module _ (T : Setting) (formed : IsWellFormed T.image) (inputs : All IsWord T.in
       pc = x.pc + 4;
       active = P.comp;
       saved = x.saved;
+      zones = x.zones;
       memory = x.bytes;
       cross = P.cross;
       input = suc x.input;
@@ -104,6 +105,7 @@ module _ (T : Setting) (formed : IsWellFormed T.image) (inputs : All IsWord T.in
       pc = x.pc + 4;
       active = P.comp;
       saved = x.saved;
+      zones = x.zones;
       memory = x.bytes;
       cross = P.cross;
       input = x.input;

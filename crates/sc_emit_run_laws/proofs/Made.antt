@@ -110,6 +110,7 @@ module _ {T : Setting} {formed : IsWellFormed T.image} {inputs : All IsWord T.in
         pc = x.pc + 4;
         active = P.comp;
         saved = slice_set w.saved to (slice_index x.saved to);
+        zones = w.zones;
         memory = w.bytes;
         cross = P.cross;
         input = w.input;

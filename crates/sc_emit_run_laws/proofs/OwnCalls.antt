@@ -5,8 +5,8 @@ use Rattle.sc_emit_run_laws.proofs.Common.{Joint, List, Option, Overflows, Own, 
 use Rattle.sc_emit_run_laws.proofs.Common.{Standpoint, StandsFor, State as Meant, Stopped, Value, Walks, a0, add_word}
 use Rattle.sc_emit_run_laws.proofs.Common.{ap, arith, came_by, code_inside, false, inl, inr, jal, jalr, jalr_target}
 use Rattle.sc_emit_run_laws.proofs.Common.{machine, pos, put, put_here, put_there, ra, refl, sp, subst, suc, sym}
-use Rattle.sc_emit_run_laws.proofs.Common.{then_go, walks_steady, word_at, word_of, ℕ, ℤ, ⊎_elim, ◌%◌, ◌*◌, ◌+◌, ◌/◌}
-use Rattle.sc_emit_run_laws.proofs.Common.{◌<◌, ◌^◌, ◌∙◌, ◌≡◌, ◌⊎◌}
+use Rattle.sc_emit_run_laws.proofs.Common.{then_go, walks_steady, word_at, word_of, world_at, ℕ, ℤ, ⊎_elim, ◌%◌, ◌*◌}
+use Rattle.sc_emit_run_laws.proofs.Common.{◌+◌, ◌/◌, ◌<◌, ◌^◌, ◌∙◌, ◌≡◌, ◌⊎◌}
 use Rattle.sc_emit_run_laws.proofs.Turning.{GoesIn, turned, emits_in, overflows_in, costs_back}
 use Rattle.sc_base.proofs.Bools.{some_value}
 
@@ -30,8 +30,8 @@ module _ (T : Setting) (formed : IsWellFormed T.image) (inputs : All IsWord T.in
     walks_in : Walks T.image T.inputs 1 (machine P x) (machine P entered)
     walks_in =
         jal T.image T.inputs x.pc x.regs x.bytes
-        (record { active = P.comp; saved = x.saved; cross = P.cross; input = x.input; trace = x.meant.trace }) ra imm
-        address word (omega arith) jumps leads_to (code_inside T.image formed P.comp address word there).aligned there
+        (world_at P x) ra imm address word (omega arith) jumps leads_to
+        (code_inside T.image formed P.comp address word there).aligned there
 
     goes_in : GoesIn T P P x entered 1
     goes_in = record { walks = walks_in; turn = few; some = omega arith; few = omega arith }
@@ -82,14 +82,7 @@ module _ (T : Setting) (formed : IsWellFormed T.image) (inputs : All IsWord T.in
 
         walks_back : Walks T.image T.inputs 1 (machine P g.y) (machine P z)
         walks_back =
-            jalr T.image T.inputs g.y.pc g.y.regs g.y.bytes
-            (record {
-              active = P.comp;
-              saved = g.y.saved;
-              cross = P.cross;
-              input = g.y.input;
-              trace = g.y.meant.trace;
-            }) 0 ra (pos 0)
+            jalr T.image T.inputs g.y.pc g.y.regs g.y.bytes (world_at P g.y) 0 ra (pos 0)
             (x.pc + 4) word_after.0 (omega arith) (omega arith) g.jump
             (back_to (g.y.regs ra) (x.pc + 4) g.ra (omega (arith, place_after.low))
             (omega (arith, place_after.aligned))) place_after.aligned word_after.1

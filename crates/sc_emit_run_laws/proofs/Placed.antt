@@ -121,8 +121,10 @@ module _ (image : ImageParts) (inputs : List ℕ) (formed : IsWellFormed image) 
     stands_next : StandsAfter (step image inputs s)
     stands_next = step_of image inputs formed s StandsAfter (record {
       same = λ a owned. refl;
+      zone = refl;
       traps = λ reason. tt;
       quiet = λ regs pc is. record { place = stands.place };
+      rezones = λ regs pc spans is. record { place = stands.place };
       stores = λ op a word allowed. record { place = stands.place };
       calls = λ to index target at may. record {
         place = λ at following. same_at at _

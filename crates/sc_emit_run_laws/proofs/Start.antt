@@ -5,11 +5,11 @@ use Rattle.sc_emit_run_laws.proofs.Common.{Registers, Setting, Settled, Some, St
 use Rattle.sc_emit_run_laws.proofs.Common.{TacTree, [], and_parts, ap, are_headed, arith, code_function, code_globals}
 use Rattle.sc_emit_run_laws.proofs.Common.{cond, count, eqb-true, false, first_state, function_entered, functions_in}
 use Rattle.sc_emit_run_laws.proofs.Common.{functions_or_none, gate, has_head, if◌then◌else◌, length, lt-ltb, ltb-true}
-use Rattle.sc_emit_run_laws.proofs.Common.{main_entered, nat_lt, not, option_map, or_parts, position, position-cons}
-use Rattle.sc_emit_run_laws.proofs.Common.{refl, runs_are_steady, same_Some, same_entry, setting, slice_get}
-use Rattle.sc_emit_run_laws.proofs.Common.{slice_index, stack_top, stack_tops, start_memory, subst, suc, sym, true}
-use Rattle.sc_emit_run_laws.proofs.Common.{truth, word, wrapping, zero, zero-add, ℕ, ◌*◌, ◌+◌, ◌<◌, ◌==◌, ◌||◌, ◌∙◌}
-use Rattle.sc_emit_run_laws.proofs.Common.{◌∷◌, ◌≡◌, ◌≤◌, ◌⊎◌}
+use Rattle.sc_emit_run_laws.proofs.Common.{main_entered, map, nat_lt, not, option_map, or_parts, position}
+use Rattle.sc_emit_run_laws.proofs.Common.{position-cons, refl, runs_are_steady, same_Some, same_entry, setting}
+use Rattle.sc_emit_run_laws.proofs.Common.{slice_get, slice_index, stack_top, stack_tops, start_memory, subst, suc, sym}
+use Rattle.sc_emit_run_laws.proofs.Common.{true, truth, word, wrapping, zero, zero-add, ℕ, ◌*◌, ◌+◌, ◌<◌, ◌==◌, ◌||◌}
+use Rattle.sc_emit_run_laws.proofs.Common.{◌∙◌, ◌∷◌, ◌≡◌, ◌≤◌, ◌⊎◌}
 use Rattle.sc_core.specs.declared.value.Cell.TheVariants as cell
 use Rattle.sc_image.specs.declared.parts.CompPart.{CompPart}
 use Rattle.sc_emit_run_laws.proofs.Sections.{all_at, position_at}
@@ -140,6 +140,7 @@ module _ {program : TacTree} {image : ImageParts} {turn_pays : ℕ} (built : IsB
     regs = first_regs (stack_top image.main);
     bytes = start_memory image;
     saved = stack_tops 0 image.comps;
+    zones = map (λ comp. []) image.comps;
     input = 0;
   }
 

@@ -9,15 +9,17 @@ use Rattle.sc_emit_run_laws.proofs.Common.{UnknownComes, UnknownGives, Value, Wa
 use Rattle.sc_emit_run_laws.proofs.Common.{ap, append-nil, append_assoc, ap₂, arguments, arith, at_start, bodies}
 use Rattle.sc_emit_run_laws.proofs.Common.{call_cross, came_by, cases_lt, code_denotations, departing, drop, drop_next}
 use Rattle.sc_emit_run_laws.proofs.Common.{emit_event, emits_after, emits_here, entered_by, export_params, false}
-use Rattle.sc_emit_run_laws.proofs.Common.{given_back, has_result, if◌then◌else◌, inl, input_at, inr, leads_moved}
-use Rattle.sc_emit_run_laws.proofs.Common.{leads_then, legal, length, listed, machine, nat_lt, next_input, not}
-use Rattle.sc_emit_run_laws.proofs.Common.{on_input, on_output, on_return, option_value, overflows_after}
-use Rattle.sc_emit_run_laws.proofs.Common.{overflows_then, read_input, read_listed, refl, reg, roles_in, setting}
-use Rattle.sc_emit_run_laws.proofs.Common.{settled_moved, slice_index, stands_after_all, start, step, subst, suc, sym}
-use Rattle.sc_emit_run_laws.proofs.Common.{true, turn, walk_one, walks_steady, with_pc, word, wrapping, written, zero}
-use Rattle.sc_emit_run_laws.proofs.Common.{ℕ, ◌*◌, ◌++◌, ◌+◌, ◌-◌, ◌<◌, ◌||◌, ◌∙◌, ◌∷◌, ◌≡◌, ◌≢◌, ◌≤◌, ◌⊎◌}
+use Rattle.sc_emit_run_laws.proofs.Common.{given_back, has_result, if◌then◌else◌, inl, input_at, inr, leads_then, legal}
+use Rattle.sc_emit_run_laws.proofs.Common.{length, listed, machine, nat_lt, next_input, not, on_input, on_output}
+use Rattle.sc_emit_run_laws.proofs.Common.{on_return, option_value, overflows_after, overflows_then, read_input}
+use Rattle.sc_emit_run_laws.proofs.Common.{read_listed, refl, reg, roles_in, setting, slice_index, stands_after_all}
+use Rattle.sc_emit_run_laws.proofs.Common.{start, step, subst, suc, sym, true, turn, walk_one, walks_steady, with_pc}
+use Rattle.sc_emit_run_laws.proofs.Common.{word, wrapping, written, zero, ℕ, ◌*◌, ◌++◌, ◌+◌, ◌-◌, ◌<◌, ◌||◌, ◌∙◌, ◌∷◌}
+use Rattle.sc_emit_run_laws.proofs.Common.{◌≡◌, ◌≢◌, ◌≤◌, ◌⊎◌}
 use Rattle.sc_store.specs.Prelude.{ByteMemory as Bytes}
+use Rattle.sc_zone.specs.declared.span.Span.{Span}
 use Rattle.sc_image.specs.Prelude.{MachineState, on_call, entered_export as image_export, may_call_export as may_make}
+use Rattle.sc_emit_relation.proofs.Settling.{leads_rezoned, settled_rezoned}
 use Rattle.sc_emit_relation.proofs.Storing.{block_owned}
 use Rattle.sc_emit_run_laws.proofs.Along.{walk_prefix}
 use Rattle.sc_emit_run_laws.proofs.Answering.{bodies_go}
@@ -128,14 +130,14 @@ module _ {program : TacTree} {image : ImageParts} {turn_pays : ℕ} (built : IsB
     comes_after x y piece settled l (inr o) = inr (overflows_after T P x y 0 0 piece l o)
 
     -- A SILENT STEP
-    module _ (x : Joint) (settled : Settled T P x) (regs : List ℕ) (pc : ℕ) (after : Bytes)
-        (keeps : KeepsOthers image P.comp x.bytes after) (goes : step image inputs (machine P x) ≡
-        Steps (record (machine P x) { regs = regs; pc = pc; memory = after })) where
+    module _ (x : Joint) (settled : Settled T P x) (regs : List ℕ) (pc : ℕ) (after : Bytes) (zones : List (List Span))
+        (keeps : KeepsOthers image P.comp x.bytes after x.zones zones) (goes : step image inputs (machine P x) ≡
+        Steps (record (machine P x) { regs = regs; pc = pc; memory = after; zones = zones })) where
       abbrev moved : Joint
-      moved = record x { pc = pc; regs = λ r. slice_index regs r; bytes = after }
+      moved = record x { pc = pc; regs = λ r. slice_index regs r; bytes = after; zones = zones }
 
       abbrev next : MachineState
-      next = record (machine P x) { regs = regs; pc = pc; memory = after }
+      next = record (machine P x) { regs = regs; pc = pc; memory = after; zones = zones }
 
       next_steady : IsSteadyState image next
       next_steady =
@@ -144,7 +146,7 @@ module _ {program : TacTree} {image : ImageParts} {turn_pays : ℕ} (built : IsB
 
       next_is : machine P moved ≡ next
       next_is =
-          ap (λ (regs : List ℕ). record (machine P x) { regs = regs; pc = pc; memory = after })
+          ap (λ (regs : List ℕ). record (machine P x) { regs = regs; pc = pc; memory = after; zones = zones })
           (listed_is regs next_steady.regs next_steady.zero)
 
       walks_moved : Walks image inputs 1 (machine P x) (machine P moved)
@@ -153,15 +155,15 @@ module _ {program : TacTree} {image : ImageParts} {turn_pays : ℕ} (built : IsB
 
       settled_silent : Settled T P moved
       settled_silent =
-          settled_moved T built.linked.formed words P x 1 pc (λ r. slice_index regs r) after settled
+          settled_rezoned T built.linked.formed words P x 1 pc (λ r. slice_index regs r) after zones settled
           (λ k b a i cells honest live at below.
-          keeps.word_is k (a + 4 * i) (other_than k honest) (block_owned built.linked.formed settled.blocks k b a i
-          cells honest live at below)) walks_moved
+          keeps.word_is k (a + 4 * i) (other_than k honest)
+          (block_owned settled.blocks k b a i cells honest live at below)) walks_moved
 
       leads_silent : Leads T P x moved 0 0
       leads_silent =
           leads_free T (never x settled) P x moved (1 + 0) 0
-          (leads_moved T built.linked.formed words P x 1 0 pc (λ r. slice_index regs r) after
+          (leads_rezoned T built.linked.formed words P x 1 0 pc (λ r. slice_index regs r) after zones
           (λ k q p. keeps.word_is k q (other_than k p.honest) p.guard.owned) walks_moved)
 
     -- A STEP THAT EMITS AN EVENT
@@ -467,12 +469,12 @@ module _ {program : TacTree} {image : ImageParts} {turn_pays : ℕ} (built : IsB
           UnknownComes program roles T P x (does x.meant)
       by_step m x settled next goes rest later (traps reason is) =
           let clash : Steps next ≡ Traps reason = sym goes ∙ is in cc clash
-      by_step m x settled next goes rest later (moves regs pc after keeps is) =
-          let y : Joint = moved x settled regs pc after keeps is in
+      by_step m x settled next goes rest later (moves regs pc after zones keeps is) =
+          let y : Joint = moved x settled regs pc after zones keeps is in
           let to_y : next ≡ machine P y =
-          same_state next _ (sym goes ∙ is) ∙ sym (next_is x settled regs pc after keeps is) in
-          comes_after x y (does x.meant) settled (leads_silent x settled regs pc after keeps is)
-          (later y (settled_silent x settled regs pc after keeps is)
+          same_state next _ (sym goes ∙ is) ∙ sym (next_is x settled regs pc after zones keeps is) in
+          comes_after x y (does x.meant) settled (leads_silent x settled regs pc after zones keeps is)
+          (later y (settled_silent x settled regs pc after zones keeps is)
           (subst (λ s. Walks image inputs m s observed.last) to_y rest))
       by_step m x settled next goes rest later (calls to index target export may is) =
           let emits_trace = ap (λ s. s.trace) (same_state next _ (sym goes ∙ is)) in

@@ -1,30 +1,24 @@
--- What a step of a compartment comes to, whatever its code is: it touches no data of other compartments.
+-- What a step of a compartment comes to, whatever its code is: it touches no data and no zone of other compartments.
 use Rattle.sc_emit_run_laws.proofs.Common.{Goes, ImageParts, IsWellFormed, List, Outcome, Owned, Registers, Some, Traps}
-use Rattle.sc_emit_run_laws.proofs.Common.{[], ap, ap₂, are_data, arith, on_input, length, listed, may_input}
-use Rattle.sc_emit_run_laws.proofs.Common.{may_output}
-use Rattle.sc_emit_run_laws.proofs.Common.{on_output, export_params, refl, on_return, slice_index, step, step_of}
-use Rattle.sc_emit_run_laws.proofs.Common.{store_size}
-use Rattle.sc_emit_run_laws.proofs.Common.{suc, sym, true, with_pc, word, words_from, zero, ℕ, ◌+◌, ◌<◌, ◌∙◌, ◌∷◌, ◌≡◌}
-use Rattle.sc_emit_run_laws.proofs.Common.{◌≢◌}
+use Rattle.sc_emit_run_laws.proofs.Common.{[], ap, ap₂, are_data, arith, export_params, get_or-set_other, length}
+use Rattle.sc_emit_run_laws.proofs.Common.{listed, may_input, may_output, on_input, on_output, on_return, refl}
+use Rattle.sc_emit_run_laws.proofs.Common.{slice_index, slice_index_or, slice_set, step, step_of, store_size, suc, sym}
+use Rattle.sc_emit_run_laws.proofs.Common.{true, with_pc, word, words_from, zero, ℕ, ◌+◌, ◌∙◌, ◌∷◌, ◌≡◌, ◌≢◌}
 use Rattle.sc_store.specs.Prelude.{ByteMemory as Bytes, with_bytes}
 use Rattle.sc_image.specs.Prelude.{MachineState, on_call, entered_export, may_call_export}
-use Rattle.sc_image.proofs.Memory.{allowed_data, within_data}
+use Rattle.sc_image.proofs.Memory.{allowed_data, one_of}
+use Rattle.sc_zone.specs.declared.span.Span.{Span}
 use Rattle.sc_base.specs.declared.stop.TrapReason.{TrapReason}
 use Rattle.sc_store.proofs.Words.{load_of-same, stored-apart}
 use Rattle.sc_image.proofs.Isolation.{apart}
 
 -- MEMORY
 
--- the words of all other compartments are as they were
-pub record KeepsOthers (image : ImageParts) (comp : ℕ) (bytes after : Bytes) : Type 0 where
+-- the words of all other compartments and the blocks of their zones are as they were
+pub record KeepsOthers (image : ImageParts) (comp : ℕ) (bytes after : Bytes) (zones later : List (List Span)) :
+    Type 0 where
   pub word_is : (k q : ℕ) → comp ≢ k → Owned image k q → word after q ≡ word bytes q
-
-pub kept_all : (image : ImageParts) (comp : ℕ) (bytes : Bytes) → KeepsOthers image comp bytes bytes
-kept_all image comp bytes = record { word_is = λ k q other owned. refl }
-
-byte_owned : (image : ImageParts) (k q i : ℕ) → Owned image k q → i < 4 → are_data image k (q + i) 1 ≡ true
-byte_owned image k q i owned h =
-    within_data image k (q + i) 1 (omega arith) (omega (arith, owned.low)) (omega (arith, owned.high, h))
+  pub zone_is : (k : ℕ) → comp ≢ k → slice_index_or later k [] ≡ slice_index_or zones k []
 
 -- a store in the own data
 stored_else : (image : ImageParts) (comp a size value k q : ℕ) (bytes : Bytes) → IsWellFormed image →
@@ -34,14 +28,15 @@ unfolding word
 stored_else image comp a size value k q bytes formed mine other owned =
     load_of-same (with_bytes bytes a size value) bytes q 4
     (λ i h. stored-apart bytes a size value (q + i)
-    (λ from upto. apart image comp k a size (q + i) formed other mine (byte_owned image k q i owned h) from upto))
+    (λ from upto. apart image comp k a size (q + i) formed other mine (one_of image k q 4 i owned.its h) from upto))
 
 -- STEPS
 
 pub data StepIs (image : ImageParts) (inputs : List ℕ) (s : MachineState) (outcome : Outcome) : Type 0 where
   traps : (reason : TrapReason) → outcome ≡ Traps reason → StepIs image inputs s outcome
-  moves : (regs : List ℕ) (pc : ℕ) (after : Bytes) → KeepsOthers image s.active s.memory after →
-      outcome ≡ Goes (record s { regs = regs; pc = pc; memory = after }) → StepIs image inputs s outcome
+  moves : (regs : List ℕ) (pc : ℕ) (after : Bytes) (zones : List (List Span)) →
+      KeepsOthers image s.active s.memory after s.zones zones →
+      outcome ≡ Goes (record s { regs = regs; pc = pc; memory = after; zones = zones }) → StepIs image inputs s outcome
   calls : (to index target : ℕ) → entered_export image to target ≡ Some index → may_call_export image s.active to index
       ≡ true →
       outcome ≡ Goes (on_call s to index (export_params image to index) target) → StepIs image inputs s outcome
@@ -55,12 +50,20 @@ pub step_is : (image : ImageParts) (inputs : List ℕ) → IsWellFormed image �
     StepIs image inputs s (step image inputs s)
 step_is image inputs formed s = step_of image inputs formed s (StepIs image inputs s) (record {
   same = λ a owned. refl;
+  zone = refl;
   traps = λ reason. traps reason refl;
-  quiet = λ regs pc is. moves regs pc s.memory (kept_all image s.active s.memory) refl;
-  stores = λ op a value allowed. moves s.regs (s.pc + 4) (with_bytes s.memory a (store_size op) value)
+  quiet = λ regs pc is. moves regs pc s.memory s.zones
+      (record { word_is = λ k q other owned. refl; zone_is = λ k other. refl }) refl;
+  stores = λ op a value allowed. moves s.regs (s.pc + 4) (with_bytes s.memory a (store_size op) value) s.zones
       (record {
         word_is = λ k q other owned. stored_else image s.active a (store_size op) value k q s.memory formed
             (allowed_data image s.active (store_size op) a allowed) other owned;
+        zone_is = λ k other. refl;
+      }) refl;
+  rezones = λ regs pc spans is. moves regs pc s.memory (slice_set s.zones s.active spans)
+      (record {
+        word_is = λ k q other owned. refl;
+        zone_is = λ k other. get_or-set_other s.zones s.active k spans [] (λ same. other (sym same));
       }) refl;
   calls = λ to index target at may. calls to index target at may refl;
   returns = leaves refl;

@@ -5,7 +5,7 @@ use Rattle.sc_emit_run_laws.specs.Common.{code_globals, cross_call_fits, export_
 use Rattle.sc_emit_run_laws.specs.Common.{imports, is_function, is_input, is_output, linked, may_call_export, may_input}
 use Rattle.sc_emit_run_laws.specs.Common.{may_output, own_call_fits, export_params, stack_top, start, start_memory}
 use Rattle.sc_word.specs.Prelude.{add_word, word_of}
-use Rattle.sc_image.specs.Prelude.{entered_export as image_export}
+use Rattle.sc_image.specs.Prelude.{entered_export as image_export, zone_start}
 use Rattle.sc_emit_hart.specs.Prelude.{CodeAt, Fetches, word}
 use Rattle.sc_emit.specs.Prelude.{IsCodeAddress, IsEmitted}
 use Rattle.std.specs.Prelude.{◌≡◌, ◌≢◌, ℕ, ℤ, ◌+◌, ◌*◌, ◌<◌, ◌≤◌, ◌⊎◌, Bool, true, false, not, ◌&&◌, ◌||◌, ◌==◌, nat_lt}
@@ -79,9 +79,10 @@ pub record EntersBy (image : ImageParts) (comp entry function : ℕ) : Type 0 wh
   pub jump : Fetches image comp entry (Jal 0 imm)
   pub leads : add_word entry (word_of imm) ≡ function
 
--- a global of these cells lies at its place, above the stack, and holds its words at the start
+-- a global of these cells lies at its place, between the stack and the zone, and holds its words at the start
 pub record GlobalStands (image : ImageParts) (comp address : ℕ) (cells : List Cell) : Type 0 where
   pub placed : Placed image (stack_top comp) comp address (length cells)
+  pub below : address + 4 * length cells ≤ zone_start comp
   pub is_address : IsAddress address
   pub holds : (i : ℕ) (c : Cell) → slice_get cells i ≡ Some c →
       InCell (λ b. None) (word (start_memory image) (address + 4 * i)) c
