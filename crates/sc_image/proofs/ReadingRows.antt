@@ -1,10 +1,10 @@
 -- What is read from the bytes of small images, and why other bytes are none.
 use Rattle.sc_image.proofs.Common.{Compartment, Contents, Count, Err, Exports, ImageParts, ImportPart, Imports, List}
-use Rattle.sc_image.proofs.Common.{Mark, None, Ok, Some, Start, Version, Whole, [], bad, code_at, codes, read_comp}
-use Rattle.sc_image.proofs.Common.{comp_name_at, read_exports, false, fields_at, globals_at, image_bytes}
-use Rattle.sc_image.proofs.Common.{image_in_version, image_in, import_at, imports_at, is_name, keeps_rules, map}
-use Rattle.sc_image.proofs.Common.{read_name, nat_le, number_that, parts_in_version, range_with_len, refl, replicate}
-use Rattle.sc_image.proofs.Common.{take, true, word_at, ℕ, ◌++◌, ◌∷◌, ◌≡◌}
+use Rattle.sc_image.proofs.Common.{Mark, None, Ok, Some, Start, Version, Whole, [], bad, code_at, codes, comp_name_at}
+use Rattle.sc_image.proofs.Common.{false, fields_at, globals_at, image_bytes, image_in, import_at, imports_at}
+use Rattle.sc_image.proofs.Common.{is_name, keeps_rules, map, nat_le, number_that, parts_at, range_with_len}
+use Rattle.sc_image.proofs.Common.{read_comp, read_exports, read_name, refl, replicate, take, true, word_at, ℕ, ◌++◌}
+use Rattle.sc_image.proofs.Common.{◌∷◌, ◌≡◌}
 use Rattle.sc_image.specs.Reading.{read_export}
 use Rattle.sc_image.proofs.FileFields.{comp_with, export_with}
 
@@ -24,7 +24,7 @@ prefixes : (map (λ k. bad (take k seven)) (range_with_len 0 47) ≡
     (replicate 2 (Some Exports) ++ (replicate 2 (Some Imports) ++ replicate 28 (Some Contents)))))))) ×
     (bad seven ≡ None) ×
     (bad (seven ++ 0 ∷ []) ≡ Some Whole)
-unfolding image_in_version parts_in_version read_comp comp_name_at read_name read_exports imports_at code_at globals_at
+unfolding image_in parts_at read_comp comp_name_at read_name read_exports imports_at code_at globals_at
     fields_at is_name word_at
 prefixes = (refl, refl, refl)
 
@@ -34,7 +34,8 @@ starting version count main entry = 0x53 ∷ 0x43 ∷ 0x49 ∷ 0x4d ∷ version 
     from_start
 
 starts : (bad (0x53 ∷ 0x43 ∷ 0x49 ∷ 0x4e ∷ []) ≡ Some Mark) ×
-    (bad (starting 2 1 0 0) ≡ Some Version) ×
+    (bad (starting 0 1 0 0) ≡ Some Version) ×
+    (bad (starting 3 1 0 0) ≡ Some Version) ×
     (bad (starting 1 0 0 0) ≡ Some Count) ×
     (bad (starting 1 33 0 0) ≡ Some Count) ×
     (bad (starting 1 32 31 0) ≡ Some Compartment) ×
@@ -43,7 +44,7 @@ starts : (bad (0x53 ∷ 0x43 ∷ 0x49 ∷ 0x4e ∷ []) ≡ Some Mark) ×
     (bad (starting 1 1 0 20) ≡ Some Whole) ×
     (bad (starting 1 1 0 2) ≡ Some Whole) ×
     (bad (starting 1 1 0 16) ≡ None)
-unfolding image_in_version parts_in_version read_comp comp_name_at read_name read_exports imports_at code_at globals_at
+unfolding image_in parts_at read_comp comp_name_at read_name read_exports imports_at code_at globals_at
     fields_at is_name word_at
 starts = (refl, refl, refl, refl, refl, refl, refl, refl, refl, refl)
 
@@ -105,7 +106,7 @@ rules = (refl, refl, refl, refl, refl, refl, refl, refl, refl)
 -- an image with every table is read from its bytes
 reads_all : image_in (image_bytes (pair (import 1 0 ∷ import 1 1 ∷ []) (codes "B") 0x01100000 0x01100004)) ≡
     Ok (pair (import 1 0 ∷ import 1 1 ∷ []) (codes "B") 0x01100000 0x01100004)
-unfolding image_in_version parts_in_version read_comp comp_name_at read_name read_exports read_export imports_at
+unfolding image_in parts_at read_comp comp_name_at read_name read_exports read_export imports_at
     import_at
     code_at globals_at fields_at is_name word_at
 reads_all = refl
