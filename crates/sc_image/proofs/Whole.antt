@@ -12,11 +12,11 @@ use Rattle.sc_image.proofs.Common.{distinct_count-from_IsDistinct, eq-eqb, eqb-t
 use Rattle.sc_image.proofs.Common.{false_from_ne_true, flags, get_or_default, get_or_from_slice_get, image_bytes}
 use Rattle.sc_image.proofs.Common.{image_in, imports_keep, is_entry, is_importable, is_same_import, is_same_name}
 use Rattle.sc_image.proofs.Common.{is_some, keeps_rules, latest_version, length, list_all, little_bytes, lit≤, map}
-use Rattle.sc_image.proofs.Common.{most_flags, nat_lt, nat_tests, nil_from_length, not, not_from_Decides}
+use Rattle.sc_image.proofs.Common.{mark_at, most_flags, nat_lt, nat_tests, nil_from_length, not, not_from_Decides}
 use Rattle.sc_image.proofs.Common.{option_map_or, parts_at, parts_bytes, read_cause, recursion_from_All, refl}
 use Rattle.sc_image.proofs.Common.{same_from_decides, slice_get, slice_get_within, stretch, subst, suc, sym, true}
-use Rattle.sc_image.proofs.Common.{unsigned_Decides, word_at, zero, ℕ, ◌&&◌, ◌*◌, ◌++◌, ◌+◌, ◌-◌, ◌/◌, ◌<◌, ◌==◌, ◌^◌}
-use Rattle.sc_image.proofs.Common.{◌∙◌, ◌∷◌, ◌≡◌, ◌≤◌}
+use Rattle.sc_image.proofs.Common.{unsigned_Decides, version_at, word_at, zero, ℕ, ◌&&◌, ◌*◌, ◌++◌, ◌+◌, ◌-◌, ◌/◌}
+use Rattle.sc_image.proofs.Common.{◌<◌, ◌==◌, ◌^◌, ◌∙◌, ◌∷◌, ◌≡◌, ◌≤◌}
 use Rattle.sc_image.proofs.Fields.{IsBytes, bytes_fit, bind_ok, good_ok}
 use Rattle.sc_image.proofs.Words.{some_is}
 use Rattle.sc_image.proofs.FileFields.{FitsExport, FitsImport, FitsComp, FitsParts, mark_field}
@@ -282,20 +282,26 @@ is_read bytes image fits e =
     let whole = parts.0.parts ∙ ap (λ rest. parts_bytes a.0.0 ++ rest) none ∙ append-nil _ in
     let after = version.0.parts ∙ ap (λ rest. little_bytes 2 v.0.0 ++ rest) whole in
     let all = mark.0.parts ∙ ap (λ rest. m.0.0 ++ rest) after ∙
-    ap (λ text. text ++ little_bytes 2 v.0.0 ++ parts_bytes a.0.0) mark.1 in
-    subst (λ x. IsWellFormed x × AreBytesOf x bytes) g.1
-    (whole_is v.0.0 a.0.0 parts.1 tests.1, record {
-      version = v.0.0;
-      some = version.1.0;
-      known = version.1.1;
-      without_heap = λ first. all_by _ _ (λ c comp at.
-          no_heap v.0.0 comp first (comp_there v.0.0 a.0.0 c comp parts.1 at).flags);
-      are = all;
-    })
+    ap (λ text. text ++ (little_bytes 2 v.0.0 ++ parts_bytes a.0.0)) mark.1 in
+    subst (λ x. IsWellFormed x × AreBytesOf x bytes) g.1 (
+      whole_is v.0.0 a.0.0 parts.1 tests.1,
+      record {
+        version = v.0.0;
+        some = version.1.0;
+        known = version.1.1;
+        without_heap = λ first. all_by _ _ (λ c comp at.
+            no_heap v.0.0 comp first (comp_there v.0.0 a.0.0 c comp parts.1 at).flags);
+        are = all;
+      },
+    )
 
-pub parts_are_few : (version : ℕ) (bytes : List ℕ) (parts : ImageParts) (rest : List ℕ) → IsBytes bytes →
-    parts_at version bytes ≡ Ok (parts, rest) → length parts.comps ≤ 32
-parts_are_few version bytes parts rest fits e = ((parts_field version).takes bytes parts rest fits e).1.few
+pub parts_are_few : (bytes marked versioned rest : List ℕ) (mark : List ℕ) (version : ℕ) (parts : ImageParts) →
+    IsBytes bytes → mark_at bytes ≡ Ok (mark, marked) → version_at marked ≡ Ok (version, versioned) →
+    parts_at version versioned ≡ Ok (parts, rest) → length parts.comps ≤ 32
+parts_are_few bytes marked versioned rest mark version parts fits first second third =
+    let after_mark = (mark_field.takes bytes mark marked fits first).0.rest_fits in
+    let after_version = (version_field.takes marked version versioned after_mark second).0.rest_fits in
+    ((parts_field version).takes versioned parts rest after_version third).1.few
 
 -- bytes of an image are read as it
 pub is_read_again : (image : ImageParts) (bytes : List ℕ) → IsWellFormed image → AreBytesOf image bytes →

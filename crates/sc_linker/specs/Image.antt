@@ -79,6 +79,7 @@ linked_part interfaces comp interface section codes = record {
   name = interface.name;
   input = imports interfaces comp is_input;
   output = imports interfaces comp is_output;
+  heap = false;
   exports = export_parts comp 0 interface.exports;
   imports = flat_map import_part interface.imports;
   code = map word_of (section_code comp (exports_in (comp_at interfaces comp)) section codes);
