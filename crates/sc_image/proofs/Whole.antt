@@ -314,14 +314,18 @@ is_read_again image bytes formed are =
     (parts_field are.version).again image [] (parts_fit are.version image formed are.without_heap) in
     ap image_in are.are ∙ rw (mark, version, parts, rules_are_kept image formed) refl
 
-pub written_is_read : WrittenIsRead
-written_is_read image formed = is_read_again image (image_bytes image) formed (record {
+-- what is written of an image are its bytes
+pub are_written : (image : ImageParts) → AreBytesOf image (image_bytes image)
+are_written image = record {
   version = latest_version;
   some = lit≤ tt;
   known = lit≤ tt;
   without_heap = λ first. let never = first in cc never;
   are = refl;
-})
+}
+
+pub written_is_read : WrittenIsRead
+written_is_read image formed = is_read_again image (image_bytes image) formed (are_written image)
 
 pub one_image_each : BytesNameOneImage
 one_image_each bytes one other formed also are same =
