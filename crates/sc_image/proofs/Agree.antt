@@ -1,18 +1,16 @@
 -- While a compartment is active, images that agree for it have the same step.
-use Rattle.sc_image.proofs.Common.{AgreeFor, Auipc, BadCall, BadJump, Bool, Branch, Breakpoint, Crossing, Ebreak, Ecall}
-use Rattle.sc_image.proofs.Common.{Fence, Goes, ImageParts, Instr, Jal, Jalr, List, Load, Lui, ByteMemory, NoImport}
-use Rattle.sc_image.proofs.Common.{None}
-use Rattle.sc_image.proofs.Common.{Op, OpImm, Option, Outcome, Shift, Some, MachineState, Store, Traps, Upper, [], a7}
-use Rattle.sc_image.proofs.Common.{add_word, ap, are_data, by_owner, on_call, jump_outside, comp_of_code, compares}
-use Rattle.sc_image.proofs.Common.{data_of}
-use Rattle.sc_image.proofs.Common.{decoded, execute, execute_by, entered_export, export_called, false, flat_map, gate}
-use Rattle.sc_image.proofs.Common.{has_result, if_decoded, if_fetched, if◌then◌else◌, on_input, is_some, jalr_target}
-use Rattle.sc_image.proofs.Common.{jump}
-use Rattle.sc_image.proofs.Common.{jump_by, kept_by, leaves, load_by, load_size, may_call_export, nat_eq, next}
-use Rattle.sc_image.proofs.Common.{on_output, own}
-use Rattle.sc_image.proofs.Common.{export_params, ra, refl, reg, on_return, on_return_to, saved_sp, step, step_by}
-use Rattle.sc_image.proofs.Common.{store_by}
-use Rattle.sc_image.proofs.Common.{store_size, subst, sym, true, word_at, word_of, ℕ, ◌&&◌, ◌∙◌, ◌∷◌, ◌≡◌}
+use Rattle.sc_image.proofs.Common.{AgreeFor, Auipc, BadCall, BadJump, Bool, Branch, ByteMemory, Crossing, Ebreak, Ecall}
+use Rattle.sc_image.proofs.Common.{Fence, Goes, ImageParts, Instr, IsWellFormed, Jal, Jalr, List, Load, Lui}
+use Rattle.sc_image.proofs.Common.{MachineState, NoImport, None, Op, OpImm, Option, Outcome, Shift, Some, Store, Traps}
+use Rattle.sc_image.proofs.Common.{Upper, [], a0, a1, a7, add_word, ap, by_owner, comp_of_code, compares, data_of}
+use Rattle.sc_image.proofs.Common.{decoded, execute, execute_by, export_called, export_params, false, flat_map, frees}
+use Rattle.sc_image.proofs.Common.{gate, has_heap, has_result, if_decoded, if_fetched, if◌then◌else◌, is_some}
+use Rattle.sc_image.proofs.Common.{jalr_target, jump, jump_by, jump_outside, kept_by, leaves, load_by, load_size}
+use Rattle.sc_image.proofs.Common.{may_call_export, nat_eq, next, not, on_alloc, on_call, on_input, on_output}
+use Rattle.sc_image.proofs.Common.{on_return, on_return_to, own, ra, refl, reg, saved_sp, step, step_by, store_by}
+use Rattle.sc_image.proofs.Common.{store_size, subst, sym, true, word_of, zone_of, zone_start, ℕ, ◌&&◌, ◌*◌, ◌∙◌, ◌∷◌}
+use Rattle.sc_image.proofs.Common.{◌≡◌}
+use Rattle.sc_image.proofs.Memory.{zone_owned}
 
 module _ (c : ℕ) (image image' : ImageParts) (agree : AgreeFor c image image') where
   pub data_agree : (memory : ByteMemory) → data_of image c memory ≡ data_of image' c memory
@@ -21,18 +19,24 @@ module _ (c : ℕ) (image image' : ImageParts) (agree : AgreeFor c image image')
   pub own_agree : (state : MachineState) → own image state c ≡ own image' state c
   own_agree state = λ i. record {
     bytes = data_agree state.memory i;
+    zone = zone_of state c;
     saved = saved_sp state c;
     calls = flat_map (kept_by c) state.cross;
     running = if nat_eq state.active c then Some (record { regs = state.regs; pc = state.pc }) else None;
   }
 
+-- whether the compartment has a heap is seen at the first address of its zone
+heap_agree : (c : ℕ) (image image' : ImageParts) → IsWellFormed image → IsWellFormed image' →
+    AgreeFor c image image' → has_heap image c ≡ has_heap image' c
+heap_agree c image image' formed formed' agree =
+    sym (zone_owned image c formed) ∙ agree.owned (zone_start c) 1 ∙ zone_owned image' c formed'
+
 -- the latest call, if one is open, is of the active compartment
 abbrev pub IsInLatest : MachineState → Type 0
 IsInLatest state = (x : Crossing) (xs : List Crossing) → state.cross ≡ x ∷ xs → x.callee ≡ state.active
 
-module _ (image image' : ImageParts) (inputs : List ℕ) (state : MachineState) (agree : AgreeFor state.active image
-    image')
-    (latest : IsInLatest state) where
+module _ (image image' : ImageParts) (inputs : List ℕ) (state : MachineState) (formed : IsWellFormed image)
+    (formed' : IsWellFormed image') (agree : AgreeFor state.active image image') (latest : IsInLatest state) where
   jump_agree : (rd target : ℕ) (x x' : Outcome) → x ≡ x' → jump image state rd target x ≡ jump image' state rd target x'
   jump_agree rd target x x' same = λ i. jump_by (is_some (agree.code target i)) state rd target (same i)
 
@@ -87,6 +91,9 @@ module _ (image image' : ImageParts) (inputs : List ℕ) (state : MachineState) 
   execute_agree Ecall = λ i.
       if nat_eq (reg state a7) 1 then (if agree.reads i then next (on_input inputs state) else Traps NoImport)
       else if nat_eq (reg state a7) 2 then (if agree.writes i then next (on_output state) else Traps NoImport)
+      else if not (heap_agree state.active image image' formed formed' agree i) then Traps BadCall
+      else if nat_eq (reg state a7) 3 then next (on_alloc state (reg state a0 * reg state a1))
+      else if nat_eq (reg state a7) 4 then frees state (reg state a0)
       else Traps BadCall
   execute_agree Ebreak = refl
 

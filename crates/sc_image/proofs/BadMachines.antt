@@ -1,45 +1,52 @@
--- An instance: three machines that don't isolate, for they do one thing more than the machine, on an image of two
--- compartments.
+-- An instance: six machines that don't isolate, for they do one thing more than the machine or one in place of its own,
+-- on an image of two compartments.
 use Rattle.std.proofs.Common.{Bool, List, None, Option, Some, [], ap, arith, codes, false, if◌then◌else◌, is_some}
-use Rattle.std.proofs.Common.{length, nat_eq, pos, refl, replicate, slice_get, slice_index, slice_index_or, subst, suc}
-use Rattle.std.proofs.Common.{sym, true, zero, ℕ, ◌<◌, ◌^◌, ◌∙◌, ◌∷◌, ◌≡◌, ◌≢◌}
+use Rattle.std.proofs.Common.{length, nat_eq, pos, refl, replicate, slice_get, slice_index, slice_index_or, slice_set}
+use Rattle.std.proofs.Common.{subst, suc, sym, true, zero, ℕ, ◌-◌, ◌/◌, ◌<◌, ◌^◌, ◌∙◌, ◌∷◌, ◌≡◌, ◌≢◌}
 use Rattle.std.proofs.lemmas.Bool.{false≢true}
 use Rattle.std.proofs.lemmas.List.Elements.{All-from_recursion}
 use Rattle.std.proofs.lemmas.Option.{none-some, same_Some}
 use Rattle.std.specs.Option.{option_map_or}
 unfoldable use Rattle.sc_base.specs.Prelude.{is_name}
 use Rattle.sc_store.specs.Prelude.{ByteMemory}
-unfoldable use Rattle.rv_code.specs.Prelude.{decoded, jalr_in, op_imm_in, op_imm_op_of}
-use Rattle.rv_code.specs.declared.instr.Instr.TheVariants.{Jalr, OpImm}
+unfoldable use Rattle.rv_code.specs.Prelude.{decoded, jalr_in, op_imm_in, op_imm_op_of, system_in}
+use Rattle.rv_code.specs.declared.instr.Instr.TheVariants.{Ecall, Jalr, OpImm}
 use Rattle.rv_code.specs.declared.instr.OpImmOp.TheVariants.{Addi}
 use Rattle.sc_image.specs.Common.{Call, Event, Out}
 use Rattle.sc_image.specs.declared.parts.CompPart.{CompPart}
 use Rattle.sc_image.specs.declared.parts.ImageParts.{ImageParts}
 use Rattle.sc_image.specs.Calls.{exported_by}
-use Rattle.sc_image.specs.Cross.{on_call}
-use Rattle.sc_image.specs.Isolation.{EntersByEventBy, FollowsFromOwnBy, IsIsolating, IsSilentForBy, LeavesDataBy}
+use Rattle.sc_image.specs.Cross.{on_alloc, on_call, on_free, with_zone, zone_address}
+use Rattle.sc_image.specs.Isolation.{Adds, AgreeFor, EntersByEventBy, FollowsFromOwnBy, IsIsolating, IsSilentForBy}
+use Rattle.sc_image.specs.Isolation.{LeavesDataBy, LeavesOthersBy, emits_entry}
 use Rattle.sc_image.specs.Isolation.{LooksSame, Point, RunsAt, Stepping, after_by, after_outcome, later_by}
 use Rattle.sc_image.specs.Isolation.{observation_of, own_at}
+use Rattle.sc_image.specs.Layout.{zone_start}
 unfoldable use Rattle.sc_image.specs.Layout.{are_data, word_at}
 use Rattle.sc_image.specs.Own.{Own, data_of, own}
-use Rattle.sc_image.specs.State.{MachineState, reg, with_reg}
+use Rattle.sc_image.specs.State.{MachineState, a0, a1, a7, reg, with_pc, with_reg, written, zone_of}
 use Rattle.sc_image.specs.Steady.{IsSteadyState, KeepsWords, inputs_in, open_calls}
-use Rattle.sc_image.specs.Step.{Goes, Outcome, Traps, execute, step}
+use Rattle.sc_image.specs.Step.{Goes, Outcome, Traps, execute, next, step}
 unfoldable use Rattle.sc_image.specs.Step.{execute_by}
 use Rattle.sc_image.specs.WellFormed.{IsComp, IsExport, IsImport, IsWellFormed}
 use Rattle.sc_base.specs.Word.{IsWord}
 use Rattle.sc_image.proofs.Running.{step_executes}
+use Rattle.sc_image.proofs.Words.{written_words}
+use Rattle.sc_zone.specs.Prelude.{taken, without_span}
+unfoldable use Rattle.sc_zone.specs.Prelude.{first_free, least_free}
+use Rattle.sc_zone.specs.declared.span.Span.{Span}
 
--- The image: `M` does nothing, and then calls `f` of `N`.
+-- The image: `M` does nothing, then calls `f` of `N`, and then calls the environment. Both have a heap.
 
 abbrev main_part : CompPart
 main_part = record {
   name = codes "M";
   input = false;
   output = false;
+  heap = true;
   exports = [];
   imports = record { comp = 1; index = 0 } ∷ [];
-  code = 19 ∷ 164071 ∷ [];
+  code = 19 ∷ 164071 ∷ 115 ∷ [];
   globals = [];
 }
 
@@ -48,6 +55,7 @@ other_part = record {
   name = codes "N";
   input = false;
   output = false;
+  heap = true;
   exports = record { name = codes "f"; params = 0; result = false; entry = 17825792 } ∷ [];
   imports = [];
   code = 19 ∷ [];
@@ -71,7 +79,7 @@ main_is = record {
       (record { other = λ same. omega (arith, same); offered = omega arith }, tt);
   distinct_imports = λ i j d before within. absurd (omega (arith, before, within));
   short_code = omega arith;
-  words = All-from_recursion IsWord main_part.code (omega arith, (omega arith, tt));
+  words = All-from_recursion IsWord main_part.code (omega arith, (omega arith, (omega arith, tt)));
   short_globals = omega arith;
   bytes = All-from_recursion (λ byte. byte < 2 ^ 8) [] tt;
 }
@@ -132,17 +140,21 @@ formed = record {
 abbrev regs : (target other : ℕ) → List ℕ
 regs target other = 0 ∷ 0 ∷ 0 ∷ 0 ∷ 0 ∷ target ∷ other ∷ replicate 25 0
 
-abbrev standing : (pc target other : ℕ) → (memory : ByteMemory) → List Event → MachineState
-standing pc target other memory trace = record {
-  regs = regs target other;
+abbrev standing_with : (words : List ℕ) → (pc : ℕ) → (mine others : List Span) → ByteMemory → List Event → MachineState
+standing_with words pc mine others memory trace = record {
+  regs = words;
   pc = pc;
   active = 0;
   saved = 0 ∷ 0 ∷ [];
+  zones = mine ∷ others ∷ [];
   memory = memory;
   cross = [];
   input = 0;
   trace = trace;
 }
+
+abbrev standing : (pc target other : ℕ) → (memory : ByteMemory) → List Event → MachineState
+standing pc target other memory trace = standing_with (regs target other) pc [] [] memory trace
 
 abbrev empty : ByteMemory
 empty = λ address. None
@@ -210,23 +222,31 @@ saved_words zero = omega arith
 saved_words (suc zero) = omega arith
 saved_words (suc (suc c)) = omega arith
 
--- two words and two traces in which no call is open and no input was read
-steady : (pc target other : ℕ) (trace : List Event) → IsWord pc → IsWord target → IsWord other →
-    [] ≡ open_calls trace → 0 ≡ inputs_in trace → IsSteadyState two (standing pc target other empty trace)
-steady pc target other trace here low small calls inputs = record {
-  regs = refl;
-  words = regs_words target other low small;
-  zero = refl;
+-- registers and a trace in which no call is open and no input was read
+steady_with : (words : List ℕ) (pc : ℕ) (mine others : List Span) (trace : List Event) → length words ≡ 32 →
+    ((r : ℕ) → IsWord (slice_index words r)) → slice_index words 0 ≡ 0 → IsWord pc →
+    [] ≡ open_calls trace → 0 ≡ inputs_in trace →
+    IsSteadyState two (standing_with words pc mine others empty trace)
+steady_with words pc mine others trace count are none here calls inputs = record {
+  regs = count;
+  words = are;
+  zero = none;
   pc = here;
   active = omega arith;
   saved = refl;
   saved_words = saved_words;
+  zones = refl;
   bytes = λ a b is. absurd (none-some b is);
   chain = tt;
   kept = All-from_recursion KeepsWords [] tt;
   calls = calls;
   input = inputs;
 }
+
+steady : (pc target other : ℕ) (trace : List Event) → IsWord pc → IsWord target → IsWord other →
+    [] ≡ open_calls trace → 0 ≡ inputs_in trace → IsSteadyState two (standing pc target other empty trace)
+steady pc target other trace here low small calls inputs =
+    steady_with _ pc [] [] trace refl (regs_words target other low small) refl here calls inputs
 
 -- A machine that goes on from the state after each step.
 
@@ -263,20 +283,23 @@ runs trace calls inputs = record {
   active = refl;
 }
 
+agrees : AgreeFor 0 two two
+agrees = record {
+  code = λ address. refl;
+  owned = λ address size. refl;
+  reads = refl;
+  writes = refl;
+  imports = λ to index. refl;
+  results = λ entry. refl;
+  entries = λ to address. refl;
+  params = λ to index may. refl;
+}
+
 looks_same : LooksSame 0 (resting_point []) (resting_point one_event)
 looks_same = record {
   one_runs = runs [] refl refl;
   other_runs = runs one_event refl refl;
-  images = record {
-    code = λ address. refl;
-    owned = λ address size. refl;
-    reads = refl;
-    writes = refl;
-    imports = λ to index. refl;
-    results = λ entry. refl;
-    entries = λ to address. refl;
-    params = λ to index may. refl;
-  };
+  images = agrees;
   own_parts = refl;
   call = refl;
   input = refl;
@@ -358,16 +381,173 @@ passes_register enters =
     sym (sixth_is 0) ∙ ap sixth (own_after 0 (omega arith) ∙ sym (own_after 1 (omega arith))) ∙ sixth_is 1 in
     omega (arith, same)
 
+-- The third instruction of `M` calls the environment: what is called, and the first of its two arguments.
+
+abbrev asking_regs : (first call : ℕ) → List ℕ
+asking_regs first call = written (written (written (replicate 32 0) a0 first) a1 1) a7 call
+
+abbrev asking : (first call : ℕ) → (mine others : List Span) → MachineState
+asking first call mine others = standing_with (asking_regs first call) 16777224 mine others empty []
+
+asks_at : word_at two 0 16777224 ≡ Some 115
+unfolding word_at
+asks_at = refl
+
+asks_by : decoded 115 ≡ Some Ecall
+unfolding decoded system_in
+asks_by = refl
+
+asking_steady : (first call : ℕ) (mine others : List Span) → IsWord first → IsWord call →
+    IsSteadyState two (asking first call mine others)
+asking_steady first call mine others one other = steady_with (asking_regs first call) 16777224 mine others [] refl
+    (written_words (written (written (replicate 32 0) a0 first) a1 1) a7 call
+    (written_words (written (replicate 32 0) a0 first) a1 1
+    (written_words (replicate 32 0) a0 first (zeros 32) one) (omega arith)) other) refl (omega arith) refl refl
+
+-- An allocation of one word.
+
+abbrev allocating : (mine others : List Span) → MachineState
+allocating mine others = asking 1 3 mine others
+
+allocates_so : (mine others : List Span) → execute two [] (allocating mine others) Ecall ≡
+    next (on_alloc (allocating mine others) 1)
+unfolding execute_by
+allocates_so mine others = refl
+
+allocates : (mine others : List Span) →
+    step two [] (allocating mine others) ≡ next (on_alloc (allocating mine others) 1)
+allocates mine others =
+    step_executes two [] (allocating mine others) 115 Ecall asks_at asks_by ∙ allocates_so mine others
+
+abbrev first_block : Span
+first_block = record { place = 0; words = 1 }
+
+in_empty : least_free [] 1 ≡ Some 0
+unfolding least_free first_free
+in_empty = refl
+
+behind_first : least_free (first_block ∷ []) 1 ≡ Some 1
+unfolding least_free first_free
+behind_first = refl
+
+-- A free of the first word of the zone.
+
+abbrev freeing : (mine others : List Span) → MachineState
+freeing mine others = asking (zone_start 0) 4 mine others
+
+frees_so : (others : List Span) → execute two [] (freeing (first_block ∷ []) others) Ecall ≡
+    next (on_free (freeing (first_block ∷ []) others) (zone_start 0))
+unfolding execute_by
+frees_so others = refl
+
+frees_first : (others : List Span) → step two [] (freeing (first_block ∷ []) others) ≡
+    next (on_free (freeing (first_block ∷ []) others) (zone_start 0))
+frees_first others =
+    step_executes two [] (freeing (first_block ∷ []) others) 115 Ecall asks_at asks_by ∙ frees_so others
+
+-- A silent step changes the other's zone.
+
+changes_other : (stepping : Stepping) (first call : ℕ) (mine others : List Span) (after : MachineState) →
+    IsWord first → IsWord call → stepping two [] (asking first call mine others) ≡ Goes after → [] ≡ after.trace →
+    zone_of after 1 ≢ others → LeavesOthersBy stepping → ⊥
+changes_other stepping first call mine others after one other goes silent differ leaves =
+    let state = asking first call mine others in
+    let none : emits_entry 1 (observation_of state (stepping two [] state)) ≡ false =
+    ap (λ outcome. emits_entry 1 (observation_of state outcome)) goes ∙
+    ap (λ trace. emits_entry 1 (Adds trace)) (sym silent) in
+    let kept = leaves two [] state 1 formed (asking_steady first call mine others one other)
+    (λ same. omega (arith, same)) none in
+    differ (sym (ap (λ outcome. zone_of (after_outcome state outcome) 1) goes) ∙ ap (λ parts. parts.zone) kept)
+
+-- What the active compartment allocates, the other has, too.
+
+abbrev sharing : Stepping
+sharing = spoilt (λ image before after. record after {
+  zones = slice_set after.zones 1 (zone_of after before.active);
+})
+
+shared : sharing two [] (allocating [] []) ≡ Goes (record (with_pc (on_alloc (allocating [] []) 1) 16777228) {
+  zones = taken 1 (least_free [] 1) [] ∷ taken 1 (least_free [] 1) [] ∷ [];
+})
+shared = ap (gone_on (λ after. record after { zones = slice_set after.zones 1 (zone_of after 0) })) (allocates [] [])
+
+pub shares_blocks : LeavesOthersBy sharing → ⊥
+shares_blocks = changes_other sharing 1 3 [] [] _ (omega arith) (omega arith) shared refl
+    (λ same. (let count = ap length (ap (λ found. taken 1 found []) (sym in_empty) ∙ same) in omega (arith, count)))
+
+-- It allocates where the other compartment has room.
+
+abbrev looking : Stepping
+looking image inputs state = step image inputs (with_zone state (zone_of state 1))
+
+abbrev tenth : Own → ℕ
+tenth parts = option_map_or (λ running. slice_index running.regs a0) parts.running 0
+
+abbrev allocating_point : (others : List Span) → Point
+allocating_point others = record { image = two; inputs = []; state = allocating [] others }
+
+allocating_runs : (others : List Span) → RunsAt 0 (allocating_point others)
+allocating_runs others = record {
+  formed = formed;
+  inputs = All-from_recursion IsWord [] tt;
+  steady = asking_steady 1 3 [] others (omega arith) (omega arith);
+  active = refl;
+}
+
+looks_alike : LooksSame 0 (allocating_point []) (allocating_point (first_block ∷ []))
+looks_alike = record {
+  one_runs = allocating_runs [];
+  other_runs = allocating_runs (first_block ∷ []);
+  images = agrees;
+  own_parts = refl;
+  call = refl;
+  input = refl;
+}
+
+pub looks_at_other : FollowsFromOwnBy looking → ⊥
+looks_at_other follows =
+    let goes = (follows 0 (allocating_point []) (allocating_point (first_block ∷ [])) 0 looks_alike).1 tt in
+    let place : (others : List Span) (found : Option ℕ) → least_free others 1 ≡ found →
+    tenth (own_at (later_by looking 1 (allocating_point others)) 0) ≡ zone_address 0 found =
+    λ others found is. ap (λ outcome. tenth (own two (after_outcome (allocating [] others) outcome) 0))
+    (allocates others others) ∙ ap (zone_address 0) is in
+    let same = sym (place [] (Some 0) in_empty) ∙ ap tenth goes.later_parts ∙
+    place (first_block ∷ []) (Some 1) behind_first in
+    omega (arith, same)
+
+-- What the active compartment frees is taken from the other's zone.
+
+abbrev taking : Stepping
+taking = spoilt (λ image before after. record after {
+  zones = slice_set before.zones 1 (without_span ((reg before a0 - zone_start 0) / 4) (zone_of before 1));
+})
+
+took : taking two [] (freeing (first_block ∷ []) (first_block ∷ [])) ≡
+    Goes (record (with_pc (freeing (first_block ∷ []) (first_block ∷ [])) 16777228) {
+      zones = (first_block ∷ []) ∷ [] ∷ [];
+    })
+took = ap (gone_on (λ after. record after { zones = (first_block ∷ []) ∷ [] ∷ [] })) (frees_first (first_block ∷ []))
+
+pub takes_block : LeavesOthersBy taking → ⊥
+takes_block = changes_other taking (zone_start 0) 4 (first_block ∷ []) (first_block ∷ []) _ (omega arith) (omega arith)
+    took refl (λ same. (let count = ap length same in omega (arith, count)))
+
 -- None of them isolates.
 
 pub record NoneIsolates : Type 0 where
   pub counts : IsIsolating counting → ⊥
   pub zeroes : IsIsolating zeroing → ⊥
   pub passes : IsIsolating passing → ⊥
+  pub shares : IsIsolating sharing → ⊥
+  pub looks : IsIsolating looking → ⊥
+  pub takes : IsIsolating taking → ⊥
 
 pub none_isolates : NoneIsolates
 none_isolates = record {
   counts = λ isolates. counts_events isolates.follows;
   zeroes = λ isolates. zeroes_data isolates.bytes;
   passes = λ isolates. passes_register isolates.enters;
+  shares = λ isolates. shares_blocks isolates.others;
+  looks = λ isolates. looks_at_other isolates.follows;
+  takes = λ isolates. takes_block isolates.others;
 }

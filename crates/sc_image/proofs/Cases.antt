@@ -1,28 +1,27 @@
--- What a step can come to, in two states at once that a compartment can't distinguish: the same registers and pc, and
--- the
--- same bytes at its addresses. A relation between the outcomes holds if it holds of each kind of outcome.
-use Rattle.sc_image.proofs.Common.{Auipc, BadCall, BadJump, Bool, Branch, Breakpoint, Crossing, Ebreak, Ecall, Export}
-use Rattle.sc_image.proofs.Common.{Fence, Goes, HasWord, HoldsBytes, Illegal, ImageParts, Instr, IsWellFormed, IsWord}
-use Rattle.sc_image.proofs.Common.{Jal, Jalr, List, Load, LoadOp, Lui, ByteMemory, Misaligned, NoImport, None, Op}
-use Rattle.sc_image.proofs.Common.{OpImm}
-use Rattle.sc_image.proofs.Common.{Option, Outcome, Shift, ShiftOp, Some, MachineState, Store, StoreOp, TrapReason}
-use Rattle.sc_image.proofs.Common.{Traps}
-use Rattle.sc_image.proofs.Common.{Upper, a7, add_word-lt, ap, are_data, by_owner, on_call, jump_outside, compares}
-use Rattle.sc_image.proofs.Common.{op_result}
-use Rattle.sc_image.proofs.Common.{decoded, execute, execute_by, entered_export, export_called, extended, false, gives}
-use Rattle.sc_image.proofs.Common.{if_decoded, if_fetched, if◌then◌else◌, on_input, is_some, jalr_target, jump, leaves}
-use Rattle.sc_image.proofs.Common.{length, length-set, load_of-same, load_size, word_loaded, may_call_export, may_input}
-use Rattle.sc_image.proofs.Common.{may_output}
-use Rattle.sc_image.proofs.Common.{nat_eq, next, not, on_registers, on_output, export_params, ra, refl, refused, reg}
-use Rattle.sc_image.proofs.Common.{on_return}
-use Rattle.sc_image.proofs.Common.{saved_sp, set, shift_on_registers, slice_index, sll_word-lt, sp, sra_word-lt}
-use Rattle.sc_image.proofs.Common.{srl_word-lt, step, step_by, store_size, subst, true, unless_trap, with_pc}
-use Rattle.sc_image.proofs.Common.{with_stored}
-use Rattle.sc_image.proofs.Common.{word_at, word_of, word_of-lt, written, ℕ, ◌%◌, ◌+◌, ◌==◌, ◌≡◌}
+-- What a step can come to, in two states at once that a compartment can't distinguish: the same registers and pc, the
+-- same bytes at its addresses, and the same blocks in its zone. A relation between the outcomes holds if it holds of each kind of outcome.
+use Rattle.sc_image.proofs.Common.{Auipc, BadCall, BadFree, BadJump, Bool, Branch, Breakpoint, Crossing, Ebreak, Ecall}
+use Rattle.sc_image.proofs.Common.{Export, Fence, Goes, HasWord, HoldsBytes, Illegal, ImageParts, Instr, IsWellFormed}
+use Rattle.sc_image.proofs.Common.{IsWord, Jal, Jalr, List, Load, LoadOp, Lui, MachineState, Misaligned, NoImport, None}
+use Rattle.sc_image.proofs.Common.{Op, OpImm, Option, Outcome, Shift, ShiftOp, Some, Span, Store, StoreOp, TrapReason}
+use Rattle.sc_image.proofs.Common.{Traps, Upper, a0, a1, a7, add_word-lt, ap, are_data, arith, by_owner, compares}
+use Rattle.sc_image.proofs.Common.{decoded, entered_export, execute, execute_by, export_called, export_params, extended}
+use Rattle.sc_image.proofs.Common.{false, frees, gives, has_heap, if_decoded, if_fetched, if◌then◌else◌, is_some}
+use Rattle.sc_image.proofs.Common.{jalr_target, jump, jump_outside, leaves, length, length-set, load_of-same, load_size}
+use Rattle.sc_image.proofs.Common.{may_call_export, may_input, may_output, nat_eq, next, not, on_alloc, on_call}
+use Rattle.sc_image.proofs.Common.{on_input, on_output, on_registers, on_return, op_result, ra, refl, refused, reg}
+use Rattle.sc_image.proofs.Common.{saved_sp, set, shift_on_registers, slice_get_within, slice_index, slice_set}
+use Rattle.sc_image.proofs.Common.{sll_word-lt, sp, sra_word-lt, srl_word-lt, starts_block, step, step_by, store_size}
+use Rattle.sc_image.proofs.Common.{subst, true, unless_trap, with_pc, with_reg, with_stored, with_zone, word_at}
+use Rattle.sc_image.proofs.Common.{word_loaded, word_of, word_of-lt, written, zone_address, zone_of, zone_start, ℕ, ◌%◌}
+use Rattle.sc_image.proofs.Common.{◌*◌, ◌+◌, ◌-◌, ◌/◌, ◌<◌, ◌==◌, ◌≡◌}
 use Rattle.rv_code.specs.declared.instr.ShiftOp.TheVariants.{Slli, Srli, Srai}
 use Rattle.rv_code.proofs.OneEach.{HasWord-decoded}
 use Rattle.sc_image.proofs.Words.{AreWords, written_words, written_zero, computed_word, loaded_word, in_code}
-use Rattle.sc_image.proofs.Words.{code_address}
+use Rattle.sc_image.proofs.Words.{code_address, comp_found}
+use Rattle.sc_zone.specs.Prelude.{taken, without_span}
+unfoldable use Rattle.sc_zone.specs.Prelude.{least_free}
+use Rattle.sc_zone.proofs.Places.{least_is_within}
 use Rattle.sc_image.proofs.Memory.{allowed_data, one_of}
 
 pub length-written : (regs : List ℕ) (r word : ℕ) → length (written regs r word) ≡ length regs
@@ -37,6 +36,18 @@ shifted_word : (op : ShiftOp) (a amount : ℕ) → IsWord a → IsWord (op_resul
 shifted_word Slli a amount h = sll_word-lt a amount
 shifted_word Srli a amount h = srl_word-lt a amount h
 shifted_word Srai a amount h = sra_word-lt a amount
+
+-- an address in a compartment's zone is a word
+zone_word : (c : ℕ) (spans : List Span) (words : ℕ) (found : Option ℕ) → c < 32 → least_free spans words ≡ found →
+    IsWord (zone_address c found)
+zone_word c spans words None few is = omega arith
+zone_word c spans words (Some place) few is = omega (arith, few, least_is_within spans words place is)
+
+-- a compartment that has a heap is one of the image
+heap_there : (image : ImageParts) (c : ℕ) → has_heap image c ≡ true → c < length image.comps
+heap_there image c has =
+    let found = comp_found (λ comp. comp.heap) false (λ heap. heap ≡ true) (λ never. cc never) _ has in
+    slice_get_within image.comps c found.0 found.1
 
 -- the crossing that a call opens
 abbrev pub crossing_to : MachineState → (to index : ℕ) → Crossing
@@ -74,9 +85,13 @@ module _ (image : ImageParts) (inputs inputs' : List ℕ) (formed : IsWellFormed
   -- a relation that holds of each kind of outcome
   pub record Cases (P : Outcome → Outcome → Type 0) : Type 0 where
     pub same : (a : ℕ) → are_data image one.active a 1 ≡ true → one.memory a ≡ rest.memory a
+    pub zone : zone_of one one.active ≡ zone_of rest one.active
     pub traps : (reason : TrapReason) → P (Traps reason) (Traps reason)
     pub quiet : (regs' : List ℕ) (pc' : ℕ) → Moves regs' pc' →
         P (Goes (record one { regs = regs'; pc = pc' })) (Goes (record other { regs = regs'; pc = pc' }))
+    pub rezones : (regs' : List ℕ) (pc' : ℕ) (spans : List Span) → Moves regs' pc' →
+        P (Goes (record one { regs = regs'; pc = pc'; zones = slice_set one.zones one.active spans }))
+        (Goes (record other { regs = regs'; pc = pc'; zones = slice_set rest.zones one.active spans }))
     pub stores : (op : StoreOp) (a word : ℕ) → refused image one.active (store_size op) a ≡ None →
         P (Goes (with_pc (with_stored one op a word) (one.pc + 4)))
         (Goes (with_pc (with_stored other op a word) (one.pc + 4)))
@@ -115,13 +130,11 @@ module _ (image : ImageParts) (inputs inputs' : List ℕ) (formed : IsWellFormed
         P (gives one rd word) (gives other rd word)
     gives_both rd word is_word = h.quiet _ _ (moves_with rd word _ is_word (λ here. here))
 
+    moves_on : Moves one.regs (one.pc + 4)
+    moves_on = record { count = refl; zero = λ z. z; words = λ here w bytes. w; goes = λ here. here }
+
     next_both : P (next one) (next other)
-    next_both = h.quiet one.regs _ (record {
-      count = refl;
-      zero = λ z. z;
-      words = λ here w bytes. w;
-      goes = λ here. here;
-    })
+    next_both = h.quiet one.regs _ moves_on
 
     jump_both : (rd target : ℕ) (x x' : Outcome) → P x x' →
         P (jump image one rd target x) (jump image other rd target x')
@@ -164,6 +177,44 @@ module _ (image : ImageParts) (inputs inputs' : List ℕ) (formed : IsWellFormed
     store_both op a word (Some reason) is = h.traps reason
     store_both op a word None is = h.stores op a word is
 
+    -- the heap
+
+    -- an allocation and a free, from these blocks
+    abbrev allocated : MachineState → (words : ℕ) → (spans : List Span) → MachineState
+    allocated state words spans =
+        let found = least_free spans words in
+        with_reg (with_zone state (taken words found spans)) a0 (zone_address state.active found)
+
+    abbrev freed : MachineState → (a : ℕ) → (spans : List Span) → Outcome
+    freed state a spans =
+        if nat_eq a 0 then next state else if starts_block state.active spans a
+        then next (with_zone state (without_span ((a - zone_start state.active) / 4) spans)) else Traps BadFree
+
+    alloc_both : (words : ℕ) → one.active < 32 → P (next (on_alloc one words)) (next (on_alloc other words))
+    alloc_both words few =
+        let spans = zone_of one one.active in
+        subst (λ spans. P (next (on_alloc one words)) (next (allocated other words spans))) h.zone
+        (h.rezones _ _ (taken words (least_free spans words) spans) (moves_with a0 _ _
+        (λ here w bytes. zone_word one.active spans words _ few refl) (λ here. here)))
+
+    frees_both : (a : ℕ) → P (frees one a) (frees other a)
+    frees_both a =
+        let spans = zone_of one one.active in
+        subst (λ spans. P (frees one a) (freed other a spans)) h.zone (either (nat_eq a 0) _ _ _ _ next_both
+        (either (starts_block one.active spans a) _ _ _ _ (h.rezones one.regs _ _ moves_on) (h.traps BadFree)))
+
+    heap_both : (has : Bool) → has_heap image one.active ≡ has →
+        P (if not has then Traps BadCall
+        else if nat_eq (reg one a7) 3 then next (on_alloc one (reg one a0 * reg one a1))
+        else if nat_eq (reg one a7) 4 then frees one (reg one a0) else Traps BadCall)
+        (if not has then Traps BadCall
+        else if nat_eq (reg one a7) 3 then next (on_alloc other (reg one a0 * reg one a1))
+        else if nat_eq (reg one a7) 4 then frees other (reg one a0) else Traps BadCall)
+    heap_both false is = h.traps BadCall
+    heap_both true is = either (nat_eq (reg one a7) 3) _ _ _ _
+        (alloc_both _ (omega (arith, heap_there image one.active is, formed.few_comps)))
+        (either (nat_eq (reg one a7) 4) _ _ _ _ (frees_both _) (h.traps BadCall))
+
     execute_both : (instr : Instr) (word : ℕ) → HasWord instr word →
         P (execute image inputs one instr) (execute image inputs' other instr)
     unfolding execute_by
@@ -184,7 +235,7 @@ module _ (image : ImageParts) (inputs inputs' : List ℕ) (formed : IsWellFormed
     execute_both (Fence imm rs1 rd) word has = next_both
     execute_both Ecall word has = either (nat_eq (reg one a7) 1) _ _ _ _
         (where_true _ _ _ _ _ h.reads (h.traps NoImport)) (either (nat_eq _ 2) _ _ _ _
-        (where_true (may_output image one.active) _ _ _ _ h.outputs (h.traps NoImport)) (h.traps BadCall))
+        (where_true (may_output image one.active) _ _ _ _ h.outputs (h.traps NoImport)) (heap_both _ refl))
     execute_both Ebreak word has = h.traps Breakpoint
 
     decoded_both : (word : ℕ) (instr : Option Instr) → IsWord word → decoded word ≡ instr →

@@ -1,18 +1,15 @@
 -- What belongs to a compartment that a call or a return makes active.
-use Rattle.sc_image.proofs.Common.{Adds, Bool, Call, Crossing, Entered, EntersByEvent, Event, ExportPart, Goes}
-use Rattle.sc_image.proofs.Common.{ImageParts, In, AreNested, IsSteadyState, IsWellFormed, Kept, List, None, Option}
-use Rattle.sc_image.proofs.Common.{Out}
-use Rattle.sc_image.proofs.Common.{Outcome, Own, Ret, Some, MachineState, Waits, [], a0, activates, after_outcome, ap}
-use Rattle.sc_image.proofs.Common.{ap₂}
-use Rattle.sc_image.proofs.Common.{arguments, arith, on_call, data_of, drop, drop-append_seam, drop-length, eq-eqb}
-use Rattle.sc_image.proofs.Common.{eqb-true, entered_export, exported_by, false, flat_map, gate, get_or, get_or-drop}
+use Rattle.sc_image.proofs.Common.{Adds, AreNested, Bool, Call, Crossing, Entered, EntersByEvent, Event, ExportPart}
+use Rattle.sc_image.proofs.Common.{Goes, ImageParts, In, IsSteadyState, IsWellFormed, Kept, List, MachineState, None}
+use Rattle.sc_image.proofs.Common.{Option, Out, Outcome, Own, Ret, Some, Waits, [], a0, activates, after_outcome, ap}
+use Rattle.sc_image.proofs.Common.{ap₂, arguments, arith, data_of, drop, drop-append_seam, entered_export, eq-eqb}
+use Rattle.sc_image.proofs.Common.{eqb-true, export_params, exported_by, false, flat_map, gate, get_or, get_or-drop}
 use Rattle.sc_image.proofs.Common.{get_or-set_other, get_or-take, get_or_from_slice_get, given_back, has_result}
 use Rattle.sc_image.proofs.Common.{if◌then◌else◌, input_at, is_argument, is_result, is_some, kept, kept_by, kept_from}
 use Rattle.sc_image.proofs.Common.{length, length-drop, length-take-le, nat_eq, nat_tests, ne_eqb, observation_of}
-use Rattle.sc_image.proofs.Common.{option_map_or, own, export_params, position-Some, ra, refl, reg, on_return}
-use Rattle.sc_image.proofs.Common.{on_return_to}
-use Rattle.sc_image.proofs.Common.{saved_sp, slice_get, slice_get-get_or, slice_get_cases, slice_get_within, sp, step}
-use Rattle.sc_image.proofs.Common.{subst, suc, sym, true, unwrap_or, written, zero, ℕ, ⊎_elim, ◌++◌, ◌+◌, ◌-◌, ◌<◌}
+use Rattle.sc_image.proofs.Common.{on_call, on_return, on_return_to, option_map_or, own, position-Some, ra, refl, reg}
+use Rattle.sc_image.proofs.Common.{saved_sp, slice_get, slice_get-get_or, slice_get_cases, slice_get_within, sp, subst}
+use Rattle.sc_image.proofs.Common.{suc, sym, true, unwrap_or, written, zero, zone_of, ℕ, ⊎_elim, ◌++◌, ◌+◌, ◌-◌, ◌<◌}
 use Rattle.sc_image.proofs.Common.{◌==◌, ◌∙◌, ◌∷◌, ◌≡◌, ◌≢◌, ◌≤◌}
 use Rattle.sc_image.proofs.Events.{no_event, that_event}
 use Rattle.sc_image.proofs.Cases.{crossing_to, step_of}
@@ -104,6 +101,7 @@ entry_is image c target index at =
 abbrev by_return : Own → Option ℕ → List Kept → Own
 by_return before value (Waits pc sp_then ∷ rest) = record {
   bytes = before.bytes;
+  zone = before.zone;
   saved = before.saved;
   calls = rest;
   running = Some (record { regs = written (result_of value) sp sp_then; pc = pc });
@@ -113,6 +111,7 @@ by_return before value _ = before
 abbrev entered : List ExportPart → Own → Event → Own
 entered exports before (Call from to index args) = record {
   bytes = before.bytes;
+  zone = before.zone;
   saved = before.saved;
   calls = Entered before.saved ∷ before.calls;
   running =
@@ -157,7 +156,13 @@ module _ (image : ImageParts) (inputs : List ℕ) (state : MachineState) (d : �
         regs = written (written (regs i) ra gate) sp (saved_sp state (active i));
         pc = entry i;
       })) in
-      λ i. record { bytes = data_of image d state.memory; saved = saved i; calls = calls i; running = runs i }
+      λ i. record {
+        bytes = data_of image d state.memory;
+        zone = zone_of state d;
+        saved = saved i;
+        calls = calls i;
+        running = runs i;
+      }
 
   -- a return
   enters_return : (cross : List Crossing) → state.cross ≡ cross → Enters (Goes (on_return image state cross))
@@ -179,6 +184,7 @@ module _ (image : ImageParts) (inputs : List ℕ) (state : MachineState) (d : �
       let first : own image after d ≡ by_return (own image state d) _ (Waits x.pc x.sp ∷ flat_map _ xs) =
       λ i. record {
         bytes = data_of image d state.memory;
+        zone = zone_of state d;
         saved = saved i;
         calls = flat_map (kept_by d) xs;
         running = runs i;
@@ -188,8 +194,10 @@ module _ (image : ImageParts) (inputs : List ℕ) (state : MachineState) (d : �
   pub step_enters : Enters (step image inputs state)
   step_enters = step_of image inputs formed state Enters (record {
     same = λ a owned. refl;
+    zone = refl;
     traps = λ reason active event same. absurd (differ active);
-    quiet = λ regs pc len active event same. absurd (differ active);
+    quiet = λ regs pc moves active event same. absurd (differ active);
+    rezones = λ regs pc spans moves active event same. absurd (differ active);
     stores = λ op a word allowed active event same. absurd (differ active);
     calls = λ to index target at may active event same.
         subst (λ e. own image (on_call state to index (export_params image to index) target) d ≡
@@ -223,8 +231,10 @@ module _ (image : ImageParts) (inputs : List ℕ) (state : MachineState) (d : �
   pub step_activates : Activated (step image inputs state)
   step_activates = step_of image inputs formed state Activated (record {
     same = λ a owned. refl;
+    zone = refl;
     traps = λ reason emits. cc emits;
     quiet = λ regs pc moves emits. absurd (no_event state.trace event emits);
+    rezones = λ regs pc spans moves emits. absurd (no_event state.trace event emits);
     stores = λ op a word allowed emits. absurd (no_event state.trace event emits);
     calls = λ to index target at may emits.
         let one : Event = Call state.active to index (arguments (export_params image to index) state.regs) in

@@ -1,22 +1,19 @@
 -- A step leaves what belongs to other compartments, and what a compartment does follows from its own parts.
-use Rattle.sc_image.proofs.Common.{Adds, All, Bool, Call, Crossing, End, Entered, Event, FollowsFromOwn}
-use Rattle.sc_image.proofs.Common.{Goes, ImageParts, In, AreNested, IsSilentStep}
-use Rattle.sc_image.proofs.Common.{IsSteadyState}
-use Rattle.sc_image.proofs.Common.{IsWellFormed, IsWord, LeavesData, LeavesOthers, List, LooksSame, ByteMemory, None}
-use Rattle.sc_image.proofs.Common.{OpenCall, Out, Outcome, Point, Ret, Running, RunsAt, Some, MachineState, Waits, []}
-use Rattle.sc_image.proofs.Common.{a0}
-use Rattle.sc_image.proofs.Common.{activates, after_outcome, after_step, ap, ap₂, are_data, arguments}
-use Rattle.sc_image.proofs.Common.{arith, byte_of, call_of, on_call, data_of, drop, drop-append_seam, drop-length}
-use Rattle.sc_image.proofs.Common.{emits_entry, eq-eqb, false, flat_map, get_or, get_or-set_other, get_or-set_same}
-use Rattle.sc_image.proofs.Common.{given_back, has_result, if◌then◌else◌, on_input, input_at, inputs_in, kept_by, later}
-use Rattle.sc_image.proofs.Common.{latest_call, length, map, nat_eq, nat_le, nat_lt, ne_eqb, observation_at}
-use Rattle.sc_image.proofs.Common.{observation_of, on_output, own, own_at, export_params, refl, reg, on_return}
-use Rattle.sc_image.proofs.Common.{on_return_to}
-use Rattle.sc_image.proofs.Common.{saved_sp, set, sp, step, store_size, with_bytes, stored-apart, subst, suc, sym, true}
-use Rattle.sc_image.proofs.Common.{with_pc, with_stored, written, zero, ℕ, ◌&&◌, ◌++◌, ◌+◌, ◌-◌, ◌<◌, ◌==◌, ◌||◌, ◌↔◌}
-use Rattle.sc_image.proofs.Common.{◌∙◌, ◌∷◌, ◌≡◌, ◌≢◌, ◌≤◌}
+use Rattle.sc_image.proofs.Common.{Adds, AreNested, Bool, ByteMemory, Call, Crossing, End, Entered, Event}
+use Rattle.sc_image.proofs.Common.{FollowsFromOwn, Goes, ImageParts, In, IsSilentStep, IsSteadyState, IsWellFormed}
+use Rattle.sc_image.proofs.Common.{LeavesData, LeavesOthers, List, LooksSame, MachineState, None, OpenCall, Out}
+use Rattle.sc_image.proofs.Common.{Outcome, Point, Ret, Running, RunsAt, Some, Span, Waits, [], a0, activates}
+use Rattle.sc_image.proofs.Common.{after_outcome, after_step, ap, ap₂, are_data, arguments, arith, byte_of, call_of}
+use Rattle.sc_image.proofs.Common.{data_of, drop, drop-append_seam, drop-length, emits_entry, eq-eqb, export_params}
+use Rattle.sc_image.proofs.Common.{false, flat_map, get_or, get_or-set_other, get_or-set_same, given_back, has_result}
+use Rattle.sc_image.proofs.Common.{if◌then◌else◌, input_at, kept_by, later, latest_call, length, map, nat_eq, nat_le}
+use Rattle.sc_image.proofs.Common.{nat_lt, ne_eqb, observation_at, observation_of, on_call, on_input, on_output}
+use Rattle.sc_image.proofs.Common.{on_return, on_return_to, own, own_at, refl, reg, saved_sp, set, slice_set, sp, step}
+use Rattle.sc_image.proofs.Common.{store_size, stored-apart, subst, suc, sym, true, with_bytes, with_pc, with_stored}
+use Rattle.sc_image.proofs.Common.{written, zero, zone_of, ℕ, ◌&&◌, ◌++◌, ◌+◌, ◌-◌, ◌<◌, ◌==◌, ◌||◌, ◌∙◌, ◌∷◌, ◌≡◌, ◌≢◌}
+use Rattle.sc_image.proofs.Common.{◌≤◌}
 use Rattle.sc_image.proofs.Cases.{crossing_to, step_of, standing, step_both}
-use Rattle.sc_image.proofs.Memory.{allowed_data, data_bounds, few_globals}
+use Rattle.sc_image.proofs.Memory.{allowed_data, data_bounds}
 use Rattle.sc_image.proofs.Reached.{called_other, step_steady}
 use Rattle.sc_image.proofs.Events.{loud}
 use Rattle.sc_image.proofs.Agree.{IsInLatest, own_agree, step_agree}
@@ -27,9 +24,9 @@ use Rattle.std.specs.Prelude.{slice_get}
 pub apart : (image : ImageParts) (c d a size x : ℕ) → IsWellFormed image → c ≢ d → are_data image c a size ≡ true →
     are_data image d x 1 ≡ true → a ≤ x → x < a + size → ⊥
 apart image c d a size x formed differ mine others from upto =
-    let m = data_bounds image c a size (omega (arith, from, upto)) mine in
-    let o = data_bounds image d x 1 (omega arith) others in
-    omega (arith, m.0, m.1, o.0, o.1, few_globals image c formed, few_globals image d formed)
+    let m = data_bounds image c a size formed (omega (arith, from, upto)) mine in
+    let o = data_bounds image d x 1 formed (omega arith) others in
+    omega (arith, m.0, m.1, o.0, o.1)
 
 byte_kept : (image : ImageParts) (c d a size word x : ℕ) (memory : ByteMemory) → IsWellFormed image → c ≢ d →
     are_data image c a size ≡ true → (others : Bool) → are_data image d x 1 ≡ others →
@@ -63,10 +60,11 @@ module _ (image : ImageParts) (inputs : List ℕ) (state : MachineState) (d : �
 
   -- the own parts of d after a step to a state in which they are the same
   own_kept : (next : MachineState) → next.active ≢ d → data_of image d next.memory ≡ data_of image d state.memory →
-      saved_sp next d ≡ saved_sp state d → flat_map (kept_by d) next.cross ≡ flat_map (kept_by d) state.cross →
+      zone_of next d ≡ zone_of state d → saved_sp next d ≡ saved_sp state d → flat_map (kept_by d) next.cross ≡ flat_map (kept_by d) state.cross →
       own image next d ≡ own image state d
-  own_kept next other bytes saved calls = λ i. record {
+  own_kept next other bytes zone saved calls = λ i. record {
     bytes = bytes i;
+    zone = zone i;
     saved = saved i;
     calls = calls i;
     running = idle_both next.active _ d (record { regs = next.regs; pc = next.pc })
@@ -74,30 +72,34 @@ module _ (image : ImageParts) (inputs : List ℕ) (state : MachineState) (d : �
   }
 
   return_keeps : (cross : List Crossing) → state.cross ≡ cross → Kept_after (Goes (on_return image state cross))
-  return_keeps [] is = λ next. own_kept (on_return image state []) next refl refl refl
+  return_keeps [] is = λ next. own_kept (on_return image state []) next refl refl refl refl
   return_keeps (x ∷ xs) is = λ next.
       let chain : AreNested (length image.comps) state.active (x ∷ xs) =
       subst (AreNested (length image.comps) state.active) is h.chain in
       let callee : x.callee ≢ d = λ same. differ (sym chain.0 ∙ same) in
-      own_kept (on_return image state (x ∷ xs)) next refl
+      own_kept (on_return image state (x ∷ xs)) next refl refl
       (get_or-set_other state.saved state.active d x.saved 0 (λ same. differ (sym same)))
       (sym (ap (flat_map (kept_by d)) is ∙ ap (λ kept. kept ++ flat_map (kept_by d) xs) (not_in d x next callee)))
 
   pub step_keeps : Kept_after (step image inputs state)
   step_keeps = step_of image inputs formed state Kept_after (record {
     same = λ a owned. refl;
+    zone = refl;
     traps = λ reason next. refl;
-    quiet = λ regs pc same next. own_kept (record state { regs = regs; pc = pc }) next refl refl refl;
+    quiet = λ regs pc same next. own_kept (record state { regs = regs; pc = pc }) next refl refl refl refl;
+    rezones = λ regs pc spans moves next. own_kept
+        (record state { regs = regs; pc = pc; zones = slice_set state.zones state.active spans }) next refl
+        (get_or-set_other state.zones state.active d spans [] (λ same. differ (sym same))) refl refl;
     stores = λ op a word allowed next. own_kept (with_pc (with_stored state op a word) (state.pc + 4)) next
         (data_kept image state.active d a (store_size op) word state.memory formed differ
-        (allowed_data image state.active (store_size op) a allowed)) refl refl;
+        (allowed_data image state.active (store_size op) a allowed)) refl refl refl;
     calls = λ to index target at may next. own_kept (on_call state to index (export_params image to index) target) next
-        refl
+        refl refl
         (get_or-set_other state.saved state.active d (reg state sp) 0 (λ same. differ (sym same)))
         (ap (λ kept. kept ++ flat_map (kept_by d) state.cross) (not_in d (crossing_to state to index) differ next));
     returns = return_keeps state.cross refl;
-    outputs = λ may next. own_kept (with_pc (on_output state) (state.pc + 4)) next refl refl refl;
-    reads = λ may next. own_kept (with_pc (on_input inputs state) (state.pc + 4)) next refl refl refl;
+    outputs = λ may next. own_kept (with_pc (on_output state) (state.pc + 4)) next refl refl refl refl;
+    reads = λ may next. own_kept (with_pc (on_input inputs state) (state.pc + 4)) next refl refl refl refl;
   })
 
 -- Who is active after a step that emits no entry of d.
@@ -122,8 +124,10 @@ module _ (image : ImageParts) (inputs : List ℕ) (state : MachineState) (d : �
   pub step_elsewhere : Elsewhere (step image inputs state)
   step_elsewhere = step_of image inputs formed state Elsewhere (record {
     same = λ a owned. refl;
+    zone = refl;
     traps = λ reason none. differ;
     quiet = λ regs pc moves none. differ;
+    rezones = λ regs pc spans moves none. differ;
     stores = λ op a word allowed none. differ;
     calls = λ to index target at may none. entry_by to d (one_event _ none);
     returns = return_elsewhere _;
@@ -150,8 +154,10 @@ module _ (image : ImageParts) (inputs : List ℕ) (state : MachineState) (d : �
   pub step_leaves : DataAfter (step image inputs state)
   step_leaves = step_of image inputs formed state DataAfter (record {
     same = λ a owned. refl;
+    zone = refl;
     traps = λ reason. refl;
     quiet = λ regs pc moves. refl;
+    rezones = λ regs pc spans moves. refl;
     stores = λ op a word allowed. data_kept image state.active d a (store_size op) word state.memory formed differ
         (allowed_data image state.active (store_size op) a allowed);
     calls = λ to index target at may. refl;
@@ -185,8 +191,10 @@ module _ (image : ImageParts) (inputs : List ℕ) (state : MachineState) (formed
   pub silent_stays : StaysSilent (step image inputs state)
   silent_stays = step_of image inputs formed state StaysSilent (record {
     same = λ a owned. refl;
+    zone = refl;
     traps = λ reason silent. same_stays;
     quiet = λ regs pc moves silent. record { active = refl; cross = refl; input = refl };
+    rezones = λ regs pc spans moves silent. record { active = refl; cross = refl; input = refl };
     stores = λ op a word allowed silent. record { active = refl; cross = refl; input = refl };
     calls = λ to index target at may silent. absurd (loud state.trace (Call state.active to index _) silent);
     returns = loud_return state.cross;
@@ -252,6 +260,9 @@ module _ (image image' : ImageParts) (inputs inputs' : List ℕ) (formed : IsWel
         bytes_same : data_of image c left.memory ≡ data_of image c rest.memory
         bytes_same = ap (λ o. o.bytes) parts
 
+        zone_same : zone_of left c ≡ zone_of rest c
+        zone_same = ap (λ o. o.zone) parts
+
         calls_same : flat_map (kept_by c) left.cross ≡ flat_map (kept_by c) rest.cross
         calls_same = ap (λ o. o.calls) parts
 
@@ -265,11 +276,31 @@ module _ (image image' : ImageParts) (inputs inputs' : List ℕ) (formed : IsWel
           emits = adds;
           parts = λ i. record {
             bytes = same i;
+            zone = zone_same i;
             saved = (parts i).saved;
             calls = calls_same i;
             running = if nat_eq c c then Some (record { regs = alike i; pc = pc' }) else None;
           };
         }
+
+        -- these blocks in the zone
+        rezones_on : (regs' : List ℕ) (pc' : ℕ) (spans : List Span) → Follow image c left right
+            (Goes (record left { regs = regs'; pc = pc'; zones = slice_set left.zones c spans }))
+            (Goes (record right { regs = regs'; pc = pc'; zones = slice_set rest.zones c spans }))
+        rezones_on regs' pc' spans =
+            let here = get_or-set_same left.zones c spans [] (omega (arith, steady.zones, steady.active)) in
+            let there = get_or-set_same rest.zones c spans [] (omega (arith, steady'.zones, steady'.active)) in
+            let both = here ∙ sym there in
+            record {
+              emits = nothing_added left.trace rest.trace;
+              parts = λ i. record {
+                bytes = bytes_same i;
+                zone = both i;
+                saved = (parts i).saved;
+                calls = calls_same i;
+                running = if nat_eq c c then Some (record { regs = regs'; pc = pc' }) else None;
+              };
+            }
 
         -- a call
         kept_of_caller : (to : ℕ) (crossing : Crossing) → crossing.caller ≡ c → crossing.callee ≢ c →
@@ -288,6 +319,7 @@ module _ (image image' : ImageParts) (inputs inputs' : List ℕ) (formed : IsWel
               emits = added left.trace rest.trace event event refl;
               parts = λ i. record {
                 bytes = bytes_same i;
+                zone = zone_same i;
                 saved = sps i;
                 calls = kept i;
                 running = idle_both to to c (record { regs = (on_call left to index params target).regs; pc = target })
@@ -325,6 +357,7 @@ module _ (image image' : ImageParts) (inputs inputs' : List ℕ) (formed : IsWel
               emits = added left.trace rest.trace (event (call_of x)) (event (call_of x')) (ap event first);
               parts = λ i. record {
                 bytes = bytes_same i;
+                zone = zone_same i;
                 saved = sps i;
                 calls = rests i;
                 running = idle_both x.caller x'.caller c (record { regs = after.regs; pc = after.pc })
@@ -346,9 +379,11 @@ module _ (image image' : ImageParts) (inputs inputs' : List ℕ) (formed : IsWel
         pub follow : Follow image c left right (step image inputs left) (step image inputs' right)
         follow = step_both image inputs inputs' formed left rest (Follow image c left right) (record {
           same = λ a owned. same_at image c a left.memory rest.memory bytes_same owned;
+          zone = zone_same;
           traps = λ reason. record { emits = refl; parts = parts };
           quiet = λ regs' pc' same. on regs' regs' pc' left.input rest.input left.trace rest.trace (λ m. m) refl
               (nothing_added left.trace rest.trace) bytes_same;
+          rezones = λ regs' pc' spans moves. rezones_on regs' pc' spans;
           stores = λ op a word allowed. on left.regs left.regs (left.pc + 4) left.input rest.input left.trace rest.trace
               (λ m. with_bytes m a (store_size op) word) refl (nothing_added left.trace rest.trace)
               (stored_same image c a _ word left.memory rest.memory
@@ -387,7 +422,7 @@ next_written : (one there : Point) →
 next_written one there h =
     let c = one.state.active in
     let right = standing one.state there.state in
-    let same = step_agree one.image there.image there.inputs right h.images
+    let same = step_agree one.image there.image there.inputs right h.one_runs.formed h.other_runs.formed h.images
     (in_latest there.image right h.other_runs.steady) in
     let agree = own_agree c one.image there.image h.images in
     let parts : own one.image one.state c ≡ own one.image right c = h.own_parts ∙ sym (agree right) in

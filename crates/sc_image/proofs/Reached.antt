@@ -1,24 +1,21 @@
 -- What holds of every state that a run reaches.
-use Rattle.sc_image.proofs.Common.{All, All-cons, All-head, All-nil, All-tail, Bool, Call, CompPart, Crossing, End}
-use Rattle.sc_image.proofs.Common.{Event, Export, HoldsBytes, ImageParts, ImportPart, In, AreNested, IsImport}
-use Rattle.sc_image.proofs.Common.{IsReached}
-use Rattle.sc_image.proofs.Common.{IsSteadyState, IsWellFormed, IsWord, KeepsWords, List, ByteMemory, None, Option, Out}
-use Rattle.sc_image.proofs.Common.{Ret}
-use Rattle.sc_image.proofs.Common.{RunsAreSteady, Some, MachineState, [], a0, after_step, ap, arith, call_of, on_call}
-use Rattle.sc_image.proofs.Common.{count_read, eqb-true, entered_export, false, gate, get_or_from_slice_get, given_back}
-use Rattle.sc_image.proofs.Common.{has_result, on_input, input_at, inputs_in, is_argument, is_result, kept, kept_from}
-use Rattle.sc_image.proofs.Common.{length, length-set, list_any, map, may_call_export, open_after, open_calls}
-use Rattle.sc_image.proofs.Common.{export_params}
-use Rattle.sc_image.proofs.Common.{position, ra, refl, replicate, on_return, saved_sp, slice_get, slice_get_within}
-use Rattle.sc_image.proofs.Common.{slice_index, sp, stack_tops, start, step, store_size, subst, suc, sym, true}
-use Rattle.sc_image.proofs.Common.{unwrap_or, without_latest, word_at, written, zero, ℕ, ◌&&◌, ◌++◌, ◌+◌, ◌<◌, ◌==◌}
-use Rattle.sc_image.proofs.Common.{◌||◌, ◌∙◌, ◌∷◌, ◌≡◌, ◌≢◌, ◌≤◌}
+use Rattle.sc_image.proofs.Common.{All, All-cons, All-head, All-nil, All-tail, AreNested, Bool, ByteMemory, Call}
+use Rattle.sc_image.proofs.Common.{CompPart, Crossing, End, Event, Export, HoldsBytes, ImageParts, ImportPart, In}
+use Rattle.sc_image.proofs.Common.{IsImport, IsReached, IsSteadyState, IsWellFormed, IsWord, KeepsWords, List}
+use Rattle.sc_image.proofs.Common.{MachineState, None, Option, Out, Ret, RunsAreSteady, Some, Span, [], a0, after_step}
+use Rattle.sc_image.proofs.Common.{ap, arith, call_of, count_read, entered_export, eqb-true, export_params, false, gate}
+use Rattle.sc_image.proofs.Common.{get_or_from_slice_get, given_back, has_result, input_at, inputs_in, is_argument}
+use Rattle.sc_image.proofs.Common.{is_result, kept, kept_from, length, length-map, length-set, list_any, map}
+use Rattle.sc_image.proofs.Common.{may_call_export, on_call, on_input, on_return, open_after, open_calls, position, ra}
+use Rattle.sc_image.proofs.Common.{refl, replicate, saved_sp, slice_get, slice_get_within, slice_index, sp, stack_tops}
+use Rattle.sc_image.proofs.Common.{start, step, store_size, subst, suc, sym, true, unwrap_or, without_latest, word_at}
+use Rattle.sc_image.proofs.Common.{written, zero, ℕ, ◌&&◌, ◌++◌, ◌+◌, ◌<◌, ◌==◌, ◌||◌, ◌∙◌, ◌∷◌, ◌≡◌, ◌≢◌, ◌≤◌}
 use Rattle.std.proofs.lemmas.List.Sums.{fold-append}
 use Rattle.sc_image.proofs.Words.{AreWords, set_words, written_words, written_zero, kept_words, kept_zero, in_code}
 use Rattle.sc_image.proofs.Words.{code_address, comp_found, entry_address}
 use Rattle.sc_image.proofs.Memory.{stored_bytes, start_bytes}
 use Rattle.sc_image.proofs.Running.{step_nowhere, after_keeps, run_keeps}
-use Rattle.sc_image.proofs.Cases.{AtNext, length-written, step_of}
+use Rattle.sc_image.proofs.Cases.{AtNext, Moves, length-written, step_of}
 
 -- One more event.
 
@@ -81,6 +78,25 @@ input_by inputs k all (Some word) is =
 input_word : (inputs : List ℕ) (k : ℕ) → All IsWord inputs → IsWord (input_at inputs k)
 input_word inputs k all = input_by inputs k all _ refl
 
+-- other blocks in the zones
+rezoned : (image : ImageParts) (state : MachineState) (zones : List (List Span)) →
+    length zones ≡ length image.comps → IsSteadyState image state → IsSteadyState image (record state { zones = zones })
+rezoned image state zones count h = record {
+  regs = h.regs;
+  words = h.words;
+  zero = h.zero;
+  pc = h.pc;
+  active = h.active;
+  saved = h.saved;
+  saved_words = h.saved_words;
+  zones = count;
+  bytes = h.bytes;
+  chain = h.chain;
+  kept = h.kept;
+  calls = h.calls;
+  input = h.input;
+}
+
 module _ (image : ImageParts) (inputs : List ℕ) (formed : IsWellFormed image) (all : All IsWord inputs) (state :
     MachineState)
     (h : IsSteadyState image state) where
@@ -106,6 +122,7 @@ module _ (image : ImageParts) (inputs : List ℕ) (formed : IsWellFormed image) 
     active = h.active;
     saved = h.saved;
     saved_words = h.saved_words;
+    zones = h.zones;
     bytes = bytes;
     chain = h.chain;
     kept = h.kept;
@@ -136,6 +153,7 @@ module _ (image : ImageParts) (inputs : List ℕ) (formed : IsWellFormed image) 
         active = chain.2;
         saved = length-set state.saved state.active x.saved ∙ h.saved;
         saved_words = set_words state.saved state.active x.saved h.saved_words first.saved;
+        zones = h.zones;
         bytes = h.bytes;
         chain = chain.3;
         kept = All-tail KeepsWords x xs keeps;
@@ -161,6 +179,7 @@ module _ (image : ImageParts) (inputs : List ℕ) (formed : IsWellFormed image) 
           active = called_there image to target index at;
           saved = length-set _ _ _ ∙ h.saved;
           saved_words = set_words _ _ _ h.saved_words (h.words sp);
+          zones = h.zones;
           bytes = h.bytes;
           chain = (refl, called_other image _ to index formed may, h.active, h.chain);
           kept = All-cons KeepsWords _ _ (record { pc = here; sp = h.words sp; saved = h.saved_words to }) h.kept;
@@ -169,12 +188,19 @@ module _ (image : ImageParts) (inputs : List ℕ) (formed : IsWellFormed image) 
           input = same_input event refl;
         }
 
+    moved : (regs : List ℕ) (pc : ℕ) → Moves image inputs inputs formed state state regs pc →
+        IsSteadyState image (record state { regs = regs; pc = pc })
+    moved regs pc moves = steady_on regs pc _ _ _ (moves.count ∙ h.regs) (moves.words here h.words h.bytes)
+        (moves.zero h.zero) (moves.goes here) h.bytes h.calls h.input
+
     steady_next : AtNext (IsSteadyState image) (step image inputs state)
     steady_next = step_of image inputs formed state (AtNext (IsSteadyState image)) (record {
       same = λ a owned. refl;
+      zone = refl;
       traps = λ reason. tt;
-      quiet = λ regs pc moves. steady_on regs pc _ _ _ (moves.count ∙ h.regs) (moves.words here h.words h.bytes)
-          (moves.zero h.zero) (moves.goes here) h.bytes h.calls h.input;
+      quiet = λ regs pc moves. moved regs pc moves;
+      rezones = λ regs pc spans moves. rezoned image _ _ (length-set state.zones state.active spans ∙ h.zones)
+          (moved regs pc moves);
       stores = λ op a word allowed. steady_on _ _ _ _ _ h.regs h.words h.zero here
           (stored_bytes image formed state.active a (store_size op) word state.memory h.active allowed h.bytes)
           h.calls h.input;
@@ -224,6 +250,7 @@ steady_start image formed = record {
   active = formed.main;
   saved = length-stack_tops 0 _;
   saved_words = stack_tops_words 0 _ (omega (arith, formed.few_comps));
+  zones = length-map image.comps _;
   bytes = start_bytes image formed;
   chain = tt;
   kept = All-nil KeepsWords;

@@ -1,18 +1,13 @@
 -- What a call keeps stays on the cross stack until the call returns, and comes back then.
-use Rattle.sc_image.proofs.Common.{Adds, All, Bool, Call, CallsComeBack, ComesBack, Crossing, End, Event, Goes}
-use Rattle.sc_image.proofs.Common.{HasCalled, ImageParts, In, IsSteadyState, IsWellFormed, IsWord, List, None, Option}
-use Rattle.sc_image.proofs.Common.{Out}
-use Rattle.sc_image.proofs.Common.{Outcome, Point, Ret, RunsAt, MachineState, StaysAbove, Traps, [], a0, after_outcome}
-use Rattle.sc_image.proofs.Common.{ap}
-use Rattle.sc_image.proofs.Common.{ap₂, arguments, arith, on_call, drop, drop-append_seam, eq-eqb, eqb-true, false}
-use Rattle.sc_image.proofs.Common.{gate}
-use Rattle.sc_image.proofs.Common.{get_or, get_or-set_other, get_or-set_same, given_back, has_result, if◌then◌else◌}
-use Rattle.sc_image.proofs.Common.{on_input, input_at, is_argument, is_result, kept, later, length, length-append}
-use Rattle.sc_image.proofs.Common.{nat_eq}
-use Rattle.sc_image.proofs.Common.{observation_at, observation_of, on_output, export_params, ra, refl, reg, on_return}
-use Rattle.sc_image.proofs.Common.{saved_sp}
-use Rattle.sc_image.proofs.Common.{set, sp, step, subst, suc, sym, true, with_pc, with_stored, written, zero, ℕ, ◌++◌}
-use Rattle.sc_image.proofs.Common.{◌+◌, ◌<◌, ◌∙◌, ◌∷◌, ◌≡◌, ◌≢◌}
+use Rattle.sc_image.proofs.Common.{Adds, All, Bool, Call, CallsComeBack, ComesBack, Crossing, End, Goes, HasCalled}
+use Rattle.sc_image.proofs.Common.{ImageParts, In, IsSteadyState, IsWellFormed, IsWord, List, MachineState, Option, Out}
+use Rattle.sc_image.proofs.Common.{Outcome, Point, Ret, RunsAt, StaysAbove, Traps, [], a0, after_outcome, ap, ap₂}
+use Rattle.sc_image.proofs.Common.{arguments, arith, drop, drop-append_seam, eq-eqb, eqb-true, export_params, false}
+use Rattle.sc_image.proofs.Common.{gate, get_or, get_or-set_other, get_or-set_same, given_back, has_result}
+use Rattle.sc_image.proofs.Common.{if◌then◌else◌, input_at, is_argument, is_result, kept, later, length, length-append}
+use Rattle.sc_image.proofs.Common.{nat_eq, observation_at, observation_of, on_call, on_input, on_output, on_return, ra}
+use Rattle.sc_image.proofs.Common.{refl, reg, saved_sp, set, slice_set, sp, step, subst, suc, sym, true, with_pc}
+use Rattle.sc_image.proofs.Common.{with_stored, written, zero, ℕ, ◌++◌, ◌+◌, ◌<◌, ◌∙◌, ◌∷◌, ◌≡◌, ◌≢◌}
 use Rattle.sc_image.proofs.Cases.{crossing_to, length-written, step_of}
 use Rattle.sc_image.proofs.Reached.{called_other, length-kept, step_steady}
 use Rattle.sc_image.proofs.Isolation.{in_latest}
@@ -170,8 +165,11 @@ module _ (crossing : Crossing) (base : List Crossing) (due : ℕ → ℕ) where
     pub step_on : After (step image inputs t)
     step_on = step_of image inputs formed t After (record {
       same = λ a owned. refl;
+      zone = refl;
       traps = λ reason. quiet_on (Traps reason) refl refl;
       quiet = λ regs pc moves. quiet_on (Goes (record t { regs = regs; pc = pc })) refl refl;
+      rezones = λ regs pc spans moves. quiet_on
+          (Goes (record t { regs = regs; pc = pc; zones = slice_set t.zones t.active spans })) refl refl;
       stores = λ op a word allowed. quiet_on (Goes (with_pc (with_stored t op a word) (t.pc + 4))) refl refl;
       calls = λ to index target at may. call_on to index _ target;
       returns = return_on t.cross refl;
@@ -222,8 +220,10 @@ module _ (image : ImageParts) (inputs : List ℕ) (formed : IsWellFormed image) 
   pub step_calls : CallsIf (step image inputs t)
   step_calls = step_of image inputs formed t CallsIf (record {
     same = λ a owned. refl;
+    zone = refl;
     traps = λ reason emits. cc emits;
     quiet = λ regs pc moves emits. no_call emits;
+    rezones = λ regs pc spans moves emits. no_call emits;
     stores = λ op a word allowed emits. no_call emits;
     calls = λ to' index' target at may emits.
         let event : Call t.active to' index' (arguments (export_params image to' index') t.regs) ≡

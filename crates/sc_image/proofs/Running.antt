@@ -1,20 +1,19 @@
 -- What a step is, runs and stretches of runs, and what stands in memory at the start.
-use Rattle.sc_image.proofs.Common.{BadJump, Bool, CompPart, Ended, Event, EventsOut, Goes, Illegal, ImageInMemory}
-use Rattle.sc_image.proofs.Common.{ImageParts, Instr, IsAt, IsWellFormed, IsWord, List, ByteMemory, None, Option}
-use Rattle.sc_image.proofs.Common.{Outcome}
-use Rattle.sc_image.proofs.Common.{Region, MachineRun, Some, MachineState, StepsByInstruction, StepsOut, Stop, Trap}
-use Rattle.sc_image.proofs.Common.{TrapReason}
-use Rattle.sc_image.proofs.Common.{Traps, Walks, [], after, after_outcome, and_from, ap, are_data, arith, byte_of}
-use Rattle.sc_image.proofs.Common.{code_in, code_start, comp_of_data, continued, data_regions, data_start, decoded}
-use Rattle.sc_image.proofs.Common.{eq-eqb, execute, execute_by, false, flat_map, if◌then◌else◌, is_in, le-leb, le-ltb}
-use Rattle.sc_image.proofs.Common.{length, list_any, little_bytes, load_of, lt-ltb, nat_eq, nat_le, nat_lt, or_left}
-use Rattle.sc_image.proofs.Common.{or_right, refl, run, slice_get, slice_get_within, stack_size, stack_top}
-use Rattle.sc_image.proofs.Common.{start_memory, step, step_by, stopped, stops_or, stretch, subst, suc, suc-add, sym}
-use Rattle.sc_image.proofs.Common.{then_on, true, unless_stopped, walk, word_at, zero, zero-add, ℕ, ◌%◌, ◌*◌, ◌++◌, ◌+◌}
-use Rattle.sc_image.proofs.Common.{◌-◌, ◌/◌, ◌<◌, ◌^◌, ◌∙◌, ◌∷◌, ◌≡◌, ◌≤◌}
+use Rattle.sc_image.proofs.Common.{BadJump, Bool, ByteMemory, CompPart, Ended, Event, EventsOut, Goes, Illegal}
+use Rattle.sc_image.proofs.Common.{ImageInMemory, ImageParts, Instr, IsAt, IsWellFormed, IsWord, List, MachineRun}
+use Rattle.sc_image.proofs.Common.{MachineState, None, Option, Outcome, Region, Some, StepsByInstruction, StepsOut}
+use Rattle.sc_image.proofs.Common.{Stop, Trap, TrapReason, Traps, Walks, [], after, after_outcome, and_from, ap}
+use Rattle.sc_image.proofs.Common.{are_data, arith, byte_of, code_in, code_start, comp_of_data, continued, data_regions}
+use Rattle.sc_image.proofs.Common.{data_start, decoded, eq-eqb, execute, execute_by, false, flat_map, if◌then◌else◌}
+use Rattle.sc_image.proofs.Common.{is_in, le-leb, le-ltb, length, list_any, little_bytes, load_of, lt-ltb, most_globals}
+use Rattle.sc_image.proofs.Common.{nat_eq, nat_le, nat_lt, or_left, or_right, refl, run, slice_get, slice_get_within}
+use Rattle.sc_image.proofs.Common.{stack_size, stack_top, start_memory, step, step_by, stopped, stops_or, stretch}
+use Rattle.sc_image.proofs.Common.{subst, suc, sym, then_on, true, unless_stopped, walk, word_at, zero, zero-add}
+use Rattle.sc_image.proofs.Common.{zone_size, zone_start, ℕ, ◌%◌, ◌*◌, ◌++◌, ◌+◌, ◌-◌, ◌/◌, ◌<◌, ◌^◌, ◌∙◌, ◌∷◌, ◌≡◌}
+use Rattle.sc_image.proofs.Common.{◌≤◌}
 use Rattle.std.proofs.Math.Nat.{suc-add}
 use Rattle.sc_image.proofs.Cases.{AtNext}
-use Rattle.sc_image.proofs.Memory.{data_byte, start_is}
+use Rattle.sc_image.proofs.Memory.{data_bounds, data_byte, start_is, zone_offset}
 
 -- an instruction
 pub step_executes : (image : ImageParts) (inputs : List ℕ) (state : MachineState) (word : ℕ) (instr : Instr) →
@@ -225,15 +224,31 @@ stack_placed image c comp k found below =
     let low = lt-ltb _ _ below in
     data_placed image c comp found k (omega (arith, below)) ∙ rw low refl
 
-globals_placed : (image : ImageParts) (c : ℕ) (comp : CompPart) (k : ℕ) → IsWellFormed image →
+globals_placed : (image : ImageParts) (c : ℕ) (comp : CompPart) (k : ℕ) → length comp.globals ≤ most_globals →
     slice_get image.comps c ≡ Some comp → k < length comp.globals →
     start_memory image (stack_top c + k) ≡ slice_get comp.globals k
-globals_placed image c comp k formed found below =
+globals_placed image c comp k few found below =
     let at : stack_top c + k ≡ data_start c + (stack_size + k) = omega arith in
     let high : nat_lt (stack_size + k) stack_size ≡ false = le-ltb _ _ (omega arith) in
+    let within : nat_lt (stack_size + k) (stack_size + length comp.globals) ≡ true =
+    lt-ltb _ _ (omega (arith, below)) in
     let place : stack_size + k - stack_size ≡ k = omega arith in
     ap (start_memory image) at ∙ data_placed image c comp found (stack_size + k)
-    (omega (arith, below, (formed.comps c comp found).short_globals)) ∙ rw (high, place) refl
+    (omega (arith, below, few)) ∙ rw (high, within, place) refl
+
+zone_placed : (image : ImageParts) (c : ℕ) (comp : CompPart) (k : ℕ) → IsWellFormed image →
+    slice_get image.comps c ≡ Some comp → comp.heap ≡ true → k < zone_size →
+    start_memory image (zone_start c + k) ≡ Some 0
+zone_placed image c comp k formed found heap below =
+    let few = (formed.comps c comp found).short_globals in
+    let at : zone_start c + k ≡ data_start c + (zone_offset + k) = omega arith in
+    let stack : nat_lt (zone_offset + k) stack_size ≡ false = le-ltb _ _ (omega arith) in
+    let globals : nat_lt (zone_offset + k) (stack_size + length comp.globals) ≡ false =
+    le-ltb _ _ (omega (arith, few)) in
+    let from : nat_le zone_offset (zone_offset + k) ≡ true = le-leb _ _ (omega arith) in
+    let upto : nat_lt (zone_offset + k) (zone_offset + zone_size) ≡ true = lt-ltb _ _ (omega (arith, below)) in
+    ap (start_memory image) at ∙ data_placed image c comp found (zone_offset + k) (omega (arith, below)) ∙
+    rw (stack, globals, heap, from, upto) refl
 
 -- The bytes of words, one after the other.
 
@@ -272,14 +287,15 @@ load_is memory a word below bytes = rw (
   bytes 3 (omega arith),
 ) (four_bytes word below)
 
-words_placed : (image : ImageParts) (c : ℕ) (comp : CompPart) (words : List ℕ) (k word : ℕ) → IsWellFormed image →
-    slice_get image.comps c ≡ Some comp → comp.globals ≡ flat_map (little_bytes 4) words →
-    slice_get words k ≡ Some word → IsWord word → load_of (start_memory image) (stack_top c + 4 * k) 4 ≡ word
-words_placed image c comp words k word formed found bytes at below =
+pub words_placed : (image : ImageParts) (c : ℕ) (comp : CompPart) (words : List ℕ) (k word : ℕ) →
+    length comp.globals ≤ most_globals → slice_get image.comps c ≡ Some comp →
+    comp.globals ≡ flat_map (little_bytes 4) words → slice_get words k ≡ Some word → IsWord word →
+    load_of (start_memory image) (stack_top c + 4 * k) 4 ≡ word
+words_placed image c comp words k word few found bytes at below =
     load_is (start_memory image) _ word below (λ j within.
     let byte : slice_get _ (4 * k + j) ≡ Some (byte_of word j) = rw bytes (word_byte words k j word within at) in
     let place : stack_top c + 4 * k + j ≡ stack_top c + (4 * k + j) = omega arith in
-    ap (start_memory image) place ∙ globals_placed image c comp _ formed found (slice_get_within _ _ _ byte) ∙ byte)
+    ap (start_memory image) place ∙ globals_placed image c comp _ few found (slice_get_within _ _ _ byte) ∙ byte)
 
 -- The addresses of a region.
 
@@ -310,7 +326,11 @@ pub image_in_memory : ImageInMemory
 image_in_memory = record {
   code = code_placed;
   stack = stack_placed;
-  globals = globals_placed;
-  global_words = words_placed;
+  globals = λ image c comp k formed found.
+      globals_placed image c comp k (formed.comps c comp found).short_globals found;
+  global_words = λ image c comp words k word formed found.
+      words_placed image c comp words k word (formed.comps c comp found).short_globals found;
+  zone = zone_placed;
   owned = owned;
+  within = data_bounds;
 }

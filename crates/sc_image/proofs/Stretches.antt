@@ -1,15 +1,13 @@
 -- Runs along stretches, the states that runs reach, and stretches that emit events.
 use Rattle.sc_image.proofs.Common.{Bool, Crossing, Emits, EmittingComposes, Ended, Event, EventsOut, Goes, ImageParts}
-use Rattle.sc_image.proofs.Common.{IsCall, IsPrefix, IsReached, IsWellFormed, List, None, Option, Outcome, Some}
-use Rattle.sc_image.proofs.Common.{MachineState}
-use Rattle.sc_image.proofs.Common.{StepsEmit, StepsOut, Stop, StretchesCompose, Traps, Walks, [], ap, append-nil}
-use Rattle.sc_image.proofs.Common.{append_assoc, arith, on_call, jump_outside, code_start, comp_of_code, on_end, eq-eqb}
-use Rattle.sc_image.proofs.Common.{false}
-use Rattle.sc_image.proofs.Common.{gate, if◌then◌else◌, is_end, is_ended, is_some, jump, leaves, length, length-append}
-use Rattle.sc_image.proofs.Common.{list_any, list_any-append, lt-leb, nat_tests, or_from, or_parts, export_params, ra}
-use Rattle.sc_image.proofs.Common.{refl}
-use Rattle.sc_image.proofs.Common.{on_return, run, start, step, stopped, stops_or, subst, suc, suc-add, sym, true, walk}
-use Rattle.sc_image.proofs.Common.{word_at, zero, zero-add, ℕ, ◌%◌, ◌++◌, ◌+◌, ◌<◌, ◌∙◌, ◌∷◌, ◌≡◌, ◌≢◌, ◌≤◌}
+use Rattle.sc_image.proofs.Common.{IsCall, IsPrefix, IsReached, IsWellFormed, List, MachineState, None, Option, Outcome}
+use Rattle.sc_image.proofs.Common.{Some, StepsEmit, StepsOut, Stop, StretchesCompose, Traps, Walks, [], ap, append-nil}
+use Rattle.sc_image.proofs.Common.{append_assoc, arith, code_start, comp_of_code, eq-eqb, export_params, false, gate}
+use Rattle.sc_image.proofs.Common.{if◌then◌else◌, is_end, is_ended, is_some, jump, jump_outside, leaves, length}
+use Rattle.sc_image.proofs.Common.{length-append, list_any, list_any-append, lt-leb, nat_tests, on_call, on_end}
+use Rattle.sc_image.proofs.Common.{on_return, or_from, or_parts, ra, refl, run, start, step, stopped, stops_or, subst}
+use Rattle.sc_image.proofs.Common.{suc, suc-add, sym, true, walk, word_at, zero, zero-add, ℕ, ◌%◌, ◌++◌, ◌+◌, ◌<◌, ◌∙◌}
+use Rattle.sc_image.proofs.Common.{◌∷◌, ◌≡◌, ◌≢◌, ◌≤◌}
 use Rattle.sc_image.proofs.Cases.{AtNext, step_of}
 use Rattle.sc_image.proofs.Traces.{ended_by}
 use Rattle.sc_image.proofs.Running.{run_stopped, run_out, run_goes, run_traps, run_keeps, first_step, walk_one}
@@ -48,8 +46,10 @@ step_adds : (image : ImageParts) (inputs : List ℕ) (state : MachineState) → 
     AtNext (AddsOne state.trace) (step image inputs state)
 step_adds image inputs state formed = step_of image inputs formed state (AtNext (AddsOne state.trace)) (record {
   same = λ a owned. refl;
+  zone = refl;
   traps = λ reason. tt;
   quiet = λ regs pc moves. ([], append-nil _, omega arith);
+  rezones = λ regs pc spans moves. ([], append-nil _, omega arith);
   stores = λ op a word allowed. ([], append-nil _, omega arith);
   calls = λ to index target at may. one_more state.trace _;
   returns = return_adds image state state.cross;

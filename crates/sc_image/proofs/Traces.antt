@@ -1,18 +1,16 @@
 -- The trace of a run is one that the image's interfaces allow, whatever the types of their scalars.
-use Rattle.sc_image.proofs.Common.{All, Bool, Call, CompPart, Crossing, End, Ended, Entry, Event, EventsOut, Export}
-use Rattle.sc_image.proofs.Common.{ExportPart, ImageParts, In, Int, AreNested, IsSteadyState, IsWellFormed, IsWord}
-use Rattle.sc_image.proofs.Common.{LegalByWords, List, Main, ByteMemory, None, Option, Out, Ret, Some, MachineState}
-use Rattle.sc_image.proofs.Common.{MachineTracesAreLegal, [], a0, and_from, and_parts, ap, ap₂, arguments, arith}
-use Rattle.sc_image.proofs.Common.{eq-eqb}
-use Rattle.sc_image.proofs.Common.{exported_by, false, given_back, has_result, if◌then◌else◌, image_import, inl, inr}
-use Rattle.sc_image.proofs.Common.{image_interface, image_interfaces, is_end, is_ended, is_there, length, length-append}
-use Rattle.sc_image.proofs.Common.{length-map, length-replicate, list_any, list_any-append, machine, map}
-use Rattle.sc_image.proofs.Common.{may_call_export}
-use Rattle.sc_image.proofs.Common.{may_input, may_output, option_and_then, option_map, option_map_or, or_right}
-use Rattle.sc_image.proofs.Common.{export_params, position, position-Some, image_proto, refl, reg, on_return, run}
-use Rattle.sc_image.proofs.Common.{slice_get}
-use Rattle.sc_image.proofs.Common.{slice_get-map, start, step, stopped, subst, sym, true, true≢false, word_interface}
-use Rattle.sc_image.proofs.Common.{word_interfaces, word_proto, ℕ, ◌&&◌, ◌++◌, ◌-◌, ◌<◌, ◌==◌, ◌||◌, ◌∙◌, ◌∷◌, ◌≡◌, ◌⊎◌}
+use Rattle.sc_image.proofs.Common.{All, AreNested, Bool, ByteMemory, Call, CompPart, Crossing, End, Ended, Entry, Event}
+use Rattle.sc_image.proofs.Common.{EventsOut, Export, ExportPart, ImageParts, In, Int, IsSteadyState, IsWellFormed}
+use Rattle.sc_image.proofs.Common.{IsWord, LegalByWords, List, MachineState, MachineTracesAreLegal, Main, None, Option}
+use Rattle.sc_image.proofs.Common.{Out, Ret, Some, Span, [], a0, and_from, and_parts, ap, ap₂, arguments, arith, eq-eqb}
+use Rattle.sc_image.proofs.Common.{export_params, exported_by, false, given_back, has_result, if◌then◌else◌}
+use Rattle.sc_image.proofs.Common.{image_import, image_interface, image_interfaces, image_proto, inl, inr, is_end}
+use Rattle.sc_image.proofs.Common.{is_ended, is_there, length, length-append, length-map, length-replicate, list_any}
+use Rattle.sc_image.proofs.Common.{list_any-append, machine, map, may_call_export, may_input, may_output, on_return}
+use Rattle.sc_image.proofs.Common.{option_and_then, option_map, option_map_or, or_right, position, position-Some, refl}
+use Rattle.sc_image.proofs.Common.{reg, run, slice_get, slice_get-map, start, step, stopped, subst, sym, true}
+use Rattle.sc_image.proofs.Common.{true≢false, word_interface, word_interfaces, word_proto, ℕ, ◌&&◌, ◌++◌, ◌-◌, ◌<◌}
+use Rattle.sc_image.proofs.Common.{◌==◌, ◌||◌, ◌∙◌, ◌∷◌, ◌≡◌, ◌⊎◌}
 use Rattle.sc_event.specs.Prelude.{Activation, Standing, at_start, awaits, comp_at, export_at, fits_result, imports}
 use Rattle.sc_event.specs.Prelude.{is_allowed, is_function, is_input, is_legal_from, is_output, may_perform, may_return}
 use Rattle.sc_event.specs.Prelude.{performer, resumed, stands_after, stands_after_all, takes}
@@ -186,10 +184,10 @@ module _ (image : ImageParts) (inputs : List ℕ) (formed : IsWellFormed image) 
     stands = ap (stands_after_all _) trace ∙ (stands_more (at_start _) state.trace event _ h.stands ∙ stands);
   })
 
-  silent : (regs : List ℕ) (pc : ℕ) (memory : ByteMemory) →
-      IsSteadyState image (record state { regs = regs; pc = pc; memory = memory }) →
-      IsEmitted image (record state { regs = regs; pc = pc; memory = memory })
-  silent regs pc memory steady =
+  silent : (regs : List ℕ) (pc : ℕ) (memory : ByteMemory) (zones : List (List Span)) →
+      IsSteadyState image (record state { regs = regs; pc = pc; memory = memory; zones = zones }) →
+      IsEmitted image (record state { regs = regs; pc = pc; memory = memory; zones = zones })
+  silent regs pc memory zones steady =
       inl (record { steady = steady; exports = h.exports; legal = h.legal; stands = h.stands })
 
   fits_given : (result : Bool) → fits_result (if result then Some Int else None) (given_back result state) ≡ true
@@ -230,9 +228,11 @@ module _ (image : ImageParts) (inputs : List ℕ) (formed : IsWellFormed image) 
       (λ outcome. AtNext (IsSteadyState image) outcome → AtNext (IsEmitted image) outcome)
       (record {
         same = λ a owned. refl;
+        zone = refl;
         traps = λ reason steady. tt;
-        quiet = λ regs pc same steady. silent regs pc _ steady;
-        stores = λ op a word allowed steady. silent _ _ _ steady;
+        quiet = λ regs pc moves steady. silent regs pc _ _ steady;
+        rezones = λ regs pc spans moves steady. silent regs pc _ _ steady;
+        stores = λ op a word allowed steady. silent _ _ _ _ steady;
         calls = λ to index target at may steady.
             let said = said_at image to index (position_within (λ export. export.entry == target)
             (exported_by image to) index at) in

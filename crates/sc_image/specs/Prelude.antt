@@ -36,7 +36,7 @@ pub use Rattle.sc_image.specs.RoundTrip.{AreBytesOf, BadOrImage, BytesNameOneIma
 pub use Rattle.sc_image.specs.Rules.{are_distinct_by, comps_keep, exports_keep, imports_keep, is_entry, is_importable}
 pub use Rattle.sc_image.specs.Rules.{is_same_import, is_same_name, keeps_rules}
 pub use Rattle.sc_image.specs.State.{Crossing, MachineState, a0, a1, a7, byte_at, ra, reg, saved_sp, sp, stack_tops}
-pub use Rattle.sc_image.specs.State.{start, with_pc, written, zone_of}
+pub use Rattle.sc_image.specs.State.{start, with_pc, with_reg, written, zone_of}
 unfoldable pub use Rattle.sc_image.specs.State.{start_memory}
 pub use Rattle.sc_image.specs.Steady.{AreNested, IsSteadyState, KeepsWords, OpenCall, call_of, count_read, inputs_in}
 pub use Rattle.sc_image.specs.Steady.{latest_call, open_after, open_calls, without_latest}
