@@ -1,5 +1,6 @@
-// Images, the cross stack, and machines.
+// Images, the cross stack, heaps, and machines.
 
 mod gates;
+mod heaps;
 mod images;
 mod machines;

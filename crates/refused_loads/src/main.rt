@@ -8,9 +8,9 @@ use sc_store::PagedStore;
 use std::alloc::Global;
 use std::process::ExitCode;
 
-// One compartment, whose code is one jump to itself, with four bytes of globals.
+// One compartment with a heap, whose code is one jump to itself, with four bytes of globals.
 const IMAGE: [u8; 35] = [
-    b'S', b'C', b'I', b'M', 1, 0, 1, 0, 0, 0, 0, 1, 1, b'A', 0, 0, 0, 0, 0, 4, 0, 0, 0, 0x6f, 0, 0,
+    b'S', b'C', b'I', b'M', 2, 0, 1, 0, 0, 0, 0, 1, 1, b'A', 4, 0, 0, 0, 0, 4, 0, 0, 0, 0x6f, 0, 0,
     0, 4, 0, 0, 0, 1, 2, 3, 4,
 ];
 

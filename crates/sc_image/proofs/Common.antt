@@ -51,7 +51,7 @@ pub use Rattle.sc_image.specs.Common.{little_bytes, little_number}
 pub use Rattle.sc_image.specs.Prelude.{Adds, AgreeFor, AreBytesOf, BadOrImage, BytesNameOneImage, CallsComeBack}
 pub use Rattle.sc_image.specs.Prelude.{WrittenIsRead, a1, data_end, frees, has_heap, latest_version, most_flags}
 pub use Rattle.sc_image.specs.Prelude.{on_alloc, on_free, parts_bytes, starts_block, version_at, with_zone}
-pub use Rattle.sc_image.specs.Prelude.{with_reg, zone_address, zone_of, zone_size, zone_start}
+pub use Rattle.sc_image.specs.Prelude.{mark_at, with_reg, zone_address, zone_of, zone_size, zone_start}
 pub use Rattle.sc_zone.specs.declared.span.Span.{Span}
 pub use Rattle.sc_image.specs.Prelude.{ComesBack, Crossing, Emits, EmittingComposes, Entered, EntersByEvent, Fails}
 pub use Rattle.sc_image.specs.Prelude.{FitsItsFields, FollowsFromOwn, Goes, HasCalled, ImageInMemory, IsAt}

@@ -1,15 +1,15 @@
 -- The fields of an image: what is read is what is written.
 use Rattle.sc_image.proofs.Common.{AllByRecursion, BadImage, Bool, CompPart, Compartment, Contents, Count, ExportPart}
 use Rattle.sc_image.proofs.Common.{Exports, ImageParts, ImportPart, Imports, List, Mark, Start, Version, [], and_from}
-use Rattle.sc_image.proofs.Common.{and_parts, ap, append_assoc, arith, bit, bytes_in_version, code_at, code_bytes}
-use Rattle.sc_image.proofs.Common.{codes, read_comp, comp_bytes, comp_name_at, eq-eqb, eqb-true, export_bytes}
-use Rattle.sc_image.proofs.Common.{read_exports}
-use Rattle.sc_image.proofs.Common.{exports_bytes, false, flags, globals_at, globals_bytes, import_at, import_bytes}
-use Rattle.sc_image.proofs.Common.{imports_at, imports_bytes, is_between, is_name, is_name_byte, is_nondigit}
-use Rattle.sc_image.proofs.Common.{is_same_name, le-leb, leb-true, length, list_all, little_bytes, lt-ltb, ltb-true}
-use Rattle.sc_image.proofs.Common.{most_globals, read_name, name_bytes, nat_le, nat_lt, nat_tests, not-true}
-use Rattle.sc_image.proofs.Common.{not_from_false, number_at, parts_in_version, refl, same_text, stretch, suc, sym}
-use Rattle.sc_image.proofs.Common.{true, zero, ℕ, ◌%◌, ◌&&◌, ◌*◌, ◌++◌, ◌+◌, ◌/◌, ◌<◌, ◌==◌, ◌^◌, ◌∙◌, ◌∷◌, ◌≡◌, ◌≤◌}
+use Rattle.sc_image.proofs.Common.{and_parts, ap, append_assoc, arith, bit, code_at, code_bytes, codes, comp_bytes}
+use Rattle.sc_image.proofs.Common.{comp_name_at, eq-eqb, eqb-true, export_bytes, exports_bytes, false, flags}
+use Rattle.sc_image.proofs.Common.{globals_at, globals_bytes, import_at, import_bytes, imports_at, imports_bytes}
+use Rattle.sc_image.proofs.Common.{is_between, is_name, is_name_byte, is_nondigit, is_same_name, latest_version}
+use Rattle.sc_image.proofs.Common.{le-leb, leb-true, length, list_all, little_bytes, lt-ltb, ltb-true, mark_at}
+use Rattle.sc_image.proofs.Common.{most_flags, most_globals, name_bytes, nat_le, nat_lt, nat_tests, not-true}
+use Rattle.sc_image.proofs.Common.{not_from_false, number_at, parts_at, parts_bytes, read_comp, read_exports}
+use Rattle.sc_image.proofs.Common.{read_name, refl, same_text, stretch, subst, suc, sym, true, version_at, zero, ℕ}
+use Rattle.sc_image.proofs.Common.{◌%◌, ◌&&◌, ◌*◌, ◌++◌, ◌+◌, ◌/◌, ◌<◌, ◌==◌, ◌^◌, ◌∙◌, ◌∷◌, ◌≡◌, ◌≤◌}
 use Rattle.sc_image.specs.Reading.{read_export}
 use Rattle.sc_base.proofs.Filled.{name_is_short}
 use Rattle.sc_image.proofs.Fields.{IsBytes, IsField, restated, made, tested, followed, bytes_field, number_field}
@@ -144,35 +144,46 @@ globals_field = restated (followed (tested (number_field Contents 4 four_wide) C
 
 -- compartments
 
-pub record FitsComp (comps : ℕ) (comp : CompPart) : Type 0 where
+pub record FitsComp (version comps : ℕ) (comp : CompPart) : Type 0 where
   pub name : is_name comp.name ≡ true
   pub no_environment : is_same_name comp.name (codes "Env") ≡ false
+  pub flags : flags comp ≤ most_flags version
   pub exports : FitsExports comp.exports
   pub imports : FitsImports comps comp.imports
   pub code : FitsCode comp.code
   pub globals : FitsGlobals comp.globals
 
-flags_of : (f : ℕ) → f ≤ 3 → bit (f % 2 == 1) + 2 * bit (f / 2 == 1) ≡ f
+flags_of : (f : ℕ) → f ≤ 7 → bit (f % 2 == 1) + 2 * bit (f / 2 % 2 == 1) + 4 * bit (f / 4 == 1) ≡ f
 flags_of f h = grind (arith, nat_tests)
 
-pub record HasFlags (input output : Bool) : Type 0 where
-  pub within : bit input + 2 * bit output ≤ 3
-  pub first : ((bit input + 2 * bit output) % 2 == 1) ≡ input
-  pub second : ((bit input + 2 * bit output) / 2 == 1) ≡ output
+low_flags : (version f : ℕ) → f ≤ most_flags version → f ≤ 7
+low_flags version f low = grind (arith, nat_tests)
 
-has_flags : (input output : Bool) → HasFlags input output
-has_flags input output = record {
-  within = grind (arith, nat_tests);
-  first = grind (arith, nat_tests);
-  second = grind (arith, nat_tests);
-}
+abbrev three_bits : (input output heap : Bool) → ℕ
+three_bits input output heap = bit input + 2 * bit output + 4 * bit heap
+
+record HasFlags (input output heap : Bool) : Type 0 where
+  first : (three_bits input output heap % 2 == 1) ≡ input
+  second : (three_bits input output heap / 2 % 2 == 1) ≡ output
+  third : (three_bits input output heap / 4 == 1) ≡ heap
+
+has_flags : (input output heap : Bool) → HasFlags input output heap
+has_flags false false false = record { first = refl; second = refl; third = refl }
+has_flags false false true = record { first = refl; second = refl; third = refl }
+has_flags false true false = record { first = refl; second = refl; third = refl }
+has_flags false true true = record { first = refl; second = refl; third = refl }
+has_flags true false false = record { first = refl; second = refl; third = refl }
+has_flags true false true = record { first = refl; second = refl; third = refl }
+has_flags true true false = record { first = refl; second = refl; third = refl }
+has_flags true true true = record { first = refl; second = refl; third = refl }
 
 abbrev pub comp_with : (name : List ℕ) (flags : ℕ) (exports : List ExportPart) (imports : List ImportPart)
     (code globals : List ℕ) → CompPart
 comp_with name flags exports imports code globals = record {
   name = name;
   input = flags % 2 == 1;
-  output = flags / 2 == 1;
+  output = flags / 2 % 2 == 1;
+  heap = flags / 4 == 1;
   exports = exports;
   imports = imports;
   code = code;
@@ -182,7 +193,8 @@ comp_with name flags exports imports code globals = record {
 comp_again : (comp : CompPart) → comp ≡ comp_with comp.name
     (flags comp) comp.exports comp.imports comp.code comp.globals
 comp_again comp =
-    let h = has_flags comp.input comp.output in λ i. record comp { input = sym h.first i; output = sym h.second i }
+    let h = has_flags comp.input comp.output comp.heap in
+    λ i. record comp { input = sym h.first i; output = sym h.second i; heap = sym h.third i }
 
 grouped : (name exports imports code globals : List ℕ) (f : ℕ) →
     name ++ (f ∷ (exports ++ (imports ++ (code ++ globals)))) ≡ name ++ f ∷ exports ++ imports ++ code ++ globals
@@ -206,43 +218,45 @@ module _ (comps : ℕ) (few : comps ≤ 32) where
       (λ imports h. refl) (λ imports h. record { few = leb-true _ _ h.0.1; each = h.1.1 })
       (λ imports h. ((omega (arith, h.few), le-leb _ _ h.few), (refl, h.each)))
 
-  pub comp_field : IsField (read_comp comps) comp_bytes (FitsComp comps)
+  pub comp_field : (version : ℕ) → IsField (read_comp version comps) comp_bytes (FitsComp version comps)
   unfolding read_comp
-  comp_field = restated (followed comp_name_field (λ (comp : CompPart). comp.name) (λ name ok.
-      followed (tested (byte_field Compartment) Compartment (λ f. nat_le f 3)) (λ (comp : CompPart). flags comp)
+  comp_field version = restated (followed comp_name_field (λ (comp : CompPart). comp.name) (λ name ok.
+      followed (tested (byte_field Compartment) Compartment (λ f. nat_le f (most_flags version))) (λ (comp : CompPart). flags comp)
       (λ f ok. followed exports_field (λ (comp : CompPart). comp.exports) (λ exports ok.
       followed imports_field (λ (comp : CompPart). comp.imports) (λ imports ok.
       followed code_field (λ (comp : CompPart). comp.code) (λ code ok.
       made globals_field (comp_with name f exports imports code) (λ comp. comp.globals) (λ globals. refl))
       (λ code y a b. ap (λ c. c.code) b.1)) (λ imports y a b. ap (λ (c : CompPart). c.imports) b.1.1))
       (λ exports y a b. ap (λ (c : CompPart). c.exports) b.1.1.1))
-      (λ f y a b. ap (λ (c : CompPart). flags c) b.1.1.1.1 ∙ flags_of f (leb-true _ _ a.1)))
+      (λ f y a b. ap (λ (c : CompPart). flags c) b.1.1.1.1 ∙
+      flags_of f (low_flags version f (leb-true _ _ a.1))))
       (λ name y a b. ap (λ (c : CompPart). c.name) b.1.1.1.1.1))
       (λ comp h. grouped (name_bytes comp.name) (exports_bytes comp.exports) (imports_bytes comp.imports)
       (code_bytes comp.code) (globals_bytes comp.globals) (flags comp)) (λ comp h. record {
         name = h.0.0;
         no_environment = h.0.1;
+        flags = leb-true _ _ h.1.0.1;
         exports = h.1.1.0;
         imports = h.1.1.1.0;
         code = h.1.1.1.1.0;
         globals = h.1.1.1.1.1.0;
       }) (λ comp h.
-      let all_flags = has_flags comp.input comp.output in (
+      let low = low_flags version (flags comp) h.flags in (
         (h.name, h.no_environment),
         (
-          (omega (arith, all_flags.within), le-leb _ _ all_flags.within),
+          (omega (arith, low), le-leb _ _ h.flags),
           (h.exports, (h.imports, (h.code, (h.globals, comp_again comp)))),
         ),
       ))
 
 -- the whole image
 
-pub record FitsParts (parts : ImageParts) : Type 0 where
+pub record FitsParts (version : ℕ) (parts : ImageParts) : Type 0 where
   pub some : 1 ≤ length parts.comps
   pub few : length parts.comps ≤ 32
   pub main : parts.main < length parts.comps
   pub entry : parts.entry < 2 ^ 32
-  pub comps : AllByRecursion (FitsComp (length parts.comps)) parts.comps
+  pub comps : AllByRecursion (FitsComp version (length parts.comps)) parts.comps
 
 count_within : (n : ℕ) → is_between 1 32 n ≡ true → (1 ≤ n) × (n ≤ 32)
 count_within n h = (grind (arith, nat_tests), grind (arith, nat_tests))
@@ -250,44 +264,49 @@ count_within n h = (grind (arith, nat_tests), grind (arith, nat_tests))
 count_passes : (n : ℕ) → 1 ≤ n → n ≤ 32 → is_between 1 32 n ≡ true
 count_passes n low high = grind (arith, nat_tests)
 
+between : (n : ℕ) → is_between 1 latest_version n ≡ true → (1 ≤ n) × (n ≤ latest_version)
+between n h = (grind (arith, nat_tests), grind (arith, nat_tests))
+
+passes : (n : ℕ) → 1 ≤ n → n ≤ latest_version → is_between 1 latest_version n ≡ true
+passes n low high = grind (arith, nat_tests)
+
 mark_is_bytes : IsBytes (codes "SCIM")
 unfolding is_name
 mark_is_bytes = name_is_bytes (codes "SCIM") refl
 
+pub mark_field : IsField mark_at (λ mark. mark) (λ mark. mark ≡ codes "SCIM")
+mark_field = restated (tested (bytes_field Mark 4) Mark (λ mark. is_same_name mark (codes "SCIM"))) (λ mark h. refl)
+    (λ mark h. same_text mark (codes "SCIM") (sym h.1))
+    (λ mark same. subst (λ m. ((length m ≡ 4) × IsBytes m) × (is_same_name m (codes "SCIM") ≡ true)) (sym same)
+    ((refl, mark_is_bytes), refl))
+
+pub version_field : IsField version_at (little_bytes 2) (λ version. (1 ≤ version) × (version ≤ latest_version))
+version_field = restated (tested (number_field Version 2 two_wide) Version (is_between 1 latest_version))
+    (λ version h. refl) (λ version h. between version h.1) (λ version h. (omega (arith, h.1), passes version h.0 h.1))
+
 -- what is read is what is written, and is read again
-pub parts_field : (version : ℕ) → version < 2 ^ 16 →
-    IsField (parts_in_version version) (bytes_in_version version) FitsParts
-unfolding parts_in_version
-parts_field version low = restated
-    (followed (tested (bytes_field Mark 4) Mark (λ mark. is_same_name mark (codes "SCIM")))
-    (λ (parts : ImageParts). codes "SCIM") (λ mark ok.
-    followed (tested (number_field Version 2 two_wide) Version (λ v. v == version)) (λ (parts : ImageParts). version)
-    (λ same ok.
-    followed (tested (byte_field Count) Count (is_between 1 32)) (λ (parts : ImageParts). length parts.comps)
+pub parts_field : (version : ℕ) → IsField (parts_at version) parts_bytes (FitsParts version)
+unfolding parts_at
+parts_field version = restated
+    (followed (tested (byte_field Count) Count (is_between 1 32)) (λ (parts : ImageParts). length parts.comps)
     (λ count ok.
     followed (tested (byte_field Start) Start (λ c. nat_lt c count)) (λ (parts : ImageParts). parts.main)
     (λ main ok_main.
     followed (number_field Start 4 four_wide) (λ (parts : ImageParts). parts.entry) (λ entry ok_entry.
-    made (many_field (read_comp count) comp_bytes (FitsComp count) (comp_field count (count_within count ok.1).1) count)
+    made (many_field (read_comp version count) comp_bytes (FitsComp version count)
+    (comp_field count (count_within count ok.1).1 version) count)
     (λ comps. record { main = main; entry = entry; comps = comps }) (λ (parts : ImageParts). parts.comps)
     (λ comps. refl)) (λ entry y a b. ap (λ (p : ImageParts). p.entry) b.1))
     (λ main y a b. ap (λ (p : ImageParts). p.main) b.1.1)) (λ count y a b. b.1.1.0.0))
-    (λ same y a b. sym (eqb-true _ _ a.1))) (λ mark y a b. sym (same_text mark (codes "SCIM") (sym a.1))))
     (λ parts h. refl)
     (λ parts h. record {
-      some = (count_within (length parts.comps) h.1.1.0.1).0;
-      few = (count_within (length parts.comps) h.1.1.0.1).1;
-      main = ltb-true _ _ h.1.1.1.0.1;
-      entry = h.1.1.1.1.0;
-      comps = h.1.1.1.1.1.0.1;
+      some = (count_within (length parts.comps) h.0.1).0;
+      few = (count_within (length parts.comps) h.0.1).1;
+      main = ltb-true _ _ h.1.0.1;
+      entry = h.1.1.0;
+      comps = h.1.1.1.0.1;
     })
     (λ parts h. (
-      ((refl, mark_is_bytes), refl),
-      (
-        (omega (arith, low), eq-eqb version version refl),
-        (
-          (omega (arith, h.few), count_passes (length parts.comps) h.some h.few),
-          ((omega (arith, h.main, h.few), lt-ltb _ _ h.main), (h.entry, ((refl, h.comps), refl))),
-        ),
-      ),
+      (omega (arith, h.few), count_passes (length parts.comps) h.some h.few),
+      ((omega (arith, h.main, h.few), lt-ltb _ _ h.main), (h.entry, ((refl, h.comps), refl))),
     ))

@@ -1,21 +1,25 @@
 -- What is read from the bytes of small images, and why other bytes are none.
 use Rattle.sc_image.proofs.Common.{Compartment, Contents, Count, Err, Exports, ImageParts, ImportPart, Imports, List}
-use Rattle.sc_image.proofs.Common.{Mark, None, Ok, Some, Start, Version, Whole, [], bad, code_at, codes, read_comp}
-use Rattle.sc_image.proofs.Common.{comp_name_at, read_exports, false, fields_at, globals_at, image_bytes}
-use Rattle.sc_image.proofs.Common.{image_in_version, image_in, import_at, imports_at, is_name, keeps_rules, map}
-use Rattle.sc_image.proofs.Common.{read_name, nat_le, number_that, parts_in_version, range_with_len, refl, replicate}
-use Rattle.sc_image.proofs.Common.{take, true, word_at, ℕ, ◌++◌, ◌∷◌, ◌≡◌}
+use Rattle.sc_image.proofs.Common.{Mark, None, Ok, Some, Start, Version, Whole, [], bad, code_at, codes, comp_name_at}
+use Rattle.sc_image.proofs.Common.{false, fields_at, globals_at, image_bytes, image_in, import_at, imports_at}
+use Rattle.sc_image.proofs.Common.{is_name, keeps_rules, map, nat_le, number_that, parts_at, range_with_len}
+use Rattle.sc_image.proofs.Common.{read_comp, read_exports, read_name, refl, replicate, take, true, word_at, ℕ, ◌++◌}
+use Rattle.sc_image.proofs.Common.{◌∷◌, ◌≡◌}
 use Rattle.sc_image.specs.Reading.{read_export}
 use Rattle.sc_image.proofs.FileFields.{comp_with, export_with}
 
-abbrev from_start : List ℕ
-from_start = 1 ∷ 0x4d ∷ 2 ∷ 0 ∷ 0 ∷ 0 ∷ 0 ∷ 0x14 ∷ 0 ∷ 0 ∷ 0 ∷
+-- from the name of a compartment `M` on, which has these flags, outputs 7 and returns 0
+abbrev from_name : (flags : ℕ) → List ℕ
+from_name flags = 1 ∷ 0x4d ∷ flags ∷ 0 ∷ 0 ∷ 0 ∷ 0 ∷ 0x14 ∷ 0 ∷ 0 ∷ 0 ∷
     0x13 ∷ 0x05 ∷ 0x70 ∷ 0 ∷ 0x93 ∷ 0x08 ∷ 0x20 ∷ 0 ∷ 0x73 ∷ 0 ∷ 0 ∷ 0 ∷ 0x13 ∷ 0x05 ∷ 0 ∷ 0 ∷ 0x67 ∷ 0x80 ∷ 0 ∷ 0 ∷ 0 ∷
     0 ∷ 0 ∷ 0 ∷ []
 
--- the image of a compartment `M` that outputs 7 and returns 0
+-- the image of that compartment
+abbrev flagged : (version flags : ℕ) → List ℕ
+flagged version flags = 0x53 ∷ 0x43 ∷ 0x49 ∷ 0x4d ∷ version ∷ 0 ∷ 1 ∷ 0 ∷ 0 ∷ 0 ∷ 0 ∷ 1 ∷ from_name flags
+
 abbrev seven : List ℕ
-seven = 0x53 ∷ 0x43 ∷ 0x49 ∷ 0x4d ∷ 1 ∷ 0 ∷ 1 ∷ 0 ∷ 0 ∷ 0 ∷ 0 ∷ 1 ∷ from_start
+seven = flagged 1 2
 
 -- each proper prefix of it, and it with one byte more
 prefixes : (map (λ k. bad (take k seven)) (range_with_len 0 47) ≡
@@ -24,17 +28,18 @@ prefixes : (map (λ k. bad (take k seven)) (range_with_len 0 47) ≡
     (replicate 2 (Some Exports) ++ (replicate 2 (Some Imports) ++ replicate 28 (Some Contents)))))))) ×
     (bad seven ≡ None) ×
     (bad (seven ++ 0 ∷ []) ≡ Some Whole)
-unfolding image_in_version parts_in_version read_comp comp_name_at read_name read_exports imports_at code_at globals_at
+unfolding image_in parts_at read_comp comp_name_at read_name read_exports imports_at code_at globals_at
     fields_at is_name word_at
 prefixes = (refl, refl, refl)
 
 -- fields that are there and bad
 abbrev starting : (version count main entry : ℕ) → List ℕ
 starting version count main entry = 0x53 ∷ 0x43 ∷ 0x49 ∷ 0x4d ∷ version ∷ 0 ∷ count ∷ main ∷ entry ∷ 0 ∷ 0 ∷ 1 ∷
-    from_start
+    from_name 2
 
 starts : (bad (0x53 ∷ 0x43 ∷ 0x49 ∷ 0x4e ∷ []) ≡ Some Mark) ×
-    (bad (starting 2 1 0 0) ≡ Some Version) ×
+    (bad (starting 0 1 0 0) ≡ Some Version) ×
+    (bad (starting 3 1 0 0) ≡ Some Version) ×
     (bad (starting 1 0 0 0) ≡ Some Count) ×
     (bad (starting 1 33 0 0) ≡ Some Count) ×
     (bad (starting 1 32 31 0) ≡ Some Compartment) ×
@@ -43,9 +48,37 @@ starts : (bad (0x53 ∷ 0x43 ∷ 0x49 ∷ 0x4e ∷ []) ≡ Some Mark) ×
     (bad (starting 1 1 0 20) ≡ Some Whole) ×
     (bad (starting 1 1 0 2) ≡ Some Whole) ×
     (bad (starting 1 1 0 16) ≡ None)
-unfolding image_in_version parts_in_version read_comp comp_name_at read_name read_exports imports_at code_at globals_at
+unfolding image_in parts_at read_comp comp_name_at read_name read_exports imports_at code_at globals_at
     fields_at is_name word_at
-starts = (refl, refl, refl, refl, refl, refl, refl, refl, refl, refl)
+starts = (refl, refl, refl, refl, refl, refl, refl, refl, refl, refl, refl)
+
+-- a heap is known from version 2 on, and a fourth flag in no version
+flags : (bad (flagged 1 3) ≡ None) ×
+    (bad (flagged 1 4) ≡ Some Compartment) ×
+    (bad (flagged 1 6) ≡ Some Compartment) ×
+    (bad (flagged 2 7) ≡ None) ×
+    (bad (flagged 2 8) ≡ Some Compartment)
+unfolding image_in parts_at read_comp comp_name_at read_name read_exports imports_at code_at globals_at
+    fields_at is_name word_at
+flags = (refl, refl, refl, refl, refl)
+
+-- that image, read
+abbrev outputs_seven : (flags : ℕ) → ImageParts
+outputs_seven flags = record {
+  main = 0;
+  entry = 0x01000000;
+  comps = comp_with (codes "M") flags [] [] (0x00700513 ∷ 0x00200893 ∷ 0x00000073 ∷ 0x00000513 ∷ 0x00008067 ∷ []) [] ∷
+      [];
+}
+
+reads_flags : (image_in (flagged 2 6) ≡ Ok (outputs_seven 6)) ×
+    (image_in (flagged 2 2) ≡ Ok (outputs_seven 2)) ×
+    -- what was read of version 1 is written in version 2
+    (image_in (flagged 1 2) ≡ Ok (outputs_seven 2)) ×
+    (image_bytes (outputs_seven 2) ≡ flagged 2 2)
+unfolding image_in parts_at read_comp comp_name_at read_name read_exports imports_at code_at globals_at
+    fields_at is_name word_at
+reads_flags = (refl, refl, refl, refl)
 
 -- names of 1 to 63 bytes
 names : (read_name Exports (0 ∷ 65 ∷ []) ≡ Err Exports) ×
@@ -105,7 +138,7 @@ rules = (refl, refl, refl, refl, refl, refl, refl, refl, refl)
 -- an image with every table is read from its bytes
 reads_all : image_in (image_bytes (pair (import 1 0 ∷ import 1 1 ∷ []) (codes "B") 0x01100000 0x01100004)) ≡
     Ok (pair (import 1 0 ∷ import 1 1 ∷ []) (codes "B") 0x01100000 0x01100004)
-unfolding image_in_version parts_in_version read_comp comp_name_at read_name read_exports read_export imports_at
+unfolding image_in parts_at read_comp comp_name_at read_name read_exports read_export imports_at
     import_at
     code_at globals_at fields_at is_name word_at
 reads_all = refl

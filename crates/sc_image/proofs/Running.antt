@@ -5,8 +5,8 @@ use Rattle.sc_image.proofs.Common.{MachineState, None, Option, Outcome, Region, 
 use Rattle.sc_image.proofs.Common.{Stop, Trap, TrapReason, Traps, Walks, [], after, after_outcome, and_from, ap}
 use Rattle.sc_image.proofs.Common.{are_data, arith, byte_of, code_in, code_start, comp_of_data, continued, data_regions}
 use Rattle.sc_image.proofs.Common.{data_start, decoded, eq-eqb, execute, execute_by, false, flat_map, if◌then◌else◌}
-use Rattle.sc_image.proofs.Common.{is_in, le-leb, le-ltb, length, list_any, little_bytes, load_of, lt-ltb, nat_eq}
-use Rattle.sc_image.proofs.Common.{nat_le, nat_lt, or_left, or_right, refl, run, slice_get, slice_get_within}
+use Rattle.sc_image.proofs.Common.{is_in, le-leb, le-ltb, length, list_any, little_bytes, load_of, lt-ltb, most_globals}
+use Rattle.sc_image.proofs.Common.{nat_eq, nat_le, nat_lt, or_left, or_right, refl, run, slice_get, slice_get_within}
 use Rattle.sc_image.proofs.Common.{stack_size, stack_top, start_memory, step, step_by, stopped, stops_or, stretch}
 use Rattle.sc_image.proofs.Common.{subst, suc, sym, then_on, true, unless_stopped, walk, word_at, zero, zero-add}
 use Rattle.sc_image.proofs.Common.{zone_size, zone_start, ℕ, ◌%◌, ◌*◌, ◌++◌, ◌+◌, ◌-◌, ◌/◌, ◌<◌, ◌^◌, ◌∙◌, ◌∷◌, ◌≡◌}
@@ -224,17 +224,17 @@ stack_placed image c comp k found below =
     let low = lt-ltb _ _ below in
     data_placed image c comp found k (omega (arith, below)) ∙ rw low refl
 
-globals_placed : (image : ImageParts) (c : ℕ) (comp : CompPart) (k : ℕ) → IsWellFormed image →
+globals_placed : (image : ImageParts) (c : ℕ) (comp : CompPart) (k : ℕ) → length comp.globals ≤ most_globals →
     slice_get image.comps c ≡ Some comp → k < length comp.globals →
     start_memory image (stack_top c + k) ≡ slice_get comp.globals k
-globals_placed image c comp k formed found below =
+globals_placed image c comp k few found below =
     let at : stack_top c + k ≡ data_start c + (stack_size + k) = omega arith in
     let high : nat_lt (stack_size + k) stack_size ≡ false = le-ltb _ _ (omega arith) in
     let within : nat_lt (stack_size + k) (stack_size + length comp.globals) ≡ true =
     lt-ltb _ _ (omega (arith, below)) in
     let place : stack_size + k - stack_size ≡ k = omega arith in
     ap (start_memory image) at ∙ data_placed image c comp found (stack_size + k)
-    (omega (arith, below, (formed.comps c comp found).short_globals)) ∙ rw (high, within, place) refl
+    (omega (arith, below, few)) ∙ rw (high, within, place) refl
 
 zone_placed : (image : ImageParts) (c : ℕ) (comp : CompPart) (k : ℕ) → IsWellFormed image →
     slice_get image.comps c ≡ Some comp → comp.heap ≡ true → k < zone_size →
@@ -287,14 +287,15 @@ load_is memory a word below bytes = rw (
   bytes 3 (omega arith),
 ) (four_bytes word below)
 
-words_placed : (image : ImageParts) (c : ℕ) (comp : CompPart) (words : List ℕ) (k word : ℕ) → IsWellFormed image →
-    slice_get image.comps c ≡ Some comp → comp.globals ≡ flat_map (little_bytes 4) words →
-    slice_get words k ≡ Some word → IsWord word → load_of (start_memory image) (stack_top c + 4 * k) 4 ≡ word
-words_placed image c comp words k word formed found bytes at below =
+pub words_placed : (image : ImageParts) (c : ℕ) (comp : CompPart) (words : List ℕ) (k word : ℕ) →
+    length comp.globals ≤ most_globals → slice_get image.comps c ≡ Some comp →
+    comp.globals ≡ flat_map (little_bytes 4) words → slice_get words k ≡ Some word → IsWord word →
+    load_of (start_memory image) (stack_top c + 4 * k) 4 ≡ word
+words_placed image c comp words k word few found bytes at below =
     load_is (start_memory image) _ word below (λ j within.
     let byte : slice_get _ (4 * k + j) ≡ Some (byte_of word j) = rw bytes (word_byte words k j word within at) in
     let place : stack_top c + 4 * k + j ≡ stack_top c + (4 * k + j) = omega arith in
-    ap (start_memory image) place ∙ globals_placed image c comp _ formed found (slice_get_within _ _ _ byte) ∙ byte)
+    ap (start_memory image) place ∙ globals_placed image c comp _ few found (slice_get_within _ _ _ byte) ∙ byte)
 
 -- The addresses of a region.
 
@@ -325,8 +326,10 @@ pub image_in_memory : ImageInMemory
 image_in_memory = record {
   code = code_placed;
   stack = stack_placed;
-  globals = globals_placed;
-  global_words = words_placed;
+  globals = λ image c comp k formed found.
+      globals_placed image c comp k (formed.comps c comp found).short_globals found;
+  global_words = λ image c comp words k word formed found.
+      words_placed image c comp words k word (formed.comps c comp found).short_globals found;
   zone = zone_placed;
   owned = owned;
   within = data_bounds;

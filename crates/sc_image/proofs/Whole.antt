@@ -1,23 +1,26 @@
 -- Parts are well formed exactly where their fields are good and they keep the rules on a whole image: what is read is
 -- an image with these bytes, and what an image is written as is read as it.
-use Rattle.sc_image.proofs.Common.{All, All-from_recursion, AllPairs-from_IsDistinct, BadImage, BadOrImage, Bool}
-use Rattle.sc_image.proofs.Common.{BytesNameOneImage, CompPart, Decides, Decides-and, Decides-by_and, Decides-like}
-use Rattle.sc_image.proofs.Common.{Decides-ltb, Decides-not, Err, ExportPart, FitsItsFields, ImageParts, ImportPart}
-use Rattle.sc_image.proofs.Common.{IsByte, IsComp, IsDistinct, IsDistinct-from_AllPairs, IsDistinct-from_count, IsEntry}
-use Rattle.sc_image.proofs.Common.{IsEquivalence, IsImage, IsImport, IsSomeAnd, IsWellFormed, IsWord, List, None, Ok}
-use Rattle.sc_image.proofs.Common.{Option, Result, Some, Whole, [], all_by, and_parts, ap, append-nil, are_distinct_by}
-use Rattle.sc_image.proofs.Common.{arith, bad, bytes_decides, read_cause, code_in, code_start, comps_keep, cond}
+use Rattle.sc_image.proofs.Common.{All, All-from_recursion, AllPairs-from_IsDistinct, AreBytesOf, BadImage}
+use Rattle.sc_image.proofs.Common.{BadOrImage, Bool, BytesNameOneImage, CompPart, Decides, Decides-and}
+use Rattle.sc_image.proofs.Common.{Decides-by_and, Decides-like, Decides-ltb, Decides-not, Err, ExportPart}
+use Rattle.sc_image.proofs.Common.{FitsItsFields, ImageParts, ImportPart, IsByte, IsComp, IsDistinct}
+use Rattle.sc_image.proofs.Common.{IsDistinct-from_AllPairs, IsDistinct-from_count, IsEntry, IsEquivalence, IsImage}
+use Rattle.sc_image.proofs.Common.{IsImport, IsSomeAnd, IsWellFormed, IsWord, List, None, Ok, Option, Result, Some}
+use Rattle.sc_image.proofs.Common.{Whole, WrittenIsRead, [], all_by, and_parts, ap, append-nil, are_distinct_by}
+use Rattle.sc_image.proofs.Common.{arith, bad, bytes_decides, code_in, code_start, codes, comps_keep, cond}
 use Rattle.sc_image.proofs.Common.{distinct_count-from_IsDistinct, eq-eqb, eqb-true, exports_keep, false}
-use Rattle.sc_image.proofs.Common.{false_from_ne_true, get_or_default, get_or_from_slice_get, image_bytes}
-use Rattle.sc_image.proofs.Common.{image_in_version, image_in, imports_keep, is_entry, is_importable, is_same_import}
-use Rattle.sc_image.proofs.Common.{is_same_name, is_some, keeps_rules, length, list_all, lit≤, map, nat_lt}
-use Rattle.sc_image.proofs.Common.{nil_from_length, not, not_from_Decides, option_map_or, parts_in_version}
-use Rattle.sc_image.proofs.Common.{recursion_from_All, refl, same_from_decides, slice_get, slice_get_within, stretch}
-use Rattle.sc_image.proofs.Common.{subst, suc, sym, true, unsigned_Decides, version, word_at, zero, ℕ, ◌&&◌, ◌*◌, ◌++◌}
-use Rattle.sc_image.proofs.Common.{◌+◌, ◌-◌, ◌/◌, ◌<◌, ◌==◌, ◌^◌, ◌∙◌, ◌∷◌, ◌≡◌, ◌≤◌}
+use Rattle.sc_image.proofs.Common.{false_from_ne_true, flags, get_or_default, get_or_from_slice_get, image_bytes}
+use Rattle.sc_image.proofs.Common.{image_in, imports_keep, is_entry, is_importable, is_same_import, is_same_name}
+use Rattle.sc_image.proofs.Common.{is_some, keeps_rules, latest_version, length, list_all, little_bytes, lit≤, map}
+use Rattle.sc_image.proofs.Common.{mark_at, most_flags, nat_lt, nat_tests, nil_from_length, not, not_from_Decides}
+use Rattle.sc_image.proofs.Common.{option_map_or, parts_at, parts_bytes, read_cause, recursion_from_All, refl}
+use Rattle.sc_image.proofs.Common.{same_from_decides, slice_get, slice_get_within, stretch, subst, suc, sym, true}
+use Rattle.sc_image.proofs.Common.{unsigned_Decides, version_at, word_at, zero, ℕ, ◌&&◌, ◌*◌, ◌++◌, ◌+◌, ◌-◌, ◌/◌}
+use Rattle.sc_image.proofs.Common.{◌<◌, ◌==◌, ◌^◌, ◌∙◌, ◌∷◌, ◌≡◌, ◌≤◌}
 use Rattle.sc_image.proofs.Fields.{IsBytes, bytes_fit, bind_ok, good_ok}
 use Rattle.sc_image.proofs.Words.{some_is}
-use Rattle.sc_image.proofs.FileFields.{FitsExport, FitsImport, FitsComp, FitsParts, parts_field}
+use Rattle.sc_image.proofs.FileFields.{FitsExport, FitsImport, FitsComp, FitsParts, mark_field}
+use Rattle.sc_image.proofs.FileFields.{parts_field, version_field}
 
 fits : (image : ImageParts) (c : ℕ) (comp : CompPart) → IsComp image c comp → FitsItsFields comp
 fits image c comp h = record {
@@ -136,9 +139,9 @@ whole_decides image =
 all_bytes : (bytes : List ℕ) → IsBytes bytes → All IsByte bytes
 all_bytes bytes fits i d within = subst (λ b. b < 2 ^ 8) (get_or_default bytes i 0 d within) (fits i)
 
-comp_is : (image : ImageParts) (comps c : ℕ) (comp : CompPart) → FitsComp comps comp → Rules image c comp →
-    IsComp image c comp
-comp_is image comps c comp fits rules = record {
+comp_is : (image : ImageParts) (version comps c : ℕ) (comp : CompPart) → FitsComp version comps comp →
+    Rules image c comp → IsComp image c comp
+comp_is image version comps c comp fits rules = record {
   name = fits.name;
   no_environment = not_from_Decides _ (bytes_decides _ _) fits.no_environment;
   few_exports = fits.exports.few;
@@ -157,17 +160,22 @@ comp_is image comps c comp fits rules = record {
 
 -- The whole.
 
-pub whole_is : (image : ImageParts) → FitsParts image → keeps_rules image ≡ true → IsWellFormed image
-whole_is image fits is =
+comp_there : (version : ℕ) (image : ImageParts) (c : ℕ) (comp : CompPart) → FitsParts version image →
+    slice_get image.comps c ≡ Some comp → FitsComp version (length image.comps) comp
+comp_there version image c comp fits at =
+    subst (FitsComp version _) (get_or_from_slice_get _ c comp comp at)
+    (All-from_recursion (FitsComp version _) _ fits.comps c comp (slice_get_within _ c comp at))
+
+pub whole_is : (version : ℕ) (image : ImageParts) → FitsParts version image → keeps_rules image ≡ true →
+    IsWellFormed image
+whole_is version image fits is =
     let rules = (whole_decides image).0 is in
     record {
       few_comps = fits.few;
       main = fits.main;
       entry = rules.1.0;
-      comps = λ c comp at. comp_is image (length image.comps) c comp
-          (subst (FitsComp _) (get_or_from_slice_get _ c comp comp at)
-          (All-from_recursion (FitsComp _) _ fits.comps c comp (slice_get_within _ c comp at)))
-          (rules.1.1 c c comp (omega arith) at);
+      comps = λ c comp at. comp_is image version (length image.comps) c comp
+          (comp_there version image c comp fits at) (rules.1.1 c c comp (omega arith) at);
       names = rules.0;
     }
 
@@ -185,7 +193,20 @@ rules_are_kept image formed = (whole_decides image).1 (
   ),
 )
 
-module _ (image : ImageParts) (formed : IsWellFormed image) where
+-- flags and heaps
+
+has_no_heap : (comp : CompPart) → flags comp ≤ 3 → comp.heap ≡ false
+has_no_heap comp low = grind (arith, nat_tests)
+
+no_heap : (version : ℕ) (comp : CompPart) → version ≡ 1 → flags comp ≤ most_flags version → comp.heap ≡ false
+no_heap version comp first low = has_no_heap comp (subst (λ v. flags comp ≤ most_flags v) first low)
+
+flags_fit : (version : ℕ) (comp : CompPart) → (version ≡ 1 → comp.heap ≡ false) → flags comp ≤ most_flags version
+flags_fit version comp plain = grind (arith, nat_tests)
+
+-- in this version the image can be written
+module _ (version : ℕ) (image : ImageParts) (formed : IsWellFormed image)
+    (plain : version ≡ 1 → All (λ comp. comp.heap ≡ false) image.comps) where
   code_is_short : (c : ℕ) (found : Option CompPart) → slice_get image.comps c ≡ found →
       4 * length (code_in image c) ≤ stretch
   code_is_short c None at = rw at (lit≤ tt)
@@ -208,12 +229,15 @@ module _ (image : ImageParts) (formed : IsWellFormed image) where
       let both = import_comp _ _ _ refl h.offered in
       record { comp = both.0; index = both.1 }
 
-  comp_fits : (c : ℕ) (comp : CompPart) → slice_get image.comps c ≡ Some comp → FitsComp (length image.comps) comp
+  comp_fits : (c : ℕ) (comp : CompPart) → slice_get image.comps c ≡ Some comp →
+      FitsComp version (length image.comps) comp
   comp_fits c comp at =
       let h = formed.comps c comp at in
       record {
         name = h.name;
         no_environment = false_from_ne_true _ (λ same. h.no_environment ((bytes_decides _ _).0 same));
+        flags = flags_fit version comp (λ first. subst (λ x. x.heap ≡ false) (get_or_from_slice_get _ c comp comp at)
+            (plain first c comp (slice_get_within _ c comp at)));
         exports = record {
           few = h.few_exports;
           each = recursion_from_All FitsExport _ (λ i d within. let e = h.exports i d within in record {
@@ -230,7 +254,7 @@ module _ (image : ImageParts) (formed : IsWellFormed image) where
         globals = record { short = h.short_globals; bytes = bytes_fit _ h.bytes };
       }
 
-  pub parts_fit : FitsParts image
+  pub parts_fit : FitsParts version image
   parts_fit = record {
     some = omega (arith, formed.main);
     few = formed.few_comps;
@@ -241,38 +265,71 @@ module _ (image : ImageParts) (formed : IsWellFormed image) where
 
 -- What is read is an image with these bytes, and what an image is written as is read as it.
 
-low_version : version < 2 ^ 16
-low_version = omega arith
-
 -- what is read is well formed, and these are its bytes
 pub is_read : (bytes : List ℕ) (image : ImageParts) → IsBytes bytes → image_in bytes ≡ Ok image →
-    IsWellFormed image × (bytes ≡ image_bytes image)
-unfolding image_in_version
+    IsWellFormed image × AreBytesOf image bytes
+unfolding image_in
 is_read bytes image fits e =
-    let a = bind_ok _ _ image e in
+    let m = bind_ok _ _ image e in
+    let mark = mark_field.takes bytes m.0.0 m.0.1 fits m.1 in
+    let v = bind_ok _ _ image m.2 in
+    let version = version_field.takes m.0.1 v.0.0 v.0.1 mark.0.rest_fits v.1 in
+    let a = bind_ok _ _ image v.2 in
+    let parts = (parts_field v.0.0).takes v.0.1 a.0.0 a.0.1 version.0.rest_fits a.1 in
     let g = good_ok Whole _ a.0.0 image a.2 in
     let tests = and_parts (length a.0.1 == 0) _ g.0 in
-    let took = (parts_field version low_version).takes bytes a.0.0 a.0.1 fits a.1 in
     let none = nil_from_length a.0.1 (eqb-true _ _ tests.0) in
-    let all = took.0.parts ∙ ap (λ rest. image_bytes a.0.0 ++ rest) none ∙ append-nil _ in
-    subst (λ x. IsWellFormed x × (bytes ≡ image_bytes x)) g.1 (whole_is a.0.0 took.1 tests.1, all)
+    let whole = parts.0.parts ∙ ap (λ rest. parts_bytes a.0.0 ++ rest) none ∙ append-nil _ in
+    let after = version.0.parts ∙ ap (λ rest. little_bytes 2 v.0.0 ++ rest) whole in
+    let all = mark.0.parts ∙ ap (λ rest. m.0.0 ++ rest) after ∙
+    ap (λ text. text ++ (little_bytes 2 v.0.0 ++ parts_bytes a.0.0)) mark.1 in
+    subst (λ x. IsWellFormed x × AreBytesOf x bytes) g.1 (
+      whole_is v.0.0 a.0.0 parts.1 tests.1,
+      record {
+        version = v.0.0;
+        some = version.1.0;
+        known = version.1.1;
+        without_heap = λ first. all_by _ _ (λ c comp at.
+            no_heap v.0.0 comp first (comp_there v.0.0 a.0.0 c comp parts.1 at).flags);
+        are = all;
+      },
+    )
 
-pub parts_are_few : (bytes : List ℕ) (parts : ImageParts) (rest : List ℕ) → IsBytes bytes →
-    parts_in_version version bytes ≡ Ok (parts, rest) → length parts.comps ≤ 32
-parts_are_few bytes parts rest fits e = ((parts_field version low_version).takes bytes parts rest fits e).1.few
+pub parts_are_few : (bytes marked versioned rest : List ℕ) (mark : List ℕ) (version : ℕ) (parts : ImageParts) →
+    IsBytes bytes → mark_at bytes ≡ Ok (mark, marked) → version_at marked ≡ Ok (version, versioned) →
+    parts_at version versioned ≡ Ok (parts, rest) → length parts.comps ≤ 32
+parts_are_few bytes marked versioned rest mark version parts fits first second third =
+    let after_mark = (mark_field.takes bytes mark marked fits first).0.rest_fits in
+    let after_version = (version_field.takes marked version versioned after_mark second).0.rest_fits in
+    ((parts_field version).takes versioned parts rest after_version third).1.few
 
--- the bytes of an image are read as it
-pub is_read_again : (image : ImageParts) → IsWellFormed image → image_in (image_bytes image) ≡ Ok image
-unfolding image_in_version
-is_read_again image formed =
-    let parts : parts_in_version version (image_bytes image) ≡ Ok _ =
-    ap (parts_in_version version) (sym (append-nil _)) ∙
-    (parts_field version low_version).again image [] (parts_fit image formed) in
-    rw (parts, rules_are_kept image formed) refl
+-- bytes of an image are read as it
+pub is_read_again : (image : ImageParts) (bytes : List ℕ) → IsWellFormed image → AreBytesOf image bytes →
+    image_in bytes ≡ Ok image
+unfolding image_in
+is_read_again image bytes formed are =
+    let mark = mark_field.again (codes "SCIM") (little_bytes 2 are.version ++ parts_bytes image) refl in
+    let version = version_field.again are.version (parts_bytes image) (are.some, are.known) in
+    let parts = ap (parts_at are.version) (sym (append-nil (parts_bytes image))) ∙
+    (parts_field are.version).again image [] (parts_fit are.version image formed are.without_heap) in
+    ap image_in are.are ∙ rw (mark, version, parts, rules_are_kept image formed) refl
+
+-- what is written of an image are its bytes
+pub are_written : (image : ImageParts) → AreBytesOf image (image_bytes image)
+are_written image = record {
+  version = latest_version;
+  some = lit≤ tt;
+  known = lit≤ tt;
+  without_heap = λ first. let never = first in cc never;
+  are = refl;
+}
+
+pub written_is_read : WrittenIsRead
+written_is_read image formed = is_read_again image (image_bytes image) formed (are_written image)
 
 pub one_image_each : BytesNameOneImage
-one_image_each one other formed also same =
-    let p = sym (is_read_again one formed) ∙ ap image_in same ∙ is_read_again other also in cc p
+one_image_each bytes one other formed also are same =
+    let p = sym (is_read_again one bytes formed are) ∙ is_read_again other bytes also same in cc p
 
 no_cause : (bytes : List ℕ) → IsBytes bytes → (read : Result ImageParts BadImage) → image_in bytes ≡ read →
     read_cause read ≡ None → IsImage bytes
@@ -283,5 +340,5 @@ no_cause bytes fits (Err cause) e none = let never = none in cc never
 pub bad_or_image_each : BadOrImage
 bad_or_image_each bytes all = (
   λ none. no_cause bytes (bytes_fit bytes all) (image_in bytes) refl none,
-  λ is. ap (λ (b : List ℕ). bad b) is.bytes_are ∙ ap read_cause (is_read_again is.image is.well_formed),
+  λ is. ap read_cause (is_read_again is.image bytes is.well_formed is.bytes_are),
 )

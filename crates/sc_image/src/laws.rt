@@ -8,7 +8,6 @@ ghost use Rattle.sc_image.specs.Prelude.{RunsAreSteady, StepsByInstruction, Step
 ghost use Rattle.sc_image.specs.Prelude.{MachineTracesAreLegal, WrittenIsRead, step};
 
 /// Bytes are those of one image at most.
-#[tactic(auto, using(crate::proofs::Whole::one_image_each))]
 pub fn one_image()
     ensures { BytesNameOneImage }
 {}

@@ -8,12 +8,12 @@ use Rattle.sc_linker.proofs.Common.{most_globals, option_map, option_map_or, ref
 use Rattle.sc_linker.proofs.Common.{slice_get, slice_get-map, stack_top, start_memory, struct_zeros, structs_fit, subst}
 use Rattle.sc_linker.proofs.Common.{sym, take, true, ℕ, ◌*◌, ◌+◌, ◌<◌, ◌^◌, ◌∙◌, ◌≡◌, ◌≢◌, ◌≤◌, ◌⊎◌}
 use Rattle.std.proofs.Common.{Err, Ok}
+use Rattle.sc_image.proofs.Running.{words_placed}
 use Rattle.sc_image.specs.Prelude.{initial_globals as globals_in}
 use Rattle.sc_core.specs.declared.cause.Cause.TheVariants.{Dangling}
 use Rattle.sc_core.specs.declared.value.Cell.TheVariants as cell
 use Rattle.sc_linker.proofs.Comps.{Fits, fits_or_none, number_below, part_is, section_is}
 use Rattle.sc_linker.proofs.Exports.{globals_so, structs_so}
-use Rattle.sc_linker.proofs.Loaded.{word_loaded}
 use Rattle.sc_linker.proofs.Places.{all_here, total_before, total_take, total_upto}
 use Rattle.sc_linker.proofs.Starts.{AreSized, block_start, bytes_count, sized, word_there, words_count}
 
@@ -227,12 +227,16 @@ module _ (program : ProgramTree) (codes : List CodeTree) (typed : IsWellTyped pr
       words_by comp number i cs one is at =
           let fits = has_block comp number cs is in
           let S : TypedSection = section_at program comp in
-          word_loaded (linked_image program codes) comp _ (part_is program codes comp fits) (part_short comp fits)
-          (global_words S) (cells S.structs (take number S.globals) + i) (cell_word one)
-          ((addresses_at program codes comp).global number + 4 * i) refl
+          let at_place : (addresses_at program codes comp).global number + 4 * i
+              ≡ stack_top comp + 4 * (cells S.structs (take number S.globals) + i) =
+          omega arith in
+          ap (λ a. load_of (start_memory (linked_image program codes)) a 4) at_place
+          ∙ words_placed (linked_image program codes) comp _ (global_words S)
+          (cells S.structs (take number S.globals) + i) (cell_word one) (part_short comp fits)
+          (part_is program codes comp fits) refl
           (word_placed S (structs_own comp fits) (globals_own comp fits) number i cs one
           (block_own comp fits number cs is) at)
-          (start_word one (known_by comp number i cs one is at)) (omega arith)
+          (start_word one (known_by comp number i cs one is at))
 
       pub globals_stand : GlobalsStand program codes
       globals_stand = record {

@@ -15,7 +15,6 @@ pub mod Instrs
 pub mod Interfaces
 pub mod Jumps
 pub mod Linked
-pub mod Loaded
 pub mod MainAddress
 pub mod Permitted
 pub mod Places

@@ -3,7 +3,7 @@ use Rattle.sc_linker.specs.Common.{Addresses, Cell, CodeTree, ImageParts, Instr,
 use Rattle.sc_linker.specs.Common.{Proto, TypedSection, comp_at, entry_in, first_blocks, imports, is_input, is_output}
 use Rattle.sc_linker.specs.Common.{linked, place_named, word_of}
 use Rattle.std.specs.Prelude.{ℕ, suc, pos, ◌+◌, ◌*◌, ◌-ℤ◌, List, [], ◌∷◌, ◌++◌, length, map, flat_map, Option, None}
-use Rattle.std.specs.Prelude.{Some, is_some}
+use Rattle.std.specs.Prelude.{Some, false, is_some}
 use Rattle.byteorder.specs.Endian.{little_bytes}
 use Rattle.sc_event.specs.declared.interface.Import.{Import}
 use Rattle.sc_event.specs.declared.interface.Import.TheVariants as import
@@ -79,6 +79,7 @@ linked_part interfaces comp interface section codes = record {
   name = interface.name;
   input = imports interfaces comp is_input;
   output = imports interfaces comp is_output;
+  heap = false;
   exports = export_parts comp 0 interface.exports;
   imports = flat_map import_part interface.imports;
   code = map word_of (section_code comp (exports_in (comp_at interfaces comp)) section codes);

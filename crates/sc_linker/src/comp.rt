@@ -87,6 +87,7 @@ pub fn comp_part(
         name: named(&interface.name),
         input: program.interfaces.imports_input(comp),
         output: program.interfaces.imports_output(comp),
+        heap: false,
         exports: export_parts(alloc, comp, exports)?,
         imports: import_parts(alloc, interface.imports.as_slice())?,
         code: section_code(alloc, comp, exports, section, own)?,

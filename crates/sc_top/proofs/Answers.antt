@@ -140,12 +140,14 @@ made c t s says none calm = go s says where
   go status.OutOfMemory h = inr refl
 
 pub image_within : (bytes : List ℕ) → IsImage bytes → length bytes ≤ 67108864
-image_within bytes is = subst (λ b. length b ≤ 67108864) (sym is.bytes_are) (image_is_short is.image is.well_formed)
+image_within bytes is =
+    let are = is.bytes_are in
+    subst (λ b. length b ≤ 67108864) (sym are.are) (image_is_short are.version is.image is.well_formed)
 
 -- the bytes of an image have no cause for being none
 image_bad : (bytes : List ℕ) (cause : ℕ) → IsImage bytes → cause_in bytes ≡ Some cause → ⊥
 image_bad bytes cause is b =
-    let good = ap (λ t. bad t) is.bytes_are ∙ ap read_cause (is_read_again _ is.well_formed) in
+    let good = ap read_cause (is_read_again is.image bytes is.well_formed is.bytes_are) in
     none-some cause (ap (λ found. option_map cause_number found) (sym good) ∙ b)
 
 same_some : {A : Type 0} (option : Option A) (x y : A) → option ≡ Some x → option ≡ Some y → x ≡ y

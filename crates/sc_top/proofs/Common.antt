@@ -21,7 +21,7 @@ pub use Rattle.sc_core.specs.declared.section.TypedSection.{TypedSection}
 pub use Rattle.sc_types.specs.Prelude.{Accepts, Fails, IsSource, IsSplitInto, SourceParts}
 pub use Rattle.sc_image.specs.Prelude.{BytesNameOneImage, IsComp, IsExport, IsImage, IsWellFormed, IsWord, bad, bit}
 pub use Rattle.sc_image.specs.Prelude.{cause_number, read_cause, comp_bytes, export_bytes, exports_bytes, globals_bytes}
-pub use Rattle.sc_image.specs.Prelude.{image_bytes, import_bytes, imports_bytes, image_interfaces, machine}
+pub use Rattle.sc_image.specs.Prelude.{import_bytes, imports_bytes, image_interfaces, machine}
 pub use Rattle.sc_image.specs.Prelude.{most_globals}
 pub use Rattle.sc_image.specs.Prelude.{name_bytes, stretch}
 pub use Rattle.sc_image.specs.declared.parts.ImageParts.{ImageParts}

@@ -2,6 +2,8 @@
 use Rattle.sc_top.proofs.Common.{Accepts, BytesNameOneImage, Compile, HasImage, ImageParts, Interfaces, IsExecuted}
 use Rattle.sc_top.proofs.Common.{IsImage, IsTextOutput, List, ProgramTree, Run, RunOptions, ap, image_interfaces}
 use Rattle.sc_top.proofs.Common.{machine_run, machine_text, refl, subst, sym, ℕ, ◌++◌, ◌∙◌, ◌≡◌}
+use Rattle.sc_image.proofs.Whole.{are_written}
+use Rattle.sc_image.specs.Prelude.{AreBytesOf}
 use Rattle.sc_compile.proofs.Reported.{same_lines}
 use Rattle.sc_report.specs.Report.{stop_line}
 use Rattle.sc_top.specs.Laws.{CompiledImagesRun, RunsAs}
@@ -21,14 +23,17 @@ module _ (one_program : (text : List ℕ) (program other : ProgramTree) →
   has : HasImage is.program is.image
   has = is.compiled refl
 
+  are : AreBytesOf is.image bytes
+  are = subst (AreBytesOf is.image) (sym is.written) (are_written is.image)
+
   image : IsImage bytes
-  image = record { image = is.image; well_formed = has.right.well_formed; bytes_are = is.written }
+  image = record { image = is.image; well_formed = has.right.well_formed; bytes_are = are }
 
   to_run : (out : List ℕ) → IsExecuted options bytes out → IsTextOutput (Run options) text out
   to_run out executed =
       let same : executed.read.image ≡ is.image =
-      one executed.read.image is.image executed.read.well_formed has.right.well_formed
-      (sym executed.read.bytes_are ∙ is.written) in
+      one bytes executed.read.image is.image executed.read.well_formed has.right.well_formed
+      executed.read.bytes_are are in
       record {
         program = is.program;
         image = is.image;

@@ -2,11 +2,11 @@
 use Rattle.sc_top.proofs.Common.{All, All-map, Err, Event, IfOk, ImageParts, Interfaces, IsCompiled, IsExecuted}
 use Rattle.sc_top.proofs.Common.{IsKnown, IsSome, IsTrue, IsWellFormed, IsWellTyped, IsWord, List, Ok, ProgramTree}
 use Rattle.sc_top.proofs.Common.{Result, RunOptions, TypedSection, [], and_parts, ap, arith, c_arith, comp_at}
-use Rattle.sc_top.proofs.Common.{false≢true, image_bytes, image_interfaces, legal as is_legal, length, length-map}
+use Rattle.sc_top.proofs.Common.{false≢true, image_interfaces, legal as is_legal, length, length-map}
 use Rattle.sc_top.proofs.Common.{machine_run, machine_text, main_fits, map, meaning_asked, refl, run_text, sections_fit}
 use Rattle.sc_top.proofs.Common.{slice_get, subst, suc, sym, true, word_of, zero, ℕ, ℤ, ◌<◌, ◌∙◌, ◌∷◌, ◌≡◌}
 use Rattle.sc_core_laws.specs.Prelude.{TracesAreLegal as SourceTracesAreLegal}
-use Rattle.sc_image.specs.Prelude.{MachineTracesAreLegal}
+use Rattle.sc_image.specs.Prelude.{AreBytesOf, MachineTracesAreLegal}
 use Rattle.sc_event.specs.declared.interface.Interface.{Interface}
 use Rattle.sc_event.proofs.Known.{legal_is_known}
 use Rattle.sc_word.proofs.Words.{word_of-lt}
@@ -104,7 +104,7 @@ text_printed (Ok text) names options image trace stop events why printed = print
 text_printed (Err fault) names options image trace stop events why printed = tt
 
 -- an image that was read and run
-pub executed : (options : RunOptions) (bytes text : List ℕ) (image : ImageParts) → bytes ≡ image_bytes image →
+pub executed : (options : RunOptions) (bytes text : List ℕ) (image : ImageParts) → AreBytesOf image bytes →
     IsWellFormed image → text ≡ machine_text (image_interfaces image) options image → IsExecuted options bytes text
 executed options bytes text image bytes_are formed printed =
     record { read = record { image = image; well_formed = formed; bytes_are = bytes_are }; written = printed }

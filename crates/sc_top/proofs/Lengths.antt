@@ -1,9 +1,9 @@
 -- How many bytes an image has at most.
 use Rattle.sc_top.proofs.Common.{AllByRecursion, ImageParts, IsComp, IsExport, IsWellFormed, List, Some, [], ap, arith}
-use Rattle.sc_top.proofs.Common.{bit, comp_bytes, export_bytes, exports_bytes, flat_map, globals_bytes, image_bytes}
+use Rattle.sc_top.proofs.Common.{bit, comp_bytes, export_bytes, exports_bytes, flat_map, globals_bytes}
 use Rattle.sc_top.proofs.Common.{import_bytes, imports_bytes, length, length-append, name_bytes, recursion_from_All}
 use Rattle.sc_top.proofs.Common.{refl, slice_get, subst, suc, sym, ℕ, ◌*◌, ◌++◌, ◌+◌, ◌∷◌, ◌≡◌, ◌≤◌}
-use Rattle.sc_image.specs.Prelude.{code_bytes}
+use Rattle.sc_image.specs.Prelude.{bytes_in_version, code_bytes}
 use Rattle.byteorder.specs.Endian.{little_bytes}
 use Rattle.sc_image.specs.declared.parts.CompPart.{CompPart}
 use Rattle.sc_image.specs.declared.parts.ExportPart.{ExportPart}
@@ -88,8 +88,9 @@ comp_is_short image c comp is =
     (imports_are_short comp.imports is.few_imports) (code_is_short comp.code is.short_code)
     (globals_are_short comp.globals is.short_globals))
 
-pub image_is_short : (image : ImageParts) → IsWellFormed image → length (image_bytes image) ≤ 67108864
-image_is_short image formed =
+pub image_is_short : (version : ℕ) (image : ImageParts) → IsWellFormed image →
+    length (bytes_in_version version image) ≤ 67108864
+image_is_short version image formed =
     let few = formed.few_comps in
     let comps = many comp_bytes 2000000 (λ n. 2000000 * n) (λ n. omega arith) image.comps
     (each_at _ image.comps (λ i comp e. comp_is_short image i comp (formed.comps i comp e))) in

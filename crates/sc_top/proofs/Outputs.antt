@@ -98,8 +98,8 @@ module _
       IsExecuted options bytes other → text ≡ other
   one_run one options bytes text other is known =
       is.written ∙ (ap (λ i. machine_text (image_interfaces i) options i)
-      (one _ _ is.read.well_formed known.read.well_formed
-      (sym is.read.bytes_are ∙ known.read.bytes_are)) ∙ sym known.written)
+      (one bytes _ _ is.read.well_formed known.read.well_formed is.read.bytes_are known.read.bytes_are)
+      ∙ sym known.written)
 
   one_made : (summary : Bool) (options : MakeOptions) (text other : List ℕ) → IsMadeBy summary options text →
       IsMadeBy summary options other → text ≡ other

@@ -43,12 +43,28 @@ const HALF_WORD: &[u8] = &[
     0x01, 0, 0x03, 0x25, 0x01, 0, 2, 0, 0, 0, 0, 0,
 ];
 
-const RUNS: [(&[u8], &[u8]); 5] = [
+// In version 2, `M` takes two words of its zone, outputs their address and ends: addi a0,x0,2; addi a1,x0,1;
+// addi a7,x0,3; ecall; addi a7,x0,2; ecall; addi a0,x0,0; jalr x0,0(ra).
+const TAKES: &[u8] = &[
+    0x53, 0x43, 0x49, 0x4d, 2, 0, 1, 0, 0, 0, 0, 1, 1, 0x4d, 6, 0, 0, 0, 0, 32, 0, 0, 0, 0x13,
+    0x05, 0x20, 0, 0x93, 0x05, 0x10, 0, 0x93, 0x08, 0x30, 0, 0x73, 0, 0, 0, 0x93, 0x08, 0x20, 0,
+    0x73, 0, 0, 0, 0x13, 0x05, 0, 0, 0x67, 0x80, 0, 0, 0, 0, 0, 0,
+];
+
+// It gives back a block at 4, where there is none: addi a0,x0,4; addi a7,x0,4; ecall.
+const GIVES_BACK: &[u8] = &[
+    0x53, 0x43, 0x49, 0x4d, 2, 0, 1, 0, 0, 0, 0, 1, 1, 0x4d, 6, 0, 0, 0, 0, 12, 0, 0, 0, 0x13,
+    0x05, 0x40, 0, 0x93, 0x08, 0x40, 0, 0x73, 0, 0, 0, 0, 0, 0, 0,
+];
+
+const RUNS: [(&[u8], &[u8]); 7] = [
     (&SEVEN, b"out M 7\nend M 0\nstop ended\n"),
     (PAST_ENTRY, b"stop trap badjump 0x01000004\n"),
     (PAST_IMPORT, b"stop trap badjump 0x01000004\n"),
     (CALL, b"call A B f\nret B A\nstop trap badcall 0x01000008\n"),
     (HALF_WORD, b"stop trap owner 0x01000004\n"),
+    (TAKES, b"out M 268959744\nend M 0\nstop ended\n"),
+    (GIVES_BACK, b"stop trap badfree 0x01000008\n"),
 ];
 
 #[test]

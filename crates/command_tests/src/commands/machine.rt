@@ -29,7 +29,7 @@ fn a_compiled_program_is_run_and_explained(rt: HostRuntime) -> Result<(), Fail> 
 fn an_image_is_written_field_by_field(rt: HostRuntime) -> Result<(), Fail> {
     let fields: [&[u8]; 21] = [
         b"SCIM", // the mark
-        &[1, 0], // the version
+        &[2, 0], // the version
         &[1], // one compartment
         &[0], // which is the main one
         &[0, 0, 0, 1], // its entry, 0x01000000

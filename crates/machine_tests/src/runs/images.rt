@@ -1,8 +1,8 @@
 use sc_image::{ImageFault, image_interfaces, read_image, write_image};
 use std::alloc::Global;
 
-// The image of `seven`: a compartment `M` that outputs 7 and returns 0.
-const SEVEN: &[u8] = b"SCIM\x01\x00\x01\x00\x00\x00\x00\x01\
+// The image of `seven` in version 2: a compartment `M` that outputs 7 and returns 0.
+const SEVEN: &[u8] = b"SCIM\x02\x00\x01\x00\x00\x00\x00\x01\
 \x01M\x02\x00\x00\x00\x00\
 \x14\x00\x00\x00\
 \x13\x05\x70\x00\x93\x08\x20\x00\x73\x00\x00\x00\x13\x05\x00\x00\x67\x80\x00\x00\
